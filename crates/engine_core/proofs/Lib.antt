@@ -8,3 +8,11 @@ pub mod SelectedRuns
 pub mod WholeRuns
 pub mod Members
 pub mod Reporting
+pub mod Sources
+pub mod Carries
+pub mod Elements
+pub mod Written
+pub mod Found
+pub mod Counted
+pub mod Arriving
+pub mod Made

@@ -81,9 +81,11 @@ module _ (command : CommandLine) (inputs : Inputs) (old now : List TreeState) (b
       pub chosen_run : (trace : List ℕ) (result : Result (List ℕ) Refused) → chosen ≡ Some trace
           → IsSelectedRun command (Ok (record { inputs = inputs; replacement = replacement_of_choice inputs pool trace })) old now before after result
           → IsRunBy command inputs old now before after result
-      chosen_run trace result is run =
-          (chosen, choice_is chosen choice,
-          subst (λ (s : Result Selected Refusal). IsSelectedRun command s old now before after result) (sym (selected_is chosen None known ∙ ap (selected_by inputs pool) is)) run)
+      chosen_run trace result is run = (
+        chosen,
+        choice_is chosen choice,
+        subst (λ (s : Result Selected Refusal). IsSelectedRun command s old now before after result) (sym (selected_is chosen None known ∙ ap (selected_by inputs pool) is)) run,
+      )
 
 -- ---- a change that is only simulated
 

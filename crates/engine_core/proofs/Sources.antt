@@ -1,5 +1,6 @@
 -- Which bytes a change leaves under the names that it writes, and that the sources stand for them.
 use Rattle.std.proofs.Common.{◌≡◌, ◌⊎◌, inl, inr, ◌∙◌, ◌<◌, ℕ, zero, suc, arith, Bool, true, false, List, [], ◌∷◌, ◌++◌, length, get_or, map, All, Contains, Option, Some, None, Bor, refl, sym, ap, subst, true≢false}
+use Rattle.std.specs.Str.{bytes_eq}
 use Rattle.std.specs.Prelude.{IsSome, not, if◌then◌else◌, is_some, option_and_then, slice_get, unwrap_or}
 use Rattle.std.specs.Option.{option_copied}
 use Rattle.base_core.specs.Files.{Files}
@@ -17,11 +18,12 @@ use Rattle.change_files.proofs.Lists.{IsOneOf}
 use Rattle.change_files.proofs.Owned.{coming_is, written_is}
 use Rattle.change_files.proofs.PlanNames.{writes_are}
 use Rattle.change_files.proofs.RecordNames.{database_after}
+use Rattle.change_files.proofs.Reserved.{records_reserved}
 use Rattle.change_files.proofs.Untouched.{takes_its_path}
+use Rattle.std.proofs.lemmas.Bool.{false_from_ne_true}
 use Rattle.change_inputs.specs.Inputs.{Inputs}
 use Rattle.change_laws.specs.Premises.{HasNoReservedPath, IsRootOfFiles}
 use Rattle.change_laws.proofs.ActionNames.{written_free}
-use Rattle.change_laws.proofs.ChangeLeads.{unreserved_no_record}
 use Rattle.change_outcome.specs.ChangeOutcome.{bytes_under, is_other_file, new_records}
 use Rattle.change_outcome.specs.MembersAfter.{MemberFound, contents_found}
 use Rattle.db_core.specs.Members.{Listing, Member, member_listings}
@@ -37,8 +39,9 @@ use Rattle.stage_files.specs.declared.source.PackagedFile.{PackagedFile}
 use Rattle.stage_files.specs.declared.source.Source.{Source}
 use Rattle.stage_files.specs.declared.source.Source.TheVariants.{Bytes, File, Link}
 use Rattle.stage_files.specs.declared.source.StagedWrite.{StagedWrite}
-use Rattle.engine_core.specs.Finishing.{bytes_if}
+use Rattle.engine_core.specs.Finishing.{AreRecordWrites, AreRecordsOf, bytes_if}
 use Rattle.engine_core.specs.Writing.{HasBytes, IsFileOfWrite, IsFileWrite, IsRecordOf, IsSourceOfWrite, IsWriteBy, entry_of_write, package_at, write_name}
+use Rattle.engine_core.specs.declared.finishing.NewRecords.{NewRecords}
 use Rattle.engine_core.specs.declared.writes.RecordWrites.{RecordWrites}
 
 -- ---- a file of a package
@@ -73,13 +76,16 @@ module _ (inputs : Inputs) (change : FileChange) (contents : ℕ → List Conten
   entry_is : (l : Listing) (name : List ℕ) → IsPlaced change.members l → l.entry ≡ entry_of_write change.members (write_to name l)
   entry_is l name p = p.entry ∙ sym (ap (λ (o : Option Member). listed_file_at (folders_if_any o) l.folder l.file) p.at)
 
+  no_record : (name : List ℕ) → is_reserved name ≡ false → is_record_name records name ≡ false
+  no_record name unreserved = false_from_ne_true (is_record_name records name) (λ is. true≢false (sym (records_reserved records name is) ∙ unreserved))
+
   some_written : (l : Listing) (name : List ℕ) → written_as change files name ≡ Some l → is_written change files name ≡ true
   some_written l name written = ap is_some written
 
   bytes_by : (l : Listing) (name : List ℕ) → written_as change files name ≡ Some l → bytes_under after name ≡ write_bytes change.members contents (write_to name l)
   bytes_by l name written =
       ap (λ (o : Option (List ℕ)). unwrap_or o []) (takes_its_path change (listing_bytes contents) records files name l written
-      (unreserved_no_record inputs change (listing_bytes contents) database files root free name (written_free inputs change files records free name (some_written l name written))))
+      (no_record name (written_free inputs change files records free name (some_written l name written))))
       ∙ listing_bytes_are contents change.members name l (entry_is l name (placed l name written))
 
   pub file_bytes : (w : FileWrite) → Contains (file_writes_of change files) w → bytes_under after w.name ≡ write_bytes change.members contents w
@@ -143,3 +149,46 @@ module _ (v : TreeState) (earlier : List TreeState) (found : List MemberFound) (
             ∙ ((λ i. bytes_of_file (sym of.folder i) (sym of.file i) (contents_found found w.member))
             ∙ ap (bytes_of_file f.folder f.file) file.contents));
       }
+
+-- ---- each write
+
+pub all_at : {X : Type 0} (P : X → Type 0) (xs : List X) (i : ℕ) (x : X) → All P xs → slice_get xs i ≡ Some x → P x
+all_at P [] i x all at = absurd (cc)
+all_at P (y ∷ ys) zero x all at = let same : y ≡ x = cc in subst P same (all 0 y (omega arith))
+all_at P (y ∷ ys) (suc i) x all at = all_at P ys i x (λ k d below. all (suc k) d (omega (arith, below))) at
+
+mapped_at : {X : Type 0} (f : X → List ℕ) (g : List ℕ → List ℕ) (xs : List X) (i : ℕ) (x : X) (bytes : List ℕ) → slice_get xs i ≡ Some x → slice_get (map g (map f xs)) i ≡ Some bytes → bytes ≡ g (f x)
+mapped_at f g [] i x bytes at is = absurd (cc)
+mapped_at f g (y ∷ ys) zero x bytes at is = let same : y ≡ x = cc in let b : g (f y) ≡ bytes = cc in sym b ∙ ap (λ z. g (f z)) same
+mapped_at f g (y ∷ ys) (suc i) x bytes at is = mapped_at f g ys i x bytes at is
+
+mapped_long : {X : Type 0} (f : X → List ℕ) (g : List ℕ → List ℕ) (xs : List X) → length (map g (map f xs)) ≡ length xs
+mapped_long f g [] = refl
+mapped_long f g (x ∷ xs) = ap suc (mapped_long f g xs)
+
+module _ (inputs : Inputs) (change : FileChange) (found : List MemberFound) (own : NewRecords) (rw : RecordWrites) (packages : ℕ → Option TestedPackage)
+    (is_own : AreRecordsOf inputs own) (which : AreRecordWrites inputs own rw) (free : HasNoReservedPath change)
+    (v : TreeState) (earlier : List TreeState) (read : FilesAreRead (v ∷ earlier) found packages)
+    (files : Files) (root : IsRootOfFiles files inputs.root) where
+  abbrev left : Files
+  left = changed_files change (listing_bytes (contents_found found)) (new_records inputs own.database.items) files
+
+  one_stands : (w : StagedWrite) → IsWriteBy change.members packages (file_writes_of change files) rw w → StandsFor (files_of v) w.source (bytes_under left (write_name w))
+  one_stands w (inl f) =
+      file_stands v earlier found change.members packages read f.file (bytes_under left (write_name w)) w.source
+      (ap (bytes_under left) f.named ∙ file_bytes inputs change (contents_found found) own.database.items files root free f.file f.planned_file) f.source
+  one_stands w (inr (inl r)) =
+      let (named, stands) = record_stands (files_of v) rw.database_name.now own.database.items own.database.items (is_other_file inputs.root.database.file own.database.items) rw.database w which.database refl r in
+      subst (StandsFor (files_of v) w.source)
+      (sym (ap (bytes_under left) (named ∙ (which.database_name ∙ is_own.database_name)) ∙ database_bytes inputs change (contents_found found) own.database.items files root free)) stands
+  one_stands w (inr (inr r)) =
+      let (named, stands) = record_stands (files_of v) rw.world_name.now own.world own.world (not (bytes_eq inputs.root.world_text own.world)) rw.world w which.world refl r in
+      subst (StandsFor (files_of v) w.source)
+      (is_own.world ∙ sym (ap (bytes_under left) (named ∙ (which.world_name ∙ is_own.world_name)) ∙ world_bytes inputs change (contents_found found) own.database.items files root free)) stands
+
+  pub all_stand : (writes : List StagedWrite) → All (IsWriteBy change.members packages (file_writes_of change files) rw) writes → StandForEach (files_of v) writes (map (bytes_under left) (map write_name writes))
+  all_stand writes each = record {
+    same = mapped_long write_name (bytes_under left) writes;
+    each = λ i w bytes at is. subst (StandsFor (files_of v) w.source) (sym (mapped_at write_name (bytes_under left) writes i w bytes at is))
+        (one_stands w (all_at (IsWriteBy change.members packages (file_writes_of change files) rw) writes i w each at));
+  }

@@ -24,6 +24,8 @@ use Rattle.path_clashes.specs.Clash.{NamePair}
 use Rattle.pool_core.specs.Candidates.{Candidate}
 use Rattle.pool_core.specs.Rank.{SealedPool}
 use Rattle.report_core.specs.declared.refusal.Refusal.{Refusal}
+use Rattle.change_laws.specs.Premises.{IsRootOfFiles}
+use Rattle.engine_core.specs.Finishing.{IsRootRead}
 use Rattle.engine_core.specs.ChangeRun.{ComesTo, IsChangeRun, selected_in}
 use Rattle.engine_core.specs.Changed.{IsClashOfSelected, IsClashUnlessSimulated, Selected, change_of_selected, changed, selected_by, selected_for, selected_of_inputs, simulated_change}
 use Rattle.engine_core.specs.Choice.{IsChoiceFrom}
@@ -69,7 +71,7 @@ splice_observed count first behind (v ∷ earlier) f b = λ n name. by (nat_lt n
 
 -- ---- a run behind calls that only read
 
-comes_behind_reads : (selected : List Candidate) (wanted : Result ChangeDone Refusal) (old mid now : List TreeState) (before between after : Counts) (result : Result (List ℕ) Refused)
+pub comes_behind_reads : (selected : List Candidate) (wanted : Result ChangeDone Refusal) (old mid now : List TreeState) (before between after : Counts) (result : Result (List ℕ) Refused)
     → IsOnlyRead old mid before between → ComesTo selected wanted mid now between after result → ComesTo selected wanted old now before after result
 comes_behind_reads selected wanted old mid now before between after result quiet comes = record {
   told = same.told;
@@ -248,3 +250,13 @@ module _ (choose : HaveChoice) (have : HaveClash) (command : CommandLine) (old n
   unread (IsRefused refusal) explained = unread_refusal refusal explained.read explained.observed explained.is
   unread Disk explained = unread_failure Disk tt explained.read explained.observed
   unread Memory explained = unread_failure Memory tt explained.read explained.observed
+
+-- ---- what was read of the root stands there
+
+pub root_read : ((command : CommandLine) (read : Reads) (inputs : Inputs) (files : Files) → ((n : ℕ) (name : List ℕ) → read n name ≡ files name) → inputs_of command read ≡ Ok inputs → IsRootOfFiles files inputs.root)
+    → (command : CommandLine) (inputs : Inputs) (old mid : List TreeState) → mid ≡ old → Explains old (λ read. inputs_of command read ≡ Ok inputs) → IsRootRead mid inputs
+root_read law command inputs old mid same explained = subst (λ (h : List TreeState). IsRootRead h inputs) (sym same) (by old explained.observed)
+  where
+    by : (h : List TreeState) → AreObserved h explained.read → IsRootRead h inputs
+    by [] observed = tt
+    by (v ∷ earlier) observed = law command explained.read inputs (files_of v) observed explained.is

@@ -18,16 +18,13 @@ use crate::finishing::{
 use crate::planning::test_triggers;
 use crate::records::begin_stage;
 use crate::removals::removals_of;
-use piece_reader::Piece;
-use stage_files::{StageFault, carry_out};
 use crate::writes::{names_of, writes_of};
+use arrivals::a_package_that_was_read_is_that_of_its_file;
 use base_core::{Text, Tree};
 use change_inputs::Refused;
-use change_laws::{
-    a_change_keeps_room, the_actions_of_a_change_lead_to_its_files,
-    the_names_of_a_change_may_be_changed,
-};
 use command_core::Command;
+use piece_reader::Piece;
+use stage_files::{StageFault, carry_out};
 use std::alloc::Global;
 
 /// Carries a change through, the triggers of which are tested. All memory is asked for first, and
@@ -50,13 +47,17 @@ fn carry_change<T: Tree>(
         (T.counts tree.new) result }
     ensures counts { IsRunCounted (T.counts tree.old) (T.counts tree.new) result }
 {
-    a_change_keeps_room();
-    the_actions_of_a_change_lead_to_its_files();
-    the_names_of_a_change_may_be_changed();
+    a_package_that_was_read_is_that_of_its_file();
     let Planned { arrived, plan } = *planned;
     let loaded = arrived.selection.loaded;
     let record_writes = record_writes_of(loaded, records);
-    let writes = writes_of(alloc, arrived.members, arrived.arrivals, plan, &record_writes)?;
+    let writes = writes_of(
+        alloc,
+        arrived.members,
+        arrived.arrivals,
+        plan,
+        &record_writes,
+    )?;
     let removals = removals_of(alloc, plan.removals(), loaded.is_from_text())?;
     let names = names_of(alloc, &writes)?;
     removals.are_names();

@@ -42,7 +42,10 @@ pub(crate) struct NewRecords {
 /// # Errors
 ///
 /// `ResultTooLarge` where the database passes a limit of the writer, or `Memory`.
-pub(crate) fn new_records(alloc: Global, planned: &Planned<'_, '_, '_, '_>) -> Result<NewRecords, Refused>
+pub(crate) fn new_records(
+    alloc: Global,
+    planned: &Planned<'_, '_, '_, '_>,
+) -> Result<NewRecords, Refused>
     ensures told { Agrees (λ records. records.database.items) result (unless_large
         (database_of (members_arrived planned.now.arrived.now) planned.now.plan.now.owned)) }
     ensures records { IfOk result (AreRecordsOf (inputs_arrived planned.now.arrived.now)) }
@@ -149,7 +152,12 @@ fn package_bad(
 }
 
 /// The same as an answer.
-pub(crate) fn refused_package(alloc: Global, members: &Members<'_>, place: usize, cause: Cause) -> Refused
+pub(crate) fn refused_package(
+    alloc: Global,
+    members: &Members<'_>,
+    place: usize,
+    cause: Cause,
+) -> Refused
     requires { place < length (members_of members.now) }
     ensures { IsRefusedPackage (members_of members.now) place cause result }
 {

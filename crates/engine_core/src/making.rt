@@ -17,8 +17,10 @@ use crate::arrived::{Arrived, Planned};
 use crate::carrying::finish_change;
 use crate::planning::refused_plan;
 use crate::selection::Selection;
-use arrivals::{Arrivals, members_of_change, packages_that_were_read_are_those_found, read_arrivals};
-use base_core::{Text, Tree, Words};
+use arrivals::{
+    Arrivals, members_of_change, packages_that_were_read_are_those_found, read_arrivals,
+};
+use base_core::{Text, Tree, Words, counts_of_calls_in_a_row_join};
 use change_inputs::Refused;
 use change_laws::a_change_has_a_first_clash_or_none;
 use command_core::Command;
@@ -108,6 +110,7 @@ fn plan_change<T: Tree>(
     ensures counts { IsRunCounted (T.counts tree.old) (T.counts tree.new) result }
 {
     a_change_has_a_first_clash_or_none();
+    counts_of_calls_in_a_row_join();
     let purge = command.flags().purge;
     let selection = arrived.selection;
     selection.db.no_listed_path_is_reserved();

@@ -57,11 +57,7 @@ pub(crate) fn is_other_file(found: Option<&[u8]>, bytes: &[u8]) -> bool
 /// # Errors
 ///
 /// `ResultTooLarge` where the intent passes a limit of the writer, or `Memory`.
-pub(crate) fn begin_stage(
-    alloc: Global,
-    removals: &Names,
-    writes: &Names,
-) -> Result<Stage, Refused>
+pub(crate) fn begin_stage(alloc: Global, removals: &Names, writes: &Names) -> Result<Stage, Refused>
     requires { AreChangeNames (removals.now ++ writes.now) }
     ensures stage { IfOk result (λ stage. stage ≡ new_stage removals.now writes.now) }
     ensures told { Agrees (λ _. true) result (unless_overflow

@@ -15,17 +15,17 @@ returns-in_err-db-clause-run g c =
 pub returns-in-Some-clause-run : goal.returns-in-Some-clause-run
 returns-in-Some-clause-run g c =
     let have : HaveClash = record { exists = c.a_change_has_a_first_clash_or_none.ensures.exists } in
-    unknown_run c.args.command.now (inputs_seen c.args.loaded.now) _ _ _ _ c.args.pool.now c.requires c.a_choice_exists.ensures have (g.met.T.Tree.whole c.args.tree.now) (nothing_read _ _)
+    unknown_run c.args.command.now (inputs_seen c.args.loaded.now) _ _ _ _ c.args.pool.now c.requires.pool c.a_choice_exists.ensures have (g.met.T.Tree.whole c.args.tree.now) (nothing_read _ _)
     c.in-Some.place (sym c.unknown_operand.ensures ∙ c.in-Some.is)
 
 pub returns-in_err-trace-clause-run : goal.returns-in_err-trace-clause-run
 returns-in_err-trace-clause-run g c =
     let have : HaveClash = record { exists = c.a_change_has_a_first_clash_or_none.ensures.exists } in
     with_error (IsRunBy c.args.command.now (inputs_seen c.args.loaded.now) _ _ _ _) c.from_residual-in_err-trace.result _ c.from_residual-in_err-trace.ensures.1
-    (unchosen_run c.args.command.now (inputs_seen c.args.loaded.now) _ _ _ _ c.args.pool.now c.requires (sym c.unknown_operand.ensures ∙ c.in_default.is) c.in_err-trace.ensures.0 c.in_err-trace.ensures.1
+    (unchosen_run c.args.command.now (inputs_seen c.args.loaded.now) _ _ _ _ c.args.pool.now c.requires.pool (sym c.unknown_operand.ensures ∙ c.in_default.is) c.in_err-trace.ensures.0 c.in_err-trace.ensures.1
     have (g.met.T.Tree.whole c.args.tree.now) (nothing_read _ _) _ c.in_err-trace.ensures.2)
 
 pub returns-clause-run : goal.returns-clause-run
 returns-clause-run g c =
-    chosen_run c.args.command.now (inputs_seen c.args.loaded.now) _ _ _ _ c.args.pool.now c.requires (sym c.unknown_operand.ensures ∙ c.in_default.is) c.in_ok-trace.ensures.0 c.in_ok-trace.ensures.1
+    chosen_run c.args.command.now (inputs_seen c.args.loaded.now) _ _ _ _ c.args.pool.now c.requires.pool (sym c.unknown_operand.ensures ∙ c.in_default.is) c.in_ok-trace.ensures.0 c.in_ok-trace.ensures.1
     _ _ c.in_ok-trace.ensures.2 c.change_selected.ensures.run

@@ -1,0 +1,37 @@
+-- The counts of a run behind calls that only read.
+use Rattle.std.proofs.Common.{◌≡◌, ◌⊎◌, inl, inr, ◌∙◌, ◌≤◌, ◌<◌, ℕ, List, Result, Ok, Err, arith, sym}
+use Rattle.std.specs.Prelude.{IsErrOf, IfErr, OnOk}
+use Rattle.base_core.specs.Faults.{Counts, GoesOn, HasCause, IsNoFault}
+use Rattle.base_core.specs.Read.{OnlyReads}
+use Rattle.base_core.specs.Tree.{TreeState}
+use Rattle.change_inputs.specs.declared.refused.Refused.{Refused}
+use Rattle.change_inputs.specs.declared.refused.Refused.TheVariants.{Disk}
+use Rattle.engine_core.specs.Runs.{IsRunCounted}
+
+goes_on_both : (a b c : Counts) → GoesOn a b → GoesOn b c → GoesOn a c
+goes_on_both a b c one two = record {
+  faults = omega (arith, one.faults, two.faults);
+  misuses = omega (arith, one.misuses, two.misuses);
+  wants = omega (arith, one.wants, two.wants);
+  fallible = λ is. one.fallible (two.fallible is);
+}
+
+no_fault_both : (a b c : Counts) → IsNoFault a b → IsNoFault b c → IsNoFault a c
+no_fault_both a b c one two = record { faults = two.faults ∙ one.faults; wants = two.wants ∙ one.wants }
+
+-- behind calls that count no fault
+pub counted_behind : {A : Type 0} (a b c : Counts) (result : Result A Refused) → GoesOn a b → IsNoFault a b → ((x y z : Counts) → GoesOn x y → HasCause y z → HasCause x z) → IsRunCounted b c result → IsRunCounted a c result
+counted_behind {A} a b c result on none cause counted = record {
+  goes_on = goes_on_both a b c on counted.goes_on;
+  disk = λ is. cause a b c on (counted.disk is);
+  kept = kept result counted.kept;
+  others = others result counted.others;
+}
+  where
+    kept : (r : Result A Refused) → OnOk r (IsNoFault b c) → OnOk r (IsNoFault a c)
+    kept (Ok x) is = no_fault_both a b c none is
+    kept (Err e) is = tt
+
+    others : (r : Result A Refused) → IfErr r (λ refused. (refused ≡ Disk → ⊥) → IsNoFault b c) → IfErr r (λ refused. (refused ≡ Disk → ⊥) → IsNoFault a c)
+    others (Ok x) is = tt
+    others (Err e) is = λ not. no_fault_both a b c none (is not)

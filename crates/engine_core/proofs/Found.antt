@@ -1,0 +1,196 @@
+-- Runs by the packages that are found, and by the plan of their files.
+use Rattle.std.proofs.Common.{◌≡◌, inl, ℕ, Bool, true, false, List, [], ◌∷◌, All, Option, Some, None, Result, Ok, Err, refl, sym, ap, subst, ◌∙◌}
+use Rattle.std.specs.Prelude.{IsSome, map, option_map, slice_get}
+use Rattle.std.specs.Option.{option_map_or}
+use Rattle.std.proofs.lemmas.List.Elements.{All-head}
+use Rattle.std.proofs.lemmas.Option.{same_Some}
+use Rattle.adb_rules.specs.Reserved.{is_reserved}
+use Rattle.adb_view.specs.Plain.{Plain}
+use Rattle.base_core.specs.Calls.{IfObservable}
+use Rattle.base_core.specs.Faults.{Counts, GoesOn, HasCause, IsNoFault, Rose}
+use Rattle.base_core.specs.Read.{OnlyReads}
+use Rattle.base_core.specs.Files.{Files, IsWithin, no_names}
+use Rattle.base_core.specs.Tree.{IsWhole, TreeState, bytes_at, files_of}
+use Rattle.change_files.specs.FileChange.{FileChange, old_listings}
+use Rattle.change_files.specs.NamesAfter.{name_change}
+use Rattle.change_files.specs.PlanLists.{first_reserved}
+use Rattle.change_inputs.specs.Answers.{IsFailure}
+use Rattle.change_inputs.specs.Chains.{and_then}
+use Rattle.change_inputs.specs.Inputs.{Inputs}
+use Rattle.change_inputs.specs.declared.refused.Refused.{Refused}
+use Rattle.change_inputs.specs.declared.refused.Refused.TheVariants as Commands
+use Rattle.change_outcome.specs.ChangeOutcome.{ChangeDone, ChangeWishes, IsClashFound, IsClashOfChange, change_members, change_with_members, file_change, name_at_place, touched_paths, unless_clash, unless_contested, unless_reserved_path, unless_too_large}
+use Rattle.change_outcome.specs.MembersAfter.{MemberFound, members_found}
+use Rattle.change_outcome.specs.Triggers.{unless_trigger}
+use Rattle.db_core.specs.Members.{Member, member_listings, member_name, staying_member}
+use Rattle.db_core.specs.Seen.{members_of, packages_of}
+use Rattle.file_owners.specs.Owners.{contested_of}
+use Rattle.make_info.specs.Reads.{Reads}
+use Rattle.own_core.specs.Planned.{ArePlanLists, HasOwnNames, HasSources, IsPlanFor, IsPlanOf, IsRefusalFor, IsRefusalOf, change_by, member_name_at}
+use Rattle.own_core.specs.declared.fault.PlanFault.{PlanFault}
+use Rattle.own_core.specs.declared.planning.FilePlan.{FilePlan}
+use Rattle.own_core.specs.declared.fault.PlanFault.TheVariants as Plans
+use Rattle.package_changes.specs.Changes.{Replacement}
+use Rattle.path_claims.specs.Claims.{ContestedPath}
+use Rattle.path_clashes.specs.Clash.{HasNoClash, NamePair}
+use Rattle.pool_core.specs.Candidates.{Candidate}
+use Rattle.report_core.specs.declared.refusal.Refusal.{Refusal}
+use Rattle.report_core.specs.declared.refusal.Refusal.TheVariants.{Owned, PathClash, Reserved}
+use Rattle.engine_core.specs.ChangeRun.{ComesTo}
+use Rattle.engine_core.specs.Finishing.{IsArrived, IsPlanned, inputs_arrived, members_arrived, replacement_arrived}
+use Rattle.engine_core.specs.Making.{IsFoundRun}
+use Rattle.engine_core.specs.Plans.{IsRefusedFor}
+use Rattle.engine_core.specs.declared.arrived.Arrived.{Arrived}
+use Rattle.engine_core.specs.declared.arrived.Planned.{Planned}
+use Rattle.engine_core.proofs.Early.{HaveClash, IsOnlyRead, comes_to_failure, comes_to_refusal, if_told}
+use Rattle.engine_core.proofs.WholeRuns.{comes_behind_reads}
+
+-- ---- the files of a history
+
+abbrev files_now : List TreeState → Files
+files_now [] = no_names
+files_now (v ∷ earlier) = files_of v
+
+there_now : (h : List TreeState) → IfObservable h (λ v. files_now h ≡ files_of v)
+there_now [] = tt
+there_now (v ∷ earlier) = refl
+
+within_files : (v : TreeState) (names : List (List ℕ)) → IsWithin names v.names → IsWithin names (files_of v)
+within_files v names within q is = within q (by_number (v.names q) is)
+  where
+    by_number : (n : Option ℕ) → IsSome (bytes_at v.files n) → IsSome n
+    by_number None is = is
+    by_number (Some n) is = refl
+
+-- ---- some first clash
+
+record ClashSeen (inputs : Inputs) (wishes : ChangeWishes) (found : List MemberFound) (old : List TreeState) : Type 0 where
+  pub clash : Option NamePair
+  pub is_clash : IfObservable old (λ v. IsClashFound inputs wishes (files_now old) (Ok found) clash)
+
+module _ (have : HaveClash) (inputs : Inputs) (r : Replacement) (wishes : ChangeWishes) (read : Reads) (found : List MemberFound) (is_found : change_members inputs r wishes read ≡ Ok found) where
+  clash_seen : (old : List TreeState) → All IsWhole old → ClashSeen inputs wishes found old
+  clash_seen [] whole = record { clash = None; is_clash = tt }
+  clash_seen (v ∷ earlier) whole =
+      let finite = (All-head IsWhole v earlier whole).finite v.names (inl refl) in
+      let c = have.exists inputs r wishes read finite.0 (files_of v) (within_files v finite.0 finite.1) in
+      record { clash = c.0; is_clash = subst (λ (f : Result (List MemberFound) Refusal). IsClashFound inputs wishes (files_of v) f c.0) is_found c.1 }
+
+  module _ (old now : List TreeState) (before after : Counts) (whole : All IsWhole old) (quiet : IsOnlyRead old now before after) where
+    found_by : (result : Result (List ℕ) Refused) → ((clash : Option NamePair) → ComesTo r.selected (change_with_members inputs r wishes clash (files_now old) found) old now before after result)
+        → IsFoundRun inputs r wishes found old now before after result
+    found_by result comes =
+        let seen = clash_seen old whole in
+        record { files = files_now old; there = there_now old; clash = seen.clash; is_clash = seen.is_clash; comes = comes seen.clash }
+
+    pub found_failure : (fault : Refused) → IsFailure fault → IsFoundRun inputs r wishes found old now before after (Err fault)
+    found_failure fault is = found_by (Err fault) (λ clash. comes_to_failure _ _ old now before after quiet fault is)
+
+    -- ---- no plan
+
+    reserved_path : (path : List ℕ) → first_reserved (members_found found) ≡ Some path → IsFoundRun inputs r wishes found old now before after (Err (Commands.Refusal (Reserved path)))
+    reserved_path path is = found_by _ (λ clash. comes_to_refusal _ _ old now before after quiet (Reserved path)
+        (ap (λ (o : Option (List ℕ)). unless_reserved_path o (unless_clash clash (unless_contested (members_found found) (contested_of (members_found found))
+        (and_then (unless_trigger wishes.no_scripts (touched_paths (file_change inputs wishes found) (files_now old)) (members_found found)) (λ allowed. unless_too_large inputs r wishes found (files_now old)))))) is))
+
+    by_clash : (result : Result (List ℕ) Refused) (clash : Option NamePair) → IfObservable old (λ v. IsClashFound inputs wishes (files_of v) (Ok found) clash)
+        → ComesTo r.selected (change_with_members inputs r wishes clash (files_now old) found) old now before after result → IsFoundRun inputs r wishes found old now before after result
+    by_clash result clash is comes = record { files = files_now old; there = there_now old; clash = clash; is_clash = here old is; comes = comes }
+      where
+        here : (h : List TreeState) → IfObservable h (λ v. IsClashFound inputs wishes (files_of v) (Ok found) clash) → IfObservable h (λ v. IsClashFound inputs wishes (files_now h) (Ok found) clash)
+        here [] is = tt
+        here (v ∷ earlier) is = is
+
+    path_clash : (path other : List ℕ) → first_reserved (members_found found) ≡ None → IfObservable old (λ v. IsRefusalOf (file_change inputs wishes found) (files_of v) (Plans.PathClash path other))
+        → IsFoundRun inputs r wishes found old now before after (Err (Commands.Refusal (PathClash path other)))
+    path_clash path other none first =
+        let pair : NamePair = record { path = path; other = other } in
+        by_clash _ (Some pair) (if_told old _ _ first (λ v is. is))
+        (comes_to_refusal _ _ old now before after quiet (PathClash path other)
+        (ap (λ (o : Option (List ℕ)). unless_reserved_path o (unless_clash (Some pair) (unless_contested (members_found found) (contested_of (members_found found))
+        (and_then (unless_trigger wishes.no_scripts (touched_paths (file_change inputs wishes found) (files_now old)) (members_found found)) (λ allowed. unless_too_large inputs r wishes found (files_now old)))))) none))
+
+    named : (place : ℕ) (name : List ℕ) → member_name_at (members_found found) place ≡ Some name → name_at_place (members_found found) place ≡ name
+    named place name is = by (slice_get (members_found found) place) is
+      where
+        by : (o : Option Member) → option_map member_name o ≡ Some name → option_map_or member_name o [] ≡ name
+        by None e = absurd (cc (e))
+        by (Some m) e = same_Some (member_name m) name e
+
+    owned_path : (path first second : List ℕ) → IsRefusalFor (members_found found) (Plans.Owned path first second) → IfObservable old (λ v. IsRefusalOf (file_change inputs wishes found) (files_of v) (Plans.Owned path first second))
+        → IsFoundRun inputs r wishes found old now before after (Err (Commands.Refusal (Owned path first second)))
+    owned_path path first second (none, contest) apart =
+        let contested : Option ContestedPath = contested_of (members_found found) in
+        let rest = and_then (unless_trigger wishes.no_scripts (touched_paths (file_change inputs wishes found) (files_now old)) (members_found found)) (λ allowed. unless_too_large inputs r wishes found (files_now old)) in
+        by_clash _ None (if_told old _ _ apart (λ v is. is))
+        (comes_to_refusal _ _ old now before after quiet (Owned path first second)
+        (ap (λ (o : Option (List ℕ)). unless_reserved_path o (unless_contested (members_found found) contested rest)) none
+        ∙ ap (λ (o : Option ContestedPath). unless_contested (members_found found) o rest) contest.is
+        ∙ ((λ i. Err (Owned (sym contest.at i) (named contest.contest.rivals.first first contest.lister i) (named contest.contest.rivals.second second contest.other i))))))
+
+    pub unplanned : (fault : PlanFault) (refused : Refused) → IsRefusedFor fault refused → IsRefusalFor (members_found found) fault
+        → IfObservable old (λ v. IsRefusalOf (file_change inputs wishes found) (files_of v) fault) → IsFoundRun inputs r wishes found old now before after (Err refused)
+    unplanned (Plans.Reserved path) refused is cause first = subst (λ (e : Refused). IsFoundRun inputs r wishes found old now before after (Err e)) (sym is) (reserved_path path cause)
+    unplanned (Plans.PathClash path other) refused is cause first = subst (λ (e : Refused). IsFoundRun inputs r wishes found old now before after (Err e)) (sym is) (path_clash path other cause first)
+    unplanned (Plans.Owned path one two) refused is cause first = subst (λ (e : Refused). IsFoundRun inputs r wishes found old now before after (Err e)) (sym is) (owned_path path one two cause first)
+    unplanned Plans.Disk refused is cause first = subst (λ (e : Refused). IsFoundRun inputs r wishes found old now before after (Err e)) (sym is) (found_failure Commands.Disk tt)
+    unplanned Plans.Memory refused is cause first = subst (λ (e : Refused). IsFoundRun inputs r wishes found old now before after (Err e)) (sym is) (found_failure Commands.Memory tt)
+
+-- ---- a plan
+
+change_is : (history : List TreeState) (a : Arrived) (wishes : ChangeWishes) (found : List MemberFound) → IsArrived history a found
+    → change_by a.selection.now.db.now a.members.now wishes.purge ≡ file_change (inputs_arrived a) wishes found
+change_is history a wishes found arrived = λ i. record { old = arrived.read.database i; members = arrived.members i; purge = wishes.purge }
+
+-- why there is none, of the packages that are found
+pub unplanned_run : HaveClash → (old now : List TreeState) (before after : Counts) (a : Arrived) (wishes : ChangeWishes) (read : Reads) (found : List MemberFound) (fault : PlanFault) (refused : Refused)
+    → All IsWhole old → IsOnlyRead old now before after → IsArrived old a found → change_members (inputs_arrived a) (replacement_arrived a) wishes read ≡ Ok found
+    → IsRefusedFor fault refused → IsRefusalFor (members_of a.members.now) fault
+    → IfObservable old (λ v. IsRefusalOf (change_by a.selection.now.db.now a.members.now wishes.purge) (files_of v) fault)
+    → IsFoundRun (inputs_arrived a) (replacement_arrived a) wishes found old now before after (Err refused)
+unplanned_run have old now before after a wishes read found fault refused whole quiet arrived is_found is cause first =
+    unplanned have (inputs_arrived a) (replacement_arrived a) wishes read found is_found old now before after whole quiet fault refused is
+    (subst (λ (ms : List Member). IsRefusalFor ms fault) arrived.members cause)
+    (subst (λ (c : FileChange). IfObservable old (λ v. IsRefusalOf c (files_of v) fault)) (change_is old a wishes found arrived) first)
+
+pub planned_now : (old mid : List TreeState) → mid ≡ old → (p : Planned) (wishes : ChangeWishes) (found : List MemberFound) → IsArrived old p.arrived.now found
+    → (plan : IsPlanOf (change_by p.arrived.now.selection.now.db.now p.arrived.now.members.now wishes.purge) old p.plan.now)
+    → HasOwnNames p.plan.now → HasSources (members_of p.arrived.now.members.now) p.plan.now → IsPlanFor (members_of p.arrived.now.members.now) p.plan.now
+    → All (λ l. is_reserved l.path ≡ false) (member_listings (map staying_member (packages_of p.arrived.now.selection.now.db.now)))
+    → IsPlanned mid wishes p found plan.files
+unfolding old_listings
+planned_now old mid same p wishes found arrived plan names sources owners unreserved =
+    let is = change_is old p.arrived.now wishes found arrived in
+    subst (λ (h : List TreeState). IsPlanned h wishes p found plan.files) (sym same) (record {
+      arrived = arrived;
+      told = plan.told;
+      lists = subst (λ (c : FileChange). ArePlanLists c plan.files p.plan.now) is plan.lists;
+      names = names;
+      sources = sources;
+      owners = owners;
+      no_clash = subst (λ (c : FileChange). IfObservable old (λ v. HasNoClash (name_change c plan.files) plan.files)) is plan.no_clash;
+      unreserved = subst (λ (ps : List Plain). All (λ l. is_reserved l.path ≡ false) (member_listings (map staying_member ps))) arrived.read.database unreserved;
+    })
+
+pub planned_run : (old mid now : List TreeState) (before between after : Counts) (a : Arrived) (p : FilePlan) (wishes : ChangeWishes) (found : List MemberFound) (result : Result (List ℕ) Refused)
+    → IsOnlyRead old mid before between → IsArrived old a found → (plan : IsPlanOf (change_by a.selection.now.db.now a.members.now wishes.purge) old p) → IsPlanFor (members_of a.members.now) p
+    → ComesTo (replacement_arrived a).selected
+    (and_then (unless_trigger wishes.no_scripts (touched_paths (file_change (inputs_arrived a) wishes found) plan.files) (members_found found))
+    (λ allowed. unless_too_large (inputs_arrived a) (replacement_arrived a) wishes found plan.files)) mid now between after result
+    → IsFoundRun (inputs_arrived a) (replacement_arrived a) wishes found old now before after result
+planned_run old mid now before between after a p wishes found result quiet arrived plan owners comes =
+    let inputs = inputs_arrived a in
+    let r = replacement_arrived a in
+    let members : List Member = members_found found in
+    let rest : Result ChangeDone Refusal = and_then (unless_trigger wishes.no_scripts (touched_paths (file_change inputs wishes found) plan.files) members) (λ allowed. unless_too_large inputs r wishes found plan.files) in
+    let wanted_is : change_with_members inputs r wishes None plan.files found ≡ rest =
+    ap (λ (o : Option (List ℕ)). unless_reserved_path o (unless_contested members (contested_of members) rest)) (sym (ap first_reserved arrived.members) ∙ owners.allowed)
+    ∙ ap (λ (o : Option ContestedPath). unless_contested members o rest) (sym (ap contested_of arrived.members) ∙ owners.owners) in
+    record {
+      files = plan.files;
+      there = plan.told;
+      clash = None;
+      is_clash = subst (λ (c : FileChange). IfObservable old (λ v. HasNoClash (name_change c plan.files) plan.files)) (change_is old a wishes found arrived) plan.no_clash;
+      comes = subst (λ (w : Result ChangeDone Refusal). ComesTo r.selected w old now before after result) (sym wanted_is)
+          (comes_behind_reads r.selected rest old mid now before between after result quiet comes);
+    }
