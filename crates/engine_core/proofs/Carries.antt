@@ -1,10 +1,9 @@
 -- What a change comes to that is carried through.
 use Rattle.std.proofs.Common.{◌≡◌, inl, inr, ◌∙◌, ◌<◌, ◌^◌, ◌+◌, ℕ, zero, suc, arith, Bool, true, false, List, [], ◌∷◌, ◌++◌, length, map, All, Contains, Option, Some, None, Result, Ok, Err, refl, sym, ap, subst, true≢false, Bor}
-use Rattle.std.specs.Prelude.{OnOk, IfErr, not, is_some, slice_get}
+use Rattle.std.specs.Prelude.{not, is_some, slice_get}
 use Rattle.std.specs.Option.{option_copied}
 use Rattle.std.specs.Str.{bytes_eq}
 use Rattle.adb_write.specs.Canonical.{PayloadCounts, overflow_of}
-use Rattle.arrivals.specs.Arrivals.{AreMembersRead, arrivals_seen, package_in}
 use Rattle.adb_rules.specs.Reserved.{is_reserved}
 use Rattle.base_core.specs.Listed.{IsRising}
 use Rattle.base_core.specs.Name.{IsName}
@@ -14,7 +13,7 @@ use Rattle.base_core.specs.Faults.{Counts}
 use Rattle.base_core.specs.Files.{Files}
 use Rattle.base_core.specs.Tree.{TreeState, files_of}
 use Rattle.change_files.specs.FileChange.{FileChange}
-use Rattle.change_files.specs.FilesAfter.{Records, changed_files, listing_bytes}
+use Rattle.change_files.specs.FilesAfter.{Records, listing_bytes}
 use Rattle.change_files.specs.PlanLists.{FileWrite, file_writes_of, first_reserved, names_in_order}
 use Rattle.change_inputs.specs.Answers.{Agrees}
 use Rattle.change_inputs.specs.Chains.{and_then}
@@ -31,7 +30,7 @@ use Rattle.engine_core.proofs.Once.{once_both}
 use Rattle.change_laws.proofs.Leading.{acted_is}
 use Rattle.change_laws.proofs.Room.{room}
 use Rattle.change_outcome.specs.ChangeOutcome.{Actions, ChangeDone, ChangeWishes, actions_of, bytes_under, change_done, does_something, file_change, is_other_file, name_if_needed, new_records, unless_overflow, written_records}
-use Rattle.change_outcome.specs.MembersAfter.{MemberFound, contents_found, members_found}
+use Rattle.change_outcome.specs.MembersAfter.{MemberFound, contents_found}
 use Rattle.journal_core.specs.Recovery.{after_actions, intent_name}
 use Rattle.journal_core.specs.Staged.{HasRoomBeside, HasRoomToStage, IsEmptyStage, Staging, action_count, new_stage, with_staged}
 use Rattle.journal_intent.specs.IntentValue.{intent_of_lists, value_of_intent}
@@ -41,7 +40,6 @@ use Rattle.own_core.specs.Planned.{IsOfComingFile, IsOpenName, written_names}
 use Rattle.path_clashes.specs.Clash.{HasNoClash}
 use Rattle.pool_core.specs.Candidates.{Candidate}
 use Rattle.own_core.specs.WritesSeen.{writes_in}
-use Rattle.package_changes.specs.Changes.{Replacement}
 use Rattle.base_core.specs.declared.cause.Cause.{Cause}
 use Rattle.report_core.specs.declared.refusal.Refusal.{Refusal}
 use Rattle.report_core.specs.declared.refusal.Refusal.TheVariants.{PackageBad}
@@ -54,7 +52,7 @@ use Rattle.stage_files.specs.declared.fault.StageFault.{StageFault}
 use Rattle.stage_files.specs.declared.fault.StageFault.TheVariants as Stages
 use Rattle.stage_files.specs.declared.source.StagedWrite.{StagedWrite}
 use Rattle.engine_core.specs.Carrying.{IsRefusedPackage, ready_change}
-use Rattle.engine_core.specs.ChangeRun.{ComesTo, DoesCommit, IsCommit, IsFoundChanged, IsNoneOrCommit, report_in}
+use Rattle.engine_core.specs.ChangeRun.{ComesTo, DoesCommit, IsNoneOrCommit, report_in}
 use Rattle.engine_core.specs.Finishing.{AreRecordWrites, AreRecordsOf, IsPlanned, bytes_if, inputs_arrived, members_arrived, replacement_arrived}
 use Rattle.engine_core.specs.Writing.{HasBytes, IsRecordOf, IsSourceOfWrite, IsWriteBy, package_at, record_names, write_name}
 use Rattle.engine_core.specs.declared.arrived.Planned.{Planned}

@@ -1,9 +1,7 @@
 -- The counts of a run behind calls that only read.
-use Rattle.std.proofs.Common.{◌≡◌, ◌⊎◌, inl, inr, ◌∙◌, ◌≤◌, ◌<◌, ℕ, List, Result, Ok, Err, arith, sym}
-use Rattle.std.specs.Prelude.{IsErrOf, IfErr, OnOk}
+use Rattle.std.proofs.Common.{◌≡◌, ◌∙◌, Result, Ok, Err, arith}
+use Rattle.std.specs.Prelude.{IfErr, OnOk}
 use Rattle.base_core.specs.Faults.{Counts, GoesOn, HasCause, IsNoFault}
-use Rattle.base_core.specs.Read.{OnlyReads}
-use Rattle.base_core.specs.Tree.{TreeState}
 use Rattle.change_inputs.specs.declared.refused.Refused.{Refused}
 use Rattle.change_inputs.specs.declared.refused.Refused.TheVariants.{Disk}
 use Rattle.engine_core.specs.Runs.{IsRunCounted}

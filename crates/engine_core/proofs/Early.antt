@@ -1,6 +1,6 @@
 -- Runs that end before anything is written.
 use Rattle.std.proofs.Common.{◌≡◌, inl, ℕ, Bool, true, false, List, [], ◌∷◌, Option, Some, None, Result, Ok, Err, refl, sym, ap, subst, ◌∙◌}
-use Rattle.std.specs.Prelude.{All, IsSome, OnOk, if◌then◌else◌}
+use Rattle.std.specs.Prelude.{All, IsSome, OnOk}
 use Rattle.std.proofs.lemmas.List.Elements.{All-head}
 use Rattle.base_core.specs.Calls.{IfObservable}
 use Rattle.base_core.specs.Faults.{Counts}

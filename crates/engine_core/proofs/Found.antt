@@ -1,5 +1,5 @@
 -- Runs by the packages that are found, and by the plan of their files.
-use Rattle.std.proofs.Common.{◌≡◌, inl, ℕ, Bool, true, false, List, [], ◌∷◌, All, Option, Some, None, Result, Ok, Err, refl, sym, ap, subst, ◌∙◌}
+use Rattle.std.proofs.Common.{◌≡◌, inl, ℕ, false, List, [], ◌∷◌, All, Option, Some, None, Result, Ok, Err, refl, sym, ap, subst, ◌∙◌}
 use Rattle.std.specs.Prelude.{IsSome, map, option_map, slice_get}
 use Rattle.std.specs.Option.{option_map_or}
 use Rattle.std.proofs.lemmas.List.Elements.{All-head}
@@ -7,8 +7,7 @@ use Rattle.std.proofs.lemmas.Option.{same_Some}
 use Rattle.adb_rules.specs.Reserved.{is_reserved}
 use Rattle.adb_view.specs.Plain.{Plain}
 use Rattle.base_core.specs.Calls.{IfObservable}
-use Rattle.base_core.specs.Faults.{Counts, GoesOn, HasCause, IsNoFault, Rose}
-use Rattle.base_core.specs.Read.{OnlyReads}
+use Rattle.base_core.specs.Faults.{Counts}
 use Rattle.base_core.specs.Files.{Files, IsWithin, no_names}
 use Rattle.base_core.specs.Tree.{IsWhole, TreeState, bytes_at, files_of}
 use Rattle.change_files.specs.FileChange.{FileChange, old_listings}
@@ -19,7 +18,7 @@ use Rattle.change_inputs.specs.Chains.{and_then}
 use Rattle.change_inputs.specs.Inputs.{Inputs}
 use Rattle.change_inputs.specs.declared.refused.Refused.{Refused}
 use Rattle.change_inputs.specs.declared.refused.Refused.TheVariants as Commands
-use Rattle.change_outcome.specs.ChangeOutcome.{ChangeDone, ChangeWishes, IsClashFound, IsClashOfChange, change_members, change_with_members, file_change, name_at_place, touched_paths, unless_clash, unless_contested, unless_reserved_path, unless_too_large}
+use Rattle.change_outcome.specs.ChangeOutcome.{ChangeDone, ChangeWishes, IsClashFound, change_members, change_with_members, file_change, name_at_place, touched_paths, unless_clash, unless_contested, unless_reserved_path, unless_too_large}
 use Rattle.change_outcome.specs.MembersAfter.{MemberFound, members_found}
 use Rattle.change_outcome.specs.Triggers.{unless_trigger}
 use Rattle.db_core.specs.Members.{Member, member_listings, member_name, staying_member}
@@ -33,11 +32,10 @@ use Rattle.own_core.specs.declared.fault.PlanFault.TheVariants as Plans
 use Rattle.package_changes.specs.Changes.{Replacement}
 use Rattle.path_claims.specs.Claims.{ContestedPath}
 use Rattle.path_clashes.specs.Clash.{HasNoClash, NamePair}
-use Rattle.pool_core.specs.Candidates.{Candidate}
 use Rattle.report_core.specs.declared.refusal.Refusal.{Refusal}
 use Rattle.report_core.specs.declared.refusal.Refusal.TheVariants.{Owned, PathClash, Reserved}
 use Rattle.engine_core.specs.ChangeRun.{ComesTo}
-use Rattle.engine_core.specs.Finishing.{IsArrived, IsPlanned, inputs_arrived, members_arrived, replacement_arrived}
+use Rattle.engine_core.specs.Finishing.{IsArrived, IsPlanned, inputs_arrived, replacement_arrived}
 use Rattle.engine_core.specs.Making.{IsFoundRun}
 use Rattle.engine_core.specs.Plans.{IsRefusedFor}
 use Rattle.engine_core.specs.declared.arrived.Arrived.{Arrived}

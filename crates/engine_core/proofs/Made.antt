@@ -1,21 +1,19 @@
 -- Runs of a change that is made, joined to those by what is selected.
-use Rattle.std.proofs.Common.{◌≡◌, ◌∙◌, ◌<◌, ◌≤◌, ℕ, Bool, true, false, List, [], ◌∷◌, All, Option, Some, None, Result, Ok, Err, length, refl, sym, ap, subst, arith}
+use Rattle.std.proofs.Common.{◌≡◌, ◌∙◌, ◌≤◌, ℕ, Bool, true, false, List, [], All, Option, Result, Ok, Err, length, refl, sym, ap, subst, arith}
 use Rattle.std.specs.Prelude.{if◌then◌else◌, nat_lt}
 use Rattle.std.proofs.lemmas.Bool.{ltb-false}
 use Rattle.arrivals.specs.Answered.{StandsUnlessDisk}
 use Rattle.arrivals.specs.Arrivals.{AreMembersRead, arrivals_seen}
 use Rattle.arrivals.specs.declared.arrivals.Arrivals.{Arrivals}
-use Rattle.base_core.specs.Calls.{IfObservable}
 use Rattle.base_core.specs.Faults.{Counts}
 use Rattle.base_core.specs.Files.{Files}
-use Rattle.base_core.specs.Tree.{IsWhole, TreeState, files_of}
-use Rattle.change_inputs.specs.Answers.{IsFailure}
+use Rattle.base_core.specs.Tree.{IsWhole, TreeState}
 use Rattle.change_inputs.specs.Candidates.{candidates_of, root_pool}
 use Rattle.change_inputs.specs.Chains.{and_then}
 use Rattle.change_inputs.specs.Inputs.{Inputs}
 use Rattle.change_inputs.specs.declared.refused.Refused.{Refused}
 use Rattle.change_inputs.specs.declared.refused.Refused.TheVariants.{Disk, Memory, Refusal as IsRefused}
-use Rattle.change_outcome.specs.ChangeOutcome.{ChangeDone, ChangeWishes, IsClashFound, IsClashOfChange, change_members, change_or_refusal, change_with_members}
+use Rattle.change_outcome.specs.ChangeOutcome.{ChangeDone, ChangeWishes, IsClashFound, change_members, change_or_refusal, change_with_members}
 use Rattle.change_outcome.specs.MembersAfter.{MemberFound, members_after}
 use Rattle.command_core.specs.Command.{CommandLine}
 use Rattle.command_core.specs.declared.command.Flags.{Flags}
@@ -32,8 +30,8 @@ use Rattle.path_clashes.specs.Clash.{NamePair}
 use Rattle.pool_core.specs.Rank.{SealedPool}
 use Rattle.pool_core.specs.declared.pool.TheConstants.{MOST_CANDIDATES}
 use Rattle.report_core.specs.declared.refusal.Refusal.{Refusal}
-use Rattle.engine_core.specs.ChangeRun.{ComesTo, selected_in}
-use Rattle.engine_core.specs.Changed.{IsClashOfSelected, IsClashUnlessSimulated, Selected, change_of_selected, simulated_change}
+use Rattle.engine_core.specs.ChangeRun.{ComesTo}
+use Rattle.engine_core.specs.Changed.{IsClashOfSelected, IsClashUnlessSimulated, change_of_selected, simulated_change}
 use Rattle.engine_core.specs.Finishing.{AreArrivals, IsRootRead}
 use Rattle.engine_core.specs.Making.{IsFoundRun}
 use Rattle.engine_core.specs.Runs.{IsSelectedRun}

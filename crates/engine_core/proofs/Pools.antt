@@ -1,5 +1,5 @@
 -- The pool of a command.
-use Rattle.std.proofs.Common.{◌≡◌, Bool, true, false, Result, Ok, Err, sym, ap}
+use Rattle.std.proofs.Common.{◌≡◌, Bool, true, false, Ok, Err, sym, ap}
 use Rattle.std.specs.Prelude.{if◌then◌else◌}
 use Rattle.change_inputs.specs.Candidates.{candidates_of, root_pool}
 use Rattle.change_inputs.specs.Inputs.{Inputs}

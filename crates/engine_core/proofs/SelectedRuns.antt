@@ -1,11 +1,10 @@
 -- Runs by what is chosen and selected, joined to those by what is read.
-use Rattle.std.proofs.Common.{◌≡◌, ℕ, ◌+◌, ◌<◌, ◌≤◌, Bool, true, false, List, [], ◌∷◌, Option, Some, None, Result, Ok, Err, length, refl, sym, ap, subst, ◌∙◌, arith}
-use Rattle.std.specs.Prelude.{All, if◌then◌else◌, nat_lt}
+use Rattle.std.proofs.Common.{◌≡◌, ℕ, Bool, true, List, Option, Some, None, Result, Ok, Err, refl, sym, ap, subst, ◌∙◌}
+use Rattle.std.specs.Prelude.{All, if◌then◌else◌}
 use Rattle.std.specs.Result.{IsErrAnd}
-use Rattle.base_core.specs.Calls.{IfObservable}
 use Rattle.base_core.specs.Faults.{Counts}
-use Rattle.base_core.specs.Tree.{IsWhole, TreeState, files_of}
-use Rattle.change_inputs.specs.Answers.{AgreesUnlessDisk, Agrees, IsFailure}
+use Rattle.base_core.specs.Tree.{IsWhole, TreeState}
+use Rattle.change_inputs.specs.Answers.{Agrees, IsFailure}
 use Rattle.change_inputs.specs.Chains.{and_then}
 use Rattle.change_inputs.specs.Inputs.{Inputs}
 use Rattle.change_inputs.specs.declared.refused.Refused.{Refused}
@@ -15,8 +14,8 @@ use Rattle.command_core.specs.Command.{CommandLine}
 use Rattle.package_changes.specs.Report.{simulated_report}
 use Rattle.pool_core.specs.Rank.{SealedPool}
 use Rattle.report_core.specs.declared.refusal.Refusal.{Refusal}
-use Rattle.report_core.specs.declared.refusal.Refusal.TheVariants.{NotInstalled, Unsatisfied}
-use Rattle.engine_core.specs.Changed.{IsClashOfSelected, Selected, change_of_selected, selected_by, selected_of_inputs, simulated_change}
+use Rattle.report_core.specs.declared.refusal.Refusal.TheVariants.{NotInstalled}
+use Rattle.engine_core.specs.Changed.{Selected, selected_by, selected_of_inputs, simulated_change}
 use Rattle.engine_core.specs.Choice.{IsChoice, IsChoiceFrom}
 use Rattle.engine_core.specs.Chosen.{IsChosen}
 use Rattle.engine_core.specs.Runs.{IsRunBy, IsSelectedRun}

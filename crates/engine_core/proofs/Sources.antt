@@ -1,19 +1,17 @@
 -- Which bytes a change leaves under the names that it writes, and that the sources stand for them.
-use Rattle.std.proofs.Common.{◌≡◌, ◌⊎◌, inl, inr, ◌∙◌, ◌<◌, ℕ, zero, suc, arith, Bool, true, false, List, [], ◌∷◌, ◌++◌, length, get_or, map, All, Contains, Option, Some, None, Bor, refl, sym, ap, subst, true≢false}
+use Rattle.std.proofs.Common.{◌≡◌, inl, inr, ◌∙◌, ℕ, zero, suc, arith, Bool, true, false, List, [], ◌∷◌, length, map, All, Contains, Option, Some, None, Bor, refl, sym, ap, subst, true≢false}
 use Rattle.std.specs.Str.{bytes_eq}
-use Rattle.std.specs.Prelude.{IsSome, not, if◌then◌else◌, is_some, option_and_then, slice_get, unwrap_or}
+use Rattle.std.specs.Prelude.{not, if◌then◌else◌, is_some, slice_get, unwrap_or}
 use Rattle.std.specs.Option.{option_copied}
 use Rattle.base_core.specs.Files.{Files}
 use Rattle.base_core.specs.Tree.{TreeState, files_of}
 use Rattle.adb_rules.specs.Reserved.{is_reserved}
-use Rattle.adb_tables.specs.Values.{entry_in}
 use Rattle.adb_view.specs.Plain.{Plain}
-use Rattle.arrivals.specs.Arrivals.{AreMembersRead, IsFileOfMember, arrivals_seen, package_in}
-use Rattle.arrivals.specs.declared.arrivals.Arrivals.{Arrivals}
-use Rattle.change_files.specs.FileChange.{FileChange, coming_owner}
+use Rattle.arrivals.specs.Arrivals.{IsFileOfMember}
+use Rattle.change_files.specs.FileChange.{FileChange}
 use Rattle.change_files.specs.FilesAfter.{Records, changed_files, database_name, is_written, listing_bytes, world_bytes_after, world_name, written_as}
 use Rattle.change_files.specs.PlanLists.{FileWrite, file_writes_of, write_to}
-use Rattle.change_files.specs.Touched.{IsWriteOf, is_record_name}
+use Rattle.change_files.specs.Touched.{is_record_name}
 use Rattle.change_files.proofs.Lists.{IsOneOf}
 use Rattle.change_files.proofs.Owned.{coming_is, written_is}
 use Rattle.change_files.proofs.PlanNames.{writes_are}
@@ -27,20 +25,19 @@ use Rattle.change_laws.proofs.ActionNames.{written_free}
 use Rattle.change_outcome.specs.ChangeOutcome.{bytes_under, is_other_file, new_records}
 use Rattle.change_outcome.specs.MembersAfter.{MemberFound, contents_found}
 use Rattle.db_core.specs.Members.{Listing, Member, member_listings}
-use Rattle.file_guard.specs.AsListed.{file_target, has_target, link_bytes, link_to}
+use Rattle.file_guard.specs.AsListed.{has_target, link_bytes, link_to}
 use Rattle.list_order.proofs.Sorting.{Each}
 use Rattle.own_core.specs.ClaimEntries.{folders_if_any, listed_file_at}
 use Rattle.own_core.proofs.Listings.{IsPlaced, each_placed}
 use Rattle.package_test.specs.Tested.{tested_name}
 use Rattle.package_test.specs.declared.package.TestedPackage.{TestedPackage}
 use Rattle.pkg_core.specs.Contents.{Contents, bytes_of_file}
-use Rattle.stage_files.specs.Sources.{IsFileSource, StandForEach, StandsFor}
-use Rattle.stage_files.specs.declared.source.PackagedFile.{PackagedFile}
+use Rattle.stage_files.specs.Sources.{StandForEach, StandsFor}
 use Rattle.stage_files.specs.declared.source.Source.{Source}
 use Rattle.stage_files.specs.declared.source.Source.TheVariants.{Bytes, File, Link}
 use Rattle.stage_files.specs.declared.source.StagedWrite.{StagedWrite}
 use Rattle.engine_core.specs.Finishing.{AreRecordWrites, AreRecordsOf, bytes_if}
-use Rattle.engine_core.specs.Writing.{HasBytes, IsFileOfWrite, IsFileWrite, IsRecordOf, IsSourceOfWrite, IsWriteBy, entry_of_write, package_at, write_name}
+use Rattle.engine_core.specs.Writing.{HasBytes, IsRecordOf, IsSourceOfWrite, IsWriteBy, entry_of_write, write_name}
 use Rattle.engine_core.specs.declared.finishing.NewRecords.{NewRecords}
 use Rattle.engine_core.specs.declared.writes.RecordWrites.{RecordWrites}
 

@@ -1,6 +1,6 @@
 use Rattle.base_core.specs.Listed.{IsRising}
 use Rattle.own_core.specs.Planned.{IsOpenName}
-use Rattle.std.proofs.Common.{All, sym, true, false, ◌≡◌, ◌++◌, ◌∙◌, ℕ, List, Some, map, Ok, Err, refl, ap, subst}
+use Rattle.std.proofs.Common.{All, sym, true, false, ◌≡◌, ◌++◌, ◌∙◌, List, Some, map, Ok, Err, ap, subst}
 use Rattle.std.specs.Prelude.{slice_get}
 use Rattle.change_files.specs.PlanLists.{names_in_order}
 use Rattle.change_outcome.specs.ChangeOutcome.{name_if_needed}
@@ -9,7 +9,6 @@ use Rattle.journal_core.specs.Staged.{new_stage}
 use Rattle.root_names.specs.RootNames.{text_database_name}
 use Rattle.stage_files.specs.Carried.{IsCarriedTo}
 use Rattle.stage_files.specs.Sources.{HasFileOf}
-use Rattle.stage_files.specs.declared.fault.StageFault.TheVariants.{Bad, Disk}
 use Rattle.stage_files.specs.declared.source.StagedWrite.{StagedWrite}
 use Rattle.engine_core.specs.Carrying.{ready_change}
 use Rattle.engine_core.specs.ChangeRun.{ComesTo}

@@ -1,4 +1,4 @@
-use Rattle.std.proofs.Common.{◌∙◌, Bool, ◌++◌, ap, map, sym}
+use Rattle.std.proofs.Common.{Bool, ◌++◌, map}
 use Rattle.change_outcome.specs.Triggers.{unless_trigger}
 use Rattle.engine_core.specs.ChangeRun.{ComesTo}
 use Rattle.engine_core.proofs.Carries.{part_fails}

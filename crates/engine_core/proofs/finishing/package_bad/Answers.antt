@@ -1,4 +1,4 @@
-use Rattle.std.proofs.Common.{◌≡◌, ◌∙◌, ap, Fits}
+use Rattle.std.proofs.Common.{◌∙◌, ap}
 use Rattle.adb_tables.specs.Values.{entry_in, text_in}
 use Rattle.db_core.specs.Seen.{members_of}
 use Rattle.report_core.specs.declared.refusal.Refusal.TheVariants.{PackageBad}

@@ -4,7 +4,6 @@ use Rattle.std.specs.List.{filter_map}
 use Rattle.std.specs.declared.alloc.AllocError.{AllocError}
 use Rattle.adb_view.specs.Plain.{Plain}
 use Rattle.change_outcome.specs.ChangeOutcome.{change_report, file_change}
-use Rattle.package_changes.specs.Changes.{Replacement}
 use Rattle.package_changes.specs.Placed.{PlacedChange, candidates_at, change_in}
 use Rattle.package_changes.specs.Seen.{replacement_by}
 use Rattle.engine_core.specs.Finishing.{inputs_arrived}

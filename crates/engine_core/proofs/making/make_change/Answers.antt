@@ -1,4 +1,4 @@
-use Rattle.std.proofs.Common.{◌∙◌, ℕ, List, [], ap, sym}
+use Rattle.std.proofs.Common.{◌∙◌, ℕ, List, [], ap}
 use Rattle.change_inputs.specs.declared.refused.Refused.TheVariants.{Memory}
 use Rattle.package_changes.specs.Placed.{placed_names_of}
 use Rattle.package_changes.specs.Seen.{replacement_by}

@@ -1,9 +1,8 @@
-use Rattle.std.proofs.Common.{◌≡◌, List, sym, subst, ap}
+use Rattle.std.proofs.Common.{subst}
 use Rattle.base_core.specs.Calls.{IfObservable}
-use Rattle.base_core.specs.Tree.{TreeState, files_of}
+use Rattle.base_core.specs.Tree.{files_of}
 use Rattle.command_core.specs.declared.command.Flags.{Flags}
 use Rattle.own_core.specs.Planned.{IsPlanOf, IsRefusalOf, change_by}
-use Rattle.engine_core.specs.Finishing.{IsPlanned}
 use Rattle.engine_core.specs.Wishes.{wishes_of}
 use Rattle.engine_core.proofs.Counted.{counted_behind}
 use Rattle.engine_core.proofs.Early.{HaveClash}

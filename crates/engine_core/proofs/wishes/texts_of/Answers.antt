@@ -1,4 +1,4 @@
-use Rattle.std.proofs.Common.{ap, arith, length, length-take, take, map, sym, ◌∙◌, ◌++◌, ◌∷◌, [], List, ℕ}
+use Rattle.std.proofs.Common.{ap, arith, length, length-take, take, ◌∙◌, ◌++◌, ◌∷◌, [], List, ℕ}
 use Rattle.std.proofs.lemmas.List.{length-map}
 use Rattle.command_core.specs.declared.operands.Operand.{Operand}
 use Rattle.engine_core.proofs.Known.{texts_all, texts_more}
