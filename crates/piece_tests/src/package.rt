@@ -285,7 +285,7 @@ fn add_file(
     let mut piece = Piece::new();
     for _ in 0..MOST {
         match file.next_piece(tree, &mut piece) {
-            Ok(true) => add_number(alloc, answer, piece.bytes().len() as u128)?,
+            Ok(true) => add_len(alloc, &piece, answer)?,
             Ok(false) => {
                 add_word(answer, b"end")?;
                 return Ok(true);
@@ -308,10 +308,16 @@ fn add_next_of_file(
 ) -> Result<(), AllocError> {
     let mut piece = Piece::new();
     match file.next_piece(tree, &mut piece) {
-        Ok(true) => add_number(alloc, answer, piece.bytes().len() as u128),
+        Ok(true) => add_len(alloc, &piece, answer),
         Ok(false) => add_word(answer, b"end"),
         Err(fault) => add_fault(alloc, fault, answer),
     }
+}
+
+/// Adds how long a piece is.
+fn add_len(alloc: Global, piece: &Piece, answer: &mut Vec<u8>) -> Result<(), AllocError> {
+    add_word(answer, b"")?;
+    add_number(alloc, answer, piece.bytes().len() as u128)
 }
 
 /// Adds a fault.
