@@ -125,12 +125,13 @@ $1 == "then" {
     next
 }
 $1 == "status" { end_text(); status = $2; next }
-$1 == "names" || $1 == "calls" || $1 == "writes" { end_text(); next }
+$1 == "names" || $1 == "calls" || $1 == "writes" || $1 == "reads" { end_text(); next }
 
 $1 == "in" && $2 == "memory" { end_text(); skipped = 1; next }
 
-# Each call in turn is left to the tree in memory: here the command line is run once, without a fault.
+# Each call or byte in turn is left to the tree in memory: here the command line is run once, without a fault.
 ($1 == "fail" || $1 == "stop") && $2 == "each" { end_command(); next }
+($1 == "out" || $1 == "err") && $2 == "ends" && $4 == "each" { end_command(); next }
 $1 == "fail" || $1 == "out" || $1 == "err" { end_command(); skipped = 1; next }
 
 { print "echo 'tests/host/rows: line " NR " is no line of rows' >&2; exit 1" }
