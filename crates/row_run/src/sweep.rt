@@ -21,6 +21,7 @@ const TREE_FAULT_TEXT: &[u8] = b"ERROR: the tree failed\n";
 const STREAM_FAULT: u64 = 3;
 
 /// A command line, the files that it finds, and what its run leaves in which nothing fails.
+#[derive(Drop)]
 pub(crate) struct Swept<'a, P: Program> {
     pub(crate) program: &'a P,
     pub(crate) step: &'a Step,
@@ -170,11 +171,7 @@ impl<'a, P: Program> Swept<'a, P> {
     /// Lets a stream end behind each number of bytes in turn. It has these bytes then, and the files
     /// are those of behind.
     pub(crate) fn end_each(&self, alloc: Global, is_out: bool) -> Result<(), RowFault> {
-        let whole = if is_out {
-            &self.step.out
-        } else {
-            &self.step.err
-        };
+        let whole = wanted_text(self.step, is_out);
         for count in 0..whole.len() {
             let ends = StreamEnds {
                 out: if is_out { Some(count) } else { None },
@@ -182,21 +179,30 @@ impl<'a, P: Program> Swept<'a, P> {
             };
             let tree = copy_of(alloc, self.before)?;
             let cut = run_once(alloc, self.program, self.step, tree, ends);
-            let taken = if is_out {
-                cut.out.bytes()
-            } else {
-                cut.err.bytes()
-            };
             let number = digits(alloc, count as u64)?;
             let mut what = Vec::from_slice(alloc, b"with a stream that ends after ")?;
             what.extend_from_slice(&number)?;
             what.extend_from_slice(b" bytes, what is seen")?;
             let line = self.step.line;
             compare_numbers(alloc, line, &what, u64::from(cut.status), STREAM_FAULT)?;
-            compare(alloc, line, &what, taken, &whole[..count])?;
+            compare(alloc, line, &what, seen_text(&cut, is_out), &whole[..count])?;
             self.sides
                 .check_images(alloc, self.program, self.step, &cut.tree)?;
         }
         Ok(())
+    }
+}
+
+/// What is wanted on standard output, or else on standard error.
+fn wanted_text(step: &Step, is_out: bool) -> &[u8] {
+    if is_out { &step.out } else { &step.err }
+}
+
+/// What is seen there.
+fn seen_text(run: &Run, is_out: bool) -> &[u8] {
+    if is_out {
+        run.out.bytes()
+    } else {
+        run.err.bytes()
     }
 }
