@@ -64,6 +64,20 @@ pub fn lexeme_at<'a>(last: Option<Class>, text: &'a [u8]) -> Lexeme<'a>
     }
 }
 
+/// The class of the token that begins a text, and how many bytes it has.
+pub fn first_token(last: Option<Class>, text: &[u8]) -> (Class, usize)
+    ensures class { result.0 ≡ (lexeme_at last text.now).token.class }
+    ensures len { result.1 ≡ (lexeme_at last text.now).width }
+{
+    let lexeme = lexeme_at(last, text);
+    let class = lexeme.token.class;
+    if class != Class::Hash {
+        return (class, lexeme.advance);
+    }
+    let digits = leading_hex_digits(behind(text, lexeme.advance));
+    (class, lexeme.advance + digits.len())
+}
+
 #[tactic(auto, unfolding(crate::specs::Token::next_lexeme))]
 fn next_lexeme<'a>(last: Class, text: &'a [u8]) -> Lexeme<'a>
     ensures { lexeme_view text.entry.now result ≡ next_lexeme last text.entry.now }
