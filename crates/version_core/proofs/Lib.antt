@@ -1,5 +1,6 @@
 pub mod Digits
 pub mod Fits
+pub mod HashDigits
 pub mod Lexemes
 pub mod Local
 pub mod OrderLaws

@@ -1,9 +1,11 @@
 -- The first token of a text is the same wherever the text is cut behind it.
-use Rattle.std.proofs.Common.{◌≡◌, ℕ, zero, suc, ◌+◌, ◌<◌, ◌≤◌, Bool, true, false, ◌&&◌, cond, eqb, ltb, List, [], ◌∷◌, take, length, Option, Some, None, refl, ap, sym, ◌∙◌, arith}
+use Rattle.std.proofs.Common.{◌≡◌, ℕ, zero, suc, ◌+◌, ◌<◌, ◌≤◌, Bool, true, false, ◌&&◌, cond, eqb, ltb, List, [], ◌∷◌, take, length, Option, Some, None, refl, ap, sym, ◌∙◌, arith, ◌-◌, drop}
 use Rattle.std.specs.Char.{is_ascii_digit, is_ascii_lowercase}
 use Rattle.std.specs.Str.Parse.{digits_value}
 use Rattle.std.specs.List.{take_while}
 use Rattle.std.proofs.lemmas.Bool.{false≢true}
+use Rattle.std.proofs.lemmas.List.{drop-take, drop-drop}
+use Rattle.std.specs.Prelude.{slice_range}
 use Rattle.std.proofs.lemmas.List.Sums.{take_while-cons}
 use Rattle.version_core.specs.declared.token.Class.{Class}
 use Rattle.version_core.specs.declared.token.Class.TheVariants.{Revision, SuffixNumber, Letter, ZeroComponent, Component}
@@ -11,9 +13,18 @@ use Rattle.version_core.specs.Token.{Lexeme, number_token, text_token, lexeme, s
 use Rattle.version_core.specs.Order.{is_last}
 use Rattle.version_core.proofs.Walk.{lexeme_at_within}
 
+-- ---- ranges
+
+pub drop_range : (bytes : List ℕ) (at end width : ℕ) → at + width ≤ end → drop width (slice_range bytes at end) ≡ slice_range bytes (at + width) end
+drop_range bytes at end width fits =
+    let split : end - at ≡ width + (end - (at + width)) = omega arith in
+    ap (λ n. drop width (take n (drop at bytes))) split
+    ∙ drop-take width (end - (at + width)) (drop at bytes)
+    ∙ ap (take (end - (at + width))) (drop-drop width at bytes)
+
 -- ---- runs
 
-run_by : (b : Bool) (q : ℕ → Bool) (x : ℕ) (xs : List ℕ) → q x ≡ b → take_while q (x ∷ xs) ≡ cond b (x ∷ take_while q xs) []
+pub run_by : (b : Bool) (q : ℕ → Bool) (x : ℕ) (xs : List ℕ) → q x ≡ b → take_while q (x ∷ xs) ≡ cond b (x ∷ take_while q xs) []
 run_by b q x xs h = take_while-cons q x xs ∙ ap (λ c. cond c (x ∷ take_while q xs) []) h
 
 -- a run that ends before its text does

@@ -9,16 +9,18 @@ use Rattle.version_core.specs.declared.token.Class.TheVariants as Classes
 use Rattle.version_core.specs.declared.overlapping.Place.{Place}
 use Rattle.version_core.specs.Token.{Token, Lexeme, number_token, text_token, lexeme, stray_lexeme, is_number, is_component, is_suffix, is_before_hash, is_before_revision, begins_with_zero, leading_digits, leading_hex_digits, leading_letters, number_lexeme, component_lexeme, suffix_rank, suffix_lexeme, suffix_lexeme_by, hash_lexeme, revision_lexeme, next_lexeme, lexeme_at}
 use Rattle.version_core.specs.Order.{are_in_grammar, is_last, is_stray, is_version, tokens, tokens_behind}
-use Rattle.version_core.specs.Overlapping.{ComesTo, LeadsTo, can_follow}
+use Rattle.version_core.specs.Overlapping.{IsNextPlace, IsLeap, can_follow, is_good_rest, passed_len}
 use Rattle.version_core.proofs.Walk.{after, lexeme_at_within, tokens_behind-step}
-use Rattle.version_core.proofs.Local.{token_local}
+use Rattle.version_core.specs.Reading.{is_hash, unread_len}
+use Rattle.version_core.proofs.Local.{drop_range, token_local}
+use Rattle.version_core.proofs.HashDigits.{digits_follow, hash_follow, hash_room, unread_none}
 
 -- ---- places
 
-pub leads_itself : (bytes : List ℕ) (place : Place) → LeadsTo bytes place place
+pub leads_itself : (bytes : List ℕ) (place : Place) → IsLeap bytes place place
 leads_itself bytes place = record { forth = omega arith; same = λ end past. refl }
 
-pub leads_on : (bytes : List ℕ) (a b c : Place) → LeadsTo bytes a b → LeadsTo bytes b c → LeadsTo bytes a c
+pub leads_on : (bytes : List ℕ) (a b c : Place) → IsLeap bytes a b → IsLeap bytes b c → IsLeap bytes a c
 leads_on bytes a b c f g = record {
   forth = let p = f.forth in let q = g.forth in omega arith;
   same = λ end past. let q = g.forth in f.same end (omega arith) ∙ g.same end past;
@@ -43,20 +45,22 @@ grammar_by false false ts l s = refl
 grammar_by true stray ts l s = absurd (false≢true (sym l))
 grammar_by false true ts l s = absurd (false≢true (sym s))
 
-drop_range : (bytes : List ℕ) (at end width : ℕ) → at + width ≤ end → drop width (slice_range bytes at end) ≡ slice_range bytes (at + width) end
-drop_range bytes at end width fits =
-    let split : end - at ≡ width + (end - (at + width)) = omega arith in
-    ap (λ n. drop width (take n (drop at bytes))) split
-    ∙ drop-take width (end - (at + width)) (drop at bytes)
-    ∙ ap (take (end - (at + width))) (drop-drop width at bytes)
+-- ---- places that are not between the digits of a hash
 
--- what stands in a range is in the grammar exactly where what stands behind its first token may follow there
-behind_first : (bytes : List ℕ) (last : Option Class) (at end : ℕ) (found : Lexeme) → lexeme_at last (slice_range bytes at end) ≡ found → is_last found.token.class ≡ false → at + found.width ≤ end
+follow_by : (bytes : List ℕ) (place : Place) (end n : ℕ) → unread_len (Some place.class) (slice_range bytes place.at end) ≡ n → can_follow bytes place end ≡ are_in_grammar (tokens_behind (Some place.class) n (slice_range bytes place.at end))
+follow_by bytes place end n e = ap (λ u. are_in_grammar (tokens_behind (Some place.class) u (slice_range bytes place.at end))) e
+
+no_hash_unread : (class : Class) (rest : List ℕ) → is_hash class ≡ false → unread_len (Some class) rest ≡ 0
+no_hash_unread class rest h = ap (λ b. cond b (length (leading_hex_digits rest)) 0) h
+
+-- what stands in a range is in the grammar exactly where what stands behind its first token, no hash, may follow there
+behind_first : (bytes : List ℕ) (last : Option Class) (at end : ℕ) (found : Lexeme) → lexeme_at last (slice_range bytes at end) ≡ found → is_last found.token.class ≡ false → is_hash found.token.class ≡ false → at + found.width ≤ end
     → are_in_grammar (tokens_behind last 0 (slice_range bytes at end)) ≡ can_follow bytes (record { at = at + found.width; class = found.token.class }) end
-behind_first bytes last at end found is token fits =
+behind_first bytes last at end found is token plain fits =
     ap are_in_grammar (tokens_behind-step last (slice_range bytes at end) ∙ ap (λ (l : Lexeme). l.token ∷ after (slice_range bytes at end) l) is)
     ∙ grammar_by (is_last found.token.class) (is_stray found.token.class) (tokens_behind (Some found.token.class) 0 (drop found.width (slice_range bytes at end))) token (no_last found.token.class token)
     ∙ ap (λ ts. are_in_grammar (tokens_behind (Some found.token.class) 0 ts)) (drop_range bytes at end found.width fits)
+    ∙ sym (follow_by bytes (record { at = at + found.width; class = found.token.class }) end 0 (no_hash_unread found.token.class (slice_range bytes (at + found.width) end) plain))
 
 -- ---- no token but at the end of the text is the end
 
@@ -125,55 +129,136 @@ unfolding is_version tokens
 no_version bytes at end class is h =
     stray_first None (slice_range bytes at end) (number_no_end Classes.Component 0 (leading_digits (slice_range bytes at end)) (λ h. h)) (ap is_last (sym is) ∙ h)
 
-pub none_follows : (bytes : List ℕ) (place : Place) (end : ℕ) (class : Class) → place.at < end → end ≤ length bytes → class ≡ (lexeme_at (Some place.class) (slice_range bytes place.at end)).token.class → is_last class ≡ true → can_follow bytes place end ≡ false
-none_follows bytes place end class order within is h =
+pub none_follows : (bytes : List ℕ) (place : Place) (end : ℕ) (class : Class) → place.at < end → end ≤ length bytes → unread_len (Some place.class) (slice_range bytes place.at end) ≡ 0 → class ≡ (lexeme_at (Some place.class) (slice_range bytes place.at end)).token.class → is_last class ≡ true → can_follow bytes place end ≡ false
+none_follows bytes place end class order within none is h =
     let long = length_range bytes place.at end (omega arith) within in
-    stray_first (Some place.class) (slice_range bytes place.at end) (some_no_end place.class (slice_range bytes place.at end) (omega arith)) (ap is_last (sym is) ∙ h)
+    follow_by bytes place end 0 none
+    ∙ stray_first (Some place.class) (slice_range bytes place.at end) (some_no_end place.class (slice_range bytes place.at end) (omega arith)) (ap is_last (sym is) ∙ h)
 
-pub first_width : (bytes : List ℕ) (last : Option Class) (at end len : ℕ) → at ≤ end → end ≤ length bytes → len ≡ (lexeme_at last (slice_range bytes at end)).width → at + len ≤ end
+first_width : (bytes : List ℕ) (last : Option Class) (at end len : ℕ) → at ≤ end → end ≤ length bytes → len ≡ (lexeme_at last (slice_range bytes at end)).width → at + len ≤ end
 first_width bytes last at end len order within is =
     let most = (lexeme_at_within last (slice_range bytes at end)).most in
     let long = length_range bytes at end order within in
     omega arith
 
-pub first_version : (bytes : List ℕ) (at end len : ℕ) (class : Class) → at ≤ end → end ≤ length bytes → class ≡ (lexeme_at None (slice_range bytes at end)).token.class → len ≡ (lexeme_at None (slice_range bytes at end)).width → is_last class ≡ false
+-- ---- the first token of a version, which is no hash
+
+component_by : (b : Bool) (found : Lexeme) → is_hash found.token.class ≡ false → is_hash (cond b found stray_lexeme).token.class ≡ false
+component_by true found h = h
+component_by false found h = refl
+
+first_plain : (text : List ℕ) → is_hash (lexeme_at None text).token.class ≡ false
+unfolding number_lexeme
+first_plain text = component_by (is_number (leading_digits text)) (lexeme (number_token Classes.Component _) _) refl
+
+-- how many bytes of the token that begins a text are passed over at first: of a hash its mark and a digit
+passed_plain : (found : Lexeme) → is_hash found.token.class ≡ false → passed_len found ≡ found.width
+passed_plain found h = ap (λ b. cond b 2 found.width) h
+
+pub first_passed : (bytes : List ℕ) (at end len : ℕ) → at ≤ end → end ≤ length bytes → len ≡ passed_len (lexeme_at None (slice_range bytes at end)) → at + len ≤ end
+first_passed bytes at end len order within is =
+    first_width bytes None at end len order within (is ∙ passed_plain (lexeme_at None (slice_range bytes at end)) (first_plain (slice_range bytes at end)))
+
+pub first_version : (bytes : List ℕ) (at end len : ℕ) (class : Class) → at ≤ end → end ≤ length bytes → class ≡ (lexeme_at None (slice_range bytes at end)).token.class → len ≡ passed_len (lexeme_at None (slice_range bytes at end)) → is_last class ≡ false
     → is_version (slice_range bytes at end) ≡ can_follow bytes (record { at = at + len; class = class }) end
 unfolding is_version tokens
-first_version bytes at end len class order within is width h =
+first_version bytes at end len class order within is passed h =
     let found = lexeme_at None (slice_range bytes at end) in
-    behind_first bytes None at end found refl (ap is_last (sym is) ∙ h) (first_width bytes None at end found.width order within refl)
+    let plain = first_plain (slice_range bytes at end) in
+    let width : len ≡ found.width = passed ∙ passed_plain found plain in
+    behind_first bytes None at end found refl (ap is_last (sym is) ∙ h) plain (first_width bytes None at end found.width order within refl)
     ∙ ap (λ (n : ℕ). can_follow bytes (record { at = at + n; class = found.token.class }) end) (sym width)
     ∙ ap (λ (c : Class). can_follow bytes (record { at = at + len; class = c }) end) (sym is)
 
-behind_found : (bytes : List ℕ) (place : Place) (end : ℕ) (found : Lexeme) → place.at < end → end ≤ length bytes → found ≡ lexeme_at (Some place.class) (slice_range bytes place.at end) → is_last found.token.class ≡ false
-    → ComesTo bytes end place (record { at = place.at + found.width; class = found.token.class })
-behind_found bytes place end found order within is token =
+-- ---- the next token
+
+behind_plain : (bytes : List ℕ) (place : Place) (end : ℕ) (found : Lexeme) → place.at < end → end ≤ length bytes → unread_len (Some place.class) (slice_range bytes place.at end) ≡ 0 → found ≡ lexeme_at (Some place.class) (slice_range bytes place.at end) → is_last found.token.class ≡ false → is_hash found.token.class ≡ false
+    → IsNextPlace bytes end place (record { at = place.at + found.width; class = found.token.class })
+behind_plain bytes place end found order within none is token plain =
     let fits = first_width bytes (Some place.class) place.at end found.width (omega arith) within (ap (λ (l : Lexeme). l.width) is) in
     let some = (lexeme_at_within (Some place.class) (slice_range bytes place.at end)).some (ap (λ (l : Lexeme). is_last l.token.class) (sym is) ∙ token) in
     let width : found.width ≡ (lexeme_at (Some place.class) (slice_range bytes place.at end)).width = ap (λ (l : Lexeme). l.width) is in
     record {
       forth = omega arith;
       within = fits;
-      same = behind_first bytes (Some place.class) place.at end found (sym is) token fits;
+      same = follow_by bytes place end 0 none ∙ behind_first bytes (Some place.class) place.at end found (sym is) token plain fits;
       leads = λ before. record {
         forth = omega arith;
         same = λ other past.
-            behind_first bytes (Some place.class) place.at other found
-            (token_local place.class (drop place.at bytes) (end - place.at) (other - place.at) (ap (λ (l : Lexeme). is_last l.token.class) (sym is) ∙ token) (omega arith) (omega arith) ∙ sym is) token past;
+            follow_by bytes place other 0 (unread_none place.class (drop place.at bytes) (end - place.at) (other - place.at) (omega arith) none)
+            ∙ behind_first bytes (Some place.class) place.at other found
+            (token_local place.class (drop place.at bytes) (end - place.at) (other - place.at) (ap (λ (l : Lexeme). is_last l.token.class) (sym is) ∙ token) (omega arith) (omega arith) ∙ sym is) token plain past;
       };
     }
 
-pub comes_behind : (bytes : List ℕ) (place : Place) (end len : ℕ) (class : Class) → place.at < end → end ≤ length bytes → class ≡ (lexeme_at (Some place.class) (slice_range bytes place.at end)).token.class → len ≡ (lexeme_at (Some place.class) (slice_range bytes place.at end)).width → is_last class ≡ false
-    → ComesTo bytes end place (record { at = place.at + len; class = class })
-comes_behind bytes place end len class order within is width h =
+hash_behind : (bytes : List ℕ) (place : Place) (end other : ℕ) → is_hash (lexeme_at (Some place.class) (slice_range bytes place.at end)).token.class ≡ true → place.at + 2 ≤ other
+    → are_in_grammar (tokens_behind (Some place.class) 0 (slice_range bytes place.at other)) ≡ can_follow bytes (record { at = place.at + 2; class = Classes.Hash }) other
+hash_behind bytes place end other marked fits =
+    hash_follow place.class (drop place.at bytes) (end - place.at) (other - place.at) marked (omega arith)
+    ∙ ap (is_good_rest (record { at = place.at + 2; class = Classes.Hash })) (drop_range bytes place.at other 2 fits)
+
+behind_hash : (bytes : List ℕ) (place : Place) (end : ℕ) → place.at < end → unread_len (Some place.class) (slice_range bytes place.at end) ≡ 0 → is_hash (lexeme_at (Some place.class) (slice_range bytes place.at end)).token.class ≡ true
+    → IsNextPlace bytes end place (record { at = place.at + 2; class = Classes.Hash })
+behind_hash bytes place end order none marked =
+    let room = hash_room place.class (drop place.at bytes) (end - place.at) marked in
+    record {
+      forth = omega arith;
+      within = omega arith;
+      same = follow_by bytes place end 0 none ∙ hash_behind bytes place end end marked (omega arith);
+      leads = λ before. record {
+        forth = omega arith;
+        same = λ other past.
+            follow_by bytes place other 0 (unread_none place.class (drop place.at bytes) (end - place.at) (other - place.at) (omega arith) none)
+            ∙ hash_behind bytes place end other marked past;
+      };
+    }
+
+hash_class : (class : Class) → is_hash class ≡ true → class ≡ Classes.Hash
+hash_class Classes.Hash h = refl
+hash_class Classes.Stray h = absurd (false≢true h)
+hash_class Classes.PreRelease h = absurd (false≢true h)
+hash_class Classes.End h = absurd (false≢true h)
+hash_class Classes.Revision h = absurd (false≢true h)
+hash_class Classes.SuffixNumber h = absurd (false≢true h)
+hash_class Classes.Suffix h = absurd (false≢true h)
+hash_class Classes.Letter h = absurd (false≢true h)
+hash_class Classes.ZeroComponent h = absurd (false≢true h)
+hash_class Classes.Component h = absurd (false≢true h)
+
+behind_by : (bytes : List ℕ) (place : Place) (end : ℕ) (found : Lexeme) (b : Bool) → is_hash found.token.class ≡ b → place.at < end → end ≤ length bytes → unread_len (Some place.class) (slice_range bytes place.at end) ≡ 0 → found ≡ lexeme_at (Some place.class) (slice_range bytes place.at end) → is_last found.token.class ≡ false
+    → IsNextPlace bytes end place (record { at = place.at + passed_len found; class = found.token.class })
+behind_by bytes place end found false e order within none is token =
+    subst (λ (n : ℕ). IsNextPlace bytes end place (record { at = place.at + n; class = found.token.class })) (sym (passed_plain found e)) (behind_plain bytes place end found order within none is token e)
+behind_by bytes place end found true e order within none is token =
+    let there = behind_hash bytes place end order none (ap (λ (l : Lexeme). is_hash l.token.class) (sym is) ∙ e) in
+    let passed : 2 ≡ passed_len found = sym (ap (λ b. cond b 2 found.width) e) in
+    let one = subst (λ (n : ℕ). IsNextPlace bytes end place (record { at = place.at + n; class = Classes.Hash })) passed there in
+    subst (λ (c : Class). IsNextPlace bytes end place (record { at = place.at + passed_len found; class = c })) (sym (hash_class found.token.class e)) one
+
+pub comes_behind : (bytes : List ℕ) (place : Place) (end len : ℕ) (class : Class) → place.at < end → end ≤ length bytes → unread_len (Some place.class) (slice_range bytes place.at end) ≡ 0 → class ≡ (lexeme_at (Some place.class) (slice_range bytes place.at end)).token.class → len ≡ passed_len (lexeme_at (Some place.class) (slice_range bytes place.at end)) → is_last class ≡ false
+    → IsNextPlace bytes end place (record { at = place.at + len; class = class })
+comes_behind bytes place end len class order within none is passed h =
     let found = lexeme_at (Some place.class) (slice_range bytes place.at end) in
-    let there = behind_found bytes place end found order within refl (ap is_last (sym is) ∙ h) in
-    let one = subst (λ (n : ℕ). ComesTo bytes end place (record { at = place.at + n; class = found.token.class })) (sym width) there in
-    subst (λ (c : Class). ComesTo bytes end place (record { at = place.at + len; class = c })) (sym is) one
+    let there = behind_by bytes place end found (is_hash found.token.class) refl order within none refl (ap is_last (sym is) ∙ h) in
+    let one = subst (λ (n : ℕ). IsNextPlace bytes end place (record { at = place.at + n; class = found.token.class })) (sym passed) there in
+    subst (λ (c : Class). IsNextPlace bytes end place (record { at = place.at + len; class = c })) (sym is) one
+
+-- behind some more digits of a hash
+pub comes_behind_digits : (bytes : List ℕ) (place : Place) (end n len : ℕ) → n ≤ end - place.at → len ≡ unread_len (Some place.class) (take n (drop place.at bytes)) → len ≤ n → 0 < len → place.at < end → IsNextPlace bytes end place (record { at = place.at + len; class = place.class })
+comes_behind_digits bytes place end n len most is few some order = record {
+  forth = omega arith;
+  within = omega arith;
+  same = digits_follow bytes place n end len is (omega arith);
+  leads = λ before. record { forth = omega arith; same = λ other past. digits_follow bytes place n other len is past };
+}
 
 -- nothing follows at the end
 pub follows_at_end : (bytes : List ℕ) (place : Place) (end : ℕ) → end ≤ place.at → can_follow bytes place end ≡ true
 unfolding next_lexeme
 follows_at_end bytes place end past =
     let none : end - place.at ≡ 0 = omega arith in
-    ap (λ n. are_in_grammar (tokens_behind (Some place.class) 0 (take n (drop place.at bytes)))) none
+    ap (λ n. is_good_rest place (take n (drop place.at bytes))) none ∙ good_end (is_hash place.class)
+  where
+    good_end : (b : Bool) → are_in_grammar (tokens_behind (Some place.class) (cond b 0 0) []) ≡ true
+    good_end true = refl
+    good_end false = refl
