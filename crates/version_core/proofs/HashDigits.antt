@@ -14,7 +14,7 @@ use Rattle.version_core.specs.declared.overlapping.Place.{Place}
 use Rattle.version_core.specs.Token.{Token, Lexeme, number_token, text_token, lexeme, stray_lexeme, is_number, is_component, is_suffix, is_before_hash, is_before_revision, is_hex_digit, begins_with_zero, leading_digits, leading_hex_digits, leading_letters, number_lexeme, component_lexeme, suffix_rank, suffix_lexeme, suffix_lexeme_by, hash_lexeme, revision_lexeme, next_lexeme, lexeme_at}
 use Rattle.version_core.specs.Order.{are_in_grammar, is_last, tokens_behind}
 use Rattle.version_core.specs.Reading.{is_hash, unread_len}
-use Rattle.version_core.specs.Overlapping.{ComesTo, LeadsTo, can_follow, is_good_rest}
+use Rattle.version_core.specs.Overlapping.{IsNextPlace, IsLeap, can_follow, is_good_rest}
 use Rattle.version_core.proofs.Walk.{after, tokens_behind-drop, tokens_behind-step}
 use Rattle.version_core.proofs.Local.{drop_range, run_by}
 
@@ -102,7 +102,7 @@ unread_fits class xs n = unread_fits_by (is_hash class)
     unread_fits_by false = omega arith
 
 -- behind some of the bytes that are before the end, all of them digits
-pub comes_on : (bytes : List ℕ) (place : Place) (end len k : ℕ) → place.at + len ≤ end → k ≡ unread_len (Some place.class) (slice_range bytes place.at (place.at + len)) → 0 < k → ComesTo bytes end place (record { at = place.at + k; class = place.class })
+pub comes_on : (bytes : List ℕ) (place : Place) (end len k : ℕ) → place.at + len ≤ end → k ≡ unread_len (Some place.class) (slice_range bytes place.at (place.at + len)) → 0 < k → IsNextPlace bytes end place (record { at = place.at + k; class = place.class })
 comes_on bytes place end len k fits is some =
     let n : ℕ = (place.at + len) - place.at in
     let most = unread_fits place.class (drop place.at bytes) n in

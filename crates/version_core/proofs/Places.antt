@@ -9,7 +9,7 @@ use Rattle.version_core.specs.declared.token.Class.TheVariants as Classes
 use Rattle.version_core.specs.declared.overlapping.Place.{Place}
 use Rattle.version_core.specs.Token.{Token, Lexeme, number_token, text_token, lexeme, stray_lexeme, is_number, is_component, is_suffix, is_before_hash, is_before_revision, begins_with_zero, leading_digits, leading_hex_digits, leading_letters, number_lexeme, component_lexeme, suffix_rank, suffix_lexeme, suffix_lexeme_by, hash_lexeme, revision_lexeme, next_lexeme, lexeme_at}
 use Rattle.version_core.specs.Order.{are_in_grammar, is_last, is_stray, is_version, tokens, tokens_behind}
-use Rattle.version_core.specs.Overlapping.{ComesTo, LeadsTo, can_follow, is_good_rest, passed_len}
+use Rattle.version_core.specs.Overlapping.{IsNextPlace, IsLeap, can_follow, is_good_rest, passed_len}
 use Rattle.version_core.proofs.Walk.{after, lexeme_at_within, tokens_behind-step}
 use Rattle.version_core.specs.Reading.{is_hash, unread_len}
 use Rattle.version_core.proofs.Local.{drop_range, token_local}
@@ -17,10 +17,10 @@ use Rattle.version_core.proofs.HashDigits.{digits_follow, hash_follow, hash_room
 
 -- ---- places
 
-pub leads_itself : (bytes : List ℕ) (place : Place) → LeadsTo bytes place place
+pub leads_itself : (bytes : List ℕ) (place : Place) → IsLeap bytes place place
 leads_itself bytes place = record { forth = omega arith; same = λ end past. refl }
 
-pub leads_on : (bytes : List ℕ) (a b c : Place) → LeadsTo bytes a b → LeadsTo bytes b c → LeadsTo bytes a c
+pub leads_on : (bytes : List ℕ) (a b c : Place) → IsLeap bytes a b → IsLeap bytes b c → IsLeap bytes a c
 leads_on bytes a b c f g = record {
   forth = let p = f.forth in let q = g.forth in omega arith;
   same = λ end past. let q = g.forth in f.same end (omega arith) ∙ g.same end past;
@@ -173,7 +173,7 @@ first_version bytes at end len class order within is passed h =
 -- ---- the next token
 
 behind_plain : (bytes : List ℕ) (place : Place) (end : ℕ) (found : Lexeme) → place.at < end → end ≤ length bytes → unread_len (Some place.class) (slice_range bytes place.at end) ≡ 0 → found ≡ lexeme_at (Some place.class) (slice_range bytes place.at end) → is_last found.token.class ≡ false → is_hash found.token.class ≡ false
-    → ComesTo bytes end place (record { at = place.at + found.width; class = found.token.class })
+    → IsNextPlace bytes end place (record { at = place.at + found.width; class = found.token.class })
 behind_plain bytes place end found order within none is token plain =
     let fits = first_width bytes (Some place.class) place.at end found.width (omega arith) within (ap (λ (l : Lexeme). l.width) is) in
     let some = (lexeme_at_within (Some place.class) (slice_range bytes place.at end)).some (ap (λ (l : Lexeme). is_last l.token.class) (sym is) ∙ token) in
@@ -198,7 +198,7 @@ hash_behind bytes place end other marked fits =
     ∙ ap (is_good_rest (record { at = place.at + 2; class = Classes.Hash })) (drop_range bytes place.at other 2 fits)
 
 behind_hash : (bytes : List ℕ) (place : Place) (end : ℕ) → place.at < end → unread_len (Some place.class) (slice_range bytes place.at end) ≡ 0 → is_hash (lexeme_at (Some place.class) (slice_range bytes place.at end)).token.class ≡ true
-    → ComesTo bytes end place (record { at = place.at + 2; class = Classes.Hash })
+    → IsNextPlace bytes end place (record { at = place.at + 2; class = Classes.Hash })
 behind_hash bytes place end order none marked =
     let room = hash_room place.class (drop place.at bytes) (end - place.at) marked in
     record {
@@ -226,25 +226,25 @@ hash_class Classes.ZeroComponent h = absurd (false≢true h)
 hash_class Classes.Component h = absurd (false≢true h)
 
 behind_by : (bytes : List ℕ) (place : Place) (end : ℕ) (found : Lexeme) (b : Bool) → is_hash found.token.class ≡ b → place.at < end → end ≤ length bytes → unread_len (Some place.class) (slice_range bytes place.at end) ≡ 0 → found ≡ lexeme_at (Some place.class) (slice_range bytes place.at end) → is_last found.token.class ≡ false
-    → ComesTo bytes end place (record { at = place.at + passed_len found; class = found.token.class })
+    → IsNextPlace bytes end place (record { at = place.at + passed_len found; class = found.token.class })
 behind_by bytes place end found false e order within none is token =
-    subst (λ (n : ℕ). ComesTo bytes end place (record { at = place.at + n; class = found.token.class })) (sym (passed_plain found e)) (behind_plain bytes place end found order within none is token e)
+    subst (λ (n : ℕ). IsNextPlace bytes end place (record { at = place.at + n; class = found.token.class })) (sym (passed_plain found e)) (behind_plain bytes place end found order within none is token e)
 behind_by bytes place end found true e order within none is token =
     let there = behind_hash bytes place end order none (ap (λ (l : Lexeme). is_hash l.token.class) (sym is) ∙ e) in
     let passed : 2 ≡ passed_len found = sym (ap (λ b. cond b 2 found.width) e) in
-    let one = subst (λ (n : ℕ). ComesTo bytes end place (record { at = place.at + n; class = Classes.Hash })) passed there in
-    subst (λ (c : Class). ComesTo bytes end place (record { at = place.at + passed_len found; class = c })) (sym (hash_class found.token.class e)) one
+    let one = subst (λ (n : ℕ). IsNextPlace bytes end place (record { at = place.at + n; class = Classes.Hash })) passed there in
+    subst (λ (c : Class). IsNextPlace bytes end place (record { at = place.at + passed_len found; class = c })) (sym (hash_class found.token.class e)) one
 
 pub comes_behind : (bytes : List ℕ) (place : Place) (end len : ℕ) (class : Class) → place.at < end → end ≤ length bytes → unread_len (Some place.class) (slice_range bytes place.at end) ≡ 0 → class ≡ (lexeme_at (Some place.class) (slice_range bytes place.at end)).token.class → len ≡ passed_len (lexeme_at (Some place.class) (slice_range bytes place.at end)) → is_last class ≡ false
-    → ComesTo bytes end place (record { at = place.at + len; class = class })
+    → IsNextPlace bytes end place (record { at = place.at + len; class = class })
 comes_behind bytes place end len class order within none is passed h =
     let found = lexeme_at (Some place.class) (slice_range bytes place.at end) in
     let there = behind_by bytes place end found (is_hash found.token.class) refl order within none refl (ap is_last (sym is) ∙ h) in
-    let one = subst (λ (n : ℕ). ComesTo bytes end place (record { at = place.at + n; class = found.token.class })) (sym passed) there in
-    subst (λ (c : Class). ComesTo bytes end place (record { at = place.at + len; class = c })) (sym is) one
+    let one = subst (λ (n : ℕ). IsNextPlace bytes end place (record { at = place.at + n; class = found.token.class })) (sym passed) there in
+    subst (λ (c : Class). IsNextPlace bytes end place (record { at = place.at + len; class = c })) (sym is) one
 
 -- behind some more digits of a hash
-pub comes_behind_digits : (bytes : List ℕ) (place : Place) (end n len : ℕ) → n ≤ end - place.at → len ≡ unread_len (Some place.class) (take n (drop place.at bytes)) → len ≤ n → 0 < len → place.at < end → ComesTo bytes end place (record { at = place.at + len; class = place.class })
+pub comes_behind_digits : (bytes : List ℕ) (place : Place) (end n len : ℕ) → n ≤ end - place.at → len ≡ unread_len (Some place.class) (take n (drop place.at bytes)) → len ≤ n → 0 < len → place.at < end → IsNextPlace bytes end place (record { at = place.at + len; class = place.class })
 comes_behind_digits bytes place end n len most is few some order = record {
   forth = omega arith;
   within = omega arith;

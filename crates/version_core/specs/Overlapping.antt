@@ -21,14 +21,14 @@ can_follow bytes place end = is_good_rest place (slice_range bytes place.at end)
 
 -- wherever a version ends that passes the first place, at the second or behind it, what follows the
 -- first may follow exactly where what follows the second may
-pub record LeadsTo (bytes : List ℕ) (from to : Place) : Type 0 where
+pub record IsLeap (bytes : List ℕ) (from to : Place) : Type 0 where
   pub forth : from.at ≤ to.at
   pub same : (end : ℕ) → to.at ≤ end → can_follow bytes from end ≡ can_follow bytes to end
 
 -- a version with this end that is at the first place comes to the second, and so does each other
 -- version, but where the second place is the end, which may be within a token of another
-pub record ComesTo (bytes : List ℕ) (end : ℕ) (from to : Place) : Type 0 where
+pub record IsNextPlace (bytes : List ℕ) (end : ℕ) (from to : Place) : Type 0 where
   pub forth : from.at < to.at
   pub within : to.at ≤ end
   pub same : can_follow bytes from end ≡ can_follow bytes to end
-  pub leads : to.at < end → LeadsTo bytes from to
+  pub leads : to.at < end → IsLeap bytes from to

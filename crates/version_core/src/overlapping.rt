@@ -3,7 +3,7 @@
 
 ghost use Rattle.std.specs.Prelude.{◌≡◌, ◌<◌, ◌≤◌, false, length, slice_range, IfOk, IfSome, IfNone, Some};
 ghost use Rattle.version_core.specs.Order.{is_version};
-ghost use Rattle.version_core.specs.Overlapping.{ComesTo, LeadsTo, can_follow};
+ghost use Rattle.version_core.specs.Overlapping.{IsNextPlace, IsLeap, can_follow};
 ghost use Rattle.version_core.specs.Reading.{unread_len};
 
 use crate::lexeme::{first_token, leading_hex_digits};
@@ -39,14 +39,14 @@ pub struct OverlappingVersions<'a> {
 
 impl<'a> Model for OverlappingVersions<'a> {
     ghost use Rattle.std.specs.Prelude.{ℕ, List, All};
-    ghost use Rattle.version_core.specs.Overlapping.{LeadsTo};
+    ghost use Rattle.version_core.specs.Overlapping.{IsLeap};
 
     ghost Value = { List ℕ };
 
     ghost view = { λ versions. versions.bytes.now };
 
     ghost invariant = { λ versions.
-        All (λ leap. LeadsTo versions.bytes.now leap.from leap.to) versions.leaps.items };
+        All (λ leap. IsLeap versions.bytes.now leap.from leap.to) versions.leaps.items };
 }
 
 impl<'a> OverlappingVersions<'a> {
@@ -99,7 +99,7 @@ impl<'a> OverlappingVersions<'a> {
     fn next_place(&self, place: Place, end: usize) -> Option<Place>
         requires order { place.at < end }
         requires within { end ≤ length self.now }
-        ensures some { IfSome result (ComesTo self.now end place) }
+        ensures some { IfSome result (IsNextPlace self.now end place) }
         ensures none { IfNone result (can_follow self.now place end ≡ false) }
     {
         match self.leap(place, end) {
@@ -110,7 +110,7 @@ impl<'a> OverlappingVersions<'a> {
 
     /// Where an earlier version leads.
     fn leap(&self, place: Place, end: usize) -> Option<Place>
-        ensures { IfSome result (ComesTo self.now end place) }
+        ensures { IfSome result (IsNextPlace self.now end place) }
     {
         let leap = self.leaps.get(place.at / BLOCK)?;
         let Leap { from, to } = *leap;
@@ -126,8 +126,8 @@ impl<'a> OverlappingVersions<'a> {
     /// Keeps the leap from one place to another where this lies in another block, and answers from
     /// where the next leap goes.
     fn pass(&mut self, begun: Place, place: Place) -> Place
-        requires { LeadsTo self.old begun place }
-        ensures leads { LeadsTo self.old result place }
+        requires { IsLeap self.old begun place }
+        ensures leads { IsLeap self.old result place }
         ensures bytes { self.new ≡ self.old }
     {
         if place.at / BLOCK == begun.at / BLOCK {
@@ -139,7 +139,7 @@ impl<'a> OverlappingVersions<'a> {
 
     /// Keeps a leap, in place of one over the same block.
     fn remember(&mut self, from: Place, to: Place)
-        requires { LeadsTo self.old from to }
+        requires { IsLeap self.old from to }
         ensures { self.new ≡ self.old }
     {
         let block = from.at / BLOCK;
@@ -189,7 +189,7 @@ fn first_place(bytes: &[u8], from: usize, end: usize) -> Option<Place>
 fn place_behind(bytes: &[u8], place: Place, end: usize) -> Option<Place>
     requires order { place.at < end }
     requires within { end ≤ length bytes.now }
-    ensures some { IfSome result (ComesTo bytes.now end place) }
+    ensures some { IfSome result (IsNextPlace bytes.now end place) }
     ensures none { IfNone result (can_follow bytes.now place end ≡ false) }
 {
     let len = (end - place.at).min(BLOCK);
@@ -218,7 +218,7 @@ fn place_behind_token(bytes: &[u8], place: Place, end: usize) -> Option<Place>
     requires order { place.at < end }
     requires within { end ≤ length bytes.now }
     requires none { unread_len (Some place.class) (slice_range bytes.now place.at end) ≡ 0 }
-    ensures some { IfSome result (ComesTo bytes.now end place) }
+    ensures some { IfSome result (IsNextPlace bytes.now end place) }
     ensures none { IfNone result (can_follow bytes.now place end ≡ false) }
 {
     let (class, len) = first_token(Some(place.class), &bytes[place.at..end]);
