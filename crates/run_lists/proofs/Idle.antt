@@ -1,9 +1,9 @@
 -- A root on which nothing is committed keeps its state, which is what a recovery leaves.
-use Rattle.std.proofs.Common.{◌≡◌, ◌≢◌, ℕ, Bool, true, false, cond, ◌||◌, List, [], ◌∷◌, None, Option, refl, sym, subst}
+use Rattle.std.proofs.Common.{◌≡◌, ◌≢◌, ℕ, Bool, true, false, cond, ◌||◌, List, [], ◌∷◌, None, Option, refl, sym, subst, ◌∙◌}
 use Rattle.std.specs.Str.{bytes_eq}
 use Rattle.std.proofs.lemmas.Slice.Eq.{bytes_eq-Decides}
 use Rattle.apk_front.specs.Moments.{IsAtRest}
-use Rattle.base_core.specs.Crash.{IsOrderly}
+use Rattle.base_core.specs.Crash.{IsImage, IsOrderly}
 use Rattle.base_core.specs.Files.{Files}
 use Rattle.base_core.specs.Restart.{IsCrashOf}
 use Rattle.base_core.specs.Tree.{TreeState, files_of}
@@ -33,6 +33,15 @@ module _ (reading : ReadersCommitNothing) (crash_orderly : (ignored : Ignored) (
 
   pub seen_idly : (ignored : Ignored) (v w : TreeState) (events : List Event) → IsAtRest ignored (files_of v) v → HasSeenIdly v events w → IsAtRest ignored (files_of v) w
   seen_idly ignored v w events = idle_from ignored (files_of v) v w events
+
+  same_state : (ignored : Ignored) (files : Files) (w : TreeState) → IsImage w (files_of w) → IsAtRest ignored files w → state_of ignored (files_of w) ≡ state_of ignored files
+  same_state ignored files w left rest = rest.settled (files_of w) left
+
+  pub idly_agree : ((v : TreeState) → IsImage v (files_of v)) → (ignored : Ignored) (v w u : TreeState) (events others : List Event) → IsAtRest ignored (files_of v) v → HasSeenIdly v events w → HasSeenIdly v others u
+      → state_of ignored (files_of w) ≡ state_of ignored (files_of u)
+  idly_agree left ignored v w u events others rest first second =
+      same_state ignored (files_of v) w (left w) (seen_idly ignored v w events rest first)
+      ∙ sym (same_state ignored (files_of v) u (left u) (seen_idly ignored v u others rest second))
 
 -- ---- the state
 

@@ -87,7 +87,7 @@ LeadsOn v (Ends run) w = IsRunFrom v run × HasNow run.now (λ u. u ≡ w)
 LeadsOn v (Stops run) w = IsRunFrom v run × IsMomentOf run w
 LeadsOn v Crashes w = IsCrashOf v w
 
--- a root that was in the state `first` has seen these events, the newest first, and is in the state w
+-- a root that was in the state `first` has seen these events, the newest first, and is in state w
 abbrev pub HasSeen : TreeState → List Event → TreeState → Type 0
 HasSeen first [] w = w ≡ first
 HasSeen first (event ∷ earlier) w =
@@ -115,8 +115,8 @@ HasSeenIdly first (event ∷ earlier) w =
 
 -- ---- where a crash leaves one state
 
--- Behind the event each crash leaves one state: it is a crash, or a run that answers its outcome, and this
--- commits, or the run has no output and found an intent.
+-- Behind the event each crash leaves one state: it is a crash; or a run that answers its outcome, and
+-- this commits, or the run has no output and found an intent.
 abbrev pub MakesOneState : TreeState → Event → Type 0
 MakesOneState v (Ends run) =
     AnswersOutcome run.answer
@@ -131,8 +131,8 @@ KeepsOneState v (Ends run) = (run.answer ≢ TreeFault) ⊎ IsIdleRun v run
 KeepsOneState v (Stops run) = IsIdleRun v run
 KeepsOneState v Crashes = Unit {0}
 
--- a root has seen events, and each crash leaves one state: an event made it so, or so it was at first,
--- and those behind it kept it
+-- a root has seen events, and each crash leaves one state: an event made it so, or it was so at
+-- first, and those behind it kept it
 abbrev pub HasSeenToOneState : TreeState → List Event → TreeState → Type 0
 HasSeenToOneState first [] w = w ≡ first
 HasSeenToOneState first (event ∷ earlier) w =
@@ -162,8 +162,8 @@ ignored_by Ok run ignored = ignored_but (output run.words) ignored
 ignored_by TreeFault run ignored = ignored_in run ignored
 ignored_by other run ignored = ignored
 
--- Those that are ignored behind a list: a run that writes an output adds its scratch name where it is
--- stopped or the tree fails; the name counts again once the output is written, or after a crash.
+-- Those that are ignored behind a list: a run with an output adds its scratch name where it is stopped
+-- or the tree fails; the name counts again once the output is written, or after a crash.
 abbrev pub ignored_behind : (List ℕ → Bool) → List Event → List ℕ → Bool
 ignored_behind ignored [] = ignored
 ignored_behind ignored (Ends run ∷ earlier) =

@@ -46,8 +46,8 @@ pub record LeavesOutcome (ignored : List ℕ → Bool) (v : TreeState) (run : Ru
   pub at_rest : outcome.commits ≡ true
       → IsAtRest (ignored_but (output run.words) ignored) outcome.files w
 
--- At each moment a crash leaves a state from before or that of the outcome; once it is answered its files
--- are read and last; and a run that commits nothing leaves the state.
+-- At each moment a crash leaves a state from before or that of the outcome; once the outcome is
+-- answered its files are read, and last; and a run that commits nothing keeps the state.
 pub record IsSafe (ignored : List ℕ → Bool) (v : TreeState) (run : Run) : Type 0 where
   pub moments : (m : TreeState) → IsMomentOf run m
       → IsOldOrOutcome (ignored_in run ignored) v run m

@@ -21,9 +21,9 @@ use outcome::{
     a_command_that_reads_leaves_the_files, an_outcome_is_unique,
 };
 
-/// Whatever list of runs, stops and crashes a root has seen from an orderly tree on: a run, ended or
-/// stopped at any moment, recovers to a state from before it or to that of its outcome's files, and
-/// to the latter once the outcome was answered. Where the root had one state, that is one of two.
+/// Whatever list of runs, stops and crashes a root has seen from an orderly tree on: a run, ended
+/// or stopped at any moment, recovers to a state from before it or to that of its outcome's files,
+/// and to the latter once the outcome was answered. Where the root had one state, these are two.
 ///
 /// `ignored` are names that are left out of account from the start, as scratch names of outputs; on
 /// an ordinary root there are none.
@@ -38,9 +38,9 @@ pub fn whatever_a_root_has_seen_a_run_is_safe()
     // So the next run is safe.
     ensures safe { (v : TreeState) (run : Run) → IsRunFrom v run → IsSafeBehindAll v run }
 
-    // Each crash leaves one state, that of the files as read, if it did so at the start, until a run
-    // that commits is stopped, or ends by a fault of the tree; and it does so again behind a crash, a
-    // commit that was answered, or a change of which the rest was found and done.
+    // Each crash leaves one state, that of the files as read, if it did so at the start, until a
+    // run that commits is stopped, or ends by a fault of the tree; and it does so again behind a
+    // crash, a commit that was answered, or a change of which the rest was found and done.
     ensures one_state { (ignored : List ℕ → Bool) (first v : TreeState) (events : List Event)
         → ignored intent_name ≡ false → IsAtRest ignored (files_of first) first
         → HasSeenToOneState first events v
@@ -66,6 +66,12 @@ pub fn a_root_that_commits_nothing_keeps_its_state()
         → IsAtRest ignored (files_of v) v → HasSeenIdly v events w
         → IsAtRest ignored (files_of v) w }
 
+    // So two recoveries of a root agree, whatever came between.
+    ensures agree { (ignored : List ℕ → Bool) (v w u : TreeState) (events others : List Event)
+        → IsAtRest ignored (files_of v) v
+        → HasSeenIdly v events w → HasSeenIdly v others u
+        → state_of ignored (files_of w) ≡ state_of ignored (files_of u) }
+
     // The state is what a recovery leaves under each name but those ignored.
     ensures read { (ignored : List ℕ → Bool) (files : Files) (q : List ℕ)
         → q ≢ intent_name → ignored q ≡ false
@@ -80,6 +86,7 @@ pub fn a_root_that_commits_nothing_keeps_its_state()
         → HasNow run.now (λ w. files_of w ≡ unstaged_files (files_of v)) }
 {
     a_crash_leaves_an_orderly_settled_tree();
+    a_crash_may_leave_the_files_as_read();
     an_outcome_is_unique();
     a_command_that_reads_leaves_the_files();
     a_command_that_commits_nothing_leaves_the_files();

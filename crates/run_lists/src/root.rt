@@ -1,7 +1,7 @@
 //! A run of `apk` on a root that has seen any list of runs, stops and crashes.
 ghost use Rattle.base_core.specs.Calls.{IfObservable};
 ghost use Rattle.base_core.specs.Sink.{sink_change};
-ghost use Rattle.run_lists.specs.Events.{IsRunFrom};
+ghost use Rattle.run_lists.specs.Events.{IsRunFrom, Run};
 ghost use Rattle.run_lists.specs.Safety.{IsAtomicBehindAll, IsSafeBehindAll};
 
 use crate::laws::whatever_a_root_has_seen_a_run_is_safe;
@@ -18,8 +18,9 @@ pub fn run_on_a_root<T: Tree, O: Sink, E: Sink>(
     out: &mut O,
     err: &mut E,
 ) -> Answer
-    // What `apk` did is a run; so behind whatever list it is safe, and from one state all or nothing.
-    ensures { IfObservable (T.history tree.old) (λ v. let run = record {
+    // What `apk` did is a run; so behind whatever list it is safe, and from one state all or
+    // nothing.
+    ensures { IfObservable (T.history tree.old) (λ v. let run : Run = record {
       words = words.now;
       old = T.history tree.old;
       now = T.history tree.new;
