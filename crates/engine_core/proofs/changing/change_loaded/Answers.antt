@@ -1,7 +1,23 @@
+use Rattle.std.proofs.Common.{◌∙◌, sym, ap}
+use Rattle.change_inputs.specs.Candidates.{root_pool}
 use Rattle.change_inputs.specs.Seen.{inputs_seen}
+use Rattle.change_inputs.specs.declared.refused.Refused.TheVariants.{Memory}
+use Rattle.engine_core.specs.Runs.{IsRunBy}
 use Rattle.engine_core.proofs.Early.{HaveClash, nothing_read}
-use Rattle.engine_core.proofs.SelectedRuns.{without_pool}
+use Rattle.engine_core.proofs.SelectedRuns.{run_failure, with_error, without_pool}
 use Rattle.engine_core.proofs.changing.change_loaded.Goals as goal
+
+pub returns-in_err-again-clause-run : goal.returns-in_err-again-clause-run
+returns-in_err-again-clause-run g c =
+    let have : HaveClash = record { exists = c.a_change_has_a_first_clash_or_none.ensures.exists } in
+    with_error (IsRunBy c.args.command.now (inputs_seen c.args.loaded.now) _ _ _ _) c.from_residual.result Memory c.from_residual.ensures.1
+    (run_failure c.args.command.now (inputs_seen c.args.loaded.now) _ _ _ _ c.a_choice_exists.ensures have (g.met.T.Tree.whole c.args.tree.now) (nothing_read _ _) Memory tt)
+
+pub returns-in_err-names-clause-run : goal.returns-in_err-names-clause-run
+returns-in_err-names-clause-run g c =
+    let have : HaveClash = record { exists = c.a_change_has_a_first_clash_or_none.ensures.exists } in
+    with_error (IsRunBy c.args.command.now (inputs_seen c.args.loaded.now) _ _ _ _) c.from_residual-in_err-names.result Memory c.from_residual-in_err-names.ensures.1
+    (run_failure c.args.command.now (inputs_seen c.args.loaded.now) _ _ _ _ c.a_choice_exists.ensures have (g.met.T.Tree.whole c.args.tree.now) (nothing_read _ _) Memory tt)
 
 pub returns-in-Err-clause-run : goal.returns-in-Err-clause-run
 returns-in-Err-clause-run g c =
