@@ -67,7 +67,7 @@ fn all_or_listed(names: &Words) -> Upgrade<'_>
     ensures listed { (names.entry.now ≡ [] → ⊥)
         → names_upgraded_by result ≡ listed_names names.entry.now }
 {
-    if names.len() == 0 {
+    if names.is_empty() {
         return Upgrade::All;
     }
     Upgrade::Listed(names)

@@ -1,7 +1,10 @@
-use Rattle.std.proofs.Common.{◌∙◌, sym, ap}
+use Rattle.std.proofs.Common.{◌∙◌, Result, Err, sym, ap, subst}
+use Rattle.change_inputs.specs.Answers.{Agrees}
 use Rattle.change_inputs.specs.Candidates.{root_pool}
 use Rattle.change_inputs.specs.Seen.{inputs_seen}
 use Rattle.change_inputs.specs.declared.refused.Refused.TheVariants.{Memory}
+use Rattle.pool_core.specs.Rank.{SealedPool}
+use Rattle.report_core.specs.declared.refusal.Refusal.{Refusal}
 use Rattle.engine_core.specs.Runs.{IsRunBy}
 use Rattle.engine_core.proofs.Early.{HaveClash, nothing_read}
 use Rattle.engine_core.proofs.SelectedRuns.{run_failure, with_error, without_pool}
@@ -22,4 +25,8 @@ returns-in_err-names-clause-run g c =
 pub returns-in-Err-clause-run : goal.returns-in-Err-clause-run
 returns-in-Err-clause-run g c =
     let have : HaveClash = record { exists = c.a_change_has_a_first_clash_or_none.ensures.exists } in
-    without_pool c.args.command.now (inputs_seen c.args.loaded.now) _ _ _ _ c.a_choice_exists.ensures have (g.met.T.Tree.whole c.args.tree.now) (nothing_read _ _) c.in-Err.refused c.in-Err.ensures
+    without_pool c.args.command.now (inputs_seen c.args.loaded.now) _ _ _ _ c.a_choice_exists.ensures have (g.met.T.Tree.whole c.args.tree.now) (nothing_read _ _) c.in-Err.refused
+    (subst (λ (p : Result SealedPool Refusal). Agrees (λ (pool : SealedPool). pool) (Err c.in-Err.refused) p) (ap (root_pool (inputs_seen c.args.loaded.now)) c.names_to_upgrade.ensures) c.in-Err.ensures)
+
+pub change_in_pool-requires-clause-pool : goal.change_in_pool-requires-clause-pool
+change_in_pool-requires-clause-pool g c = ap (root_pool (inputs_seen c.args.loaded.now)) (sym c.names_to_upgrade.ensures) ∙ c.in-Ok.ensures
