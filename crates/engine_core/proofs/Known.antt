@@ -3,13 +3,11 @@ use Rattle.std.proofs.Common.{◌≡◌, ℕ, ◌+◌, ◌≤◌, Bool, true, fa
 use Rattle.std.proofs.lemmas.List.{drop_all}
 use Rattle.std.specs.Prelude.{if◌then◌else◌, ◌||◌, is_some, bytes_eq, slice_get}
 use Rattle.std.specs.List.{list_any, position_from}
-use Rattle.command_core.specs.declared.command.Applet.TheVariants.{Upgrade}
 use Rattle.command_core.specs.declared.operands.Operand.{Operand}
 use Rattle.dep_core.specs.Dependency.{Dependency}
 use Rattle.dep_core.specs.World.{has_name}
 use Rattle.make_info.proofs.Left.{left_at}
-use Rattle.pool_core.specs.Rank.{UpgradedNames, all_names, listed_names}
-use Rattle.engine_core.specs.Wishes.{first_unknown, names_to_upgrade, operand_texts}
+use Rattle.engine_core.specs.Wishes.{first_unknown}
 use Rattle.engine_core.proofs.Lists.{map_more, take_next}
 
 pub is_found : {X : Type 0} (p : X → Bool) (n : ℕ) (xs : List X) → is_some (position_from p n xs) ≡ list_any p xs
@@ -62,9 +60,3 @@ texts_more operands i o texts at is =
 pub texts_all : (operands : List Operand) (i : ℕ) (texts : List (List ℕ)) → length operands ≤ i → texts ≡ map (λ (o : Operand). o.text) (take i operands)
     → texts ≡ map (λ (o : Operand). o.text) operands
 texts_all operands i texts past is = is ∙ ap (map (λ (o : Operand). o.text)) (take_all i operands past)
-
--- the names that `upgrade` upgrades, by the texts of its operands
-pub upgraded_names : (operands : List Operand) (names : List (List ℕ)) (upgraded : UpgradedNames) → names ≡ operand_texts operands → (names ≡ [] → upgraded ≡ all_names) → ((names ≡ [] → ⊥) → upgraded ≡ listed_names names)
-    → upgraded ≡ names_to_upgrade Upgrade operands
-upgraded_names [] names upgraded is all listed = all is
-upgraded_names (o ∷ operands) names upgraded is all listed = listed (λ none. cc (sym is ∙ none)) ∙ ap listed_names is

@@ -1,5 +1,5 @@
 -- Worked cases: what the four commands ask for beside world.
-use Rattle.std.proofs.Common.{◌≡◌, ℕ, Bool, false, true, List, [], ◌∷◌, Option, Some, None, refl}
+use Rattle.std.proofs.Common.{◌≡◌, ℕ, Bool, false, true, List, [], ◌∷◌, Some, None, refl}
 use Rattle.std.specs.Prelude.{codes}
 use Rattle.adb_view.specs.Plain.{Plain, blob, more, none, obj}
 use Rattle.change_inputs.specs.Database.{database_by}
@@ -13,7 +13,7 @@ use Rattle.dep_core.specs.Dependency.{Dependency, dependency_by}
 use Rattle.package_changes.specs.Changes.{change_of_name, changes_of}
 use Rattle.change_files.specs.PlanLists.{names_in_order}
 use Rattle.pool_core.specs.Candidates.{Candidate, candidate_by, named}
-use Rattle.pool_core.specs.Rank.{SealedPool, all_names, is_better, listed_names, no_names, rank_cmp, sealed_pool_by}
+use Rattle.pool_core.specs.Rank.{is_better, rank_cmp, sealed_pool_by}
 use Rattle.report_core.specs.Reports.{Change, Reinstall, Upgrade as Upgrading}
 use Rattle.version_core.specs.Order.{is_version, tokens, version_cmp}
 use Rattle.version_core.specs.Token.{component_lexeme, next_lexeme, number_lexeme}

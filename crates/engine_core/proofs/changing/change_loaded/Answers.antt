@@ -22,8 +22,8 @@ returns-in_err-names-clause-run g c =
     with_error (IsRunBy c.args.command.now (inputs_seen c.args.loaded.now) _ _ _ _) c.from_residual-in_err-names.result Memory c.from_residual-in_err-names.ensures.1
     (run_failure c.args.command.now (inputs_seen c.args.loaded.now) _ _ _ _ c.a_choice_exists.ensures have (g.met.T.Tree.whole c.args.tree.now) (nothing_read _ _) Memory tt)
 
-pub returns-in-Err-clause-run : goal.returns-in-Err-clause-run
-returns-in-Err-clause-run g c =
+pub returns-clause-run : goal.returns-clause-run
+returns-clause-run g c =
     let have : HaveClash = record { exists = c.a_change_has_a_first_clash_or_none.ensures.exists } in
     without_pool c.args.command.now (inputs_seen c.args.loaded.now) _ _ _ _ c.a_choice_exists.ensures have (g.met.T.Tree.whole c.args.tree.now) (nothing_read _ _) c.in-Err.refused
     (subst (λ (p : Result SealedPool Refusal). Agrees (λ (pool : SealedPool). pool) (Err c.in-Err.refused) p) (ap (root_pool (inputs_seen c.args.loaded.now)) c.names_to_upgrade.ensures) c.in-Err.ensures)

@@ -1,7 +1,4 @@
-use Rattle.std.proofs.Common.{◌∙◌}
 use Rattle.change_inputs.specs.declared.refused.Refused.TheVariants.{Memory}
-use Rattle.package_changes.specs.Placed.{placed_names_of}
-use Rattle.package_changes.specs.Seen.{replacement_by}
 use Rattle.std.specs.Prelude.{Ok}
 use Rattle.engine_core.specs.Runs.{IsSelectedRun}
 use Rattle.engine_core.specs.SelectionSeen.{inputs_of_selection, selection_seen}
