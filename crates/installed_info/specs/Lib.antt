@@ -1,0 +1,4 @@
+-- what the contract of `apk` says
+pub mod Form
+pub mod Packages
+pub mod Info

@@ -1,0 +1,20 @@
+//! What `info` tells of the packages that are installed (apk(8)): their names, what they are, what
+//! they list, what they depend on, which of some are installed, and which one owns a path.
+//!
+//! The contract of `tell` cites `Info` of `specs/` (what is told, in each form) and with it `Form`
+//! (which form a command asks for) and `Packages` (which package an operand asks for).
+#![tactic(auto)]
+
+mod asked;
+mod dependencies;
+mod done;
+mod form;
+mod names;
+mod operands;
+mod package;
+mod paths;
+mod telling;
+
+pub use done::InfoDone;
+pub use form::Form;
+pub use telling::tell;
