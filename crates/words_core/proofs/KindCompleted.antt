@@ -112,7 +112,7 @@ none_before rule low end last place operands new unread placed far behind judged
             | inl there ↦ (let same : at ≡ place = same_Some at place (sym all ∙ there) in omega (arith, is.1))
             | inr none ↦ none-some at (sym none.0 ∙ all)
           ]
-        )
+          )
     ] refl
 
 module _ (words rest : List (List ℕ)) (start : Start) (at place : ℕ) (known : IsPlain start (1 + length words)) (can : can_get_kind_from words start ≡ true) (found : line_start words ≡ Ok start)
@@ -142,7 +142,6 @@ module _ (words rest : List (List ℕ)) (start : Start) (at place : ℕ) (known 
   rule_is : info_operands reading.state.flags ≡ at_least 0 PackageName
   rule_is = packages_unless reading.state.flags.installed reading.state.flags.contents reading.state.flags.depends reading.state.flags.who_owns (kinds_of reading.state.flags parts.1)
     where
-
       front : (a b c d t k : Bool) → (a || (b || (c || (d || (t || (k || false)))))) ≡ false → (a || (b || (c || (d || false)))) ≡ false
       front false false false false t k h = refl
       front true b c d t k h = absurd (false≢true (sym h))
@@ -191,9 +190,9 @@ module _ (words rest : List (List ℕ)) (start : Start) (at place : ℕ) (known 
           codes "-W" ∷ [],
           command_read last Info read,
           ap (command_from (words ++ (codes "-W" ∷ []))) (start_stays words (codes "-W" ∷ []) start found)
-          ∙ (ap (verdict last start.applet) owner
-          ∙ (ap (λ (a : Applet). verdict last a read) is
-          ∙ owner_good reading.state.flags reading.state.values reading.operands at refused path last)),
+              ∙ (ap (verdict last start.applet) owner
+              ∙ (ap (λ (a : Applet). verdict last a read) is
+              ∙ owner_good reading.state.flags reading.state.values reading.operands at refused path last)),
         )
 
   by_going : IsGoing (options_of start.applet) end over reading (λ more. reading_behind start (words ++ more)) → CanBeCompleted words
@@ -209,6 +208,6 @@ pub kind_completes : (words rest : List (List ℕ)) (at place : ℕ) → can_get
 unfolding command_of can_get_kind
 kind_completes words rest at place can bad before later far all =
     elim (line_start words) as (λ s. line_start words ≡ s → can_get_kind_by words s ≡ true → command_from words s ≡ Err at → CanBeCompleted words) [
-      | Err no ↦ λ s none bad. absurd (false≢true none)
+      | Err first ↦ λ s none bad. absurd (false≢true none)
       | Ok start ↦ λ s can bad. kind_completes_from words rest start at place (start_known words start s) can s bad before (sym (ap (command_from (words ++ rest)) (start_stays words rest start s)) ∙ later) far all
     ] refl can bad

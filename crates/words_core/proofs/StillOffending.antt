@@ -58,7 +58,7 @@ IsOpen end unread = (at : ℕ) → unread ≡ Some at → end ≤ at
 
 -- what follows adds operands
 pub record IsLonger (applet : Applet) (end : ℕ) (reading longer : Reading) : Type 0 where
-  pub open : IsOpen end reading.unread
+  pub unread : IsOpen end reading.unread
   pub new : List Operand
   pub operands : longer.operands ≡ reading.operands ++ new
   pub rule : (rule : OperandRule) → operand_rule applet reading.state.flags ≡ Some rule → operand_rule applet longer.state.flags ≡ Some rule
@@ -93,14 +93,14 @@ longer_or_same words more start known k = by_going (from_going start words low)
         let nothing : start.applet ≡ Info → reading.unread ≡ None = λ is. on.unread ∙ ap (option_map (λ (rule : ValueRule). end)) (info_awaits words start known is) in
         let keeps = keeps_by start.applet reading.state.flags reading.unread over k nothing on.over in
         inr (record {
-          open = λ at u. end_at end at reading.state.awaiting (sym on.unread ∙ u);
+          unread = λ at u. end_at end at reading.state.awaiting (sym on.unread ∙ u);
           new = (option_reading options reading.state end more).operands;
           operands = ap (λ (r : Reading). r.operands) (on.goes_on more);
           rule = λ rule r. ap (λ (x : Reading). operand_rule start.applet x.state.flags) (on.goes_on more) ∙ rule_stays start.applet reading.state end more rule keeps r;
         })
     by_going (inr (inr off)) =
         inr (record {
-          open = λ at u. absurd (none-some at (sym off.unread ∙ u));
+          unread = λ at u. absurd (none-some at (sym off.unread ∙ u));
           new = operands_of end more;
           operands = ap (λ (r : Reading). r.operands) (off.goes_on more);
           rule = λ rule r. ap (λ (x : Reading). operand_rule start.applet x.state.flags) (off.goes_on more) ∙ r;
@@ -118,7 +118,7 @@ alone end place None unread open_from l h = absurd (omega (arith, open_from plac
 
 first_stays : (applet : Applet) (end : ℕ) (reading longer : Reading) (place : ℕ) → IsLonger applet end reading longer → place < end → first_of applet reading ≡ Some place → first_of applet longer ≡ Some place
 first_stays applet end reading longer place long l h =
-    by_rule (operand_rule applet reading.state.flags) refl (alone end place (refused_operand (operand_rule applet reading.state.flags) reading.operands) reading.unread long.open l h)
+    by_rule (operand_rule applet reading.state.flags) refl (alone end place (refused_operand (operand_rule applet reading.state.flags) reading.operands) reading.unread long.unread l h)
   where
     by_rule : (rule : Option OperandRule) → operand_rule applet reading.state.flags ≡ rule → refused_operand rule reading.operands ≡ Some place → first_of applet longer ≡ Some place
     by_rule None r e = absurd (none-some place e)
