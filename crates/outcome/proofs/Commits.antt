@@ -18,7 +18,7 @@ use Rattle.engine_core.specs.InfoTold.{info_told}
 use Rattle.report_core.specs.declared.refusal.Refusal.{Refusal}
 use Rattle.report_core.specs.declared.refusal.Refusal.TheVariants.{Reserved, ResultTooLarge}
 use Rattle.words_core.specs.Grammar.{command_of}
-use Rattle.outcome.proofs.Applets.{change_is, info_is, told_commits}
+use Rattle.outcome.proofs.Applets.{change_is, info_is, told_commits, told_files}
 use Rattle.outcome.proofs.MadeSound.{IsRefusalOrMade, index_fine, package_fine}
 use Rattle.outcome.specs.Changing.{change_outcome}
 use Rattle.outcome.specs.Given.{Given}
@@ -104,6 +104,24 @@ tells_by (Ok command) files o tells is = tells_unless (recovery_fault (effect_of
 pub teller_commits : (words : List (List ℕ)) (files : Files) (o : Outcome) → effect_by (command_of words) ≡ Tells → IsOutcome words files o → o.commits ≡ false
 teller_commits words files o tells is = tells_by (command_of words) files o tells is
 
+tells_files : (fault : Option Cause) (command : CommandLine) (files : Files) (o : Outcome) → effect_of command.applet ≡ Tells → IsOutcomeUnless fault command files o → (o.files ≡ files) ⊎ (o.files ≡ work_files Tells files)
+tells_files (Some cause) command files o tells is = inl (ap (λ (p : Outcome). p.files) is)
+tells_files None command files o tells (given, are, is) =
+    let work = work_files (effect_of command.applet) files in
+    inr (
+    ap (λ (p : Outcome). p.files) (is ∙ sym (info_is command.applet command given (reads_in work) work tells))
+    ∙ told_files work (info_told command (reads_in work))
+    ∙ ap (λ (e : Effect). work_files e files) tells
+    )
+
+files_by : (read : Result CommandLine ℕ) (files : Files) (o : Outcome) → effect_by read ≡ Tells → IsOutcomeOf read files o → (o.files ≡ files) ⊎ (o.files ≡ work_files Tells files)
+files_by (Err place) files o tells is = cc
+files_by (Ok command) files o tells is = tells_files (recovery_fault (effect_of command.applet) files) command files o tells is
+
+-- and leaves the files that a recovery leaves
+pub teller_files : (words : List (List ℕ)) (files : Files) (o : Outcome) → effect_by (command_of words) ≡ Tells → IsOutcome words files o → (o.files ≡ files) ⊎ (o.files ≡ work_files Tells files)
+teller_files words files o tells is = files_by (command_of words) files o tells is
+
 -- ---- a refusal
 
 refused_maker : (o : Outcome) → CommitsUnlessRefused o → IsSome o.refusal → o.commits ≡ false
@@ -121,10 +139,10 @@ line_cases : (read : Result CommandLine ℕ) → (IsTrue (reads_only read)) ⊎ 
 line_cases (Err place) = inl refl
 line_cases (Ok command) = effect_cases (effect_of command.applet)
 
-pub refusal_commits : (words : List (List ℕ)) (files : Files) (o : Outcome) → IsOutcome words files o → (IsTrue (reads_only (command_of words)) → o.commits ≡ false) → (effect_by (command_of words) ≡ Makes → CommitsUnlessRefused o) → IsSome o.refusal → o.commits ≡ false
-refusal_commits words files o is reads makes some = elim (line_cases (command_of words)) as (λ _. o.commits ≡ false) [
+pub refusal_commits : (words : List (List ℕ)) (files : Files) (o : Outcome) → IsOutcome words files o → (IsTrue (reads_only (command_of words)) → o.commits ≡ false) → (effect_by (command_of words) ≡ Tells → o.commits ≡ false) → (effect_by (command_of words) ≡ Makes → CommitsUnlessRefused o) → IsSome o.refusal → o.commits ≡ false
+refusal_commits words files o is reads tell makes some = elim (line_cases (command_of words)) as (λ _. o.commits ≡ false) [
   | inl only ↦ reads only
-  | inr (inl tells) ↦ teller_commits words files o tells is
+  | inr (inl tells) ↦ tell tells
   | inr (inr (inl made)) ↦ refused_maker o (makes made) some
   | inr (inr (inr changes)) ↦ changes_by (command_of words) files o changes is some
 ]

@@ -1,10 +1,9 @@
 -- What more words behind others change: operands are added, and the rule of the operands stays.
-use Rattle.std.proofs.Common.{Bool, Err, List, None, Ok, Option, Some, [], ap, arith, drop, false, inl, inr, length, length-drop, not, refl, subst, suc, sym, true, zero, ℕ, ◌++◌, ◌+◌, ◌<◌, ◌∙◌, ◌∷◌, ◌≡◌, ◌≤◌, if◌then◌else◌}
+use Rattle.std.proofs.Common.{Bool, List, None, Option, Some, [], ap, arith, drop, false, length, not, refl, subst, suc, sym, true, zero, ℕ, ◌++◌, ◌+◌, ◌∙◌, ◌∷◌, ◌≡◌, ◌≤◌, if◌then◌else◌}
 use Rattle.std.specs.List.{list_all}
-use Rattle.std.specs.Option.{option_map, option_or}
 use Rattle.std.specs.Prelude.{◌&&◌, ◌||◌}
 use Rattle.std.specs.Str.{bytes_eq}
-use Rattle.std.proofs.lemmas.Bool.{and_from, and_parts, cases_lt, false≢true, true≢false}
+use Rattle.std.proofs.lemmas.Bool.{and_from, and_parts, false≢true, true≢false}
 use Rattle.std.proofs.lemmas.Option.{none-some, option_and_then_some, same_Some}
 use Rattle.command_core.specs.declared.command.Applet.{Applet}
 use Rattle.command_core.specs.declared.command.Applet.TheVariants.{Info, Version}
@@ -22,9 +21,7 @@ use Rattle.command_core.specs.Values.{is_spent}
 use Rattle.words_core.specs.declared.options.Meaning.{Meaning}
 use Rattle.words_core.specs.declared.options.Meaning.TheVariants.{Flag as Plain, Kind, Value}
 use Rattle.words_core.specs.declared.reading.OptionState.{OptionState}
-use Rattle.words_core.specs.declared.reading.Reading.{Reading}
-use Rattle.words_core.specs.declared.reading.Start.{Start}
-use Rattle.words_core.specs.Grammar.{command_from, command_of, first_state, held_value, is_end, is_option_or_value, line_start, operands_of, option_name, option_reading, or_unread, reading_behind, reading_by, refused_operand, state_by, verdict, with_flags, with_held, with_meaning, with_meaning_at, with_operand, with_spec, with_word, with_word_by}
+use Rattle.words_core.specs.Grammar.{held_value, is_end, is_option_or_value, operands_of, option_name, option_reading, or_unread, reading_by, state_by, with_flags, with_held, with_meaning, with_meaning_at, with_operand, with_spec, with_word, with_word_by}
 use Rattle.words_core.specs.Options.{OptionSpec, common_options, option_spelled, options_of}
 use Rattle.words_core.proofs.KindsKept.{all_from, all_weaken, find_passes, pass_or_none, same_with}
 use Rattle.words_core.proofs.LinesRead.{value_says}
