@@ -20,7 +20,7 @@ use crate::selection::Selection;
 use arrivals::{
     Arrivals, members_of_change, packages_that_were_read_are_those_found, read_arrivals,
 };
-use base_core::{Text, Tree, Words, counts_of_calls_in_a_row_join};
+use base_core::{Text, Tree, counts_of_calls_in_a_row_join};
 use change_inputs::Refused;
 use change_laws::a_change_has_a_first_clash_or_none;
 use command_core::Command;
@@ -41,7 +41,8 @@ pub(crate) fn make_change<T: Tree>(
     tree: &mut T,
 ) -> Result<Text, Refused>
     requires database { HasItsDatabase selection.now }
-    requires pool { pool_by (inputs_of_selection selection.now) ≡ Ok selection.now.pool.now }
+    requires pool { pool_by command.now (inputs_of_selection selection.now)
+        ≡ Ok selection.now.pool.now }
     requires root { IsRootRead (T.history tree.old) (inputs_of_selection selection.now) }
     requires real { command.now.flags.simulate ≡ false }
     ensures run { IsSelectedRun command.now (Ok (selection_seen selection.now))
@@ -49,8 +50,14 @@ pub(crate) fn make_change<T: Tree>(
     ensures counts { IsRunCounted (T.counts tree.old) (T.counts tree.new) result }
 {
     a_change_has_a_first_clash_or_none();
-    let none = Words::new(alloc);
-    let names = PlacedNames::of(alloc, selection.db, selection.pool, selection.trace, &none)?;
+    let Selection {
+        db,
+        pool,
+        trace,
+        again,
+        ..
+    } = *selection;
+    let names = PlacedNames::of(alloc, db, pool, trace, again)?;
     let arrivals = read_arrivals(
         alloc,
         tree,

@@ -2,7 +2,7 @@ use Rattle.std.proofs.Common.{ap, arith, length, length-take, take, ◌∙◌, �
 use Rattle.std.proofs.lemmas.List.{length-map}
 use Rattle.command_core.specs.declared.operands.Operand.{Operand}
 use Rattle.engine_core.proofs.Known.{texts_all, texts_more}
-use Rattle.engine_core.proofs.wishes.texts_of.Goals as goal
+use Rattle.engine_core.proofs.wishes.operand_texts.Goals as goal
 
 pub push-requires : goal.push-requires
 push-requires c =
