@@ -3,7 +3,7 @@ use Rattle.std.proofs.Common.{Result, Ok, Err}
 use Rattle.std.specs.Result.{IsErrAnd}
 use Rattle.std.specs.Prelude.{◌≡◌, List}
 use Rattle.base_core.specs.Tree.{TreeState}
-use Rattle.change_inputs.proofs.Handed.{handed_on, handed_on_disk, passed_part, refused_part_disk, unless_disk}
+use Rattle.change_inputs.proofs.Handed.{handed_on_disk, passed_part, refused_part_disk, unless_disk}
 use Rattle.change_inputs.specs.Answers.{Agrees, AgreesUnlessDisk}
 use Rattle.change_inputs.specs.Database.{Database}
 use Rattle.change_inputs.specs.Inputs.{database_for}

@@ -1,5 +1,5 @@
 -- The package that lists a path, and the one that has a name.
-use Rattle.std.proofs.Common.{◌≡◌, ◌⊎◌, inl, inr, ℕ, Bool, true, false, cond, List, [], ◌∷◌, map, Option, Some, None, refl, sym, ◌∙◌, ap, subst, true≢false}
+use Rattle.std.proofs.Common.{◌≡◌, inl, inr, ℕ, Bool, true, false, cond, List, [], ◌∷◌, map, Some, refl, sym, ◌∙◌, ap, subst, true≢false}
 use Rattle.std.specs.Prelude.{◌||◌, bytes_eq}
 use Rattle.std.specs.List.{find, list_any}
 use Rattle.std.proofs.lemmas.Slice.Eq.{bytes_eq-Decides}
@@ -7,7 +7,7 @@ use Rattle.adb_view.specs.Plain.{Plain}
 use Rattle.adb_fields.specs.FirstPair.{IsIn}
 use Rattle.adb_fields.specs.Once.{AreApart, AreDistinctNames, IsInOneOf}
 use Rattle.adb_fields.specs.Repeated.{package_name, paths_in}
-use Rattle.db_core.specs.Packages.{is_package_named, lists_path}
+use Rattle.db_core.specs.Packages.{lists_path}
 use Rattle.installed_info.specs.Packages.{package_named, path_owner}
 
 -- ---- whether a list has a text

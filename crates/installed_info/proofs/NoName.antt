@@ -1,13 +1,13 @@
 -- No package lists a path that is no name, where each path that it lists is one.
-use Rattle.std.proofs.Common.{◌≡◌, ℕ, Bool, true, false, cond, List, [], ◌∷◌, Option, Some, None, refl, sym, ◌∙◌, ap, true≢false}
+use Rattle.std.proofs.Common.{◌≡◌, ℕ, Bool, true, false, cond, List, [], ◌∷◌, Some, None, refl, sym, ◌∙◌, ap, true≢false}
 use Rattle.std.specs.Prelude.{◌||◌, bytes_eq}
-use Rattle.std.specs.List.{find, list_all, list_any}
+use Rattle.std.specs.List.{list_all, list_any}
 use Rattle.std.proofs.lemmas.Bool.{and_parts}
 use Rattle.std.proofs.lemmas.Slice.Eq.{bytes_eq-Decides}
 use Rattle.base_core.specs.Name.{is_name}
 use Rattle.adb_view.specs.Plain.{Plain}
 use Rattle.adb_fields.specs.Repeated.{paths_in}
-use Rattle.db_core.specs.Packages.{lists_names, lists_path}
+use Rattle.db_core.specs.Packages.{lists_names}
 use Rattle.installed_info.specs.Packages.{path_owner}
 
 not_among : (path : List ℕ) (paths : List (List ℕ)) → is_name path ≡ false → list_all is_name paths ≡ true → list_any (bytes_eq path) paths ≡ false

@@ -1,14 +1,13 @@
 -- Of which operand a refusal tells.
-use Rattle.std.proofs.Common.{◌≡◌, inl, inr, Bool, true, false, List, [], ◌∷◌, Option, Some, None, Result, Ok, Err, refl, sym, ◌∙◌, ap}
+use Rattle.std.proofs.Common.{◌≡◌, inl, inr, Bool, true, false, List, [], ◌∷◌, Option, Some, None, Ok, Err, refl, ◌∙◌}
 use Rattle.std.specs.Prelude.{ℕ, if◌then◌else◌, is_some}
 use Rattle.adb_view.specs.Plain.{Plain}
-use Rattle.adb_fields.specs.FirstPair.{IsIn}
 use Rattle.command_core.specs.Command.{CommandLine}
 use Rattle.command_core.specs.declared.operands.Operand.{Operand}
 use Rattle.report_core.specs.declared.refusal.Refusal.{Refusal}
 use Rattle.report_core.specs.declared.refusal.Refusal.TheVariants.{NotInstalled}
 use Rattle.installed_info.specs.Form.{form_of}
-use Rattle.installed_info.specs.Info.{form_info, info_of, info_refusal, info_unless, names_info, operands_info}
+use Rattle.installed_info.specs.Info.{form_info, info_of, info_refusal, info_unless, operands_info}
 use Rattle.installed_info.specs.Packages.{package_asked}
 use Rattle.installed_info.specs.Refusals.{IsOfAnOperand}
 use Rattle.installed_info.specs.declared.done.InfoDone.{InfoDone}

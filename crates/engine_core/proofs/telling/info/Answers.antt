@@ -1,4 +1,4 @@
-use Rattle.std.specs.Prelude.{Err, Ok}
+use Rattle.std.specs.Prelude.{Ok}
 use Rattle.change_inputs.proofs.Handed.{handed_on}
 use Rattle.change_inputs.specs.Seen.{installed_seen}
 use Rattle.engine_core.proofs.InfoSteps.{info_read, info_unread}
