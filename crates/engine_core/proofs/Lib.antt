@@ -17,3 +17,4 @@ pub mod Counted
 pub mod Arriving
 pub mod Made
 pub mod Worked
+pub mod InfoSteps
