@@ -45,8 +45,8 @@ impl WordPages {
         }
     }
 
-    /// The locator of an item like this one, which has this fingerprint, or the slot where one would
-    /// stand.
+    /// The locator of an item like this one, which has this fingerprint, or the slot where its own
+    /// would stand.
     pub(crate) fn find(
         &self,
         adb: &Adb<'_>,
