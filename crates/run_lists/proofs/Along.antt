@@ -1,6 +1,6 @@
 -- Along a list of runs, stops and crashes.
 use Rattle.std.proofs.Common.{◌≡◌, inl, inr, ⊎_elim, ℕ, false, List, [], ◌∷◌, Option, None, sym, subst, ◌∙◌}
-use Rattle.apk_front.specs.Moments.{AnswersOutcome, IsAtRest, ignored_but}
+use Rattle.apk_front.specs.Moments.{AnswersOutcome, HidesScratchOf, IsAtRest, ignored_but}
 use Rattle.apk_front.specs.declared.answer.Answer.{Answer}
 use Rattle.apk_front.specs.declared.answer.Answer.TheVariants.{Ok as Done, Refused, TreeFault, OutFault, Memory}
 use Rattle.base_core.specs.Calls.{HasNow}
@@ -15,8 +15,8 @@ use Rattle.run_lists.specs.Safety.{IsAtomic, IsSafe, LeavesOutcome}
 use Rattle.run_lists.proofs.AtMoments.{now_at}
 use Rattle.run_lists.proofs.Ending.{Resting, ends_at_rest, ends_so}
 use Rattle.run_lists.proofs.Facts.{Facts, Ignored}
-use Rattle.run_lists.proofs.Names.{behind_hides, scratch_more}
-use Rattle.run_lists.proofs.OneRun.{answered, atomic, idle_end, idle_moment, now_hides, now_orderly, orderly_at, safe, settled_on}
+use Rattle.run_lists.proofs.Names.{behind_hides, hides, scratch_more}
+use Rattle.run_lists.proofs.OneRun.{answered, atomic, idle_end, idle_moment, more_orderly, now_hides, now_orderly, orderly_at, safe, settled_on}
 
 -- ---- the order
 
@@ -47,6 +47,13 @@ module _ (facts : Facts) (start : Ignored) (off : start intent_name ≡ false) w
   pub seen_orderly : (first v : TreeState) (events : List Event) → IsOrderly (RestsOn start) first → HasSeen first events v → IsOrderly (RestsOn (ignored_behind start events)) v
   seen_orderly first v [] orderly is = subst (IsOrderly (RestsOn start)) (sym is) orderly
   seen_orderly first v (event ∷ earlier) orderly (u, seen, leads) = led_orderly event earlier u v (seen_orderly first u earlier orderly seen) leads
+
+  pub seen_begins : (first v : TreeState) (events : List Event) (words : List (List ℕ)) → IsOrderly (RestsOn start) first → HasSeen first events v
+      → IsOrderly (RestsOn (with_scratch (output words) (ignored_behind start events))) v × HidesScratchOf (output words) (with_scratch (output words) (ignored_behind start events))
+  seen_begins first v events words orderly seen = (
+    more_orderly facts (output words) (ignored_behind start events) v (seen_orderly first v events orderly seen),
+    hides (output words) (ignored_behind start events) (behind_hides start off events),
+  )
 
   pub seen_safe : (first v : TreeState) (events : List Event) → IsOrderly (RestsOn start) first → HasSeen first events v → (run : Run) → IsRunFrom v run → IsSafe (ignored_behind start events) v run
   seen_safe first v events orderly seen run is_run = safe facts (ignored_behind start events) v run is_run (behind_hides start off events) (seen_orderly first v events orderly seen)
@@ -98,10 +105,10 @@ module _ (facts : Facts) (ignored : Ignored) (v : TreeState) (run : Run) (is_run
     kept_one ends keeps =
         ends_so facts ignored v run is_run hidden orderly HasOne (one_rests facts) w ends
         (λ still. own_settled facts ignored (files_of v) w (settled_on ignored (files_of v) v w settled still.quiet))
-        (λ fault. ⊎_elim (λ ended. absurd (ended fault)) (λ idle. idle_one (idle_end facts.reading ignored v run is_run orderly idle w ends).quiet) keeps)
+        (λ fault. ⊎_elim (λ ended. absurd (ended fault)) (λ idle. idle_one (idle_end ignored v run is_run orderly idle w ends).quiet) keeps)
 
     pub stopped_one : IsMomentOf run w → IsIdleRun v run → One (ignored_in run ignored)
-    stopped_one moment idle = idle_one (idle_moment facts.reading ignored v run is_run orderly idle w moment).quiet
+    stopped_one moment idle = idle_one (idle_moment ignored v run is_run orderly idle w moment).quiet
 
 module _ (facts : Facts) (start : Ignored) (off : start intent_name ≡ false) (first : TreeState) (rest : IsAtRest start (files_of first) first) where
   pub seen_of : (v : TreeState) (events : List Event) → HasSeenToOneState first events v → HasSeen first events v

@@ -61,7 +61,7 @@ module _ (facts : Facts) (ignored : Ignored) (v : TreeState) (run : Run) (is_run
   -- what holds at a still moment holds behind a run that ends, unless the tree failed
   module _ (still : IsStill ignored v w → Q ignored w) where
     left_idle : IsIdleRun v run → Q ignored w
-    left_idle idle = still (idle_end facts.reading ignored v run is_run orderly idle w ends)
+    left_idle idle = still (idle_end ignored v run is_run orderly idle w ends)
 
     -- a maker's outcome commits where it is no refusal
     no_output : (o : Option (List ℕ)) → output run.words ≡ o → (outcome : Outcome) → IsOutcomeFrom v run outcome → outcome.refusal ≡ None → outcome.commits ≡ false → Q ignored w → Q (ignored_but (output run.words) ignored) w
@@ -72,18 +72,18 @@ module _ (facts : Facts) (ignored : Ignored) (v : TreeState) (run : Run) (is_run
     done_by : run.answer ≡ Done → (l : LeavesOutcome ignored v run w) → (b : Bool) → l.outcome.commits ≡ b → Q (ignored_but (output run.words) ignored) w
     done_by is l true commits = written l commits
     done_by is l false idle =
-        no_output (output run.words) refl l.outcome l.is_outcome (done_not_refused l.outcome (subst (λ (a : Answer). Told a l.outcome) is l.answered)) idle (left_idle (inr (inr (l.outcome, l.is_outcome, idle))))
+        no_output (output run.words) refl l.outcome l.is_outcome (done_not_refused l.outcome (subst (λ (a : Answer). Told a l.outcome) is l.answered)) idle (left_idle (inl (inr (l.outcome, l.is_outcome, idle))))
 
     out_by : (l : LeavesOutcome ignored v run w) → (b : Bool) → l.outcome.commits ≡ b → Q ignored w
     out_by l true commits = resting.more (ignored_but (output run.words) ignored) ignored w (but_fewer (output run.words) ignored) (written l commits)
-    out_by l false idle = left_idle (inr (inr (l.outcome, l.is_outcome, idle)))
+    out_by l false idle = left_idle (inl (inr (l.outcome, l.is_outcome, idle)))
 
     ends_by : (answer : Answer) → run.answer ≡ answer → (run.answer ≡ TreeFault → Q (ignored_in run ignored) w) → Q (ignored_by answer run ignored) w
     ends_by Done is fault = let l = leaves (subst AnswersOutcome (sym is) tt) in done_by is l l.outcome.commits refl
-    ends_by (Refused r) is fault = left_idle (inr (subst (CommitsNothing (IsOutcomeFrom v run)) (sym is) (inl tt)))
+    ends_by (Refused r) is fault = left_idle (inl (subst (CommitsNothing (IsOutcomeFrom v run)) (sym is) (inl tt)))
     ends_by TreeFault is fault = fault is
     ends_by OutFault is fault = let l = leaves (subst AnswersOutcome (sym is) tt) in out_by l l.outcome.commits refl
-    ends_by Memory is fault = left_idle (inr (subst (CommitsNothing (IsOutcomeFrom v run)) (sym is) (inl tt)))
+    ends_by Memory is fault = left_idle (inl (subst (CommitsNothing (IsOutcomeFrom v run)) (sym is) (inl tt)))
 
     pub ends_so : (run.answer ≡ TreeFault → Q (ignored_in run ignored) w) → Q (ignored_by run.answer run ignored) w
     ends_so = ends_by run.answer refl

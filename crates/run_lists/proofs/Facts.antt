@@ -1,5 +1,5 @@
 -- The laws of the crates below that the proofs take.
-use Rattle.std.specs.Prelude.{◌≡◌, ℕ, Bool, true, false, List, IsTrue, is_some, not}
+use Rattle.std.specs.Prelude.{◌≡◌, ℕ, Bool, true, List, is_some, not}
 use Rattle.apk_front.specs.Moments.{AreSafe}
 use Rattle.base_core.specs.Crash.{IsImage, IsOrderly, Since}
 use Rattle.base_core.specs.Files.{Files}
@@ -8,7 +8,7 @@ use Rattle.base_core.specs.Tree.{TreeState, files_of}
 use Rattle.journal_core.specs.Recovery.{IsSettled, RestsOn}
 use Rattle.journal_core.specs.Replacing.{IsReplacing}
 use Rattle.outcome.specs.Commands.{IsOutcome}
-use Rattle.outcome.specs.Effect.{Makes, effect_by, output, reads_only}
+use Rattle.outcome.specs.Effect.{Makes, effect_by, output}
 use Rattle.outcome.specs.Outcome.{Outcome}
 use Rattle.words_core.specs.Grammar.{command_of}
 
@@ -25,7 +25,6 @@ pub record Facts : Type 0 where
   pub more_order : (few many : Ignored) (v : TreeState) → AreMore few many → IsOrderly (RestsOn few) v → IsOrderly (RestsOn many) v
   pub more_settled : (few many : Ignored) (files : Files) (v : TreeState) → AreMore few many → IsSettled few files v → IsSettled many files v
   pub unique : (words : List (List ℕ)) (files : Files) (a b : Outcome) → IsOutcome words files a → IsOutcome words files b → a ≡ b
-  pub reading : (words : List (List ℕ)) (files : Files) (o : Outcome) → IsTrue (reads_only (command_of words)) → IsOutcome words files o → o.commits ≡ false
   pub making : (words : List (List ℕ)) (files : Files) (o : Outcome) → effect_by (command_of words) ≡ Makes → IsOutcome words files o → o.commits ≡ not (is_some o.refusal)
   pub safe : (words : List (List ℕ)) (ignored : Ignored) (v : TreeState) (outcome : Outcome) (old now : List TreeState)
       → AreSafe (IsOutcome words (files_of v)) (is_some (output words)) ignored v old now

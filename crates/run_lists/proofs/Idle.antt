@@ -1,6 +1,8 @@
 -- A root on which nothing is committed keeps its state, which is what a recovery leaves.
-use Rattle.std.proofs.Common.{◌≡◌, ◌≢◌, ℕ, Bool, true, false, cond, ◌||◌, List, [], ◌∷◌, None, Option, refl, sym, subst, ◌∙◌}
+use Rattle.std.proofs.Common.{◌≡◌, ◌≢◌, inr, ℕ, Bool, true, false, cond, ◌||◌, List, [], ◌∷◌, None, Option, refl, sym, subst, ◌∙◌}
+use Rattle.std.specs.Prelude.{IsTrue}
 use Rattle.std.specs.Str.{bytes_eq}
+use Rattle.std.proofs.lemmas.Bool.{false≢true}
 use Rattle.std.proofs.lemmas.Slice.Eq.{bytes_eq-Decides}
 use Rattle.apk_front.specs.Moments.{IsAtRest}
 use Rattle.base_core.specs.Crash.{IsImage, IsOrderly}
@@ -10,19 +12,24 @@ use Rattle.base_core.specs.Tree.{TreeState, files_of}
 use Rattle.journal_core.specs.Quiet.{IsQuiet, IsStill}
 use Rattle.journal_core.specs.Recovery.{RestsOn, intent_name, is_staged, recovered_files, state_of}
 use Rattle.journal_core.specs.Staged.{unstaged_files}
-use Rattle.run_lists.specs.Events.{Crashes, Ends, Event, HasSeenIdly, IsIdle, LeadsOn, Stops}
+use Rattle.outcome.specs.Commands.{IsOutcome}
+use Rattle.outcome.specs.Effect.{reads_only}
+use Rattle.outcome.specs.Outcome.{Outcome}
+use Rattle.words_core.specs.Grammar.{command_of}
+use Rattle.run_lists.specs.Events.{Crashes, Ends, Event, HasSeenIdly, IsIdle, IsIdleRun, LeadsOn, Run, Stops}
 use Rattle.run_lists.proofs.Facts.{Ignored}
-use Rattle.run_lists.proofs.OneRun.{ReadersCommitNothing, idle_end, idle_moment, settled_on}
+use Rattle.run_lists.proofs.Names.{reader_output}
+use Rattle.run_lists.proofs.OneRun.{idle_end, idle_moment, settled_on}
 
 still_rest : (ignored : Ignored) (files : Files) (v w : TreeState) → IsAtRest ignored files v → IsStill ignored v w → IsAtRest ignored files w
 still_rest ignored files v w rest still = record { orderly = still.orderly; settled = settled_on ignored files v w rest.settled still.quiet }
 
-module _ (reading : ReadersCommitNothing) (crash_orderly : (ignored : Ignored) (v w : TreeState) → IsCrashOf v w → IsOrderly (RestsOn ignored) w) (crash_quiet : (ignored : Ignored) (v w : TreeState) → IsCrashOf v w → IsQuiet ignored v w) where
+module _ (crash_orderly : (ignored : Ignored) (v w : TreeState) → IsCrashOf v w → IsOrderly (RestsOn ignored) w) (crash_quiet : (ignored : Ignored) (v w : TreeState) → IsCrashOf v w → IsQuiet ignored v w) where
   led_idle : (ignored : Ignored) (files : Files) (v : TreeState) (event : Event) (w : TreeState) → IsAtRest ignored files v → IsIdle v event → LeadsOn v event w → IsAtRest ignored files w
   led_idle ignored files v (Ends run) w rest idle (is_run, ends) =
-      still_rest ignored files v w rest (idle_end reading ignored v run is_run rest.orderly idle w ends)
+      still_rest ignored files v w rest (idle_end ignored v run is_run rest.orderly idle w ends)
   led_idle ignored files v (Stops run) w rest idle (is_run, moment) =
-      still_rest ignored files v w rest (idle_moment reading ignored v run is_run rest.orderly idle w moment)
+      still_rest ignored files v w rest (idle_moment ignored v run is_run rest.orderly idle w moment)
   led_idle ignored files v Crashes w rest idle crash =
       record { orderly = crash_orderly ignored v w crash; settled = settled_on ignored files v w rest.settled (crash_quiet ignored v w crash) }
 
@@ -42,6 +49,11 @@ module _ (reading : ReadersCommitNothing) (crash_orderly : (ignored : Ignored) (
   idly_agree left ignored v w u events others rest first second =
       same_state ignored (files_of v) w (left w) (seen_idly ignored v w events rest first)
       ∙ sym (same_state ignored (files_of v) u (left u) (seen_idly ignored v u others rest second))
+
+-- ---- a command that only reads
+
+pub reader_idle : ((words : List (List ℕ)) (files : Files) (o : Outcome) → IsTrue (reads_only (command_of words)) → IsOutcome words files o → o.commits ≡ false) → (v : TreeState) (run : Run) → IsTrue (reads_only (command_of run.words)) → IsIdleRun v run
+reader_idle reading v run reads = inr (reader_output (command_of run.words) reads, λ commit. false≢true (sym (reading run.words (files_of v) commit.0 reads commit.1) ∙ commit.2))
 
 -- ---- the state
 

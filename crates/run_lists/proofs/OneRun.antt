@@ -1,7 +1,6 @@
 -- A run from an orderly tree is safe, and from one state it is all or nothing.
 use Rattle.std.proofs.Common.{◌≡◌, ◌⊎◌, inl, inr, ⊎_elim, ℕ, true, false, List, Option, refl, sym, subst, ◌∙◌, arith}
-use Rattle.std.specs.Prelude.{IsTrue, is_some}
-use Rattle.std.proofs.lemmas.Bool.{false≢true}
+use Rattle.std.specs.Prelude.{is_some}
 use Rattle.apk_front.specs.Answers.{IsAnswerOf, answer_of}
 use Rattle.apk_front.specs.Moments.{AnswersOutcome, AreSafe, HidesScratchOf, IsAtRest, LeavesAtRest, LeavesLasting, Settles, ignored_but}
 use Rattle.apk_front.specs.declared.answer.Answer.{Answer}
@@ -14,15 +13,14 @@ use Rattle.base_core.specs.Tree.{TreeState, files_of}
 use Rattle.journal_core.specs.Quiet.{IsQuiet, IsStill}
 use Rattle.journal_core.specs.Recovery.{IsSettled, RestsOn, intent_name}
 use Rattle.journal_core.specs.Replacing.{IsReplacing}
-use Rattle.outcome.specs.Commands.{IsOutcome}
-use Rattle.outcome.specs.Effect.{Effect, effect_by, output, reads_only}
+use Rattle.outcome.specs.Effect.{Effect, effect_by, output}
 use Rattle.outcome.specs.Outcome.{Outcome}
 use Rattle.words_core.specs.Grammar.{command_of}
-use Rattle.run_lists.specs.Events.{IsIdleRun, IsMomentOf, IsOutcomeFrom, IsRunFrom, Run, ignored_in, with_scratch}
+use Rattle.run_lists.specs.Events.{HasCommit, IsIdleRun, IsMomentOf, IsOutcomeFrom, IsRunFrom, Run, ignored_in, with_scratch}
 use Rattle.run_lists.specs.Safety.{HasOldOrOutcome, IsAtomic, IsOldOrOutcome, IsSafe, LeavesOutcome}
 use Rattle.run_lists.proofs.AtMoments.{History, at_last, at_moment, now_at, now_map, now_under, now_with}
 use Rattle.run_lists.proofs.Facts.{Facts, Ignored}
-use Rattle.run_lists.proofs.Names.{but_same, hides, reader_output, scratch_more}
+use Rattle.run_lists.proofs.Names.{but_same, hides, scratch_more}
 
 -- ---- states
 
@@ -46,18 +44,14 @@ at_rest_fewer facts o ignored files w rest = record {
 
 -- ---- a run that commits nothing
 
-abbrev pub ReadersCommitNothing : Type 0
-ReadersCommitNothing = (words : List (List ℕ)) (files : Files) (o : Outcome) → IsTrue (reads_only (command_of words)) → IsOutcome words files o → o.commits ≡ false
-
-module _ (reading : ReadersCommitNothing) (ignored : Ignored) (v : TreeState) (run : Run) (is_run : IsRunFrom v run) (orderly : IsOrderly (RestsOn ignored) v) where
-  reader_still : IsTrue (reads_only (command_of run.words)) → AreSafe (IsOutcomeFrom v run) (is_some (output run.words)) ignored v run.old run.now → Since (IsStill ignored v) run.old run.now
-  reader_still reads (inl still) = still
-  reader_still reads (inr (o, one, commits, way)) = absurd (false≢true (sym (reading run.words (files_of v) o reads one) ∙ commits))
+module _ (ignored : Ignored) (v : TreeState) (run : Run) (is_run : IsRunFrom v run) (orderly : IsOrderly (RestsOn ignored) v) where
+  uncommitted : (HasCommit v run → ⊥) → AreSafe (IsOutcomeFrom v run) (is_some (output run.words)) ignored v run.old run.now → Since (IsStill ignored v) run.old run.now
+  uncommitted never (inl still) = still
+  uncommitted never (inr (o, one, commits, way)) = absurd (never (o, one, commits))
 
   idle_still : IsIdleRun v run → Since (IsStill ignored v) run.old run.now
-  idle_still (inl reads) =
-      reader_still reads (is_run.crash ignored orderly (subst (λ (o : Option (List ℕ)). HidesScratchOf o ignored) (sym (reader_output (command_of run.words) reads)) tt))
-  idle_still (inr none) = is_run.left none ignored orderly
+  idle_still (inl none) = is_run.left none ignored orderly
+  idle_still (inr (none, never)) = uncommitted never (is_run.crash ignored orderly (subst (λ (o : Option (List ℕ)). HidesScratchOf o ignored) (sym none) tt))
 
   pub idle_moment : IsIdleRun v run → (m : TreeState) → IsMomentOf run m → IsStill ignored v m
   idle_moment idle m moment = at_moment (IsStill ignored v) run v m is_run.begins (still_self ignored v orderly) (idle_still idle) moment
@@ -154,7 +148,7 @@ module _ (facts : Facts) (ignored : Ignored) (v : TreeState) (run : Run) (is_run
   safe = record {
     moments = either (is_run.crash Now now_orderly now_hides);
     answered = answered;
-    left = λ idle m moment. let still = idle_moment facts.reading ignored v run is_run orderly idle m moment in record { quiet = still.quiet; reads = still.reads };
+    left = λ idle m moment. let still = idle_moment ignored v run is_run orderly idle m moment in record { quiet = still.quiet; reads = still.reads };
   }
 
   -- ---- all or nothing
@@ -172,5 +166,5 @@ module _ (facts : Facts) (ignored : Ignored) (v : TreeState) (run : Run) (is_run
     atomic = record {
       moments = λ m moment. one_of_two m (either (is_run.crash Now now_orderly now_hides) m moment);
       answered = λ answers o one. lasts (IsOutcomeFrom v run) ones (effect_by (command_of run.words)) Now v run.now run.answer (is_run.settled Now now_orderly now_hides) answers o one (inl (inr now_settled));
-      left = λ idle m moment. settled_on ignored (files_of v) v m settled (idle_moment facts.reading ignored v run is_run orderly idle m moment).quiet;
+      left = λ idle m moment. settled_on ignored (files_of v) v m settled (idle_moment ignored v run is_run orderly idle m moment).quiet;
     }

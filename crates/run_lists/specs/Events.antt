@@ -1,5 +1,5 @@
 -- What a root may see: runs, stops and crashes, and lists of them.
-use Rattle.std.specs.Prelude.{◌≡◌, ◌≢◌, ◌⊎◌, ◌++◌, ◌||◌, ℕ, Bool, true, false, List, [], ◌∷◌, Option, Some, None, Contains, IsTrue, is_some}
+use Rattle.std.specs.Prelude.{◌≡◌, ◌≢◌, ◌⊎◌, ◌++◌, ◌||◌, ℕ, Bool, true, false, List, [], ◌∷◌, Option, Some, None, Contains, is_some}
 use Rattle.std.specs.Str.{bytes_eq}
 use Rattle.apk_front.specs.Answers.{IsAnswerTo, LeavesFiles}
 use Rattle.apk_front.specs.Moments.{AnswersOutcome, AreSafe, CanRecover, CommitsNothing, HidesScratchOf, LeavesAtRest, LeavesLasting, ignored_but}
@@ -15,7 +15,7 @@ use Rattle.journal_core.specs.Quiet.{IsStill}
 use Rattle.journal_core.specs.Recovery.{RestsOn}
 use Rattle.journal_core.specs.Replacing.{scratch_of}
 use Rattle.outcome.specs.Commands.{IsOutcome}
-use Rattle.outcome.specs.Effect.{effect_by, output, reads_only}
+use Rattle.outcome.specs.Effect.{effect_by, output}
 use Rattle.outcome.specs.Outcome.{Outcome}
 use Rattle.words_core.specs.Grammar.{command_of}
 
@@ -95,11 +95,12 @@ HasSeen first (event ∷ earlier) w =
 
 -- ---- what is committed
 
--- a run commits nothing: it only reads, is refused, finds no memory, or has an outcome that commits
--- nothing
+-- a run commits nothing: it is refused, finds no memory, or has an outcome that commits nothing; or
+-- it has no output, and no outcome that commits
 abbrev pub IsIdleRun : TreeState → Run → Type 0
 IsIdleRun v run =
-    IsTrue (reads_only (command_of run.words)) ⊎ CommitsNothing (IsOutcomeFrom v run) run.answer
+    CommitsNothing (IsOutcomeFrom v run) run.answer
+    ⊎ ((output run.words ≡ None) × (HasCommit v run → ⊥))
 
 -- a crash, or a run that commits nothing
 abbrev pub IsIdle : TreeState → Event → Type 0

@@ -1,15 +1,15 @@
 //! Laws on lists of runs, stops and crashes.
-ghost use Rattle.std.specs.Prelude.{◌≡◌, ◌≢◌, ℕ, Bool, false, true, List, None};
-ghost use Rattle.apk_front.specs.Moments.{AnswersOutcome, HasIdleOutcome, IsAtRest};
+ghost use Rattle.std.specs.Prelude.{◌≡◌, ◌≢◌, ℕ, Bool, false, true, List, None, IsTrue};
+ghost use Rattle.apk_front.specs.Moments.{AnswersOutcome, HasIdleOutcome, HidesScratchOf, IsAtRest};
 ghost use Rattle.base_core.specs.Calls.{HasNow};
 ghost use Rattle.base_core.specs.Crash.{IsOrderly};
 ghost use Rattle.base_core.specs.Files.{Files};
 ghost use Rattle.base_core.specs.Tree.{TreeState, files_of};
 ghost use Rattle.journal_core.specs.Recovery.{RestsOn, intent_name, state_of};
 ghost use Rattle.journal_core.specs.Staged.{unstaged_files};
-ghost use Rattle.outcome.specs.Effect.{does_recover, effect_by};
+ghost use Rattle.outcome.specs.Effect.{does_recover, effect_by, output, reads_only};
 ghost use Rattle.outcome.specs.Work.{recovery_fault};
-ghost use Rattle.run_lists.specs.Events.{Event, HasSeen, HasSeenIdly, HasSeenToOneState, IsOutcomeFrom, IsRunFrom, Run, ignored_behind};
+ghost use Rattle.run_lists.specs.Events.{Event, HasSeen, HasSeenIdly, HasSeenToOneState, IsIdleRun, IsOutcomeFrom, IsRunFrom, Run, ignored_behind, with_scratch};
 ghost use Rattle.run_lists.specs.Safety.{IsAtomicBehindAll, IsSafeBehindAll};
 ghost use Rattle.words_core.specs.Grammar.{command_of};
 
@@ -28,12 +28,19 @@ use outcome::{
 /// `ignored` are names that are left out of account from the start, as scratch names of outputs; on
 /// an ordinary root there are none.
 pub fn whatever_a_root_has_seen_a_run_is_safe()
-    // Behind each list the tree is orderly, so each clause of `apk` on crashes holds of the next
-    // run.
+    // Behind each list the tree is orderly, apart from the names that are ignored then.
     ensures orderly { (ignored : List ℕ → Bool) (first v : TreeState) (events : List Event)
         → ignored intent_name ≡ false → IsOrderly (RestsOn ignored) first
         → HasSeen first events v
         → IsOrderly (RestsOn (ignored_behind ignored events)) v }
+
+    // So each clause of `apk` on crashes holds of the next run, whatever its words: with the scratch
+    // name of its output these names are such as the clauses ask for.
+    ensures begins { (ignored : List ℕ → Bool) (first v : TreeState) (events : List Event)
+        (words : List (List ℕ)) → ignored intent_name ≡ false → IsOrderly (RestsOn ignored) first
+        → HasSeen first events v
+        → let names = with_scratch (output words) (ignored_behind ignored events) in
+        IsOrderly (RestsOn names) v × HidesScratchOf (output words) names }
 
     // So the next run is safe.
     ensures safe { (v : TreeState) (run : Run) → IsRunFrom v run → IsSafeBehindAll v run }
@@ -53,7 +60,6 @@ pub fn whatever_a_root_has_seen_a_run_is_safe()
     a_crash_may_leave_the_files_as_read();
     more_names_may_be_ignored();
     an_outcome_is_unique();
-    a_command_that_reads_leaves_the_files();
     a_command_that_makes_commits_unless_refused();
     a_crash_leaves_the_old_files_or_those_of_the_outcome();
 }
@@ -71,6 +77,10 @@ pub fn a_root_that_commits_nothing_keeps_its_state()
         → IsAtRest ignored (files_of v) v
         → HasSeenIdly v events w → HasSeenIdly v others u
         → state_of ignored (files_of w) ≡ state_of ignored (files_of u) }
+
+    // A run commits nothing if its command only reads.
+    ensures readers { (v : TreeState) (run : Run) → IsTrue (reads_only (command_of run.words))
+        → IsIdleRun v run }
 
     // The state is what a recovery leaves under each name but those ignored.
     ensures read { (ignored : List ℕ → Bool) (files : Files) (q : List ℕ)
