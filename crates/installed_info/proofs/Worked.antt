@@ -1,5 +1,5 @@
 -- Worked cases: what each form tells of two packages.
-use Rattle.std.proofs.Common.{◌≡◌, ℕ, List, [], ◌∷◌, ◌++◌, Some, None, Ok, Err, refl}
+use Rattle.std.proofs.Common.{◌≡◌, ℕ, List, [], ◌∷◌, Some, None, Ok, Err, refl}
 use Rattle.std.specs.Prelude.{codes}
 use Rattle.adb_view.specs.Plain.{Plain, arr, blob, more, none, null, obj}
 use Rattle.command_core.specs.declared.operands.Operand.{Operand}
