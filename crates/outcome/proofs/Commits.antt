@@ -20,7 +20,7 @@ use Rattle.words_core.specs.Grammar.{command_of}
 use Rattle.outcome.proofs.MadeSound.{IsRefusalOrMade, index_fine, package_fine}
 use Rattle.outcome.specs.Changing.{change_outcome}
 use Rattle.outcome.specs.Given.{Given}
-use Rattle.outcome.specs.Commands.{IsOutcome, IsOutcomeOf, IsOutcomeUnless, applet_outcome, reads_in}
+use Rattle.outcome.specs.Commands.{IsOutcomeOf, IsOutcomeUnless, applet_outcome, reads_in}
 use Rattle.outcome.specs.Effect.{Effect, Makes, Changes, does_only_read, effect_by, effect_of, reads_only}
 use Rattle.outcome.specs.Make.{files_with, index_line, make_outcome, unless_reserved}
 use Rattle.outcome.specs.Outcome.{Outcome, commit_report, just_refusal}
@@ -60,7 +60,7 @@ commits_by : (read : Result CommandLine ℕ) (files : Files) (o : Outcome) → e
 commits_by (Err place) files o makes is = cc
 commits_by (Ok command) files o makes is = commits_unless (recovery_fault (effect_of command.applet) files) command files o makes is
 
-pub maker_commits : (words : List (List ℕ)) (files : Files) (o : Outcome) → effect_by (command_of words) ≡ Makes → IsOutcome words files o → CommitsUnlessRefused o
+pub maker_commits : (words : List (List ℕ)) (files : Files) (o : Outcome) → effect_by (command_of words) ≡ Makes → IsOutcomeOf (command_of words) files o → CommitsUnlessRefused o
 maker_commits words files o makes is = commits_by (command_of words) files o makes is
 
 -- ---- a change
@@ -106,6 +106,6 @@ reads_or_writes_by : (read : Result CommandLine ℕ) → IsTrue (reads_only read
 reads_or_writes_by (Err place) = inl refl
 reads_or_writes_by (Ok command) = reads_or_writes command.applet
 
-pub refusal_commits : (words : List (List ℕ)) (files : Files) (o : Outcome) → IsOutcome words files o → (IsTrue (reads_only (command_of words)) → o.commits ≡ false) → (effect_by (command_of words) ≡ Makes → CommitsUnlessRefused o) → IsSome o.refusal → o.commits ≡ false
+pub refusal_commits : (words : List (List ℕ)) (files : Files) (o : Outcome) → IsOutcomeOf (command_of words) files o → (IsTrue (reads_only (command_of words)) → o.commits ≡ false) → (effect_by (command_of words) ≡ Makes → CommitsUnlessRefused o) → IsSome o.refusal → o.commits ≡ false
 refusal_commits words files o is reads makes some =
     ⊎_elim reads (λ writes. ⊎_elim (λ h. refused_maker o (makes h) some) (λ h. changes_by (command_of words) files o h is some) writes) (reads_or_writes_by (command_of words))
