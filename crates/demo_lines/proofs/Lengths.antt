@@ -1,5 +1,5 @@
 -- How many words there are.
-use Rattle.std.proofs.Common.{◌≡◌, ℕ, zero, suc, ◌+◌, ◌<◌, ◌≤◌, ◌*◌, ◌^◌, Bool, true, false, List, [], ◌∷◌, ◌++◌, length, refl, ap, arith}
+use Rattle.std.proofs.Common.{◌≡◌, ℕ, zero, suc, ◌+◌, ◌<◌, ◌≤◌, ◌*◌, ◌^◌, Bool, true, false, List, [], ◌∷◌, ◌++◌, length, refl, sym, ap, subst, ◌∙◌, append_assoc, arith}
 use Rattle.std.specs.Prelude.{if◌then◌else◌, nat_lt}
 use Rattle.std.proofs.lemmas.List.{length-append}
 use Rattle.demo_lines.specs.Lines.{demo_name, demo_package, demo_packages, top_name, top_names}
@@ -37,3 +37,18 @@ few_names words before m i n is few below small =
     let split = length-append before (top_names m i) in
     let count = names_length m i in
     omega (arith, whole, split, count)
+
+-- ---- one more
+
+pub pushed : (new old : List (List ℕ)) (x y : List ℕ) → new ≡ old ++ (x ∷ []) → x ≡ y → new ≡ old ++ (y ∷ [])
+pushed new old x y is same = is ∙ ap (λ z. old ++ (z ∷ [])) same
+
+pub plus_one : (i : ℕ) → i + 1 ≡ suc i
+plus_one i = omega arith
+
+more_at : (words before next : List (List ℕ)) (i : ℕ) → words ≡ before ++ demo_packages i → next ≡ words ++ (demo_package (suc i) ∷ []) → next ≡ before ++ demo_packages (suc i)
+more_at words before next i is more = more ∙ (ap (λ w. w ++ (demo_package (suc i) ∷ [])) is ∙ append_assoc before (demo_packages i) (demo_package (suc i) ∷ []))
+
+pub more_packages : (words before next : List (List ℕ)) (i : ℕ) → words ≡ before ++ demo_packages i → next ≡ words ++ (demo_package (i + 1) ∷ []) → next ≡ before ++ demo_packages (i + 1)
+more_packages words before next i is =
+    subst (λ k. next ≡ words ++ (demo_package k ∷ []) → next ≡ before ++ demo_packages k) (sym (plus_one i)) (more_at words before next i is)

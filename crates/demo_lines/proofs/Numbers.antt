@@ -1,21 +1,19 @@
 -- The number of packages.
-use Rattle.std.proofs.Common.{◌≡◌, ◌^◌, ◌<◌, ◌≤◌, ℕ, Bool, true, false, List, [], ◌∷◌, length, Option, Some, Err, refl, sym, ap, subst, ◌∙◌, arith}
+use Rattle.std.proofs.Common.{◌≡◌, ◌<◌, ◌≤◌, ℕ, true, List, [], ◌∷◌, length, Some, sym, ap, ◌∙◌, arith}
 use Rattle.std.specs.Prelude.{nat_lt, nat_le, ◌&&◌}
 use Rattle.std.specs.List.{list_all, slice_get}
-use Rattle.std.specs.Str.Parse.{ParsesUnsigned, digits_value}
-use Rattle.std.proofs.lemmas.Bool.{and_parts, leb-true, false≢true}
+use Rattle.std.specs.Str.Parse.{digits_value}
+use Rattle.std.proofs.lemmas.Bool.{and_parts, leb-true}
 use Rattle.std.proofs.lemmas.Option.{same_Some}
 use Rattle.command_core.specs.Operands.{exactly, is_decimal, is_demo_number, is_of_kind}
 use Rattle.command_core.specs.Sound.{are_operands}
 use Rattle.command_core.specs.declared.operands.Operand.{Operand}
 use Rattle.command_core.specs.declared.operands.OperandKind.TheVariants.{Number}
-use Rattle.command_core.proofs.Numbers.{decimal_digits, too_large}
 use Rattle.demo_lines.specs.Count.{demo_count}
 
 -- an operand is one of the rule's
 abbrev pub IsOneNumber : List Operand → Type 0
 IsOneNumber os = are_operands (Some (exactly 1 Number)) os ≡ true
-
 
 pub one_operand : (os : List Operand) → IsOneNumber os → 0 < length os
 one_operand os h =
@@ -34,4 +32,5 @@ operand_number (x ∷ os) o h is =
 -- ---- its text
 
 pub number_decimal : (ds : List ℕ) → is_demo_number ds ≡ true → is_decimal ds ≡ true
-number_decimal ds h = (and_parts (is_decimal ds && nat_lt 0 (digits_value 10 ds)) (nat_le (digits_value 10 ds) 20000) h).0
+number_decimal ds h =
+    (and_parts (is_decimal ds) (nat_lt 0 (digits_value 10 ds)) (and_parts (is_decimal ds && nat_lt 0 (digits_value 10 ds)) (nat_le (digits_value 10 ds) 20000) h).0).0

@@ -9,7 +9,7 @@ ghost use Rattle.demo_lines.specs.Count.{demo_count};
 use command_core::Operands;
 
 /// How many packages `demo` makes, as its one operand says.
-#[tactic(auto, using(crate::proofs::Numbers::one_operand, crate::proofs::Numbers::operand_number))]
+#[tactic(auto, using(crate::proofs::Numbers::one_operand))]
 pub fn demo_count(operands: &Operands) -> u16
     requires { IsTrue (are_operands (Some (exactly 1 Number)) operands.now) }
     ensures { result ≡ demo_count operands.now }

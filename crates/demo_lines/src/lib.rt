@@ -1,7 +1,7 @@
 //! How many packages `demo` makes, what it runs, and what it prints.
 //!
-//! `Count` of `specs/` says how an operand is read, `Lines` which command lines make, index and install so many small packages, and
-//! `Report` how their installation is told.
+//! `Count` of `specs/` says how an operand is read, `Lines` which command lines make, index and
+//! install so many small packages, and `Report` how their installation is told.
 #![tactic(auto)]
 
 mod count;

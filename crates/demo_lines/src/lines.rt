@@ -38,12 +38,7 @@ fn push_depends(words: &mut Words, alloc: Global, i: u16) -> Result<(), AllocErr
 }
 
 // A word, and behind it the name of package i.
-fn push_named(
-    words: &mut Words,
-    alloc: Global,
-    word: &[u8],
-    i: u16,
-) -> Result<(), AllocError>
+fn push_named(words: &mut Words, alloc: Global, word: &[u8], i: u16) -> Result<(), AllocError>
     requires { length words.old < 32 }
     ensures { OnOk result (words.new ≡ words.old ++ (word.now ++ demo_name i) ∷ []) }
 {

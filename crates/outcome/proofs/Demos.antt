@@ -2,19 +2,16 @@
 use Rattle.std.proofs.Common.{◌≡◌, ◌||◌, ℕ, zero, suc, Bool, true, false, List, [], ◌∷◌, codes, length, Option, Some, None, IsSome, Result, Ok, Err, refl, sym, ap, subst, ◌∙◌}
 use Rattle.std.specs.Prelude.{if◌then◌else◌}
 use Rattle.std.specs.List.{list_any}
-use Rattle.std.specs.Option.{option_or}
 use Rattle.std.specs.Str.{bytes_eq}
 use Rattle.adb_rules.specs.Reserved.{is_reserved}
 use Rattle.base_core.specs.Files.{Files, IsWithin, drop_name, no_names, put_name}
 use Rattle.base_core.specs.declared.cause.Cause.{Cause}
-use Rattle.command_core.specs.Applets.{needed_option, operand_rule}
 use Rattle.command_core.specs.Command.{CommandLine}
-use Rattle.command_core.specs.Values.{lacks_value}
 use Rattle.command_core.specs.declared.command.Applet.{Applet}
 use Rattle.command_core.specs.declared.command.Applet.TheVariants.{Mkndx, Mkpkg}
 use Rattle.demo_lines.specs.Lines.{add_words, demo_file, demo_repositories, demo_text, mkndx_words, mkpkg_words}
 use Rattle.demo_lines.specs.Report.{demo_line}
-use Rattle.journal_core.specs.Replacing.{replaced_files, scratch_of}
+use Rattle.journal_core.specs.Replacing.{scratch_of}
 use Rattle.make_index.specs.Index.{made_index}
 use Rattle.make_info.specs.Output.{output_name}
 use Rattle.make_info.specs.declared.fault.MakeFault.{MakeFault}
@@ -23,12 +20,11 @@ use Rattle.make_package.specs.Making.{made_package}
 use Rattle.report_core.specs.declared.refusal.Refusal.{Refusal}
 use Rattle.report_core.specs.declared.refusal.Refusal.TheVariants.{Reserved, ResultTooLarge}
 use Rattle.root_names.specs.RootNames.{repositories_name}
-use Rattle.words_core.specs.Grammar.{command_of, command_read, lacks_word, refused_operand, unless_at, verdict}
-use Rattle.words_core.specs.declared.reading.Reading.{Reading}
+use Rattle.words_core.specs.Grammar.{command_of, site_at, unless_at, verdict}
 use Rattle.outcome.proofs.Existing.{work_within}
 use Rattle.outcome.specs.Commands.{IsOutcomeOf, IsOutcomeUnless, applet_outcome, reads_in}
 use Rattle.outcome.specs.Demo.{AreIndexed, AreInstalled, ArePackaged, IsDemoOutcome, IsRunBehind, IsRunUnless, demo_start, with_demo_file}
-use Rattle.outcome.specs.Effect.{Effect, Makes, effect_by, effect_of}
+use Rattle.outcome.specs.Effect.{Makes, effect_of}
 use Rattle.outcome.specs.Given.{Given}
 use Rattle.outcome.specs.Make.{files_with, index_line, make_outcome, unless_reserved}
 use Rattle.outcome.specs.Outcome.{Outcome, just_refusal, just_report, outcome_of, report_unless}
@@ -40,15 +36,16 @@ use Rattle.outcome.specs.Work.{recovery_fault, work_files}
 abbrev pub AreFew : Files → Type 0
 AreFew files = (names : List (List ℕ)) × IsWithin names files
 
+or_right : (a b : Bool) → b ≡ true → (a || b) ≡ true
+or_right true b is = refl
+or_right false b is = is
+
 few_put : (files : Files) (name bytes : List ℕ) → AreFew files → AreFew (put_name files name bytes)
 few_put files name bytes (names, within) = (name ∷ names, λ q some. by_name (bytes_eq q name) q refl some)
   where
     by_name : (b : Bool) (q : List ℕ) → bytes_eq q name ≡ b → IsSome (if b then Some bytes else files q) → (bytes_eq q name || list_any (bytes_eq q) names) ≡ true
     by_name true q is some = ap (λ b. b || list_any (bytes_eq q) names) is
     by_name false q is some = or_right (bytes_eq q name) (list_any (bytes_eq q) names) (within q some)
-    or_right : (a b : Bool) → b ≡ true → (a || b) ≡ true
-    or_right true b is = refl
-    or_right false b is = is
 
 few_drop : (files : Files) (name : List ℕ) → AreFew files → AreFew (drop_name files name)
 few_drop files name (names, within) = (names, λ q some. within q (if_there (bytes_eq q name) (files q) some))
@@ -108,16 +105,13 @@ unless_makes (Some place) lacks behind command makes = tt
 unless_makes None true behind command makes = tt
 unless_makes None false behind command makes = makes
 
-verdict_makes : (behind : ℕ) (applet : Applet) (reading : Reading) → effect_of applet ≡ Makes → DoMake (verdict behind applet reading)
-verdict_makes behind applet reading makes =
-    unless_makes (option_or (refused_operand (operand_rule applet reading.state.flags) reading.operands) reading.unread)
-    (lacks_word applet (operand_rule applet reading.state.flags) reading) behind (command_read behind applet reading) makes
-
 mkpkg_makes : (words : List (List ℕ)) → DoMake (command_of (codes "mkpkg" ∷ words))
-mkpkg_makes words = verdict_makes _ Mkpkg _ refl
+unfolding command_of site_at verdict
+mkpkg_makes words = unless_makes _ _ _ _ refl
 
 mkndx_makes : (words : List (List ℕ)) → DoMake (command_of (codes "mkndx" ∷ words))
-mkndx_makes words = verdict_makes _ Mkndx _ refl
+unfolding command_of site_at verdict
+mkndx_makes words = unless_makes _ _ _ _ refl
 
 -- ---- there is one
 

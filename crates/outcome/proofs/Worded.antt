@@ -1,12 +1,11 @@
 -- The outcome of words is that of a command, or that of `demo`.
-use Rattle.std.proofs.Common.{◌≡◌, ◌⊎◌, inl, inr, ⊎_elim, ℕ, true, false, List, Option, None, Some, IsSome, Result, Ok, Err, refl, sym, subst, ◌∙◌}
+use Rattle.std.proofs.Common.{◌≡◌, ◌⊎◌, inl, inr, ⊎_elim, ℕ, false, List, None, Some, Result, Ok, Err, refl, sym, subst, ◌∙◌}
 use Rattle.std.specs.Prelude.{IsTrue}
 use Rattle.base_core.specs.Files.{Files, IsWithin}
 use Rattle.command_core.specs.Command.{CommandLine}
 use Rattle.command_core.specs.declared.command.Applet.{Applet}
 use Rattle.command_core.specs.declared.command.Applet.TheVariants.{Demo}
 use Rattle.demo_lines.specs.Count.{demo_count}
-use Rattle.words_core.specs.Grammar.{command_of}
 use Rattle.outcome.proofs.Demos.{HaveOneOutcome, HaveOutcome, demo_everywhere, demo_exists, demo_leaves, demo_one}
 use Rattle.outcome.specs.Commands.{IsOutcomeOf}
 use Rattle.outcome.specs.Demo.{IsDemoOutcome}
