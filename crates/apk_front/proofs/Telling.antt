@@ -1,6 +1,6 @@
 -- `info`: its verdict is that of its outcome, and the run leaves the tree as it is.
-use Rattle.std.proofs.Common.{◌≡◌, ◌⊎◌, inl, inr, ℕ, true, false, List, [], ◌∷◌, None, Result, Ok, Err, refl, sym, ap, subst, ◌∙◌}
-use Rattle.std.specs.Prelude.{IfErr, IfOk, IsErrOf, OnOk}
+use Rattle.std.proofs.Common.{◌≡◌, ◌⊎◌, inl, inr, false, [], ◌∷◌, None, Result, Ok, Err, refl, sym, ap, subst, ◌∙◌}
+use Rattle.std.specs.Prelude.{IfOk, IsErrOf, OnOk}
 use Rattle.base_core.specs.Calls.{IfObservable}
 use Rattle.base_core.specs.Faults.{Counts, HasCause, IsNoFault}
 use Rattle.base_core.specs.Files.{Files, no_names}
@@ -20,7 +20,7 @@ use Rattle.make_info.specs.Reads.{Reads}
 use Rattle.make_package.specs.Runs.{Explains}
 use Rattle.report_core.specs.declared.refusal.Refusal.{Refusal}
 use Rattle.outcome.proofs.Applets.{info_is, told_commits, told_files}
-use Rattle.outcome.specs.Commands.{IsFoundOver, IsOutcomeOver, reads_in}
+use Rattle.outcome.specs.Commands.{IsFoundOver, reads_in}
 use Rattle.outcome.specs.Effect.{Tells, effect_of, output_if}
 use Rattle.outcome.specs.Given.{IsChosenFor, IsClashBy, IsGiven, IsListingFor, MayBeGiven, MayBeListedFor, MayClash, nothing_given}
 use Rattle.outcome.specs.Outcome.{Outcome}

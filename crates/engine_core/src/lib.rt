@@ -1,4 +1,5 @@
-//! A change of what is installed: `add` and `del`, from their words to their end.
+//! A change of what is installed: `add`, `del`, `upgrade` and `fix`, from their words to their
+//! end.
 //!
 //! The contract of `change` cites `ChangeRun` of `specs/` (what a run answers, and what it makes of
 //! the tree), `Changed` (what a command comes to, by what is read and by what is chosen) and `Choice`

@@ -26,7 +26,8 @@ pub fn info<T: Tree>(alloc: Global, command: &Command, tree: &mut T) -> Result<I
         (T.counts tree.old) (T.counts tree.new) result }
 {
     let installed = Installed::read(alloc, command, tree)?;
-    tell_installed(alloc, command, &installed)
+    let done = tell_installed(alloc, command, &installed)?;
+    Ok(done)
 }
 
 // By the database.

@@ -2,3 +2,5 @@
 pub mod Form
 pub mod Packages
 pub mod Info
+-- what only the laws say
+pub mod Refusals

@@ -8,12 +8,14 @@ ghost use Rattle.report_core.specs.Reports.{report_line, report_lines};
 ghost use Rattle.std.specs.Option.{option_map, option_map_or};
 ghost use Rattle.std.specs.Prelude.{◌≡◌, ◌++◌, [], map, OnOk};
 
+use crate::lines::push_line;
 use adb_schema::{DepView, List};
-use dep_core::{Dep, append_dep, dep_of};
-use std::alloc::AllocError;
+use dep_core::{Dep, dep_of, dep_text};
+use std::alloc::{AllocError, Global};
 
 /// Adds the dependencies of a list.
 pub(crate) fn push_dependencies<'a>(
+    alloc: Global,
     report: &mut Vec<u8>,
     depends: &List<'a, DepView<'a>>,
 ) -> Result<(), AllocError>
@@ -21,29 +23,28 @@ pub(crate) fn push_dependencies<'a>(
         ++ report_lines (map dep_text (dependencies_in (list_value depends.now)))) }
 {
     for i in 0..depends.len() {
-        push_entry(report, &depends.get(i + 1))?;
+        push_entry(alloc, report, &depends.get(i + 1))?;
     }
     Ok(())
 }
 
 // Adds an entry, unless it is no dependency.
-fn push_entry(report: &mut Vec<u8>, entry: &DepView<'_>) -> Result<(), AllocError>
+fn push_entry(alloc: Global, report: &mut Vec<u8>, entry: &DepView<'_>) -> Result<(), AllocError>
     ensures { OnOk result (report.new.items ≡ report.old.items
         ++ option_map_or (λ d. report_line (dep_text d))
         (dependency_in (dependency_value entry.now)) []) }
 {
     match dep_of(entry.name(), entry.version(), entry.matching()) {
-        Some(dependency) => push_dependency(report, &dependency),
+        Some(needed) => push_dependency(alloc, report, &needed),
         None => Ok(()),
     }
 }
 
 // Adds a dependency.
-fn push_dependency(report: &mut Vec<u8>, dependency: &Dep<'_>) -> Result<(), AllocError>
+fn push_dependency(alloc: Global, report: &mut Vec<u8>, needed: &Dep<'_>) -> Result<(), AllocError>
     ensures { OnOk result (report.new.items
-        ≡ report.old.items ++ report_line (dep_text (dependency dependency.now))) }
+        ≡ report.old.items ++ report_line (dep_text (dependency needed.now))) }
 {
-    append_dep(report, dependency)?;
-    report.push(b'\n')?;
-    Ok(())
+    let text = dep_text(alloc, needed)?;
+    push_line(report, text.as_bytes())
 }

@@ -9,6 +9,8 @@ mod asked;
 mod dependencies;
 mod done;
 mod form;
+mod laws;
+mod lines;
 mod names;
 mod operands;
 mod package;
@@ -17,4 +19,8 @@ mod telling;
 
 pub use done::InfoDone;
 pub use form::Form;
+pub use laws::{
+    info_refuses_an_operand, owners_are_those_that_list_a_path,
+    packages_have_the_names_that_ask_for_them,
+};
 pub use telling::tell;

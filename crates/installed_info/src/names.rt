@@ -9,6 +9,7 @@ ghost use Rattle.report_core.specs.Reports.{report_lines};
 ghost use Rattle.std.specs.Prelude.{◌≡◌, ◌<◌, ◌++◌, None, Some, length, map, slice_get, IfOk, OnOk};
 
 use crate::done::InfoDone;
+use crate::lines::push_line;
 use adb_schema::PackageView;
 use base_core::Text;
 use db_core::Db;
@@ -49,8 +50,8 @@ fn name_at<'a>(db: &Db<'a>, i: usize, _mark: PhantomData<PackageView<'a>>) -> &'
     ensures { (pkg : Plain) → slice_get (packages_of db.now) i ≡ Some pkg
         → result.now ≡ package_name pkg }
 {
-    let package = db.package(i);
-    package.info().name()
+    let pkg = db.package(i);
+    pkg.info().name()
 }
 
 // Puts names into byte order. Names that are in order are only looked at.
@@ -67,9 +68,8 @@ fn push_lines(report: &mut Vec<u8>, names: &[&[u8]]) -> Result<(), AllocError>
     ensures { OnOk result (report.new.items
         ≡ report.old.items ++ report_lines (map (λ n. n.now) names.now)) }
 {
-    for name in names {
-        report.extend_from_slice(name)?;
-        report.push(b'\n')?;
+    for i in 0..names.len() {
+        push_line(report, names[i])?;
     }
     Ok(())
 }

@@ -2,8 +2,9 @@
 ghost use Rattle.db_core.specs.Seen.{packages_of};
 ghost use Rattle.installed_info.specs.Info.{info_done, info_refusal, info_unless, operands_info, package_info};
 ghost use Rattle.installed_info.specs.Packages.{package_asked};
-ghost use Rattle.std.specs.Option.{option_map_or};
-ghost use Rattle.std.specs.Prelude.{◌≡◌, ◌++◌, [], is_some, IfOk};
+ghost use Rattle.report_core.specs.declared.refusal.Refusal.TheVariants.{NotInstalled};
+ghost use Rattle.std.specs.Option.{option_map_or, option_or};
+ghost use Rattle.std.specs.Prelude.{◌≡◌, ◌++◌, [], None, Some, if◌then◌else◌, is_some, IfOk};
 
 use crate::asked::place_asked;
 use crate::done::InfoDone;
@@ -59,16 +60,22 @@ pub(crate) fn tell_installed(
     for i in 0..operands.len() {
         let operand = operands.get(i);
         let is_told = push_operand(alloc, &mut report, form, db, operand.text.as_bytes())?;
-        if !is_told && late.is_none() {
-            late = Some(Refusal::NotInstalled {
-                place: operand.place,
-            });
-        }
+        late = refusal_after(late, is_told, operand.place);
     }
     Ok(InfoDone {
         report: Text::from_vec(report),
         late,
     })
+}
+
+// The refusal so far, or that of an operand of which nothing is told.
+fn refusal_after(late: Option<Refusal>, is_told: bool, place: u32) -> Option<Refusal>
+    ensures { result ≡ option_or late (if is_told then None else Some (NotInstalled place)) }
+{
+    if is_told || late.is_some() {
+        return late;
+    }
+    Some(Refusal::NotInstalled { place })
 }
 
 // Adds what a form tells of the package that an operand asks for, and answers whether it is
@@ -88,7 +95,7 @@ fn push_operand(
 {
     match place_asked(alloc, form, db, text)? {
         Some(place) => {
-            push_package(report, form, db, place, text, PhantomData)?;
+            push_package(alloc, report, form, db, place, text, PhantomData)?;
             Ok(true)
         }
         None => Ok(false),

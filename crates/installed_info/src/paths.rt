@@ -7,7 +7,7 @@ ghost use Rattle.report_core.specs.Reports.{report_line, report_lines};
 ghost use Rattle.std.specs.List.{flat_map};
 ghost use Rattle.std.specs.Prelude.{◌≡◌, ◌<◌, ◌++◌, map, OnOk};
 
-use crate::package::push_line;
+use crate::lines::push_line;
 use adb_schema::{DirInfo, FileInfo, List};
 use std::alloc::AllocError;
 
@@ -35,6 +35,9 @@ fn push_folder<'a>(
     ensures { OnOk result (report.new.items ≡ report.old.items
         ++ report_lines (paths_under (entry_in (list_value folders.now) i))) }
 {
+    if i >= folders.len() {
+        unreachable!();
+    }
     let folder = folders.get(i + 1);
     push_files(report, folder.name(), &folder.files())
 }

@@ -5,7 +5,6 @@ use Rattle.base_core.specs.Files.{Files}
 use Rattle.command_core.specs.Command.{CommandLine}
 use Rattle.command_core.specs.declared.command.Applet.{Applet}
 use Rattle.command_core.specs.declared.command.Applet.TheVariants.{Adbdump, Add, Del, Demo, Fix, Info, Mkndx, Mkpkg, Upgrade, Verify, Version}
-use Rattle.engine_core.specs.InfoTold.{info_told}
 use Rattle.installed_info.specs.declared.done.InfoDone.{InfoDone}
 use Rattle.make_info.specs.Reads.{Reads}
 use Rattle.report_core.specs.declared.refusal.Refusal.{Refusal}
@@ -13,7 +12,6 @@ use Rattle.outcome.specs.Changing.{change}
 use Rattle.outcome.specs.Commands.{applet_outcome}
 use Rattle.outcome.specs.Effect.{Changes, Tells, effect_of}
 use Rattle.outcome.specs.Given.{Given}
-use Rattle.outcome.specs.Outcome.{Outcome}
 use Rattle.outcome.specs.Telling.{info, told_outcome}
 
 -- one that changes what is installed
