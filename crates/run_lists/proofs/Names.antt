@@ -1,5 +1,5 @@
 -- Which names are ignored.
-use Rattle.std.proofs.Common.{◌≡◌, ℕ, Bool, true, false, ◌||◌, List, [], ◌∷◌, ◌++◌, codes, Option, Some, None, Result, Ok, Err, refl, ap, ◌∙◌, arith}
+use Rattle.std.proofs.Common.{◌≡◌, ℕ, Bool, true, false, ◌||◌, List, [], ◌∷◌, ◌++◌, codes, Option, Some, None, Result, Ok, Err, refl, sym, ap, subst, ◌∙◌, arith}
 use Rattle.std.specs.Prelude.{IsTrue, if◌then◌else◌}
 use Rattle.std.specs.Str.{bytes_eq}
 use Rattle.std.proofs.lemmas.Bool.{false≢true}
@@ -11,7 +11,7 @@ use Rattle.command_core.specs.Command.{CommandLine}
 use Rattle.journal_core.specs.Recovery.{intent_name}
 use Rattle.journal_core.specs.Replacing.{scratch_of}
 use Rattle.outcome.specs.Effect.{Effect, Computes, Reads, Tells, Makes, Changes, does_only_read, effect_by, effect_of, output, output_by, output_if, reads_only}
-use Rattle.run_lists.specs.Events.{Event, Ends, Stops, Crashes, Run, ignored_behind, ignored_by, with_scratch}
+use Rattle.run_lists.specs.Events.{Crashes, Ends, Event, HasNoPendingOutput, Run, Stops, ignored_behind, ignored_by, nothing_ignored, with_scratch}
 use Rattle.run_lists.proofs.Facts.{AreMore, Ignored}
 
 -- ---- the intent is never ignored
@@ -102,6 +102,28 @@ same_less false false c is = is
 pub but_same : (o : Option (List ℕ)) (ignored : Ignored) → AreMore (ignored_but o (with_scratch o ignored)) (ignored_but o ignored)
 but_same None ignored q is = is
 but_same (Some name) ignored q is = same_less (bytes_eq q name) (bytes_eq q (scratch_of name)) (ignored q) is
+
+-- ---- an ordinary root
+
+but_off : (o : Option (List ℕ)) (ignored : Ignored) (q : List ℕ) → ignored q ≡ false → ignored_but o ignored q ≡ false
+but_off None ignored q off = off
+but_off (Some name) ignored q off = either_off (bytes_eq q name || bytes_eq q (scratch_of name)) (ignored q) off
+
+scratch_off : (o : Option (List ℕ)) (ignored : Ignored) (q : List ℕ) → o ≡ None → ignored q ≡ false → with_scratch o ignored q ≡ false
+scratch_off o ignored q none off = subst (λ (p : Option (List ℕ)). with_scratch p ignored q ≡ false) (sym none) off
+
+by_off : (answer : Answer) (run : Run) (ignored : Ignored) (q : List ℕ) → (answer ≡ TreeFault → output run.words ≡ None) → ignored q ≡ false → ignored_by answer run ignored q ≡ false
+by_off Done run ignored q fault off = but_off (output run.words) ignored q off
+by_off (Refused r) run ignored q fault off = off
+by_off TreeFault run ignored q fault off = scratch_off (output run.words) ignored q (fault refl) off
+by_off OutFault run ignored q fault off = off
+by_off Memory run ignored q fault off = off
+
+pub none_ignored : (events : List Event) (q : List ℕ) → HasNoPendingOutput events → ignored_behind nothing_ignored events q ≡ false
+none_ignored [] q written = refl
+none_ignored (Ends run ∷ earlier) q (fault, before) = by_off run.answer run (ignored_behind nothing_ignored earlier) q fault (none_ignored earlier q before)
+none_ignored (Stops run ∷ earlier) q (none, before) = scratch_off (output run.words) (ignored_behind nothing_ignored earlier) q none (none_ignored earlier q before)
+none_ignored (Crashes ∷ earlier) q written = refl
 
 -- ---- commands with an output make
 

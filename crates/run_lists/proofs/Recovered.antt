@@ -1,6 +1,5 @@
 -- What a run leaves that recovers and commits nothing.
 use Rattle.std.proofs.Common.{◌≡◌, ℕ, true, false, List, Option, None, Result, Ok, Err, refl, ap, subst, ◌∙◌}
-use Rattle.std.proofs.lemmas.Bool.{false≢true}
 use Rattle.apk_front.specs.Moments.{AnswersOutcome, HasIdleOutcome}
 use Rattle.base_core.specs.Calls.{HasNow}
 use Rattle.base_core.specs.Files.{Files}
@@ -8,11 +7,9 @@ use Rattle.base_core.specs.Tree.{TreeState, files_of}
 use Rattle.base_core.specs.declared.cause.Cause.{Cause}
 use Rattle.command_core.specs.Command.{CommandLine}
 use Rattle.journal_core.specs.Staged.{unstaged_files}
-use Rattle.outcome.proofs.Worded.{of_by}
-use Rattle.outcome.specs.Commands.{IsOutcomeOf, IsOutcomeOver, IsOutcomeUnless}
+use Rattle.outcome.specs.Commands.{IsOutcome, IsOutcomeOf, IsOutcomeOver, IsOutcomeUnless}
 use Rattle.outcome.specs.Effect.{Effect, Computes, Reads, Tells, Makes, Changes, does_recover, effect_by, effect_of}
 use Rattle.outcome.specs.Outcome.{Outcome}
-use Rattle.outcome.specs.Words.{IsOutcome}
 use Rattle.outcome.specs.Work.{recovery_fault, work_files}
 use Rattle.words_core.specs.Grammar.{command_of}
 use Rattle.run_lists.specs.Events.{IsOutcomeFrom, IsRunFrom, Run}
@@ -38,5 +35,5 @@ module _ (idle_leaves : (command : CommandLine) (files : Files) (o : Outcome) �
   recovered v run is_run recovers none answers (p, one, idle) =
       let t = told (IsOutcomeFrom v run) (unique run.words (files_of v)) _ _ run.answer run.out run.err is_run.stated answers in
       let commits : t.0.commits ≡ false = ap (λ (o : Outcome). o.commits) (unique run.words (files_of v) t.0 p t.1 one) ∙ idle in
-      let files : t.0.files ≡ unstaged_files (files_of v) = recovers_by (command_of run.words) (files_of v) t.0 (of_by (command_of run.words) (files_of v) t.0 (λ computes. false≢true (subst (λ (e : Effect). does_recover e ≡ true) computes recovers)) t.1) recovers none commits in
+      let files : t.0.files ≡ unstaged_files (files_of v) = recovers_by (command_of run.words) (files_of v) t.0 t.1 recovers none commits in
       now_map run.now (λ w. files_of w ≡ t.0.files) (λ w. files_of w ≡ unstaged_files (files_of v)) (λ w is. is ∙ files) t.3

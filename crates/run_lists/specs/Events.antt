@@ -14,7 +14,7 @@ use Rattle.base_core.specs.Tree.{TreeState, files_of}
 use Rattle.journal_core.specs.Quiet.{IsStill}
 use Rattle.journal_core.specs.Recovery.{RestsOn}
 use Rattle.journal_core.specs.Replacing.{scratch_of}
-use Rattle.outcome.specs.Words.{IsOutcome}
+use Rattle.outcome.specs.Commands.{IsOutcome}
 use Rattle.outcome.specs.Effect.{effect_by, output}
 use Rattle.outcome.specs.Outcome.{Outcome}
 use Rattle.words_core.specs.Grammar.{command_of}
@@ -171,3 +171,12 @@ ignored_behind ignored (Ends run ∷ earlier) =
     ignored_by run.answer run (ignored_behind ignored earlier)
 ignored_behind ignored (Stops run ∷ earlier) = ignored_in run (ignored_behind ignored earlier)
 ignored_behind ignored (Crashes ∷ earlier) = nothing_ignored
+
+-- since the last crash no run with an output was stopped, or ended by a fault of the tree
+abbrev pub HasNoPendingOutput : List Event → Type 0
+HasNoPendingOutput [] = Unit {0}
+HasNoPendingOutput (Ends run ∷ earlier) =
+    (run.answer ≡ TreeFault → output run.words ≡ None) × HasNoPendingOutput earlier
+HasNoPendingOutput (Stops run ∷ earlier) =
+    (output run.words ≡ None) × HasNoPendingOutput earlier
+HasNoPendingOutput (Crashes ∷ earlier) = Unit {0}

@@ -9,7 +9,7 @@ ghost use Rattle.journal_core.specs.Recovery.{RestsOn, intent_name, state_of};
 ghost use Rattle.journal_core.specs.Staged.{unstaged_files};
 ghost use Rattle.outcome.specs.Effect.{does_recover, effect_by, output, reads_only};
 ghost use Rattle.outcome.specs.Work.{recovery_fault};
-ghost use Rattle.run_lists.specs.Events.{Event, HasSeen, HasSeenIdly, HasSeenToOneState, IsIdleRun, IsOutcomeFrom, IsRunFrom, Run, ignored_behind, with_scratch};
+ghost use Rattle.run_lists.specs.Events.{Event, HasNoPendingOutput, HasSeen, HasSeenIdly, HasSeenToOneState, IsIdleRun, IsOutcomeFrom, IsRunFrom, Run, ignored_behind, nothing_ignored, with_scratch};
 ghost use Rattle.run_lists.specs.Safety.{IsAtomicBehindAll, IsSafeBehindAll};
 ghost use Rattle.words_core.specs.Grammar.{command_of};
 
@@ -42,7 +42,12 @@ pub fn whatever_a_root_has_seen_a_run_is_safe()
         → let names = with_scratch (output words) (ignored_behind ignored events) in
         IsOrderly (RestsOn names) v × HidesScratchOf (output words) names }
 
-    // So the next run is safe.
+    // On an ordinary root nothing is ignored, and so it stays while no run with an output is
+    // stopped, or ends by a fault of the tree.
+    ensures ordinary { (events : List Event) (q : List ℕ) → HasNoPendingOutput events
+        → ignored_behind nothing_ignored events q ≡ false }
+
+    // The next run is safe.
     ensures safe { (v : TreeState) (run : Run) → IsRunFrom v run → IsSafeBehindAll v run }
 
     // Each crash leaves one state, that of the files as read, if it did so at the start, until a

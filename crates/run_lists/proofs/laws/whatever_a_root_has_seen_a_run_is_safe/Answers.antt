@@ -1,5 +1,6 @@
 use Rattle.run_lists.proofs.Along.{seen_atomic, seen_begins, seen_one, seen_orderly, seen_safe}
 use Rattle.run_lists.proofs.Facts.{Facts}
+use Rattle.run_lists.proofs.Names.{none_ignored}
 use Rattle.run_lists.proofs.laws.whatever_a_root_has_seen_a_run_is_safe.Goals as goal
 
 pub returns-clause-orderly : goal.returns-clause-orderly
@@ -29,6 +30,9 @@ returns-clause-begins c =
       safe = c.a_crash_leaves_the_old_files_or_those_of_the_outcome.ensures;
     } in
     λ ignored first v events words off orderly seen. seen_begins facts ignored off first v events words orderly seen
+
+pub returns-clause-ordinary : goal.returns-clause-ordinary
+returns-clause-ordinary c = none_ignored
 
 pub returns-clause-safe : goal.returns-clause-safe
 returns-clause-safe c =
