@@ -1,12 +1,12 @@
 -- Words and entries, compared one by one from the last on.
-use Rattle.std.proofs.Common.{◌≡◌, ◌≢◌, ℕ, zero, suc, ◌+◌, ◌-◌, ◌%◌, ◌^◌, ◌<◌, ◌≤◌, List, [], ◌∷◌, length, get_or, map, drop, refl, sym, ap, ◌∙◌, arith, inl, inr, ◌⊎◌}
+use Rattle.std.proofs.Common.{◌≡◌, ◌≢◌, ℕ, zero, suc, Bool, true, false, eqb, true≢false, ◌+◌, ◌-◌, ◌%◌, ◌^◌, ◌<◌, ◌≤◌, List, [], ◌∷◌, length, get_or, map, drop, refl, sym, ap, ◌∙◌, arith, inl, inr, ◌⊎◌}
 use Rattle.std.specs.Prelude.{reverse}
 use Rattle.std.specs.Ordering.{nat_cmp, ordering_then, ordering_reverse}
 use Rattle.std.specs.declared.cmp.Ordering.{Ordering}
 use Rattle.std.specs.declared.cmp.Ordering.TheVariants.{Less, Equal, Greater}
 use Rattle.std.proofs.lemmas.List.{drop_more, get_or_default, get_or-reverse, length-drop, length-map, length-reverse, get_or-map}
 use Rattle.std.proofs.lemmas.Cmp.{nat_cmp_total, tied_itself, ranked, by_ranked}
-use Rattle.adb_write.specs.Keys.{low_words}
+use Rattle.adb_write.specs.Keys.{list_fingerprint, low_words}
 use Rattle.adb_write.proofs.Rising.{cmp}
 
 -- the first elements decide, and else the others
@@ -53,6 +53,21 @@ by_none ws = ap (λ n. nat_cmp n 0) (sym (words_len ws)) ∙ none (reverse (low_
     none : (xs : List ℕ) → nat_cmp (length xs) 0 ≡ cmp xs []
     none [] = refl
     none (x ∷ xs) = nat_cmp_total.antisymm (suc (length xs)) 0 ∙ ap ordering_reverse (lower 0 (suc (length xs)) (omega arith))
+
+-- the last word, and 0 where there is none
+pub none_low : (ws : List ℕ) → length ws ≡ 0 → 0 ≡ list_fingerprint (low_words ws)
+none_low [] e = refl
+none_low (w ∷ ws) e = absurd (omega (arith, e))
+
+pub some : (n : ℕ) → eqb n 0 ≡ false → 0 < n
+some zero e = absurd (true≢false e)
+some (suc n) e = omega arith
+
+pub last_low : (ws : List ℕ) (w : ℕ) → 0 < length ws → w < 2 ^ 32 → w ≡ get_or ws (length ws - 1) w → w ≡ list_fingerprint (low_words ws)
+last_low ws w filled small is =
+    let n : length (low_words ws) ≡ length ws = length-map ws (λ x. x % 2 ^ 32) in
+    let low : get_or (low_words ws) (length ws - 1) w ≡ w = get_or-map (λ x. x % 2 ^ 32) ws (length ws - 1) w w (omega (arith, filled)) ∙ ap (λ x. x % 2 ^ 32) (sym is) ∙ omega arith in
+    sym (ap (λ k. get_or (low_words ws) (k - 1) 0) n ∙ get_or_default (low_words ws) (length ws - 1) 0 w (omega (arith, n, filled)) ∙ low)
 
 pub word_at : (ws : List ℕ) (i last w : ℕ) → i < length ws → last ≡ length ws - 1 - i → w < 2 ^ 32 → w ≡ get_or ws last w → w ≡ get_or (reverse (low_words ws)) i w
 word_at ws i last w within place small is =

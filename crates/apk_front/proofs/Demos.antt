@@ -235,3 +235,10 @@ told_demo n last tree (Ok verdict) (o, is, reports, files) shown = λ files. (
   shown files ∙ ap (λ (r : Option Refusal). report_unless files r (demo_line n last.report)) (ap (λ (p : Outcome). p.refusal) reports)
       ∙ ap (λ (t : List ℕ). report_unless files o.refusal (demo_line n t)) (ap (λ (p : Outcome). p.out) reports),
 )
+
+-- words and files by which a run is named
+pub package_to : (words more : List (List ℕ)) (files at : Files) (new : MemoryTree) (judged : Judged) → words ≡ more → files ≡ at
+    → IfOk judged (λ verdict. IsRunTo (IsOutcomeOf (command_of words) files) verdict new) → IfOk judged (λ verdict. IsRunTo (IsOutcomeOf (command_of more) at) verdict new)
+package_to words more files at new judged same_words same_files ran =
+    subst (λ (w : List (List ℕ)). IfOk judged (λ verdict. IsRunTo (IsOutcomeOf (command_of w) at) verdict new)) same_words
+    (subst (λ (f : Files). IfOk judged (λ verdict. IsRunTo (IsOutcomeOf (command_of words) f) verdict new)) same_files ran)
