@@ -1,6 +1,6 @@
 -- What a word of the pages leads to is read as it was written, and is found by its key.
 use Rattle.std.proofs.Common.{◌≡◌, ◌≢◌, ℕ, zero, suc, ◌+◌, ◌-◌, ◌*◌, ◌/◌, ◌%◌, ◌^◌, ◌<◌, ◌≤◌, Bool, true, false, cond, eqb, leb, ltb, List, [], ◌∷◌, ◌++◌, length, map, take, drop, replicate, Option, Some, None, Ok, refl, sym, ap, subst, ◌∙◌, append_assoc, arith, inl, inr, ◌⊎◌, take-append-drop, eq-eqb}
-use Rattle.std.specs.Prelude.{find, option_map, bytes_eq, ◌&&◌}
+use Rattle.std.specs.Prelude.{find, option_map, bytes_eq, reverse, ◌&&◌}
 use Rattle.std.specs.List.{AllByRecursion, flat_map, concat}
 use Rattle.std.specs.Int.{w8, w16, w32, w64, to_le_bytes}
 use Rattle.std.specs.Ordering.{nat_cmp}
@@ -8,7 +8,7 @@ use Rattle.std.specs.declared.cmp.Ordering.{Ordering}
 use Rattle.std.specs.declared.cmp.Ordering.TheVariants.{Less, Equal, Greater}
 use Rattle.std.proofs.lemmas.Cmp.{nat_list_cmp_total, tied_itself}
 use Rattle.std.proofs.lemmas.Bool.{eqb-true, cases_lt, lt-ltb, le-ltb}
-use Rattle.std.proofs.lemmas.List.{length-append, length-take, length-drop, take-append-le, drop-append-le, drop-drop, length-map}
+use Rattle.std.proofs.lemmas.List.{length-append, length-take, length-drop, take-append-le, drop-append-le, drop-drop, length-map, reverse-reverse}
 use Rattle.std.proofs.lemmas.List.Concat.{flat_map-cons}
 use Rattle.std.proofs.lemmas.Slice.Eq.{bytes_eq-Decides}
 use Rattle.std.proofs.lemmas.Map.Lookups.{exact_bytes}
@@ -58,7 +58,7 @@ list_kinds Object = omega arith
 abbrev pub content_of_stored : Stored → List ℕ
 content_of_stored (stored_int n) = n ∷ []
 content_of_stored (stored_blob b) = b
-content_of_stored (stored_list kind ws) = ws
+content_of_stored (stored_list kind ws) = reverse ws
 
 -- a word leads to this in a payload
 read_int : (p : List ℕ) (w n : ℕ) → n < 2 ^ 64 → Leads p (int_item n) w → int_of p w ≡ Ok n
@@ -91,8 +91,8 @@ read_content p w (stored_blob b) small l =
     let t : ltb (blob_item b).kind 8 ≡ false = le-ltb _ _ k.0 in
     let u : ltb (blob_item b).kind 13 ≡ true = lt-ltb _ _ (omega arith) in
     rw (t, u) (ap or_empty (read_blob p w b small l))
-read_content p w (stored_list Array ws) small l = ap or_empty (run_of-placed ARRAY p w ws small.0 small.1 l)
-read_content p w (stored_list Object ws) small l = ap or_empty (run_of-placed OBJECT p w ws small.0 small.1 l)
+read_content p w (stored_list Array ws) small l = ap (λ r. reverse (or_empty r)) (run_of-placed ARRAY p w ws small.0 small.1 l)
+read_content p w (stored_list Object ws) small l = ap (λ r. reverse (or_empty r)) (run_of-placed OBJECT p w ws small.0 small.1 l)
 
 -- ---- what a word of the pages leads to
 
@@ -256,7 +256,9 @@ same_bytes (Blob b) (stored_blob x) k c = ap (λ (y : List ℕ). (blob_item y).b
 same_bytes (Blob b) (stored_list kind ws) k c = absurd (omega (arith, list_kinds kind, (blob_kind b.now).1))
 same_bytes (Listed kind ws) (stored_int m) k c = absurd (elim (int_kind m) [ inl i ↦ omega (arith, list_kinds kind) | inr i ↦ omega (arith, list_kinds kind) ])
 same_bytes (Listed kind ws) (stored_blob x) k c = absurd (omega (arith, list_kinds kind, (blob_kind x).1))
-same_bytes (Listed kind ws) (stored_list other vs) k c = sym (low_run ws.now) ∙ ap run_bytes c
+same_bytes (Listed kind ws) (stored_list other vs) k c =
+    let same : low_words ws.now ≡ vs = sym (reverse-reverse (low_words ws.now)) ∙ (ap reverse c ∙ reverse-reverse vs) in
+    sym (low_run ws.now) ∙ ap run_bytes same
 
 pub key_equal : (p : List ℕ) (w : ℕ) (parts : Parts) → IsStored p w → cmp (key_of parts) (key_at p w) ≡ Equal → is_equal_item (drop 8 p) (item_of parts) (written_item w) ≡ true
 key_equal p w parts s e =

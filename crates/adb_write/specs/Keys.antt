@@ -1,5 +1,5 @@
 -- By what the writer keeps in order what it wrote: the kind of an item, and what it holds.
-use Rattle.std.specs.Prelude.{ℕ, ◌%◌, ◌^◌, List, [], ◌∷◌, map, Result, Ok, Err, nat_lt, if◌then◌else◌}
+use Rattle.std.specs.Prelude.{ℕ, ◌%◌, ◌^◌, List, [], ◌∷◌, map, reverse, Result, Ok, Err, nat_lt, if◌then◌else◌}
 use Rattle.std.specs.Ordering.{nat_cmp}
 use Rattle.std.specs.Cmp.Lexicographic.{slice_cmp}
 use Rattle.std.specs.List.Sorted.{IsStrictlySortedBy}
@@ -14,10 +14,12 @@ use Rattle.adb_write.specs.declared.item.Parts.TheVariants.{Int, Blob, List as L
 abbrev pub low_words : List ℕ → List ℕ
 low_words = map (λ w. w % 2 ^ 32)
 
+-- What an item holds. A list is compared from its last entry on: entries are written before their
+-- list, so that a list which is new stands behind the others, and is mostly told from them at once.
 abbrev pub content_of : Parts → List ℕ
 content_of (Int n) = n ∷ []
 content_of (Blob b) = b.now
-content_of (Listed kind ws) = low_words ws.now
+content_of (Listed kind ws) = reverse (low_words ws.now)
 
 abbrev pub key_of : Parts → List ℕ
 key_of parts = (item_of parts).kind ∷ content_of parts
@@ -26,12 +28,12 @@ abbrev pub single_or_empty : Result ℕ Cause → List ℕ
 single_or_empty (Ok n) = n ∷ []
 single_or_empty (Err c) = []
 
--- what is read at a word of this kind: an integer, a blob, or the entries of a list
+-- what is read at a word of this kind: an integer, a blob, or the entries of a list, the last first
 abbrev pub content_at : ℕ → List ℕ → ℕ → List ℕ
 content_at kind payload word =
     if nat_lt kind 8 then single_or_empty (int_of payload word)
     else if nat_lt kind 13 then or_empty (blob_of payload word)
-    else or_empty (run_of kind payload word)
+    else reverse (or_empty (run_of kind payload word))
 
 -- the key of the item to which a word leads
 abbrev pub key_at : List ℕ → ℕ → List ℕ

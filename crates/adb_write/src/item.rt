@@ -1,5 +1,5 @@
 //! What a value takes outside its word, and how it compares with what was written.
-ghost use Rattle.std.specs.Prelude.{◌≡◌, ◌≤◌, ◌<◌, ◌+◌, ◌-◌, ◌^◌, ◌++◌, length, replicate, take, OnOk, OnErr};
+ghost use Rattle.std.specs.Prelude.{◌≡◌, ◌≤◌, ◌<◌, ◌+◌, ◌-◌, ◌^◌, ◌++◌, length, replicate, reverse, take, OnOk, OnErr};
 ghost use Rattle.std.specs.List.{flat_map};
 ghost use Rattle.std.specs.Int.{w32, w64, to_le_bytes};
 ghost use Rattle.std.specs.Ordering.{nat_cmp};
@@ -215,8 +215,8 @@ impl Parts<'_> {
 /// Compares words with the entries of the written list to which a word leads.
 #[tactic(auto, using(crate::proofs::Compared::by_none))]
 fn compare_list(adb: &Adb<'_>, list: ListKind, words: &[Val], word: Val) -> Ordering
-    ensures { result ≡ slice_cmp nat_cmp (low_words words.now)
-        (or_empty (run_of (list_kind list) (payload_of adb.now) word)) }
+    ensures { result ≡ slice_cmp nat_cmp (reverse (low_words words.now))
+        (reverse (or_empty (run_of (list_kind list) (payload_of adb.now) word))) }
 {
     match entries(adb, list, word) {
         Ok(found) => compare_words(words, &found),
@@ -234,14 +234,19 @@ fn entries<'a>(adb: &Adb<'a>, list: ListKind, word: Val) -> Result<Arr<'a>, Caus
     }
 }
 
-/// Compares words with the entries of a written list: the first that differ decide, and else their
-/// number.
+/// Compares words with the entries of a written list from the last on: the last that differ decide,
+/// and else their number.
 fn compare_words(words: &[Val], entries: &Arr<'_>) -> Ordering
-    ensures { result ≡ slice_cmp nat_cmp (low_words words.now) (array_entries entries.now) }
+    ensures { result ≡ slice_cmp nat_cmp (reverse (low_words words.now))
+        (reverse (array_entries entries.now)) }
 {
     let mut i = 0;
     while i < words.len() && i < entries.len() {
-        match words[i].word().cmp(&entries.get(i + 1).word()) {
+        let last = words.len() - 1 - i;
+        match words[last]
+            .word()
+            .cmp(&entries.get(entries.len() - i).word())
+        {
             Ordering::Equal => i += 1,
             by_word => return by_word,
         }

@@ -1,0 +1,6 @@
+mod Found
+mod LineSteps
+mod Listers
+mod NoName
+mod OperandSteps
+mod Refusing
