@@ -12,9 +12,9 @@ use Rattle.base_core.specs.Tree.{TreeState, files_of}
 use Rattle.journal_core.specs.Quiet.{IsQuiet, IsStill}
 use Rattle.journal_core.specs.Recovery.{RestsOn, intent_name, is_staged, recovered_files, state_of}
 use Rattle.journal_core.specs.Staged.{unstaged_files}
-use Rattle.outcome.specs.Commands.{IsOutcome}
 use Rattle.outcome.specs.Effect.{reads_only}
 use Rattle.outcome.specs.Outcome.{Outcome}
+use Rattle.outcome.specs.Words.{IsOutcome}
 use Rattle.words_core.specs.Grammar.{command_of}
 use Rattle.run_lists.specs.Events.{Crashes, Ends, Event, HasSeenIdly, IsIdle, IsIdleRun, LeadsOn, Run, Stops}
 use Rattle.run_lists.proofs.Facts.{Ignored}
