@@ -1,27 +1,27 @@
 -- `demo`, and all other commands.
-use Rattle.std.proofs.Common.{◌≡◌, ℕ, zero, suc, ◌+◌, Bool, true, false, List, [], ◌∷◌, Option, Some, None, IsSome, is_some, Result, Ok, Err, refl, sym, ap, subst, ◌∙◌, arith}
-use Rattle.std.specs.Prelude.{IfOk, IsErrOf, IsTrue, MatchResult, OnOk}
+use Rattle.std.proofs.Common.{◌≡◌, ℕ, suc, ◌+◌, true, false, List, [], ◌∷◌, Option, Some, None, IsSome, is_some, Result, Ok, Err, refl, sym, ap, subst, ◌∙◌, arith}
+use Rattle.std.specs.Prelude.{IfOk, IsTrue, MatchResult}
 use Rattle.std.proofs.lemmas.Bool.{false≢true}
-use Rattle.base_core.specs.Calls.{HasNow, IfObservable}
+use Rattle.base_core.specs.Calls.{IfObservable}
 use Rattle.base_core.specs.Files.{Files, no_names, put_name}
 use Rattle.base_core.specs.Tree.{TreeState, files_of}
-use Rattle.base_core.specs.declared.tree.TreeFault.{TreeFault}
 use Rattle.base_core.specs.declared.tree.TreeFault.TheVariants.{Disk, Memory as NoMemory}
 use Rattle.command_core.specs.Command.{CommandLine}
 use Rattle.command_core.specs.declared.command.Applet.{Applet}
 use Rattle.command_core.specs.declared.command.Applet.TheVariants.{Demo}
 use Rattle.command_core.specs.declared.operands.Operand.{Operand}
 use Rattle.demo_lines.specs.Count.{demo_count}
-use Rattle.demo_lines.specs.Lines.{add_words, demo_file, demo_text, mkndx_words, mkpkg_words}
+use Rattle.demo_lines.specs.Lines.{add_words, demo_repositories, mkndx_words, mkpkg_words}
 use Rattle.demo_lines.specs.Report.{demo_line}
 use Rattle.outcome.specs.Commands.{IsFoundOutcomeOf, IsOutcomeOf, command_outcome, reads_in}
 use Rattle.outcome.specs.Demo.{AreIndexed, AreInstalled, ArePackaged, IsDemoOutcome, IsRunBehind, IsRunUnless, demo_start, with_demo_file}
-use Rattle.outcome.specs.Effect.{Effect, does_only_read, does_recover, does_rest_on_words, effect_of, output_if}
+use Rattle.outcome.specs.Effect.{does_recover, does_rest_on_words, effect_of, output_if}
 use Rattle.outcome.specs.Given.{nothing_given}
 use Rattle.outcome.specs.Outcome.{Outcome, just_refusal, just_report, report_unless}
 use Rattle.outcome.specs.Words.{IsFoundOutcomeBy, IsFoundOutcomeFor, IsOutcomeBy, IsOutcomeFor}
 use Rattle.report_core.specs.declared.refusal.Refusal.{Refusal}
 use Rattle.report_core.specs.declared.refusal.Refusal.TheVariants.{Usage}
+use Rattle.root_names.specs.RootNames.{repositories_name}
 use Rattle.tree_memory.specs.Memory.{history_of, tree_state}
 use Rattle.tree_memory.specs.declared.tree.MemoryTree.{MemoryTree}
 use Rattle.words_core.specs.Faults.{IsWordsFault}
@@ -142,10 +142,10 @@ demo_run command applet judged (v ∷ rest) same is =
 
 pub never_disk : (judged : Judged) (operands : List Operand) → IsDemoJudged operands judged → judged ≡ Err Disk → ⊥
 never_disk (Ok verdict) operands one is = cc
-never_disk (Err fault) operands one is = let e : NoMemory ≡ Disk = sym one ∙ err_is fault Disk is in cc
-  where
-    err_is : (a b : TreeFault) → Err {A = Verdict} a ≡ Err b → a ≡ b
-    err_is a b e = cc
+never_disk (Err fault) operands one is =
+    let same : fault ≡ Disk = cc in
+    let e : NoMemory ≡ Disk = sym one ∙ same in
+    cc
 
 -- ---- a run in its tree
 
@@ -242,3 +242,22 @@ pub package_to : (words more : List (List ℕ)) (files at : Files) (new : Memory
 package_to words more files at new judged same_words same_files ran =
     subst (λ (w : List (List ℕ)). IfOk judged (λ verdict. IsRunTo (IsOutcomeOf (command_of w) at) verdict new)) same_words
     (subst (λ (f : Files). IfOk judged (λ verdict. IsRunTo (IsOutcomeOf (command_of words) f) verdict new)) same_files ran)
+
+-- ---- what stands there before
+
+pub put_to : (files new : Files) (name at bytes text : List ℕ) → new ≡ put_name files name bytes → name ≡ at → bytes ≡ text → new ≡ put_name files at text
+put_to files new name at bytes text is same_name same_text = is ∙ (ap (λ (n : List ℕ). put_name files n bytes) same_name ∙ ap (λ (t : List ℕ). put_name files at t) same_text)
+
+pub start_files : (files new : Files) (bytes : List ℕ) → new ≡ put_name files repositories_name bytes → files ≡ no_names → bytes ≡ demo_repositories → new ≡ demo_start.files
+start_files files new bytes is none same =
+    is ∙ (ap (λ (f : Files). put_name f repositories_name bytes) none ∙ ap (λ (b : List ℕ). put_name {X = List ℕ} no_names repositories_name b) same)
+
+-- ---- the index, and the installation
+
+pub install_to : (n : ℕ) (packaged indexed : Verdict) (first second third : MemoryTree) (index add : List (List ℕ)) (judged : Judged) → IsRunTo (ArePackaged n) packaged first
+    → index ≡ mkndx_words n → GoesOn index (λ files. files) packaged first indexed second → add ≡ add_words n → IfOk judged (λ verdict. GoesOn add (λ files. files) indexed second verdict third)
+    → IfOk judged (λ verdict. IsRunTo (AreInstalled n) verdict third)
+install_to n packaged indexed first second third index add judged one is_index on_index is_add on_add =
+    add_to n indexed second third judged
+    (index_to n packaged indexed first second one (subst (λ (w : List (List ℕ)). GoesOn w (λ files. files) packaged first indexed second) is_index on_index))
+    (subst (λ (w : List (List ℕ)). IfOk judged (λ verdict. GoesOn w (λ files. files) indexed second verdict third)) is_add on_add)

@@ -1,7 +1,7 @@
 //! `demo`: so many small packages are made, indexed and installed, in a tree of their own.
 //!
 //! Each command line is run by the function that runs it on every other tree, too.
-ghost use Rattle.std.specs.Prelude.{◌≡◌, ◌×◌, List, ℕ, Ok, IfOk, IsTrue, MatchResult, OnOk, Some};
+ghost use Rattle.std.specs.Prelude.{◌≡◌, IfOk, IsTrue, MatchResult, OnOk, Some};
 ghost use Rattle.apk_front.specs.DemoRuns.{IsRunTo};
 ghost use Rattle.apk_front.specs.Verdicts.{Reports, as_outcome};
 ghost use Rattle.base_core.specs.Files.{Files, no_names, put_name};
@@ -20,7 +20,7 @@ ghost use Rattle.words_core.specs.Grammar.{command_of};
 
 use crate::answer::Verdict;
 use crate::judge::run;
-use base_core::{Name, TreeFault, Words};
+use base_core::{Name, Text, TreeFault, Words};
 use command_core::Operands;
 use demo_lines::{
     add_words, demo_count, demo_file, demo_line, demo_repositories, demo_text, mkndx_words,
@@ -58,12 +58,17 @@ fn told(alloc: Global, count: u16, last: Verdict) -> Result<Verdict, TreeFault>
         ≡ report_unless files last.refusal (demo_line count last.report))
         (λ fault. fault ≡ TreeFault.Memory) }
 {
-    match last.refusal {
-        Some(refusal) => Ok(Verdict::refused(alloc, refusal)),
-        None => {
-            let line = demo_line(alloc, count, last.report.as_bytes())?;
-            Ok(Verdict::reported(line))
-        }
+    let line = demo_line(alloc, count, last.report.as_bytes())?;
+    Ok(unless_refused(alloc, last.refusal, line))
+}
+
+// A refusal, if there is one, and a report otherwise.
+fn unless_refused(alloc: Global, refusal: Option<Refusal>, report: Text) -> Verdict
+    ensures { (files : Files) → as_outcome files result ≡ report_unless files refusal report }
+{
+    match refusal {
+        Some(refusal) => Verdict::refused(alloc, refusal),
+        None => Verdict::reported(report),
     }
 }
 
@@ -140,11 +145,7 @@ fn run_behind(
 }
 
 // Words are run.
-fn run_words(
-    alloc: Global,
-    words: &Words,
-    tree: &mut MemoryTree,
-) -> Result<Verdict, TreeFault>
+fn run_words(alloc: Global, words: &Words, tree: &mut MemoryTree) -> Result<Verdict, TreeFault>
     ensures { IfOk result (λ verdict. IsRunTo
         (IsOutcomeOf (command_of words.now) (files_of (tree_state tree.old)))
         verdict tree.new) }
@@ -159,12 +160,7 @@ fn run_words(
 }
 
 // A file is put under a name.
-fn put(
-    alloc: Global,
-    name: &[u8],
-    bytes: &[u8],
-    tree: &mut MemoryTree,
-) -> Result<(), AllocError>
+fn put(alloc: Global, name: &[u8], bytes: &[u8], tree: &mut MemoryTree) -> Result<(), AllocError>
     ensures { OnOk result (files_of (tree_state tree.new)
         ≡ put_name (files_of (tree_state tree.old)) name.now bytes.now) }
 {

@@ -69,11 +69,7 @@ pub(crate) fn judge<T: Tree>(
 
 // Runs an applet; `demo` runs others, in a tree of its own.
 #[tactic(auto, using(crate::proofs::Operands::demo_operands))]
-fn carry_out<T: Tree>(
-    alloc: Global,
-    command: &Command,
-    tree: &mut T,
-) -> Result<Verdict, TreeFault>
+fn carry_out<T: Tree>(alloc: Global, command: &Command, tree: &mut T) -> Result<Verdict, TreeFault>
     ensures found { IfOk result (λ verdict. IfObservable (T.history tree.old) (λ v.
         ReportsOne (IsOutcomeBy (Ok command.now) (files_of v)) verdict)) }
     ensures by_reads { IfOk result (λ verdict.
@@ -110,7 +106,11 @@ fn carry_out<T: Tree>(
 }
 
 /// Runs an applet other than `demo`.
-pub(crate) fn run<T: Tree>(alloc: Global, command: &Command, tree: &mut T) -> Result<Verdict, TreeFault>
+pub(crate) fn run<T: Tree>(
+    alloc: Global,
+    command: &Command,
+    tree: &mut T,
+) -> Result<Verdict, TreeFault>
     ensures found { IfOk result (λ verdict. IfObservable (T.history tree.old) (λ v.
         ReportsOne (IsOutcomeOf (Ok command.now) (files_of v)) verdict)) }
     ensures by_reads { IfOk result (λ verdict.
