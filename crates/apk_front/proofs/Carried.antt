@@ -1,7 +1,7 @@
 -- A command is run, and its outcome carried out.
 use Rattle.std.proofs.Common.{◌≡◌, inl, inr, ℕ, Bool, true, false, List, [], ◌∷◌, Option, Some, None, IsSome, Result, Ok, Err, refl, sym, ap, subst, ◌∙◌}
 use Rattle.std.proofs.lemmas.Bool.{false≢true}
-use Rattle.std.specs.Prelude.{if◌then◌else◌, is_some, IfOk, IsErrOf, IsTrue, OnOk}
+use Rattle.std.specs.Prelude.{if◌then◌else◌, is_some, IfOk, IsErrOf, IsTrue, MatchResult, OnOk}
 use Rattle.base_core.specs.Calls.{HasNow, IfObservable}
 use Rattle.base_core.specs.Crash.{IsOrderly, Since}
 use Rattle.base_core.specs.Faults.{Counts, IsNoFault}
@@ -21,9 +21,10 @@ use Rattle.make_index.specs.Files.{AreFiles}
 use Rattle.make_info.specs.Reads.{Reads}
 use Rattle.outcome.specs.Dump.{adbdump, dump_outcome, text_outcome, dump_of}
 use Rattle.outcome.specs.Make.{mkndx, mkpkg}
-use Rattle.outcome.specs.Commands.{IsFoundOutcomeOf, IsFoundOver, IsOutcome, IsOutcomeOf, IsOutcomeOver, reads_in, applet_outcome, command_outcome}
+use Rattle.outcome.specs.Commands.{IsFoundOutcomeOf, IsFoundOver, IsOutcomeOf, IsOutcomeOver, reads_in, applet_outcome, command_outcome}
 use Rattle.outcome.specs.Given.{Given, IsChosenFor, IsClashBy, IsGiven, IsListingFor, MayBeGiven, MayBeListedFor, MayClash, nothing_given}
-use Rattle.outcome.specs.Effect.{Effect, Computes, Reads as OnlyReading, Tells, Makes, Changes, does_only_read, does_recover, does_rest_on_words, effect_by, effect_of, output, output_by, output_if, reads_only}
+use Rattle.outcome.specs.Effect.{Effect, Computes, Reads as OnlyReading, Tells, Makes, Changes, does_only_read, does_recover, does_rest_on_words, effect_by, effect_of, output, output_by, output_if, reads_only, rests_on_words}
+use Rattle.outcome.specs.Words.{IsFoundOutcome, IsFoundOutcomeBy, IsOutcome, IsOutcomeBy}
 use Rattle.outcome.specs.Work.{recovery_fault}
 use Rattle.outcome.specs.Outcome.{Outcome, just_refusal, just_report, outcome_of, report_unless}
 use Rattle.outcome.specs.Verify.{verify_refusal, sound_lines}
@@ -229,17 +230,30 @@ index_proper command old P same proper =
 
 -- ---- the words
 
-pub by_command : (words : List (List ℕ)) (command : CommandLine) (old : History) (judged : Judged) → command_of words ≡ Ok command → IfOk judged (λ verdict. IfObservable old (λ v. ReportsOne (Wholes command v) verdict))
+-- the outcomes of each command, `demo` too
+abbrev pub OfCommand : CommandLine → TreeState → Outcome → Type 0
+OfCommand command v = IsOutcomeBy (Ok command) (files_of v)
+
+pub by_command : (words : List (List ℕ)) (command : CommandLine) (old : History) (judged : Judged) → command_of words ≡ Ok command → IfOk judged (λ verdict. IfObservable old (λ v. ReportsOne (OfCommand command v) verdict))
     → IfOk judged (λ verdict. IfObservable old (λ v. ReportsOne (IsOutcome words (files_of v)) verdict))
-by_command words command old judged is found = subst (λ (r : Result CommandLine ℕ). IfOk judged (λ verdict. IfObservable old (λ v. ReportsOne (IsOutcomeOf r (files_of v)) verdict))) (sym is) found
+by_command words command old judged is found = subst (λ (r : Result CommandLine ℕ). IfOk judged (λ verdict. IfObservable old (λ v. ReportsOne (IsOutcomeBy r (files_of v)) verdict))) (sym is) found
 
 pub run_by_command : (words : List (List ℕ)) (command : CommandLine) (judged : Judged) (old now : History) → command_of words ≡ Ok command
-    → IfObservable old (λ v. IsWholeRun (Wholes command v) (effect_of command.applet) (output_if (effect_of command.applet) command) judged v old now) → Runs words judged old now
-run_by_command words command judged old now is run = subst (λ (r : Result CommandLine ℕ). IfObservable old (λ v. IsWholeRun (IsOutcomeOf r (files_of v)) (effect_by r) (output_by r) judged v old now)) (sym is) run
+    → IfObservable old (λ v. IsWholeRun (OfCommand command v) (effect_of command.applet) (output_if (effect_of command.applet) command) judged v old now) → Runs words judged old now
+run_by_command words command judged old now is run = subst (λ (r : Result CommandLine ℕ). IfObservable old (λ v. IsWholeRun (IsOutcomeBy r (files_of v)) (effect_by r) (output_by r) judged v old now)) (sym is) run
 
 pub proper_by_command : (words : List (List ℕ)) (command : CommandLine) (old : History) (P : Type 0) → command_of words ≡ Ok command
-    → IfObservable old (λ v. LeavesRoomFor (effect_of command.applet) (output_if (effect_of command.applet) command) (Wholes command v) (files_of v) → P) → IfObservable old (λ v. LeavesRoom words (files_of v) → P)
-proper_by_command words command old P is proper = subst (λ (r : Result CommandLine ℕ). IfObservable old (λ v. LeavesRoomFor (effect_by r) (output_by r) (IsOutcomeOf r (files_of v)) (files_of v) → P)) (sym is) proper
+    → IfObservable old (λ v. LeavesRoomFor (effect_of command.applet) (output_if (effect_of command.applet) command) (OfCommand command v) (files_of v) → P) → IfObservable old (λ v. LeavesRoom words (files_of v) → P)
+proper_by_command words command old P is proper = subst (λ (r : Result CommandLine ℕ). IfObservable old (λ v. LeavesRoomFor (effect_by r) (output_by r) (IsOutcomeBy r (files_of v)) (files_of v) → P)) (sym is) proper
+
+pub found_by_command : (words : List (List ℕ)) (command : CommandLine) (judged : Judged) → command_of words ≡ Ok command → IfOk judged (ReportsOne (IsFoundOutcomeBy (Ok command))) → IfOk judged (ReportsOne (IsFoundOutcome words))
+found_by_command words command judged is found = subst (λ (r : Result CommandLine ℕ). IfOk judged (ReportsOne (IsFoundOutcomeBy r))) (sym is) found
+
+pub words_by_command : (words : List (List ℕ)) (command : CommandLine) (judged : Judged) → command_of words ≡ Ok command
+    → (IsTrue (does_rest_on_words (effect_of command.applet)) → MatchResult judged (λ verdict. (files : Files) → IsOutcomeBy (Ok command) files (as_outcome files verdict)) (λ fault. fault ≡ NoMemory))
+    → IsTrue (rests_on_words (command_of words)) → MatchResult judged (λ verdict. (files : Files) → IsOutcome words files (as_outcome files verdict)) (λ fault. fault ≡ NoMemory)
+words_by_command words command judged is found =
+    subst (λ (r : Result CommandLine ℕ). IsTrue (rests_on_words r) → MatchResult judged (λ verdict. (files : Files) → IsOutcomeBy r files (as_outcome files verdict)) (λ fault. fault ≡ NoMemory)) (sym is) found
 
 pub same_by_command : (words : List (List ℕ)) (command : CommandLine) (P : Type 0) → command_of words ≡ Ok command → (IsTrue (does_only_read (effect_of command.applet)) → P) → IsTrue (reads_only (command_of words)) → P
 same_by_command words command P is same = subst (λ (r : Result CommandLine ℕ). IsTrue (reads_only r) → P) (sym is) same
@@ -253,7 +267,7 @@ usage_run words q fault judged [] is of = tt
 usage_run words q fault judged (v ∷ rest) is of =
     let read : command_of words ≡ Err q = subst (λ (f : WordsFault). IsWordsFault f (command_of words)) is of in
     whole_idle (IsOutcome words (files_of v)) (effect_by (command_of words)) (output words) judged v rest (v ∷ rest) refl
-    (λ o one. let is_refused : o ≡ just_refusal (files_of v) (Usage q) = subst (λ (r : Result CommandLine ℕ). IsOutcomeOf r (files_of v) o) read one in
+    (λ o one. let is_refused : o ≡ just_refusal (files_of v) (Usage q) = subst (λ (r : Result CommandLine ℕ). IsOutcomeBy r (files_of v) o) read one in
     ok_always (LeavesAll (effect_by (command_of words)) v o) judged (subst (Leaves (files_of v)) (sym is_refused) (refl, refl), λ can. usage_recovers_not (command_of words) q read can.0))
 
 pub failed_run : (words : List (List ℕ)) (e : TreeFault) (old : History) → Runs words (Err e) old old

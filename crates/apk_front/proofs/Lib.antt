@@ -16,3 +16,4 @@ pub mod Behind
 pub mod EachOutcome
 pub mod Changing
 pub mod Telling
+mod Demos

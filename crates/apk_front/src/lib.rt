@@ -10,6 +10,7 @@
 
 mod answer;
 mod change;
+mod demo;
 mod dump;
 mod effect;
 mod front;

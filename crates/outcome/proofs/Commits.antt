@@ -22,7 +22,7 @@ use Rattle.outcome.proofs.Applets.{change_is, info_is, told_commits, told_files}
 use Rattle.outcome.proofs.MadeSound.{IsRefusalOrMade, index_fine, package_fine}
 use Rattle.outcome.specs.Changing.{change_outcome}
 use Rattle.outcome.specs.Given.{Given}
-use Rattle.outcome.specs.Commands.{IsOutcome, IsOutcomeOf, IsOutcomeUnless, applet_outcome, reads_in}
+use Rattle.outcome.specs.Commands.{IsOutcomeOf, IsOutcomeUnless, applet_outcome, reads_in}
 use Rattle.outcome.specs.Effect.{Effect, Computes, Reads as OnlyReads, Tells, Makes, Changes, does_only_read, effect_by, effect_of, reads_only}
 use Rattle.outcome.specs.Make.{files_with, index_line, make_outcome, unless_reserved}
 use Rattle.outcome.specs.Outcome.{Outcome, commit_report, just_refusal}
@@ -62,7 +62,7 @@ commits_by : (read : Result CommandLine ℕ) (files : Files) (o : Outcome) → e
 commits_by (Err place) files o makes is = cc
 commits_by (Ok command) files o makes is = commits_unless (recovery_fault (effect_of command.applet) files) command files o makes is
 
-pub maker_commits : (words : List (List ℕ)) (files : Files) (o : Outcome) → effect_by (command_of words) ≡ Makes → IsOutcome words files o → CommitsUnlessRefused o
+pub maker_commits : (words : List (List ℕ)) (files : Files) (o : Outcome) → effect_by (command_of words) ≡ Makes → IsOutcomeOf (command_of words) files o → CommitsUnlessRefused o
 maker_commits words files o makes is = commits_by (command_of words) files o makes is
 
 -- ---- a change
@@ -101,7 +101,7 @@ tells_by (Err place) files o tells is = cc
 tells_by (Ok command) files o tells is = tells_unless (recovery_fault (effect_of command.applet) files) command files o tells is
 
 -- it commits nothing
-pub teller_commits : (words : List (List ℕ)) (files : Files) (o : Outcome) → effect_by (command_of words) ≡ Tells → IsOutcome words files o → o.commits ≡ false
+pub teller_commits : (words : List (List ℕ)) (files : Files) (o : Outcome) → effect_by (command_of words) ≡ Tells → IsOutcomeOf (command_of words) files o → o.commits ≡ false
 teller_commits words files o tells is = tells_by (command_of words) files o tells is
 
 tells_files : (fault : Option Cause) (command : CommandLine) (files : Files) (o : Outcome) → effect_of command.applet ≡ Tells → IsOutcomeUnless fault command files o → (o.files ≡ files) ⊎ (o.files ≡ work_files Tells files)
@@ -119,7 +119,7 @@ files_by (Err place) files o tells is = cc
 files_by (Ok command) files o tells is = tells_files (recovery_fault (effect_of command.applet) files) command files o tells is
 
 -- and leaves the files that a recovery leaves
-pub teller_files : (words : List (List ℕ)) (files : Files) (o : Outcome) → effect_by (command_of words) ≡ Tells → IsOutcome words files o → (o.files ≡ files) ⊎ (o.files ≡ work_files Tells files)
+pub teller_files : (words : List (List ℕ)) (files : Files) (o : Outcome) → effect_by (command_of words) ≡ Tells → IsOutcomeOf (command_of words) files o → (o.files ≡ files) ⊎ (o.files ≡ work_files Tells files)
 teller_files words files o tells is = files_by (command_of words) files o tells is
 
 -- ---- a refusal
@@ -139,7 +139,7 @@ line_cases : (read : Result CommandLine ℕ) → (IsTrue (reads_only read)) ⊎ 
 line_cases (Err place) = inl refl
 line_cases (Ok command) = effect_cases (effect_of command.applet)
 
-pub refusal_commits : (words : List (List ℕ)) (files : Files) (o : Outcome) → IsOutcome words files o → (IsTrue (reads_only (command_of words)) → o.commits ≡ false) → (effect_by (command_of words) ≡ Tells → o.commits ≡ false) → (effect_by (command_of words) ≡ Makes → CommitsUnlessRefused o) → IsSome o.refusal → o.commits ≡ false
+pub refusal_commits : (words : List (List ℕ)) (files : Files) (o : Outcome) → IsOutcomeOf (command_of words) files o → (IsTrue (reads_only (command_of words)) → o.commits ≡ false) → (effect_by (command_of words) ≡ Tells → o.commits ≡ false) → (effect_by (command_of words) ≡ Makes → CommitsUnlessRefused o) → IsSome o.refusal → o.commits ≡ false
 refusal_commits words files o is reads tell makes some = elim (line_cases (command_of words)) as (λ _. o.commits ≡ false) [
   | inl only ↦ reads only
   | inr (inl tells) ↦ tell tells

@@ -32,7 +32,7 @@ use Rattle.report_core.specs.declared.refusal.Refusal.TheVariants.{Reserved, Res
 use Rattle.words_core.specs.Grammar.{command_of}
 use Rattle.outcome.proofs.Applets.{told_files}
 use Rattle.outcome.specs.Changing.{change_outcome}
-use Rattle.outcome.specs.Commands.{IsOutcome, IsOutcomeOf, IsOutcomeOver, IsOutcomeUnless, applet_outcome, reads_in}
+use Rattle.outcome.specs.Commands.{IsOutcomeOf, IsOutcomeOver, IsOutcomeUnless, applet_outcome, reads_in}
 use Rattle.outcome.specs.Dump.{adbdump, dump_of, dump_outcome, text_outcome}
 use Rattle.outcome.specs.Effect.{effect_by, effect_of}
 use Rattle.outcome.specs.Given.{Given}
@@ -172,6 +172,6 @@ leaves_by : HaveRoot → HaveIdle → (read : Result CommandLine ℕ) (files : F
 leaves_by rooted idle (Err place) files o is nothing = inl (ap (λ (p : Outcome). p.files) is)
 leaves_by rooted idle (Ok command) files o is nothing = unless_leaves rooted idle (recovery_fault (effect_of command.applet) files) command files o is nothing
 
-pub leaves_idle : HaveRoot → HaveIdle → (words : List (List ℕ)) (files : Files) (o : Outcome) → IsOutcome words files o → o.commits ≡ false
+pub leaves_idle : HaveRoot → HaveIdle → (words : List (List ℕ)) (files : Files) (o : Outcome) → IsOutcomeOf (command_of words) files o → o.commits ≡ false
     → (o.files ≡ files) ⊎ (o.files ≡ work_files (effect_by (command_of words)) files)
 leaves_idle rooted idle words files o is nothing = leaves_by rooted idle (command_of words) files o is nothing

@@ -7,3 +7,5 @@ pub mod MadeSound
 pub mod Commits
 pub mod Idle
 pub mod NextRoom
+pub mod Demos
+pub mod Worded

@@ -20,7 +20,7 @@ use Rattle.outcome.proofs.Applets.{change_is}
 use Rattle.outcome.proofs.Idle.{chain_ok}
 use Rattle.outcome.proofs.Recovered.{ReadSound}
 use Rattle.outcome.specs.Changing.{change_outcome}
-use Rattle.outcome.specs.Commands.{IsOutcome, IsOutcomeOf, IsOutcomeOver, IsOutcomeUnless, applet_outcome, reads_in}
+use Rattle.outcome.specs.Commands.{IsOutcomeOf, IsOutcomeOver, IsOutcomeUnless, applet_outcome, reads_in}
 use Rattle.outcome.specs.Effect.{Changes, Effect, effect_by, effect_of}
 use Rattle.outcome.specs.Given.{Given, IsClashBy}
 use Rattle.outcome.specs.Outcome.{Outcome}
@@ -118,5 +118,5 @@ module _ (room : KeepsRoom) (gone : BringsNoIntent) (sound : ReadSound) where
   by_line (Err place) files o changes is unrefused stage = absurd (cc (changes))
   by_line (Ok command) files o changes is unrefused stage = unless_room (recovery_fault (effect_of command.applet) files) command files o changes refl is unrefused stage
 
-  pub next_room : (words : List (List ℕ)) (files : Files) (o : Outcome) → effect_by (command_of words) ≡ Changes → IsOutcome words files o → o.refusal ≡ None → HasRoomToStage (unstaged_files files) → LeavesNext o
+  pub next_room : (words : List (List ℕ)) (files : Files) (o : Outcome) → effect_by (command_of words) ≡ Changes → IsOutcomeOf (command_of words) files o → o.refusal ≡ None → HasRoomToStage (unstaged_files files) → LeavesNext o
   next_room words files o = by_line (command_of words) files o

@@ -1,4 +1,4 @@
--- The outcome of a command line.
+-- The outcome of a command. `demo` is apart: it runs other commands.
 use Rattle.std.specs.Prelude.{◌≡◌, ◌⊎◌, ℕ, true, List, [], Option, Some, None, Result, Ok, Err, Contains}
 use Rattle.adb_schema.specs.Soundness.{first_fault}
 use Rattle.adb_tables.specs.declared.tables.Which.TheVariants.{Intent as IntentTable}
@@ -9,7 +9,6 @@ use Rattle.package_changes.specs.Changes.{selected_version}
 use Rattle.pool_core.specs.Candidates.{Candidate}
 use Rattle.report_core.specs.declared.refusal.Refusal.TheVariants.{IntentBad, PackageBad, Usage}
 use Rattle.command_core.specs.Command.{CommandLine}
-use Rattle.words_core.specs.Grammar.{command_of}
 use Rattle.command_core.specs.declared.command.Applet.{Applet}
 use Rattle.command_core.specs.declared.command.Applet.TheVariants.{Adbdump, Demo, Info, Mkndx, Mkpkg, Verify, Version}
 use Rattle.engine_core.specs.ChangeRun.{selected_in}
@@ -70,10 +69,6 @@ IsOutcomeOf (Err place) files outcome = outcome ≡ just_refusal files (Usage pl
 IsOutcomeOf (Ok command) files outcome =
     IsOutcomeUnless (recovery_fault (effect_of command.applet) files) command files outcome
 
--- the outcome of a command line over these files
-abbrev pub IsOutcome : List (List ℕ) → Files → Outcome → Type 0
-IsOutcome words files outcome = IsOutcomeOf (command_of words) files outcome
-
 -- ---- over a tree whose files no contract knows, as a folder of the host
 
 -- The file of a package that comes is read once more when a change is carried out. Where it is not
@@ -111,8 +106,3 @@ IsFoundOutcomeOf (Err place) outcome = outcome ≡ just_refusal no_names (Usage 
 IsFoundOutcomeOf (Ok command) outcome =
     IsFoundOver command outcome
     ⊎ ((does_recover (effect_of command.applet) ≡ true) × IsFoundUnrecovered outcome)
-
--- the outcome of a command line for some listing, for some contents, or none, at each read and of the
--- intent, and for some files; nothing is said of the files afterwards
-abbrev pub IsFoundOutcome : List (List ℕ) → Outcome → Type 0
-IsFoundOutcome words outcome = IsFoundOutcomeOf (command_of words) outcome

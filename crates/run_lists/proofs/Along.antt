@@ -6,11 +6,12 @@ use Rattle.apk_front.specs.declared.answer.Answer.TheVariants.{Ok as Done, Refus
 use Rattle.base_core.specs.Calls.{HasNow}
 use Rattle.base_core.specs.Crash.{IsOrderly}
 use Rattle.base_core.specs.Files.{Files}
+use Rattle.base_core.specs.Restart.{IsCrashOf}
 use Rattle.base_core.specs.Tree.{TreeState, files_of}
 use Rattle.journal_core.specs.Quiet.{IsQuiet}
 use Rattle.journal_core.specs.Recovery.{IsSettled, RestsOn, intent_name}
 use Rattle.outcome.specs.Effect.{output}
-use Rattle.run_lists.specs.Events.{Crashes, Ends, Event, HasSeen, HasSeenToOneState, IsIdleRun, IsMomentOf, IsRunFrom, KeepsOneState, LeadsOn, MakesOneState, Run, Stops, ignored_behind, ignored_by, ignored_in, nothing_ignored, with_scratch}
+use Rattle.run_lists.specs.Events.{Crashes, Edits, Ends, Event, HasSeen, HasSeenToOneState, IsAllSynced, IsIdleRun, IsMomentOf, IsRunFrom, KeepsOneState, LeadsOn, MakesOneState, Run, Stops, ignored_behind, ignored_by, ignored_in, nothing_ignored, with_scratch}
 use Rattle.run_lists.specs.Safety.{IsAtomic, IsSafe, LeavesOutcome}
 use Rattle.run_lists.proofs.AtMoments.{now_at}
 use Rattle.run_lists.proofs.Ending.{Resting, ends_at_rest, ends_so}
@@ -19,6 +20,10 @@ use Rattle.run_lists.proofs.Names.{behind_hides, hides, scratch_more}
 use Rattle.run_lists.proofs.OneRun.{answered, atomic, idle_end, idle_moment, more_orderly, now_hides, now_orderly, orderly_at, safe, settled_on}
 
 -- ---- the order
+
+-- a tree that is synced is what a crash leaves of it
+as_crash : Facts → (w : TreeState) → IsAllSynced w → IsCrashOf w w
+as_crash facts w synced = record { left = facts.read_left w; one_map = synced.one_map; synced = synced.files }
 
 abbrev InOrder : Ignored → TreeState → Type 0
 InOrder names w = IsOrderly (RestsOn names) w
@@ -43,6 +48,7 @@ module _ (facts : Facts) (start : Ignored) (off : start intent_name ≡ false) w
       orderly_at facts names v run is_run hidden orderly
       (is_run.crash (ignored_in run names) (now_orderly facts names v run is_run hidden orderly) (now_hides facts names v run is_run hidden orderly)) w moment
   led_orderly Crashes earlier v w orderly crash = facts.crash_orderly nothing_ignored v w crash
+  led_orderly Edits earlier v w orderly synced = facts.crash_orderly nothing_ignored w w (as_crash facts w synced)
 
   pub seen_orderly : (first v : TreeState) (events : List Event) → IsOrderly (RestsOn start) first → HasSeen first events v → IsOrderly (RestsOn (ignored_behind start events)) v
   seen_orderly first v [] orderly is = subst (IsOrderly (RestsOn start)) (sym is) orderly
@@ -121,6 +127,7 @@ module _ (facts : Facts) (start : Ignored) (off : start intent_name ≡ false) (
       made_one facts (ignored_behind start earlier) v run is_run (behind_hides start off earlier) orderly w ends makes
   led_made (Stops run) earlier v w orderly makes leads = absurd makes
   led_made Crashes earlier v w orderly makes crash = facts.crash_settled nothing_ignored v w crash
+  led_made Edits earlier v w orderly makes synced = facts.crash_settled nothing_ignored w w (as_crash facts w synced)
 
   led_kept : (event : Event) (earlier : List Event) (v w : TreeState) → IsOrderly (RestsOn (ignored_behind start earlier)) v → IsSettled (ignored_behind start earlier) (files_of v) v → KeepsOneState v event → LeadsOn v event w
       → IsSettled (ignored_behind start (event ∷ earlier)) (files_of w) w
@@ -129,6 +136,7 @@ module _ (facts : Facts) (start : Ignored) (off : start intent_name ≡ false) (
   led_kept (Stops run) earlier v w orderly one keeps (is_run, moment) =
       stopped_one facts (ignored_behind start earlier) v run is_run (behind_hides start off earlier) orderly w one moment keeps
   led_kept Crashes earlier v w orderly one keeps crash = facts.crash_settled nothing_ignored v w crash
+  led_kept Edits earlier v w orderly one keeps synced = facts.crash_settled nothing_ignored w w (as_crash facts w synced)
 
   order_of : (v : TreeState) (events : List Event) → HasSeen first events v → IsOrderly (RestsOn (ignored_behind start events)) v
   order_of v events seen = seen_orderly facts start off first v events rest.orderly seen

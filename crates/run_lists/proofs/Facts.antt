@@ -7,9 +7,9 @@ use Rattle.base_core.specs.Restart.{IsCrashOf}
 use Rattle.base_core.specs.Tree.{TreeState, files_of}
 use Rattle.journal_core.specs.Recovery.{IsSettled, RestsOn}
 use Rattle.journal_core.specs.Replacing.{IsReplacing}
-use Rattle.outcome.specs.Commands.{IsOutcome}
 use Rattle.outcome.specs.Effect.{Makes, effect_by, output}
 use Rattle.outcome.specs.Outcome.{Outcome}
+use Rattle.outcome.specs.Words.{IsOutcome}
 use Rattle.words_core.specs.Grammar.{command_of}
 
 abbrev pub Ignored : Type 0

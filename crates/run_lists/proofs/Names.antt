@@ -11,7 +11,7 @@ use Rattle.command_core.specs.Command.{CommandLine}
 use Rattle.journal_core.specs.Recovery.{intent_name}
 use Rattle.journal_core.specs.Replacing.{scratch_of}
 use Rattle.outcome.specs.Effect.{Effect, Computes, Reads, Tells, Makes, Changes, does_only_read, effect_by, effect_of, output, output_by, output_if, reads_only}
-use Rattle.run_lists.specs.Events.{Crashes, Ends, Event, HasNoPendingOutput, Run, Stops, ignored_behind, ignored_by, nothing_ignored, with_scratch}
+use Rattle.run_lists.specs.Events.{Crashes, Edits, Ends, Event, HasNoPendingOutput, Run, Stops, ignored_behind, ignored_by, nothing_ignored, with_scratch}
 use Rattle.run_lists.proofs.Facts.{AreMore, Ignored}
 
 -- ---- the intent is never ignored
@@ -75,6 +75,7 @@ behind_hides ignored off [] = off
 behind_hides ignored off (Ends run ∷ earlier) = by_hides run.answer run (ignored_behind ignored earlier) (behind_hides ignored off earlier)
 behind_hides ignored off (Stops run ∷ earlier) = scratch_hides (output run.words) (ignored_behind ignored earlier) (behind_hides ignored off earlier)
 behind_hides ignored off (Crashes ∷ earlier) = refl
+behind_hides ignored off (Edits ∷ earlier) = refl
 
 -- ---- more and fewer
 
@@ -124,6 +125,7 @@ none_ignored [] q written = refl
 none_ignored (Ends run ∷ earlier) q (fault, before) = by_off run.answer run (ignored_behind nothing_ignored earlier) q fault (none_ignored earlier q before)
 none_ignored (Stops run ∷ earlier) q (none, before) = scratch_off (output run.words) (ignored_behind nothing_ignored earlier) q none (none_ignored earlier q before)
 none_ignored (Crashes ∷ earlier) q written = refl
+none_ignored (Edits ∷ earlier) q written = refl
 
 -- ---- commands with an output make
 

@@ -1,4 +1,4 @@
--- What a root may see: runs, stops and crashes, and lists of them.
+-- What a root may see: runs, stops, crashes and changes by others, and lists of them.
 use Rattle.std.specs.Prelude.{◌≡◌, ◌≢◌, ◌⊎◌, ◌++◌, ◌||◌, ℕ, Bool, true, false, List, [], ◌∷◌, Option, Some, None, Contains, is_some}
 use Rattle.std.specs.Str.{bytes_eq}
 use Rattle.apk_front.specs.Answers.{IsAnswerTo, LeavesFiles}
@@ -14,9 +14,9 @@ use Rattle.base_core.specs.Tree.{TreeState, files_of}
 use Rattle.journal_core.specs.Quiet.{IsStill}
 use Rattle.journal_core.specs.Recovery.{RestsOn}
 use Rattle.journal_core.specs.Replacing.{scratch_of}
-use Rattle.outcome.specs.Commands.{IsOutcome}
 use Rattle.outcome.specs.Effect.{effect_by, output}
 use Rattle.outcome.specs.Outcome.{Outcome}
+use Rattle.outcome.specs.Words.{IsOutcome}
 use Rattle.words_core.specs.Grammar.{command_of}
 
 -- ---- a run
@@ -75,17 +75,25 @@ IsMomentOf run m =
 -- ---- what a root sees
 
 -- a run that ends, a run that is stopped at one of its moments, and a crash; where a crash cuts off
--- a run, that is stopped and then the crash comes
+-- a run, that is stopped and then the crash comes; and others change files while nothing runs
 pub data Event : Type 0 where
   Ends : Run → Event
   Stops : Run → Event
   Crashes : Event
+  Edits : Event
+
+-- a crash leaves just the files as read
+pub record IsAllSynced (v : TreeState) : Type 0 where
+  pub one_map : v.older ≡ []
+  pub files : (q : List ℕ) (n : ℕ) → v.names q ≡ Some n → (v.files n).synced ≡ true
 
 -- an event finds a tree in the state v, and leaves it in the state w
 abbrev pub LeadsOn : TreeState → Event → TreeState → Type 0
 LeadsOn v (Ends run) w = IsRunFrom v run × HasNow run.now (λ u. u ≡ w)
 LeadsOn v (Stops run) w = IsRunFrom v run × IsMomentOf run w
 LeadsOn v Crashes w = IsCrashOf v w
+-- to whatever they made of it, once it is synced
+LeadsOn v Edits w = IsAllSynced w
 
 -- a root that was in the state `first` has seen these events, the newest first, and is in state w
 abbrev pub HasSeen : TreeState → List Event → TreeState → Type 0
@@ -107,6 +115,7 @@ abbrev pub IsIdle : TreeState → Event → Type 0
 IsIdle v (Ends run) = IsIdleRun v run
 IsIdle v (Stops run) = IsIdleRun v run
 IsIdle v Crashes = Unit {0}
+IsIdle v Edits = ⊥
 
 -- a root has seen events, and none committed anything
 abbrev pub HasSeenIdly : TreeState → List Event → TreeState → Type 0
@@ -116,7 +125,7 @@ HasSeenIdly first (event ∷ earlier) w =
 
 -- ---- where a crash leaves one state
 
--- Behind the event each crash leaves one state: it is a crash; or a run that answers its outcome, and
+-- Behind the event each crash leaves one state: it is no run; or a run that answers its outcome, and
 -- this commits, or the run has no output and found an intent.
 abbrev pub MakesOneState : TreeState → Event → Type 0
 MakesOneState v (Ends run) =
@@ -125,12 +134,14 @@ MakesOneState v (Ends run) =
     ⊎ ((output run.words ≡ None) × CanRecover (effect_by (command_of run.words)) v))
 MakesOneState v (Stops run) = ⊥
 MakesOneState v Crashes = Unit {0}
+MakesOneState v Edits = Unit {0}
 
 -- it does so where it did before: the run commits nothing, or ends, and not by a fault of the tree
 abbrev pub KeepsOneState : TreeState → Event → Type 0
 KeepsOneState v (Ends run) = (run.answer ≢ TreeFault) ⊎ IsIdleRun v run
 KeepsOneState v (Stops run) = IsIdleRun v run
 KeepsOneState v Crashes = Unit {0}
+KeepsOneState v Edits = Unit {0}
 
 -- a root has seen events, and each crash leaves one state: an event made it so, or it was so at
 -- first, and those behind it kept it
@@ -164,15 +175,16 @@ ignored_by TreeFault run ignored = ignored_in run ignored
 ignored_by other run ignored = ignored
 
 -- Those that are ignored behind a list: a run with an output adds its scratch name where it is stopped
--- or the tree fails; the name counts again once the output is written, or after a crash.
+-- or the tree fails; the name counts again once the output is written, or all was synced.
 abbrev pub ignored_behind : (List ℕ → Bool) → List Event → List ℕ → Bool
 ignored_behind ignored [] = ignored
 ignored_behind ignored (Ends run ∷ earlier) =
     ignored_by run.answer run (ignored_behind ignored earlier)
 ignored_behind ignored (Stops run ∷ earlier) = ignored_in run (ignored_behind ignored earlier)
 ignored_behind ignored (Crashes ∷ earlier) = nothing_ignored
+ignored_behind ignored (Edits ∷ earlier) = nothing_ignored
 
--- since the last crash no run with an output was stopped, or ended by a fault of the tree
+-- since all was synced no run with an output was stopped, or ended by a fault of the tree
 abbrev pub HasNoPendingOutput : List Event → Type 0
 HasNoPendingOutput [] = Unit {0}
 HasNoPendingOutput (Ends run ∷ earlier) =
@@ -180,3 +192,4 @@ HasNoPendingOutput (Ends run ∷ earlier) =
 HasNoPendingOutput (Stops run ∷ earlier) =
     (output run.words ≡ None) × HasNoPendingOutput earlier
 HasNoPendingOutput (Crashes ∷ earlier) = Unit {0}
+HasNoPendingOutput (Edits ∷ earlier) = Unit {0}

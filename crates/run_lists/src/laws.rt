@@ -21,9 +21,10 @@ use outcome::{
     a_command_that_reads_leaves_the_files, an_outcome_is_unique,
 };
 
-/// Whatever list of runs, stops and crashes a root has seen from an orderly tree on: a run, ended
-/// or stopped at any moment, recovers to a state from before it or to that of its outcome's files,
-/// and to the latter once the outcome was answered. Where the root had one state, these are two.
+/// Whatever list of runs, stops, crashes and changes by others a root has seen from an orderly tree
+/// on: a run, ended or stopped at any moment, recovers to a state from before it or to that of its
+/// outcome's files, and to the latter once the outcome was answered. Where the root had one state,
+/// these are two.
 ///
 /// `ignored` are names that are left out of account from the start, as scratch names of outputs; on
 /// an ordinary root there are none.
@@ -52,7 +53,8 @@ pub fn whatever_a_root_has_seen_a_run_is_safe()
 
     // Each crash leaves one state, that of the files as read, if it did so at the start, until a
     // run that commits is stopped, or ends by a fault of the tree; and it does so again behind a
-    // crash, a commit that was answered, or a change of which the rest was found and done.
+    // crash, a change by others that is synced, a commit that was answered, or one of which the rest
+    // was found and done.
     ensures one_state { (ignored : List ℕ → Bool) (first v : TreeState) (events : List Event)
         → ignored intent_name ≡ false → IsAtRest ignored (files_of first) first
         → HasSeenToOneState first events v

@@ -119,7 +119,7 @@ applet_word Demo = codes "demo"
 abbrev pub applets : List Applet
 applets =
     Add ∷ (Del ∷ (Upgrade ∷ (Fix ∷ (Info ∷
-    (Verify ∷ (Version ∷ (Adbdump ∷ (Mkpkg ∷ (Mkndx ∷ [])))))))))
+    (Verify ∷ (Version ∷ (Adbdump ∷ (Mkpkg ∷ (Mkndx ∷ (Demo ∷ []))))))))))
 
 -- the applet that a word names, among those that exist
 abbrev pub applet_of : List ℕ → Option Applet

@@ -35,7 +35,7 @@ pub(crate) enum Meaning {
 }
 
 // The applets that exist.
-const APPLETS: [Applet; 10] = [
+const APPLETS: [Applet; 11] = [
     Applet::Add,
     Applet::Del,
     Applet::Upgrade,
@@ -46,6 +46,7 @@ const APPLETS: [Applet; 10] = [
     Applet::Adbdump,
     Applet::Mkpkg,
     Applet::Mkndx,
+    Applet::Demo,
 ];
 
 // The words of the options that may stand before the applet.
