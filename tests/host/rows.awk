@@ -1,6 +1,6 @@
 # Reads the text of rows (tests/rows.md) and writes shell commands for tests/host/rows, which run those that speak of files
-# alone. A row that says `in memory`, in which something goes wrong by a planned fault, or that begins with a container made
-# of a dump text, is passed over, and so is each that begins with such a row.
+# alone. A row that says `in memory`, or in which something goes wrong by a planned fault, is passed over, and so is each
+# that begins with such a row. The container of a dump text is made by tests/host/containers.awk, which is read beside this.
 
 # What a text is between quotes of the shell.
 function quoted(text) {
@@ -36,6 +36,7 @@ function escapes(digits,    text, i, high, low) {
 
 # Commands that print a line of a file by its form.
 function print_line(form, line,    commands, groups, count, i, at) {
+    if (form == "dump" && target == "given") { dump[++dump_lines] = line; return "" }
     if (form != "hex") return "printf '%s\\n' " quoted(line) "\n"
     commands = ""
     count = split(line, groups, " ")
@@ -49,6 +50,7 @@ function print_line(form, line,    commands, groups, count, i, at) {
 
 # Ends the text that is read: its commands print it into a file.
 function end_text() {
+    if (target == "given" && form == "dump") text = "printf '" escapes(container()) "'\n"
     if (target == "given") row = row "{\n:\n" text "} >\"$content\"\ngiven " quoted(path) "\n"
     if (target == "then") wanted = wanted "{\n:\n" text "} >\"$content\"\n" (form == "dump" ? "then_dump " : "then_file ") quoted(path) "\n"
     target = ""; text = ""
@@ -113,8 +115,7 @@ $1 == "from" {
 }
 $1 == "file" {
     end_text()
-    path = $2; form = $3; target = "given"
-    if (form == "dump") skipped = 1
+    path = $2; form = $3; target = "given"; dump_lines = 0
     next
 }
 $1 == "then" {
@@ -125,12 +126,13 @@ $1 == "then" {
     next
 }
 $1 == "status" { end_text(); status = $2; next }
-$1 == "names" || $1 == "calls" || $1 == "writes" { end_text(); next }
+$1 == "names" || $1 == "calls" || $1 == "writes" || $1 == "reads" { end_text(); next }
 
 $1 == "in" && $2 == "memory" { end_text(); skipped = 1; next }
 
-# Each call in turn is left to the tree in memory: here the command line is run once, without a fault.
+# Each call or byte in turn is left to the tree in memory: here the command line is run once, without a fault.
 ($1 == "fail" || $1 == "stop") && $2 == "each" { end_command(); next }
+($1 == "out" || $1 == "err") && $2 == "ends" && $4 == "each" { end_command(); next }
 $1 == "fail" || $1 == "out" || $1 == "err" { end_command(); skipped = 1; next }
 
 { print "echo 'tests/host/rows: line " NR " is no line of rows' >&2; exit 1" }

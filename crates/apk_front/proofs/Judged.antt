@@ -14,14 +14,14 @@ use Rattle.words_core.specs.Grammar.{command_of}
 use Rattle.words_core.specs.declared.read.WordsFault.{WordsFault}
 use Rattle.words_core.specs.declared.read.WordsFault.TheVariants.{Usage as WrongWord}
 use Rattle.command_core.specs.declared.command.Applet.{Applet}
-use Rattle.command_core.specs.declared.command.Applet.TheVariants.{Add, Del, Mkpkg, Version}
+use Rattle.command_core.specs.declared.command.Applet.TheVariants.{Mkpkg, Version}
 use Rattle.command_core.specs.declared.command.Flags.{Flags}
 use Rattle.command_core.specs.declared.operands.Operand.{Operand}
 use Rattle.make_info.specs.Reads.{Reads}
 use Rattle.outcome.specs.Outcome.{Outcome, just_refusal}
 use Rattle.outcome.specs.Version.{version}
 use Rattle.outcome.specs.Commands.{IsFoundOutcome, IsFoundOutcomeOf, IsOutcome, IsOutcomeOf, IsOutcomeOver, IsOutcomeUnless, reads_in, applet_outcome, command_outcome}
-use Rattle.outcome.specs.Given.{IsChosenFor, IsClashOfApplet, IsGiven, IsListingFor, MayBeGiven, MayBeListedFor, MayClash, nothing_given}
+use Rattle.outcome.specs.Given.{IsChosenFor, IsClashBy, IsGiven, IsListingFor, MayBeGiven, MayBeListedFor, MayClash, nothing_given}
 use Rattle.outcome.specs.Effect.{Effect, Computes, Reads as OnlyReads, Tells, Makes, Changes, does_only_read, does_recover, does_rest_on_words, effect_by, effect_of, output, rests_on_words}
 use Rattle.outcome.specs.Work.{recovery_fault, work_files}
 use Rattle.base_core.specs.declared.cause.Cause.{Cause}
@@ -47,33 +47,30 @@ no_listing_by_some : (applet : Applet) (command : CommandLine) → does_only_rea
 no_listing_by_some Mkpkg command reads = cc
 no_listing_by_some other command reads = refl
 
-no_choice : (applet : Applet) (command : CommandLine) (read : Reads) → does_only_read (effect_of applet) ≡ true → IsChosenFor applet command read None
-no_choice Add command read reads = cc
-no_choice Del command read reads = cc
+no_choice : (effect : Effect) (command : CommandLine) (read : Reads) → does_only_read effect ≡ true → IsChosenFor effect command read None
+no_choice Changes command read reads = cc
 no_choice other command read reads = refl
 
-no_clash : (applet : Applet) (command : CommandLine) (read : Reads) (files : Files) → does_only_read (effect_of applet) ≡ true → IsClashOfApplet applet command read files None None
-no_clash Add command read files reads = cc
-no_clash Del command read files reads = cc
+no_clash : (effect : Effect) (command : CommandLine) (read : Reads) (files : Files) → does_only_read effect ≡ true → IsClashBy effect command read files None None
+no_clash Changes command read files reads = cc
 no_clash other command read files reads = refl
 
-no_clash_by_some : (applet : Applet) → does_only_read (effect_of applet) ≡ true → MayClash applet None
-no_clash_by_some Add reads = cc
-no_clash_by_some Del reads = cc
+no_clash_by_some : (effect : Effect) → does_only_read effect ≡ true → MayClash effect None
+no_clash_by_some Changes reads = cc
 no_clash_by_some other reads = refl
 
 pub none_given : (command : CommandLine) (read : Reads) (files : Files) → does_only_read (effect_of command.applet) ≡ true → IsGiven command read files nothing_given
 none_given command read files reads = record {
   names = no_listing command.applet command files reads;
-  chosen = no_choice command.applet command read reads;
-  clash = no_clash command.applet command read files reads;
+  chosen = no_choice (effect_of command.applet) command read reads;
+  clash = no_clash (effect_of command.applet) command read files reads;
 }
 
 pub none_by_some : (command : CommandLine) (read : Reads) → does_only_read (effect_of command.applet) ≡ true → MayBeGiven command read nothing_given
 none_by_some command read reads = record {
   names = no_listing_by_some command.applet command reads;
-  chosen = no_choice command.applet command read reads;
-  clash = no_clash_by_some command.applet reads;
+  chosen = no_choice (effect_of command.applet) command read reads;
+  clash = no_clash_by_some (effect_of command.applet) reads;
 }
 
 words_read : (effect : Effect) → does_rest_on_words effect ≡ true → does_only_read effect ≡ true

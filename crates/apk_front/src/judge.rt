@@ -17,6 +17,7 @@ ghost use Rattle.words_core.specs.Grammar.{command_of};
 
 use crate::answer::Verdict;
 use crate::dump::adbdump;
+use crate::effect::{Access, applet_access};
 use crate::recovered::recover_and_run;
 use crate::verify::verify;
 use crate::version::version;
@@ -95,11 +96,9 @@ fn run<T: Tree>(alloc: Global, command: &Command, tree: &mut T) -> Result<Verdic
         (IsOutcomeOf (Ok command.now) (files_of v)) (files_of v)
         → (T.counts tree.new).misuses ≡ (T.counts tree.old).misuses) }
 {
-    match command.applet() {
-        Applet::Mkpkg | Applet::Mkndx | Applet::Add | Applet::Del => {
-            recover_and_run(alloc, command, tree)
-        }
-        _ => look(alloc, command, tree),
+    match applet_access(command.applet()) {
+        Access::Write => recover_and_run(alloc, command, tree),
+        Access::Read => look(alloc, command, tree),
     }
 }
 
@@ -129,7 +128,7 @@ fn look<T: Tree>(alloc: Global, command: &Command, tree: &mut T) -> Result<Verdi
             Ok(verdict)
         }
         Applet::Adbdump => adbdump(alloc, command.operands(), tree),
-        // No word names another applet yet.
+        // No word names `demo` yet.
         _ => Ok(Verdict::empty(alloc)),
     }
 }

@@ -13,6 +13,7 @@ mod change;
 mod dump;
 mod effect;
 mod front;
+mod info;
 mod judge;
 mod laws;
 mod make;

@@ -101,7 +101,8 @@ bytes_if true bytes = Some bytes
 bytes_if false bytes = None
 
 -- what of them is written
-pub record AreRecordWrites (inputs : Inputs) (records : NewRecords) (writes : RecordWrites) : Type 0 where
+pub record AreRecordWrites (inputs : Inputs) (records : NewRecords) (writes : RecordWrites)
+    : Type 0 where
   pub database_name : writes.database_name.now ≡ records.database_name
   pub database : option_copied writes.database
       ≡ bytes_if (is_other_file inputs.root.database.file records.database.items) records.database.items

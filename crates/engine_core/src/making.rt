@@ -32,8 +32,8 @@ use std::alloc::Global;
 ///
 /// # Errors
 ///
-/// `PackageMissing`, `PackageBad`, `PackageDiffers` and `ScriptNeeded` of the first package that has
-/// one; `Reserved`, `PathClash`, `Owned`; then those of `finish_change`.
+/// `PackageMissing`, `PackageBad`, `PackageDiffers` and `ScriptNeeded` of the first package that
+/// has one; `Reserved`, `PathClash`, `Owned`; then those of `finish_change`.
 pub(crate) fn make_change<T: Tree>(
     alloc: Global,
     command: &Command,
@@ -79,11 +79,13 @@ fn change_members<'a, 'm, T: Tree>(
     arrivals: &'m Arrivals,
     tree: &mut T,
 ) -> Result<Text, Refused>
-    requires members { CanBeMembers (packages_of selection.now.db.now) (arrivals_seen arrivals.now) }
+    requires members { CanBeMembers (packages_of selection.now.db.now)
+        (arrivals_seen arrivals.now) }
     requires read { (found : List MemberFound)
         × AreArrivals (T.history tree.old) selection.now names.now arrivals.now found }
     ensures run { (found : List MemberFound) (read : Reads)
-        → AreArrivals (T.history tree.old) selection.entry.now names.entry.now arrivals.entry.now found
+        → AreArrivals (T.history tree.old) selection.entry.now names.entry.now arrivals.entry.now
+        found
         → IsMembersRun (inputs_of_selection selection.entry.now)
         (replacement_seen selection.entry.now) (wishes_of command.now) read found
         (T.history tree.old) (T.history tree.new) (T.counts tree.old) (T.counts tree.new) result }

@@ -19,12 +19,12 @@ use Rattle.command_core.specs.declared.values.TheConstants.{FILES}
 use Rattle.command_core.specs.Files.{without_dot}
 use Rattle.words_core.specs.Grammar.{command_of}
 use Rattle.command_core.specs.declared.command.Applet.{Applet}
-use Rattle.command_core.specs.declared.command.Applet.TheVariants.{Add, Del, Mkpkg}
+use Rattle.command_core.specs.declared.command.Applet.TheVariants.{Mkpkg}
 use Rattle.command_core.specs.declared.values.OptionValue.{OptionValue}
 use Rattle.make_package.specs.Sources.{values_with}
 use Rattle.outcome.proofs.Clashes.{HaveClash, HaveOneClash, clash_exists, clash_one}
 use Rattle.outcome.proofs.Recovered.{unstaged_within}
-use Rattle.outcome.specs.Given.{Given, IsChosenFor, IsClashOfApplet, IsGiven, IsListingFor}
+use Rattle.outcome.specs.Given.{Given, IsChosenFor, IsClashBy, IsGiven, IsListingFor}
 use Rattle.outcome.specs.Commands.{IsOutcome, IsOutcomeOf, IsOutcomeOver, IsOutcomeUnless, reads_in, command_outcome}
 use Rattle.outcome.specs.Effect.{Effect, Computes, Reads as OnlyReads, Tells, Makes, Changes, effect_of}
 use Rattle.outcome.specs.Make.{IsListing, files_below}
@@ -68,21 +68,19 @@ HaveChoice = (pool : Result SealedPool Refusal) → (chosen : Option (List ℕ))
 abbrev pub HaveOneChoice : Type 0
 HaveOneChoice = (pool : Result SealedPool Refusal) (a b : Option (List ℕ)) → IsChoiceFrom pool a → IsChoiceFrom pool b → a ≡ b
 
-chosen_exists : HaveChoice → (applet : Applet) (command : CommandLine) (read : Reads) → (chosen : Option (List ℕ)) × IsChosenFor applet command read chosen
-chosen_exists choose Add command read = choose (pool_for command read)
-chosen_exists choose Del command read = choose (pool_for command read)
+chosen_exists : HaveChoice → (effect : Effect) (command : CommandLine) (read : Reads) → (chosen : Option (List ℕ)) × IsChosenFor effect command read chosen
+chosen_exists choose Changes command read = choose (pool_for command read)
 chosen_exists choose other command read = (None, refl)
 
-chosen_one : HaveOneChoice → (applet : Applet) (command : CommandLine) (read : Reads) (a b : Option (List ℕ)) → IsChosenFor applet command read a → IsChosenFor applet command read b → a ≡ b
-chosen_one one Add command read a b x y = one (pool_for command read) a b x y
-chosen_one one Del command read a b x y = one (pool_for command read) a b x y
+chosen_one : HaveOneChoice → (effect : Effect) (command : CommandLine) (read : Reads) (a b : Option (List ℕ)) → IsChosenFor effect command read a → IsChosenFor effect command read b → a ≡ b
+chosen_one one Changes command read a b x y = one (pool_for command read) a b x y
 chosen_one one other command read a b x y = x ∙ sym y
 
 given_exists : HaveList → HaveChoice → HaveClash → (command : CommandLine) (read : Reads) (files : Files) (within : List (List ℕ)) → IsWithin within files → (given : Given) × IsGiven command read files given
 given_exists have choose clashes command read files within finite =
     let (names, listed) = names_exist have command.applet command files within finite in
-    let (chosen, choice) = chosen_exists choose command.applet command read in
-    let (clash, first) = clash_exists clashes command.applet command read files within chosen finite in
+    let (chosen, choice) = chosen_exists choose (effect_of command.applet) command read in
+    let (clash, first) = clash_exists clashes (effect_of command.applet) command read files within chosen finite in
     (record { names = names; chosen = chosen; clash = clash }, record { names = listed; chosen = choice; clash = first })
 
 outcome_unless : HaveList → HaveChoice → HaveClash → (fault : Option Cause) (command : CommandLine) (files : Files) (within : List (List ℕ)) → IsWithin within files → (o : Outcome) × IsOutcomeUnless fault command files o
@@ -111,9 +109,9 @@ names_one one other command files a b x y = x ∙ sym y
 given_one : HaveOneList → HaveOneChoice → HaveOneClash → (command : CommandLine) (read : Reads) (files : Files) (a b : Given) → IsGiven command read files a → IsGiven command read files b → a ≡ b
 given_one one choice clashes command read files a b x y =
     let names : a.names ≡ b.names = names_one one command.applet command files a.names b.names x.names y.names in
-    let chosen : a.chosen ≡ b.chosen = chosen_one choice command.applet command read a.chosen b.chosen x.chosen y.chosen in
-    let clash : a.clash ≡ b.clash = clash_one clashes command.applet command read files a.chosen a.clash b.clash x.clash
-    (subst (λ (c : Option (List ℕ)). IsClashOfApplet command.applet command read files c b.clash) (sym chosen) y.clash) in
+    let chosen : a.chosen ≡ b.chosen = chosen_one choice (effect_of command.applet) command read a.chosen b.chosen x.chosen y.chosen in
+    let clash : a.clash ≡ b.clash = clash_one clashes (effect_of command.applet) command read files a.chosen a.clash b.clash x.clash
+    (subst (λ (c : Option (List ℕ)). IsClashBy (effect_of command.applet) command read files c b.clash) (sym chosen) y.clash) in
     λ i. record { names = names i; chosen = chosen i; clash = clash i }
 
 pub over_one : HaveOneList → HaveOneChoice → HaveOneClash → (command : CommandLine) (files : Files) (a b : Outcome) → IsOutcomeOver command files a → IsOutcomeOver command files b → a ≡ b

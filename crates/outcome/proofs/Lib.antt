@@ -1,6 +1,7 @@
 pub mod Clashes
 pub mod Listings
 pub mod Recovered
+pub mod Applets
 pub mod Existing
 pub mod MadeSound
 pub mod Commits

@@ -11,7 +11,7 @@ use Rattle.report_core.specs.declared.refusal.Refusal.TheVariants.{IntentBad, Pa
 use Rattle.command_core.specs.Command.{CommandLine}
 use Rattle.words_core.specs.Grammar.{command_of}
 use Rattle.command_core.specs.declared.command.Applet.{Applet}
-use Rattle.command_core.specs.declared.command.Applet.TheVariants.{Adbdump, Add, Del, Mkndx, Mkpkg, Verify, Version}
+use Rattle.command_core.specs.declared.command.Applet.TheVariants.{Adbdump, Demo, Info, Mkndx, Mkpkg, Verify, Version}
 use Rattle.engine_core.specs.ChangeRun.{selected_in}
 use Rattle.engine_core.specs.Changed.{selected_for}
 use Rattle.outcome.specs.Changing.{change}
@@ -20,6 +20,7 @@ use Rattle.outcome.specs.Effect.{Changes, does_recover, effect_of}
 use Rattle.outcome.specs.Given.{Given, IsGiven, MayBeGiven}
 use Rattle.outcome.specs.Make.{mkndx, mkpkg}
 use Rattle.outcome.specs.Outcome.{Outcome, just_refusal, just_report}
+use Rattle.outcome.specs.Telling.{info}
 use Rattle.outcome.specs.Verify.{verify}
 use Rattle.outcome.specs.Version.{version}
 use Rattle.outcome.specs.Work.{recovery_fault, work_files}
@@ -33,10 +34,12 @@ applet_outcome Version command given read files = version files command.flags co
 applet_outcome Adbdump command given read files = adbdump read files command.operands
 applet_outcome Mkpkg command given read files = mkpkg read files command given.names
 applet_outcome Mkndx command given read files = mkndx read files command
-applet_outcome Add command given read files = change read files command given.chosen given.clash
-applet_outcome Del command given read files = change read files command given.chosen given.clash
--- no word names another applet yet
-applet_outcome other command given read files = just_report files []
+applet_outcome Info command given read files = info read files command
+-- no word names it yet
+applet_outcome Demo command given read files = just_report files []
+-- `add`, `del`, `upgrade` and `fix`
+applet_outcome other command given read files =
+    change read files command given.chosen given.clash
 
 abbrev pub command_outcome : CommandLine → Given → Reads → Files → Outcome
 command_outcome command given read files =

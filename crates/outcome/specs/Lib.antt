@@ -7,6 +7,7 @@ pub mod Version
 pub mod Verify
 pub mod Dump
 pub mod Make
+pub mod Telling
 pub mod Changing
 pub mod Given
 -- what only inner contracts and proofs use

@@ -3,7 +3,7 @@
 //!
 //! It is a crate of definitions. `Outcome` of `specs/` says what a command comes to, `Commands`
 //! what a command line comes to, `Effect` what it looks at and changes, and `Version`, `Verify`,
-//! `Dump`, `Make` and `Changing` what each command comes to; `Given` says what no function computes
+//! `Dump`, `Make`, `Telling` and `Changing` what each command comes to; `Given` says what no function computes
 //! of it, and `Sound` when a file is a sound container. The functions are laws: they do nothing, and
 //! their contracts say what follows from the definitions, for all words and files.
 #![tactic(auto)]
@@ -15,7 +15,7 @@ ghost use Rattle.base_core.specs.Tree.{IsWhole, TreeState, files_of};
 ghost use Rattle.command_core.specs.Command.{CommandLine};
 ghost use Rattle.journal_core.specs.Staged.{HasRoomToReplay, HasRoomToStage};
 ghost use Rattle.outcome.specs.Commands.{IsOutcome, IsOutcomeOver};
-ghost use Rattle.outcome.specs.Effect.{Changes, Makes, effect_by, output, reads_only, rests_on_words};
+ghost use Rattle.outcome.specs.Effect.{Changes, Makes, Tells, effect_by, output, reads_only, rests_on_words};
 ghost use Rattle.outcome.specs.Make.{files_below};
 ghost use Rattle.outcome.specs.Outcome.{Outcome, outcome_of};
 ghost use Rattle.outcome.specs.Sound.{IsSoundAt};
@@ -71,6 +71,16 @@ pub fn a_command_that_reads_leaves_the_files()
         → o.commits ≡ false }
 {}
 
+/// A command that recovers and then only reads commits nothing, and leaves the files that a recovery
+/// leaves; or the old ones, where it cannot recover.
+pub fn a_command_that_tells_leaves_the_files()
+    ensures files { (words : List (List ℕ)) (files : Files) (o : Outcome)
+        → effect_by (command_of words) ≡ Tells → IsOutcome words files o
+        → (o.files ≡ files) ⊎ (o.files ≡ work_files Tells files) }
+    ensures commits { (words : List (List ℕ)) (files : Files) (o : Outcome)
+        → effect_by (command_of words) ≡ Tells → IsOutcome words files o → o.commits ≡ false }
+{}
+
 /// A command that makes a file commits exactly where it is not refused.
 pub fn a_command_that_makes_commits_unless_refused()
     ensures { (words : List (List ℕ)) (files : Files) (o : Outcome)
@@ -84,6 +94,7 @@ pub fn a_refusal_commits_nothing()
         → IsOutcome words files o → IsSome o.refusal → o.commits ≡ false }
 {
     a_command_that_reads_leaves_the_files();
+    a_command_that_tells_leaves_the_files();
     a_command_that_makes_commits_unless_refused();
 }
 

@@ -1,6 +1,7 @@
 //! What is seen of a run, beside what is wanted.
 use crate::differences::{RowFault, compare, compare_numbers, differs};
 use crate::program::{Program, Run};
+use crate::recovery::images_of;
 use crate::start::{are_alike, bytes_of};
 use base_core::Name;
 use row_text::{NamedFile, Step};
@@ -38,6 +39,12 @@ fn check_counts(alloc: Global, step: &Step, run: &Run) -> Result<(), RowFault> {
     }
     if let Some(writes) = step.writes {
         compare_numbers(alloc, line, b"writing calls", run.tree.writes(), writes)?;
+    }
+    if let Some(most) = step.reads
+        && run.tree.longest_read() > most
+    {
+        let found = run.tree.longest_read();
+        compare_numbers(alloc, line, b"bytes of a reading call", found, most)?;
     }
     if run.tree.wants() != 0 || run.out.wants() != 0 || run.err.wants() != 0 {
         return Err(RowFault::Memory);
@@ -128,16 +135,11 @@ fn check_names(alloc: Global, step: &Step, tree: &MemoryTree) -> Result<(), RowF
     Ok(())
 }
 
-/// Each image that a crash may leave of a tree has the files of another.
-pub fn check_images(
-    alloc: Global,
-    step: &Step,
-    tree: &MemoryTree,
-    wanted: &MemoryTree,
-) -> Result<(), RowFault> {
-    for choice in 0..tree.maps().saturating_mul(3) {
+/// Each image that a crash may leave of a tree has its files.
+pub fn check_images(alloc: Global, step: &Step, tree: &MemoryTree) -> Result<(), RowFault> {
+    for choice in 0..images_of(tree) {
         let image = tree.pick_image(alloc, choice)?;
-        if !are_alike(alloc, &image, wanted)? {
+        if !are_alike(alloc, &image, tree)? {
             let what: &[u8] = b"a crash behind the run leaves other files";
             return Err(differs(alloc, step.line, &[what]));
         }

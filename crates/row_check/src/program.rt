@@ -15,6 +15,9 @@ pub trait Program {
         err: &mut MemorySink,
     ) -> u8;
 
+    /// Finishes what a run that was stopped left undone. Answers false where that failed.
+    fn recover(&self, alloc: Global, tree: &mut MemoryTree) -> bool;
+
     /// The container of a dump text, or None where the text is none.
     fn container_of(&self, alloc: Global, text: &[u8]) -> Result<Option<Vec<u8>>, AllocError>;
 }

@@ -73,7 +73,7 @@ pub fn copy_of(alloc: Global, tree: &MemoryTree) -> Result<MemoryTree, AllocErro
     tree.pick_image(alloc, tree.maps().saturating_sub(1))
 }
 
-/// Whether a name is one under which a file is made before it is moved to its place.
+/// Whether a name is one under which an output is made before it is moved to its place.
 fn is_scratch(name: &Name) -> bool {
     name.as_bytes().ends_with(b".apk-tmp")
 }

@@ -1,9 +1,24 @@
 //! A row, and one command line over a tree and two sinks.
-use crate::sweep::{fail_each, stop_each};
-use row_check::{Program, RowFault, Run, check_images, check_run, copy_of, tree_of};
+use crate::sweep::Swept;
+use row_check::{Program, RowFault, Run, Sides, check_images, check_run, copy_of, tree_of};
 use row_text::{Row, SinkPlan, Step, TreePlan};
 use std::alloc::Global;
 use tree_memory::{MemorySink, MemoryTree};
+
+/// After how many bytes the two streams fail, besides what the row plans.
+#[derive(Clone, Copy)]
+pub(crate) struct StreamEnds {
+    pub(crate) out: Option<usize>,
+    pub(crate) err: Option<usize>,
+}
+
+impl StreamEnds {
+    /// Nothing besides.
+    pub(crate) const NONE: StreamEnds = StreamEnds {
+        out: None,
+        err: None,
+    };
+}
 
 /// Runs a row, and answers what it leaves.
 pub(crate) fn run_row<P: Program>(
@@ -30,15 +45,56 @@ fn run_step<P: Program>(
     if let TreePlan::Fail(calls) = &step.tree {
         tree.fail_at(calls)?;
     }
-    let run = run_once(alloc, program, step, tree);
+    let run = run_once(alloc, program, step, tree, StreamEnds::NONE);
     check_run(alloc, program, step, before, &run)?;
-    match &step.tree {
-        TreePlan::Whole => check_images(alloc, step, &run.tree, &run.tree)?,
-        TreePlan::Fail(_) => {}
-        TreePlan::FailEach => fail_each(alloc, program, step, before, &run.tree)?,
-        TreePlan::StopEach => stop_each(alloc, program, step, before, &run.tree)?,
+    if !matches!(&step.tree, TreePlan::Fail(_)) {
+        check_images(alloc, step, &run.tree)?;
+    }
+    if is_swept(step) {
+        sweep(alloc, program, step, before, &run)?;
     }
     Ok(copy_of(alloc, &run.tree)?)
+}
+
+/// Whether further runs are planned of a command line.
+fn is_swept(step: &Step) -> bool {
+    matches!(&step.tree, TreePlan::Each(_)) || step.out_plan.each || step.err_plan.each
+}
+
+/// Makes the further runs that are planned, after one in which no call failed.
+fn sweep<P: Program>(
+    alloc: Global,
+    program: &P,
+    step: &Step,
+    before: &MemoryTree,
+    run: &Run,
+) -> Result<(), RowFault> {
+    let sides = Sides::new(alloc, program, step, before, &run.tree)?;
+    sides.check_images(alloc, program, step, &run.tree)?;
+    let left = copy_of(alloc, &run.tree)?;
+    let again = run_once(alloc, program, step, left, StreamEnds::NONE);
+    let swept = Swept {
+        program,
+        step,
+        before,
+        sides: &sides,
+        again: &again,
+    };
+    if let TreePlan::Each(sweeps) = &step.tree {
+        if sweeps.fail {
+            swept.fail_each(alloc)?;
+        }
+        if sweeps.stop {
+            swept.stop_each(alloc)?;
+        }
+    }
+    if step.out_plan.each {
+        swept.end_each(alloc, true)?;
+    }
+    if step.err_plan.each {
+        swept.end_each(alloc, false)?;
+    }
+    Ok(())
 }
 
 /// Runs the words of a command line.
@@ -47,10 +103,11 @@ pub(crate) fn run_once<P: Program>(
     program: &P,
     step: &Step,
     tree: MemoryTree,
+    ends: StreamEnds,
 ) -> Run {
     let mut tree = tree;
-    let mut out = sink(alloc, step.out_plan);
-    let mut err = sink(alloc, step.err_plan);
+    let mut out = sink(alloc, step.out_plan, ends.out);
+    let mut err = sink(alloc, step.err_plan, ends.err);
     let status = program.run(alloc, &step.command, &mut tree, &mut out, &mut err);
     Run {
         status,
@@ -60,9 +117,9 @@ pub(crate) fn run_once<P: Program>(
     }
 }
 
-fn sink(alloc: Global, plan: SinkPlan) -> MemorySink {
+fn sink(alloc: Global, plan: SinkPlan, end: Option<usize>) -> MemorySink {
     let mut sink = MemorySink::new(alloc);
-    if let Some(end) = plan.end {
+    if let Some(end) = end.or(plan.end) {
         sink.fail_after(end);
     }
     if let Some(most) = plan.most

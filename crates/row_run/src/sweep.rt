@@ -1,14 +1,15 @@
-//! A command line with each of its calls failing in turn, and cut off behind each of them.
-use crate::run::run_once;
+//! A command line with each of its calls failing in turn, cut off behind each of them, and with a
+//! stream that ends behind each number of bytes.
+use crate::run::{StreamEnds, run_once};
 use row_check::{
-    Program, RowFault, Run, are_alike, check_images, check_run, check_streams, compare,
-    compare_numbers, copy_of, differs, digits,
+    Found, Program, RowFault, Run, Sides, check_run, check_streams, compare, compare_numbers,
+    copy_of, differs, digits, images_of,
 };
 use row_text::Step;
 use std::alloc::Global;
 use tree_memory::MemoryTree;
 
-/// The most calls that a run may make which is cut off behind each of them.
+/// The most calls that a run may make of which each fails in turn.
 const MOST_CALLS: u64 = 10_000;
 
 /// The status of a run whose tree failed, and what it prints.
@@ -16,132 +17,192 @@ const TREE_FAULT: u64 = 2;
 
 const TREE_FAULT_TEXT: &[u8] = b"ERROR: the tree failed\n";
 
-/// Lets each call fail in turn. A crash then leaves the files of before or of after, and the same
-/// command line ends well when it is run once more.
-pub(crate) fn fail_each<P: Program>(
-    alloc: Global,
-    program: &P,
-    step: &Step,
-    before: &MemoryTree,
-    after: &MemoryTree,
-) -> Result<(), RowFault> {
-    for call in 1..MOST_CALLS {
-        let mut tree = copy_of(alloc, before)?;
-        tree.fail_at(&[call])?;
-        let failed = run_once(alloc, program, step, tree);
-        if failed.tree.calls() < call {
-            return check_run(alloc, program, step, before, &failed);
-        }
-        check_fault(alloc, step, call, &failed)?;
-        look(alloc, step, call, &failed.tree, before, after)?;
-        let Run { mut tree, .. } = failed;
-        tree.fail_at(&[])?;
-        check_again(alloc, program, step, tree, after)?;
-    }
-    Err(too_many(alloc, step))
+/// The status of a run of which a stream failed.
+const STREAM_FAULT: u64 = 3;
+
+/// A command line, the files that it finds, and what its run leaves in which nothing fails.
+#[derive(Drop)]
+pub(crate) struct Swept<'a, P: Program> {
+    pub(crate) program: &'a P,
+    pub(crate) step: &'a Step,
+    pub(crate) before: &'a MemoryTree,
+    pub(crate) sides: &'a Sides,
+    /// The same command line once more, on what it left.
+    pub(crate) again: &'a Run,
 }
 
-/// Stops behind each call in turn. A crash then leaves the files of before or of after, both are
-/// seen, and the same command line ends well when it is run on what is left.
-pub(crate) fn stop_each<P: Program>(
-    alloc: Global,
-    program: &P,
-    step: &Step,
-    before: &MemoryTree,
-    after: &MemoryTree,
-) -> Result<(), RowFault> {
-    let mut new_seen = are_alike(alloc, before, after)?;
-    for calls in 0..MOST_CALLS {
-        let mut tree = copy_of(alloc, before)?;
-        tree.stop_after(calls);
-        let cut = run_once(alloc, program, step, tree);
-        if cut.tree.calls() <= calls {
-            if !new_seen {
-                let what: &[u8] = b"no stop leaves the files of after";
-                return Err(differs(alloc, step.line, &[what]));
+impl<'a, P: Program> Swept<'a, P> {
+    /// Lets each call fail in turn. What is left, and what a crash leaves of it, has the files of
+    /// before or of behind, and the same command line goes on from there.
+    pub(crate) fn fail_each(&self, alloc: Global) -> Result<(), RowFault> {
+        for call in 1..MOST_CALLS {
+            let mut tree = copy_of(alloc, self.before)?;
+            tree.fail_at(&[call])?;
+            let failed = run_once(alloc, self.program, self.step, tree, StreamEnds::NONE);
+            if failed.tree.calls() < call {
+                return check_run(alloc, self.program, self.step, self.before, &failed);
             }
-            return check_run(alloc, program, step, before, &cut);
+            self.check_fault(alloc, call, &failed)?;
+            self.look(alloc, call, &failed.tree)?;
+            let Run { mut tree, .. } = failed;
+            tree.fail_at(&[])?;
+            let copy = copy_of(alloc, &tree)?;
+            let found = self.find(alloc, call, copy, b"what is left")?;
+            self.go_on(alloc, call, found, tree)?;
         }
-        check_fault(alloc, step, calls, &cut)?;
-        let seen = look(alloc, step, calls, &cut.tree, before, after)?;
-        new_seen = new_seen || seen;
-        run_on_images(alloc, program, step, &cut.tree, after)?;
+        Err(self.too_many(alloc))
     }
-    Err(too_many(alloc, step))
-}
 
-fn too_many(alloc: Global, step: &Step) -> RowFault {
-    differs(alloc, step.line, &[b"too many calls"])
-}
-
-/// A run whose tree failed says so, and nothing else.
-fn check_fault(alloc: Global, step: &Step, call: u64, run: &Run) -> Result<(), RowFault> {
-    let line = step.line;
-    let call = digits(alloc, call)?;
-    let mut what = Vec::from_slice(alloc, b"with a fault at call ")?;
-    what.extend_from_slice(&call)?;
-    what.extend_from_slice(b", what is seen")?;
-    compare_numbers(alloc, line, &what, u64::from(run.status), TREE_FAULT)?;
-    compare(alloc, line, &what, run.out.bytes(), b"")?;
-    compare(alloc, line, &what, run.err.bytes(), TREE_FAULT_TEXT)
-}
-
-/// Each image that a crash may leave has the files of before or of after, and a second crash
-/// changes nothing. Answers whether one has those of after.
-fn look(
-    alloc: Global,
-    step: &Step,
-    call: u64,
-    tree: &MemoryTree,
-    before: &MemoryTree,
-    after: &MemoryTree,
-) -> Result<bool, RowFault> {
-    let mut new_seen = false;
-    for choice in 0..tree.maps().saturating_mul(3) {
-        let image = tree.pick_image(alloc, choice)?;
-        let is_new = are_alike(alloc, &image, after)?;
-        if !is_new && !are_alike(alloc, &image, before)? {
-            let call = digits(alloc, call)?;
-            let choice = digits(alloc, choice)?;
-            let pieces: [&[u8]; 5] = [
-                b"with a fault at call ",
-                &call,
-                b", image ",
-                &choice,
-                b" has neither the files of before nor those of after",
-            ];
-            return Err(differs(alloc, step.line, &pieces));
+    /// Stops behind each call in turn. A crash then leaves the files of before or of behind, the
+    /// latter are seen, and the same command line goes on from what is left.
+    pub(crate) fn stop_each(&self, alloc: Global) -> Result<(), RowFault> {
+        let mut new_seen = false;
+        for calls in 0..MOST_CALLS {
+            let mut tree = copy_of(alloc, self.before)?;
+            tree.stop_after(calls);
+            let cut = run_once(alloc, self.program, self.step, tree, StreamEnds::NONE);
+            if cut.tree.calls() <= calls {
+                let changes = !self.sides.are_alike(alloc)?;
+                if changes && !new_seen {
+                    let what: &[u8] = b"no stop leaves the files of behind";
+                    return Err(differs(alloc, self.step.line, &[what]));
+                }
+                return check_run(alloc, self.program, self.step, self.before, &cut);
+            }
+            self.check_fault(alloc, calls, &cut)?;
+            let seen = self.look(alloc, calls, &cut.tree)?;
+            new_seen = new_seen || seen;
         }
-        check_images(alloc, step, &image, &image)?;
-        new_seen = new_seen || is_new;
+        Err(self.too_many(alloc))
     }
-    Ok(new_seen)
+
+    fn too_many(&self, alloc: Global) -> RowFault {
+        differs(alloc, self.step.line, &[b"too many calls"])
+    }
+
+    /// A run whose tree failed says so, and nothing else.
+    fn check_fault(&self, alloc: Global, call: u64, run: &Run) -> Result<(), RowFault> {
+        let line = self.step.line;
+        let call = digits(alloc, call)?;
+        let mut what = Vec::from_slice(alloc, b"with a fault at call ")?;
+        what.extend_from_slice(&call)?;
+        what.extend_from_slice(b", what is seen")?;
+        compare_numbers(alloc, line, &what, u64::from(run.status), TREE_FAULT)?;
+        compare(alloc, line, &what, run.out.bytes(), b"")?;
+        compare(alloc, line, &what, run.err.bytes(), TREE_FAULT_TEXT)
+    }
+
+    /// Each image that a crash may leave has the files of before or of behind, and the command line
+    /// goes on from there. Answers whether one has those of behind.
+    fn look(&self, alloc: Global, call: u64, tree: &MemoryTree) -> Result<bool, RowFault> {
+        let mut new_seen = false;
+        for choice in 0..images_of(tree) {
+            let image = tree.pick_image(alloc, choice)?;
+            let copy = copy_of(alloc, &image)?;
+            let number = digits(alloc, choice)?;
+            let mut what = Vec::from_slice(alloc, b"image ")?;
+            what.extend_from_slice(&number)?;
+            let found = self.find(alloc, call, copy, &what)?;
+            self.go_on(alloc, call, found, image)?;
+            new_seen = new_seen || found.after;
+        }
+        Ok(new_seen)
+    }
+
+    fn find(
+        &self,
+        alloc: Global,
+        call: u64,
+        tree: MemoryTree,
+        what: &[u8],
+    ) -> Result<Found, RowFault> {
+        let call = digits(alloc, call)?;
+        let mut place = Vec::from_slice(alloc, b"with a fault at call ")?;
+        place.extend_from_slice(&call)?;
+        place.extend_from_slice(b", ")?;
+        place.extend_from_slice(what)?;
+        self.sides
+            .find(alloc, self.program, self.step, tree, &place)
+    }
+
+    /// A second run ends as the row says where it finds the files of before, and else as one does
+    /// that finds what the row leaves.
+    fn go_on(
+        &self,
+        alloc: Global,
+        call: u64,
+        found: Found,
+        tree: MemoryTree,
+    ) -> Result<(), RowFault> {
+        let second = run_once(alloc, self.program, self.step, tree, StreamEnds::NONE);
+        if found.before {
+            check_streams(alloc, self.step, &second)?;
+        } else {
+            self.check_again(alloc, call, &second)?;
+        }
+        self.sides
+            .check_images(alloc, self.program, self.step, &second.tree)
+    }
+
+    fn check_again(&self, alloc: Global, call: u64, second: &Run) -> Result<(), RowFault> {
+        let line = self.step.line;
+        let call = digits(alloc, call)?;
+        let mut what = Vec::from_slice(alloc, b"run again behind a fault at call ")?;
+        what.extend_from_slice(&call)?;
+        what.extend_from_slice(b", what is seen")?;
+        let (found, wanted) = (u64::from(second.status), u64::from(self.again.status));
+        compare_numbers(alloc, line, &what, found, wanted)?;
+        compare(
+            alloc,
+            line,
+            &what,
+            second.out.bytes(),
+            self.again.out.bytes(),
+        )?;
+        compare(
+            alloc,
+            line,
+            &what,
+            second.err.bytes(),
+            self.again.err.bytes(),
+        )
+    }
+
+    /// Lets a stream end behind each number of bytes in turn. It has these bytes then, and the files
+    /// are those of behind.
+    pub(crate) fn end_each(&self, alloc: Global, is_out: bool) -> Result<(), RowFault> {
+        let whole = wanted_text(self.step, is_out);
+        for count in 0..whole.len() {
+            let ends = StreamEnds {
+                out: if is_out { Some(count) } else { None },
+                err: if is_out { None } else { Some(count) },
+            };
+            let tree = copy_of(alloc, self.before)?;
+            let cut = run_once(alloc, self.program, self.step, tree, ends);
+            let number = digits(alloc, count as u64)?;
+            let mut what = Vec::from_slice(alloc, b"with a stream that ends after ")?;
+            what.extend_from_slice(&number)?;
+            what.extend_from_slice(b" bytes, what is seen")?;
+            let line = self.step.line;
+            compare_numbers(alloc, line, &what, u64::from(cut.status), STREAM_FAULT)?;
+            compare(alloc, line, &what, seen_text(&cut, is_out), &whole[..count])?;
+            self.sides
+                .check_images(alloc, self.program, self.step, &cut.tree)?;
+        }
+        Ok(())
+    }
 }
 
-/// Runs the command line once more on each image that a crash may leave.
-fn run_on_images<P: Program>(
-    alloc: Global,
-    program: &P,
-    step: &Step,
-    tree: &MemoryTree,
-    after: &MemoryTree,
-) -> Result<(), RowFault> {
-    for choice in 0..tree.maps().saturating_mul(3) {
-        let image = tree.pick_image(alloc, choice)?;
-        check_again(alloc, program, step, image, after)?;
-    }
-    Ok(())
+/// What is wanted on standard output, or else on standard error.
+fn wanted_text(step: &Step, is_out: bool) -> &[u8] {
+    if is_out { &step.out } else { &step.err }
 }
 
-/// A second run prints what is wanted, and leaves the files of after, also behind a crash.
-fn check_again<P: Program>(
-    alloc: Global,
-    program: &P,
-    step: &Step,
-    tree: MemoryTree,
-    after: &MemoryTree,
-) -> Result<(), RowFault> {
-    let again = run_once(alloc, program, step, tree);
-    check_streams(alloc, step, &again)?;
-    check_images(alloc, step, &again.tree, after)
+/// What is seen there.
+fn seen_text(run: &Run, is_out: bool) -> &[u8] {
+    if is_out {
+        run.out.bytes()
+    } else {
+        run.err.bytes()
+    }
 }

@@ -11,4 +11,4 @@ mod row;
 mod words;
 
 pub use reader::read_rows;
-pub use row::{Content, Fault, NamedFile, Row, SinkPlan, Step, TreePlan, Trouble};
+pub use row::{Content, Fault, NamedFile, Row, SinkPlan, Step, Sweeps, TreePlan, Trouble};

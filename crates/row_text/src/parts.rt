@@ -1,7 +1,7 @@
 //! Parts of a row: the files that stand there before and behind a command line, and what goes wrong
 //! while it runs.
 use crate::reader::{Form, Reader, Target, first_word};
-use crate::row::{Content, NamedFile, SinkPlan, TreePlan, Trouble};
+use crate::row::{Content, NamedFile, SinkPlan, Sweeps, TreePlan, Trouble};
 use crate::words::{add_hex, number};
 use base_core::Name;
 use std::alloc::Global;
@@ -177,16 +177,15 @@ fn cut(text: &mut Vec<u8>) -> Result<(), Trouble> {
 impl Reader {
     /// The calls of the tree that fail: their numbers, or `each`.
     pub(crate) fn plan_failures(&mut self, rest: &[u8]) -> Result<(), Trouble> {
-        let plan = if rest == b"each".as_slice() {
-            TreePlan::FailEach
-        } else {
-            let mut calls = Vec::new(self.alloc);
-            for call in rest.split(|byte| *byte == b' ') {
-                calls.push(number(call)?)?;
-            }
-            TreePlan::Fail(calls)
-        };
-        self.plan_tree(plan)
+        if rest == b"each".as_slice() {
+            let (fail, stop) = (true, false);
+            return self.plan_sweeps(Sweeps { fail, stop });
+        }
+        let mut calls = Vec::new(self.alloc);
+        for call in rest.split(|byte| *byte == b' ') {
+            calls.push(number(call)?)?;
+        }
+        self.plan_tree(TreePlan::Fail(calls))
     }
 
     /// Behind which calls the tree stops.
@@ -194,7 +193,21 @@ impl Reader {
         if rest != b"each".as_slice() {
             return Err(Trouble::BadShape);
         }
-        self.plan_tree(TreePlan::StopEach)
+        let (fail, stop) = (false, true);
+        self.plan_sweeps(Sweeps { fail, stop })
+    }
+
+    /// Besides those that are planned.
+    fn plan_sweeps(&mut self, more: Sweeps) -> Result<(), Trouble> {
+        if let TreePlan::Each(sweeps) = &mut self.plan.tree {
+            if (sweeps.fail && more.fail) || (sweeps.stop && more.stop) {
+                return Err(Trouble::SaidTwice);
+            }
+            sweeps.fail = sweeps.fail || more.fail;
+            sweeps.stop = sweeps.stop || more.stop;
+            return Ok(());
+        }
+        self.plan_tree(TreePlan::Each(more))
     }
 
     fn plan_tree(&mut self, plan: TreePlan) -> Result<(), Trouble> {
@@ -221,29 +234,32 @@ impl Reader {
     }
 }
 
-/// What a stream takes: `ends after N` bytes, or `takes N at most` of a piece.
+/// What a stream takes: `ends after N` bytes, or behind `each` number of bytes in turn, or
+/// `takes N at most` of a piece.
 fn sink_plan(before: SinkPlan, rest: &[u8]) -> Result<SinkPlan, Trouble> {
+    let mut plan = before;
     if let Some(count) = rest.strip_prefix(b"ends after ") {
-        let end = Some(size(count)?);
-        return Ok(SinkPlan {
-            end,
-            most: before.most,
-        });
+        plan.each = count == b"each".as_slice();
+        plan.end = if plan.each { None } else { Some(size(count)?) };
+        return Ok(plan);
     }
     let Some(count) = rest.strip_prefix(b"takes ") else {
         return Err(Trouble::BadShape);
     };
-    let Some(count) = count.strip_suffix(b" at most") else {
-        return Err(Trouble::BadShape);
-    };
-    let most = size(count)?;
+    let most = number_at_most(count)? as usize;
     if most == 0 {
         return Err(Trouble::BadNumber);
     }
-    Ok(SinkPlan {
-        end: before.end,
-        most: Some(most),
-    })
+    plan.most = Some(most);
+    Ok(plan)
+}
+
+/// The number of a text such as `N at most`.
+pub(crate) fn number_at_most(text: &[u8]) -> Result<u64, Trouble> {
+    match text.strip_suffix(b" at most") {
+        Some(count) => number(count),
+        None => Err(Trouble::BadShape),
+    }
 }
 
 fn size(text: &[u8]) -> Result<usize, Trouble> {

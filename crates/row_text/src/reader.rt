@@ -1,6 +1,6 @@
 //! Reads a text line by line: rows, command lines, and what is to be seen of them. Each line
 //! belongs to the row, the command line or the file that stands last before it.
-use crate::parts::{add_line, name_of};
+use crate::parts::{add_line, name_of, number_at_most};
 use crate::row::{Fault, Row, SinkPlan, Step, TreePlan, Trouble};
 use crate::words::{number, words_of};
 use std::alloc::{AllocError, Global};
@@ -134,6 +134,7 @@ impl Reader {
             b"status" => self.add_status(number(rest)?),
             b"calls" => self.add_calls(number(rest)?),
             b"writes" => self.add_writes(number(rest)?),
+            b"reads" => self.add_reads(number_at_most(rest)?),
             b"fail" => self.plan_failures(rest),
             b"stop" => self.plan_stops(rest),
             b"out" => self.plan_out(rest),
@@ -247,6 +248,7 @@ impl Reader {
             names: None,
             calls: None,
             writes: None,
+            reads: None,
         });
         Ok(())
     }
@@ -295,6 +297,13 @@ impl Reader {
             return Err(Trouble::NoCommand);
         };
         set_once(&mut step.writes, number)
+    }
+
+    fn add_reads(&mut self, number: u64) -> Result<(), Trouble> {
+        let Some(step) = &mut self.step else {
+            return Err(Trouble::NoCommand);
+        };
+        set_once(&mut step.reads, number)
     }
 
     /// All names that there are, in byte order.

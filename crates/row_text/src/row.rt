@@ -56,9 +56,11 @@ pub struct Step {
     pub files: Vec<NamedFile>,
     /// All names that there are afterwards, where that is said.
     pub names: Option<Vec<Name>>,
-    /// How many calls the run makes of the tree, and how many of these write, where that is said.
+    /// How many calls the run makes of the tree, how many of these write, and how many bytes a
+    /// call asks for at most, where that is said.
     pub calls: Option<u64>,
     pub writes: Option<u64>,
+    pub reads: Option<u64>,
 }
 
 /// Which calls of the tree fail while a command line runs.
@@ -68,11 +70,17 @@ pub enum TreePlan {
     Whole,
     /// Those with these numbers, counted from 1.
     Fail(Vec<u64>),
-    /// Each in turn: the command line is run once for each of its calls.
-    FailEach,
-    /// All behind each call in turn: the command line is run once for each, and then once more on
-    /// each image that a crash may leave.
-    StopEach,
+    /// Many in turn: the command line is run once for each of its calls.
+    Each(Sweeps),
+}
+
+/// Which runs are made of a command line, one for each of its calls.
+#[derive(Clone, Copy)]
+pub struct Sweeps {
+    /// Those in which that call alone fails.
+    pub fail: bool,
+    /// Those in which all calls behind that one fail.
+    pub stop: bool,
 }
 
 /// What a stream takes.
@@ -80,6 +88,8 @@ pub enum TreePlan {
 pub struct SinkPlan {
     /// How many bytes it takes before it fails.
     pub end: Option<usize>,
+    /// Whether it fails behind each number of bytes in turn: the command line is run once for each.
+    pub each: bool,
     /// How many bytes it takes of one piece at most.
     pub most: Option<usize>,
 }
@@ -88,6 +98,7 @@ impl SinkPlan {
     /// A stream that takes all.
     pub const WHOLE: SinkPlan = SinkPlan {
         end: None,
+        each: false,
         most: None,
     };
 }

@@ -6,6 +6,7 @@
 
 use apk_front::{apk, status};
 use base_core::Words;
+use journal_core::{RecoverFault, recover};
 use row_dump::{DumpFault, container_of};
 use row_run::{Program, run_text};
 use std::alloc::{AllocError, Global};
@@ -27,6 +28,13 @@ impl Program for Apk {
         err: &mut MemorySink,
     ) -> u8 {
         status(&apk(alloc, words, tree, out, err))
+    }
+
+    fn recover(&self, alloc: Global, tree: &mut MemoryTree) -> bool {
+        match recover(alloc, tree) {
+            Ok(()) | Err(RecoverFault::IntentBad(_)) => true,
+            Err(_) => false,
+        }
     }
 
     fn container_of(&self, alloc: Global, text: &[u8]) -> Result<Option<Vec<u8>>, AllocError> {

@@ -1,11 +1,12 @@
 //! Shows what is reported of texts that are no rows, and of rows that fail.
 //!
 //! Standard input has texts of rows, each behind a line `==== NAME`. Each is run with a program
-//! that only echoes: it prints each word on a line, and is refused where there is none. A text
-//! whose last line is `\` has no end of its line before that.
+//! that mostly echoes: it prints each word on a line, and is refused where there is none. Some words
+//! make it do what no program should. A text whose last line is `\` has no end of its line before
+//! that.
 #![tactic(auto)]
 
-use base_core::{Words, write_all};
+use base_core::{Disk, Name, Tree, Words, write_all};
 use row_run::{Program, run_text};
 use std::alloc::{AllocError, Global};
 use std::io;
@@ -18,17 +19,38 @@ struct Echo;
 impl Program for Echo {
     fn run(
         &self,
-        _alloc: Global,
+        alloc: Global,
         words: &Words,
-        _tree: &mut MemoryTree,
+        tree: &mut MemoryTree,
         out: &mut MemorySink,
-        _err: &mut MemorySink,
+        err: &mut MemorySink,
     ) -> u8 {
         for i in 0..words.len() {
-            let _ = write_all(out, words.word(i));
-            let _ = write_all(out, b"\n");
+            match act(alloc, words.word(i), tree) {
+                Ok(()) => {}
+                Err(Disk) => {
+                    let _ = write_all(err, b"ERROR: the tree failed\n");
+                    return 2;
+                }
+            }
+        }
+        for i in 0..words.len() {
+            let word = words.word(i);
+            let is_taken = write_all(out, word).is_ok() && write_all(out, b"\n").is_ok();
+            // a stream whose end is not told
+            if !is_taken && word != b"deaf".as_slice() {
+                return 3;
+            }
         }
         if words.is_empty() { 1 } else { 0 }
+    }
+
+    /// Removes what waits, and is at odds with a file of its own.
+    fn recover(&self, alloc: Global, tree: &mut MemoryTree) -> bool {
+        match recover(alloc, tree) {
+            Ok(()) => true,
+            Err(Disk) => false,
+        }
     }
 
     fn container_of(&self, alloc: Global, text: &[u8]) -> Result<Option<Vec<u8>>, AllocError> {
@@ -37,6 +59,79 @@ impl Program for Echo {
             None => Ok(None),
         }
     }
+}
+
+/// What some words do to the tree.
+fn act(alloc: Global, word: &[u8], tree: &mut MemoryTree) -> Result<(), Disk> {
+    match word {
+        // a file in its place, synced at last
+        b"careless" => {
+            make(alloc, tree, b"made")?;
+            settle(alloc, tree, b"made")
+        }
+        // a file that waits for its place until it is synced
+        b"careful" => {
+            make(alloc, tree, b"waiting")?;
+            settle(alloc, tree, b"waiting")?;
+            tree.rename(&named(alloc, b"waiting")?, &named(alloc, b"made")?)?;
+            tree.sync_names()
+        }
+        // a file that nothing keeps
+        b"hasty" => make(alloc, tree, b"made"),
+        // a fault that is not told
+        b"silent" => {
+            let _ = tree.sync_names();
+            Ok(())
+        }
+        // a file that no call of the tree makes
+        b"hidden" => put(alloc, tree, b"made"),
+        // two bytes of a file
+        b"read" => tree.read_at(&named(alloc, b"made")?, 0, &mut [0u8; 2]),
+        _ => Ok(()),
+    }
+}
+
+fn named(alloc: Global, bytes: &[u8]) -> Result<Name, Disk> {
+    match Name::read(alloc, bytes) {
+        Ok(Some(name)) => Ok(name),
+        _ => Err(Disk),
+    }
+}
+
+fn put(alloc: Global, tree: &mut MemoryTree, name: &[u8]) -> Result<(), Disk> {
+    let name = named(alloc, name)?;
+    if tree.can_put(&name) && tree.put(&name, b"x").is_ok() {
+        Ok(())
+    } else {
+        Err(Disk)
+    }
+}
+
+/// Makes a file of one byte, where there is none.
+fn make(alloc: Global, tree: &mut MemoryTree, name: &[u8]) -> Result<(), Disk> {
+    let name = named(alloc, name)?;
+    tree.remove(&name)?;
+    tree.create(&name)?;
+    tree.append(&name, b"x")
+}
+
+fn settle(alloc: Global, tree: &mut MemoryTree, name: &[u8]) -> Result<(), Disk> {
+    tree.sync(&named(alloc, name)?)?;
+    tree.sync_names()
+}
+
+/// Removes a file that waits. A file `stuck` makes it fail, and it cannot leave a file `growing`
+/// alone.
+fn recover(alloc: Global, tree: &mut MemoryTree) -> Result<(), Disk> {
+    tree.remove(&named(alloc, b"waiting")?)?;
+    if tree.size(&named(alloc, b"stuck")?)?.is_some() {
+        return Err(Disk);
+    }
+    let growing = named(alloc, b"growing")?;
+    if tree.size(&growing)?.is_some() {
+        tree.append(&growing, b"x")?;
+    }
+    Ok(())
 }
 
 /// A text that is read, and all that is reported.

@@ -35,9 +35,12 @@ pub(crate) enum Meaning {
 }
 
 // The applets that exist.
-const APPLETS: [Applet; 7] = [
+const APPLETS: [Applet; 10] = [
     Applet::Add,
     Applet::Del,
+    Applet::Upgrade,
+    Applet::Fix,
+    Applet::Info,
     Applet::Verify,
     Applet::Version,
     Applet::Adbdump,

@@ -3,4 +3,4 @@ use Rattle.outcome.proofs.a_refusal_commits_nothing.Goals as goal
 
 pub returns : goal.returns
 returns c = λ words files o is.
-    refusal_commits words files o is (λ reads. c.a_command_that_reads_leaves_the_files.ensures.commits words files o reads is) (λ makes. c.a_command_that_makes_commits_unless_refused.ensures words files o makes is)
+    refusal_commits words files o is (λ reads. c.a_command_that_reads_leaves_the_files.ensures.commits words files o reads is) (λ tells. c.a_command_that_tells_leaves_the_files.ensures.commits words files o tells is) (λ makes. c.a_command_that_makes_commits_unless_refused.ensures words files o makes is)

@@ -1,0 +1,112 @@
+//! What is left behind a crash: each image of a tree is recovered, twice, and then has the files
+//! that are wanted.
+use crate::differences::{RowFault, differs, digits};
+use crate::program::Program;
+use crate::start::{are_alike, copy_of};
+use row_text::Step;
+use std::alloc::Global;
+use tree_memory::MemoryTree;
+
+/// The files that a command line finds and those that it leaves, both recovered.
+#[derive(Drop)]
+pub struct Sides {
+    pub before: MemoryTree,
+    pub after: MemoryTree,
+}
+
+/// Which of the two sides some recovered files are.
+#[derive(Clone, Copy)]
+pub struct Found {
+    pub before: bool,
+    pub after: bool,
+}
+
+impl Sides {
+    pub fn new<P: Program>(
+        alloc: Global,
+        program: &P,
+        step: &Step,
+        before: &MemoryTree,
+        after: &MemoryTree,
+    ) -> Result<Sides, RowFault> {
+        let before = copy_of(alloc, before)?;
+        let after = copy_of(alloc, after)?;
+        Ok(Sides {
+            before: recovered(alloc, program, step, before)?,
+            after: recovered(alloc, program, step, after)?,
+        })
+    }
+
+    /// Whether the command line changes nothing.
+    pub fn are_alike(&self, alloc: Global) -> Result<bool, RowFault> {
+        Ok(are_alike(alloc, &self.before, &self.after)?)
+    }
+
+    /// Which side the files of a tree are, once they are recovered. That they are neither is
+    /// reported, as what stands `where_found`.
+    pub fn find<P: Program>(
+        &self,
+        alloc: Global,
+        program: &P,
+        step: &Step,
+        tree: MemoryTree,
+        where_found: &[u8],
+    ) -> Result<Found, RowFault> {
+        let tree = recovered(alloc, program, step, tree)?;
+        let found = Found {
+            before: are_alike(alloc, &tree, &self.before)?,
+            after: are_alike(alloc, &tree, &self.after)?,
+        };
+        if found.before || found.after {
+            return Ok(found);
+        }
+        let what: &[u8] = b" has neither the files of before nor those of behind";
+        Err(differs(alloc, step.line, &[where_found, what]))
+    }
+
+    /// Each image that a crash may leave of a tree has the files of behind.
+    pub fn check_images<P: Program>(
+        &self,
+        alloc: Global,
+        program: &P,
+        step: &Step,
+        tree: &MemoryTree,
+    ) -> Result<(), RowFault> {
+        for choice in 0..images_of(tree) {
+            let image = tree.pick_image(alloc, choice)?;
+            let image = recovered(alloc, program, step, image)?;
+            if !are_alike(alloc, &image, &self.after)? {
+                let choice = digits(alloc, choice)?;
+                let pieces: [&[u8]; 3] = [b"image ", &choice, b" behind the run has other files"];
+                return Err(differs(alloc, step.line, &pieces));
+            }
+        }
+        Ok(())
+    }
+}
+
+/// How many images are looked at of a tree: for each map of names one for each filling of the files
+/// that were not synced.
+pub fn images_of(tree: &MemoryTree) -> u64 {
+    tree.maps().saturating_mul(3)
+}
+
+/// A tree that is recovered, which leaves nothing for a second recovery to do.
+fn recovered<P: Program>(
+    alloc: Global,
+    program: &P,
+    step: &Step,
+    tree: MemoryTree,
+) -> Result<MemoryTree, RowFault> {
+    let mut tree = tree;
+    let went_well = program.recover(alloc, &mut tree);
+    let first = copy_of(alloc, &tree)?;
+    let went_well = went_well && program.recover(alloc, &mut tree);
+    if !went_well {
+        return Err(differs(alloc, step.line, &[b"a recovery fails"]));
+    }
+    if !are_alike(alloc, &first, &tree)? {
+        return Err(differs(alloc, step.line, &[b"a second recovery leaves other files"]));
+    }
+    Ok(first)
+}
