@@ -8,33 +8,19 @@ use Rattle.hex.specs.Hex.{encode_with, encode_lower}
 use Rattle.adb_dump.specs.Dump.{escape_of, is_printable, begins_with_byte, ends_with_byte}
 use Rattle.adb_dump.specs.Margin.{margin}
 
--- a piece moves from what is left to what is written
-pub moved : (out piece left left' all : List ℕ) → left ≡ piece ++ left' → out ++ left ≡ all → (out ++ piece) ++ left' ≡ all
-moved out piece left left' all e h = append_assoc out piece left' ∙ ap (λ (x : List ℕ). out ++ x) (sym e) ∙ h
-
--- nothing is left
-pub all_moved : (out left all : List ℕ) → left ≡ [] → out ++ left ≡ all → out ≡ all
-all_moved out left all e h = sym (append-nil out) ∙ ap (λ (x : List ℕ). out ++ x) (sym e) ∙ h
-
-hex_more : (bytes : List ℕ) (i : ℕ) → i < length bytes → encode_lower (drop i bytes) ≡ encode_lower (get_or bytes i 0 ∷ []) ++ encode_lower (drop (i + 1) bytes)
+pub hex_more : (bytes : List ℕ) (i : ℕ) → i < length bytes → encode_lower (drop i bytes) ≡ encode_lower (get_or bytes i 0 ∷ []) ++ encode_lower (drop (i + 1) bytes)
 unfolding encode_with
 hex_more bytes i lt = rw (drop_more bytes i 0 lt) refl
 
-pub hex_step : (out all bytes : List ℕ) (i : ℕ) → i < length bytes → out ++ encode_lower (drop i bytes) ≡ all → (out ++ encode_lower (get_or bytes i 0 ∷ [])) ++ encode_lower (drop (i + 1) bytes) ≡ all
-hex_step out all bytes i lt h = moved out (encode_lower (get_or bytes i 0 ∷ [])) (encode_lower (drop i bytes)) (encode_lower (drop (i + 1) bytes)) all (hex_more bytes i lt) h
-
-pub hex_done : (out all bytes : List ℕ) (i : ℕ) → length bytes ≤ i → out ++ encode_lower (drop i bytes) ≡ all → out ≡ all
+pub hex_over : (bytes : List ℕ) (i : ℕ) → length bytes ≤ i → encode_lower (drop i bytes) ≡ []
 unfolding encode_with
-hex_done out all bytes i le h = all_moved out (encode_lower (drop i bytes)) all (rw (drop_all i bytes le) refl) h
+hex_over bytes i le = rw (drop_all i bytes le) refl
 
-escapes_more : (text : List ℕ) (i : ℕ) → i < length text → flat_map escape_of (drop i text) ≡ escape_of (get_or text i 0) ++ flat_map escape_of (drop (i + 1) text)
+pub escapes_more : (text : List ℕ) (i : ℕ) → i < length text → flat_map escape_of (drop i text) ≡ escape_of (get_or text i 0) ++ flat_map escape_of (drop (i + 1) text)
 escapes_more text i lt = ap (flat_map escape_of) (drop_more text i 0 lt) ∙ flat_map-cons escape_of (get_or text i 0) (drop (i + 1) text)
 
-pub escapes_step : (out all text : List ℕ) (i : ℕ) → i < length text → out ++ flat_map escape_of (drop i text) ≡ all → (out ++ escape_of (get_or text i 0)) ++ flat_map escape_of (drop (i + 1) text) ≡ all
-escapes_step out all text i lt h = moved out (escape_of (get_or text i 0)) (flat_map escape_of (drop i text)) (flat_map escape_of (drop (i + 1) text)) all (escapes_more text i lt) h
-
-pub escapes_done : (out all text : List ℕ) (i : ℕ) → length text ≤ i → out ++ flat_map escape_of (drop i text) ≡ all → out ≡ all
-escapes_done out all text i le h = all_moved out (flat_map escape_of (drop i text)) all (ap (flat_map escape_of) (drop_all i text le)) h
+pub escapes_over : (text : List ℕ) (i : ℕ) → length text ≤ i → flat_map escape_of (drop i text) ≡ []
+escapes_over text i le = ap (flat_map escape_of) (drop_all i text le)
 
 pub printable_more : (text : List ℕ) (i : ℕ) → i < length text → list_all is_printable (drop i text) ≡ (is_printable (get_or text i 0) && list_all is_printable (drop (i + 1) text))
 printable_more text i lt = ap (list_all is_printable) (drop_more text i 0 lt)
@@ -42,11 +28,11 @@ printable_more text i lt = ap (list_all is_printable) (drop_more text i 0 lt)
 pub printable_done : (text : List ℕ) (i : ℕ) → length text ≤ i → list_all is_printable (drop i text) ≡ true
 printable_done text i le = ap (list_all is_printable) (drop_all i text le)
 
-pub margin_step : (out all : List ℕ) (depth i : ℕ) → i < depth → out ++ margin (depth - i) ≡ all → (out ++ codes "  ") ++ margin (depth - (i + 1)) ≡ all
-margin_step out all depth i lt h = moved out (codes "  ") (margin (depth - i)) (margin (depth - (i + 1))) all (let same : depth - i ≡ suc (depth - (i + 1)) = omega arith in rw same refl) h
+pub margin_more : (depth i : ℕ) → i < depth → margin (depth - i) ≡ codes "  " ++ margin (depth - (i + 1))
+margin_more depth i lt = let same : depth - i ≡ suc (depth - (i + 1)) = omega arith in rw same refl
 
-pub margin_done : (out all : List ℕ) (depth i : ℕ) → depth ≤ i → out ++ margin (depth - i) ≡ all → out ≡ all
-margin_done out all depth i le h = all_moved out (margin (depth - i)) all (let same : depth - i ≡ 0 = omega arith in rw same refl) h
+pub margin_over : (depth i : ℕ) → depth ≤ i → margin (depth - i) ≡ []
+margin_over depth i le = let same : depth - i ≡ 0 = omega arith in rw same refl
 
 pub begins_some : (c x : ℕ) (text : List ℕ) → slice_get text 0 ≡ Some x → begins_with_byte c text ≡ eqb c x
 begins_some c x [] e = absurd cc

@@ -49,6 +49,10 @@ laid_below d b name ls =
     ∙ regroup (lead d b) name (codes ":") (codes "\n" ++ lines_at (suc d) false ls)
     ∙ sym (append_assoc ((lead d b ++ name) ++ codes ":") (codes "\n") (lines_at (suc d) false ls))
 
+-- a line of its own
+pub laid_line : (d : ℕ) (b : Bool) (l : Line) → (lead d b ++ l) ++ codes "\n" ≡ lines_at d b (l ∷ [])
+laid_line d b l = append_assoc (lead d b) l (codes "\n")
+
 -- at no depth lines are a text
 pub laid_text : (ls : List Line) → lines_at 0 false ls ≡ text_of ls
 laid_text [] = refl

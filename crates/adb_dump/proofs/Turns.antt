@@ -1,5 +1,5 @@
 -- What a turn of a loop writes.
-use Rattle.std.proofs.Common.{◌≡◌, ℕ, suc, ◌+◌, ◌<◌, ◌≤◌, Bool, true, false, List, ◌++◌, length, get_or, drop, refl, sym, ap, ◌∙◌, append_assoc, append-nil, arith}
+use Rattle.std.proofs.Common.{◌≡◌, ℕ, suc, ◌+◌, ◌<◌, ◌≤◌, Bool, true, false, List, [], ◌++◌, length, get_or, drop, refl, sym, ap, ◌∙◌, append_assoc, arith}
 use Rattle.std.specs.Prelude.{codes}
 use Rattle.adb_view.specs.Plain.{Plain, null, int, blob, arr, obj}
 use Rattle.adb_fields.specs.Fields.{are_all_sound}
@@ -28,21 +28,19 @@ dashed_laid d b ls rest h =
     let e : d + 1 ≡ suc d = omega arith in
     rw (e, h.is) (laid_dashed d b h.first h.others rest)
 
-pub entry_turn : (out all : List ℕ) (d : ℕ) (b : Bool) (p : List ℕ) (k : Kind) (words : List ℕ) (i : ℕ) → i < length words → are_all_sound p k (drop i words) ≡ true → out ++ lines_at d b (entries_left p k words i) ≡ all
-    → (((out ++ lead d b) ++ codes "- ") ++ lines_at (d + 1) true (or_null (value_at p k (get_or words i 0)) (block_lines (shape_of k) (value_at p k (get_or words i 0))))) ++ lines_at d false (entries_left p k words (i + 1)) ≡ all
-entry_turn out all d b p k words i lt h e =
+-- the lines of the next entry, and of those behind it
+pub entry_turn : (d : ℕ) (b : Bool) (p : List ℕ) (k : Kind) (words : List ℕ) (i : ℕ) → i < length words → are_all_sound p k (drop i words) ≡ true
+    → lines_at d b (entries_left p k words i) ≡ ((lead d b ++ codes "- ") ++ lines_at (d + 1) true (or_null (value_at p k (get_or words i 0)) (block_lines (shape_of k) (value_at p k (get_or words i 0))))) ++ lines_at d false (entries_left p k words (i + 1))
+entry_turn d b p k words i lt h =
     let v = value_at p k (get_or words i 0) in
     let ls = or_null v (block_lines (shape_of k) v) in
-    let rest = lines_at d false (entries_left p k words (i + 1)) in
     let some : HasLine ls = or_null_line v (block_lines (shape_of k) v) (block_line p k (get_or words i 0) (entry_here p k words i lt h)) in
-    append_assoc ((out ++ lead d b) ++ codes "- ") (lines_at (d + 1) true ls) rest
-    ∙ ap (λ (t : List ℕ). t ++ (lines_at (d + 1) true ls ++ rest)) (append_assoc out (lead d b) (codes "- "))
-    ∙ append_assoc out (lead d b ++ codes "- ") (lines_at (d + 1) true ls ++ rest)
-    ∙ ap (λ (t : List ℕ). out ++ t) (sym (dashed_laid d b ls (entries_left p k words (i + 1)) some))
-    ∙ ap (λ (x : List Line). out ++ lines_at d b x) (sym (entries_more p k words i lt h)) ∙ e
+    ap (λ (x : List Line). lines_at d b x) (entries_more p k words i lt h)
+    ∙ dashed_laid d b ls (entries_left p k words (i + 1)) some
+    ∙ sym (append_assoc (lead d b ++ codes "- ") (lines_at (d + 1) true ls) (lines_at d false (entries_left p k words (i + 1))))
 
-pub entries_end : (out all : List ℕ) (d : ℕ) (b : Bool) (p : List ℕ) (k : Kind) (words : List ℕ) (i : ℕ) → length words ≤ i → out ++ lines_at d b (entries_left p k words i) ≡ all → out ≡ all
-entries_end out all d b p k words i le e = sym (append-nil out) ∙ ap (λ (x : List Line). out ++ lines_at d b x) (sym (entries_done p k words i le)) ∙ e
+pub entries_end : (d : ℕ) (b : Bool) (p : List ℕ) (k : Kind) (words : List ℕ) (i : ℕ) → length words ≤ i → lines_at d b (entries_left p k words i) ≡ []
+entries_end d b p k words i le = ap (λ (x : List Line). lines_at d b x) (entries_done p k words i le)
 
 pub null_entry : (d : ℕ) (v : Plain) (ls : List Line) → is_null v ≡ true → lines_at d true (or_null v ls) ≡ codes "null\n"
 null_entry d null ls e = refl
@@ -78,36 +76,37 @@ several_lines (Obj w) d b name v h = laid_below d b name _
 several_lines TextArr d b name v h = laid_below d b name _
 several_lines (ObjArr w) d b name v h = laid_below d b name _
 
-regrouped : (out a b c e rest : List ℕ) → ((((out ++ a) ++ b) ++ c) ++ e) ++ rest ≡ out ++ ((((a ++ b) ++ c) ++ e) ++ rest)
-regrouped out a b c e rest =
-    ap (λ (t : List ℕ). t ++ rest) (ap (λ (t : List ℕ). t ++ e) (ap (λ (t : List ℕ). t ++ c) (append_assoc out a b) ∙ append_assoc out (a ++ b) c) ∙ append_assoc out ((a ++ b) ++ c) e) ∙ append_assoc out (((a ++ b) ++ c) ++ e) rest
+pub field_behind : (k : Kind) (d : ℕ) (b : Bool) (name : Line) (v : Plain) → has_one_line k ≡ true → (((lead d b ++ name) ++ codes ":") ++ codes " ") ++ lines_at d true (block_lines (shape_of k) v) ≡ lines_at d b (named_lines (shape_of k) name v)
+field_behind k d b name v h = sym (one_line k d b name v h)
 
-pub field_behind : (out : List ℕ) (k : Kind) (d : ℕ) (b : Bool) (name : Line) (v : Plain) → has_one_line k ≡ true → ((((out ++ lead d b) ++ name) ++ codes ":") ++ codes " ") ++ lines_at d true (block_lines (shape_of k) v) ≡ out ++ lines_at d b (named_lines (shape_of k) name v)
-field_behind out k d b name v h = regrouped out (lead d b) name (codes ":") (codes " ") (lines_at d true (block_lines (shape_of k) v)) ∙ ap (λ (t : List ℕ). out ++ t) (sym (one_line k d b name v h))
-
-pub field_below : (out : List ℕ) (k : Kind) (d : ℕ) (b : Bool) (name : Line) (v : Plain) → has_one_line k ≡ false → ((((out ++ lead d b) ++ name) ++ codes ":") ++ codes "\n") ++ lines_at (d + 1) false (block_lines (shape_of k) v) ≡ out ++ lines_at d b (named_lines (shape_of k) name v)
-field_below out k d b name v h =
+pub field_below : (k : Kind) (d : ℕ) (b : Bool) (name : Line) (v : Plain) → has_one_line k ≡ false → (((lead d b ++ name) ++ codes ":") ++ codes "\n") ++ lines_at (d + 1) false (block_lines (shape_of k) v) ≡ lines_at d b (named_lines (shape_of k) name v)
+field_below k d b name v h =
     let e : d + 1 ≡ suc d = omega arith in
-    rw e (regrouped out (lead d b) name (codes ":") (codes "\n") (lines_at (suc d) false (block_lines (shape_of k) v)) ∙ ap (λ (t : List ℕ). out ++ t) (sym (several_lines k d b name v h)))
+    rw e (sym (several_lines k d b name v h))
 
 behind_named : (d : ℕ) (b : Bool) (xs ys : List Line) → HasLine xs → lines_at d b (xs ++ ys) ≡ lines_at d b xs ++ lines_at d false ys
 behind_named d b xs ys h = rw h.is (laid_behind d b h.first h.others ys)
 
-pub field_turn : (out all : List ℕ) (d : ℕ) (b : Bool) (p : List ℕ) (fields : List Field) (words : List ℕ) (i : ℕ) (f : Field) → i < length fields → i < length words → fields_sound p (drop i fields) (drop i words) ≡ true → is_null (value_at p (get_or fields i f).kind (get_or words i 0)) ≡ false
-    → out ++ lines_at d b (fields_left p fields words i) ≡ all
-    → (out ++ lines_at d b (named_lines (shape_of (get_or fields i f).kind) (field_name_text (get_or fields i f).name) (value_at p (get_or fields i f).kind (get_or words i 0)))) ++ lines_at d false (fields_left p fields words (i + 1)) ≡ all
-field_turn out all d b p fields words i f lt lt' h n e =
-    let named = named_lines (shape_of (get_or fields i f).kind) (field_name_text (get_or fields i f).name) (value_at p (get_or fields i f).kind (get_or words i 0)) in
-    append_assoc out (lines_at d b named) (lines_at d false (fields_left p fields words (i + 1)))
-    ∙ ap (λ (t : List ℕ). out ++ t) (sym (behind_named d b named (fields_left p fields words (i + 1)) (named_line (shape_of (get_or fields i f).kind) (field_name_text (get_or fields i f).name) (value_at p (get_or fields i f).kind (get_or words i 0)))))
-    ∙ ap (λ (x : List Line). out ++ lines_at d b x) (sym (fields_next p fields words i f lt lt' h n)) ∙ e
+-- the lines of the next field, and of those behind it
+pub field_turn : (d : ℕ) (b : Bool) (p : List ℕ) (fields : List Field) (words : List ℕ) (i word : ℕ) (f : Field) → i < length fields → i < length words → word ≡ get_or words i 0 → fields_sound p (drop i fields) (drop i words) ≡ true → is_null (value_at p (get_or fields i f).kind word) ≡ false
+    → lines_at d b (fields_left p fields words i)
+    ≡ lines_at d b (named_lines (shape_of (get_or fields i f).kind) (field_name_text (get_or fields i f).name) (value_at p (get_or fields i f).kind word)) ++ lines_at d false (fields_left p fields words (i + 1))
+field_turn d b p fields words i word f lt lt' e h n = rw e (turn (rw e at n))
+  where
+    turn : is_null (value_at p (get_or fields i f).kind (get_or words i 0)) ≡ false
+        → lines_at d b (fields_left p fields words i)
+        ≡ lines_at d b (named_lines (shape_of (get_or fields i f).kind) (field_name_text (get_or fields i f).name) (value_at p (get_or fields i f).kind (get_or words i 0))) ++ lines_at d false (fields_left p fields words (i + 1))
+    turn n =
+        let named = named_lines (shape_of (get_or fields i f).kind) (field_name_text (get_or fields i f).name) (value_at p (get_or fields i f).kind (get_or words i 0)) in
+        ap (λ (x : List Line). lines_at d b x) (fields_next p fields words i f lt lt' h n)
+        ∙ behind_named d b named (fields_left p fields words (i + 1)) (named_line (shape_of (get_or fields i f).kind) (field_name_text (get_or fields i f).name) (value_at p (get_or fields i f).kind (get_or words i 0)))
 
-pub null_turn : (out all : List ℕ) (d : ℕ) (b : Bool) (p : List ℕ) (fields : List Field) (words : List ℕ) (i : ℕ) (f : Field) → i < length fields → i < length words → fields_sound p (drop i fields) (drop i words) ≡ true → is_null (value_at p (get_or fields i f).kind (get_or words i 0)) ≡ true
-    → out ++ lines_at d b (fields_left p fields words i) ≡ all → out ++ lines_at d b (fields_left p fields words (i + 1)) ≡ all
-null_turn out all d b p fields words i f lt lt' h n e = ap (λ (x : List Line). out ++ lines_at d b x) (sym (fields_skip p fields words i f lt lt' h n)) ∙ e
+pub null_turn : (d : ℕ) (b : Bool) (p : List ℕ) (fields : List Field) (words : List ℕ) (i : ℕ) (f : Field) → i < length fields → i < length words → fields_sound p (drop i fields) (drop i words) ≡ true → is_null (value_at p (get_or fields i f).kind (get_or words i 0)) ≡ true
+    → lines_at d b (fields_left p fields words i) ≡ lines_at d b (fields_left p fields words (i + 1))
+null_turn d b p fields words i f lt lt' h n = ap (λ (x : List Line). lines_at d b x) (fields_skip p fields words i f lt lt' h n)
 
-pub words_end : (out all : List ℕ) (d : ℕ) (b : Bool) (p : List ℕ) (fields : List Field) (words : List ℕ) (i : ℕ) → length words ≤ i → out ++ lines_at d b (fields_left p fields words i) ≡ all → out ≡ all
-words_end out all d b p fields words i le e = sym (append-nil out) ∙ ap (λ (x : List Line). out ++ lines_at d b x) (sym (fields_done p fields words i le)) ∙ e
+pub words_end : (d : ℕ) (b : Bool) (p : List ℕ) (fields : List Field) (words : List ℕ) (i : ℕ) → length words ≤ i → lines_at d b (fields_left p fields words i) ≡ []
+words_end d b p fields words i le = ap (λ (x : List Line). lines_at d b x) (fields_done p fields words i le)
 
-pub fields_end : (out all : List ℕ) (d : ℕ) (b : Bool) (p : List ℕ) (fields : List Field) (words : List ℕ) (i : ℕ) → length fields ≤ i → out ++ lines_at d b (fields_left p fields words i) ≡ all → out ≡ all
-fields_end out all d b p fields words i le e = sym (append-nil out) ∙ ap (λ (x : List Line). out ++ lines_at d b x) (sym (fields_over p fields words i le)) ∙ e
+pub fields_end : (d : ℕ) (b : Bool) (p : List ℕ) (fields : List Field) (words : List ℕ) (i : ℕ) → length fields ≤ i → lines_at d b (fields_left p fields words i) ≡ []
+fields_end d b p fields words i le = ap (λ (x : List Line). lines_at d b x) (fields_over p fields words i le)

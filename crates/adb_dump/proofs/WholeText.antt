@@ -23,18 +23,17 @@ use Rattle.adb_dump.proofs.Placed.{laid_text}
 first_line : (line : Line) (ls : List Line) → text_of (line ∷ ls) ≡ (line ++ codes "\n") ++ text_of ls
 first_line line ls = flat_map-cons (λ (x : Line). x ++ codes "\n") line ls
 
-lines_written : (out0 out1 out2 : List ℕ) (line : Line) (ls : List Line) → out0 ≡ [] → out1 ≡ (out0 ++ line) ++ codes "\n" → out2 ≡ out1 ++ lines_at 0 false ls → out2 ≡ text_of (line ∷ ls)
-lines_written out0 out1 out2 line ls none schema fields =
-    fields ∙ ap (λ (t : List ℕ). t ++ lines_at 0 false ls) (schema ∙ ap (λ (t : List ℕ). (t ++ line) ++ codes "\n") none) ∙ ap (λ (t : List ℕ). (line ++ codes "\n") ++ t) (laid_text ls) ∙ sym (first_line line ls)
+lines_put : (line : Line) (ls : List Line) → (line ++ codes "\n") ++ lines_at 0 false ls ≡ text_of (line ∷ ls)
+lines_put line ls = ap (λ (t : List ℕ). (line ++ codes "\n") ++ t) (laid_text ls) ∙ sym (first_line line ls)
 
-pub whole_text : (shaped : Shaped) (adb : Adb) (which : Which) (root : ℕ) (fields : List Field) (words out0 out1 out2 : List ℕ) → adb ≡ adb_of shaped → which ≡ table_of shaped → root ≡ root_of (payload_of adb) → fields ≡ table which
-    → value_at (payload_of adb) (Obj which) root ≡ obj_value (fields_at (payload_of adb) (table which) words) → out0 ≡ [] → out1 ≡ (out0 ++ schema_line (schema_word which)) ++ codes "\n"
-    → out2 ≡ out1 ++ lines_at 0 false (fields_lines (shapes_of fields) (fields_at (payload_of adb) fields words)) → out2 ≡ dump_text (table_of shaped) (shaped_value shaped)
-whole_text shaped adb which root fields words out0 out1 out2 adb_is which_is root_is fields_is value none schema lines =
-    let table_lines = lines ∙ ap (λ (fs : List Field). out1 ++ lines_at 0 false (fields_lines (shapes_of fs) (fields_at (payload_of adb) fs words))) fields_is in
-    let all_lines = lines_written out0 out1 out2 (schema_line (schema_word which)) (fields_lines (shapes_of (table which)) (fields_at (payload_of adb) (table which) words)) none schema table_lines in
+pub whole_text : (shaped : Shaped) (adb : Adb) (which : Which) (root : ℕ) (fields : List Field) (words : List ℕ) → adb ≡ adb_of shaped → which ≡ table_of shaped → root ≡ root_of (payload_of adb) → fields ≡ table which
+    → value_at (payload_of adb) (Obj which) root ≡ obj_value (fields_at (payload_of adb) (table which) words)
+    → (schema_line (schema_word which) ++ codes "\n") ++ lines_at 0 false (fields_lines (shapes_of fields) (fields_at (payload_of adb) fields words)) ≡ dump_text (table_of shaped) (shaped_value shaped)
+whole_text shaped adb which root fields words adb_is which_is root_is fields_is value =
     let value_is : value_lines which (value_at (payload_of adb) (Obj which) root) ≡ fields_lines (shapes_of (table which)) (fields_at (payload_of adb) (table which) words) = object_lines (payload_of adb) which root words value in
-    all_lines ∙ ap (λ (ls : List Line). text_of (schema_line (schema_word which) ∷ ls)) (sym value_is) ∙ same
+    ap (λ (fs : List Field). (schema_line (schema_word which) ++ codes "\n") ++ lines_at 0 false (fields_lines (shapes_of fs) (fields_at (payload_of adb) fs words))) fields_is
+    ∙ lines_put (schema_line (schema_word which)) (fields_lines (shapes_of (table which)) (fields_at (payload_of adb) (table which) words))
+    ∙ ap (λ (ls : List Line). text_of (schema_line (schema_word which) ∷ ls)) (sym value_is) ∙ same
   where
     same : dump_text which (value_at (payload_of adb) (Obj which) root) ≡ dump_text (table_of shaped) (shaped_value shaped)
     same = rw (root_is, which_is, adb_is) refl

@@ -5,3 +5,4 @@ pub mod Values
 pub mod ReadBack
 pub mod Words
 pub mod Margin
+pub mod Out

@@ -11,12 +11,14 @@ ghost use Rattle.adb_tables.specs.Rank.{rank, rank_of_all};
 ghost use Rattle.adb_tables.specs.Schema.{field_name_text, shape_of, shapes_of};
 ghost use Rattle.adb_tables.specs.Values.{is_sound, value_at};
 ghost use Rattle.adb_dump.specs.Margin.{lines_at, DEPTH_LIMIT};
+ghost use Rattle.adb_dump.specs.Out.{Puts};
 ghost use Rattle.adb_dump.specs.Words.{is_null, fields_sound, fields_at, has_one_line};
 
 use crate::line::{
     LineStart, write_dash, write_hash_line, write_hex, write_name, write_number_line,
     write_text_line,
 };
+use crate::out::{Count, Out};
 use crate::words::{is_null, object_words};
 use adb_fields::{hash_word, int_word, objects_word, text_word, texts_word};
 use adb_schema::{Field, Kind, Shaped, Which, fields_of, schema_word};
@@ -26,11 +28,27 @@ use base_core::Text;
 use std::alloc::{AllocError, Global};
 
 /// The text of a payload that was walked as a package, an index, an installed database or an
-/// intent: a line for its schema, and then the fields of its root that are not Null.
+/// intent: a line for its schema, and then the fields of its root that are not Null. Its bytes are
+/// counted first, and memory is taken once and for all of them.
 pub fn dump(alloc: Global, shaped: &Shaped<'_>) -> Result<Text, AllocError>
     requires { is_some (schema_word (table_of shaped.now)) ≡ true }
     ensures { IfOk result
         (λ text. text ≡ dump_text (table_of shaped.now) (shaped_value shaped.now)) }
+{
+    let mut count = Count { len: 0 };
+    write_dump(&mut count, shaped)?;
+    let mut out = Vec::with_capacity(alloc, count.len)?;
+    write_dump(&mut out, shaped)?;
+    let is_exact = out.len() == count.len;
+    prove!(is_exact);
+    Ok(Text::from_vec(out))
+}
+
+/// Puts the text of a payload.
+fn write_dump<O: Out>(out: &mut O, shaped: &Shaped<'_>) -> Result<(), AllocError>
+    requires { is_some (schema_word (table_of shaped.now)) ≡ true }
+    ensures { OnOk result (Puts O.holds out.old out.new
+        (dump_text (table_of shaped.now) (shaped_value shaped.now))) }
 {
     let adb = shaped.adb();
     let which = shaped.which();
@@ -39,33 +57,33 @@ pub fn dump(alloc: Global, shaped: &Shaped<'_>) -> Result<Text, AllocError>
         depth: 0,
         begun: false,
     };
-    let mut out = Vec::new(alloc);
-    write_schema(&mut out, which)?;
-    write_fields(&mut out, adb, fields_of(which), root, start)?;
-    Ok(Text::from_vec(out))
+    write_schema(out, which)?;
+    write_fields(out, adb, fields_of(which), root, start)?;
+    Ok(())
 }
 
-/// Writes the line of a schema.
-fn write_schema(out: &mut Vec<u8>, which: Which) -> Result<(), AllocError>
+/// Puts the line of a schema.
+fn write_schema<O: Out>(out: &mut O, which: Which) -> Result<(), AllocError>
     requires { is_some (schema_word which) ≡ true }
-    ensures { OnOk result
-        (out.new.items ≡ out.old.items ++ schema_line (schema_word which) ++ codes "\n") }
+    ensures { OnOk result (Puts O.holds out.old out.new
+        (schema_line (schema_word which) ++ codes "\n")) }
 {
     match schema_word(which) {
         Some(word) => {
-            out.extend_from_slice(b"#%SCHEMA: ")?;
+            out.put(b"#%SCHEMA: ")?;
             write_hex(out, &word.to_be_bytes())?;
-            out.extend_from_slice(b"\n")
+            out.put(b"\n")?;
+            Ok(())
         }
         None => unreachable!(),
     }
 }
 
-/// Writes the lines of a word that does not mean Null.
+/// Puts the lines of a word that does not mean Null.
 #[cycle(block)]
 #[tactic(auto, using(adb_tables::proofs::WalkSteps::table_rank, crate::proofs::BlockLines::int_lines, crate::proofs::BlockLines::text_lines, crate::proofs::BlockLines::hash_lines, crate::proofs::BlockLines::texts_lines, crate::proofs::BlockLines::objects_lines, crate::proofs::BlockLines::object_lines))]
-fn write_block(
-    out: &mut Vec<u8>,
+fn write_block<O: Out>(
+    out: &mut O,
     adb: Adb<'_>,
     kind: Kind,
     word: Val,
@@ -74,11 +92,9 @@ fn write_block(
     requires sound { is_sound (payload_of adb) kind word ≡ true }
     requires some { is_null (value_at (payload_of adb) kind word) ≡ false }
     requires deep { start.depth + rank kind ≤ DEPTH_LIMIT }
-    ensures { OnOk result
-        (out.new.items
-        ≡ out.old.items
-        ++ lines_at start.depth start.begun
-        (block_lines (shape_of kind) (value_at (payload_of adb.entry) kind word))) }
+    ensures { OnOk result (Puts O.holds out.old out.new
+        (lines_at start.depth start.begun
+        (block_lines (shape_of kind) (value_at (payload_of adb.entry) kind word)))) }
 {
     match kind {
         Kind::Int => write_number_line(out, start, int_word(adb, word)),
@@ -96,11 +112,11 @@ fn write_block(
     }
 }
 
-/// Writes the entries of an array, each behind a dash.
+/// Puts the entries of an array, each behind a dash.
 #[cycle(block)]
 #[tactic(auto, using(crate::proofs::Turns::entry_here, crate::proofs::Turns::entries_later, crate::proofs::Turns::entry_turn, crate::proofs::Turns::entries_end))]
-fn write_entries(
-    out: &mut Vec<u8>,
+fn write_entries<O: Out>(
+    out: &mut O,
     adb: Adb<'_>,
     kind: Kind,
     words: Arr<'_>,
@@ -108,12 +124,10 @@ fn write_entries(
 ) -> Result<(), AllocError>
     requires sound { are_all_sound (payload_of adb) kind (array_entries words) ≡ true }
     requires deep { start.depth + rank kind < DEPTH_LIMIT }
-    ensures { OnOk result
-        (out.new.items
-        ≡ out.old.items
-        ++ lines_at start.depth start.begun
+    ensures { OnOk result (Puts O.holds out.old out.new
+        (lines_at start.depth start.begun
         (array_lines (block_lines (shape_of kind))
-        (values_at (payload_of adb.entry) kind (array_entries words.entry)))) }
+        (values_at (payload_of adb.entry) kind (array_entries words.entry))))) }
 {
     let mut begun = start.begun;
     for i in 0..words.len() {
@@ -124,11 +138,11 @@ fn write_entries(
     Ok(())
 }
 
-/// Writes the lines of an entry, the first of which its dash has begun.
+/// Puts the lines of an entry, the first of which its dash has begun.
 #[cycle(block)]
 #[tactic(auto, using(crate::proofs::Turns::null_entry, crate::proofs::Turns::some_entry))]
-fn write_entry(
-    out: &mut Vec<u8>,
+fn write_entry<O: Out>(
+    out: &mut O,
     adb: Adb<'_>,
     kind: Kind,
     word: Val,
@@ -136,24 +150,22 @@ fn write_entry(
 ) -> Result<(), AllocError>
     requires sound { is_sound (payload_of adb) kind word ≡ true }
     requires deep { depth + rank kind ≤ DEPTH_LIMIT }
-    ensures { OnOk result
-        (out.new.items
-        ≡ out.old.items
-        ++ lines_at depth true
+    ensures { OnOk result (Puts O.holds out.old out.new
+        (lines_at depth true
         (or_null (value_at (payload_of adb.entry) kind word)
-        (block_lines (shape_of kind) (value_at (payload_of adb.entry) kind word)))) }
+        (block_lines (shape_of kind) (value_at (payload_of adb.entry) kind word))))) }
 {
     if is_null(adb, kind, word) {
-        return out.extend_from_slice(b"null\n");
+        return out.put(b"null\n");
     }
     write_block(out, adb, kind, word, LineStart { depth, begun: true })
 }
 
-/// Writes the fields of an object that do not mean Null.
+/// Puts the fields of an object that do not mean Null.
 #[cycle(block)]
 #[tactic(auto, using(adb_tables::proofs::WalkSteps::field_rank, crate::proofs::Left::field_here, crate::proofs::Left::fields_later, crate::proofs::Turns::field_turn, crate::proofs::Turns::null_turn, crate::proofs::Turns::words_end, crate::proofs::Turns::fields_end))]
-pub(crate) fn write_fields(
-    out: &mut Vec<u8>,
+pub(crate) fn write_fields<O: Out>(
+    out: &mut O,
     adb: Adb<'_>,
     fields: &[Field],
     words: Arr<'_>,
@@ -161,12 +173,10 @@ pub(crate) fn write_fields(
 ) -> Result<(), AllocError>
     requires sound { fields_sound (payload_of adb) fields.now (array_entries words) ≡ true }
     requires deep { start.depth + rank_of_all fields.now < DEPTH_LIMIT }
-    ensures { OnOk result
-        (out.new.items
-        ≡ out.old.items
-        ++ lines_at start.depth start.begun
+    ensures { OnOk result (Puts O.holds out.old out.new
+        (lines_at start.depth start.begun
         (fields_lines (shapes_of fields.now)
-        (fields_at (payload_of adb.entry) fields.now (array_entries words.entry)))) }
+        (fields_at (payload_of adb.entry) fields.now (array_entries words.entry))))) }
 {
     let mut begun = start.begun;
     for (i, field) in fields.iter().enumerate() {
@@ -184,11 +194,11 @@ pub(crate) fn write_fields(
     Ok(())
 }
 
-/// Writes the lines of a field that does not mean Null.
+/// Puts the lines of a field that does not mean Null.
 #[cycle(block)]
 #[tactic(auto, using(crate::proofs::Turns::field_behind, crate::proofs::Turns::field_below))]
-fn write_field(
-    out: &mut Vec<u8>,
+fn write_field<O: Out>(
+    out: &mut O,
     adb: Adb<'_>,
     field: Field,
     word: Val,
@@ -197,20 +207,18 @@ fn write_field(
     requires sound { is_sound (payload_of adb) field.kind word ≡ true }
     requires some { is_null (value_at (payload_of adb) field.kind word) ≡ false }
     requires deep { start.depth + rank field.kind < DEPTH_LIMIT }
-    ensures { OnOk result
-        (out.new.items
-        ≡ out.old.items
-        ++ lines_at start.depth start.begun
+    ensures { OnOk result (Puts O.holds out.old out.new
+        (lines_at start.depth start.begun
         (named_lines (shape_of field.kind) (field_name_text field.name)
-        (value_at (payload_of adb.entry) field.kind word))) }
+        (value_at (payload_of adb.entry) field.kind word)))) }
 {
     let LineStart { depth, .. } = start;
     write_name(out, start, field.name)?;
     if has_one_line(field.kind) {
-        out.extend_from_slice(b" ")?;
+        out.put(b" ")?;
         write_block(out, adb, field.kind, word, LineStart { depth, begun: true })
     } else {
-        out.extend_from_slice(b"\n")?;
+        out.put(b"\n")?;
         write_block(
             out,
             adb,

@@ -8,15 +8,16 @@
 //! and else between quotes with the escapes `\n`, `\\`, `\"` and `\x`. So the text tells the value,
 //! and no other.
 //!
-//! The values are read where they stand, and the text is written once, from front to end. The
-//! contracts cite `Dump` (the lines of a value, and the text), `Values` (what a text can stand for)
-//! and `ReadBack` (the value of lines) of `specs/`; `Words` and `Margin` are what the code in
-//! between speaks of.
+//! The values are read where they stand, and the text is written from front to end: once into a
+//! count of its bytes, and once into memory for so many. The contracts cite `Dump` (the lines of a
+//! value, and the text), `Values` (what a text can stand for) and `ReadBack` (the value of lines)
+//! of `specs/`; `Words`, `Margin` and `Out` are what the code in between speaks of.
 #![tactic(auto)]
 
 mod block;
 mod laws;
 mod line;
+mod out;
 mod words;
 
 pub use block::dump;

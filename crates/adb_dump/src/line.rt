@@ -6,71 +6,73 @@ ghost use Rattle.std.specs.List.{flat_map, list_all};
 ghost use Rattle.hex.specs.Hex.{encode_lower};
 ghost use Rattle.adb_dump.specs.Dump.{begins_with_byte, ends_with_byte, escape_of, is_bare, is_printable, quoted_text, text_form};
 ghost use Rattle.adb_dump.specs.Margin.{lines_at, lead};
+ghost use Rattle.adb_dump.specs.Out.{Puts};
 ghost use Rattle.adb_tables.specs.Schema.{field_name_text};
 
+use crate::out::Out;
 use adb_schema::FieldName;
 use itoa::Buffer;
 use std::alloc::AllocError;
 
-/// Writes a line of a number.
-pub(crate) fn write_number_line(
-    out: &mut Vec<u8>,
+/// Puts a line of a number.
+pub(crate) fn write_number_line<O: Out>(
+    out: &mut O,
     start: LineStart,
     number: u64,
 ) -> Result<(), AllocError>
-    ensures { OnOk result
-        (out.new.items ≡ out.old.items ++ lines_at start.depth start.begun (decimal number ∷ [])) }
+    ensures { OnOk result (Puts O.holds out.old out.new
+        (lines_at start.depth start.begun (decimal number ∷ []))) }
 {
     write_lead(out, start)?;
     write_number(out, number)?;
-    out.extend_from_slice(b"\n")
+    out.put(b"\n")?;
+    Ok(())
 }
 
-/// Writes a line of a text.
-pub(crate) fn write_text_line(
-    out: &mut Vec<u8>,
+/// Puts a line of a text.
+pub(crate) fn write_text_line<O: Out>(
+    out: &mut O,
     start: LineStart,
     text: &[u8],
 ) -> Result<(), AllocError>
-    ensures { OnOk result
-        (out.new.items
-        ≡ out.old.items ++ lines_at start.depth start.begun (text_form text.now ∷ [])) }
+    ensures { OnOk result (Puts O.holds out.old out.new
+        (lines_at start.depth start.begun (text_form text.now ∷ []))) }
 {
     write_lead(out, start)?;
     write_text(out, text)?;
-    out.extend_from_slice(b"\n")
+    out.put(b"\n")?;
+    Ok(())
 }
 
-/// Writes a line of a hash.
-pub(crate) fn write_hash_line(
-    out: &mut Vec<u8>,
+/// Puts a line of a hash.
+pub(crate) fn write_hash_line<O: Out>(
+    out: &mut O,
     start: LineStart,
     hash: &[u8],
 ) -> Result<(), AllocError>
-    ensures { OnOk result
-        (out.new.items
-        ≡ out.old.items ++ lines_at start.depth start.begun (encode_lower hash.now ∷ [])) }
+    ensures { OnOk result (Puts O.holds out.old out.new
+        (lines_at start.depth start.begun (encode_lower hash.now ∷ []))) }
 {
     write_lead(out, start)?;
     write_hex(out, hash)?;
-    out.extend_from_slice(b"\n")
+    out.put(b"\n")?;
+    Ok(())
 }
 
-/// Writes a number in decimal digits.
-fn write_number(out: &mut Vec<u8>, number: u64) -> Result<(), AllocError>
-    ensures { OnOk result (out.new.items ≡ out.old.items ++ decimal number) }
+/// Puts a number in decimal digits.
+fn write_number<O: Out>(out: &mut O, number: u64) -> Result<(), AllocError>
+    ensures { OnOk result (Puts O.holds out.old out.new (decimal number)) }
 {
     let mut digits = Buffer::new();
-    out.extend_from_slice(digits.format(number).as_bytes())
+    out.put(digits.format(number).as_bytes())
 }
 
-/// Writes bytes in two lower-case hexadecimal digits each.
-#[tactic(auto, using(crate::proofs::Pieces::hex_step, crate::proofs::Pieces::hex_done))]
-pub(crate) fn write_hex(out: &mut Vec<u8>, bytes: &[u8]) -> Result<(), AllocError>
-    ensures { OnOk result (out.new.items ≡ out.old.items ++ encode_lower bytes.now) }
+/// Puts bytes in two lower-case hexadecimal digits each.
+pub(crate) fn write_hex<O: Out>(out: &mut O, bytes: &[u8]) -> Result<(), AllocError>
+    ensures { OnOk result (Puts O.holds out.old out.new (encode_lower bytes.now)) }
 {
     for byte in bytes {
-        out.extend_from_slice(&hex_digits(*byte))?;
+        out.put(&hex_digits(*byte))?;
     }
     Ok(())
 }
@@ -83,41 +85,42 @@ fn hex_digits(byte: u8) -> [u8; 2]
     digits
 }
 
-/// Writes a text as it is, or between quotes where it cannot stand so.
-fn write_text(out: &mut Vec<u8>, text: &[u8]) -> Result<(), AllocError>
-    ensures { OnOk result (out.new.items ≡ out.old.items ++ text_form text.now) }
+/// Puts a text as it is, or between quotes where it cannot stand so.
+fn write_text<O: Out>(out: &mut O, text: &[u8]) -> Result<(), AllocError>
+    ensures { OnOk result (Puts O.holds out.old out.new (text_form text.now)) }
 {
     if is_bare(text) {
-        out.extend_from_slice(text)
+        out.put(text)
     } else {
         write_quoted(out, text)
     }
 }
 
-#[tactic(auto, using(crate::proofs::Pieces::escapes_step, crate::proofs::Pieces::escapes_done))]
-fn write_quoted(out: &mut Vec<u8>, text: &[u8]) -> Result<(), AllocError>
-    ensures { OnOk result (out.new.items ≡ out.old.items ++ quoted_text text.now) }
+/// Puts a text between quotes.
+fn write_quoted<O: Out>(out: &mut O, text: &[u8]) -> Result<(), AllocError>
+    ensures { OnOk result (Puts O.holds out.old out.new (quoted_text text.now)) }
 {
-    out.push(b'"')?;
+    out.put(b"\"")?;
     for byte in text {
         write_escaped(out, *byte)?;
     }
-    out.push(b'"')?;
+    out.put(b"\"")?;
     Ok(())
 }
 
-/// Writes a byte of a text that stands between quotes.
-fn write_escaped(out: &mut Vec<u8>, byte: u8) -> Result<(), AllocError>
-    ensures { OnOk result (out.new.items ≡ out.old.items ++ escape_of byte) }
+/// Puts a byte of a text that stands between quotes.
+fn write_escaped<O: Out>(out: &mut O, byte: u8) -> Result<(), AllocError>
+    ensures { OnOk result (Puts O.holds out.old out.new (escape_of byte)) }
 {
     match byte {
-        b'\n' => out.extend_from_slice(b"\\n"),
-        b'\\' => out.extend_from_slice(b"\\\\"),
-        b'"' => out.extend_from_slice(b"\\\""),
-        0x20..=0x7e => out.extend_from_slice(&[byte]),
+        b'\n' => out.put(b"\\n"),
+        b'\\' => out.put(b"\\\\"),
+        b'"' => out.put(b"\\\""),
+        0x20..=0x7e => out.put(&[byte]),
         _ => {
-            out.extend_from_slice(b"\\x")?;
-            out.extend_from_slice(&hex_digits(byte))
+            out.put(b"\\x")?;
+            out.put(&hex_digits(byte))?;
+            Ok(())
         }
     }
 }
@@ -183,9 +186,9 @@ pub(crate) struct LineStart {
     pub(crate) begun: bool,
 }
 
-/// Writes what is still to stand in front of the next line.
-pub(crate) fn write_lead(out: &mut Vec<u8>, start: LineStart) -> Result<(), AllocError>
-    ensures { OnOk result (out.new.items ≡ out.old.items ++ lead start.depth start.begun) }
+/// Puts what is still to stand in front of the next line.
+pub(crate) fn write_lead<O: Out>(out: &mut O, start: LineStart) -> Result<(), AllocError>
+    ensures { OnOk result (Puts O.holds out.old out.new (lead start.depth start.begun)) }
 {
     if start.begun {
         return Ok(());
@@ -193,36 +196,36 @@ pub(crate) fn write_lead(out: &mut Vec<u8>, start: LineStart) -> Result<(), Allo
     write_margin(out, start.depth)
 }
 
-/// Writes two spaces for each level.
-#[tactic(auto, using(crate::proofs::Pieces::margin_step, crate::proofs::Pieces::margin_done))]
-fn write_margin(out: &mut Vec<u8>, depth: u32) -> Result<(), AllocError>
-    ensures { OnOk result (out.new.items ≡ out.old.items ++ lead depth false) }
+/// Puts two spaces for each level.
+fn write_margin<O: Out>(out: &mut O, depth: u32) -> Result<(), AllocError>
+    ensures { OnOk result (Puts O.holds out.old out.new (lead depth false)) }
 {
     for _level in 0..depth {
-        out.extend_from_slice(b"  ")?;
+        out.put(b"  ")?;
     }
     Ok(())
 }
 
-/// Writes the dash of an entry.
-pub(crate) fn write_dash(out: &mut Vec<u8>, depth: u32, begun: bool) -> Result<(), AllocError>
-    ensures { OnOk result (out.new.items ≡ out.old.items ++ lead depth begun ++ codes "- ") }
+/// Puts the dash of an entry.
+pub(crate) fn write_dash<O: Out>(out: &mut O, depth: u32, begun: bool) -> Result<(), AllocError>
+    ensures { OnOk result (Puts O.holds out.old out.new (lead depth begun ++ codes "- ")) }
 {
     write_lead(out, LineStart { depth, begun })?;
-    out.extend_from_slice(b"- ")
+    out.put(b"- ")?;
+    Ok(())
 }
 
-/// Writes the name of a field.
-pub(crate) fn write_name(
-    out: &mut Vec<u8>,
+/// Puts the name of a field.
+pub(crate) fn write_name<O: Out>(
+    out: &mut O,
     start: LineStart,
     name: FieldName,
 ) -> Result<(), AllocError>
-    ensures { OnOk result
-        (out.new.items
-        ≡ out.old.items ++ lead start.depth start.begun ++ field_name_text name ++ codes ":") }
+    ensures { OnOk result (Puts O.holds out.old out.new
+        (lead start.depth start.begun ++ field_name_text name ++ codes ":")) }
 {
     write_lead(out, start)?;
-    out.extend_from_slice(name.text().as_bytes())?;
-    out.extend_from_slice(b":")
+    out.put(name.text().as_bytes())?;
+    out.put(b":")?;
+    Ok(())
 }

@@ -1,5 +1,5 @@
 -- Steps of the text walk, as the code makes them.
-use Rattle.std.proofs.Common.{◌≡◌, ℕ, zero, suc, ◌+◌, ◌*◌, ◌<◌, ◌≤◌, Bool, true, false, List, [], ◌∷◌, ◌++◌, length, get_or, drop, Option, Some, None, option_map, refl, sym, ap, subst, ◌∙◌, arith, lit<}
+use Rattle.std.proofs.Common.{◌≡◌, ℕ, zero, suc, ◌+◌, ◌*◌, ◌<◌, ◌≤◌, Bool, true, false, List, [], ◌∷◌, ◌++◌, length, get_or, ◌-◌, drop, Option, Some, None, option_map, refl, sym, ap, subst, ◌∙◌, arith, lit<}
 use Rattle.std.specs.Prelude.{is_some, slice_get, if◌then◌else◌, Result, IfOk}
 use Rattle.std.proofs.lemmas.List.{drop_more, drop_all}
 use Rattle.base_core.specs.declared.cause.Cause.{Cause}
@@ -12,6 +12,7 @@ use Rattle.adb_tables.specs.Walk.{or_else}
 use Rattle.adb_tables.specs.Rank.{rank, rank_of_all}
 use Rattle.adb_tables.proofs.ValueEntries.{entries_arr}
 use Rattle.adb_tables.proofs.WalkSteps.{field_rank}
+use Rattle.adb_rules.specs.TextWalk.{IsSameAsBefore, bad_text_at}
 use Rattle.adb_rules.specs.Texts.{Surroundings, Leaf, number_leaf, text_leaf, keeps_rule, number_of_leaf, each_leaf, leaves, field_leaves, inside_of, first_bad}
 use Rattle.adb_tables.specs.Shapes.{object_shape, objects_shape, texts_shape, int_shape, text_shape, hash_shape}
 use Rattle.adb_tables.specs.declared.tables.Which.{Which}
@@ -198,6 +199,21 @@ pub entry_bad : (p : List ℕ) (k : Kind) (f : Plain → List Leaf) (ws : List �
     → first_bad (each_leaf f (values_at p k (drop i ws))) ≡ Some c
 entry_bad p k f ws i word c lt h e bad = entries_stop p k f ws i c lt h (ap (λ (w : ℕ). first_bad (f (value_at p k w))) (sym e) ∙ sym bad)
 
+-- ---- entries that are the same word as the one before
+
+pub before_good : (bad : ℕ → Option Cause) (ws : List ℕ) (i : ℕ) → IsSameAsBefore ws i → ((j : ℕ) → i ≡ suc j → None ≡ bad (get_or ws j 0)) → None ≡ bad (get_or ws i 0)
+before_good bad ws zero same before = let behind = same.behind in absurd (omega arith)
+before_good bad ws (suc j) same before =
+    let one : suc j - 1 ≡ j = omega arith in
+    before j refl ∙ ap (λ (k : ℕ). bad (get_or ws k 0)) (sym one) ∙ ap bad (sym same.same)
+
+pub after_good : (bad : ℕ → Option Cause) (ws : List ℕ) (i word : ℕ) → word ≡ get_or ws i 0 → None ≡ bad word → (j : ℕ) → i + 1 ≡ suc j → None ≡ bad (get_or ws j 0)
+after_good bad ws i word e good j next =
+    let here : i ≡ j = omega arith in
+    good ∙ ap bad e ∙ ap (λ (k : ℕ). bad (get_or ws k 0)) here
+
+-- ---- fields
+
 pub field_sound : (p : List ℕ) (which : Which) (w i word : ℕ) (d : Field) → i < length (table which) → IsFieldOf p which w i word → is_sound p (get_or (table which) i d).kind word ≡ true
 field_sound p which w i word d lt is = (is (get_or (table which) i d).kind (kind_here (table which) i d lt)).0
 
@@ -250,8 +266,8 @@ at_kind : (p : List ℕ) (k j : Kind) (field_number : ℕ) (a : Surroundings) (w
 at_kind p k j field_number a w e = sym (ap (λ (x : Kind). first_bad (leaves (shape_of x) field_number a (value_at p x w))) e)
 
 -- what is answered, if memory sufficed
-along : {E : Type 0} (r : Result (Option Cause) E) (x y : Option Cause) → x ≡ y → IfOk r (λ o. o ≡ x) → IfOk r (λ o. o ≡ y)
-along r x y e h = subst (λ (z : Option Cause). IfOk r (λ o. o ≡ z)) e h
+along : {E : Type 0} (r : Result (Option ℕ) E) (x y : Option Cause) → x ≡ y → IfOk r (λ o. bad_text_at o ≡ x) → IfOk r (λ o. bad_text_at o ≡ y)
+along r x y e h = subst (λ (z : Option Cause). IfOk r (λ o. bad_text_at o ≡ z)) e h
 
 -- a hash is read as a text is
 pub hash_is_text : (p : List ℕ) (w : ℕ) → value_at p Hash w ≡ value_at p Text w
@@ -262,26 +278,26 @@ pub int_done : (p : List ℕ) (k : Kind) (field_number : ℕ) (a : Surroundings)
 int_done p k field_number a w n o is read e =
     e ∙ ap (λ (m : ℕ). first_bad (number_leaf field_number m ∷ [])) read ∙ ap first_bad (sym (int_leaves field_number a (value_at p Int w))) ∙ at_kind p k Int field_number a w is
 
-pub text_done : (p : List ℕ) (k : Kind) (field_number : ℕ) (a : Surroundings) (w : ℕ) (bs : List ℕ) {E : Type 0} (r : Result (Option Cause) E) → k ≡ Text → bs ≡ text_in (value_at p Text w) → IfOk r (λ o. o ≡ first_bad (text_leaf field_number a bs ∷ [])) → IfOk r (λ o. o ≡ first_bad (leaves (shape_of k) field_number a (value_at p k w)))
+pub text_done : (p : List ℕ) (k : Kind) (field_number : ℕ) (a : Surroundings) (w : ℕ) (bs : List ℕ) {E : Type 0} (r : Result (Option ℕ) E) → k ≡ Text → bs ≡ text_in (value_at p Text w) → IfOk r (λ o. bad_text_at o ≡ first_bad (text_leaf field_number a bs ∷ [])) → IfOk r (λ o. bad_text_at o ≡ first_bad (leaves (shape_of k) field_number a (value_at p k w)))
 text_done p k field_number a w bs r is read e =
     along r _ _ (ap (λ (b : List ℕ). first_bad (text_leaf field_number a b ∷ [])) read ∙ ap first_bad (sym (text_leaves field_number a (value_at p Text w))) ∙ at_kind p k Text field_number a w is) e
 
-pub hash_done : (p : List ℕ) (k : Kind) (field_number : ℕ) (a : Surroundings) (w : ℕ) (bs : List ℕ) {E : Type 0} (r : Result (Option Cause) E) → k ≡ Hash → bs ≡ text_in (value_at p Hash w) → IfOk r (λ o. o ≡ first_bad (text_leaf field_number a bs ∷ [])) → IfOk r (λ o. o ≡ first_bad (leaves (shape_of k) field_number a (value_at p k w)))
+pub hash_done : (p : List ℕ) (k : Kind) (field_number : ℕ) (a : Surroundings) (w : ℕ) (bs : List ℕ) {E : Type 0} (r : Result (Option ℕ) E) → k ≡ Hash → bs ≡ text_in (value_at p Hash w) → IfOk r (λ o. bad_text_at o ≡ first_bad (text_leaf field_number a bs ∷ [])) → IfOk r (λ o. bad_text_at o ≡ first_bad (leaves (shape_of k) field_number a (value_at p k w)))
 hash_done p k field_number a w bs r is read e =
     along r _ _ (ap (λ (b : List ℕ). first_bad (text_leaf field_number a b ∷ [])) read ∙ ap first_bad (sym (hash_leaves field_number a (value_at p Hash w))) ∙ at_kind p k Hash field_number a w is) e
 
-pub texts_done : (p : List ℕ) (k : Kind) (field_number : ℕ) (a : Surroundings) (w : ℕ) (ws : List ℕ) {E : Type 0} (r : Result (Option Cause) E) → k ≡ TextArr → array_at p Text ws ≡ value_at p TextArr w → IfOk r (λ o. o ≡ first_bad (each_leaf (leaves (shape_of Text) field_number a) (values_at p Text ws)))
-    → IfOk r (λ o. o ≡ first_bad (leaves (shape_of k) field_number a (value_at p k w)))
+pub texts_done : (p : List ℕ) (k : Kind) (field_number : ℕ) (a : Surroundings) (w : ℕ) (ws : List ℕ) {E : Type 0} (r : Result (Option ℕ) E) → k ≡ TextArr → array_at p Text ws ≡ value_at p TextArr w → IfOk r (λ o. bad_text_at o ≡ first_bad (each_leaf (leaves (shape_of Text) field_number a) (values_at p Text ws)))
+    → IfOk r (λ o. bad_text_at o ≡ first_bad (leaves (shape_of k) field_number a (value_at p k w)))
 texts_done p k field_number a w ws r is read e =
     along r _ _ (ap (λ vs. first_bad (each_leaf (leaves (shape_of Text) field_number a) vs)) (sym (entries_arr (values_at p Text ws)) ∙ ap entries_in read) ∙ ap first_bad (sym (texts_leaves field_number a (value_at p TextArr w))) ∙ at_kind p k TextArr field_number a w is) e
 
-pub objects_done : (p : List ℕ) (k : Kind) (which : Which) (field_number : ℕ) (a : Surroundings) (w : ℕ) (ws : List ℕ) {E : Type 0} (r : Result (Option Cause) E) → k ≡ ObjArr which → array_at p (Obj which) ws ≡ value_at p (ObjArr which) w
-    → IfOk r (λ o. o ≡ first_bad (each_leaf (leaves (shape_of (Obj which)) field_number a) (values_at p (Obj which) ws))) → IfOk r (λ o. o ≡ first_bad (leaves (shape_of k) field_number a (value_at p k w)))
+pub objects_done : (p : List ℕ) (k : Kind) (which : Which) (field_number : ℕ) (a : Surroundings) (w : ℕ) (ws : List ℕ) {E : Type 0} (r : Result (Option ℕ) E) → k ≡ ObjArr which → array_at p (Obj which) ws ≡ value_at p (ObjArr which) w
+    → IfOk r (λ o. bad_text_at o ≡ first_bad (each_leaf (leaves (shape_of (Obj which)) field_number a) (values_at p (Obj which) ws))) → IfOk r (λ o. bad_text_at o ≡ first_bad (leaves (shape_of k) field_number a (value_at p k w)))
 objects_done p k which field_number a w ws r is read e =
     along r _ _ (ap (λ vs. first_bad (each_leaf (leaves (shape_of (Obj which)) field_number a) vs)) (sym (entries_arr (values_at p (Obj which) ws)) ∙ ap entries_in read) ∙ ap first_bad (sym (objects_leaves which field_number a (value_at p (ObjArr which) w))) ∙ at_kind p k (ObjArr which) field_number a w is) e
 
-pub object_done : (p : List ℕ) (k : Kind) (which : Which) (field_number : ℕ) (a inside : Surroundings) (w : ℕ) {E : Type 0} (r : Result (Option Cause) E) → k ≡ Obj which → inside ≡ inside_of (schema_number which) a (value_at p (Obj which) w)
-    → IfOk r (λ o. o ≡ first_bad (field_leaves (shapes_of (table which)) (100 * schema_number which + 1) inside (entries_in (value_at p (Obj which) w)))) → IfOk r (λ o. o ≡ first_bad (leaves (shape_of k) field_number a (value_at p k w)))
+pub object_done : (p : List ℕ) (k : Kind) (which : Which) (field_number : ℕ) (a inside : Surroundings) (w : ℕ) {E : Type 0} (r : Result (Option ℕ) E) → k ≡ Obj which → inside ≡ inside_of (schema_number which) a (value_at p (Obj which) w)
+    → IfOk r (λ o. bad_text_at o ≡ first_bad (field_leaves (shapes_of (table which)) (100 * schema_number which + 1) inside (entries_in (value_at p (Obj which) w)))) → IfOk r (λ o. bad_text_at o ≡ first_bad (leaves (shape_of k) field_number a (value_at p k w)))
 object_done p k which field_number a inside w r is made e =
     along r _ _ (ap (λ (b : Surroundings). first_bad (field_leaves (shapes_of (table which)) (100 * schema_number which + 1) b (entries_in (value_at p (Obj which) w)))) made
     ∙ ap first_bad (sym (object_leaves which field_number a (value_at p (Obj which) w))) ∙ at_kind p k (Obj which) field_number a w is) e

@@ -7,3 +7,4 @@ pub mod SoundValues
 pub mod FirstBad
 pub mod Surroundings
 pub mod TextRules
+pub mod TextWalk

@@ -3,6 +3,8 @@
 
 ghost use Rattle.std.specs.Prelude.{◌≡◌, All, IfOk};
 ghost use Rattle.std.specs.Bool.{OnTrue};
+ghost use Rattle.version_core.specs.Order.{is_version};
+ghost use Rattle.dep_core.specs.Value.{is_version_or_empty};
 ghost use Rattle.adb_view.specs.Adb.{payload_of};
 ghost use Rattle.adb_rules.specs.TextRules.{KeepsTextRule, keeps_text_rule, text_at};
 
@@ -12,6 +14,7 @@ use base_core::is_name;
 use dep_core::{is_dep_name, is_package_name};
 use std::alloc::{AllocError, Global};
 use std::collections::BTreeSet;
+use version_core::OverlappingVersions;
 
 /// How many bytes a text has at most that is judged at each place where it stands.
 const SHORT: usize = 64;
@@ -52,7 +55,9 @@ impl TextRule {
 pub(crate) struct Judged<'a> {
     adb: Adb<'a>,
     good: BTreeSet<(TextRule, u32)>,
+    versions: OverlappingVersions<'a>,
     ghost kept: { All (KeepsTextRule (payload_of adb)) good.keys },
+    ghost same: { versions ≡ payload_of adb },
 }
 
 impl<'a> Judged<'a> {
@@ -63,11 +68,12 @@ impl<'a> Judged<'a> {
         Judged {
             adb,
             good: BTreeSet::new(alloc),
+            versions: OverlappingVersions::new(alloc, adb.payload()),
         }
     }
 
-    /// Whether the text of a word keeps a rule. Only a long text that is found to keep it takes
-    /// memory, and each once for each rule.
+    /// Whether the text of a word keeps a rule. Only long texts take memory, each once for each
+    /// rule that it keeps.
     pub(crate) fn keeps(
         &mut self,
         rule: TextRule,
@@ -84,7 +90,7 @@ impl<'a> Judged<'a> {
         if self.is_good(rule, word) {
             return Ok(true);
         }
-        if !rule.is_kept_by(text) {
+        if !self.long_text_keeps(rule, word, text)? {
             return Ok(false);
         }
         self.good.insert((rule, word.word()))?;
@@ -96,5 +102,48 @@ impl<'a> Judged<'a> {
         ensures { OnTrue result (KeepsTextRule (payload_of self.now.adb) (rule, word)) }
     {
         self.good.contains(&(rule, word.word()))
+    }
+
+    /// The same of a text that is judged here. A version has no limit of length, and many may
+    /// overlap.
+    fn long_text_keeps(
+        &mut self,
+        rule: TextRule,
+        word: Val,
+        text: &[u8],
+    ) -> Result<bool, AllocError>
+        requires { text.now ≡ text_at (payload_of self.old.adb) word }
+        ensures value { IfOk result (λ kept. kept ≡ keeps_text_rule rule text.now) }
+        ensures payload { self.new.adb ≡ self.old.adb }
+    {
+        match rule {
+            TextRule::Version => self.is_version(word, text),
+            TextRule::VersionOrEmpty => self.is_version_or_empty(word, text),
+            _ => Ok(rule.is_kept_by(text)),
+        }
+    }
+
+    /// Whether the text of a word is empty or a version.
+    fn is_version_or_empty(&mut self, word: Val, text: &[u8]) -> Result<bool, AllocError>
+        requires { text.now ≡ text_at (payload_of self.old.adb) word }
+        ensures value { IfOk result (λ is. is ≡ is_version_or_empty text.now) }
+        ensures payload { self.new.adb ≡ self.old.adb }
+    {
+        if text.is_empty() {
+            return Ok(true);
+        }
+        self.is_version(word, text)
+    }
+
+    /// Whether the text of a word is a version.
+    fn is_version(&mut self, word: Val, text: &[u8]) -> Result<bool, AllocError>
+        requires { text.now ≡ text_at (payload_of self.old.adb) word }
+        ensures value { IfOk result (λ is. is ≡ is_version text.now) }
+        ensures payload { self.new.adb ≡ self.old.adb }
+    {
+        match self.adb.blob_range(word) {
+            Ok((from, end)) => self.versions.is_version(from, end),
+            Err(_) => Ok(is_version(text)),
+        }
     }
 }

@@ -1,6 +1,7 @@
 //! The text walk: each number and text of a walked payload, against the rule of its field.
 
 ghost use Rattle.std.specs.Prelude.{ℕ, List, ◌↔◌, None, ◌≡◌, ◌==◌, ◌*◌, true, length, ◌+◌, ◌<◌, ◌≤◌, ◌^◌, IfOk, [], ◌∷◌};
+ghost use Rattle.std.specs.Bool.{OnTrue};
 ghost use Rattle.adb_view.specs.Adb.{payload_of};
 ghost use Rattle.adb_tables.specs.Schema.{schema_number, shape_of, shapes_of, table};
 ghost use Rattle.adb_tables.specs.Values.{is_sound, value_at, entries_in, entry_in, count_of};
@@ -8,6 +9,7 @@ ghost use Rattle.adb_fields.specs.Paths.{path_of};
 ghost use Rattle.adb_rules.specs.Rules.{is_change_name, is_one_part};
 ghost use Rattle.adb_rules.specs.Surroundings.{surroundings_of};
 ghost use Rattle.adb_rules.specs.TextRules.{text_at};
+ghost use Rattle.adb_rules.specs.TextWalk.{IsSameAsBefore, bad_text_at};
 ghost use Rattle.adb_tables.specs.Shaped.{shaped_value, table_of};
 ghost use Rattle.adb_view.specs.Shaped.{Each};
 ghost use Rattle.adb_rules.specs.SoundValues.{IsChangeName, IsSoundDependency, IsFileOf, IsFolder, IsInformation, IsPackage, KeepsRules};
@@ -240,17 +242,15 @@ pub fn check_texts(alloc: Global, shaped: Shaped<'_>) -> Result<Option<Cause>, A
     let adb = shaped.adb();
     let which = shaped.which();
     let mut judged = Judged::new(alloc, adb);
-    check_value(
-        adb,
-        &mut judged,
-        Kind::Obj(which),
-        0,
-        Surroundings::at_root(which),
-        adb.root(),
-    )
+    let around = Surroundings::at_root(which);
+    match check_value(adb, &mut judged, Kind::Obj(which), 0, around, adb.root())? {
+        Some(place) => Ok(Some(Cause::BadText { place })),
+        None => Ok(None),
+    }
 }
 
-/// Checks a value, and what lies below it.
+/// Checks a value, and what lies below it, and answers the number of the first field that breaks
+/// its rule. (A cause has 150 bytes, too many to be handed from value to value.)
 #[cycle(check)]
 fn check_value<'a>(
     adb: Adb<'a>,
@@ -259,10 +259,10 @@ fn check_value<'a>(
     field_number: u16,
     around: Surroundings<'a>,
     word: Val,
-) -> Result<Option<Cause>, AllocError>
+) -> Result<Option<u16>, AllocError>
     requires sound { is_sound (payload_of adb) kind word ≡ true }
     requires payload { payload_of judged.old.adb ≡ payload_of adb }
-    ensures cause { IfOk result (λ cause. cause
+    ensures place { IfOk result (λ place. bad_text_at place
         ≡ first_bad (leaves (shape_of kind) field_number (surroundings_of around.entry)
         (value_at (payload_of adb.entry) kind word))) }
     ensures payload { judged.new.adb ≡ judged.old.adb }
@@ -286,7 +286,7 @@ fn check_value<'a>(
     }
 }
 
-/// Checks the entries of an array.
+/// Checks the entries of an array, of equal ones that follow each other the first.
 #[cycle(check)]
 fn check_entries<'a>(
     adb: Adb<'a>,
@@ -295,21 +295,35 @@ fn check_entries<'a>(
     field_number: u16,
     around: Surroundings<'a>,
     entries: Arr<'a>,
-) -> Result<Option<Cause>, AllocError>
+) -> Result<Option<u16>, AllocError>
     requires sound { are_all_sound (payload_of adb) kind (array_entries entries) ≡ true }
     requires payload { payload_of judged.old.adb ≡ payload_of adb }
-    ensures cause { IfOk result (λ cause. cause
+    ensures place { IfOk result (λ place. bad_text_at place
         ≡ first_bad (each_leaf (leaves (shape_of kind) field_number (surroundings_of around.entry))
         (values_at (payload_of adb.entry) kind (array_entries entries.entry)))) }
     ensures payload { judged.new.adb ≡ judged.old.adb }
 {
     for i in 0..entries.len() {
+        if is_same_as_before(entries, i) {
+            continue;
+        }
         let word = entry_word(entries, i);
-        if let Some(cause) = check_value(adb, judged, kind, field_number, around, word)? {
-            return Ok(Some(cause));
+        if let Some(place) = check_value(adb, judged, kind, field_number, around, word)? {
+            return Ok(Some(place));
         }
     }
     Ok(None)
+}
+
+/// Whether an entry is the same word as the one before it.
+fn is_same_as_before(entries: Arr<'_>, i: usize) -> bool
+    requires { i < length (array_entries entries) }
+    ensures { OnTrue result (IsSameAsBefore (array_entries entries.entry) i) }
+{
+    if i == 0 {
+        return false;
+    }
+    entry_word(entries, i - 1).word() == entry_word(entries, i).word()
 }
 
 /// Checks the fields of an object, each of those of its table.
@@ -320,10 +334,10 @@ fn check_fields<'a>(
     which: Which,
     around: Surroundings<'a>,
     object: Val,
-) -> Result<Option<Cause>, AllocError>
+) -> Result<Option<u16>, AllocError>
     requires sound { is_sound (payload_of adb) (Kinds.Obj which) object ≡ true }
     requires payload { payload_of judged.old.adb ≡ payload_of adb }
-    ensures cause { IfOk result (λ cause. cause
+    ensures place { IfOk result (λ place. bad_text_at place
         ≡ first_bad (field_leaves (shapes_of (table which)) (100 * schema_number which + 1)
         (surroundings_of around.entry)
         (entries_in (value_at (payload_of adb.entry) (Kinds.Obj which) object)))) }
@@ -333,22 +347,20 @@ fn check_fields<'a>(
     for (i, field) in fields_of(which).iter().enumerate() {
         field_number += 1;
         let word = field_word(adb, which, object, i);
-        if let Some(cause) = check_value(adb, judged, field.kind, field_number, around, word)? {
-            return Ok(Some(cause));
+        if let Some(place) = check_value(adb, judged, field.kind, field_number, around, word)? {
+            return Ok(Some(place));
         }
     }
     Ok(None)
 }
 
-fn check_number(field_number: u16, n: u64) -> Option<Cause>
-    ensures { result ≡ first_bad (number_leaf field_number n ∷ []) }
+fn check_number(field_number: u16, n: u64) -> Option<u16>
+    ensures { bad_text_at result ≡ first_bad (number_leaf field_number n ∷ []) }
 {
     if keeps_number_rule(field_number, n) {
         None
     } else {
-        Some(Cause::BadText {
-            place: field_number,
-        })
+        Some(field_number)
     }
 }
 
@@ -358,18 +370,16 @@ fn check_text(
     around: &Surroundings<'_>,
     word: Val,
     text: &[u8],
-) -> Result<Option<Cause>, AllocError>
+) -> Result<Option<u16>, AllocError>
     requires { text.now ≡ text_at (payload_of judged.old.adb) word }
-    ensures cause { IfOk result (λ cause. cause
+    ensures place { IfOk result (λ place. bad_text_at place
         ≡ first_bad (text_leaf field_number (surroundings_of around.now) text.now ∷ [])) }
     ensures payload { judged.new.adb ≡ judged.old.adb }
 {
     if keeps_rule_of_field(judged, field_number, around, word, text)? {
         Ok(None)
     } else {
-        Ok(Some(Cause::BadText {
-            place: field_number,
-        }))
+        Ok(Some(field_number))
     }
 }
 

@@ -1,6 +1,6 @@
 //! An opened payload and its four readers, and what follows from the definitions, for every payload.
 
-ghost use Rattle.std.specs.Prelude.{◌≡◌, ◌≤◌, length, IfOk, ◌<◌, ℕ, List, All, IfSome, is_some};
+ghost use Rattle.std.specs.Prelude.{◌≡◌, ◌≤◌, length, slice_range, IfOk, ◌<◌, ℕ, List, All, IfSome, is_some};
 ghost use Rattle.adb_view.specs.Head.{head_fault, root_of};
 ghost use Rattle.adb_view.specs.Readers.{int_of, blob_of, run_of, ARRAY, OBJECT};
 ghost use Rattle.adb_view.specs.Gives.{Gives, cause_of};
@@ -10,7 +10,7 @@ ghost use Rattle.adb_view.specs.Shaped.{HasShape, HaveShapes};
 ghost use Rattle.adb_view.specs.Visits.{visits, field_visits, is_sound_visit};
 
 use crate::run::{Arr, Obj};
-use crate::words::{Val, Width, counted, kind, number};
+use crate::words::{Val, Width, counted_range, kind, number};
 use base_core::Cause;
 
 /// The bytes before the values.
@@ -88,12 +88,28 @@ impl<'a> Adb<'a> {
     /// # Errors
     ///
     /// `WrongKind` where it is no blob, else `Outside` where its bytes leave the payload.
-    #[tactic(auto, unfolding(crate::specs::Readers::blob_of))]
     pub fn blob(&self, v: Val) -> Result<&'a [u8], Cause>
         ensures { Gives (λ bytes. bytes.now) result (blob_of (payload_of self.now) v) }
     {
+        let (from, end) = self.blob_range(v)?;
+        Ok(&self.payload[from..end])
+    }
+
+    /// From where to where in the payload the bytes of the blob stand that the value is; those of
+    /// NULL are none.
+    ///
+    /// # Errors
+    ///
+    /// `WrongKind` where it is no blob, else `Outside` where its bytes leave the payload.
+    #[tactic(auto, unfolding(crate::specs::Readers::blob_of))]
+    pub fn blob_range(&self, v: Val) -> Result<(usize, usize), Cause>
+        ensures found { Gives (λ found. slice_range (payload_of self.now) found.0 found.1) result
+            (blob_of (payload_of self.now) v) }
+        ensures order { IfOk result (λ found. found.0 ≤ found.1) }
+        ensures within { IfOk result (λ found. found.1 ≤ length (payload_of self.now)) }
+    {
         if v.is_null() {
-            return Ok(&[]);
+            return Ok((0, 0));
         }
         let word = v.word();
         let width = match v.kind() {
@@ -102,7 +118,7 @@ impl<'a> Adb<'a> {
             kind::BLOB_32 => Width::Four,
             _ => return Err(Cause::WrongKind { word }),
         };
-        counted(self.payload, v.low() as usize, width).ok_or(Cause::Outside { word })
+        counted_range(self.payload, v.low() as usize, width).ok_or(Cause::Outside { word })
     }
 
     /// The array that the value is; NULL has no entries.

@@ -1,6 +1,6 @@
 //! Words of values, and the ranges and numbers of a byte slice that they point to.
 
-ghost use Rattle.std.specs.Prelude.{◌≡◌, ◌↔◌, IsTrue, ◌<◌, ◌-◌, ◌*◌, ◌/◌, ◌^◌, length, IfSome, slice_index};
+ghost use Rattle.std.specs.Prelude.{◌≡◌, ◌↔◌, IsTrue, ◌<◌, ◌≤◌, ◌-◌, ◌*◌, ◌/◌, ◌^◌, length, IfSome, slice_index, slice_range};
 ghost use Rattle.adb_view.specs.Readers.{kind_of, low_of, counted_at, run_at};
 ghost use Rattle.std.specs.Int.{byte_len};
 ghost use Rattle.adb_view.specs.Bytes.{range_at, number_at, words};
@@ -125,13 +125,21 @@ pub(crate) fn number(bytes: &[u8], at: usize, width: Width) -> Option<u64>
     })
 }
 
-/// The bytes behind a length of this width at `at`.
-pub(crate) fn counted(bytes: &[u8], at: usize, width: Width) -> Option<&[u8]>
+/// From where to where the bytes behind a length of this width at `at` stand.
+pub(crate) fn counted_range(bytes: &[u8], at: usize, width: Width) -> Option<(usize, usize)>
     requires { at < 2 ^ 28 }
-    ensures { Finds (λ found. found.now) result (counted_at (width_of width) bytes.now at) }
+    ensures found { Finds (λ found. slice_range bytes.now found.0 found.1) result
+        (counted_at (width_of width) bytes.now at) }
+    ensures order { IfSome result (λ found. found.0 ≤ found.1) }
+    ensures within { IfSome result (λ found. found.1 ≤ length bytes.now) }
 {
     let len = number(bytes, at, width)?;
-    range(bytes, at + width.bytes(), len as usize)
+    let from = at + width.bytes();
+    let end = from.checked_add(len as usize)?;
+    if end > bytes.len() {
+        return None;
+    }
+    Some((from, end))
 }
 
 /// The words of the run at `at` behind its first, which counts itself too.

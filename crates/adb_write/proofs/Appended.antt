@@ -7,9 +7,9 @@ use Rattle.adb_write.specs.Canonical.{gap, Item, WrittenItem, MOST_BYTES}
 use Rattle.adb_write.specs.Items.{item_of, HasNumbersInRange}
 use Rattle.adb_write.specs.declared.item.Parts.{Parts}
 use Rattle.adb_write.specs.declared.word_pages.Slot.{Slot}
-use Rattle.adb_write.specs.Keys.{key_of, key_at, HaveRisingKeys}
+use Rattle.adb_write.specs.Keys.{fingerprint_of, fingerprint_of_locator, key_of, key_at, locator_of, HaveRisingKeys, word_of_locator}
 use Rattle.adb_write.specs.WordPages.{AreFilled, words_before, words_behind, IsBetween}
-use Rattle.adb_write.specs.WriterState.{HasHead, IsStored, AreStored, written_item, items_of_words}
+use Rattle.adb_write.specs.WriterState.{HasHead, IsStored, AreStored, written_item, items_of_locators}
 use Rattle.adb_write.proofs.Placed.{word_kind, word_low}
 use Rattle.adb_write.proofs.Grown.{Grown, grown}
 use Rattle.adb_write.proofs.Pages.{parts_at}
@@ -21,7 +21,13 @@ use Rattle.adb_write.proofs.WriterSteps.{written_at}
 pub record Appended (p new : List ℕ) (pages new_pages : List (List ℕ)) (i : Item) : Type 0 where
   pub rising : HaveRisingKeys new (concat new_pages)
   pub stored : AreStored new (concat new_pages)
-  pub items : items_of_words (concat new_pages) ≡ written_at i (drop 8 p) ∷ items_of_words (concat pages)
+  pub items : items_of_locators (concat new_pages) ≡ written_at i (drop 8 p) ∷ items_of_locators (concat pages)
+
+pub locator_word : (f w : ℕ) → w < 2 ^ 32 → word_of_locator (locator_of f w) ≡ w
+locator_word f w small = omega (arith, small)
+
+pub locator_fingerprint : (f w : ℕ) → w < 2 ^ 32 → fingerprint_of_locator (locator_of f w) ≡ f
+locator_fingerprint f w small = omega (arith, small)
 
 -- where the item stands
 new_there : (p new bytes : List ℕ) (g at : ℕ) → Grown p new g bytes → at ≡ 8 + length (drop 8 p) + g → take (length bytes) (drop at new) ≡ bytes
@@ -38,28 +44,28 @@ pub appended : (p new : List ℕ) (pages new_pages : List (List ℕ)) (parts : P
     → HaveRisingKeys p (concat pages) → AreStored p (concat pages) → HasNumbersInRange parts → bytes + g + length (item_of parts).bytes ≤ MOST_BYTES → IsBetween p pages (key_of parts) slot
     → new ≡ p ++ (replicate (bytes + g - length p) 0 ++ (item_of parts).bytes)
     → concat new_pages ≡ words_before pages slot.page slot.index ++ w ∷ words_behind pages slot.page slot.index
-    → w ≡ (item_of parts).kind * 2 ^ 28 + (bytes + g) → Appended p new pages new_pages (item_of parts)
-appended p new pages new_pages parts slot bytes g w head agree gap_is rising stored room few between new_is words_are word_is =
+    → fingerprint_of_locator w ≡ fingerprint_of parts → word_of_locator w ≡ (item_of parts).kind * 2 ^ 28 + (bytes + g) → Appended p new pages new_pages (item_of parts)
+appended p new pages new_pages parts slot bytes g w head agree gap_is rising stored room few between new_is words_are print word_is =
     let i : Item = item_of parts in
     let q : List ℕ = replicate (bytes + g - length p) 0 ++ i.bytes in
     let before : List ℕ = words_before pages slot.page slot.index in
     let behind : List ℕ = words_behind pages slot.page slot.index in
     let whole : before ++ behind ≡ concat pages = parts_at pages slot.page slot.index in
     let at : bytes + g < 2 ^ 28 = omega arith in
-    let kind : kind_of w ≡ i.kind = ap kind_of word_is ∙ word_kind i.kind (bytes + g) at in
-    let low : low_of w ≡ bytes + g = ap low_of word_is ∙ word_low i.kind (bytes + g) at in
-    let behind_head : 8 ≤ low_of w = omega arith in
+    let kind : kind_of (word_of_locator w) ≡ i.kind = ap kind_of word_is ∙ word_kind i.kind (bytes + g) at in
+    let low : low_of (word_of_locator w) ≡ bytes + g = ap low_of word_is ∙ word_low i.kind (bytes + g) at in
+    let behind_head : 8 ≤ low_of (word_of_locator w) = omega arith in
     let h : Grown p (p ++ q) g i.bytes = grown p bytes g i.bytes head agree in
-    let there : take (length i.bytes) (drop (low_of w) (p ++ q)) ≡ i.bytes = new_there p (p ++ q) i.bytes g (low_of w) h (low ∙ ap (λ (k : ℕ). k + g) agree) in
+    let there : take (length i.bytes) (drop (low_of (word_of_locator w)) (p ++ q)) ≡ i.bytes = new_there p (p ++ q) i.bytes g (low_of (word_of_locator w)) h (low ∙ ap (λ (k : ℕ). k + g) agree) in
     let small = parts_small parts room (omega arith) in
     let old_stored : AreStored p (before ++ behind) = subst (AreStored p) (sym whole) stored in
     let old_rising : HaveRisingKeys p (before ++ behind) = subst (HaveRisingKeys p) (sym whole) rising in
-    let first : written_item w ≡ written_at i (drop 8 p) = same_item (kind_of w) i.kind (low_of w - 8) (length (drop 8 p) + gap i.align (8 + length (drop 8 p))) kind (omega (arith, ap (gap i.align) agree)) in
+    let first : written_item w ≡ written_at i (drop 8 p) = same_item (kind_of (word_of_locator w)) i.kind (low_of (word_of_locator w) - 8) (length (drop 8 p) + gap i.align (8 + length (drop 8 p))) kind (omega (arith, ap (gap i.align) agree)) in
     record {
-      rising = subst (λ (x : List ℕ). HaveRisingKeys x (concat new_pages)) (sym new_is) (subst (HaveRisingKeys (p ++ q)) (sym words_are) (rising_new p q (key_of parts) w before behind old_stored old_rising (parts_key (p ++ q) w parts small kind behind_head there) between.lower between.higher));
-      stored = subst (λ (x : List ℕ). AreStored x (concat new_pages)) (sym new_is) (subst (AreStored (p ++ q)) (sym words_are) (stored_with p q w before behind old_stored (parts_stored (p ++ q) w parts small kind behind_head there)));
-      items = ap items_of_words words_are ∙ new_item before w behind (all_lower p w (before ++ behind) (omega (arith, length-drop 8 p)) old_stored)
-          ∙ ap (λ (x : WrittenItem). x ∷ items_of_words (before ++ behind)) first ∙ ap (λ (ws : List ℕ). written_at i (drop 8 p) ∷ items_of_words ws) whole;
+      rising = subst (λ (x : List ℕ). HaveRisingKeys x (concat new_pages)) (sym new_is) (subst (HaveRisingKeys (p ++ q)) (sym words_are) (rising_new p q (key_of parts) w before behind old_stored old_rising (parts_key (p ++ q) w parts small print kind behind_head there) between.lower between.higher));
+      stored = subst (λ (x : List ℕ). AreStored x (concat new_pages)) (sym new_is) (subst (AreStored (p ++ q)) (sym words_are) (stored_with p q w before behind old_stored (parts_stored (p ++ q) w parts small print kind behind_head there)));
+      items = ap items_of_locators words_are ∙ new_item before w behind (all_lower p w (before ++ behind) (omega (arith, length-drop 8 p)) old_stored)
+          ∙ ap (λ (x : WrittenItem). x ∷ items_of_locators (before ++ behind)) first ∙ ap (λ (ws : List ℕ). written_at i (drop 8 p) ∷ items_of_locators ws) whole;
     }
   where
     same_item : (k l a b : ℕ) → k ≡ l → a ≡ b → ◌≡◌ {A = WrittenItem} (record { kind = k; offset = a }) (record { kind = l; offset = b })

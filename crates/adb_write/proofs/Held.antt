@@ -1,4 +1,4 @@
--- The items of a writer, by the words of its pages.
+-- The items of a writer, by the locators of its pages.
 use Rattle.std.proofs.Common.{◌≡◌, ◌≢◌, ℕ, zero, suc, ◌+◌, ◌-◌, ◌*◌, ◌/◌, ◌%◌, ◌^◌, ◌<◌, ◌≤◌, Bool, true, false, cond, eqb, ltb, List, [], ◌∷◌, ◌++◌, length, map, take, drop, replicate, Option, Some, None, refl, sym, ap, subst, ◌∙◌, append_assoc, arith, inl, inr, ◌⊎◌}
 use Rattle.std.specs.Prelude.{find, option_map}
 use Rattle.std.specs.List.{AllByRecursion, concat}
@@ -14,9 +14,9 @@ use Rattle.adb_view.specs.Readers.{kind_of, low_of}
 use Rattle.adb_write.specs.Canonical.{Item, WrittenItem, is_equal_item, word_of_item, MOST_BYTES}
 use Rattle.adb_write.specs.Items.{item_of, HasNumbersInRange}
 use Rattle.adb_write.specs.declared.item.Parts.{Parts}
-use Rattle.adb_write.specs.Keys.{key_of, key_at, HaveRisingKeys}
+use Rattle.adb_write.specs.Keys.{key_of, key_at, HaveRisingKeys, word_of_locator}
 use Rattle.adb_write.specs.WordPages.{AreFilled, AllCompare, IsFoundIn, IsBetween}
-use Rattle.adb_write.specs.WriterState.{HasHead, IsStored, AreStored, written_item, with_item, items_of_words}
+use Rattle.adb_write.specs.WriterState.{HasHead, IsStored, AreStored, written_item, with_item, items_of_locators}
 use Rattle.adb_write.proofs.Found.{find-none, Has}
 use Rattle.adb_write.proofs.Rising.{cmp, flipped, IsBelow, less_chain, all_both, all_first, all_last, all_into, all_two, rising_none, rising_head, rising_rest, rising_more, rising_before, rising_with, rising_last}
 use Rattle.adb_write.proofs.StoredWords.{stored_of, stored_ends, item_some, stored_more, key_more, equal_key, key_equal, parts_stored, parts_key, parts_some, parts_small}
@@ -42,9 +42,9 @@ all_with Q x (y ∷ ys) q a = go (ltb y.offset x.offset) (all_with Q x ys q a.1)
     go true rest = (q, a)
     go false rest = (a.0, rest)
 
-pub all_items : (Q : WrittenItem → Type 0) (ws : List ℕ) → AllByRecursion (λ w. Q (written_item w)) ws → AllByRecursion Q (items_of_words ws)
+pub all_items : (Q : WrittenItem → Type 0) (ws : List ℕ) → AllByRecursion (λ w. Q (written_item w)) ws → AllByRecursion Q (items_of_locators ws)
 all_items Q [] a = tt
-all_items Q (w ∷ ws) a = all_with Q (written_item w) (items_of_words ws) a.0 (all_items Q ws a.1)
+all_items Q (w ∷ ws) a = all_with Q (written_item w) (items_of_locators ws) a.0 (all_items Q ws a.1)
 
 has_new : (x : WrittenItem) (xs : List WrittenItem) → Has x (with_item x xs)
 has_new x [] = inl refl
@@ -63,9 +63,9 @@ has_old x y (z ∷ zs) h = go (ltb z.offset x.offset) h (λ more. has_old x y zs
     go false (inl same) rest = inl same
     go false (inr more) rest = inr (rest more)
 
-pub has_item : (before : List ℕ) (w : ℕ) (behind : List ℕ) → Has (written_item w) (items_of_words (before ++ w ∷ behind))
-has_item [] w behind = has_new (written_item w) (items_of_words behind)
-has_item (v ∷ before) w behind = has_old (written_item v) (written_item w) (items_of_words (before ++ w ∷ behind)) (has_item before w behind)
+pub has_item : (before : List ℕ) (w : ℕ) (behind : List ℕ) → Has (written_item w) (items_of_locators (before ++ w ∷ behind))
+has_item [] w behind = has_new (written_item w) (items_of_locators behind)
+has_item (v ∷ before) w behind = has_old (written_item v) (written_item w) (items_of_locators (before ++ w ∷ behind)) (has_item before w behind)
 
 -- ---- an item behind all others comes first
 
@@ -77,18 +77,18 @@ under : (x y : WrittenItem) (xs : List WrittenItem) → y.offset < x.offset → 
 under x y xs less = let t : ltb x.offset y.offset ≡ false = le-ltb _ _ (omega arith) in rw t refl
 
 pub new_item : (before : List ℕ) (w : ℕ) (behind : List ℕ) → AllByRecursion (λ v. (written_item v).offset < (written_item w).offset) (before ++ behind)
-    → items_of_words (before ++ w ∷ behind) ≡ written_item w ∷ items_of_words (before ++ behind)
-new_item [] w behind a = top (written_item w) (items_of_words behind) (all_items (λ y. y.offset < (written_item w).offset) behind a)
+    → items_of_locators (before ++ w ∷ behind) ≡ written_item w ∷ items_of_locators (before ++ behind)
+new_item [] w behind a = top (written_item w) (items_of_locators behind) (all_items (λ y. y.offset < (written_item w).offset) behind a)
 new_item (v ∷ before) w behind a =
-    ap (with_item (written_item v)) (new_item before w behind a.1) ∙ under (written_item w) (written_item v) (items_of_words (before ++ behind)) a.0
+    ap (with_item (written_item v)) (new_item before w behind a.1) ∙ under (written_item w) (written_item v) (items_of_locators (before ++ behind)) a.0
 
 -- ---- what the pages tell of the items
 
 -- no item equals one that is neither lower nor higher
 pub not_found : (p : List ℕ) (parts : Parts) (ws : List ℕ) (before behind : List ℕ) → before ++ behind ≡ ws → AreStored p ws → HasNumbersInRange parts → length p ≤ MOST_BYTES
-    → AllCompare Greater p (key_of parts) before → AllCompare Less p (key_of parts) behind → find (is_equal_item (drop 8 p) (item_of parts)) (items_of_words ws) ≡ None
+    → AllCompare Greater p (key_of parts) before → AllCompare Less p (key_of parts) behind → find (is_equal_item (drop 8 p) (item_of parts)) (items_of_locators ws) ≡ None
 not_found p parts ws before behind is stored room few low high =
-    find-none (is_equal_item (drop 8 p) (item_of parts)) (items_of_words ws)
+    find-none (is_equal_item (drop 8 p) (item_of parts)) (items_of_locators ws)
     (all_items (λ x. is_equal_item (drop 8 p) (item_of parts) x ≡ false) ws (all_two (IsStored p) (λ w. cmp (key_of parts) (key_at p w) ≢ Equal) (λ w. is_equal_item (drop 8 p) (item_of parts) (written_item w) ≡ false)
     (λ w s ne. not_equal w s ne (is_equal_item (drop 8 p) (item_of parts) (written_item w)) refl) ws stored
     (subst (AllByRecursion (λ w. cmp (key_of parts) (key_at p w) ≢ Equal)) is
@@ -102,7 +102,7 @@ not_found p parts ws before behind is stored room few low high =
 
 -- the words with the key of the one that is found
 pub found_item : (p : List ℕ) (parts : Parts) (ws : List ℕ) (w : ℕ) → AreStored p ws → HaveRisingKeys p ws → HasNumbersInRange parts → length p ≤ MOST_BYTES → IsFoundIn p ws (key_of parts) w
-    → find (is_equal_item (drop 8 p) (item_of parts)) (items_of_words ws) ≡ Some (written_item w)
+    → find (is_equal_item (drop 8 p) (item_of parts)) (items_of_locators ws) ≡ Some (written_item w)
 found_item p parts ws w stored rising room few f =
     let rs = subst (HaveRisingKeys p) f.is rising in
     let ss = subst (AreStored p) f.is stored in
@@ -112,8 +112,8 @@ found_item p parts ws w stored rising room few f =
     let one = all_both (λ v. is_equal_item (drop 8 p) (item_of parts) (written_item v) ≡ true → written_item v ≡ written_item w) f.before (w ∷ f.behind)
     (all_two (IsStored p) (λ v. cmp (key_of parts) (key_at p v) ≢ Equal) (λ v. is_equal_item (drop 8 p) (item_of parts) (written_item v) ≡ true → written_item v ≡ written_item w) (λ v s ne e. absurd (ne (equal_key p v parts s room few e))) f.before (all_first (IsStored p) f.before (w ∷ f.behind) ss) below)
     (λ e. refl, all_two (IsStored p) (λ v. cmp (key_of parts) (key_at p v) ≢ Equal) (λ v. is_equal_item (drop 8 p) (item_of parts) (written_item v) ≡ true → written_item v ≡ written_item w) (λ v s ne e. absurd (ne (equal_key p v parts s room few e))) f.behind (all_last (IsStored p) f.before (w ∷ f.behind) ss).1 higher) in
-    ap (λ (l : List ℕ). find (is_equal_item (drop 8 p) (item_of parts)) (items_of_words l)) f.is
-    ∙ find-one (is_equal_item (drop 8 p) (item_of parts)) (items_of_words (f.before ++ w ∷ f.behind)) (written_item w)
+    ap (λ (l : List ℕ). find (is_equal_item (drop 8 p) (item_of parts)) (items_of_locators l)) f.is
+    ∙ find-one (is_equal_item (drop 8 p) (item_of parts)) (items_of_locators (f.before ++ w ∷ f.behind)) (written_item w)
     (all_items (λ x. is_equal_item (drop 8 p) (item_of parts) x ≡ true → x ≡ written_item w) (f.before ++ w ∷ f.behind) one)
     (has_item f.before w f.behind) (key_equal p w parts own f.equal)
   where
@@ -127,10 +127,10 @@ found_item p parts ws w stored rising room few f =
     differ_up : (v : ℕ) → IsBelow p w v → cmp (key_of parts) (key_at p v) ≡ Equal → ⊥
     differ_up v b e = let no : Equal ≡ Less = sym e ∙ with_key v ∙ b in absurd cc
 
-pub found_word : (p : List ℕ) (ws : List ℕ) (key : List ℕ) (w : ℕ) → AreStored p ws → IsFoundIn p ws key w → word_of_item (written_item w) ≡ w
+pub found_word : (p : List ℕ) (ws : List ℕ) (key : List ℕ) (w : ℕ) → AreStored p ws → IsFoundIn p ws key w → word_of_item (written_item w) ≡ word_of_locator w
 found_word p ws key w stored f =
     let own : IsStored p w = (all_last (IsStored p) f.before (w ∷ f.behind) (subst (AreStored p) f.is stored)).0 in
-    omega (arith, own.behind_head)
+    omega (arith, own.stored.behind_head)
 
 -- ---- pages with one word more
 
@@ -157,16 +157,16 @@ rising_new p q key w before behind s r is low high =
     (λ v t g. ap (λ (k : List ℕ). cmp k (key_at (p ++ q) v)) is ∙ ap (cmp key) (key_more p q v t) ∙ g) behind (all_last (IsStored p) before behind s) high)
 
 -- what was written ends before what is written next
-pub all_lower : (p : List ℕ) (w : ℕ) (ws : List ℕ) → length p ≤ low_of w → AreStored p ws → AllByRecursion (λ v. (written_item v).offset < (written_item w).offset) ws
+pub all_lower : (p : List ℕ) (w : ℕ) (ws : List ℕ) → length p ≤ low_of (word_of_locator w) → AreStored p ws → AllByRecursion (λ v. (written_item v).offset < (written_item w).offset) ws
 all_lower p w ws behind s =
-    all_into (IsStored p) (λ v. (written_item v).offset < (written_item w).offset) (λ v t. omega (arith, stored_ends p v t, t.behind_head, item_some t.what)) ws s
+    all_into (IsStored p) (λ v. (written_item v).offset < (written_item w).offset) (λ v t. omega (arith, stored_ends p v t, t.stored.behind_head, item_some t.what)) ws s
 
 -- ---- without a head nothing was written
 
 pub nothing_between : (p key : List ℕ) (pages : List (List ℕ)) (c : Cause) → HasHead p → AreFilled pages → AreStored p (concat pages) → Some c ≡ head_fault p → IsBetween p pages key (record { page = 0; index = 0 })
 nothing_between p key [] c h f s e = record { inside = (refl, refl); lower = tt; higher = tt }
 nothing_between p key ([] ∷ pages) c h f s e = absurd (let some = f.0 in omega arith)
-nothing_between p key ((w ∷ page) ∷ pages) c (inl none) f s e = absurd (let t = s.0 in omega (arith, ap length none, stored_ends p w t, t.behind_head))
+nothing_between p key ((w ∷ page) ∷ pages) c (inl none) f s e = absurd (let t = s.0 in omega (arith, ap length none, stored_ends p w t, t.stored.behind_head))
 nothing_between p key ((w ∷ page) ∷ pages) c (inr head) f s e = absurd (let no : Some c ≡ None = e ∙ no_fault p head in cc)
   where
     no_fault : (p : List ℕ) → take 8 p ≡ replicate 8 0 → head_fault p ≡ None

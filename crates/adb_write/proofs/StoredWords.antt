@@ -1,6 +1,6 @@
--- What a word of the pages leads to is read as it was written, and is found by its key.
+-- What a locator of the pages names is read as it was written, and is found by its key.
 use Rattle.std.proofs.Common.{◌≡◌, ◌≢◌, ℕ, zero, suc, ◌+◌, ◌-◌, ◌*◌, ◌/◌, ◌%◌, ◌^◌, ◌<◌, ◌≤◌, Bool, true, false, cond, eqb, leb, ltb, List, [], ◌∷◌, ◌++◌, length, map, take, drop, replicate, Option, Some, None, Ok, refl, sym, ap, subst, ◌∙◌, append_assoc, arith, inl, inr, ◌⊎◌, take-append-drop, eq-eqb}
-use Rattle.std.specs.Prelude.{find, option_map, bytes_eq, ◌&&◌}
+use Rattle.std.specs.Prelude.{find, option_map, bytes_eq, reverse, ◌&&◌}
 use Rattle.std.specs.List.{AllByRecursion, flat_map, concat}
 use Rattle.std.specs.Int.{w8, w16, w32, w64, to_le_bytes}
 use Rattle.std.specs.Ordering.{nat_cmp}
@@ -8,7 +8,7 @@ use Rattle.std.specs.declared.cmp.Ordering.{Ordering}
 use Rattle.std.specs.declared.cmp.Ordering.TheVariants.{Less, Equal, Greater}
 use Rattle.std.proofs.lemmas.Cmp.{nat_list_cmp_total, tied_itself}
 use Rattle.std.proofs.lemmas.Bool.{eqb-true, cases_lt, lt-ltb, le-ltb}
-use Rattle.std.proofs.lemmas.List.{length-append, length-take, length-drop, take-append-le, drop-append-le, drop-drop, length-map}
+use Rattle.std.proofs.lemmas.List.{length-append, length-take, length-drop, take-append-le, drop-append-le, drop-drop, length-map, reverse-reverse}
 use Rattle.std.proofs.lemmas.List.Concat.{flat_map-cons}
 use Rattle.std.proofs.lemmas.Slice.Eq.{bytes_eq-Decides}
 use Rattle.std.proofs.lemmas.Map.Lookups.{exact_bytes}
@@ -20,8 +20,8 @@ use Rattle.adb_write.specs.declared.item.ListKind.{ListKind}
 use Rattle.adb_write.specs.declared.item.ListKind.TheVariants.{Array, Object}
 use Rattle.adb_write.specs.declared.item.Parts.{Parts}
 use Rattle.adb_write.specs.declared.item.Parts.TheVariants.{Int, Blob, List as Listed}
-use Rattle.adb_write.specs.Keys.{low_words, content_of, key_of, content_at, key_at, HaveRisingKeys, single_or_empty}
-use Rattle.adb_write.specs.WriterState.{Stored, stored_int, stored_blob, stored_list, item_of_stored, IsSmall, IsStored, AreStored, written_item, with_item, items_of_words}
+use Rattle.adb_write.specs.Keys.{low_words, content_of, content_key_of, key_of, content_at, content_key_at, key_at, HaveRisingKeys, single_or_empty, blob_fingerprint, list_fingerprint, fingerprint_of, fingerprint_of_locator, word_of_locator}
+use Rattle.adb_write.specs.WriterState.{Stored, stored_int, stored_blob, stored_list, item_of_stored, fingerprint_of_stored, IsSmall, IsStoredAt, IsStored, AreStored, written_item, with_item, items_of_locators}
 use Rattle.adb_write.proofs.Rising.{cmp}
 use Rattle.adb_write.proofs.Placed.{Stands, words_len}
 use Rattle.adb_write.proofs.Found.{equal_kind, equal_bytes, equal_within}
@@ -58,7 +58,7 @@ list_kinds Object = omega arith
 abbrev pub content_of_stored : Stored → List ℕ
 content_of_stored (stored_int n) = n ∷ []
 content_of_stored (stored_blob b) = b
-content_of_stored (stored_list kind ws) = ws
+content_of_stored (stored_list kind ws) = reverse ws
 
 -- a word leads to this in a payload
 read_int : (p : List ℕ) (w n : ℕ) → n < 2 ^ 64 → Leads p (int_item n) w → int_of p w ≡ Ok n
@@ -91,8 +91,8 @@ read_content p w (stored_blob b) small l =
     let t : ltb (blob_item b).kind 8 ≡ false = le-ltb _ _ k.0 in
     let u : ltb (blob_item b).kind 13 ≡ true = lt-ltb _ _ (omega arith) in
     rw (t, u) (ap or_empty (read_blob p w b small l))
-read_content p w (stored_list Array ws) small l = ap or_empty (run_of-placed ARRAY p w ws small.0 small.1 l)
-read_content p w (stored_list Object ws) small l = ap or_empty (run_of-placed OBJECT p w ws small.0 small.1 l)
+read_content p w (stored_list Array ws) small l = ap (λ r. reverse (or_empty r)) (run_of-placed ARRAY p w ws small.0 small.1 l)
+read_content p w (stored_list Object ws) small l = ap (λ r. reverse (or_empty r)) (run_of-placed OBJECT p w ws small.0 small.1 l)
 
 -- ---- what a word of the pages leads to
 
@@ -125,14 +125,17 @@ item_some (stored_int n) = int_some n
 item_some (stored_blob b) = omega (arith, blob_long b)
 item_some (stored_list kind ws) = omega (arith, run_long ws)
 
-pub stored_ends : (p : List ℕ) (w : ℕ) → (s : IsStored p w) → low_of w + length (item_of_stored s.what).bytes ≤ length p
-stored_ends p w s = equal_within p (low_of w) (item_of_stored s.what).bytes (item_some s.what) s.there
+placed_ends : (p : List ℕ) (what : Stored) (w : ℕ) → IsStoredAt p what w → low_of w + length (item_of_stored what).bytes ≤ length p
+placed_ends p what w s = equal_within p (low_of w) (item_of_stored what).bytes (item_some what) s.there
 
-pub stored_leads : (p : List ℕ) (w : ℕ) → (s : IsStored p w) → Leads p (item_of_stored s.what) w
-stored_leads p w s =
-    let bytes : List ℕ = (item_of_stored s.what).bytes in
-    let ends = stored_ends p w s in
-    let few = item_few s.what in
+pub stored_ends : (p : List ℕ) (l : ℕ) → (s : IsStored p l) → low_of (word_of_locator l) + length (item_of_stored s.what).bytes ≤ length p
+stored_ends p l s = placed_ends p s.what (word_of_locator l) s.stored
+
+placed_leads : (p : List ℕ) (what : Stored) (w : ℕ) → IsStoredAt p what w → Leads p (item_of_stored what) w
+placed_leads p what w s =
+    let bytes : List ℕ = (item_of_stored what).bytes in
+    let ends = placed_ends p what w s in
+    let few = item_few what in
     record {
       nonzero = λ z. absurd (omega (arith, s.behind_head));
       small = omega (arith, s.kind);
@@ -146,22 +149,28 @@ stored_leads p w s =
       );
     }
 
-pub stored_key : (p : List ℕ) (w : ℕ) → (s : IsStored p w) → key_at p w ≡ (item_of_stored s.what).kind ∷ content_of_stored s.what
-stored_key p w s =
-    ap (λ (k : ℕ). k ∷ content_at k p w) s.kind ∙ ap (λ (c : List ℕ). (item_of_stored s.what).kind ∷ c) (read_content p w s.what s.small (stored_leads p w s))
+placed_key : (p : List ℕ) (what : Stored) (w : ℕ) → IsStoredAt p what w → content_key_at p w ≡ (item_of_stored what).kind ∷ content_of_stored what
+placed_key p what w s =
+    ap (λ (k : ℕ). k ∷ content_at k p w) s.kind ∙ ap (λ (c : List ℕ). (item_of_stored what).kind ∷ c) (read_content p w what s.small (placed_leads p what w s))
+
+stored_key : (p : List ℕ) (l : ℕ) → (s : IsStored p l) → key_at p l ≡ fingerprint_of_stored s.what ∷ (item_of_stored s.what).kind ∷ content_of_stored s.what
+stored_key p l s =
+    ap (λ (f : ℕ). f ∷ content_key_at p (word_of_locator l)) s.fingerprint ∙ ap (λ (c : List ℕ). fingerprint_of_stored s.what ∷ c) (placed_key p s.what (word_of_locator l) s.stored)
 
 -- more bytes at the end change nothing
-pub stored_more : (p q : List ℕ) (w : ℕ) → IsStored p w → IsStored (p ++ q) w
-stored_more p q w s =
-    let bytes : List ℕ = (item_of_stored s.what).bytes in
-    let ends = stored_ends p w s in
+placed_more : (p q : List ℕ) (what : Stored) (w : ℕ) → IsStoredAt p what w → IsStoredAt (p ++ q) what w
+placed_more p q what w s =
+    let bytes : List ℕ = (item_of_stored what).bytes in
+    let ends = placed_ends p what w s in
     record {
-      what = s.what;
       small = s.small;
       kind = s.kind;
       behind_head = s.behind_head;
       there = ap (take (length bytes)) (drop-append-le (low_of w) p q (omega arith)) ∙ take-append-le (length bytes) (drop (low_of w) p) q (omega (arith, length-drop (low_of w) p)) ∙ s.there;
     }
+
+pub stored_more : (p q : List ℕ) (l : ℕ) → IsStored p l → IsStored (p ++ q) l
+stored_more p q l s = record { what = s.what; fingerprint = s.fingerprint; stored = placed_more p q s.what (word_of_locator l) s.stored }
 
 pub key_more : (p q : List ℕ) (w : ℕ) → IsStored p w → key_at (p ++ q) w ≡ key_at p w
 unfolding stored_more
@@ -218,34 +227,68 @@ parts_small (Listed kind ws) room few = (low_small ws.now, omega (arith, run_lon
 pub parts_some : (parts : Parts) → 0 < length (item_of parts).bytes
 parts_some parts = subst (λ (b : List ℕ). 0 < length b) (parts_bytes parts) (item_some (stored_of parts))
 
+-- the fingerprint of what is stored is that of the item
+parts_fingerprint : (parts : Parts) → fingerprint_of_stored (stored_of parts) ≡ fingerprint_of parts
+parts_fingerprint (Int n) = refl
+parts_fingerprint (Blob b) = refl
+parts_fingerprint (Listed kind ws) = refl
+
 -- a word of this kind, at whose offset the bytes stand
-pub parts_stored : (p : List ℕ) (w : ℕ) (parts : Parts) → IsSmall (stored_of parts) → kind_of w ≡ (item_of parts).kind → 8 ≤ low_of w → take (length (item_of parts).bytes) (drop (low_of w) p) ≡ (item_of parts).bytes → IsStored p w
-parts_stored p w parts small kind head there = record {
-  what = stored_of parts;
+parts_placed : (p : List ℕ) (w : ℕ) (parts : Parts) → IsSmall (stored_of parts) → kind_of w ≡ (item_of parts).kind → 8 ≤ low_of w → take (length (item_of parts).bytes) (drop (low_of w) p) ≡ (item_of parts).bytes → IsStoredAt p (stored_of parts) w
+parts_placed p w parts small kind head there = record {
   small = small;
   kind = kind ∙ sym (parts_kind parts);
   behind_head = head;
   there = subst (λ (b : List ℕ). take (length b) (drop (low_of w) p) ≡ b) (sym (parts_bytes parts)) there;
 }
 
-pub parts_key : (p : List ℕ) (w : ℕ) (parts : Parts) → IsSmall (stored_of parts) → kind_of w ≡ (item_of parts).kind → 8 ≤ low_of w → take (length (item_of parts).bytes) (drop (low_of w) p) ≡ (item_of parts).bytes → key_at p w ≡ key_of parts
-unfolding parts_stored
-parts_key p w parts small kind head there =
-    stored_key p w (parts_stored p w parts small kind head there)
+pub parts_stored : (p : List ℕ) (l : ℕ) (parts : Parts) → IsSmall (stored_of parts) → fingerprint_of_locator l ≡ fingerprint_of parts → kind_of (word_of_locator l) ≡ (item_of parts).kind → 8 ≤ low_of (word_of_locator l)
+    → take (length (item_of parts).bytes) (drop (low_of (word_of_locator l)) p) ≡ (item_of parts).bytes → IsStored p l
+parts_stored p l parts small print kind head there =
+    record { what = stored_of parts; fingerprint = print ∙ sym (parts_fingerprint parts); stored = parts_placed p (word_of_locator l) parts small kind head there }
+
+parts_content_key : (p : List ℕ) (w : ℕ) (parts : Parts) → IsSmall (stored_of parts) → kind_of w ≡ (item_of parts).kind → 8 ≤ low_of w → take (length (item_of parts).bytes) (drop (low_of w) p) ≡ (item_of parts).bytes → content_key_at p w ≡ content_key_of parts
+parts_content_key p w parts small kind head there =
+    placed_key p (stored_of parts) w (parts_placed p w parts small kind head there)
     ∙ ap (λ (k : ℕ). k ∷ content_of_stored (stored_of parts)) (parts_kind parts) ∙ ap (λ (c : List ℕ). (item_of parts).kind ∷ c) (parts_content parts)
 
+pub parts_key : (p : List ℕ) (l : ℕ) (parts : Parts) → IsSmall (stored_of parts) → fingerprint_of_locator l ≡ fingerprint_of parts → kind_of (word_of_locator l) ≡ (item_of parts).kind → 8 ≤ low_of (word_of_locator l)
+    → take (length (item_of parts).bytes) (drop (low_of (word_of_locator l)) p) ≡ (item_of parts).bytes → key_at p l ≡ key_of parts
+parts_key p l parts small print kind head there =
+    ap (λ (f : ℕ). f ∷ content_key_at p (word_of_locator l)) print ∙ ap (λ (c : List ℕ). fingerprint_of parts ∷ c) (parts_content_key p (word_of_locator l) parts small kind head there)
+
 -- ---- equal items have one key, and the other way round
+
+same_fingerprint : (parts : Parts) (s : Stored) → (item_of parts).kind ≡ (item_of_stored s).kind → content_of parts ≡ content_of_stored s → fingerprint_of parts ≡ fingerprint_of_stored s
+same_fingerprint (Int n) (stored_int m) k c = let same : n ≡ m = cc in ap (λ (x : ℕ). x % 2 ^ 32) same
+same_fingerprint (Int n) (stored_blob b) k c = absurd (elim (int_kind n) [ inl i ↦ omega (arith, (blob_kind b).0) | inr i ↦ omega (arith, (blob_kind b).0) ])
+same_fingerprint (Int n) (stored_list kind ws) k c = absurd (elim (int_kind n) [ inl i ↦ omega (arith, list_kinds kind) | inr i ↦ omega (arith, list_kinds kind) ])
+same_fingerprint (Blob b) (stored_int m) k c = absurd (elim (int_kind m) [ inl i ↦ omega (arith, (blob_kind b.now).0) | inr i ↦ omega (arith, (blob_kind b.now).0) ])
+same_fingerprint (Blob b) (stored_blob x) k c = ap blob_fingerprint c
+same_fingerprint (Blob b) (stored_list kind ws) k c = absurd (omega (arith, list_kinds kind, (blob_kind b.now).1))
+same_fingerprint (Listed kind ws) (stored_int m) k c = absurd (elim (int_kind m) [ inl i ↦ omega (arith, list_kinds kind) | inr i ↦ omega (arith, list_kinds kind) ])
+same_fingerprint (Listed kind ws) (stored_blob x) k c = absurd (omega (arith, list_kinds kind, (blob_kind x).1))
+same_fingerprint (Listed kind ws) (stored_list other vs) k c =
+    let same : low_words ws.now ≡ vs = sym (reverse-reverse (low_words ws.now)) ∙ (ap reverse c ∙ reverse-reverse vs) in
+    ap list_fingerprint same
 
 there_is : (p : List ℕ) (w : ℕ) → 8 ≤ low_of w → drop (low_of w - 8) (drop 8 p) ≡ drop (low_of w) p
 there_is p w head = drop-drop (low_of w - 8) 8 p ∙ ap (λ (k : ℕ). drop k p) (omega arith)
 
-pub equal_key : (p : List ℕ) (w : ℕ) (parts : Parts) → IsStored p w → HasNumbersInRange parts → length p ≤ MOST_BYTES → is_equal_item (drop 8 p) (item_of parts) (written_item w) ≡ true → cmp (key_of parts) (key_at p w) ≡ Equal
-equal_key p w parts s room few e =
-    let head = s.behind_head in
-    let bytes = equal_bytes (drop 8 p) (item_of parts) (written_item w) e in
+pub equal_key : (p : List ℕ) (l : ℕ) (parts : Parts) → IsStored p l → HasNumbersInRange parts → length p ≤ MOST_BYTES → is_equal_item (drop 8 p) (item_of parts) (written_item l) ≡ true → cmp (key_of parts) (key_at p l) ≡ Equal
+equal_key p l parts s room few e =
+    let w : ℕ = word_of_locator l in
+    let head = s.stored.behind_head in
+    let bytes = equal_bytes (drop 8 p) (item_of parts) (written_item l) e in
     let there : take (length (item_of parts).bytes) (drop (low_of w) p) ≡ (item_of parts).bytes = ap (take (length (item_of parts).bytes)) (sym (there_is p w head)) ∙ bytes in
     let ends = equal_within p (low_of w) (item_of parts).bytes (parts_some parts) there in
-    ap (cmp (key_of parts)) (parts_key p w parts (parts_small parts room (omega arith)) (equal_kind (drop 8 p) (item_of parts) (written_item w) e) head there) ∙ tied_itself nat_list_cmp_total (key_of parts)
+    let small = parts_small parts room (omega arith) in
+    let kind : kind_of w ≡ (item_of parts).kind = equal_kind (drop 8 p) (item_of parts) (written_item l) e in
+    let same : content_key_of parts ≡ (item_of_stored s.what).kind ∷ content_of_stored s.what = sym (parts_content_key p w parts small kind head there) ∙ placed_key p s.what w s.stored in
+    let kinds : (item_of parts).kind ≡ (item_of_stored s.what).kind = cc in
+    let contents : content_of parts ≡ content_of_stored s.what = cc in
+    let print : fingerprint_of_locator l ≡ fingerprint_of parts = s.fingerprint ∙ sym (same_fingerprint parts s.what kinds contents) in
+    ap (cmp (key_of parts)) (parts_key p l parts small print kind head there) ∙ tied_itself nat_list_cmp_total (key_of parts)
 
 same_bytes : (parts : Parts) (s : Stored) → (item_of parts).kind ≡ (item_of_stored s).kind → content_of parts ≡ content_of_stored s → (item_of parts).bytes ≡ (item_of_stored s).bytes
 same_bytes (Int n) (stored_int m) k c = let same : n ≡ m = cc in ap (λ (x : ℕ). (int_item x).bytes) same
@@ -256,16 +299,19 @@ same_bytes (Blob b) (stored_blob x) k c = ap (λ (y : List ℕ). (blob_item y).b
 same_bytes (Blob b) (stored_list kind ws) k c = absurd (omega (arith, list_kinds kind, (blob_kind b.now).1))
 same_bytes (Listed kind ws) (stored_int m) k c = absurd (elim (int_kind m) [ inl i ↦ omega (arith, list_kinds kind) | inr i ↦ omega (arith, list_kinds kind) ])
 same_bytes (Listed kind ws) (stored_blob x) k c = absurd (omega (arith, list_kinds kind, (blob_kind x).1))
-same_bytes (Listed kind ws) (stored_list other vs) k c = sym (low_run ws.now) ∙ ap run_bytes c
+same_bytes (Listed kind ws) (stored_list other vs) k c =
+    let same : low_words ws.now ≡ vs = sym (reverse-reverse (low_words ws.now)) ∙ (ap reverse c ∙ reverse-reverse vs) in
+    sym (low_run ws.now) ∙ ap run_bytes same
 
-pub key_equal : (p : List ℕ) (w : ℕ) (parts : Parts) → IsStored p w → cmp (key_of parts) (key_at p w) ≡ Equal → is_equal_item (drop 8 p) (item_of parts) (written_item w) ≡ true
-key_equal p w parts s e =
-    let same : (item_of parts).kind ∷ content_of parts ≡ (item_of_stored s.what).kind ∷ content_of_stored s.what = exact_bytes (key_of parts) (key_at p w) e ∙ stored_key p w s in
+pub key_equal : (p : List ℕ) (l : ℕ) (parts : Parts) → IsStored p l → cmp (key_of parts) (key_at p l) ≡ Equal → is_equal_item (drop 8 p) (item_of parts) (written_item l) ≡ true
+key_equal p l parts s e =
+    let w : ℕ = word_of_locator l in
+    let same : fingerprint_of parts ∷ (item_of parts).kind ∷ content_of parts ≡ fingerprint_of_stored s.what ∷ (item_of_stored s.what).kind ∷ content_of_stored s.what = exact_bytes (key_of parts) (key_at p l) e ∙ stored_key p l s in
     let kinds : (item_of parts).kind ≡ (item_of_stored s.what).kind = cc in
     let contents : content_of parts ≡ content_of_stored s.what = cc in
     let bytes : (item_of parts).bytes ≡ (item_of_stored s.what).bytes = same_bytes parts s.what kinds contents in
     let there : take (length (item_of parts).bytes) (drop (low_of w - 8) (drop 8 p)) ≡ (item_of parts).bytes =
-    ap (take (length (item_of parts).bytes)) (there_is p w s.behind_head) ∙ ap (λ (b : List ℕ). take (length b) (drop (low_of w) p)) bytes ∙ s.there ∙ sym bytes in
-    let a : eqb (kind_of w) (item_of parts).kind ≡ true = eq-eqb _ _ (s.kind ∙ sym kinds) in
+    ap (take (length (item_of parts).bytes)) (there_is p w s.stored.behind_head) ∙ ap (λ (b : List ℕ). take (length b) (drop (low_of w) p)) bytes ∙ s.stored.there ∙ sym bytes in
+    let a : eqb (kind_of w) (item_of parts).kind ≡ true = eq-eqb _ _ (s.stored.kind ∙ sym kinds) in
     let b : bytes_eq (take (length (item_of parts).bytes) (drop (low_of w - 8) (drop 8 p))) (item_of parts).bytes ≡ true = (bytes_eq-Decides _ _).1 there in
     rw (a, b) refl

@@ -1,4 +1,4 @@
--- What a writer keeps: the payload with its head, once anything was written, the words that lead to
+-- What a writer keeps: the payload with its head, once anything was written, the locators of
 -- its items, and the two counts.
 use Rattle.std.specs.Prelude.{◌≡◌, ℕ, ◌+◌, ◌*◌, ◌-◌, ◌^◌, ◌<◌, ◌≤◌, ◌⊎◌, ◌%◌, suc, false, List, [], ◌∷◌, length, map, take, drop, replicate, nat_lt, find, option_map, Some, Result, Ok, Err, if◌then◌else◌}
 use Rattle.std.specs.List.{AllByRecursion, concat}
@@ -6,7 +6,7 @@ use Rattle.adb_view.specs.Readers.{kind_of, low_of}
 use Rattle.adb_write.specs.Canonical.{Item, WrittenItem, is_equal_item, word_of_item, int_item, blob_item, run_item, PayloadCounts, passes}
 use Rattle.adb_write.specs.Writing.{Writing, is_over}
 use Rattle.adb_write.specs.Items.{list_kind}
-use Rattle.adb_write.specs.Keys.{HaveRisingKeys}
+use Rattle.adb_write.specs.Keys.{HaveRisingKeys, blob_fingerprint, fingerprint_of_locator, list_fingerprint, word_of_locator}
 use Rattle.adb_write.specs.WordPages.{AreFilled}
 use Rattle.adb_write.specs.declared.item.ListKind.{ListKind}
 use Rattle.adb_write.specs.declared.writer.WriteFault.{WriteFault}
@@ -16,7 +16,7 @@ use Rattle.adb_write.specs.declared.writer.WriteFault.TheVariants.{TooLarge, Mem
 abbrev pub HasHead : List ℕ → Type 0
 HasHead payload = (payload ≡ []) ⊎ (take 8 payload ≡ replicate 8 0)
 
--- ---- what a word of the pages leads to
+-- ---- what a locator of the pages names
 
 pub data Stored : Type 0 where
   stored_int : ℕ → Stored
@@ -28,6 +28,11 @@ item_of_stored (stored_int n) = int_item n
 item_of_stored (stored_blob b) = blob_item b
 item_of_stored (stored_list kind ws) = run_item (list_kind kind) ws
 
+abbrev pub fingerprint_of_stored : Stored → ℕ
+fingerprint_of_stored (stored_int n) = n % 2 ^ 32
+fingerprint_of_stored (stored_blob b) = blob_fingerprint b
+fingerprint_of_stored (stored_list kind ws) = list_fingerprint ws
+
 -- its numbers have room
 abbrev pub IsSmall : Stored → Type 0
 IsSmall (stored_int n) = n < 2 ^ 64
@@ -35,21 +40,29 @@ IsSmall (stored_blob b) = length b < 2 ^ 32
 IsSmall (stored_list kind ws) = AllByRecursion (λ w. w < 2 ^ 32) ws × (suc (length ws) < 2 ^ 32)
 
 -- the word leads to this in the payload, behind the head
-pub record IsStored (payload : List ℕ) (word : ℕ) : Type 0 where
-  pub what : Stored
+pub record IsStoredAt (payload : List ℕ) (what : Stored) (word : ℕ) : Type 0 where
   pub small : IsSmall what
   pub kind : kind_of word ≡ (item_of_stored what).kind
   pub behind_head : 8 ≤ low_of word
   pub there : take (length (item_of_stored what).bytes) (drop (low_of word) payload)
       ≡ (item_of_stored what).bytes
 
+-- the locator names an item in the payload
+pub record IsStored (payload : List ℕ) (locator : ℕ) : Type 0 where
+  pub what : Stored
+  pub fingerprint : fingerprint_of_locator locator ≡ fingerprint_of_stored what
+  pub stored : IsStoredAt payload what (word_of_locator locator)
+
 abbrev pub AreStored : List ℕ → List ℕ → Type 0
-AreStored payload words = AllByRecursion (IsStored payload) words
+AreStored payload locators = AllByRecursion (IsStored payload) locators
 
 -- ---- the items as contracts see them: the latest first, which stands behind the others
 
 abbrev pub written_item : ℕ → WrittenItem
-written_item word = record { kind = kind_of word; offset = low_of word - 8 }
+written_item locator = record {
+  kind = kind_of (word_of_locator locator);
+  offset = low_of (word_of_locator locator) - 8;
+}
 
 abbrev pub with_item : WrittenItem → List WrittenItem → List WrittenItem
 with_item item [] = item ∷ []
@@ -57,9 +70,10 @@ with_item item (other ∷ others) =
     if nat_lt other.offset item.offset then item ∷ other ∷ others
     else other ∷ with_item item others
 
-abbrev pub items_of_words : List ℕ → List WrittenItem
-items_of_words [] = []
-items_of_words (word ∷ words) = with_item (written_item word) (items_of_words words)
+abbrev pub items_of_locators : List ℕ → List WrittenItem
+items_of_locators [] = []
+items_of_locators (locator ∷ locators) =
+    with_item (written_item locator) (items_of_locators locators)
 
 -- ---- the writer
 

@@ -1,5 +1,5 @@
 //! What a value takes outside its word, and how it compares with what was written.
-ghost use Rattle.std.specs.Prelude.{◌≡◌, ◌≤◌, ◌<◌, ◌+◌, ◌-◌, ◌^◌, ◌++◌, length, replicate, take, OnOk, OnErr};
+ghost use Rattle.std.specs.Prelude.{◌≡◌, ◌≤◌, ◌<◌, ◌+◌, ◌-◌, ◌^◌, ◌++◌, get_or, length, replicate, reverse, take, OnOk, OnErr};
 ghost use Rattle.std.specs.List.{flat_map};
 ghost use Rattle.std.specs.Int.{w32, w64, to_le_bytes};
 ghost use Rattle.std.specs.Ordering.{nat_cmp};
@@ -10,8 +10,9 @@ ghost use Rattle.adb_view.specs.Gives.{Gives};
 ghost use Rattle.adb_view.specs.Readers.{run_of};
 ghost use Rattle.adb_view.specs.Visits.{or_empty};
 ghost use Rattle.adb_write.specs.Items.{width_len, list_kind, content_bytes, item_of};
-ghost use Rattle.adb_write.specs.Keys.{low_words, key_of, key_at};
+ghost use Rattle.adb_write.specs.Keys.{low_words, content_key_of, content_key_at, blob_fingerprint, fingerprint_of, four_bytes, key_at, key_with, list_fingerprint};
 
+use crate::locator::{fingerprint_of_locator, word_of_locator};
 use adb_view::{Adb, Arr, Val};
 use base_core::Cause;
 use std::alloc::AllocError;
@@ -158,10 +159,35 @@ impl Parts<'_> {
         }
     }
 
+    /// A number below 2^32 by which most items are told apart without a look at the payload.
+    pub(crate) fn fingerprint(&self) -> u64
+        ensures value { result ≡ fingerprint_of self.now }
+        ensures small { result < 2 ^ 32 }
+    {
+        match self {
+            Parts::Int(n) => *n % (1 << 32),
+            Parts::Blob(bytes) => blob_fingerprint(bytes),
+            Parts::List(_, words) => list_fingerprint(words),
+        }
+    }
+
+    /// How it compares, with this fingerprint, with the written item that a locator names: first by
+    /// fingerprint, then by kind, then by what it holds.
+    pub(crate) fn compare(&self, fingerprint: u64, adb: &Adb<'_>, locator: u64) -> Ordering
+        ensures { result ≡ slice_cmp nat_cmp (key_with fingerprint self.now)
+            (key_at (payload_of adb.now) locator) }
+    {
+        match fingerprint.cmp(&fingerprint_of_locator(locator)) {
+            Ordering::Equal => self.compare_content(adb, word_of_locator(locator)),
+            by_fingerprint => by_fingerprint,
+        }
+    }
+
     /// How it compares with the written item to which a word leads: first by kind, then by what it
     /// holds. So equal is what has one kind and one value.
-    pub(crate) fn compare(&self, adb: &Adb<'_>, word: Val) -> Ordering
-        ensures { result ≡ slice_cmp nat_cmp (key_of self.now) (key_at (payload_of adb.now) word) }
+    fn compare_content(&self, adb: &Adb<'_>, word: Val) -> Ordering
+        ensures { result ≡ slice_cmp nat_cmp (content_key_of self.now)
+            (content_key_at (payload_of adb.now) word) }
     {
         let by_kind = self.kind().cmp(&(word.word() >> 28));
         if by_kind != Ordering::Equal {
@@ -212,11 +238,57 @@ impl Parts<'_> {
     }
 }
 
+/// The byte at an index, or 0 past the end.
+fn byte_at(bytes: &[u8], i: usize) -> u64
+    ensures value { result ≡ get_or bytes.now i 0 }
+    ensures small { result < 2 ^ 8 }
+{
+    match bytes.get(i) {
+        Some(byte) => *byte as u64,
+        None => 0,
+    }
+}
+
+/// The four bytes from an index on, the least first, with 0 for those past the end.
+fn four_bytes(bytes: &[u8], i: usize) -> u64
+    requires { i ≤ length bytes.now }
+    ensures value { result ≡ four_bytes bytes.now i }
+    ensures small { result < 2 ^ 32 }
+{
+    byte_at(bytes, i)
+        + byte_at(bytes, i + 1) * (1 << 8)
+        + byte_at(bytes, i + 2) * (1 << 16)
+        + byte_at(bytes, i + 3) * (1 << 24)
+}
+
+/// The fingerprint of a blob: of its first four bytes, its last four, and its length.
+#[tactic(auto, unfolding(crate::specs::Keys::blob_fingerprint))]
+fn blob_fingerprint(bytes: &[u8]) -> u64
+    ensures value { result ≡ blob_fingerprint bytes.now }
+    ensures small { result < 2 ^ 32 }
+{
+    let front = four_bytes(bytes, 0);
+    let back = four_bytes(bytes, bytes.len().saturating_sub(4));
+    (front + 31 * back + bytes.len() as u64) % (1 << 32)
+}
+
+/// The fingerprint of a list: its last word.
+fn list_fingerprint(words: &[Val]) -> u64
+    ensures value { result ≡ list_fingerprint (low_words words.now) }
+    ensures small { result < 2 ^ 32 }
+{
+    if words.is_empty() {
+        return 0;
+    }
+    let last = words.len() - 1;
+    words[last].word() as u64
+}
+
 /// Compares words with the entries of the written list to which a word leads.
 #[tactic(auto, using(crate::proofs::Compared::by_none))]
 fn compare_list(adb: &Adb<'_>, list: ListKind, words: &[Val], word: Val) -> Ordering
-    ensures { result ≡ slice_cmp nat_cmp (low_words words.now)
-        (or_empty (run_of (list_kind list) (payload_of adb.now) word)) }
+    ensures { result ≡ slice_cmp nat_cmp (reverse (low_words words.now))
+        (reverse (or_empty (run_of (list_kind list) (payload_of adb.now) word))) }
 {
     match entries(adb, list, word) {
         Ok(found) => compare_words(words, &found),
@@ -234,14 +306,19 @@ fn entries<'a>(adb: &Adb<'a>, list: ListKind, word: Val) -> Result<Arr<'a>, Caus
     }
 }
 
-/// Compares words with the entries of a written list: the first that differ decide, and else their
-/// number.
+/// Compares words with the entries of a written list from the last on: the last that differ decide,
+/// and else their number.
 fn compare_words(words: &[Val], entries: &Arr<'_>) -> Ordering
-    ensures { result ≡ slice_cmp nat_cmp (low_words words.now) (array_entries entries.now) }
+    ensures { result ≡ slice_cmp nat_cmp (reverse (low_words words.now))
+        (reverse (array_entries entries.now)) }
 {
     let mut i = 0;
     while i < words.len() && i < entries.len() {
-        match words[i].word().cmp(&entries.get(i + 1).word()) {
+        let last = words.len() - 1 - i;
+        match words[last]
+            .word()
+            .cmp(&entries.get(entries.len() - i).word())
+        {
             Ordering::Equal => i += 1,
             by_word => return by_word,
         }

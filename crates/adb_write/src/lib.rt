@@ -12,6 +12,7 @@
 
 mod item;
 mod laws;
+mod locator;
 mod store;
 mod word_pages;
 mod writer;

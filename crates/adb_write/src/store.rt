@@ -1,13 +1,14 @@
-//! The bytes of a payload as they are written, and the words by which they are found again.
+//! The bytes of a payload as they are written, and the locators by which they are found again.
 
 ghost use Rattle.std.specs.Prelude.{◌≡◌, ◌≤◌, ◌-◌, [], ◌∷◌, ◌++◌, length, replicate, OnOk, OnErr};
 ghost use Rattle.std.specs.List.{concat};
 ghost use Rattle.adb_write.specs.Items.{item_of};
-ghost use Rattle.adb_write.specs.Keys.{key_of, HaveRisingKeys};
+ghost use Rattle.adb_write.specs.Keys.{fingerprint_of, key_of, locator_of, HaveRisingKeys};
 ghost use Rattle.adb_write.specs.WordPages.{AreFilled, pages_of, words_before, words_behind, IsSlotIn, FindsIn};
 ghost use Rattle.adb_write.specs.WriterState.{HasHead, AreStored};
 
 use crate::item::Parts;
+use crate::locator::locator_of;
 use crate::word_pages::{Slot, WordPages};
 use adb_view::{Adb, Val};
 use std::alloc::{AllocError, Global};
@@ -17,7 +18,7 @@ use std::alloc::{AllocError, Global};
 pub(crate) struct Store {
     /// Nothing, or the head with zeros in it and what was written behind it.
     pub payload: Vec<u8>,
-    /// The words that lead to the items in it.
+    /// The locators of the items in it.
     pub words: WordPages,
 }
 
@@ -33,9 +34,9 @@ impl Store {
         }
     }
 
-    /// The word that leads to an item that equals this one, or the slot in the pages where its
-    /// word would stand.
-    pub(crate) fn find(&self, parts: &Parts<'_>) -> Result<Val, Slot>
+    /// The locator of an item that equals this one, or the slot in the pages where its own would
+    /// stand.
+    pub(crate) fn find(&self, parts: &Parts<'_>) -> Result<u64, Slot>
         requires head { HasHead self.now.payload.items }
         requires filled { AreFilled (pages_of self.now.words) }
         requires rising { HaveRisingKeys self.now.payload.items (concat (pages_of self.now.words)) }
@@ -44,13 +45,13 @@ impl Store {
             result }
     {
         match Adb::new(&self.payload) {
-            Ok(adb) => self.words.find(&adb, parts),
+            Ok(adb) => self.words.find(&adb, parts, parts.fingerprint()),
             Err(_) => Err(Slot { page: 0, index: 0 }),
         }
     }
 
-    /// Adds zeros up to an offset, the item there, and its word at this slot. A refused growth
-    /// leaves the bytes and the words as they were.
+    /// Adds zeros up to an offset, the item there, and at this slot its locator, with this word. A
+    /// refused growth leaves the bytes and the locators as they were.
     pub(crate) fn append(
         &mut self,
         parts: &Parts<'_>,
@@ -67,14 +68,17 @@ impl Store {
             ++ (replicate (at - length self.old.payload.items) 0 ++ (item_of parts.now).bytes)) }
         ensures words { OnOk result (concat (pages_of self.new.words)
             ≡ words_before (pages_of self.old.words) slot.page slot.index
-            ++ word ∷ words_behind (pages_of self.old.words) slot.page slot.index) }
+            ++ locator_of (fingerprint_of parts.now) word
+            ∷ words_behind (pages_of self.old.words) slot.page slot.index) }
         ensures same_bytes { OnErr result (self.new.payload.items ≡ self.old.payload.items) }
         ensures same_words { OnErr result
             (concat (pages_of self.new.words) ≡ concat (pages_of self.old.words)) }
     {
         let len = self.payload.len();
         parts.append(&mut self.payload, at)?;
-        let entered = self.words.insert(slot, word);
+        let entered = self
+            .words
+            .insert(slot, locator_of(parts.fingerprint(), word));
         if entered.is_err() {
             self.payload.truncate(len);
         }

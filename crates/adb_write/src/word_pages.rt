@@ -1,41 +1,41 @@
-//! The words of what was written, in the order of what they lead to, so that each is found again.
+//! The locators of what was written, in the order of their keys, so that each is found again.
 //!
-//! They stand in pages of at most 512, so that a new word moves few others. A word takes four
-//! bytes, and a page that was split is at least half full.
+//! They stand in pages of at most 512, so that a new one moves few others. One takes eight bytes,
+//! and a page that was split is at least half full.
 
 ghost use Rattle.std.specs.Prelude.{◌≡◌, ◌≤◌, ◌<◌, ℕ, List, [], ◌∷◌, ◌++◌, length, IfOk, OnOk, OnErr};
 ghost use Rattle.std.specs.List.{concat};
 ghost use Rattle.adb_view.specs.Adb.{payload_of};
-ghost use Rattle.adb_write.specs.Keys.{key_of, HaveRisingKeys};
+ghost use Rattle.adb_write.specs.Keys.{key_with, HaveRisingKeys};
 ghost use Rattle.adb_write.specs.WordPages.{AreFilled, HALF, page_at, pages_of, words_before, words_behind, with_split, IsSlotIn, IsSameSlot, FindsIn, IsPageFor, begins_above};
 
 use crate::item::Parts;
-use adb_view::{Adb, Val};
+use adb_view::Adb;
 use std::alloc::{AllocError, Global};
 use std::cmp::Ordering;
 
-/// The most words of a page.
+/// The most locators of a page.
 const FULL: usize = 512;
 
-/// How many words stay in a page that is split.
+/// How many locators stay in a page that is split.
 const HALF: usize = FULL / 2;
 
-/// Where a word would stand: its page, and its index there.
+/// Where a locator would stand: its page, and its index there.
 #[derive(Clone, Copy)]
 pub(crate) struct Slot {
     pub page: usize,
     pub index: usize,
 }
 
-/// Words in rising order, in pages that are not empty.
+/// Locators in rising order, in pages that are not empty.
 #[derive(Drop)]
 pub(crate) struct WordPages {
     alloc: Global,
-    pub pages: Vec<Vec<Val>>,
+    pub pages: Vec<Vec<u64>>,
 }
 
 impl WordPages {
-    /// No words, in no pages.
+    /// No locators, in no pages.
     pub(crate) fn new(alloc: Global) -> WordPages
         ensures { pages_of result ≡ [] }
     {
@@ -45,59 +45,67 @@ impl WordPages {
         }
     }
 
-    /// The word that leads to an item like this one, or the slot where one would stand.
-    pub(crate) fn find(&self, adb: &Adb<'_>, parts: &Parts<'_>) -> Result<Val, Slot>
+    /// The locator of an item like this one, which has this fingerprint, or the slot where its own
+    /// would stand.
+    pub(crate) fn find(
+        &self,
+        adb: &Adb<'_>,
+        parts: &Parts<'_>,
+        fingerprint: u64,
+    ) -> Result<u64, Slot>
         requires filled { AreFilled (pages_of self.now) }
         requires rising { HaveRisingKeys (payload_of adb.now) (concat (pages_of self.now)) }
-        ensures { FindsIn (payload_of adb.now) (pages_of self.now) (key_of parts.now) result }
+        ensures { FindsIn (payload_of adb.now) (pages_of self.now) (key_with fingerprint parts.now)
+            result }
     {
-        let page = self.page_of(adb, parts);
+        let page = self.page_of(adb, parts, fingerprint);
         let Some(words) = self.pages.get(page) else {
             return Err(Slot { page, index: 0 });
         };
-        match words.binary_search_by(|word| parts.compare(adb, *word).reverse()) {
+        match words.binary_search_by(|it| parts.compare(fingerprint, adb, *it).reverse()) {
             Ok(index) => Ok(words[index]),
             Err(index) => Err(Slot { page, index }),
         }
     }
 
     /// The last page that does not begin behind the item, or the first.
-    fn page_of(&self, adb: &Adb<'_>, parts: &Parts<'_>) -> usize
+    fn page_of(&self, adb: &Adb<'_>, parts: &Parts<'_>, fingerprint: u64) -> usize
         requires filled { AreFilled (pages_of self.now) }
         requires rising { HaveRisingKeys (payload_of adb.now) (concat (pages_of self.now)) }
-        ensures { IsPageFor (payload_of adb.now) (pages_of self.now) (key_of parts.now) result }
+        ensures { IsPageFor (payload_of adb.now) (pages_of self.now)
+            (key_with fingerprint parts.now) result }
     {
         self.pages
-            .partition_point(|page| !begins_behind(page, adb, parts))
+            .partition_point(|page| !begins_behind(page, adb, parts, fingerprint))
             .saturating_sub(1)
     }
 
-    /// Lets a word stand at a slot. A refused growth leaves the words as they were.
-    pub(crate) fn insert(&mut self, slot: Slot, word: Val) -> Result<(), AllocError>
+    /// Lets a locator stand at a slot. A refused growth leaves those before as they were.
+    pub(crate) fn insert(&mut self, slot: Slot, locator: u64) -> Result<(), AllocError>
         requires filled { AreFilled (pages_of self.old) }
         requires inside { IsSlotIn (pages_of self.old) slot.page slot.index }
         ensures filled { AreFilled (pages_of self.new) }
         ensures ok { OnOk result (concat (pages_of self.new)
             ≡ words_before (pages_of self.old) slot.page slot.index
-            ++ word ∷ words_behind (pages_of self.old) slot.page slot.index) }
+            ++ locator ∷ words_behind (pages_of self.old) slot.page slot.index) }
         ensures err { OnErr result (concat (pages_of self.new) ≡ concat (pages_of self.old)) }
     {
         if self.pages.is_empty() {
-            return self.begin(word);
+            return self.begin(locator);
         }
         let slot = self.make_room(slot)?;
-        self.pages[slot.page].insert(slot.index, word)?;
+        self.pages[slot.page].insert(slot.index, locator)?;
         Ok(())
     }
 
-    /// The first page, of one word.
-    fn begin(&mut self, word: Val) -> Result<(), AllocError>
+    /// The first page, of one locator.
+    fn begin(&mut self, locator: u64) -> Result<(), AllocError>
         requires { pages_of self.old ≡ [] }
-        ensures ok { OnOk result (pages_of self.new ≡ (word ∷ []) ∷ []) }
+        ensures ok { OnOk result (pages_of self.new ≡ (locator ∷ []) ∷ []) }
         ensures err { OnErr result (pages_of self.new ≡ []) }
     {
         let mut page = Vec::new(self.alloc);
-        page.push(word)?;
+        page.push(locator)?;
         self.pages.push(page)?;
         Ok(())
     }
@@ -142,11 +150,11 @@ impl WordPages {
 }
 
 /// Whether a page begins behind the item.
-fn begins_behind(page: &[Val], adb: &Adb<'_>, parts: &Parts<'_>) -> bool
-    ensures { result ≡ begins_above (payload_of adb.now) (key_of parts.now) page.now }
+fn begins_behind(page: &[u64], adb: &Adb<'_>, parts: &Parts<'_>, fingerprint: u64) -> bool
+    ensures { result ≡ begins_above (payload_of adb.now) (key_with fingerprint parts.now) page.now }
 {
     match page.first() {
-        Some(word) => parts.compare(adb, *word) == Ordering::Less,
+        Some(locator) => parts.compare(fingerprint, adb, *locator) == Ordering::Less,
         None => false,
     }
 }

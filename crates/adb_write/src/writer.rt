@@ -10,6 +10,7 @@ ghost use Rattle.adb_write.specs.WriterState.{IsFinished, FindsWord};
 ghost use Rattle.adb_write.specs.File.{file_of};
 
 use crate::item::{ListKind, Parts};
+use crate::locator::word_of_locator;
 use crate::store::Store;
 use adb_block::{BlockKind, block_head, padding_of};
 use adb_view::Val;
@@ -87,12 +88,12 @@ impl Model for Writer {
     ghost use Rattle.adb_write.specs.Writing.{Writing, writing_by};
     ghost use Rattle.std.specs.List.{concat};
     ghost use Rattle.adb_write.specs.WordPages.{pages_of};
-    ghost use Rattle.adb_write.specs.WriterState.{IsWriterState, items_of_words};
+    ghost use Rattle.adb_write.specs.WriterState.{IsWriterState, items_of_locators};
 
     ghost Value = { Writing };
 
     ghost view = { λ w. writing_by (drop 8 w.store.payload.items)
-        (items_of_words (concat (pages_of w.store.words))) w.counts.bytes w.counts.values };
+        (items_of_locators (concat (pages_of w.store.words))) w.counts.bytes w.counts.values };
 
     ghost invariant = { λ w. IsWriterState w.store.payload.items (pages_of w.store.words)
         w.counts.bytes w.counts.values };
@@ -227,7 +228,7 @@ impl Writer {
             return Ok(Val::of(0));
         }
         let slot = match self.store.find(parts) {
-            Ok(word) => return Ok(self.repeat(parts, word)),
+            Ok(locator) => return Ok(self.repeat(parts, word_of_locator(locator))),
             Err(slot) => slot,
         };
         let before = self.counts;

@@ -1,7 +1,7 @@
 -- A command is run, and its outcome carried out.
 use Rattle.std.proofs.Common.{◌≡◌, inl, inr, ℕ, Bool, true, false, List, [], ◌∷◌, Option, Some, None, IsSome, Result, Ok, Err, refl, sym, ap, subst, ◌∙◌}
 use Rattle.std.proofs.lemmas.Bool.{false≢true}
-use Rattle.std.specs.Prelude.{if◌then◌else◌, is_some, IfOk, IsErrOf, IsTrue, OnOk}
+use Rattle.std.specs.Prelude.{if◌then◌else◌, is_some, IfOk, IsErrOf, IsTrue, MatchResult, OnOk}
 use Rattle.base_core.specs.Calls.{HasNow, IfObservable}
 use Rattle.base_core.specs.Crash.{IsOrderly, Since}
 use Rattle.base_core.specs.Faults.{Counts, IsNoFault}
@@ -21,9 +21,10 @@ use Rattle.make_index.specs.Files.{AreFiles}
 use Rattle.make_info.specs.Reads.{Reads}
 use Rattle.outcome.specs.Dump.{adbdump, dump_outcome, text_outcome, dump_of}
 use Rattle.outcome.specs.Make.{mkndx, mkpkg}
-use Rattle.outcome.specs.Commands.{IsFoundOutcomeOf, IsFoundOver, IsOutcome, IsOutcomeOf, IsOutcomeOver, reads_in, applet_outcome, command_outcome}
-use Rattle.outcome.specs.Given.{Given, IsChosenFor, IsClashOfApplet, IsGiven, IsListingFor, MayBeGiven, MayBeListedFor, MayClash, nothing_given}
-use Rattle.outcome.specs.Effect.{Effect, Makes, does_only_read, does_recover, effect_by, effect_of, output, output_by, output_if, reads_only}
+use Rattle.outcome.specs.Commands.{IsFoundOutcomeOf, IsFoundOver, IsOutcomeOf, IsOutcomeOver, reads_in, applet_outcome, command_outcome}
+use Rattle.outcome.specs.Given.{Given, IsChosenFor, IsClashBy, IsGiven, IsListingFor, MayBeGiven, MayBeListedFor, MayClash, nothing_given}
+use Rattle.outcome.specs.Effect.{Effect, Computes, Reads as OnlyReading, Tells, Makes, Changes, does_only_read, does_recover, does_rest_on_words, effect_by, effect_of, output, output_by, output_if, reads_only, rests_on_words}
+use Rattle.outcome.specs.Words.{IsFoundOutcome, IsFoundOutcomeBy, IsOutcome, IsOutcomeBy}
 use Rattle.outcome.specs.Work.{recovery_fault}
 use Rattle.outcome.specs.Outcome.{Outcome, just_refusal, just_report, outcome_of, report_unless}
 use Rattle.outcome.specs.Verify.{verify_refusal, sound_lines}
@@ -37,9 +38,10 @@ use Rattle.words_core.specs.Grammar.{command_of}
 use Rattle.words_core.specs.declared.read.WordsFault.{WordsFault}
 use Rattle.words_core.specs.declared.read.WordsFault.TheVariants.{Usage as WrongWord}
 use Rattle.command_core.specs.declared.command.Applet.{Applet}
-use Rattle.command_core.specs.declared.command.Applet.TheVariants.{Adbdump, Add, Del, Mkndx, Mkpkg, Verify, Version}
+use Rattle.command_core.specs.declared.command.Applet.TheVariants.{Adbdump, Demo, Info, Mkndx, Mkpkg, Verify, Version}
 use Rattle.command_core.specs.declared.operands.Operand.{Operand}
 use Rattle.apk_front.specs.Answers.{answer_by}
+use Rattle.apk_front.specs.Effects.{access_of}
 use Rattle.apk_front.specs.Moments.{AnswersOutcome, AreReadOnTheWay, AreSafe, CommitsNothing, HasNothingToRecover, HasRoomToWrite, HidesScratchOf, IsAtRest, IsLeftUndone, LeavesAtRest, LeavesLasting, LeavesRoom, LeavesRoomFor, LeavesSettled, Settles, UnreadNamesLast, ignored_but}
 use Rattle.apk_front.specs.Runs.{IfNothingWaits, IsRun, IsWholeRun, IsWithoutCommit}
 use Rattle.apk_front.specs.Containers.{IsIndexOutcome, IsPackageOutcome}
@@ -47,6 +49,8 @@ use Rattle.apk_front.specs.Verdicts.{IsPrinted, IsShown, Reports, ReportsOne, as
 use Rattle.apk_front.specs.declared.answer.Answer.{Answer}
 use Rattle.apk_front.specs.declared.answer.Answer.TheVariants.{Ok as Done, Refused, TreeFault as TreeFailed, OutFault, Memory}
 use Rattle.apk_front.specs.declared.answer.Verdict.{Verdict}
+use Rattle.apk_front.specs.declared.effect.Access.{Access}
+use Rattle.apk_front.specs.declared.effect.Access.TheVariants.{Read, Write}
 use Rattle.apk_front.proofs.Judged.{Runs, found_at, none_by_some, none_given, of_over, over_of, reads_without}
 use Rattle.apk_front.proofs.AfterRecovery.{LeavesAll, whole_idle}
 use Rattle.apk_front.proofs.Runs.{History, Judged, Leaves, ok_always, run_among}
@@ -79,9 +83,9 @@ look_leaves Version command given files reads =
 look_leaves Adbdump command given files reads = dump_leaves files command.operands
 look_leaves Mkpkg command given files reads = cc
 look_leaves Mkndx command given files reads = cc
-look_leaves Add command given files reads = cc
-look_leaves Del command given files reads = cc
-look_leaves other command given files reads = (refl, refl)
+look_leaves Info command given files reads = cc
+look_leaves Demo command given files reads = (refl, refl)
+look_leaves other command given files reads = cc
 
 abbrev pub Ones : CommandLine → TreeState → Outcome → Type 0
 Ones command v = IsOutcomeOver command (files_of v)
@@ -118,7 +122,7 @@ abbrev listed : List (List ℕ) → Given
 listed names = record { names = names; chosen = None; clash = None }
 
 made_given : (applet : Applet) (command : CommandLine) (files : Files) (names : List (List ℕ)) → effect_of applet ≡ Makes → IsListingFor applet command files names
-    → IsListingFor applet command files names × IsChosenFor applet command (reads_in files) None × IsClashOfApplet applet command (reads_in files) files None None
+    → IsListingFor applet command files names × IsChosenFor (effect_of applet) command (reads_in files) None × IsClashBy (effect_of applet) command (reads_in files) files None None
 made_given Mkpkg command files names makes are = (are, refl, refl)
 made_given Mkndx command files names makes are = (are, refl, refl)
 made_given other command files names makes are = cc
@@ -127,7 +131,7 @@ given_of_names : (command : CommandLine) (files : Files) (names : List (List ℕ
 given_of_names command files names makes are = let (list, choice, clash) = made_given command.applet command files names makes are in record { names = list; chosen = choice; clash = clash }
 
 made_by_some : (applet : Applet) (command : CommandLine) (read : Reads) (names : List (List ℕ)) → effect_of applet ≡ Makes → MayBeListedFor applet command names
-    → MayBeListedFor applet command names × IsChosenFor applet command read None × MayClash applet None
+    → MayBeListedFor applet command names × IsChosenFor (effect_of applet) command read None × MayClash (effect_of applet) None
 made_by_some Mkpkg command read names makes are = (are, refl, refl)
 made_by_some Mkndx command read names makes are = (are, refl, refl)
 made_by_some other command read names makes are = cc
@@ -226,17 +230,30 @@ index_proper command old P same proper =
 
 -- ---- the words
 
-pub by_command : (words : List (List ℕ)) (command : CommandLine) (old : History) (judged : Judged) → command_of words ≡ Ok command → IfOk judged (λ verdict. IfObservable old (λ v. ReportsOne (Wholes command v) verdict))
+-- the outcomes of each command, `demo` too
+abbrev pub OfCommand : CommandLine → TreeState → Outcome → Type 0
+OfCommand command v = IsOutcomeBy (Ok command) (files_of v)
+
+pub by_command : (words : List (List ℕ)) (command : CommandLine) (old : History) (judged : Judged) → command_of words ≡ Ok command → IfOk judged (λ verdict. IfObservable old (λ v. ReportsOne (OfCommand command v) verdict))
     → IfOk judged (λ verdict. IfObservable old (λ v. ReportsOne (IsOutcome words (files_of v)) verdict))
-by_command words command old judged is found = subst (λ (r : Result CommandLine ℕ). IfOk judged (λ verdict. IfObservable old (λ v. ReportsOne (IsOutcomeOf r (files_of v)) verdict))) (sym is) found
+by_command words command old judged is found = subst (λ (r : Result CommandLine ℕ). IfOk judged (λ verdict. IfObservable old (λ v. ReportsOne (IsOutcomeBy r (files_of v)) verdict))) (sym is) found
 
 pub run_by_command : (words : List (List ℕ)) (command : CommandLine) (judged : Judged) (old now : History) → command_of words ≡ Ok command
-    → IfObservable old (λ v. IsWholeRun (Wholes command v) (effect_of command.applet) (output_if (effect_of command.applet) command) judged v old now) → Runs words judged old now
-run_by_command words command judged old now is run = subst (λ (r : Result CommandLine ℕ). IfObservable old (λ v. IsWholeRun (IsOutcomeOf r (files_of v)) (effect_by r) (output_by r) judged v old now)) (sym is) run
+    → IfObservable old (λ v. IsWholeRun (OfCommand command v) (effect_of command.applet) (output_if (effect_of command.applet) command) judged v old now) → Runs words judged old now
+run_by_command words command judged old now is run = subst (λ (r : Result CommandLine ℕ). IfObservable old (λ v. IsWholeRun (IsOutcomeBy r (files_of v)) (effect_by r) (output_by r) judged v old now)) (sym is) run
 
 pub proper_by_command : (words : List (List ℕ)) (command : CommandLine) (old : History) (P : Type 0) → command_of words ≡ Ok command
-    → IfObservable old (λ v. LeavesRoomFor (effect_of command.applet) (output_if (effect_of command.applet) command) (Wholes command v) (files_of v) → P) → IfObservable old (λ v. LeavesRoom words (files_of v) → P)
-proper_by_command words command old P is proper = subst (λ (r : Result CommandLine ℕ). IfObservable old (λ v. LeavesRoomFor (effect_by r) (output_by r) (IsOutcomeOf r (files_of v)) (files_of v) → P)) (sym is) proper
+    → IfObservable old (λ v. LeavesRoomFor (effect_of command.applet) (output_if (effect_of command.applet) command) (OfCommand command v) (files_of v) → P) → IfObservable old (λ v. LeavesRoom words (files_of v) → P)
+proper_by_command words command old P is proper = subst (λ (r : Result CommandLine ℕ). IfObservable old (λ v. LeavesRoomFor (effect_by r) (output_by r) (IsOutcomeBy r (files_of v)) (files_of v) → P)) (sym is) proper
+
+pub found_by_command : (words : List (List ℕ)) (command : CommandLine) (judged : Judged) → command_of words ≡ Ok command → IfOk judged (ReportsOne (IsFoundOutcomeBy (Ok command))) → IfOk judged (ReportsOne (IsFoundOutcome words))
+found_by_command words command judged is found = subst (λ (r : Result CommandLine ℕ). IfOk judged (ReportsOne (IsFoundOutcomeBy r))) (sym is) found
+
+pub words_by_command : (words : List (List ℕ)) (command : CommandLine) (judged : Judged) → command_of words ≡ Ok command
+    → (IsTrue (does_rest_on_words (effect_of command.applet)) → MatchResult judged (λ verdict. (files : Files) → IsOutcomeBy (Ok command) files (as_outcome files verdict)) (λ fault. fault ≡ NoMemory))
+    → IsTrue (rests_on_words (command_of words)) → MatchResult judged (λ verdict. (files : Files) → IsOutcome words files (as_outcome files verdict)) (λ fault. fault ≡ NoMemory)
+words_by_command words command judged is found =
+    subst (λ (r : Result CommandLine ℕ). IsTrue (rests_on_words r) → MatchResult judged (λ verdict. (files : Files) → IsOutcomeBy r files (as_outcome files verdict)) (λ fault. fault ≡ NoMemory)) (sym is) found
 
 pub same_by_command : (words : List (List ℕ)) (command : CommandLine) (P : Type 0) → command_of words ≡ Ok command → (IsTrue (does_only_read (effect_of command.applet)) → P) → IsTrue (reads_only (command_of words)) → P
 same_by_command words command P is same = subst (λ (r : Result CommandLine ℕ). IsTrue (reads_only r) → P) (sym is) same
@@ -250,7 +267,7 @@ usage_run words q fault judged [] is of = tt
 usage_run words q fault judged (v ∷ rest) is of =
     let read : command_of words ≡ Err q = subst (λ (f : WordsFault). IsWordsFault f (command_of words)) is of in
     whole_idle (IsOutcome words (files_of v)) (effect_by (command_of words)) (output words) judged v rest (v ∷ rest) refl
-    (λ o one. let is_refused : o ≡ just_refusal (files_of v) (Usage q) = subst (λ (r : Result CommandLine ℕ). IsOutcomeOf r (files_of v) o) read one in
+    (λ o one. let is_refused : o ≡ just_refusal (files_of v) (Usage q) = subst (λ (r : Result CommandLine ℕ). IsOutcomeBy r (files_of v) o) read one in
     ok_always (LeavesAll (effect_by (command_of words)) v o) judged (subst (Leaves (files_of v)) (sym is_refused) (refl, refl), λ can. usage_recovers_not (command_of words) q read can.0))
 
 pub failed_run : (words : List (List ℕ)) (e : TreeFault) (old : History) → Runs words (Err e) old old
@@ -375,16 +392,38 @@ pub usage_reported : (words : List (List ℕ)) (old : History) (verdict : Verdic
 usage_reported words [] verdict is = tt
 usage_reported words (v ∷ rest) verdict is = (as_outcome (files_of v) verdict, is v, refl)
 
--- an applet that does not write only reads
-pub only_reads_unless : (applet : Applet) → (applet ≡ Mkpkg → ⊥) → (applet ≡ Mkndx → ⊥) → (applet ≡ Add → ⊥) → (applet ≡ Del → ⊥) → does_only_read (effect_of applet) ≡ true
-only_reads_unless Mkpkg p i a d = absurd (p refl)
-only_reads_unless Mkndx p i a d = absurd (i refl)
-only_reads_unless Add p i a d = absurd (a refl)
-only_reads_unless Del p i a d = absurd (d refl)
-only_reads_unless other p i a d = refl
+-- whether an applet only reads, by what it does below its root
+by_access : (command : CommandLine) (applet : Applet) (access this : Access) → applet ≡ command.applet → access ≡ access_of (does_only_read (effect_of applet)) → access ≡ this → this ≡ access_of (does_only_read (effect_of command.applet))
+by_access command applet access this same of is = sym is ∙ (of ∙ ap (λ (a : Applet). access_of (does_only_read (effect_of a))) same)
 
-pub reads_one : (command : CommandLine) (applet : Applet) → applet ≡ command.applet → (applet ≡ Mkpkg → ⊥) → (applet ≡ Mkndx → ⊥) → (applet ≡ Add → ⊥) → (applet ≡ Del → ⊥) → does_only_read (effect_of command.applet) ≡ true
-reads_one command applet same p i a d = subst (λ (x : Applet). does_only_read (effect_of x) ≡ true) same (only_reads_unless applet p i a d)
+read_is : (b : Bool) → Read ≡ access_of b → b ≡ true
+read_is true is = refl
+read_is false is = absurd (cc (is))
+
+write_is : (b : Bool) → Write ≡ access_of b → b ≡ false
+write_is true is = absurd (cc (is))
+write_is false is = refl
+
+pub reads_by_access : (command : CommandLine) (applet : Applet) (access : Access) → applet ≡ command.applet → access ≡ access_of (does_only_read (effect_of applet)) → access ≡ Read → does_only_read (effect_of command.applet) ≡ true
+reads_by_access command applet access same of is = read_is (does_only_read (effect_of command.applet)) (by_access command applet access Read same of is)
+
+pub writes_by_access : (command : CommandLine) (applet : Applet) (access : Access) → applet ≡ command.applet → access ≡ access_of (does_only_read (effect_of applet)) → access ≡ Write → does_only_read (effect_of command.applet) ≡ false
+writes_by_access command applet access same of is = write_is (does_only_read (effect_of command.applet)) (by_access command applet access Write same of is)
+
+-- what does not only read recovers, and does not rest on the words alone
+pub recovers_else : (effect : Effect) → does_only_read effect ≡ false → does_recover effect ≡ true
+recovers_else Computes writes = absurd (cc (writes))
+recovers_else OnlyReading writes = absurd (cc (writes))
+recovers_else Tells writes = refl
+recovers_else Makes writes = refl
+recovers_else Changes writes = refl
+
+pub not_on_words : (effect : Effect) → does_only_read effect ≡ false → IsTrue (does_rest_on_words effect) → ⊥
+not_on_words Computes writes rests = cc (writes)
+not_on_words OnlyReading writes rests = cc (rests)
+not_on_words Tells writes rests = cc (rests)
+not_on_words Makes writes rests = cc (rests)
+not_on_words Changes writes rests = cc (rests)
 
 -- ---- an applet that no word names yet
 
@@ -395,9 +434,9 @@ nothing_of Version command v n d reads read files = absurd (n refl)
 nothing_of Adbdump command v n d reads read files = absurd (d refl)
 nothing_of Mkpkg command v n d reads read files = cc
 nothing_of Mkndx command v n d reads read files = cc
-nothing_of Add command v n d reads read files = cc
-nothing_of Del command v n d reads read files = cc
-nothing_of other command v n d reads read files = refl
+nothing_of Info command v n d reads read files = cc
+nothing_of Demo command v n d reads read files = refl
+nothing_of other command v n d reads read files = cc
 
 -- the outcome of a command is empty
 abbrev pub IsNothing : CommandLine → Type 0

@@ -16,7 +16,7 @@ use Rattle.change_inputs.specs.declared.refused.Refused.TheVariants.{Disk, Memor
 use Rattle.change_outcome.specs.ChangeOutcome.{ChangeDone}
 use Rattle.command_core.specs.Command.{CommandLine}
 use Rattle.command_core.specs.declared.command.Applet.{Applet}
-use Rattle.command_core.specs.declared.command.Applet.TheVariants.{Add, Del}
+use Rattle.command_core.specs.declared.command.Applet.TheVariants.{Add, Del, Fix, Upgrade}
 use Rattle.engine_core.specs.ChangeRun.{ComesTo, DoesCommit, IsChangeRun, IsCommit, IsFoundChanged, IsNoneOrCommit, report_as_is, report_in, selected_in}
 use Rattle.engine_core.specs.Changed.{IsClashFor, changed, selected_for}
 use Rattle.engine_core.specs.Choice.{IsChoiceFrom}
@@ -30,10 +30,11 @@ use Rattle.path_clashes.specs.Clash.{NamePair}
 use Rattle.report_core.specs.declared.refusal.Refusal.{Refusal}
 use Rattle.report_core.specs.declared.refusal.Refusal.TheVariants.{PackageBad}
 use Rattle.stage_run.specs.StageRun.{IsReadInChange, IsStageRunDone, LastsUnread}
+use Rattle.outcome.proofs.Applets.{change_is}
 use Rattle.outcome.specs.Changing.{change_outcome}
 use Rattle.outcome.specs.Commands.{IsFoundOver, IsOutcomeOver, applet_outcome, reads_in}
 use Rattle.outcome.specs.Effect.{Effect, Changes, effect_of, output_if}
-use Rattle.outcome.specs.Given.{Given, IsChosenFor, IsClashOfApplet, IsGiven, IsListingFor, MayBeGiven, MayBeListedFor, MayClash}
+use Rattle.outcome.specs.Given.{Given, IsChosenFor, IsClashBy, IsGiven, IsListingFor, MayBeGiven, MayBeListedFor, MayClash}
 use Rattle.outcome.specs.Outcome.{Outcome, just_refusal, just_report}
 use Rattle.apk_front.specs.Moments.{IsAtRest, IsReadAtWork, UnreadNamesLast}
 use Rattle.apk_front.specs.Runs.{HasNothingWaiting, IfNothingWaits, IsRun}
@@ -59,9 +60,11 @@ abbrev given_by : Option (List ℕ) → Option NamePair → Given
 given_by chosen clash = record { names = []; chosen = chosen; clash = clash }
 
 parts_given : (applet : Applet) (command : CommandLine) (read : Reads) (files : Files) (chosen : Option (List ℕ)) (clash : Option NamePair) → effect_of applet ≡ Changes → IsChoiceFrom (pool_for command read) chosen → IsClashFor command read files chosen clash
-    → IsListingFor applet command files [] × IsChosenFor applet command read chosen × IsClashOfApplet applet command read files chosen clash
+    → IsListingFor applet command files [] × IsChosenFor (effect_of applet) command read chosen × IsClashBy (effect_of applet) command read files chosen clash
 parts_given Add command read files chosen clash changes choice first = (refl, choice, first)
 parts_given Del command read files chosen clash changes choice first = (refl, choice, first)
+parts_given Upgrade command read files chosen clash changes choice first = (refl, choice, first)
+parts_given Fix command read files chosen clash changes choice first = (refl, choice, first)
 parts_given other command read files chosen clash changes choice first = cc
 
 are_given : (command : CommandLine) (read : Reads) (files : Files) (chosen : Option (List ℕ)) (clash : Option NamePair) → effect_of command.applet ≡ Changes → IsChoiceFrom (pool_for command read) chosen → IsClashFor command read files chosen clash
@@ -71,9 +74,11 @@ are_given command read files chosen clash changes choice first =
     record { names = list; chosen = chosen_so; clash = clash_so }
 
 parts_by_some : (applet : Applet) (command : CommandLine) (read : Reads) (chosen : Option (List ℕ)) (clash : Option NamePair) → effect_of applet ≡ Changes → IsChoiceFrom (pool_for command read) chosen
-    → MayBeListedFor applet command [] × IsChosenFor applet command read chosen × MayClash applet clash
+    → MayBeListedFor applet command [] × IsChosenFor (effect_of applet) command read chosen × MayClash (effect_of applet) clash
 parts_by_some Add command read chosen clash changes choice = (refl, choice, tt)
 parts_by_some Del command read chosen clash changes choice = (refl, choice, tt)
+parts_by_some Upgrade command read chosen clash changes choice = (refl, choice, tt)
+parts_by_some Fix command read chosen clash changes choice = (refl, choice, tt)
 parts_by_some other command read chosen clash changes choice = cc
 
 may_be_given : (command : CommandLine) (read : Reads) (chosen : Option (List ℕ)) (clash : Option NamePair) → effect_of command.applet ≡ Changes → IsChoiceFrom (pool_for command read) chosen → MayBeGiven command read (given_by chosen clash)
@@ -87,9 +92,7 @@ Wanted = Result ChangeDone Refusal
 
 applet_is : (applet : Applet) (command : CommandLine) (read : Reads) (files : Files) (chosen : Option (List ℕ)) (clash : Option NamePair) → effect_of applet ≡ Changes
     → change_outcome files (changed command read files chosen clash) ≡ applet_outcome applet command (given_by chosen clash) read files
-applet_is Add command read files chosen clash changes = refl
-applet_is Del command read files chosen clash changes = refl
-applet_is other command read files chosen clash changes = cc
+applet_is applet command read files chosen clash changes = change_is applet command (given_by chosen clash) read files changes
 
 -- ---- what is told
 
@@ -383,6 +386,8 @@ change_memory answer (Err e) a b told counted none =
 
 -- ---- the applets
 
-pub change_applet : (command : CommandLine) (applet : Applet) → applet ≡ command.applet → (applet ≡ Add) ⊎ (applet ≡ Del) → effect_of command.applet ≡ Changes
+pub change_applet : (command : CommandLine) (applet : Applet) → applet ≡ command.applet → (applet ≡ Add) ⊎ ((applet ≡ Del) ⊎ ((applet ≡ Upgrade) ⊎ (applet ≡ Fix))) → effect_of command.applet ≡ Changes
 change_applet command applet same (inl is) = ap effect_of (sym same ∙ is)
-change_applet command applet same (inr is) = ap effect_of (sym same ∙ is)
+change_applet command applet same (inr (inl is)) = ap effect_of (sym same ∙ is)
+change_applet command applet same (inr (inr (inl is))) = ap effect_of (sym same ∙ is)
+change_applet command applet same (inr (inr (inr is))) = ap effect_of (sym same ∙ is)

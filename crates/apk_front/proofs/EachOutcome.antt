@@ -11,7 +11,7 @@ use Rattle.journal_core.specs.Quiet.{IsQuiet, IsStill}
 use Rattle.journal_core.specs.Recovery.{IsOldOrNew, IsSettled}
 use Rattle.journal_core.specs.Replacing.{IsReplacing}
 use Rattle.journal_core.specs.Staged.{IsOnTheWay}
-use Rattle.outcome.specs.Commands.{IsOutcome}
+use Rattle.outcome.specs.Words.{IsOutcome}
 use Rattle.outcome.specs.Effect.{Effect, effect_by, output}
 use Rattle.outcome.specs.Outcome.{Outcome}
 use Rattle.words_core.specs.Grammar.{command_of}

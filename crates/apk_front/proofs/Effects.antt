@@ -2,7 +2,7 @@
 use Rattle.std.proofs.Common.{◌≡◌, ◌⊎◌, inl, inr, ℕ, List, Result, Ok, Err, sym, ap, subst, ◌∙◌}
 use Rattle.command_core.specs.Command.{CommandLine}
 use Rattle.command_core.specs.declared.command.Applet.{Applet}
-use Rattle.command_core.specs.declared.command.Applet.TheVariants.{Add, Del, Mkndx, Mkpkg}
+use Rattle.command_core.specs.declared.command.Applet.TheVariants.{Adbdump, Add, Del, Demo, Fix, Info, Mkndx, Mkpkg, Upgrade, Verify, Version}
 use Rattle.outcome.specs.Effect.{does_only_read, effect_of, reads_only}
 use Rattle.words_core.specs.Faults.{IsWordsFault}
 use Rattle.words_core.specs.Grammar.{command_of}
@@ -11,16 +11,24 @@ use Rattle.words_core.specs.declared.read.WordsFault.TheVariants.{Usage}
 use Rattle.apk_front.specs.Effects.{access_of}
 use Rattle.apk_front.specs.declared.effect.Access.{Access}
 use Rattle.apk_front.specs.declared.effect.Access.TheVariants.{Read, Write}
-use Rattle.apk_front.proofs.Carried.{only_reads_unless}
 
-pub writes_one : (applet : Applet) → (applet ≡ Mkpkg) ⊎ ((applet ≡ Mkndx) ⊎ ((applet ≡ Add) ⊎ (applet ≡ Del))) → Write ≡ access_of (does_only_read (effect_of applet))
-writes_one applet (inl is) = ap (λ (a : Applet). access_of (does_only_read (effect_of a))) (sym is)
-writes_one applet (inr (inl is)) = ap (λ (a : Applet). access_of (does_only_read (effect_of a))) (sym is)
-writes_one applet (inr (inr (inl is))) = ap (λ (a : Applet). access_of (does_only_read (effect_of a))) (sym is)
-writes_one applet (inr (inr (inr is))) = ap (λ (a : Applet). access_of (does_only_read (effect_of a))) (sym is)
+of_applet : (a applet : Applet) → applet ≡ a → access_of (does_only_read (effect_of a)) ≡ access_of (does_only_read (effect_of applet))
+of_applet a applet is = ap (λ (x : Applet). access_of (does_only_read (effect_of x))) (sym is)
 
-pub reads_else : (applet : Applet) → (applet ≡ Mkpkg → ⊥) → (applet ≡ Mkndx → ⊥) → (applet ≡ Add → ⊥) → (applet ≡ Del → ⊥) → Read ≡ access_of (does_only_read (effect_of applet))
-reads_else applet p i a d = ap access_of (sym (only_reads_unless applet p i a d))
+pub reads_one : (applet : Applet) → (applet ≡ Verify) ⊎ ((applet ≡ Adbdump) ⊎ ((applet ≡ Version) ⊎ (applet ≡ Demo))) → Read ≡ access_of (does_only_read (effect_of applet))
+reads_one applet (inl is) = of_applet Verify applet is
+reads_one applet (inr (inl is)) = of_applet Adbdump applet is
+reads_one applet (inr (inr (inl is))) = of_applet Version applet is
+reads_one applet (inr (inr (inr is))) = of_applet Demo applet is
+
+pub writes_one : (applet : Applet) → (applet ≡ Info) ⊎ ((applet ≡ Mkpkg) ⊎ ((applet ≡ Mkndx) ⊎ ((applet ≡ Add) ⊎ ((applet ≡ Del) ⊎ ((applet ≡ Upgrade) ⊎ (applet ≡ Fix)))))) → Write ≡ access_of (does_only_read (effect_of applet))
+writes_one applet (inl is) = of_applet Info applet is
+writes_one applet (inr (inl is)) = of_applet Mkpkg applet is
+writes_one applet (inr (inr (inl is))) = of_applet Mkndx applet is
+writes_one applet (inr (inr (inr (inl is)))) = of_applet Add applet is
+writes_one applet (inr (inr (inr (inr (inl is))))) = of_applet Del applet is
+writes_one applet (inr (inr (inr (inr (inr (inl is)))))) = of_applet Upgrade applet is
+writes_one applet (inr (inr (inr (inr (inr (inr is)))))) = of_applet Fix applet is
 
 pub access_by : (words : List (List ℕ)) (command : CommandLine) (applet : Applet) (access : Access) → command_of words ≡ Ok command → applet ≡ command.applet → access ≡ access_of (does_only_read (effect_of applet))
     → access ≡ access_of (reads_only (command_of words))

@@ -14,14 +14,15 @@ use Rattle.words_core.specs.Grammar.{command_of}
 use Rattle.words_core.specs.declared.read.WordsFault.{WordsFault}
 use Rattle.words_core.specs.declared.read.WordsFault.TheVariants.{Usage as WrongWord}
 use Rattle.command_core.specs.declared.command.Applet.{Applet}
-use Rattle.command_core.specs.declared.command.Applet.TheVariants.{Add, Del, Mkpkg, Version}
+use Rattle.command_core.specs.declared.command.Applet.TheVariants.{Mkpkg, Version}
 use Rattle.command_core.specs.declared.command.Flags.{Flags}
 use Rattle.command_core.specs.declared.operands.Operand.{Operand}
 use Rattle.make_info.specs.Reads.{Reads}
 use Rattle.outcome.specs.Outcome.{Outcome, just_refusal}
+use Rattle.outcome.specs.Words.{IsFoundOutcome, IsFoundOutcomeBy, IsOutcome, IsOutcomeBy}
 use Rattle.outcome.specs.Version.{version}
-use Rattle.outcome.specs.Commands.{IsFoundOutcome, IsFoundOutcomeOf, IsOutcome, IsOutcomeOf, IsOutcomeOver, IsOutcomeUnless, reads_in, applet_outcome, command_outcome}
-use Rattle.outcome.specs.Given.{IsChosenFor, IsClashOfApplet, IsGiven, IsListingFor, MayBeGiven, MayBeListedFor, MayClash, nothing_given}
+use Rattle.outcome.specs.Commands.{IsOutcomeOf, IsOutcomeOver, IsOutcomeUnless, reads_in, applet_outcome, command_outcome}
+use Rattle.outcome.specs.Given.{IsChosenFor, IsClashBy, IsGiven, IsListingFor, MayBeGiven, MayBeListedFor, MayClash, nothing_given}
 use Rattle.outcome.specs.Effect.{Effect, Computes, Reads as OnlyReads, Tells, Makes, Changes, does_only_read, does_recover, does_rest_on_words, effect_by, effect_of, output, rests_on_words}
 use Rattle.outcome.specs.Work.{recovery_fault, work_files}
 use Rattle.base_core.specs.declared.cause.Cause.{Cause}
@@ -36,7 +37,7 @@ use Rattle.apk_front.specs.declared.answer.Verdict.{Verdict}
 -- ---- the words and the outcome
 
 pub usage_over : (words : List (List ℕ)) (place : ℕ) (files : Files) → command_of words ≡ Err place → IsOutcome words files (just_refusal files (Usage place))
-usage_over words place files is = subst (λ (r : Result CommandLine ℕ). IsOutcomeOf r files (just_refusal files (Usage place))) (sym is) refl
+usage_over words place files is = subst (λ (r : Result CommandLine ℕ). IsOutcomeBy r files (just_refusal files (Usage place))) (sym is) refl
 
 -- an applet that only reads lists and chooses nothing
 no_listing : (applet : Applet) (command : CommandLine) (files : Files) → does_only_read (effect_of applet) ≡ true → IsListingFor applet command files []
@@ -47,36 +48,33 @@ no_listing_by_some : (applet : Applet) (command : CommandLine) → does_only_rea
 no_listing_by_some Mkpkg command reads = cc
 no_listing_by_some other command reads = refl
 
-no_choice : (applet : Applet) (command : CommandLine) (read : Reads) → does_only_read (effect_of applet) ≡ true → IsChosenFor applet command read None
-no_choice Add command read reads = cc
-no_choice Del command read reads = cc
+no_choice : (effect : Effect) (command : CommandLine) (read : Reads) → does_only_read effect ≡ true → IsChosenFor effect command read None
+no_choice Changes command read reads = cc
 no_choice other command read reads = refl
 
-no_clash : (applet : Applet) (command : CommandLine) (read : Reads) (files : Files) → does_only_read (effect_of applet) ≡ true → IsClashOfApplet applet command read files None None
-no_clash Add command read files reads = cc
-no_clash Del command read files reads = cc
+no_clash : (effect : Effect) (command : CommandLine) (read : Reads) (files : Files) → does_only_read effect ≡ true → IsClashBy effect command read files None None
+no_clash Changes command read files reads = cc
 no_clash other command read files reads = refl
 
-no_clash_by_some : (applet : Applet) → does_only_read (effect_of applet) ≡ true → MayClash applet None
-no_clash_by_some Add reads = cc
-no_clash_by_some Del reads = cc
+no_clash_by_some : (effect : Effect) → does_only_read effect ≡ true → MayClash effect None
+no_clash_by_some Changes reads = cc
 no_clash_by_some other reads = refl
 
 pub none_given : (command : CommandLine) (read : Reads) (files : Files) → does_only_read (effect_of command.applet) ≡ true → IsGiven command read files nothing_given
 none_given command read files reads = record {
   names = no_listing command.applet command files reads;
-  chosen = no_choice command.applet command read reads;
-  clash = no_clash command.applet command read files reads;
+  chosen = no_choice (effect_of command.applet) command read reads;
+  clash = no_clash (effect_of command.applet) command read files reads;
 }
 
 pub none_by_some : (command : CommandLine) (read : Reads) → does_only_read (effect_of command.applet) ≡ true → MayBeGiven command read nothing_given
 none_by_some command read reads = record {
   names = no_listing_by_some command.applet command reads;
-  chosen = no_choice command.applet command read reads;
-  clash = no_clash_by_some command.applet reads;
+  chosen = no_choice (effect_of command.applet) command read reads;
+  clash = no_clash_by_some (effect_of command.applet) reads;
 }
 
-words_read : (effect : Effect) → does_rest_on_words effect ≡ true → does_only_read effect ≡ true
+pub words_read : (effect : Effect) → does_rest_on_words effect ≡ true → does_only_read effect ≡ true
 words_read Computes rests = refl
 words_read OnlyReads rests = refl
 words_read Tells rests = cc
@@ -116,19 +114,8 @@ over_of command files o none of =
     subst (λ (f : Files). IsOutcomeOver command f o) (work_without (effect_of command.applet) files none)
     (subst (λ (fault : Option Cause). IsOutcomeUnless fault command files o) (fault_without (effect_of command.applet) files none) of)
 
-pub ran_over : (words : List (List ℕ)) (command : CommandLine) (files : Files) (o : Outcome) → command_of words ≡ Ok command → does_only_read (effect_of command.applet) ≡ true → o ≡ command_outcome command nothing_given (reads_in files) files → IsOutcome words files o
-ran_over words command files o is reads ran = subst (λ (r : Result CommandLine ℕ). IsOutcomeOf r files o) (sym is) (of_over command files o (reads_without (effect_of command.applet) reads) (nothing_given, none_given command (reads_in files) files reads, ran))
-
-pub ran_by_words : (words : List (List ℕ)) (command : CommandLine) (judged : Result Verdict TreeFault) → command_of words ≡ Ok command
-    → (IsTrue (does_rest_on_words (effect_of command.applet)) → MatchResult judged (λ verdict. (files : Files) → as_outcome files verdict ≡ command_outcome command nothing_given (reads_in files) files) (λ fault. fault ≡ NoMemory))
-    → IsTrue (rests_on_words (command_of words)) → MatchResult judged (λ verdict. (files : Files) → IsOutcome words files (as_outcome files verdict)) (λ fault. fault ≡ NoMemory)
-ran_by_words words command (Ok verdict) is ran rests = λ files.
-    let on_words = subst (λ (r : Result CommandLine ℕ). IsTrue (rests_on_words r)) is rests in
-    ran_over words command files (as_outcome files verdict) is (words_read (effect_of command.applet) on_words) (ran on_words files)
-ran_by_words words command (Err fault) is ran rests = ran (subst (λ (r : Result CommandLine ℕ). IsTrue (rests_on_words r)) is rests)
-
-pub rests_on : (words : List (List ℕ)) (command : CommandLine) → command_of words ≡ Ok command → IsTrue (rests_on_words (command_of words)) → IsTrue (does_rest_on_words (effect_of command.applet))
-rests_on words command is rests = subst (λ (r : Result CommandLine ℕ). IsTrue (rests_on_words r)) is rests
+pub ran_over : (command : CommandLine) (files : Files) (o : Outcome) → does_only_read (effect_of command.applet) ≡ true → o ≡ command_outcome command nothing_given (reads_in files) files → IsOutcomeOf (Ok command) files o
+ran_over command files o reads ran = of_over command files o (reads_without (effect_of command.applet) reads) (nothing_given, none_given command (reads_in files) files reads, ran)
 
 pub usage_verdict : (words : List (List ℕ)) (p q : ℕ) (fault : WordsFault) (verdict : Verdict) → p ≡ q → fault ≡ WrongWord q → IsWordsFault fault (command_of words)
     → ((files : Files) → as_outcome files verdict ≡ just_refusal files (Usage p)) → (files : Files) → IsOutcome words files (as_outcome files verdict)
@@ -254,11 +241,7 @@ pub usage_found : (words : List (List ℕ)) (p q : ℕ) (fault : WordsFault) (ve
     → ((files : Files) → as_outcome files verdict ≡ just_refusal files (Usage p)) → ReportsOne (IsFoundOutcome words) verdict
 usage_found words p q fault verdict same is of is_shown =
     let read : command_of words ≡ Err q = subst (λ (f : WordsFault). IsWordsFault f (command_of words)) is of in
-    (as_outcome no_names verdict, subst (λ (r : Result CommandLine ℕ). IsFoundOutcomeOf r (as_outcome no_names verdict)) (sym read) (is_shown no_names ∙ ap (λ (n : ℕ). just_refusal no_names (Usage n)) same), refl)
-
-pub ran_by_reads : (words : List (List ℕ)) (command : CommandLine) (judged : Judged) → command_of words ≡ Ok command
-    → IfOk judged (ReportsOne (IsFoundOutcomeOf (Ok command))) → IfOk judged (ReportsOne (IsFoundOutcome words))
-ran_by_reads words command judged is ran = subst (λ (r : Result CommandLine ℕ). IfOk judged (ReportsOne (IsFoundOutcomeOf r))) (sym is) ran
+    (as_outcome no_names verdict, subst (λ (r : Result CommandLine ℕ). IsFoundOutcomeBy r (as_outcome no_names verdict)) (sym read) (is_shown no_names ∙ ap (λ (n : ℕ). just_refusal no_names (Usage n)) same), refl)
 
 pub ran_version : (command : CommandLine) (applet : Applet) (flags : Flags) (operands : List Operand) (verdict : Verdict) → applet ≡ command.applet → applet ≡ Version → flags ≡ command.flags → operands ≡ command.operands
     → ((files : Files) → as_outcome files verdict ≡ version files flags operands) → (read : ℕ → List ℕ → Option (List ℕ)) × (as_outcome no_names verdict ≡ command_outcome command nothing_given read no_names)

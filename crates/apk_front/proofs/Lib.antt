@@ -15,3 +15,5 @@ pub mod AfterRecovery
 pub mod Behind
 pub mod EachOutcome
 pub mod Changing
+pub mod Telling
+mod Demos

@@ -18,10 +18,10 @@ use Rattle.command_core.specs.Named.{are_files, operand_file}
 use Rattle.command_core.specs.Operands.{at_least, exactly, is_of_kind}
 use Rattle.command_core.specs.Values.{lacks_value}
 use Rattle.command_core.specs.declared.command.Applet.{Applet}
-use Rattle.command_core.specs.declared.command.Applet.TheVariants.{Adbdump, Verify, Version}
+use Rattle.command_core.specs.declared.command.Applet.TheVariants.{Adbdump, Demo, Verify, Version}
 use Rattle.command_core.specs.declared.command.Flags.{Flags}
 use Rattle.command_core.specs.declared.operands.Operand.{Operand}
-use Rattle.command_core.specs.declared.operands.OperandKind.TheVariants.{Any}
+use Rattle.command_core.specs.declared.operands.OperandKind.TheVariants.{Any, Number}
 use Rattle.make_info.specs.Reads.{Reads}
 use Rattle.outcome.specs.Commands.{reads_in}
 use Rattle.outcome.specs.Outcome.{just_refusal, just_report, report_unless}
@@ -74,6 +74,10 @@ version_operands c applet flags operands h same is f of tests =
     let two : are_operands (Some (exactly 2 Any)) c.operands ≡ true =
     subst (λ b. are_operands (if b then Some (exactly 2 Any) else if c.flags.check then Some (at_least 1 Any) else None) c.operands ≡ true) tested taken in
     ap length of ∙ (just_many 2 c.operands (list_all (λ (o : Operand). is_of_kind Any o.text) c.operands) two).0
+
+-- one number, where packages are shown in memory
+pub demo_operands : (c : CommandLine) (applet : Applet) (operands : List Operand) → IsCommand c → applet ≡ c.applet → applet ≡ Demo → operands ≡ c.operands → are_operands (Some (exactly 1 Number)) operands ≡ true
+demo_operands c applet operands h same is of = ap (are_operands (Some (exactly 1 Number))) of ∙ of_applet c Demo h (sym is ∙ same)
 
 -- ---- an operand and its file
 

@@ -5,8 +5,8 @@ use Rattle.base_core.specs.Faults.{Counts, HasCause, IsNoFault, Rose}
 use Rattle.base_core.specs.Files.{Files}
 use Rattle.base_core.specs.Sink.{SinkChange, Gets, GetsSome, SinkFailed}
 use Rattle.base_core.specs.Tree.{TreeState, files_of}
-use Rattle.outcome.specs.Commands.{IsOutcome}
 use Rattle.outcome.specs.Outcome.{Outcome}
+use Rattle.outcome.specs.Words.{IsOutcome}
 use Rattle.report_core.specs.Texts.{tree_line, memory_line}
 use Rattle.report_core.specs.declared.refusal.Refusal.{Refusal}
 use Rattle.words_core.specs.Grammar.{line_start}

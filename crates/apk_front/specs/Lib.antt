@@ -8,3 +8,4 @@ pub mod Runs
 pub mod Containers
 pub mod Told
 pub mod Effects
+pub mod DemoRuns

@@ -11,9 +11,9 @@ use Rattle.journal_core.specs.Quiet.{IsStill}
 use Rattle.journal_core.specs.Recovery.{IsSettled, RestsOn, intent_name, intent_of, is_staged}
 use Rattle.journal_core.specs.Replacing.{HasRoom, HidesScratch, IsReplacing, scratch_of}
 use Rattle.journal_core.specs.Staged.{HasRoomToReplay, HasRoomToStage, IsEmptyStage, IsOnTheWay, unstaged_files}
-use Rattle.outcome.specs.Commands.{IsOutcome}
 use Rattle.outcome.specs.Effect.{Effect, Computes, Reads, Tells, Makes, Changes, does_recover, effect_by, output}
 use Rattle.outcome.specs.Outcome.{Outcome}
+use Rattle.outcome.specs.Words.{IsOutcome}
 use Rattle.outcome.specs.Work.{work_files}
 use Rattle.words_core.specs.Grammar.{command_of}
 use Rattle.apk_front.specs.declared.answer.Answer.{Answer}

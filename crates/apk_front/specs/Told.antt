@@ -5,17 +5,29 @@ use Rattle.base_core.specs.declared.tree.TreeFault.{TreeFault}
 use Rattle.base_core.specs.declared.tree.TreeFault.TheVariants as Trees
 use Rattle.change_inputs.specs.declared.refused.Refused.{Refused}
 use Rattle.change_inputs.specs.declared.refused.Refused.TheVariants.{Disk, Memory, Refusal}
-use Rattle.outcome.specs.Outcome.{just_refusal, just_report}
+use Rattle.installed_info.specs.declared.done.InfoDone.{InfoDone}
+use Rattle.outcome.specs.Outcome.{just_refusal, just_report, outcome_of}
 use Rattle.apk_front.specs.Verdicts.{as_outcome}
 use Rattle.apk_front.specs.declared.answer.Verdict.{Verdict}
 
--- the report or the refusal is judged, and a failure is handed on
+-- a refusal is judged, and a failure is handed on
+abbrev pub IsRefusedAs : Refused → Result Verdict TreeFault → Type 0
+IsRefusedAs (Refusal refusal) (Ok verdict) =
+    (files : Files) → as_outcome files verdict ≡ just_refusal files refusal
+IsRefusedAs (Refusal refusal) (Err fault) = ⊥
+IsRefusedAs Disk judged = judged ≡ Err Trees.Disk
+IsRefusedAs Memory judged = judged ≡ Err Trees.Memory
+
+-- the report of a change, or why there is none
 abbrev pub IsToldAs : Result (List ℕ) Refused → Result Verdict TreeFault → Type 0
 IsToldAs (Ok report) (Ok verdict) =
     (files : Files) → as_outcome files verdict ≡ just_report files report
 IsToldAs (Ok report) (Err fault) = ⊥
-IsToldAs (Err (Refusal refusal)) (Ok verdict) =
-    (files : Files) → as_outcome files verdict ≡ just_refusal files refusal
-IsToldAs (Err (Refusal refusal)) (Err fault) = ⊥
-IsToldAs (Err Disk) judged = judged ≡ Err Trees.Disk
-IsToldAs (Err Memory) judged = judged ≡ Err Trees.Memory
+IsToldAs (Err refused) judged = IsRefusedAs refused judged
+
+-- what `info` tells, with the refusal behind it, or why it tells nothing
+abbrev pub IsInfoToldAs : Result InfoDone Refused → Result Verdict TreeFault → Type 0
+IsInfoToldAs (Ok done) (Ok verdict) =
+    (files : Files) → as_outcome files verdict ≡ outcome_of done.late done.report files
+IsInfoToldAs (Ok done) (Err fault) = ⊥
+IsInfoToldAs (Err refused) judged = IsRefusedAs refused judged

@@ -1,4 +1,4 @@
-//! `add` and `del`: what is installed changes, and that is reported.
+//! `add`, `del`, `upgrade` and `fix`: what is installed changes, and that is reported.
 ghost use Rattle.std.specs.Prelude.{◌≡◌, true, IfOk, IsErrOf, OnOk};
 ghost use Rattle.apk_front.specs.Moments.{HasRoomToWrite};
 ghost use Rattle.apk_front.specs.Runs.{IfNothingWaits, IsRun};

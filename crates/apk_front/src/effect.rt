@@ -27,11 +27,18 @@ pub fn access_for(alloc: Global, words: &Words) -> Result<Access, AllocError>
     }
 }
 
-fn applet_access(applet: Applet) -> Access
+/// What an applet does: one that recovers the root first writes, whatever it does then.
+pub(crate) fn applet_access(applet: Applet) -> Access
     ensures { result ≡ access_of (does_only_read (effect_of applet)) }
 {
     match applet {
-        Applet::Mkpkg | Applet::Mkndx | Applet::Add | Applet::Del => Access::Write,
-        _ => Access::Read,
+        Applet::Verify | Applet::Adbdump | Applet::Version | Applet::Demo => Access::Read,
+        Applet::Info
+        | Applet::Mkpkg
+        | Applet::Mkndx
+        | Applet::Add
+        | Applet::Del
+        | Applet::Upgrade
+        | Applet::Fix => Access::Write,
     }
 }

@@ -10,8 +10,8 @@ ghost use Rattle.base_core.specs.Sink.{sink_change, KeepsCount};
 ghost use Rattle.base_core.specs.Tree.{files_of};
 ghost use Rattle.journal_core.specs.Quiet.{IsStill};
 ghost use Rattle.journal_core.specs.Recovery.{RestsOn, intent_name};
-ghost use Rattle.outcome.specs.Commands.{IsFoundOutcome, IsOutcome};
 ghost use Rattle.outcome.specs.Effect.{effect_by, output, reads_only, rests_on_words};
+ghost use Rattle.outcome.specs.Words.{IsFoundOutcome, IsOutcome};
 ghost use Rattle.outcome.specs.Work.{recovery_fault};
 ghost use Rattle.words_core.specs.Grammar.{command_of};
 

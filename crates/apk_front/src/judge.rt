@@ -10,13 +10,16 @@ ghost use Rattle.base_core.specs.Files.{Files, no_names};
 ghost use Rattle.base_core.specs.Read.{OnlyReads};
 ghost use Rattle.base_core.specs.Tree.{files_of};
 ghost use Rattle.make_info.specs.Reads.{Reads};
-ghost use Rattle.outcome.specs.Commands.{IsFoundOutcome, IsFoundOutcomeOf, IsOutcome, IsOutcomeOf, reads_in, command_outcome};
+ghost use Rattle.outcome.specs.Commands.{IsFoundOutcomeOf, IsOutcomeOf, reads_in, command_outcome};
 ghost use Rattle.outcome.specs.Given.{nothing_given};
 ghost use Rattle.outcome.specs.Effect.{does_only_read, does_rest_on_words, effect_by, effect_of, output, output_if, reads_only, rests_on_words};
+ghost use Rattle.outcome.specs.Words.{IsFoundOutcome, IsFoundOutcomeBy, IsOutcome, IsOutcomeBy};
 ghost use Rattle.words_core.specs.Grammar.{command_of};
 
 use crate::answer::Verdict;
+use crate::demo::demo;
 use crate::dump::adbdump;
+use crate::effect::{Access, applet_access};
 use crate::recovered::recover_and_run;
 use crate::verify::verify;
 use crate::version::version;
@@ -56,7 +59,7 @@ pub(crate) fn judge<T: Tree>(
         → (T.counts tree.new).misuses ≡ (T.counts tree.old).misuses) }
 {
     match read_words(alloc, words) {
-        Ok(command) => run(alloc, &command, tree),
+        Ok(command) => carry_out(alloc, &command, tree),
         Err(WordsFault::Usage { place }) => {
             Ok(Verdict::refused(alloc, Refusal::Usage { place }))
         }
@@ -64,8 +67,50 @@ pub(crate) fn judge<T: Tree>(
     }
 }
 
-// Runs an applet.
-fn run<T: Tree>(alloc: Global, command: &Command, tree: &mut T) -> Result<Verdict, TreeFault>
+// Runs an applet; `demo` runs others, in a tree of its own.
+#[tactic(auto, using(crate::proofs::Operands::demo_operands))]
+fn carry_out<T: Tree>(alloc: Global, command: &Command, tree: &mut T) -> Result<Verdict, TreeFault>
+    ensures found { IfOk result (λ verdict. IfObservable (T.history tree.old) (λ v.
+        ReportsOne (IsOutcomeBy (Ok command.now) (files_of v)) verdict)) }
+    ensures by_reads { IfOk result (λ verdict.
+        ReportsOne (IsFoundOutcomeBy (Ok command.now)) verdict) }
+    ensures by_words { IsTrue (does_rest_on_words (effect_of command.now.applet))
+        → MatchResult result
+        (λ verdict. (files : Files)
+        → IsOutcomeBy (Ok command.now) files (as_outcome files verdict))
+        (λ fault. fault ≡ TreeFault.Memory) }
+    ensures untouched { IsTrue (does_rest_on_words (effect_of command.now.applet))
+        → tree.new ≡ tree.old }
+    ensures run { IfObservable (T.history tree.old) (λ v. IsWholeRun
+        (IsOutcomeBy (Ok command.now) (files_of v)) (effect_of command.now.applet)
+        (output_if (effect_of command.now.applet) command.now)
+        result v (T.history tree.old) (T.history tree.new)) }
+    ensures same { IsTrue (does_only_read (effect_of command.now.applet))
+        → T.history tree.new ≡ T.history tree.old }
+    ensures goes_on { GoesOn (T.counts tree.old) (T.counts tree.new) }
+    ensures disk { IsErrOf result TreeFault.Disk
+        → HasCause (T.counts tree.old) (T.counts tree.new) }
+    ensures kept { OnOk result (IsNoFault (T.counts tree.old) (T.counts tree.new)) }
+    ensures memory { IsErrOf result TreeFault.Memory
+        → IsNoFault (T.counts tree.old) (T.counts tree.new) }
+    ensures proper { IfObservable (T.history tree.old) (λ v.
+        LeavesRoomFor (effect_of command.now.applet)
+        (output_if (effect_of command.now.applet) command.now)
+        (IsOutcomeBy (Ok command.now) (files_of v)) (files_of v)
+        → (T.counts tree.new).misuses ≡ (T.counts tree.old).misuses) }
+{
+    match command.applet() {
+        Applet::Demo => demo(alloc, command.operands()),
+        _ => run(alloc, command, tree),
+    }
+}
+
+/// Runs an applet other than `demo`.
+pub(crate) fn run<T: Tree>(
+    alloc: Global,
+    command: &Command,
+    tree: &mut T,
+) -> Result<Verdict, TreeFault>
     ensures found { IfOk result (λ verdict. IfObservable (T.history tree.old) (λ v.
         ReportsOne (IsOutcomeOf (Ok command.now) (files_of v)) verdict)) }
     ensures by_reads { IfOk result (λ verdict.
@@ -95,11 +140,9 @@ fn run<T: Tree>(alloc: Global, command: &Command, tree: &mut T) -> Result<Verdic
         (IsOutcomeOf (Ok command.now) (files_of v)) (files_of v)
         → (T.counts tree.new).misuses ≡ (T.counts tree.old).misuses) }
 {
-    match command.applet() {
-        Applet::Mkpkg | Applet::Mkndx | Applet::Add | Applet::Del => {
-            recover_and_run(alloc, command, tree)
-        }
-        _ => look(alloc, command, tree),
+    match applet_access(command.applet()) {
+        Access::Write => recover_and_run(alloc, command, tree),
+        Access::Read => look(alloc, command, tree),
     }
 }
 
@@ -129,7 +172,7 @@ fn look<T: Tree>(alloc: Global, command: &Command, tree: &mut T) -> Result<Verdi
             Ok(verdict)
         }
         Applet::Adbdump => adbdump(alloc, command.operands(), tree),
-        // No word names another applet yet.
+        // `demo` is not run here.
         _ => Ok(Verdict::empty(alloc)),
     }
 }

@@ -8,9 +8,9 @@ ghost use Rattle.base_core.specs.Crash.{Since};
 ghost use Rattle.base_core.specs.Tree.{TreeState, files_of};
 ghost use Rattle.journal_core.specs.Recovery.{IsSettled};
 ghost use Rattle.journal_core.specs.Replacing.{IsReplacing};
-ghost use Rattle.outcome.specs.Commands.{IsOutcome};
 ghost use Rattle.outcome.specs.Effect.{Effect, does_recover, effect_by, output};
 ghost use Rattle.outcome.specs.Outcome.{Outcome};
+ghost use Rattle.outcome.specs.Words.{IsOutcome};
 ghost use Rattle.outcome.specs.Work.{work_files};
 ghost use Rattle.words_core.specs.Grammar.{command_of};
 

@@ -10,9 +10,11 @@
 
 mod answer;
 mod change;
+mod demo;
 mod dump;
 mod effect;
 mod front;
+mod info;
 mod judge;
 mod laws;
 mod make;

@@ -15,6 +15,7 @@ ghost use Rattle.report_core.specs.declared.refusal.Refusal.TheVariants.{IntentB
 
 use crate::answer::Verdict;
 use crate::change::change;
+use crate::info::info;
 use crate::make::{mkndx, mkpkg};
 use base_core::{Tree, TreeFault, counts_of_calls_in_a_row_join};
 use command_core::{Applet, Command};
@@ -94,7 +95,8 @@ fn run_recovered<T: Tree>(
     match command.applet() {
         Applet::Mkpkg => mkpkg(alloc, command, tree),
         Applet::Mkndx => mkndx(alloc, command, tree),
-        Applet::Add | Applet::Del => change(alloc, command, tree),
+        Applet::Info => info(alloc, command, tree),
+        Applet::Add | Applet::Del | Applet::Upgrade | Applet::Fix => change(alloc, command, tree),
         _ => unreachable!(),
     }
 }

@@ -1,5 +1,5 @@
 -- Claims in the order of their paths, and the place of a path among them.
-use Rattle.std.proofs.Common.{◌≡◌, ℕ, suc, zero, ◌+◌, ◌<◌, ◌≤◌, Bool, true, false, cond, List, [], ◌∷◌, ◌++◌, length, map, drop, take, Option, Some, None, refl, ap, sym, ◌∙◌, subst, arith, true≢false, Ordering, Less, Equal, Greater}
+use Rattle.std.proofs.Common.{◌≡◌, ℕ, suc, zero, ◌+◌, ◌-◌, ◌<◌, ◌≤◌, Bool, true, false, cond, List, [], ◌∷◌, ◌++◌, length, map, drop, take, Option, Some, None, refl, ap, sym, ◌∙◌, subst, arith, true≢false, Ordering, Less, Equal, Greater}
 use Rattle.std.specs.Prelude.{not, ◌&&◌, slice_get, slice_index_or, option_and_then, bytes_eq}
 use Rattle.std.specs.Cmp.Lexicographic.{slice_cmp, texts_ties, bytes_decides}
 use Rattle.std.specs.List.{find}
@@ -135,3 +135,32 @@ place_seen xs path i h l = (below xs i l h.0, over xs i h.1)
     over (x ∷ xs) i f zero e a b = f zero x (omega (arith, a)) (omega arith)
     over (x ∷ xs) zero f (suc k) e a b = over xs zero (λ n d c g. f (suc n) d (omega arith) (omega (arith, g))) k e (omega arith) (omega (arith, b))
     over (x ∷ xs) (suc i) f (suc k) e a b = over xs i (λ n d c g. f (suc n) d (omega (arith, c)) (omega (arith, g))) k e (omega (arith, a)) (omega (arith, b))
+
+-- what stands for an element past the end does not matter within
+or_any : (xs : List Claim) (i : ℕ) (d e : Claim) → i < length xs → slice_index_or xs i d ≡ slice_index_or xs i e
+or_any [] i d e l = absurd (omega (arith, l))
+or_any (x ∷ xs) zero d e l = refl
+or_any (x ∷ xs) (suc i) d e l = or_any xs i d e (omega (arith, l))
+
+-- whether the path of the claim at i is before this one
+abbrev pub IsBefore : List Claim → List ℕ → ℕ → Claim → Bool → Type 0
+IsBefore xs path i d t = is_lt (slice_cmp nat_cmp (joined_path (slice_index_or xs i d).path) path) ≡ t
+
+pub before_any : (xs : List Claim) (path : List ℕ) (i : ℕ) (d e : Claim) (t : Bool) → i < length xs → IsBefore xs path i e t → IsBefore xs path i d t
+before_any xs path i d e t l h = ap (λ (c : Claim). is_lt (slice_cmp nat_cmp (joined_path c.path) path)) (or_any xs i d e l) ∙ h
+
+-- a place with a lower path in front of it, and none behind
+pub place_by : (xs : List Claim) (path : List ℕ) (i : ℕ) → IsSorted claim_cmp (map claim_seen xs) → i ≤ length xs
+    → ((d : Claim) → 0 < i → IsBefore xs path (i - 1) d true) → ((d : Claim) → i < length xs → IsBefore xs path i d false)
+    → IsPlace (map claim_seen xs) path i
+place_by xs path i up within low high = place_seen xs path i (below, over) within
+  where
+    below : (k : ℕ) (d : Claim) → 0 ≤ k → k < i → IsBefore xs path k d true
+    below k d a b = parted xs path up k (i - 1) d (omega (arith, b)) (omega (arith, b, within)) (low d (omega (arith, b)))
+
+    over : (k : ℕ) (d : Claim) → i ≤ k → k < length xs → IsBefore xs path k d false
+    over k d a b = go (is_lt (slice_cmp nat_cmp (joined_path (slice_index_or xs k d).path) path)) refl
+      where
+        go : (t : Bool) → IsBefore xs path k d t → t ≡ false
+        go true e = absurd (true≢false (sym (parted xs path up i k d a b e) ∙ high d (omega (arith, a, b))))
+        go false e = refl

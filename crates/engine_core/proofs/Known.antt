@@ -4,11 +4,10 @@ use Rattle.std.proofs.lemmas.List.{drop_all}
 use Rattle.std.specs.Prelude.{if◌then◌else◌, ◌||◌, is_some, bytes_eq, slice_get}
 use Rattle.std.specs.List.{list_any, position_from}
 use Rattle.command_core.specs.declared.operands.Operand.{Operand}
-use Rattle.change_inputs.specs.Inputs.{Inputs}
 use Rattle.dep_core.specs.Dependency.{Dependency}
 use Rattle.dep_core.specs.World.{has_name}
 use Rattle.make_info.proofs.Left.{left_at}
-use Rattle.engine_core.specs.Wishes.{first_unknown, is_known_name}
+use Rattle.engine_core.specs.Wishes.{first_unknown}
 use Rattle.engine_core.proofs.Lists.{map_more, take_next}
 
 pub is_found : {X : Type 0} (p : X → Bool) (n : ℕ) (xs : List X) → is_some (position_from p n xs) ≡ list_any p xs
@@ -36,19 +35,19 @@ name_nowhere name world i past left = sym (ap (has_name name) (drop_all i world 
 
 -- ---- the operands
 
-module _ (inputs : Inputs) (operands : List Operand) (i : ℕ) (left : first_unknown inputs (drop i operands) ≡ first_unknown inputs operands) where
-  first_at : (o : Operand) (b : Bool) → slice_get operands i ≡ Some o → b ≡ is_known_name inputs o.text
-      → (if b then first_unknown inputs (drop (i + 1) operands) else Some o.place) ≡ first_unknown inputs operands
-  first_at o b at is = ap (λ (t : Bool). if t then first_unknown inputs (drop (i + 1) operands) else Some o.place) is ∙ sym (ap (first_unknown inputs) (left_at operands i o at)) ∙ left
+module _ (is_known : List ℕ → Bool) (operands : List Operand) (i : ℕ) (left : first_unknown is_known (drop i operands) ≡ first_unknown is_known operands) where
+  first_at : (o : Operand) (b : Bool) → slice_get operands i ≡ Some o → b ≡ is_known o.text
+      → (if b then first_unknown is_known (drop (i + 1) operands) else Some o.place) ≡ first_unknown is_known operands
+  first_at o b at is = ap (λ (t : Bool). if t then first_unknown is_known (drop (i + 1) operands) else Some o.place) is ∙ sym (ap (first_unknown is_known) (left_at operands i o at)) ∙ left
 
-  pub unknown_here : (o : Operand) (b : Bool) → slice_get operands i ≡ Some o → b ≡ is_known_name inputs o.text → b ≡ false → Some o.place ≡ first_unknown inputs operands
-  unknown_here o b at is none = sym (ap (λ (t : Bool). if t then first_unknown inputs (drop (i + 1) operands) else Some o.place) none) ∙ first_at o b at is
+  pub unknown_here : (o : Operand) (b : Bool) → slice_get operands i ≡ Some o → b ≡ is_known o.text → b ≡ false → Some o.place ≡ first_unknown is_known operands
+  unknown_here o b at is none = sym (ap (λ (t : Bool). if t then first_unknown is_known (drop (i + 1) operands) else Some o.place) none) ∙ first_at o b at is
 
-  pub known_here : (o : Operand) (b : Bool) → slice_get operands i ≡ Some o → b ≡ is_known_name inputs o.text → b ≡ true → first_unknown inputs (drop (i + 1) operands) ≡ first_unknown inputs operands
-  known_here o b at is known = sym (ap (λ (t : Bool). if t then first_unknown inputs (drop (i + 1) operands) else Some o.place) known) ∙ first_at o b at is
+  pub known_here : (o : Operand) (b : Bool) → slice_get operands i ≡ Some o → b ≡ is_known o.text → b ≡ true → first_unknown is_known (drop (i + 1) operands) ≡ first_unknown is_known operands
+  known_here o b at is known = sym (ap (λ (t : Bool). if t then first_unknown is_known (drop (i + 1) operands) else Some o.place) known) ∙ first_at o b at is
 
-  pub all_known : length operands ≤ i → None ≡ first_unknown inputs operands
-  all_known past = sym (ap (first_unknown inputs) (drop_all i operands past)) ∙ left
+  pub all_known : length operands ≤ i → None ≡ first_unknown is_known operands
+  all_known past = sym (ap (first_unknown is_known) (drop_all i operands past)) ∙ left
 
 -- ---- the texts of operands
 

@@ -16,3 +16,5 @@ pub mod Found
 pub mod Counted
 pub mod Arriving
 pub mod Made
+pub mod Worked
+pub mod InfoSteps

@@ -1,5 +1,5 @@
 -- Runs of a change that is made, joined to those by what is selected.
-use Rattle.std.proofs.Common.{◌≡◌, ◌∙◌, ◌≤◌, ℕ, Bool, true, false, List, [], All, Option, Result, Ok, Err, length, refl, sym, ap, subst, arith}
+use Rattle.std.proofs.Common.{◌≡◌, ◌∙◌, ◌≤◌, ℕ, Bool, true, false, List, All, Option, Result, Ok, Err, length, refl, sym, ap, subst, arith}
 use Rattle.std.specs.Prelude.{if◌then◌else◌, nat_lt}
 use Rattle.std.proofs.lemmas.Bool.{ltb-false}
 use Rattle.arrivals.specs.Answered.{StandsUnlessDisk}
@@ -52,9 +52,9 @@ few_by false n e made pool more is same = subst (λ (p : SealedPool). length p.c
     pool_or (Ok p) = p
     pool_or (Err refusal) = made
 
-pub few_candidates : (inputs : Inputs) (pool : SealedPool) → pool_by inputs ≡ Ok pool → length pool.candidates ≤ MOST_MEMBERS
+pub few_candidates : (command : CommandLine) (inputs : Inputs) (pool : SealedPool) → pool_by command inputs ≡ Ok pool → length pool.candidates ≤ MOST_MEMBERS
 unfolding root_pool
-few_candidates inputs pool is = few_by (nat_lt MOST_CANDIDATES (length (candidates_of inputs))) (length (candidates_of inputs)) _ _ pool refl refl is
+few_candidates command inputs pool is = few_by (nat_lt MOST_CANDIDATES (length (candidates_of inputs))) (length (candidates_of inputs)) _ _ pool refl refl is
 
 module _ (s : Selection) (database : HasItsDatabase s) (command : CommandLine) where
   abbrev inputs : Inputs
@@ -64,10 +64,10 @@ module _ (s : Selection) (database : HasItsDatabase s) (command : CommandLine) w
   wishes = wishes_of command
 
   abbrev placed : Replacement
-  placed = replacement_of (replacement_by s.db.now s.pool.now s.trace.now [])
+  placed = replacement_of (replacement_by s.db.now s.pool.now s.trace.now s.again.now)
 
   placed_is : placed ≡ replacement_seen s
-  placed_is = λ i. record { before = database i; selected = candidates_at s.pool.now s.trace.now; again = [] }
+  placed_is = λ i. record { before = database i; selected = candidates_at s.pool.now s.trace.now; again = s.again.now }
 
   members_are : (read : Reads) (repositories : List Repository) (flags : Flags) → repositories ≡ inputs.root.repositories → flags ≡ command.flags
       → members_after placed read repositories flags.no_scripts ≡ change_members inputs (replacement_seen s) wishes read
@@ -112,7 +112,7 @@ module _ (s : Selection) (database : HasItsDatabase s) (command : CommandLine) w
       unarrived Memory explained = selected_failure command (Ok (selection_seen s)) old mid before between have whole quiet Memory tt
 
       -- the packages that come are read
-      module _ (root : IsRootRead old inputs) (names : PlacedNames) (named : placed_names_seen names ≡ placed_names_of (replacement_by s.db.now s.pool.now s.trace.now [])) (arrivals : Arrivals)
+      module _ (root : IsRootRead old inputs) (names : PlacedNames) (named : placed_names_seen names ≡ placed_names_of (replacement_by s.db.now s.pool.now s.trace.now s.again.now)) (arrivals : Arrivals)
           (explained : Explains old (λ read. StandsUnlessDisk (λ a found. AreMembersRead old (packages_of s.db.now) (arrivals_seen a) found) (Ok arrivals) (members_after placed read repositories flags.no_scripts))) where
         found_is : change_members inputs (replacement_seen s) wishes explained.read ≡ Ok explained.is.0
         found_is = sym (members_are explained.read repositories flags are is_flags) ∙ explained.is.1

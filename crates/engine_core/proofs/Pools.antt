@@ -3,15 +3,17 @@ use Rattle.std.proofs.Common.{◌≡◌, Bool, true, false, Ok, Err, sym, ap}
 use Rattle.std.specs.Prelude.{if◌then◌else◌}
 use Rattle.change_inputs.specs.Candidates.{candidates_of, root_pool}
 use Rattle.change_inputs.specs.Inputs.{Inputs}
-use Rattle.pool_core.specs.Rank.{SealedPool, no_names, sealed_pool_by}
+use Rattle.command_core.specs.Command.{CommandLine}
+use Rattle.pool_core.specs.Rank.{SealedPool, UpgradedNames, sealed_pool_by}
 use Rattle.report_core.specs.declared.refusal.Refusal.{Refusal}
 use Rattle.engine_core.specs.Selecting.{pool_by}
+use Rattle.engine_core.specs.Wishes.{names_to_upgrade}
 
 -- the pool's world is the one that the command asks for
-pub pool_world : (inputs : Inputs) (pool : SealedPool) → pool_by inputs ≡ Ok pool → pool.world ≡ inputs.root.new_world
+pub pool_world : (command : CommandLine) (inputs : Inputs) (pool : SealedPool) → pool_by command inputs ≡ Ok pool → pool.world ≡ inputs.root.new_world
 unfolding root_pool
-pool_world inputs pool is = by_size _ _ is
+pool_world command inputs pool is = by_size (names_to_upgrade command.applet command.operands) _ _ is
   where
-    by_size : (b : Bool) (refusal : Refusal) → (if b then Err refusal else Ok (sealed_pool_by (candidates_of inputs) inputs.root.new_world no_names)) ≡ Ok pool → pool.world ≡ inputs.root.new_world
-    by_size true refusal is = cc
-    by_size false refusal is = let same : sealed_pool_by (candidates_of inputs) inputs.root.new_world no_names ≡ pool = cc in ap (λ (p : SealedPool). p.world) (sym same)
+    by_size : (upgraded : UpgradedNames) (b : Bool) (refusal : Refusal) → (if b then Err refusal else Ok (sealed_pool_by (candidates_of inputs) inputs.root.new_world upgraded)) ≡ Ok pool → pool.world ≡ inputs.root.new_world
+    by_size upgraded true refusal is = cc
+    by_size upgraded false refusal is = let same : sealed_pool_by (candidates_of inputs) inputs.root.new_world upgraded ≡ pool = cc in ap (λ (p : SealedPool). p.world) (sym same)

@@ -20,7 +20,7 @@ use Rattle.engine_core.specs.Choice.{IsChoice, IsChoiceFrom}
 use Rattle.engine_core.specs.Chosen.{IsChosen}
 use Rattle.engine_core.specs.Runs.{IsRunBy, IsSelectedRun}
 use Rattle.engine_core.specs.Selecting.{pool_by, replacement_of_choice}
-use Rattle.engine_core.specs.Wishes.{names_to_go, unknown_place, unless_place, wishes_of}
+use Rattle.engine_core.specs.Wishes.{names_to_go, names_to_reinstall, unknown_place, unless_place, wishes_of}
 use Rattle.engine_core.proofs.Early.{HaveClash, IsOnlyRead, Seen, comes_to_idle, of_seen, seen_any, selected_failure, selected_refusal}
 
 abbrev pub HaveChoice : Type 0
@@ -33,37 +33,37 @@ with_error P (Err e) fault is p = let Q : Refused → Type 0 = λ f. P (Err f) i
 module _ (command : CommandLine) (inputs : Inputs) (old now : List TreeState) (before after : Counts) where
   pub run_failure : HaveChoice → HaveClash → All IsWhole old → IsOnlyRead old now before after → (fault : Refused) → IsFailure fault → IsRunBy command inputs old now before after (Err fault)
   run_failure choose have whole quiet fault is =
-      let (chosen, choice) = choose (pool_by inputs) in
+      let (chosen, choice) = choose (pool_by command inputs) in
       (chosen, choice, selected_failure command (selected_of_inputs command chosen inputs) old now before after have whole quiet fault is)
 
-  by_refusal : HaveClash → All IsWhole old → IsOnlyRead old now before after → (chosen : Option (List ℕ)) → IsChoiceFrom (pool_by inputs) chosen → (refusal : Refusal) → selected_of_inputs command chosen inputs ≡ Err refusal
+  by_refusal : HaveClash → All IsWhole old → IsOnlyRead old now before after → (chosen : Option (List ℕ)) → IsChoiceFrom (pool_by command inputs) chosen → (refusal : Refusal) → selected_of_inputs command chosen inputs ≡ Err refusal
       → IsRunBy command inputs old now before after (Err (IsRefused refusal))
   by_refusal have whole quiet chosen choice refusal is =
       (chosen, choice, selected_refusal command (selected_of_inputs command chosen inputs) old now before after have whole quiet refusal is)
 
   -- there are too many candidates
-  pub without_pool : HaveChoice → HaveClash → All IsWhole old → IsOnlyRead old now before after → (fault : Refused) → Agrees (λ (pool : SealedPool). pool) (Err fault) (pool_by inputs) → IsRunBy command inputs old now before after (Err fault)
+  pub without_pool : HaveChoice → HaveClash → All IsWhole old → IsOnlyRead old now before after → (fault : Refused) → Agrees (λ (pool : SealedPool). pool) (Err fault) (pool_by command inputs) → IsRunBy command inputs old now before after (Err fault)
   without_pool choose have whole quiet (IsRefused refusal) is =
       by_refusal have whole quiet None (subst (λ (p : Result SealedPool Refusal). IsChoiceFrom p None) (sym is) refl) refusal
-      (ap (λ (p : Result SealedPool Refusal). and_then p (λ pool. unless_place (unknown_place command.applet inputs command.operands) (selected_by inputs pool None))) is)
+      (ap (λ (p : Result SealedPool Refusal). and_then p (λ pool. unless_place (unknown_place command.applet inputs command.operands) (selected_by command inputs pool None))) is)
   without_pool choose have whole quiet Disk is = absurd is
   without_pool choose have whole quiet Memory is = run_failure choose have whole quiet Memory tt
 
-  module _ (pool : SealedPool) (pool_is : pool_by inputs ≡ Ok pool) where
+  module _ (pool : SealedPool) (pool_is : pool_by command inputs ≡ Ok pool) where
     selected_is : (chosen : Option (List ℕ)) (unknown : Option ℕ) → unknown_place command.applet inputs command.operands ≡ unknown
-        → selected_of_inputs command chosen inputs ≡ unless_place unknown (selected_by inputs pool chosen)
+        → selected_of_inputs command chosen inputs ≡ unless_place unknown (selected_by command inputs pool chosen)
     selected_is chosen unknown known_is =
-        ap (λ (p : Result SealedPool Refusal). and_then p (λ pool. unless_place (unknown_place command.applet inputs command.operands) (selected_by inputs pool chosen))) pool_is
-        ∙ ap (λ (o : Option ℕ). unless_place o (selected_by inputs pool chosen)) known_is
+        ap (λ (p : Result SealedPool Refusal). and_then p (λ pool. unless_place (unknown_place command.applet inputs command.operands) (selected_by command inputs pool chosen))) pool_is
+        ∙ ap (λ (o : Option ℕ). unless_place o (selected_by command inputs pool chosen)) known_is
 
-    choice_is : (chosen : Option (List ℕ)) → IsChoice pool chosen → IsChoiceFrom (pool_by inputs) chosen
+    choice_is : (chosen : Option (List ℕ)) → IsChoice pool chosen → IsChoiceFrom (pool_by command inputs) chosen
     choice_is chosen choice = subst (λ (p : Result SealedPool Refusal). IsChoiceFrom p chosen) (sym pool_is) choice
 
-    -- an operand of `del` is not known
+    -- an operand is not known
     pub unknown_run : HaveChoice → HaveClash → All IsWhole old → IsOnlyRead old now before after → (place : ℕ) → unknown_place command.applet inputs command.operands ≡ Some place
         → IsRunBy command inputs old now before after (Err (IsRefused (NotInstalled place)))
     unknown_run choose have whole quiet place is =
-        let (chosen, choice) = choose (pool_by inputs) in
+        let (chosen, choice) = choose (pool_by command inputs) in
         by_refusal have whole quiet chosen choice (NotInstalled place) (selected_is chosen (Some place) is)
 
     module _ (known : unknown_place command.applet inputs command.operands ≡ None) (chosen : Option (List ℕ)) (choice : IsChoice pool chosen) where
@@ -71,19 +71,19 @@ module _ (command : CommandLine) (inputs : Inputs) (old now : List TreeState) (b
       pub unchosen_run : HaveClash → All IsWhole old → IsOnlyRead old now before after → (fault : Refused) → IsChosen chosen (Err fault) → IsRunBy command inputs old now before after (Err fault)
       unchosen_run have whole quiet (IsRefused refusal) is =
           by_refusal have whole quiet chosen (choice_is chosen choice) refusal
-          (selected_is chosen None known ∙ ap (selected_by inputs pool) is.0 ∙ ap Err (sym is.1))
+          (selected_is chosen None known ∙ ap (selected_by command inputs pool) is.0 ∙ ap Err (sym is.1))
       unchosen_run have whole quiet Disk is = absurd is
       unchosen_run have whole quiet Memory is =
           (chosen, choice_is chosen choice, selected_failure command (selected_of_inputs command chosen inputs) old now before after have whole quiet Memory tt)
 
       -- a selection does
       pub chosen_run : (trace : List ℕ) (result : Result (List ℕ) Refused) → chosen ≡ Some trace
-          → IsSelectedRun command (Ok (record { inputs = inputs; replacement = replacement_of_choice inputs pool trace })) old now before after result
+          → IsSelectedRun command (Ok (record { inputs = inputs; replacement = replacement_of_choice (names_to_reinstall command.applet command.operands) inputs pool trace })) old now before after result
           → IsRunBy command inputs old now before after result
       chosen_run trace result is run = (
         chosen,
         choice_is chosen choice,
-        subst (λ (s : Result Selected Refusal). IsSelectedRun command s old now before after result) (sym (selected_is chosen None known ∙ ap (selected_by inputs pool) is)) run,
+        subst (λ (s : Result Selected Refusal). IsSelectedRun command s old now before after result) (sym (selected_is chosen None known ∙ ap (selected_by command inputs pool) is)) run,
       )
 
 -- ---- a change that is only simulated

@@ -136,23 +136,23 @@ HasInputs inputs (Ok s) = s.inputs ≡ inputs
 HasInputs inputs (Err refusal) = Unit {0}
 
 selected_has : (command : CommandLine) (chosen : Option (List ℕ)) (inputs : Inputs) → HasInputs inputs (selected_of_inputs command chosen inputs)
-selected_has command chosen inputs = by_pool (pool_by inputs)
+selected_has command chosen inputs = by_pool (pool_by command inputs)
   where
-    by_choice : (pool : SealedPool) (c : Option (List ℕ)) → HasInputs inputs (selected_by inputs pool c)
+    by_choice : (pool : SealedPool) (c : Option (List ℕ)) → HasInputs inputs (selected_by command inputs pool c)
     by_choice pool None = tt
     by_choice pool (Some trace) = refl
 
-    by_place : (pool : SealedPool) (place : Option ℕ) → HasInputs inputs (unless_place place (selected_by inputs pool chosen))
+    by_place : (pool : SealedPool) (place : Option ℕ) → HasInputs inputs (unless_place place (selected_by command inputs pool chosen))
     by_place pool None = by_choice pool chosen
     by_place pool (Some place) = tt
 
-    by_pool : (p : Result SealedPool Refusal) → HasInputs inputs (and_then p (λ pool. unless_place (unknown_place command.applet inputs command.operands) (selected_by inputs pool chosen)))
+    by_pool : (p : Result SealedPool Refusal) → HasInputs inputs (and_then p (λ pool. unless_place (unknown_place command.applet inputs command.operands) (selected_by command inputs pool chosen)))
     by_pool (Ok pool) = by_place pool (unknown_place command.applet inputs command.operands)
     by_pool (Err refusal) = tt
 
 module _ (have : HaveOwnReads) (command : CommandLine) (inputs : Inputs) (old now : List TreeState) (before after : Counts) (result : Result (List ℕ) Refused)
     (first : Reads) (observed : AreObserved old first) (is : inputs_of command first ≡ Ok inputs)
-    (chosen : Option (List ℕ)) (choice : IsChoiceFrom (pool_by inputs) chosen)
+    (chosen : Option (List ℕ)) (choice : IsChoiceFrom (pool_by command inputs) chosen)
     (run : IsSelectedRun command (selected_of_inputs command chosen inputs) old now before after result) where
   count : ℕ
   count = first_index_read + length inputs.root.repositories
@@ -193,7 +193,7 @@ module _ (have : HaveOwnReads) (command : CommandLine) (inputs : Inputs) (old no
     read = read;
     observed = splice_observed count first run.read old observed run.observed;
     chosen = chosen;
-    choice = subst (λ (r : Result Inputs Refusal). IsChoiceFrom (and_then r pool_by) chosen) (sym inputs_is) choice;
+    choice = subst (λ (r : Result Inputs Refusal). IsChoiceFrom (and_then r (pool_by command)) chosen) (sym inputs_is) choice;
     files = run.files;
     there = run.there;
     clash = run.clash;
@@ -238,7 +238,7 @@ module _ (choose : HaveChoice) (have : HaveClash) (command : CommandLine) (old n
         read = read;
         observed = observed;
         chosen = None;
-        choice = subst (λ (r : Result Inputs Refusal). IsChoiceFrom (and_then r pool_by) None) (sym is) refl;
+        choice = subst (λ (r : Result Inputs Refusal). IsChoiceFrom (and_then r (pool_by command)) None) (sym is) refl;
         files = seen.files;
         there = seen.there;
         clash = seen.clash;

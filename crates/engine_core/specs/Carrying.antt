@@ -33,7 +33,8 @@ ready_change inputs r wishes found files database =
 
 -- by some packages that are found, and over some files
 abbrev pub HasPlan : List TreeState → ChangeWishes → Planned → Type 0
-HasPlan history wishes p = (found : List MemberFound) × (files : Files) × IsPlanned history wishes p found files
+HasPlan history wishes p =
+    (found : List MemberFound) × (files : Files) × IsPlanned history wishes p found files
 
 -- ---- a package that was changed
 

@@ -14,7 +14,7 @@ use Rattle.pool_core.specs.Rank.{SealedPool}
 use Rattle.report_core.specs.declared.refusal.Refusal.{Refusal}
 use Rattle.report_core.specs.declared.refusal.Refusal.TheVariants.{Unsatisfied}
 use Rattle.engine_core.specs.Selecting.{pool_by, replacement_of_choice}
-use Rattle.engine_core.specs.Wishes.{unknown_place, unless_place, wishes_of}
+use Rattle.engine_core.specs.Wishes.{names_to_reinstall, unknown_place, unless_place, wishes_of}
 
 -- ---- the selection
 
@@ -24,17 +24,22 @@ pub record Selected : Type 0 where
   pub replacement : Replacement
 
 -- where no selection satisfies the new world, none is chosen
-abbrev pub selected_by : Inputs → SealedPool → Option (List ℕ) → Result Selected Refusal
-selected_by inputs pool None = Err Unsatisfied
-selected_by inputs pool (Some trace) =
-    Ok (record { inputs = inputs; replacement = replacement_of_choice inputs pool trace })
+abbrev pub selected_by :
+    CommandLine → Inputs → SealedPool → Option (List ℕ) → Result Selected Refusal
+selected_by command inputs pool None = Err Unsatisfied
+selected_by command inputs pool (Some trace) =
+    Ok (record {
+      inputs = inputs;
+      replacement = replacement_of_choice (names_to_reinstall command.applet command.operands)
+          inputs pool trace;
+    })
 
 abbrev pub selected_of_inputs :
     CommandLine → Option (List ℕ) → Inputs → Result Selected Refusal
 selected_of_inputs command chosen inputs =
-    and_then (pool_by inputs) (λ pool.
+    and_then (pool_by command inputs) (λ pool.
     unless_place (unknown_place command.applet inputs command.operands)
-    (selected_by inputs pool chosen))
+    (selected_by command inputs pool chosen))
 
 -- by what reads find, and by the candidates that are chosen
 abbrev pub selected_for : CommandLine → Reads → Option (List ℕ) → Result Selected Refusal

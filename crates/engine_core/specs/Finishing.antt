@@ -1,5 +1,5 @@
 -- What is known of a change as it is made ready.
-use Rattle.std.specs.Prelude.{◌≡◌, ℕ, Bool, true, false, not, List, [], All, Contains, Option, Some, None, bytes_eq, slice_get}
+use Rattle.std.specs.Prelude.{◌≡◌, ℕ, Bool, true, false, not, List, All, Contains, Option, Some, None, bytes_eq, slice_get}
 use Rattle.std.specs.Option.{option_copied}
 use Rattle.adb_rules.specs.Reserved.{is_reserved}
 use Rattle.arrivals.specs.Arrivals.{AreMembersRead, arrivals_seen}
@@ -63,7 +63,7 @@ pub record AreArrivals (history : List TreeState) (s : Selection) (names : Place
     (arrivals : Arrivals) (found : List MemberFound) : Type 0 where
   pub database : HasItsDatabase s
   pub placed : placed_names_seen names
-      ≡ placed_names_of (replacement_by s.db.now s.pool.now s.trace.now [])
+      ≡ placed_names_of (replacement_by s.db.now s.pool.now s.trace.now s.again.now)
   pub read : AreMembersRead history (packages_of s.db.now) (arrivals_seen arrivals) found
   pub root : IsRootRead history (inputs_of_selection s)
   pub selected : AreOfCandidates (replacement_seen s).selected (members_found found)
@@ -101,7 +101,8 @@ bytes_if true bytes = Some bytes
 bytes_if false bytes = None
 
 -- what of them is written
-pub record AreRecordWrites (inputs : Inputs) (records : NewRecords) (writes : RecordWrites) : Type 0 where
+pub record AreRecordWrites (inputs : Inputs) (records : NewRecords) (writes : RecordWrites)
+    : Type 0 where
   pub database_name : writes.database_name.now ≡ records.database_name
   pub database : option_copied writes.database
       ≡ bytes_if (is_other_file inputs.root.database.file records.database.items) records.database.items

@@ -38,7 +38,7 @@ abbrev pub IsRunBy :
     → Result (List ℕ) Refused → Type 0
 IsRunBy command inputs old now before after result =
     (chosen : Option (List ℕ))
-    × IsChoiceFrom (pool_by inputs) chosen
+    × IsChoiceFrom (pool_by command inputs) chosen
     × IsSelectedRun command (selected_of_inputs command chosen inputs)
     old now before after result
 

@@ -12,7 +12,8 @@ abbrev pub inputs_of_selection : Selection → Inputs
 inputs_of_selection s = inputs_seen s.loaded.now
 
 abbrev pub replacement_seen : Selection → Replacement
-replacement_seen s = replacement_of_choice (inputs_of_selection s) s.pool.now s.trace.now
+replacement_seen s =
+    replacement_of_choice s.again.now (inputs_of_selection s) s.pool.now s.trace.now
 
 abbrev pub selection_seen : Selection → Selected
 selection_seen s =

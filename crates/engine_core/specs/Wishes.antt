@@ -4,17 +4,33 @@ use Rattle.change_inputs.specs.Inputs.{Inputs}
 use Rattle.change_outcome.specs.ChangeOutcome.{ChangeWishes}
 use Rattle.command_core.specs.Command.{CommandLine}
 use Rattle.command_core.specs.declared.command.Applet.{Applet}
-use Rattle.command_core.specs.declared.command.Applet.TheVariants.{Del}
+use Rattle.command_core.specs.declared.command.Applet.TheVariants.{Del, Fix, Upgrade}
 use Rattle.command_core.specs.declared.operands.Operand.{Operand}
 use Rattle.dep_core.specs.World.{has_name}
 use Rattle.package_changes.specs.Report.{was_installed}
+use Rattle.pool_core.specs.Rank.{UpgradedNames, all_names, listed_names, no_names}
 use Rattle.report_core.specs.declared.refusal.Refusal.{Refusal}
 use Rattle.report_core.specs.declared.refusal.Refusal.TheVariants.{NotInstalled}
 
+-- the texts of a command's operands
+abbrev pub operand_texts : List Operand → List (List ℕ)
+operand_texts operands = map (λ o. o.text) operands
+
 -- the names that were to go: those that `del` takes out of world
 abbrev pub names_to_go : Applet → List Operand → List (List ℕ)
-names_to_go Del operands = map (λ o. o.text) operands
+names_to_go Del operands = operand_texts operands
 names_to_go applet operands = []
+
+-- the names that `upgrade` upgrades: those of its operands, or all where it has none
+abbrev pub names_to_upgrade : Applet → List Operand → UpgradedNames
+names_to_upgrade Upgrade [] = all_names
+names_to_upgrade Upgrade (o ∷ operands) = listed_names (operand_texts (o ∷ operands))
+names_to_upgrade applet operands = no_names
+
+-- the names that `fix` installs again
+abbrev pub names_to_reinstall : Applet → List Operand → List (List ℕ)
+names_to_reinstall Fix operands = operand_texts operands
+names_to_reinstall applet operands = []
 
 abbrev pub wishes_of : CommandLine → ChangeWishes
 wishes_of command = record {
@@ -23,20 +39,26 @@ wishes_of command = record {
   to_go = names_to_go command.applet command.operands;
 }
 
+-- a package of the name is installed
+abbrev pub is_installed_name : Inputs → List ℕ → Bool
+is_installed_name inputs name = was_installed inputs.root.database.packages name
+
 -- world has an entry of the name, or a package of it is installed
 abbrev pub is_known_name : Inputs → List ℕ → Bool
-is_known_name inputs name =
-    has_name name inputs.root.world || was_installed inputs.root.database.packages name
+is_known_name inputs name = has_name name inputs.root.world || is_installed_name inputs name
 
--- the place of the first operand that is no such name
-abbrev pub first_unknown : Inputs → List Operand → Option ℕ
-first_unknown inputs [] = None
-first_unknown inputs (o ∷ operands) =
-    if is_known_name inputs o.text then first_unknown inputs operands else Some o.place
+-- the place of the first operand whose text is no such name
+abbrev pub first_unknown : (List ℕ → Bool) → List Operand → Option ℕ
+first_unknown is_known [] = None
+first_unknown is_known (o ∷ operands) =
+    if is_known o.text then first_unknown is_known operands else Some o.place
 
--- of `del`, which is refused a name that is neither in world nor installed
+-- `del` is refused a name that is neither in world nor installed; `upgrade` and `fix` are refused
+-- one that is not installed
 abbrev pub unknown_place : Applet → Inputs → List Operand → Option ℕ
-unknown_place Del inputs operands = first_unknown inputs operands
+unknown_place Del inputs operands = first_unknown (is_known_name inputs) operands
+unknown_place Upgrade inputs operands = first_unknown (is_installed_name inputs) operands
+unknown_place Fix inputs operands = first_unknown (is_installed_name inputs) operands
 unknown_place applet inputs operands = None
 
 abbrev pub unless_place : {A : Type 0} → Option ℕ → Result A Refusal → Result A Refusal

@@ -5,6 +5,7 @@ ghost use Rattle.engine_core.specs.Finishing.{IsRootRead};
 ghost use Rattle.engine_core.specs.Runs.{IsRunBy, IsRunCounted, IsSelectedRun};
 ghost use Rattle.engine_core.specs.Selecting.{pool_by};
 ghost use Rattle.engine_core.specs.SelectionSeen.{HasItsDatabase, inputs_of_selection, selection_seen};
+ghost use Rattle.engine_core.specs.Wishes.{names_to_reinstall};
 ghost use Rattle.std.specs.Prelude.{◌≡◌, Ok};
 
 use crate::choosing::choose;
@@ -12,27 +13,27 @@ use crate::laws::a_choice_exists;
 use crate::making::make_change;
 use crate::selection::Selection;
 use crate::simulating::simulate;
-use crate::wishes::unknown_operand;
+use crate::wishes::{names_to_reinstall, names_to_upgrade, operand_texts, unknown_operand};
 use arrivals::packages_after_a_change_rest_on_later_reads;
-use base_core::{Text, Tree};
+use base_core::{Text, Tree, Words};
 use change_inputs::{Loaded, Refused, inputs_rest_on_their_own_reads};
 use change_laws::{a_change_has_a_first_clash_or_none, what_is_read_of_a_root_stands_there};
 use command_core::Command;
-use pool_core::{Sealed, Upgrade};
+use pool_core::Sealed;
 use report_core::Refusal;
 use std::alloc::Global;
 
-/// Changes what is installed, as `add` or `del` asks for it, and reports it; with `--simulate` it
-/// only reports what would change. All is read, tested and made ready first, then the new files are
-/// staged, and one step lets all of them count. All memory is asked for before the first file is
-/// staged.
+/// Changes what is installed, as `add`, `del`, `upgrade` or `fix` asks for it, and reports it; with
+/// `--simulate` it only reports what would change. All is read, tested and made ready first, then
+/// the new files are staged, and one step lets all of them count. All memory is asked for before
+/// the first file is staged.
 ///
 /// # Errors
 ///
-/// The refusals of what is read, `TooMany`, `NotInstalled` of `del`, and `Unsatisfied`; then, unless
-/// the change is only simulated, those of the packages that come, `Reserved`, `PathClash`, `Owned`,
-/// `TriggerNeeded`, and `ResultTooLarge` of the database and then of the intent. `Disk` where the
-/// tree failed, and `Memory`.
+/// The refusals of what is read, `TooMany`, `NotInstalled` of all but `add`, and `Unsatisfied`;
+/// then, unless the change is only simulated, those of the packages that come, `Reserved`,
+/// `PathClash`, `Owned`, `TriggerNeeded`, and `ResultTooLarge` of the database and then of the
+/// intent. `Disk` where the tree failed, and `Memory`.
 pub fn change<T: Tree>(alloc: Global, command: &Command, tree: &mut T) -> Result<Text, Refused>
     ensures run { IsChangeRun command.now (T.history tree.old) (T.history tree.new)
         (T.counts tree.old) (T.counts tree.new) result }
@@ -61,8 +62,10 @@ fn change_loaded<T: Tree>(
 {
     a_choice_exists();
     a_change_has_a_first_clash_or_none();
-    match loaded.pool(alloc, Upgrade::Nothing) {
-        Ok(pool) => change_in_pool(alloc, command, loaded, &pool, tree),
+    let again = names_to_reinstall(alloc, command)?;
+    let names = operand_texts(alloc, command.operands())?;
+    match loaded.pool(alloc, names_to_upgrade(command, &names)) {
+        Ok(pool) => change_in_pool(alloc, command, loaded, &pool, &again, tree),
         Err(refused) => Err(refused),
     }
 }
@@ -73,9 +76,11 @@ fn change_in_pool<'a, T: Tree>(
     command: &Command,
     loaded: &'a Loaded,
     pool: &Sealed<'a>,
+    again: &Words,
     tree: &mut T,
 ) -> Result<Text, Refused>
-    requires pool { pool_by (inputs_seen loaded.now) ≡ Ok pool.now }
+    requires pool { pool_by command.now (inputs_seen loaded.now) ≡ Ok pool.now }
+    requires again { again.now ≡ names_to_reinstall command.now.applet command.now.operands }
     requires root { IsRootRead (T.history tree.old) (inputs_seen loaded.now) }
     ensures run { IsRunBy command.now (inputs_seen loaded.now) (T.history tree.old)
         (T.history tree.new) (T.counts tree.old) (T.counts tree.new) result }
@@ -93,6 +98,7 @@ fn change_in_pool<'a, T: Tree>(
         db: &db,
         pool,
         trace: &trace,
+        again,
     };
     change_selected(alloc, command, &selection, tree)
 }
@@ -105,7 +111,8 @@ fn change_selected<T: Tree>(
     tree: &mut T,
 ) -> Result<Text, Refused>
     requires database { HasItsDatabase selection.now }
-    requires pool { pool_by (inputs_of_selection selection.now) ≡ Ok selection.now.pool.now }
+    requires pool { pool_by command.now (inputs_of_selection selection.now)
+        ≡ Ok selection.now.pool.now }
     requires root { IsRootRead (T.history tree.old) (inputs_of_selection selection.now) }
     ensures run { IsSelectedRun command.now (Ok (selection_seen selection.now))
         (T.history tree.old) (T.history tree.new) (T.counts tree.old) (T.counts tree.new) result }

@@ -2,8 +2,7 @@
 ghost use Rattle.change_inputs.specs.Seen.{inputs_seen};
 ghost use Rattle.engine_core.specs.Chosen.{IsChosen};
 ghost use Rattle.engine_core.specs.Choice.{IsChoice};
-ghost use Rattle.engine_core.specs.Selecting.{pool_by};
-ghost use Rattle.std.specs.Prelude.{◌≡◌, ℕ, List, Ok, Option};
+ghost use Rattle.std.specs.Prelude.{◌≡◌, ℕ, List, Option};
 
 use change_inputs::{Loaded, Refused};
 use pool_core::Sealed;
@@ -21,7 +20,7 @@ pub(crate) fn choose<'a>(
     loaded: &'a Loaded,
     pool: &Sealed<'a>,
 ) -> Result<Trace, Refused>
-    requires { pool_by (inputs_seen loaded.now) ≡ Ok pool.now }
+    requires { pool.now.world ≡ (inputs_seen loaded.now).root.new_world }
     ensures { (chosen : Option (List ℕ)) × IsChoice pool.now chosen × IsChosen chosen result }
 {
     crate::laws::a_choice_exists();

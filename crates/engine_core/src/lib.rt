@@ -1,8 +1,10 @@
-//! A change of what is installed: `add` and `del`, from their words to their end.
+//! A change of what is installed: `add`, `del`, `upgrade` and `fix`, from their words to their
+//! end.
 //!
 //! The contract of `change` cites `ChangeRun` of `specs/` (what a run answers, and what it makes of
 //! the tree), `Changed` (what a command comes to, by what is read and by what is chosen) and `Choice`
-//! (which candidates are chosen). `laws` says that there is one choice.
+//! (which candidates are chosen). `laws` says that there is one choice. That of `info`, which tells of
+//! what is installed, cites `InfoTold`.
 #![tactic(auto)]
 
 mod arrived;
@@ -18,9 +20,12 @@ mod removals;
 mod selection;
 mod simulating;
 mod targets;
+mod telling;
 mod wishes;
 mod writes;
 
 pub use change_inputs::Refused;
 pub use changing::change;
+pub use installed_info::InfoDone;
 pub use laws::{a_choice_exists, a_choice_is_unique};
+pub use telling::info;

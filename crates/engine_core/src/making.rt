@@ -20,7 +20,7 @@ use crate::selection::Selection;
 use arrivals::{
     Arrivals, members_of_change, packages_that_were_read_are_those_found, read_arrivals,
 };
-use base_core::{Text, Tree, Words, counts_of_calls_in_a_row_join};
+use base_core::{Text, Tree, counts_of_calls_in_a_row_join};
 use change_inputs::Refused;
 use change_laws::a_change_has_a_first_clash_or_none;
 use command_core::Command;
@@ -32,8 +32,8 @@ use std::alloc::Global;
 ///
 /// # Errors
 ///
-/// `PackageMissing`, `PackageBad`, `PackageDiffers` and `ScriptNeeded` of the first package that has
-/// one; `Reserved`, `PathClash`, `Owned`; then those of `finish_change`.
+/// `PackageMissing`, `PackageBad`, `PackageDiffers` and `ScriptNeeded` of the first package that
+/// has one; `Reserved`, `PathClash`, `Owned`; then those of `finish_change`.
 pub(crate) fn make_change<T: Tree>(
     alloc: Global,
     command: &Command,
@@ -41,7 +41,8 @@ pub(crate) fn make_change<T: Tree>(
     tree: &mut T,
 ) -> Result<Text, Refused>
     requires database { HasItsDatabase selection.now }
-    requires pool { pool_by (inputs_of_selection selection.now) ≡ Ok selection.now.pool.now }
+    requires pool { pool_by command.now (inputs_of_selection selection.now)
+        ≡ Ok selection.now.pool.now }
     requires root { IsRootRead (T.history tree.old) (inputs_of_selection selection.now) }
     requires real { command.now.flags.simulate ≡ false }
     ensures run { IsSelectedRun command.now (Ok (selection_seen selection.now))
@@ -49,8 +50,14 @@ pub(crate) fn make_change<T: Tree>(
     ensures counts { IsRunCounted (T.counts tree.old) (T.counts tree.new) result }
 {
     a_change_has_a_first_clash_or_none();
-    let none = Words::new(alloc);
-    let names = PlacedNames::of(alloc, selection.db, selection.pool, selection.trace, &none)?;
+    let Selection {
+        db,
+        pool,
+        trace,
+        again,
+        ..
+    } = *selection;
+    let names = PlacedNames::of(alloc, db, pool, trace, again)?;
     let arrivals = read_arrivals(
         alloc,
         tree,
@@ -72,11 +79,13 @@ fn change_members<'a, 'm, T: Tree>(
     arrivals: &'m Arrivals,
     tree: &mut T,
 ) -> Result<Text, Refused>
-    requires members { CanBeMembers (packages_of selection.now.db.now) (arrivals_seen arrivals.now) }
+    requires members { CanBeMembers (packages_of selection.now.db.now)
+        (arrivals_seen arrivals.now) }
     requires read { (found : List MemberFound)
         × AreArrivals (T.history tree.old) selection.now names.now arrivals.now found }
     ensures run { (found : List MemberFound) (read : Reads)
-        → AreArrivals (T.history tree.old) selection.entry.now names.entry.now arrivals.entry.now found
+        → AreArrivals (T.history tree.old) selection.entry.now names.entry.now arrivals.entry.now
+        found
         → IsMembersRun (inputs_of_selection selection.entry.now)
         (replacement_seen selection.entry.now) (wishes_of command.now) read found
         (T.history tree.old) (T.history tree.new) (T.counts tree.old) (T.counts tree.new) result }

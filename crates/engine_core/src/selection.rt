@@ -1,5 +1,6 @@
 //! The candidates that take the place of the packages before.
 
+use base_core::Words;
 use change_inputs::Loaded;
 use db_core::Db;
 use pool_core::Sealed;
@@ -12,4 +13,6 @@ pub(crate) struct Selection<'r, 'a> {
     pub db: &'r Db<'a>,
     pub pool: &'r Sealed<'a>,
     pub trace: &'r Trace,
+    /// The names that are to be installed again.
+    pub again: &'r Words,
 }

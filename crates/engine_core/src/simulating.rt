@@ -6,7 +6,7 @@ ghost use Rattle.std.specs.Prelude.{◌≡◌, IfOk};
 
 use crate::selection::Selection;
 use crate::wishes::names_to_go;
-use base_core::{Text, Words};
+use base_core::Text;
 use command_core::Command;
 use package_changes::{Changes, simulated_report};
 use std::alloc::{AllocError, Global};
@@ -21,15 +21,15 @@ pub(crate) fn simulate(
     ensures { IfOk result (λ report. report ≡ simulated_report (replacement_seen selection.now)
         (names_to_go command.now.applet command.now.operands)) }
 {
-    let none = Words::new(alloc);
     let to_go = names_to_go(alloc, command)?;
     let Selection {
         db,
         pool,
         trace,
+        again,
         ..
     } = *selection;
-    let changes = Changes::of(alloc, db, pool, trace, &none)?;
+    let changes = Changes::of(alloc, db, pool, trace, again)?;
     let report = simulated_report(alloc, db, pool, trace, &changes, &to_go)?;
     Text::of(alloc, report.bytes())
 }

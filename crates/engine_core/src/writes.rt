@@ -83,7 +83,8 @@ fn push_record<'c>(
     name: &'c Name,
     bytes: Option<&'c [u8]>,
 ) -> Result<(), AllocError>
-    ensures { OnOk result (writes.new.items ≡ writes.old.items ++ record_writes name.entry bytes.entry) }
+    ensures { OnOk result (writes.new.items
+        ≡ writes.old.items ++ record_writes name.entry bytes.entry) }
 {
     if let Some(bytes) = bytes {
         writes.push(StagedWrite {
@@ -96,7 +97,8 @@ fn push_record<'c>(
 
 /// Puts writes into the order of their names.
 fn sort_writes(writes: &mut Vec<StagedWrite<'_>>) -> Result<(), AllocError>
-    ensures { OnOk result (writes.new.items ≡ sorted_by (on write_name bytes_cmp) writes.old.items) }
+    ensures { OnOk result (writes.new.items
+        ≡ sorted_by (on write_name bytes_cmp) writes.old.items) }
 {
     writes.sort_by(|one, other| one.name.as_bytes().cmp(other.name.as_bytes()))?;
     Ok(())
@@ -116,7 +118,8 @@ pub(crate) fn writes_of<'c>(
     ensures names { IfOk result (λ writes. map write_name writes.items
         ≡ names_in_order (written_names plan.entry.now ++ record_names records.now)) }
     ensures each { IfOk result (λ writes. All (IsWriteBy (members_of members.now)
-        (package_at arrivals.entry.now) (writes_in plan.entry.now.writes) records.now) writes.items) }
+        (package_at arrivals.entry.now) (writes_in plan.entry.now.writes) records.now)
+        writes.items) }
 {
     let mut writes = Vec::new(alloc);
     push_files(&mut writes, members, arrivals, plan)?;

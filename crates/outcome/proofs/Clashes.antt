@@ -4,15 +4,14 @@ use Rattle.base_core.specs.Files.{Files, IsWithin}
 use Rattle.change_inputs.specs.Inputs.{Inputs}
 use Rattle.change_outcome.specs.ChangeOutcome.{ChangeWishes, IsClashOfChange}
 use Rattle.command_core.specs.Command.{CommandLine}
-use Rattle.command_core.specs.declared.command.Applet.{Applet}
-use Rattle.command_core.specs.declared.command.Applet.TheVariants.{Add, Del}
 use Rattle.engine_core.specs.Changed.{IsClashOfSelected, IsClashUnlessSimulated, Selected, selected_for}
 use Rattle.engine_core.specs.Wishes.{wishes_of}
 use Rattle.make_info.specs.Reads.{Reads}
 use Rattle.package_changes.specs.Changes.{Replacement}
 use Rattle.path_clashes.specs.Clash.{NamePair}
 use Rattle.report_core.specs.declared.refusal.Refusal.{Refusal}
-use Rattle.outcome.specs.Given.{IsClashOfApplet}
+use Rattle.outcome.specs.Effect.{Effect, Changes}
+use Rattle.outcome.specs.Given.{IsClashBy}
 
 -- a change of files under finitely many names has a first clash, or none, and no second one
 abbrev pub HaveClash : Type 0
@@ -33,10 +32,9 @@ of_selected : HaveClash → (command : CommandLine) (read : Reads) (files : File
 of_selected have command read files within (Ok s) finite = unless_simulated have command.flags.simulate (wishes_of command) read files within s finite
 of_selected have command read files within (Err refusal) finite = (None, refl)
 
-pub clash_exists : HaveClash → (applet : Applet) (command : CommandLine) (read : Reads) (files : Files) (within : List (List ℕ)) (chosen : Option (List ℕ)) → IsWithin within files
-    → (clash : Option NamePair) × IsClashOfApplet applet command read files chosen clash
-clash_exists have Add command read files within chosen finite = of_selected have command read files within (selected_for command read chosen) finite
-clash_exists have Del command read files within chosen finite = of_selected have command read files within (selected_for command read chosen) finite
+pub clash_exists : HaveClash → (effect : Effect) (command : CommandLine) (read : Reads) (files : Files) (within : List (List ℕ)) (chosen : Option (List ℕ)) → IsWithin within files
+    → (clash : Option NamePair) × IsClashBy effect command read files chosen clash
+clash_exists have Changes command read files within chosen finite = of_selected have command read files within (selected_for command read chosen) finite
 clash_exists have other command read files within chosen finite = (None, refl)
 
 one_unless : HaveOneClash → (simulate : Bool) (wishes : ChangeWishes) (read : Reads) (files : Files) (s : Selected) (a b : Option NamePair)
@@ -49,8 +47,7 @@ one_selected : HaveOneClash → (command : CommandLine) (read : Reads) (files : 
 one_selected one command read files (Ok s) a b x y = one_unless one command.flags.simulate (wishes_of command) read files s a b x y
 one_selected one command read files (Err refusal) a b x y = x ∙ sym y
 
-pub clash_one : HaveOneClash → (applet : Applet) (command : CommandLine) (read : Reads) (files : Files) (chosen : Option (List ℕ)) (a b : Option NamePair)
-    → IsClashOfApplet applet command read files chosen a → IsClashOfApplet applet command read files chosen b → a ≡ b
-clash_one one Add command read files chosen a b x y = one_selected one command read files (selected_for command read chosen) a b x y
-clash_one one Del command read files chosen a b x y = one_selected one command read files (selected_for command read chosen) a b x y
+pub clash_one : HaveOneClash → (effect : Effect) (command : CommandLine) (read : Reads) (files : Files) (chosen : Option (List ℕ)) (a b : Option NamePair)
+    → IsClashBy effect command read files chosen a → IsClashBy effect command read files chosen b → a ≡ b
+clash_one one Changes command read files chosen a b x y = one_selected one command read files (selected_for command read chosen) a b x y
 clash_one one other command read files chosen a b x y = x ∙ sym y

@@ -1,12 +1,12 @@
 -- A command that makes a file commits where it is not refused; and a refusal commits nothing.
-use Rattle.std.proofs.Common.{◌≡◌, ◌⊎◌, inl, inr, ⊎_elim, ℕ, Bool, true, false, List, [], length, Option, Some, None, IsSome, Result, Ok, Err, refl, sym, ap, subst, ◌∙◌, true≢false}
+use Rattle.std.proofs.Common.{◌≡◌, ◌⊎◌, inl, inr, ℕ, Bool, true, false, List, [], length, Option, Some, None, IsSome, Result, Ok, Err, refl, sym, ap, subst, ◌∙◌, true≢false}
 use Rattle.std.specs.Prelude.{if◌then◌else◌, is_some, not, IsTrue}
 use Rattle.adb_rules.specs.Reserved.{is_reserved}
 use Rattle.base_core.specs.Files.{Files}
 use Rattle.base_core.specs.declared.cause.Cause.{Cause}
 use Rattle.command_core.specs.Command.{CommandLine}
 use Rattle.command_core.specs.declared.command.Applet.{Applet}
-use Rattle.command_core.specs.declared.command.Applet.TheVariants.{Add, Del, Mkndx, Mkpkg}
+use Rattle.command_core.specs.declared.command.Applet.TheVariants.{Mkndx, Mkpkg}
 use Rattle.make_index.specs.Index.{made_index}
 use Rattle.make_info.specs.Output.{output_name}
 use Rattle.make_info.specs.declared.fault.MakeFault.{MakeFault}
@@ -14,14 +14,16 @@ use Rattle.make_info.specs.declared.fault.MakeFault.TheVariants.{FileMissing, Fi
 use Rattle.make_package.specs.Making.{made_package}
 use Rattle.change_outcome.specs.ChangeOutcome.{ChangeDone}
 use Rattle.engine_core.specs.Changed.{changed}
+use Rattle.engine_core.specs.InfoTold.{info_told}
 use Rattle.report_core.specs.declared.refusal.Refusal.{Refusal}
 use Rattle.report_core.specs.declared.refusal.Refusal.TheVariants.{Reserved, ResultTooLarge}
 use Rattle.words_core.specs.Grammar.{command_of}
+use Rattle.outcome.proofs.Applets.{change_is, info_is, told_commits, told_files}
 use Rattle.outcome.proofs.MadeSound.{IsRefusalOrMade, index_fine, package_fine}
 use Rattle.outcome.specs.Changing.{change_outcome}
 use Rattle.outcome.specs.Given.{Given}
-use Rattle.outcome.specs.Commands.{IsOutcome, IsOutcomeOf, IsOutcomeUnless, applet_outcome, reads_in}
-use Rattle.outcome.specs.Effect.{Effect, Makes, Changes, does_only_read, effect_by, effect_of, reads_only}
+use Rattle.outcome.specs.Commands.{IsOutcomeOf, IsOutcomeUnless, applet_outcome, reads_in}
+use Rattle.outcome.specs.Effect.{Effect, Computes, Reads as OnlyReads, Tells, Makes, Changes, does_only_read, effect_by, effect_of, reads_only}
 use Rattle.outcome.specs.Make.{files_with, index_line, make_outcome, unless_reserved}
 use Rattle.outcome.specs.Outcome.{Outcome, commit_report, just_refusal}
 use Rattle.outcome.specs.Work.{recovery_fault, work_files}
@@ -60,7 +62,7 @@ commits_by : (read : Result CommandLine ℕ) (files : Files) (o : Outcome) → e
 commits_by (Err place) files o makes is = cc
 commits_by (Ok command) files o makes is = commits_unless (recovery_fault (effect_of command.applet) files) command files o makes is
 
-pub maker_commits : (words : List (List ℕ)) (files : Files) (o : Outcome) → effect_by (command_of words) ≡ Makes → IsOutcome words files o → CommitsUnlessRefused o
+pub maker_commits : (words : List (List ℕ)) (files : Files) (o : Outcome) → effect_by (command_of words) ≡ Makes → IsOutcomeOf (command_of words) files o → CommitsUnlessRefused o
 maker_commits words files o makes is = commits_by (command_of words) files o makes is
 
 -- ---- a change
@@ -74,9 +76,8 @@ change_commits files (Ok done) some = absurd (true≢false (sym some))
 change_commits files (Err refusal) some = refl
 
 applet_changes : (applet : Applet) (command : CommandLine) (given : Given) (files : Files) → effect_of applet ≡ Changes → CommitsNoRefusal (applet_outcome applet command given (reads_in files) files)
-applet_changes Add command given files changes = change_commits files (changed command (reads_in files) files given.chosen given.clash)
-applet_changes Del command given files changes = change_commits files (changed command (reads_in files) files given.chosen given.clash)
-applet_changes other command given files changes = cc
+applet_changes applet command given files changes =
+    subst CommitsNoRefusal (change_is applet command given (reads_in files) files changes) (change_commits files (changed command (reads_in files) files given.chosen given.clash))
 
 changes_unless : (fault : Option Cause) (command : CommandLine) (files : Files) (o : Outcome) → effect_of command.applet ≡ Changes → IsOutcomeUnless fault command files o → CommitsNoRefusal o
 changes_unless (Some cause) command files o changes is = λ some. ap (λ (p : Outcome). p.commits) is
@@ -86,26 +87,62 @@ changes_by : (read : Result CommandLine ℕ) (files : Files) (o : Outcome) → e
 changes_by (Err place) files o changes is = cc
 changes_by (Ok command) files o changes is = changes_unless (recovery_fault (effect_of command.applet) files) command files o changes is
 
+-- ---- a command that tells what is installed
+
+tells_unless : (fault : Option Cause) (command : CommandLine) (files : Files) (o : Outcome) → effect_of command.applet ≡ Tells → IsOutcomeUnless fault command files o → o.commits ≡ false
+tells_unless (Some cause) command files o tells is = ap (λ (p : Outcome). p.commits) is
+tells_unless None command files o tells (given, are, is) =
+    let work = work_files (effect_of command.applet) files in
+    ap (λ (p : Outcome). p.commits) (is ∙ sym (info_is command.applet command given (reads_in work) work tells))
+    ∙ told_commits work (info_told command (reads_in work))
+
+tells_by : (read : Result CommandLine ℕ) (files : Files) (o : Outcome) → effect_by read ≡ Tells → IsOutcomeOf read files o → o.commits ≡ false
+tells_by (Err place) files o tells is = cc
+tells_by (Ok command) files o tells is = tells_unless (recovery_fault (effect_of command.applet) files) command files o tells is
+
+-- it commits nothing
+pub teller_commits : (words : List (List ℕ)) (files : Files) (o : Outcome) → effect_by (command_of words) ≡ Tells → IsOutcomeOf (command_of words) files o → o.commits ≡ false
+teller_commits words files o tells is = tells_by (command_of words) files o tells is
+
+tells_files : (fault : Option Cause) (command : CommandLine) (files : Files) (o : Outcome) → effect_of command.applet ≡ Tells → IsOutcomeUnless fault command files o → (o.files ≡ files) ⊎ (o.files ≡ work_files Tells files)
+tells_files (Some cause) command files o tells is = inl (ap (λ (p : Outcome). p.files) is)
+tells_files None command files o tells (given, are, is) =
+    let work = work_files (effect_of command.applet) files in
+    inr (
+    ap (λ (p : Outcome). p.files) (is ∙ sym (info_is command.applet command given (reads_in work) work tells))
+    ∙ told_files work (info_told command (reads_in work))
+    ∙ ap (λ (e : Effect). work_files e files) tells
+    )
+
+files_by : (read : Result CommandLine ℕ) (files : Files) (o : Outcome) → effect_by read ≡ Tells → IsOutcomeOf read files o → (o.files ≡ files) ⊎ (o.files ≡ work_files Tells files)
+files_by (Err place) files o tells is = cc
+files_by (Ok command) files o tells is = tells_files (recovery_fault (effect_of command.applet) files) command files o tells is
+
+-- and leaves the files that a recovery leaves
+pub teller_files : (words : List (List ℕ)) (files : Files) (o : Outcome) → effect_by (command_of words) ≡ Tells → IsOutcomeOf (command_of words) files o → (o.files ≡ files) ⊎ (o.files ≡ work_files Tells files)
+teller_files words files o tells is = files_by (command_of words) files o tells is
+
 -- ---- a refusal
 
 refused_maker : (o : Outcome) → CommitsUnlessRefused o → IsSome o.refusal → o.commits ≡ false
 refused_maker o h some = h ∙ ap not some
 
--- an applet only reads, makes a file, or changes what is installed
-abbrev ReadsOrWrites : Effect → Type 0
-ReadsOrWrites effect = IsTrue (does_only_read effect) ⊎ ((effect ≡ Makes) ⊎ (effect ≡ Changes))
+-- a command only reads, tells, makes a file, or changes what is installed
+effect_cases : (effect : Effect) → (IsTrue (does_only_read effect)) ⊎ ((effect ≡ Tells) ⊎ ((effect ≡ Makes) ⊎ (effect ≡ Changes)))
+effect_cases Computes = inl refl
+effect_cases OnlyReads = inl refl
+effect_cases Tells = inr (inl refl)
+effect_cases Makes = inr (inr (inl refl))
+effect_cases Changes = inr (inr (inr refl))
 
-reads_or_writes : (applet : Applet) → ReadsOrWrites (effect_of applet)
-reads_or_writes Mkpkg = inr (inl refl)
-reads_or_writes Mkndx = inr (inl refl)
-reads_or_writes Add = inr (inr refl)
-reads_or_writes Del = inr (inr refl)
-reads_or_writes other = inl refl
+line_cases : (read : Result CommandLine ℕ) → (IsTrue (reads_only read)) ⊎ ((effect_by read ≡ Tells) ⊎ ((effect_by read ≡ Makes) ⊎ (effect_by read ≡ Changes)))
+line_cases (Err place) = inl refl
+line_cases (Ok command) = effect_cases (effect_of command.applet)
 
-reads_or_writes_by : (read : Result CommandLine ℕ) → IsTrue (reads_only read) ⊎ ((effect_by read ≡ Makes) ⊎ (effect_by read ≡ Changes))
-reads_or_writes_by (Err place) = inl refl
-reads_or_writes_by (Ok command) = reads_or_writes command.applet
-
-pub refusal_commits : (words : List (List ℕ)) (files : Files) (o : Outcome) → IsOutcome words files o → (IsTrue (reads_only (command_of words)) → o.commits ≡ false) → (effect_by (command_of words) ≡ Makes → CommitsUnlessRefused o) → IsSome o.refusal → o.commits ≡ false
-refusal_commits words files o is reads makes some =
-    ⊎_elim reads (λ writes. ⊎_elim (λ h. refused_maker o (makes h) some) (λ h. changes_by (command_of words) files o h is some) writes) (reads_or_writes_by (command_of words))
+pub refusal_commits : (words : List (List ℕ)) (files : Files) (o : Outcome) → IsOutcomeOf (command_of words) files o → (IsTrue (reads_only (command_of words)) → o.commits ≡ false) → (effect_by (command_of words) ≡ Tells → o.commits ≡ false) → (effect_by (command_of words) ≡ Makes → CommitsUnlessRefused o) → IsSome o.refusal → o.commits ≡ false
+refusal_commits words files o is reads tell makes some = elim (line_cases (command_of words)) as (λ _. o.commits ≡ false) [
+  | inl only ↦ reads only
+  | inr (inl tells) ↦ tell tells
+  | inr (inr (inl made)) ↦ refused_maker o (makes made) some
+  | inr (inr (inr changes)) ↦ changes_by (command_of words) files o changes is some
+]

@@ -17,15 +17,14 @@ use Rattle.command_core.specs.Command.{CommandLine}
 use Rattle.command_core.specs.Files.{without_dot}
 use Rattle.command_core.specs.declared.values.TheConstants.{FILES}
 use Rattle.command_core.specs.Files.{without_dot}
-use Rattle.words_core.specs.Grammar.{command_of}
 use Rattle.command_core.specs.declared.command.Applet.{Applet}
-use Rattle.command_core.specs.declared.command.Applet.TheVariants.{Add, Del, Mkpkg}
+use Rattle.command_core.specs.declared.command.Applet.TheVariants.{Mkpkg}
 use Rattle.command_core.specs.declared.values.OptionValue.{OptionValue}
 use Rattle.make_package.specs.Sources.{values_with}
 use Rattle.outcome.proofs.Clashes.{HaveClash, HaveOneClash, clash_exists, clash_one}
 use Rattle.outcome.proofs.Recovered.{unstaged_within}
-use Rattle.outcome.specs.Given.{Given, IsChosenFor, IsClashOfApplet, IsGiven, IsListingFor}
-use Rattle.outcome.specs.Commands.{IsOutcome, IsOutcomeOf, IsOutcomeOver, IsOutcomeUnless, reads_in, command_outcome}
+use Rattle.outcome.specs.Given.{Given, IsChosenFor, IsClashBy, IsGiven, IsListingFor}
+use Rattle.outcome.specs.Commands.{IsOutcomeOf, IsOutcomeOver, IsOutcomeUnless, reads_in, command_outcome}
 use Rattle.outcome.specs.Effect.{Effect, Computes, Reads as OnlyReads, Tells, Makes, Changes, effect_of}
 use Rattle.outcome.specs.Make.{IsListing, files_below}
 use Rattle.outcome.specs.Outcome.{Outcome, just_refusal}
@@ -54,7 +53,7 @@ names_exist : HaveList → (applet : Applet) (command : CommandLine) (files : Fi
 names_exist have Mkpkg command files within h = listing_exists have (values_with FILES command.values) files within h
 names_exist have other command files within h = ([], refl)
 
-work_within : (effect : Effect) (files : Files) (within : List (List ℕ)) → IsWithin within files → (names : List (List ℕ)) × IsWithin names (work_files effect files)
+pub work_within : (effect : Effect) (files : Files) (within : List (List ℕ)) → IsWithin within files → (names : List (List ℕ)) × IsWithin names (work_files effect files)
 work_within Computes files within h = (within, h)
 work_within OnlyReads files within h = (within, h)
 work_within Tells files within h = unstaged_within files within h
@@ -68,21 +67,19 @@ HaveChoice = (pool : Result SealedPool Refusal) → (chosen : Option (List ℕ))
 abbrev pub HaveOneChoice : Type 0
 HaveOneChoice = (pool : Result SealedPool Refusal) (a b : Option (List ℕ)) → IsChoiceFrom pool a → IsChoiceFrom pool b → a ≡ b
 
-chosen_exists : HaveChoice → (applet : Applet) (command : CommandLine) (read : Reads) → (chosen : Option (List ℕ)) × IsChosenFor applet command read chosen
-chosen_exists choose Add command read = choose (pool_for command read)
-chosen_exists choose Del command read = choose (pool_for command read)
+chosen_exists : HaveChoice → (effect : Effect) (command : CommandLine) (read : Reads) → (chosen : Option (List ℕ)) × IsChosenFor effect command read chosen
+chosen_exists choose Changes command read = choose (pool_for command read)
 chosen_exists choose other command read = (None, refl)
 
-chosen_one : HaveOneChoice → (applet : Applet) (command : CommandLine) (read : Reads) (a b : Option (List ℕ)) → IsChosenFor applet command read a → IsChosenFor applet command read b → a ≡ b
-chosen_one one Add command read a b x y = one (pool_for command read) a b x y
-chosen_one one Del command read a b x y = one (pool_for command read) a b x y
+chosen_one : HaveOneChoice → (effect : Effect) (command : CommandLine) (read : Reads) (a b : Option (List ℕ)) → IsChosenFor effect command read a → IsChosenFor effect command read b → a ≡ b
+chosen_one one Changes command read a b x y = one (pool_for command read) a b x y
 chosen_one one other command read a b x y = x ∙ sym y
 
 given_exists : HaveList → HaveChoice → HaveClash → (command : CommandLine) (read : Reads) (files : Files) (within : List (List ℕ)) → IsWithin within files → (given : Given) × IsGiven command read files given
 given_exists have choose clashes command read files within finite =
     let (names, listed) = names_exist have command.applet command files within finite in
-    let (chosen, choice) = chosen_exists choose command.applet command read in
-    let (clash, first) = clash_exists clashes command.applet command read files within chosen finite in
+    let (chosen, choice) = chosen_exists choose (effect_of command.applet) command read in
+    let (clash, first) = clash_exists clashes (effect_of command.applet) command read files within chosen finite in
     (record { names = names; chosen = chosen; clash = clash }, record { names = listed; chosen = choice; clash = first })
 
 outcome_unless : HaveList → HaveChoice → HaveClash → (fault : Option Cause) (command : CommandLine) (files : Files) (within : List (List ℕ)) → IsWithin within files → (o : Outcome) × IsOutcomeUnless fault command files o
@@ -93,12 +90,9 @@ outcome_unless have choose clashes None command files within h =
     let (given, are) = given_exists have choose clashes command (reads_in work) work within_work is in
     (command_outcome command given (reads_in work) work, (given, are, refl))
 
-outcome_by : HaveList → HaveChoice → HaveClash → (read : Result CommandLine ℕ) (files : Files) (within : List (List ℕ)) → IsWithin within files → (o : Outcome) × IsOutcomeOf read files o
+pub outcome_by : HaveList → HaveChoice → HaveClash → (read : Result CommandLine ℕ) (files : Files) (within : List (List ℕ)) → IsWithin within files → (o : Outcome) × IsOutcomeOf read files o
 outcome_by have choose clashes (Err place) files within h = (just_refusal files (Usage place), refl)
 outcome_by have choose clashes (Ok command) files within h = outcome_unless have choose clashes (recovery_fault (effect_of command.applet) files) command files within h
-
-pub outcome_exists : HaveList → HaveChoice → HaveClash → (words within : List (List ℕ)) (files : Files) → IsWithin within files → (o : Outcome) × IsOutcome words files o
-outcome_exists have choose clashes words within files h = outcome_by have choose clashes (command_of words) files within h
 
 listing_one : HaveOneList → (values : List OptionValue) (files : Files) (a b : List (List ℕ)) → IsListing values files a → IsListing values files b → a ≡ b
 listing_one one [] files a b x y = x ∙ sym y
@@ -111,9 +105,9 @@ names_one one other command files a b x y = x ∙ sym y
 given_one : HaveOneList → HaveOneChoice → HaveOneClash → (command : CommandLine) (read : Reads) (files : Files) (a b : Given) → IsGiven command read files a → IsGiven command read files b → a ≡ b
 given_one one choice clashes command read files a b x y =
     let names : a.names ≡ b.names = names_one one command.applet command files a.names b.names x.names y.names in
-    let chosen : a.chosen ≡ b.chosen = chosen_one choice command.applet command read a.chosen b.chosen x.chosen y.chosen in
-    let clash : a.clash ≡ b.clash = clash_one clashes command.applet command read files a.chosen a.clash b.clash x.clash
-    (subst (λ (c : Option (List ℕ)). IsClashOfApplet command.applet command read files c b.clash) (sym chosen) y.clash) in
+    let chosen : a.chosen ≡ b.chosen = chosen_one choice (effect_of command.applet) command read a.chosen b.chosen x.chosen y.chosen in
+    let clash : a.clash ≡ b.clash = clash_one clashes (effect_of command.applet) command read files a.chosen a.clash b.clash x.clash
+    (subst (λ (c : Option (List ℕ)). IsClashBy (effect_of command.applet) command read files c b.clash) (sym chosen) y.clash) in
     λ i. record { names = names i; chosen = chosen i; clash = clash i }
 
 pub over_one : HaveOneList → HaveOneChoice → HaveOneClash → (command : CommandLine) (files : Files) (a b : Outcome) → IsOutcomeOver command files a → IsOutcomeOver command files b → a ≡ b
@@ -126,9 +120,6 @@ unless_one : HaveOneList → HaveOneChoice → HaveOneClash → (fault : Option 
 unless_one one choice clashes (Some cause) command files a b x y = x ∙ sym y
 unless_one one choice clashes None command files a b x y = over_one one choice clashes command (work_files (effect_of command.applet) files) a b x y
 
-outcome_one : HaveOneList → HaveOneChoice → HaveOneClash → (read : Result CommandLine ℕ) (files : Files) (a b : Outcome) → IsOutcomeOf read files a → IsOutcomeOf read files b → a ≡ b
+pub outcome_one : HaveOneList → HaveOneChoice → HaveOneClash → (read : Result CommandLine ℕ) (files : Files) (a b : Outcome) → IsOutcomeOf read files a → IsOutcomeOf read files b → a ≡ b
 outcome_one one choice clashes (Err place) files a b x y = x ∙ sym y
 outcome_one one choice clashes (Ok command) files a b x y = unless_one one choice clashes (recovery_fault (effect_of command.applet) files) command files a b x y
-
-pub outcome_unique : HaveOneList → HaveOneChoice → HaveOneClash → (words : List (List ℕ)) (files : Files) (a b : Outcome) → IsOutcome words files a → IsOutcome words files b → a ≡ b
-outcome_unique one choice clashes words files a b x y = outcome_one one choice clashes (command_of words) files a b x y

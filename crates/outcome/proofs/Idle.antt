@@ -11,10 +11,11 @@ use Rattle.change_outcome.specs.ChangeOutcome.{ChangeDone, ChangeWishes, change_
 use Rattle.command_core.specs.Command.{CommandLine}
 use Rattle.command_core.specs.Files.{without_dot}
 use Rattle.command_core.specs.declared.command.Applet.{Applet}
-use Rattle.command_core.specs.declared.command.Applet.TheVariants.{Adbdump, Add, Del, Mkndx, Mkpkg, Verify, Version}
+use Rattle.command_core.specs.declared.command.Applet.TheVariants.{Adbdump, Demo, Info, Mkndx, Mkpkg, Verify, Version}
 use Rattle.command_core.specs.declared.command.Flags.{Flags}
 use Rattle.command_core.specs.declared.operands.Operand.{Operand}
 use Rattle.engine_core.specs.Changed.{Selected, change_of_selected, changed, selected_by, selected_for, selected_of_inputs, simulated_change}
+use Rattle.engine_core.specs.InfoTold.{info_told}
 use Rattle.engine_core.specs.Selecting.{pool_by}
 use Rattle.engine_core.specs.Wishes.{unknown_place, unless_place, wishes_of}
 use Rattle.make_index.specs.Index.{made_index}
@@ -29,8 +30,9 @@ use Rattle.pool_core.specs.Rank.{SealedPool}
 use Rattle.report_core.specs.declared.refusal.Refusal.{Refusal}
 use Rattle.report_core.specs.declared.refusal.Refusal.TheVariants.{Reserved, ResultTooLarge}
 use Rattle.words_core.specs.Grammar.{command_of}
+use Rattle.outcome.proofs.Applets.{told_files}
 use Rattle.outcome.specs.Changing.{change_outcome}
-use Rattle.outcome.specs.Commands.{IsOutcome, IsOutcomeOf, IsOutcomeOver, IsOutcomeUnless, applet_outcome, reads_in}
+use Rattle.outcome.specs.Commands.{IsOutcomeOf, IsOutcomeOver, IsOutcomeUnless, applet_outcome, reads_in}
 use Rattle.outcome.specs.Dump.{adbdump, dump_of, dump_outcome, text_outcome}
 use Rattle.outcome.specs.Effect.{effect_by, effect_of}
 use Rattle.outcome.specs.Given.{Given}
@@ -106,9 +108,9 @@ place_ok : {A : Type 0} (place : Option ℕ) (next : Result A Refusal) (a : A) �
 place_ok None next a e = e
 place_ok (Some place) next a e = absurd (cc (e))
 
-chosen_inputs : (inputs : Inputs) (pool : SealedPool) (chosen : Option (List ℕ)) (s : Selected) → selected_by inputs pool chosen ≡ Ok s → s.inputs ≡ inputs
-chosen_inputs inputs pool None s e = absurd (cc (e))
-chosen_inputs inputs pool (Some trace) s e = ap (λ (r : Result Selected Refusal). inputs_or r) (sym e)
+chosen_inputs : (command : CommandLine) (inputs : Inputs) (pool : SealedPool) (chosen : Option (List ℕ)) (s : Selected) → selected_by command inputs pool chosen ≡ Ok s → s.inputs ≡ inputs
+chosen_inputs command inputs pool None s e = absurd (cc (e))
+chosen_inputs command inputs pool (Some trace) s e = ap (λ (r : Result Selected Refusal). inputs_or r) (sym e)
   where
     inputs_or : Result Selected Refusal → Inputs
     inputs_or (Ok t) = t.inputs
@@ -117,8 +119,8 @@ chosen_inputs inputs pool (Some trace) s e = ap (λ (r : Result Selected Refusal
 pub selected_inputs : (command : CommandLine) (read : Reads) (chosen : Option (List ℕ)) (s : Selected) → selected_for command read chosen ≡ Ok s → inputs_of command read ≡ Ok s.inputs
 selected_inputs command read chosen s e =
     let (inputs, are, rest) = chain_ok (inputs_of command read) (selected_of_inputs command chosen) s e in
-    let (pool, is, left) = chain_ok (pool_by inputs) (λ pool. unless_place (unknown_place command.applet inputs command.operands) (selected_by inputs pool chosen)) s rest in
-    are ∙ ap (λ (x : Inputs). Ok x) (sym (chosen_inputs inputs pool chosen s (place_ok (unknown_place command.applet inputs command.operands) (selected_by inputs pool chosen) s left)))
+    let (pool, is, left) = chain_ok (pool_by command inputs) (λ pool. unless_place (unknown_place command.applet inputs command.operands) (selected_by command inputs pool chosen)) s rest in
+    are ∙ ap (λ (x : Inputs). Ok x) (sym (chosen_inputs command inputs pool chosen s (place_ok (unknown_place command.applet inputs command.operands) (selected_by command inputs pool chosen) s left)))
 
 selected_idle : HaveIdle → (command : CommandLine) (read : Reads) (files : Files) (clash : Option NamePair) (s : Selected) (done : ChangeDone) → IsRootOfFiles files s.inputs.root
     → (simulate : Bool) → (if simulate then Ok (simulated_change s.replacement (wishes_of command) files) else change_or_refusal s.inputs s.replacement (wishes_of command) read clash files) ≡ Ok done
@@ -150,9 +152,9 @@ applet_idle rooted idle Version command given files = version_idle files command
 applet_idle rooted idle Adbdump command given files = adbdump_idle (reads_in files) files command.operands
 applet_idle rooted idle Mkpkg command given files = made_idle files (output_name command) [] (made_package command given.names (reads_in files))
 applet_idle rooted idle Mkndx command given files = made_idle files (output_name command) (index_line (length command.operands)) (made_index command (reads_in files))
-applet_idle rooted idle Add command given files = change_idle rooted idle command files given.chosen given.clash (changed command (reads_in files) files given.chosen given.clash) refl
-applet_idle rooted idle Del command given files = change_idle rooted idle command files given.chosen given.clash (changed command (reads_in files) files given.chosen given.clash) refl
-applet_idle rooted idle other command given files = λ nothing. refl
+applet_idle rooted idle Info command given files = λ nothing. told_files files (info_told command (reads_in files))
+applet_idle rooted idle Demo command given files = λ nothing. refl
+applet_idle rooted idle other command given files = change_idle rooted idle command files given.chosen given.clash (changed command (reads_in files) files given.chosen given.clash) refl
 
 pub over_idle : HaveRoot → HaveIdle → (command : CommandLine) (files : Files) (o : Outcome) → IsOutcomeOver command files o → o.commits ≡ false → o.files ≡ files
 over_idle rooted idle command files o (given, are, is) nothing =
@@ -170,6 +172,6 @@ leaves_by : HaveRoot → HaveIdle → (read : Result CommandLine ℕ) (files : F
 leaves_by rooted idle (Err place) files o is nothing = inl (ap (λ (p : Outcome). p.files) is)
 leaves_by rooted idle (Ok command) files o is nothing = unless_leaves rooted idle (recovery_fault (effect_of command.applet) files) command files o is nothing
 
-pub leaves_idle : HaveRoot → HaveIdle → (words : List (List ℕ)) (files : Files) (o : Outcome) → IsOutcome words files o → o.commits ≡ false
+pub leaves_idle : HaveRoot → HaveIdle → (words : List (List ℕ)) (files : Files) (o : Outcome) → IsOutcomeOf (command_of words) files o → o.commits ≡ false
     → (o.files ≡ files) ⊎ (o.files ≡ work_files (effect_by (command_of words)) files)
 leaves_idle rooted idle words files o is nothing = leaves_by rooted idle (command_of words) files o is nothing

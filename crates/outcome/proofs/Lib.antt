@@ -1,8 +1,11 @@
 pub mod Clashes
 pub mod Listings
 pub mod Recovered
+pub mod Applets
 pub mod Existing
 pub mod MadeSound
 pub mod Commits
 pub mod Idle
 pub mod NextRoom
+pub mod Demos
+pub mod Worded

@@ -42,7 +42,7 @@ use Rattle.command_core.specs.declared.values.OptionValue.{OptionValue}
 use Rattle.journal_core.proofs.Below.{is_below}
 use Rattle.outcome.proofs.Listings.{if_some}
 use Rattle.outcome.specs.Given.{Given, IsListingFor}
-use Rattle.outcome.specs.Commands.{IsOutcome, IsOutcomeOf, IsOutcomeUnless, reads_in, applet_outcome}
+use Rattle.outcome.specs.Commands.{IsOutcomeOf, IsOutcomeUnless, reads_in, applet_outcome}
 use Rattle.outcome.specs.Effect.{Effect, Computes, Reads as OnlyReads, Tells, Makes, Changes, effect_of, output, output_by, output_if}
 use Rattle.outcome.specs.Make.{IsListing, files_below, index_line, make_outcome, mkndx, mkpkg}
 use Rattle.outcome.specs.Outcome.{Outcome, commit_report, just_refusal}
@@ -278,6 +278,6 @@ sound_by stay packages indexes (Err place) files o name good is none named = abs
 sound_by stay packages indexes (Ok command) files o name good is none named = sound_unless stay packages indexes (recovery_fault (effect_of command.applet) files) command files o name good is none named
 
 pub made_sound : ((v : TreeState) → IsWhole v → AreNamedFiles (files_of v)) → StayNamed → SoundPackage → SoundIndex
-    → (words : List (List ℕ)) (v : TreeState) (o : Outcome) (name : List ℕ) → IsWhole v → IsOutcome words (files_of v) o → o.refusal ≡ None → output words ≡ Some name
+    → (words : List (List ℕ)) (v : TreeState) (o : Outcome) (name : List ℕ) → IsWhole v → IsOutcomeOf (command_of words) (files_of v) o → o.refusal ≡ None → output words ≡ Some name
     → IsSoundAt name o.files
 made_sound named stay packages indexes words v o name whole is none under = sound_by stay packages indexes (command_of words) (files_of v) o name (named v whole) is none under

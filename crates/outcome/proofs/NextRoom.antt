@@ -7,7 +7,6 @@ use Rattle.change_inputs.specs.Inputs.{Inputs}
 use Rattle.change_outcome.specs.ChangeOutcome.{ChangeDone, ChangeWishes, IsClashOfChange, change_or_refusal}
 use Rattle.command_core.specs.Command.{CommandLine}
 use Rattle.command_core.specs.declared.command.Applet.{Applet}
-use Rattle.command_core.specs.declared.command.Applet.TheVariants.{Add, Del}
 use Rattle.engine_core.specs.Changed.{IsClashFor, IsClashOfSelected, IsClashUnlessSimulated, Selected, change_of_selected, changed, selected_for, simulated_change}
 use Rattle.engine_core.specs.Wishes.{wishes_of}
 use Rattle.journal_core.specs.Recovery.{Intent, intent_at, intent_name, is_staged, recovered_files, recovered_files_by}
@@ -17,12 +16,13 @@ use Rattle.package_changes.specs.Changes.{Replacement}
 use Rattle.path_clashes.specs.Clash.{NamePair}
 use Rattle.report_core.specs.declared.refusal.Refusal.{Refusal}
 use Rattle.words_core.specs.Grammar.{command_of}
+use Rattle.outcome.proofs.Applets.{change_is}
 use Rattle.outcome.proofs.Idle.{chain_ok}
 use Rattle.outcome.proofs.Recovered.{ReadSound}
 use Rattle.outcome.specs.Changing.{change_outcome}
-use Rattle.outcome.specs.Commands.{IsOutcome, IsOutcomeOf, IsOutcomeOver, IsOutcomeUnless, applet_outcome, reads_in}
+use Rattle.outcome.specs.Commands.{IsOutcomeOf, IsOutcomeOver, IsOutcomeUnless, applet_outcome, reads_in}
 use Rattle.outcome.specs.Effect.{Changes, Effect, effect_by, effect_of}
-use Rattle.outcome.specs.Given.{Given, IsClashOfApplet}
+use Rattle.outcome.specs.Given.{Given, IsClashBy}
 use Rattle.outcome.specs.Outcome.{Outcome}
 use Rattle.outcome.specs.Work.{fault_of_intent, recovery_fault, work_files}
 
@@ -67,14 +67,13 @@ module _ (room : KeepsRoom) (gone : BringsNoIntent) where
   change_room command files chosen clash (Err refusal) is is_clash unrefused now = absurd (cc (unrefused))
 
   applet_room : (applet : Applet) (command : CommandLine) (given : Given) (files : Files) → effect_of applet ≡ Changes
-      → IsClashOfApplet applet command (reads_in files) files given.chosen given.clash
+      → IsClashBy (effect_of applet) command (reads_in files) files given.chosen given.clash
       → (applet_outcome applet command given (reads_in files) files).refusal ≡ None → HasRoomNow files
       → HasRoomNow (applet_outcome applet command given (reads_in files) files).files
-  applet_room Add command given files changes is_clash unrefused now =
-      change_room command files given.chosen given.clash (changed command (reads_in files) files given.chosen given.clash) refl is_clash unrefused now
-  applet_room Del command given files changes is_clash unrefused now =
-      change_room command files given.chosen given.clash (changed command (reads_in files) files given.chosen given.clash) refl is_clash unrefused now
-  applet_room other command given files changes is_clash unrefused now = absurd (cc (changes))
+  applet_room applet command given files changes is_clash =
+      subst (λ (o : Outcome). o.refusal ≡ None → HasRoomNow files → HasRoomNow o.files) (change_is applet command given (reads_in files) files changes)
+      (change_room command files given.chosen given.clash (changed command (reads_in files) files given.chosen given.clash) refl
+      (subst (λ (e : Effect). IsClashBy e command (reads_in files) files given.chosen given.clash) changes is_clash))
 
   over_room : (command : CommandLine) (files : Files) (o : Outcome) → effect_of command.applet ≡ Changes → IsOutcomeOver command files o → o.refusal ≡ None → HasRoomNow files → HasRoomNow o.files
   over_room command files o changes (given, are, is) =
@@ -119,5 +118,5 @@ module _ (room : KeepsRoom) (gone : BringsNoIntent) (sound : ReadSound) where
   by_line (Err place) files o changes is unrefused stage = absurd (cc (changes))
   by_line (Ok command) files o changes is unrefused stage = unless_room (recovery_fault (effect_of command.applet) files) command files o changes refl is unrefused stage
 
-  pub next_room : (words : List (List ℕ)) (files : Files) (o : Outcome) → effect_by (command_of words) ≡ Changes → IsOutcome words files o → o.refusal ≡ None → HasRoomToStage (unstaged_files files) → LeavesNext o
+  pub next_room : (words : List (List ℕ)) (files : Files) (o : Outcome) → effect_by (command_of words) ≡ Changes → IsOutcomeOf (command_of words) files o → o.refusal ≡ None → HasRoomToStage (unstaged_files files) → LeavesNext o
   next_room words files o = by_line (command_of words) files o

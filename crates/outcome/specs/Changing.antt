@@ -1,4 +1,4 @@
--- `add` and `del`: what is installed changes.
+-- `add`, `del`, `upgrade` and `fix`: what is installed changes.
 use Rattle.std.specs.Prelude.{ℕ, List, Option, Result, Ok, Err}
 use Rattle.base_core.specs.Files.{Files}
 use Rattle.change_outcome.specs.ChangeOutcome.{ChangeDone}

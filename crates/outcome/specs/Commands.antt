@@ -1,4 +1,4 @@
--- The outcome of a command line.
+-- The outcome of a command. `demo` is apart: it runs other commands.
 use Rattle.std.specs.Prelude.{◌≡◌, ◌⊎◌, ℕ, true, List, [], Option, Some, None, Result, Ok, Err, Contains}
 use Rattle.adb_schema.specs.Soundness.{first_fault}
 use Rattle.adb_tables.specs.declared.tables.Which.TheVariants.{Intent as IntentTable}
@@ -9,9 +9,8 @@ use Rattle.package_changes.specs.Changes.{selected_version}
 use Rattle.pool_core.specs.Candidates.{Candidate}
 use Rattle.report_core.specs.declared.refusal.Refusal.TheVariants.{IntentBad, PackageBad, Usage}
 use Rattle.command_core.specs.Command.{CommandLine}
-use Rattle.words_core.specs.Grammar.{command_of}
 use Rattle.command_core.specs.declared.command.Applet.{Applet}
-use Rattle.command_core.specs.declared.command.Applet.TheVariants.{Adbdump, Add, Del, Mkndx, Mkpkg, Verify, Version}
+use Rattle.command_core.specs.declared.command.Applet.TheVariants.{Adbdump, Demo, Info, Mkndx, Mkpkg, Verify, Version}
 use Rattle.engine_core.specs.ChangeRun.{selected_in}
 use Rattle.engine_core.specs.Changed.{selected_for}
 use Rattle.outcome.specs.Changing.{change}
@@ -20,6 +19,7 @@ use Rattle.outcome.specs.Effect.{Changes, does_recover, effect_of}
 use Rattle.outcome.specs.Given.{Given, IsGiven, MayBeGiven}
 use Rattle.outcome.specs.Make.{mkndx, mkpkg}
 use Rattle.outcome.specs.Outcome.{Outcome, just_refusal, just_report}
+use Rattle.outcome.specs.Telling.{info}
 use Rattle.outcome.specs.Verify.{verify}
 use Rattle.outcome.specs.Version.{version}
 use Rattle.outcome.specs.Work.{recovery_fault, work_files}
@@ -33,10 +33,12 @@ applet_outcome Version command given read files = version files command.flags co
 applet_outcome Adbdump command given read files = adbdump read files command.operands
 applet_outcome Mkpkg command given read files = mkpkg read files command given.names
 applet_outcome Mkndx command given read files = mkndx read files command
-applet_outcome Add command given read files = change read files command given.chosen given.clash
-applet_outcome Del command given read files = change read files command given.chosen given.clash
--- no word names another applet yet
-applet_outcome other command given read files = just_report files []
+applet_outcome Info command given read files = info read files command
+-- no word names it yet
+applet_outcome Demo command given read files = just_report files []
+-- `add`, `del`, `upgrade` and `fix`
+applet_outcome other command given read files =
+    change read files command given.chosen given.clash
 
 abbrev pub command_outcome : CommandLine → Given → Reads → Files → Outcome
 command_outcome command given read files =
@@ -66,10 +68,6 @@ abbrev pub IsOutcomeOf : Result CommandLine ℕ → Files → Outcome → Type 0
 IsOutcomeOf (Err place) files outcome = outcome ≡ just_refusal files (Usage place)
 IsOutcomeOf (Ok command) files outcome =
     IsOutcomeUnless (recovery_fault (effect_of command.applet) files) command files outcome
-
--- the outcome of a command line over these files
-abbrev pub IsOutcome : List (List ℕ) → Files → Outcome → Type 0
-IsOutcome words files outcome = IsOutcomeOf (command_of words) files outcome
 
 -- ---- over a tree whose files no contract knows, as a folder of the host
 
@@ -108,8 +106,3 @@ IsFoundOutcomeOf (Err place) outcome = outcome ≡ just_refusal no_names (Usage 
 IsFoundOutcomeOf (Ok command) outcome =
     IsFoundOver command outcome
     ⊎ ((does_recover (effect_of command.applet) ≡ true) × IsFoundUnrecovered outcome)
-
--- the outcome of a command line for some listing, for some contents, or none, at each read and of the
--- intent, and for some files; nothing is said of the files afterwards
-abbrev pub IsFoundOutcome : List (List ℕ) → Outcome → Type 0
-IsFoundOutcome words outcome = IsFoundOutcomeOf (command_of words) outcome

@@ -4,7 +4,7 @@ use Rattle.make_info.specs.Output.{output_name}
 use Rattle.command_core.specs.Command.{CommandLine}
 use Rattle.words_core.specs.Grammar.{command_of}
 use Rattle.command_core.specs.declared.command.Applet.{Applet}
-use Rattle.command_core.specs.declared.command.Applet.TheVariants.{Adbdump, Add, Del, Mkndx, Mkpkg, Verify}
+use Rattle.command_core.specs.declared.command.Applet.TheVariants.{Adbdump, Add, Del, Demo, Fix, Info, Mkndx, Mkpkg, Upgrade, Verify, Version}
 
 pub data Effect : Type 0 where
   -- it looks at the words alone
@@ -18,15 +18,18 @@ pub data Effect : Type 0 where
   -- it recovers, reads files, and writes and removes several in one step
   Changes : Effect
 
--- no word names yet an applet that tells
 abbrev pub effect_of : Applet → Effect
+effect_of Version = Computes
+effect_of Demo = Computes
 effect_of Verify = Reads
 effect_of Adbdump = Reads
+effect_of Info = Tells
 effect_of Mkpkg = Makes
 effect_of Mkndx = Makes
 effect_of Add = Changes
 effect_of Del = Changes
-effect_of other = Computes
+effect_of Upgrade = Changes
+effect_of Fix = Changes
 
 abbrev pub does_rest_on_words : Effect → Bool
 does_rest_on_words Computes = true

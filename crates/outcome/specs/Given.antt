@@ -4,7 +4,7 @@ use Rattle.std.specs.Prelude.{◌≡◌, ℕ, List, [], Option, None}
 use Rattle.base_core.specs.Files.{Files}
 use Rattle.command_core.specs.Command.{CommandLine}
 use Rattle.command_core.specs.declared.command.Applet.{Applet}
-use Rattle.command_core.specs.declared.command.Applet.TheVariants.{Add, Del, Mkpkg}
+use Rattle.command_core.specs.declared.command.Applet.TheVariants.{Mkpkg}
 use Rattle.command_core.specs.declared.values.TheConstants.{FILES}
 use Rattle.engine_core.specs.Changed.{IsClashFor}
 use Rattle.engine_core.specs.Choice.{IsChoiceFrom}
@@ -12,6 +12,7 @@ use Rattle.engine_core.specs.Selecting.{pool_for}
 use Rattle.make_info.specs.Reads.{Reads}
 use Rattle.make_package.specs.Sources.{AreNamesFor, values_with}
 use Rattle.path_clashes.specs.Clash.{NamePair}
+use Rattle.outcome.specs.Effect.{Effect, Changes, effect_of}
 use Rattle.outcome.specs.Make.{IsListing}
 
 pub record Given : Type 0 where
@@ -29,10 +30,9 @@ nothing_given = record { names = []; chosen = None; clash = None }
 
 -- ---- what is chosen
 
--- by what reads find; of an applet that chooses nothing None
-abbrev pub IsChosenFor : Applet → CommandLine → Reads → Option (List ℕ) → Type 0
-IsChosenFor Add command read chosen = IsChoiceFrom (pool_for command read) chosen
-IsChosenFor Del command read chosen = IsChoiceFrom (pool_for command read) chosen
+-- by what reads find; only a change chooses
+abbrev pub IsChosenFor : Effect → CommandLine → Reads → Option (List ℕ) → Type 0
+IsChosenFor Changes command read chosen = IsChoiceFrom (pool_for command read) chosen
 IsChosenFor other command read chosen = chosen ≡ None
 
 -- ---- over these files
@@ -42,19 +42,19 @@ abbrev pub IsListingFor : Applet → CommandLine → Files → List (List ℕ) �
 IsListingFor Mkpkg command files names = IsListing (values_with FILES command.values) files names
 IsListingFor other command files names = names ≡ []
 
--- the first clash of the names after the change; an applet that changes nothing has none
-abbrev pub IsClashOfApplet :
-    Applet → CommandLine → Reads → Files → Option (List ℕ) → Option NamePair → Type 0
-IsClashOfApplet Add command read files chosen clash = IsClashFor command read files chosen clash
-IsClashOfApplet Del command read files chosen clash = IsClashFor command read files chosen clash
-IsClashOfApplet other command read files chosen clash = clash ≡ None
+-- the first clash of the names after a change; only a change has one
+abbrev pub IsClashBy :
+    Effect → CommandLine → Reads → Files → Option (List ℕ) → Option NamePair → Type 0
+IsClashBy Changes command read files chosen clash = IsClashFor command read files chosen clash
+IsClashBy other command read files chosen clash = clash ≡ None
 
 -- all this, where reads find what stands in these files
 pub record IsGiven (command : CommandLine) (read : Reads) (files : Files) (given : Given)
     : Type 0 where
   pub names : IsListingFor command.applet command files given.names
-  pub chosen : IsChosenFor command.applet command read given.chosen
-  pub clash : IsClashOfApplet command.applet command read files given.chosen given.clash
+  pub chosen : IsChosenFor (effect_of command.applet) command read given.chosen
+  pub clash :
+      IsClashBy (effect_of command.applet) command read files given.chosen given.clash
 
 -- ---- over a tree whose files no contract knows
 
@@ -64,13 +64,12 @@ abbrev pub MayBeListedFor : Applet → CommandLine → List (List ℕ) → Type 
 MayBeListedFor Mkpkg command names = AreNamesFor (values_with FILES command.values) names
 MayBeListedFor other command names = names ≡ []
 
--- an applet that changes nothing has no clash; of another nothing is said
-abbrev pub MayClash : Applet → Option NamePair → Type 0
-MayClash Add clash = Unit {0}
-MayClash Del clash = Unit {0}
+-- only a change may have a clash; which one it has is not said
+abbrev pub MayClash : Effect → Option NamePair → Type 0
+MayClash Changes clash = Unit {0}
 MayClash other clash = clash ≡ None
 
 pub record MayBeGiven (command : CommandLine) (read : Reads) (given : Given) : Type 0 where
   pub names : MayBeListedFor command.applet command given.names
-  pub chosen : IsChosenFor command.applet command read given.chosen
-  pub clash : MayClash command.applet given.clash
+  pub chosen : IsChosenFor (effect_of command.applet) command read given.chosen
+  pub clash : MayClash (effect_of command.applet) given.clash

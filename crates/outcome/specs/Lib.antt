@@ -1,5 +1,6 @@
 -- what the contract of `apk` says, in the order in which it is best read
 pub mod Outcome
+pub mod Words
 pub mod Commands
 pub mod Effect
 pub mod Work
@@ -7,7 +8,9 @@ pub mod Version
 pub mod Verify
 pub mod Dump
 pub mod Make
+pub mod Telling
 pub mod Changing
 pub mod Given
+pub mod Demo
 -- what only inner contracts and proofs use
 pub mod Sound

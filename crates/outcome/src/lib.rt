@@ -1,24 +1,26 @@
 //! What every command answers, prints and leaves, as a function of its words and of the files of
 //! the tree.
 //!
-//! It is a crate of definitions. `Outcome` of `specs/` says what a command comes to, `Commands`
-//! what a command line comes to, `Effect` what it looks at and changes, and `Version`, `Verify`,
-//! `Dump`, `Make` and `Changing` what each command comes to; `Given` says what no function computes
-//! of it, and `Sound` when a file is a sound container. The functions are laws: they do nothing, and
+//! It is a crate of definitions. `Outcome` of `specs/` says what a command comes to, `Words` what a
+//! command line comes to, `Commands` what each command but `demo` does, `Effect` what it looks at
+//! and changes, and `Version`, `Verify`, `Dump`, `Make`, `Telling` and `Changing` what each comes to;
+//! `Demo` says what `demo` runs, `Given` what no function computes of an outcome, and `Sound` when a
+//! file is a sound container. The functions are laws: they do nothing, and
 //! their contracts say what follows from the definitions, for all words and files.
 #![tactic(auto)]
 
-ghost use Rattle.std.specs.Prelude.{◌≡◌, ◌⊎◌, ℕ, false, List, None, Some, IsSome, IsTrue, is_some, not};
+ghost use Rattle.std.specs.Prelude.{◌≡◌, ◌⊎◌, ℕ, false, List, None, Some, Result, IsSome, IsTrue, is_some, not};
 ghost use Rattle.base_core.specs.Files.{Files, IsWithin};
 ghost use Rattle.base_core.specs.Listed.{IsListOf, IsNamesOf};
 ghost use Rattle.base_core.specs.Tree.{IsWhole, TreeState, files_of};
 ghost use Rattle.command_core.specs.Command.{CommandLine};
 ghost use Rattle.journal_core.specs.Staged.{HasRoomToReplay, HasRoomToStage};
-ghost use Rattle.outcome.specs.Commands.{IsOutcome, IsOutcomeOver};
-ghost use Rattle.outcome.specs.Effect.{Changes, Makes, effect_by, output, reads_only, rests_on_words};
+ghost use Rattle.outcome.specs.Commands.{IsOutcomeOf, IsOutcomeOver};
+ghost use Rattle.outcome.specs.Effect.{Changes, Makes, Tells, effect_by, output, reads_only, rests_on_words};
 ghost use Rattle.outcome.specs.Make.{files_below};
 ghost use Rattle.outcome.specs.Outcome.{Outcome, outcome_of};
 ghost use Rattle.outcome.specs.Sound.{IsSoundAt};
+ghost use Rattle.outcome.specs.Words.{IsOutcome};
 ghost use Rattle.outcome.specs.Work.{work_files};
 ghost use Rattle.words_core.specs.Grammar.{command_of};
 
@@ -69,6 +71,26 @@ pub fn a_command_that_reads_leaves_the_files()
     ensures commits { (words : List (List ℕ)) (files : Files) (o : Outcome)
         → IsTrue (reads_only (command_of words)) → IsOutcome words files o
         → o.commits ≡ false }
+{
+    reading_leaves_the_files();
+}
+
+// So it is with each command but `demo`.
+fn reading_leaves_the_files()
+    ensures files { (read : Result CommandLine ℕ) (files : Files) (o : Outcome)
+        → IsTrue (reads_only read) → IsOutcomeOf read files o → o.files ≡ files }
+    ensures commits { (read : Result CommandLine ℕ) (files : Files) (o : Outcome)
+        → IsTrue (reads_only read) → IsOutcomeOf read files o → o.commits ≡ false }
+{}
+
+/// A command that recovers and then only reads commits nothing, and leaves the files that a recovery
+/// leaves; or the old ones, where it cannot recover.
+pub fn a_command_that_tells_leaves_the_files()
+    ensures files { (words : List (List ℕ)) (files : Files) (o : Outcome)
+        → effect_by (command_of words) ≡ Tells → IsOutcome words files o
+        → (o.files ≡ files) ⊎ (o.files ≡ work_files Tells files) }
+    ensures commits { (words : List (List ℕ)) (files : Files) (o : Outcome)
+        → effect_by (command_of words) ≡ Tells → IsOutcome words files o → o.commits ≡ false }
 {}
 
 /// A command that makes a file commits exactly where it is not refused.
@@ -84,6 +106,7 @@ pub fn a_refusal_commits_nothing()
         → IsOutcome words files o → IsSome o.refusal → o.commits ≡ false }
 {
     a_command_that_reads_leaves_the_files();
+    a_command_that_tells_leaves_the_files();
     a_command_that_makes_commits_unless_refused();
 }
 
@@ -115,6 +138,15 @@ pub fn an_outcome_of_words_is_the_same_everywhere()
     ensures { (words : List (List ℕ)) (files others : Files) (o : Outcome)
         → IsTrue (rests_on_words (command_of words))
         → IsOutcome words files o → IsOutcome words others (outcome_of o.refusal o.out others) }
+{
+    words_alone_are_the_same_everywhere();
+}
+
+// So it is with each command but `demo`.
+fn words_alone_are_the_same_everywhere()
+    ensures { (read : Result CommandLine ℕ) (files others : Files) (o : Outcome)
+        → IsTrue (rests_on_words read) → IsOutcomeOf read files o
+        → IsOutcomeOf read others (outcome_of o.refusal o.out others) }
 {}
 
 /// The names below a folder, as a tree lists them, are those of its files.

@@ -20,7 +20,7 @@ use crate::fate::{Fate, is_changed};
 use crate::guarded::{is_guarded, path_beside};
 use adb_fields::FilePath;
 use base_core::{Tree, TreeFault};
-use claim_lists::{find_claim, name_of_path};
+use claim_lists::{find_claim, find_next_claim, name_of_path};
 use file_guard::compare_file;
 use path_claims::Claim;
 use std::alloc::{AllocError, Global};
@@ -69,14 +69,20 @@ fn is_beside(asides: &[Claim<'_>], path: &FilePath<'_>) -> bool
     }
 }
 
-/// Whether no package lists a path any more, and nothing is laid beside another one there.
-fn is_left(change: &Change<'_, '_, '_>, asides: &[Claim<'_>], path: &FilePath<'_>) -> bool
+/// Whether no package lists a path any more, and nothing is laid beside another one there. Paths
+/// that are asked for in their order are looked for from `next` on.
+fn is_left(
+    change: &Change<'_, '_, '_>,
+    asides: &[Claim<'_>],
+    path: &FilePath<'_>,
+    next: &mut usize,
+) -> bool
     requires claims { HasClaims change.now }
     requires sorted { IsSorted claim_cmp (map claim_seen asides.now) }
     ensures { result ≡ is_left (file_change_of change.now) (map claim_seen asides.now)
         (joined_path path.now) }
 {
-    if find_claim(change.after, path).is_some() {
+    if find_next_claim(change.after, path, next).is_some() {
         return false;
     }
     !is_beside(asides, path)
@@ -96,8 +102,9 @@ pub(crate) fn left_claims<'o>(
         (claims_before change.now)) }
 {
     let mut left = Vec::new(alloc);
+    let mut next = 0;
     for i in 0..change.before.len() {
-        if is_left(change, asides, &change.before[i].path) {
+        if is_left(change, asides, &change.before[i].path, &mut next) {
             left.push(change.before[i])?;
         }
     }

@@ -1,8 +1,11 @@
 pub mod Digits
 pub mod Fits
+pub mod HashDigits
 pub mod Lexemes
+pub mod Local
 pub mod OrderLaws
 pub mod Orders
+pub mod Places
 pub mod ReadBack
 pub mod Rows
 pub mod Runs

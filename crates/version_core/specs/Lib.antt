@@ -6,3 +6,4 @@ pub mod Op
 pub mod Matching
 pub mod Grammar
 pub mod Reading
+pub mod Overlapping

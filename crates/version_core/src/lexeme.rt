@@ -6,6 +6,7 @@ ghost use Rattle.std.specs.Ordering.{nat_cmp};
 ghost use Rattle.std.specs.Cmp.Lexicographic.{slice_cmp};
 ghost use Rattle.std.specs.Str.Parse.{digits_value};
 ghost use Rattle.version_core.specs.Token.{begins_with_zero, component_lexeme, leading_digits, hash_lexeme, leading_hex_digits, is_hex_digit, lexeme, lexeme_at, next_lexeme, number_lexeme, number_token, revision_lexeme, stray_lexeme, suffix_class, suffix_lexeme, suffix_rank, leading_letters, text_token};
+ghost use Rattle.version_core.specs.Overlapping.{passed_len};
 ghost use Rattle.version_core.specs.Reading.{AreDigits, hex_digit_at, is_hash, lexeme_view, plain_view};
 
 use crate::token::{Class, TokenAt};
@@ -62,6 +63,20 @@ pub fn lexeme_at<'a>(last: Option<Class>, text: &'a [u8]) -> Lexeme<'a>
         None => number(Class::Component, 0, leading_digits(text)),
         Some(last) => next_lexeme(last, text),
     }
+}
+
+/// The class of the token that begins a text, and how many of its bytes are passed over at first:
+/// all, but of a hash the mark and a digit.
+pub fn first_token(last: Option<Class>, text: &[u8]) -> (Class, usize)
+    ensures class { result.0 ≡ (lexeme_at last text.now).token.class }
+    ensures len { result.1 ≡ passed_len (lexeme_at last text.now) }
+{
+    let lexeme = lexeme_at(last, text);
+    let class = lexeme.token.class;
+    if class == Class::Hash {
+        return (class, 2);
+    }
+    (class, lexeme.advance)
 }
 
 #[tactic(auto, unfolding(crate::specs::Token::next_lexeme))]

@@ -1,5 +1,5 @@
 -- Words that lack a word can be completed, unless they are stuck.
-use Rattle.std.proofs.Common.{Bool, Err, List, None, Ok, Option, Result, Some, [], ap, append-nil, arith, codes, drop, false, inl, inr, is_ok, length, not, option_and_then, refl, subst, suc, sym, take, true, ℕ, ◌++◌, ◌+◌, ◌-◌, ◌∙◌, ◌∷◌, ◌≡◌, ◌⊎◌, ◌≤◌, if◌then◌else◌}
+use Rattle.std.proofs.Common.{Bool, Err, List, None, Ok, Option, Result, Some, [], ap, append-nil, arith, codes, drop, false, inl, inr, is_ok, length, length-append, not, option_and_then, refl, subst, suc, sym, take, true, ℕ, ◌++◌, ◌+◌, ◌-◌, ◌∙◌, ◌∷◌, ◌≡◌, ◌⊎◌, ◌≤◌, if◌then◌else◌}
 use Rattle.std.specs.List.{list_all, list_any}
 use Rattle.std.specs.Prelude.{◌||◌}
 use Rattle.std.proofs.lemmas.Bool.{and_parts, cases_lt, false≢true}
@@ -17,13 +17,15 @@ use Rattle.words_core.specs.declared.reading.AppletSite.{AppletSite}
 use Rattle.words_core.specs.declared.reading.OptionState.{OptionState}
 use Rattle.words_core.specs.declared.reading.Start.{Start}
 use Rattle.words_core.specs.Grammar.{applet_site, command_from, command_of, command_read, early_flags, first_state, is_end, is_option, line_start, operands_of, option_reading, reading_behind, reading_by, site_at, site_behind_end, site_by, start_by, start_from, start_with, verdict, with_meaning, with_option, with_spec}
+use Rattle.words_core.specs.Kinds.{can_get_kind}
 use Rattle.words_core.specs.Options.{OptionSpec, applets, common_options, early_words, is_early, option_spelled, options_of}
 use Rattle.words_core.specs.Stuck.{are_stuck, are_stuck_by, is_stuck_by, suit}
 use Rattle.words_core.proofs.GoneOn.{is_not}
 use Rattle.words_core.proofs.LinesRead.{by_early}
-use Rattle.words_core.proofs.MoreWords.{usage_stays}
+use Rattle.words_core.proofs.KindCompleted.{kind_completes}
 use Rattle.words_core.proofs.OffendingWords.{usage_between}
 use Rattle.words_core.proofs.Sites.{err_here, flags_end, flags_step, foreign_between, no_start, seek_early, seek_end, seek_here, seek_late, take_stays}
+use Rattle.words_core.proofs.StillOffending.{usage_stays}
 use Rattle.words_core.proofs.WordsCompleted.{AreTexts, CanBeCompleted, IsJudgedGood, a_text, completed_from, judged_good, no_texts}
 
 -- what is behind the applet where it is named behind words
@@ -249,11 +251,20 @@ usage_is_first words place n c =
     size : length (take (place - 1) words) ≡ place - 1
     size = length-take-le (place - 1) words (omega (arith, bounds.0, bounds.1))
 
-    no_earlier : (at : ℕ) → command_of (take (place - 1) words) ≡ Err at → at ≤ length (take (place - 1) words) → at ≡ place
-    no_earlier at e l = (let same : Err at ≡ Err place = sym (usage_stays (take (place - 1) words) (drop (place - 1) words) at e l) ∙ (ap command_of (take-append-drop (place - 1) words) ∙ c) in cc)
+    whole : command_of (take (place - 1) words ++ drop (place - 1) words) ≡ Err place
+    whole = ap command_of (take-append-drop (place - 1) words) ∙ c
+
+    no_earlier : (at : ℕ) → can_get_kind (take (place - 1) words) ≡ false → command_of (take (place - 1) words) ≡ Err at → at ≤ length (take (place - 1) words) → at ≡ place
+    no_earlier at k e l = (let same : Err at ≡ Err place = sym (usage_stays (take (place - 1) words) (drop (place - 1) words) at k e l) ∙ whole in cc)
+
+    by_kind : (at : ℕ) → command_of (take (place - 1) words) ≡ Err at → at ≤ length (take (place - 1) words) → CanBeCompleted (take (place - 1) words)
+    by_kind at e l = elim (can_get_kind (take (place - 1) words)) as (λ k. can_get_kind (take (place - 1) words) ≡ k → CanBeCompleted (take (place - 1) words)) [
+      | true ↦ λ k. kind_completes (take (place - 1) words) (drop (place - 1) words) at place k e l whole (omega (arith, bounds.0, size)) (omega (arith, length-append (take (place - 1) words) (drop (place - 1) words)))
+      | false ↦ λ k. absurd (let same : at ≡ place = no_earlier at k e l in omega (arith, bounds.0, size))
+    ] refl
 
     by_place : (at : ℕ) → command_of (take (place - 1) words) ≡ Err at → (1 ≤ at) × (at ≤ length (take (place - 1) words) + 1) → CanBeCompleted (take (place - 1) words)
     by_place at e between = elim (cases_lt at (length (take (place - 1) words) + 1)) as (λ _. CanBeCompleted (take (place - 1) words)) [
-      | inl less ↦ absurd (let same : at ≡ place = no_earlier at e (omega arith) in omega (arith, bounds.0, size))
+      | inl less ↦ by_kind at e (omega arith)
       | inr more ↦ (let same : at ≡ length (take (place - 1) words) + 1 = omega (arith, between.1) in completed_unless (take (place - 1) words) (is_not (are_stuck (take (place - 1) words)) n) (e ∙ ap Err same))
     ]

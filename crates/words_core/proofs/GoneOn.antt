@@ -22,9 +22,9 @@ pub is_not : (b : Bool) → not b ≡ true → b ≡ false
 is_not true h = sym h
 is_not false h = refl
 
--- a word cannot be read
-abbrev pub IsStopped : ℕ → Reading → Type 0
-IsStopped end reading = (at : ℕ) × (reading.unread ≡ Some at) × (at < end)
+-- a word cannot be read, and what follows changes nothing
+abbrev pub IsStopped : ℕ → Reading → (List (List ℕ) → Reading) → Type 0
+IsStopped end reading longer = (at : ℕ) × (reading.unread ≡ Some at) × (at < end) × ((more : List (List ℕ)) → longer more ≡ reading)
 
 -- options can follow, or the value that is awaited
 pub record IsOn (options : List OptionSpec) (end : ℕ) (ended : Bool) (reading : Reading) (longer : List (List ℕ) → Reading) : Type 0 where
@@ -35,28 +35,30 @@ pub record IsOn (options : List OptionSpec) (end : ℕ) (ended : Bool) (reading 
 -- only operands can follow
 pub record IsOff (end : ℕ) (ended : Bool) (reading : Reading) (longer : List (List ℕ) → Reading) : Type 0 where
   pub over : ended ≡ true
+  pub unread : reading.unread ≡ None
   pub awaiting : reading.state.awaiting ≡ None
   pub goes_on : (more : List (List ℕ)) → longer more ≡ behind reading.operands (reading_by reading.state (operands_of end more) None)
 
 abbrev pub IsGoing : List OptionSpec → ℕ → Bool → Reading → (List (List ℕ) → Reading) → Type 0
-IsGoing options end ended reading longer = IsStopped end reading ⊎ (IsOn options end ended reading longer ⊎ IsOff end ended reading longer)
+IsGoing options end ended reading longer = IsStopped end reading longer ⊎ (IsOn options end ended reading longer ⊎ IsOff end ended reading longer)
 
 pub going_off : (options : List OptionSpec) (state : OptionState) (end place : ℕ) (words : List (List ℕ)) → place + length words ≡ end → state.awaiting ≡ None → IsGoing options end true (reading_by state (operands_of place words) None) (λ more. reading_by state (operands_of place (words ++ more)) None)
 going_off options state end place words l a = inr (inr (record {
   over = refl;
+  unread = refl;
   awaiting = a;
   goes_on = λ more. ap (λ os. reading_by state os None) (operands_append place words more ∙ ap (λ k. operands_of place words ++ operands_of k more) l);
 }))
 
 pub going_behind : (options : List OptionSpec) (end : ℕ) (ended : Bool) (operand : Operand) (reading : Reading) (longer : List (List ℕ) → Reading) → IsGoing options end ended reading longer → IsGoing options end ended (with_operand operand reading) (λ more. with_operand operand (longer more))
-going_behind options end ended operand reading longer (inl stopped) = inl stopped
+going_behind options end ended operand reading longer (inl stopped) = inl (stopped.0, stopped.1, stopped.2, λ more. ap (with_operand operand) (stopped.3 more))
 going_behind options end ended operand reading longer (inr (inl on)) = inr (inl (record { over = on.over; unread = on.unread; goes_on = λ more. ap (with_operand operand) (on.goes_on more) }))
-going_behind options end ended operand reading longer (inr (inr off)) = inr (inr (record { over = off.over; awaiting = off.awaiting; goes_on = λ more. ap (with_operand operand) (off.goes_on more) }))
+going_behind options end ended operand reading longer (inr (inr off)) = inr (inr (record { over = off.over; unread = off.unread; awaiting = off.awaiting; goes_on = λ more. ap (with_operand operand) (off.goes_on more) }))
 
 pub going_same : (options : List OptionSpec) (end : ℕ) (ended : Bool) (reading : Reading) (longer same : List (List ℕ) → Reading) → ((more : List (List ℕ)) → same more ≡ longer more) → IsGoing options end ended reading longer → IsGoing options end ended reading same
-going_same options end ended reading longer same e (inl stopped) = inl stopped
+going_same options end ended reading longer same e (inl stopped) = inl (stopped.0, stopped.1, stopped.2, λ more. e more ∙ stopped.3 more)
 going_same options end ended reading longer same e (inr (inl on)) = inr (inl (record { over = on.over; unread = on.unread; goes_on = λ more. e more ∙ on.goes_on more }))
-going_same options end ended reading longer same e (inr (inr off)) = inr (inr (record { over = off.over; awaiting = off.awaiting; goes_on = λ more. e more ∙ off.goes_on more }))
+going_same options end ended reading longer same e (inr (inr off)) = inr (inr (record { over = off.over; unread = off.unread; awaiting = off.awaiting; goes_on = λ more. e more ∙ off.goes_on more }))
 
 -- whether the options have ended, at one more word
 pub none_ended : (options : List OptionSpec) (rule : Option ValueRule) → have_ended options rule [] ≡ false
@@ -108,7 +110,7 @@ going options state end place (word ∷ words) l =
     let here : place < end = omega arith in
     elim (is_option_or_value state word) as (λ b. is_option_or_value state word ≡ b → IsGoing options end (have_ended options state.awaiting (word ∷ words)) (if b then or_unread state place (λ m. option_reading options m (place + 1) words) (with_word options state place word) else if is_end word then reading_by state (operands_of (place + 1) words) None else with_operand (operand_at place word) (option_reading options state (place + 1) words)) (λ more. if b then or_unread state place (λ m. option_reading options m (place + 1) (words ++ more)) (with_word options state place word) else if is_end word then reading_by state (operands_of (place + 1) (words ++ more)) None else with_operand (operand_at place word) (option_reading options state (place + 1) (words ++ more)))) [
       | true ↦ λ t. elim (with_word options state place word) as (λ w. with_word options state place word ≡ w → IsGoing options end (have_ended options state.awaiting (word ∷ words)) (or_unread state place (λ m. option_reading options m (place + 1) words) w) (λ more. or_unread state place (λ m. option_reading options m (place + 1) (words ++ more)) w)) [
-        | None ↦ λ w. inl (place, refl, here)
+        | None ↦ λ w. inl (place, refl, here, λ more. refl)
         | Some g ↦ λ w. subst (λ b. IsGoing options end b (option_reading options g (place + 1) words) (λ more. option_reading options g (place + 1) (words ++ more))) (sym (ended_taken options state g place word words t w)) (going options g end (place + 1) words next)
       ] refl
       | false ↦ λ t.

@@ -18,7 +18,7 @@ use Rattle.words_core.specs.declared.options.Meaning.TheVariants.{Flag as Plain,
 use Rattle.words_core.specs.declared.reading.AppletSite.{AppletSite}
 use Rattle.words_core.specs.declared.reading.Start.{Start}
 use Rattle.words_core.specs.Grammar.{applet_site, early_flags, is_end, is_option, line_start, or_at, site_at, site_behind_end, site_by, start_by, start_from, start_with, with_meaning, with_option, with_spec}
-use Rattle.words_core.specs.Options.{OptionSpec, applet_of, applet_word, applets, common_options, is_early, option_spelled, options_of}
+use Rattle.words_core.specs.Options.{OptionSpec, applet_of, common_options, is_early, option_spelled, options_of}
 
 -- ---- tests on lists
 pub find_passes : {A : Type 0} (q p : A → Bool) (xs : List A) (x : A) → list_all q xs ≡ true → find p xs ≡ Some x → q x ≡ true
@@ -333,13 +333,7 @@ options_kept applet flags m =
 
 -- ---- the applet, and the flags before it
 
--- whether an operand that does not fit now does not with more options either
-abbrev pub is_settled : Applet → Bool
-is_settled Info = false
-is_settled applet = true
-
 pub record IsSite (site : AppletSite) (behind : ℕ) : Type 0 where
-  pub settled : is_settled site.applet ≡ true
   pub low : 1 ≤ site.read
   pub read : site.read < behind
 
@@ -348,7 +342,7 @@ unfolding site_at
 named_known ended place behind word low l =
     elim (applet_of word) as (λ o. applet_of word ≡ o → IfOk (or_at place (λ applet. Ok (site_by ended place applet)) o) (λ s. IsSite s behind)) [
       | None ↦ λ e. tt
-      | Some applet ↦ λ e. record { settled = find_passes is_settled (λ a. bytes_eq (applet_word a) word) applets applet refl e; low = low; read = l }
+      | Some applet ↦ λ e. record { low = low; read = l }
     ] refl
 
 pub behind_end_known : (place behind : ℕ) (words : List (List ℕ)) → 1 ≤ place → place + length words ≤ behind → IfOk (site_behind_end place words) (λ s. IsSite s behind)
@@ -386,7 +380,6 @@ early_kept applet flags place (word ∷ words) m =
 -- what is known of where the applet was found
 pub record IsPlain (start : Start) (behind : ℕ) : Type 0 where
   pub flags : may_have start.applet start.flags ≡ true
-  pub settled : is_settled start.applet ≡ true
   pub read : start.read < behind
 
 none_had : (applet : Applet) → may_have applet no_flags ≡ true
@@ -417,6 +410,5 @@ start_known words start e =
     let site : IsSite parts.site (1 + length words) = IfOk-at_ok (λ s. IsSite s (1 + length words)) parts.found (site_known 1 (1 + length words) words (omega arith) (omega arith)) in
     subst (λ (s : Start). IsPlain s (1 + length words)) parts.same (record {
       flags = IfOk-at_ok (λ more. may_have parts.site.applet more ≡ true) parts.early (early_kept parts.site.applet no_flags 1 (take (parts.site.read - 1) words) (none_had parts.site.applet));
-      settled = site.settled;
       read = site.read;
     })

@@ -12,7 +12,9 @@ pub mod OffendingWords
 pub mod MoreWords
 pub mod Worked
 pub mod GoneOn
+pub mod StillOffending
 pub mod WordsCompleted
+pub mod KindCompleted
 pub mod AppletCompleted
 pub mod WhatFollows
 pub mod StuckWords

@@ -1,35 +1,30 @@
--- Where a word offends, more words behind change nothing.
-use Rattle.std.proofs.Common.{Bool, Err, List, None, Ok, Option, Some, [], ap, arith, drop, false, inl, inr, length, length-drop, not, refl, subst, suc, sym, true, zero, ℕ, ◌++◌, ◌+◌, ◌<◌, ◌∙◌, ◌∷◌, ◌≡◌, ◌≤◌, if◌then◌else◌}
+-- What more words behind others change: operands are added, and the rule of the operands stays.
+use Rattle.std.proofs.Common.{Bool, List, None, Option, Some, [], ap, arith, drop, false, length, not, refl, subst, suc, sym, true, zero, ℕ, ◌++◌, ◌+◌, ◌∙◌, ◌∷◌, ◌≡◌, ◌≤◌, if◌then◌else◌}
 use Rattle.std.specs.List.{list_all}
-use Rattle.std.specs.Option.{option_map, option_or}
 use Rattle.std.specs.Prelude.{◌&&◌, ◌||◌}
 use Rattle.std.specs.Str.{bytes_eq}
-use Rattle.std.proofs.lemmas.Bool.{and_from, and_parts, cases_lt, false≢true, true≢false}
+use Rattle.std.proofs.lemmas.Bool.{and_from, and_parts, false≢true, true≢false}
 use Rattle.std.proofs.lemmas.Option.{none-some, option_and_then_some, same_Some}
 use Rattle.command_core.specs.declared.command.Applet.{Applet}
 use Rattle.command_core.specs.declared.command.Applet.TheVariants.{Info, Version}
 use Rattle.command_core.specs.declared.command.Flag.{Flag}
-use Rattle.command_core.specs.declared.command.Flag.TheVariants.{Check, Test}
+use Rattle.command_core.specs.declared.command.Flag.TheVariants.{AllowUntrusted, Check, NoScripts, Test}
 use Rattle.command_core.specs.declared.command.Flags.{Flags}
 use Rattle.command_core.specs.declared.operands.Operand.{Operand}
-use Rattle.command_core.specs.declared.operands.OperandKind.TheVariants.{Any}
+use Rattle.command_core.specs.declared.operands.OperandKind.TheVariants.{Any, PackageName, Path}
 use Rattle.command_core.specs.declared.operands.OperandRule.{OperandRule}
 use Rattle.command_core.specs.declared.values.ValueRule.{ValueRule}
-use Rattle.command_core.specs.Applets.{operand_rule, version_operands}
+use Rattle.command_core.specs.Applets.{info_operands, operand_rule, version_operands}
 use Rattle.command_core.specs.Flags.{has_flag, has_kind, with_flag}
 use Rattle.command_core.specs.Operands.{at_least, exactly, first_refused, operand_at, takes}
 use Rattle.command_core.specs.Values.{is_spent}
 use Rattle.words_core.specs.declared.options.Meaning.{Meaning}
 use Rattle.words_core.specs.declared.options.Meaning.TheVariants.{Flag as Plain, Kind, Value}
 use Rattle.words_core.specs.declared.reading.OptionState.{OptionState}
-use Rattle.words_core.specs.declared.reading.Reading.{Reading}
-use Rattle.words_core.specs.declared.reading.Start.{Start}
-use Rattle.words_core.specs.Grammar.{command_from, command_of, first_state, held_value, is_end, is_option_or_value, line_start, operands_of, option_name, option_reading, or_unread, reading_behind, reading_by, refused_operand, state_by, verdict, with_flags, with_held, with_meaning, with_meaning_at, with_operand, with_spec, with_word, with_word_by}
+use Rattle.words_core.specs.Grammar.{held_value, is_end, is_option_or_value, operands_of, option_name, option_reading, or_unread, reading_by, state_by, with_flags, with_held, with_meaning, with_meaning_at, with_operand, with_spec, with_word, with_word_by}
 use Rattle.words_core.specs.Options.{OptionSpec, common_options, option_spelled, options_of}
-use Rattle.words_core.proofs.KindsKept.{IsPlain, all_from, all_weaken, find_passes, is_settled, pass_or_none, same_with, start_known}
+use Rattle.words_core.proofs.KindsKept.{all_from, all_weaken, find_passes, pass_or_none, same_with}
 use Rattle.words_core.proofs.LinesRead.{value_says}
-use Rattle.words_core.proofs.OffendingWords.{judged_at, judged_bad}
-use Rattle.words_core.proofs.Sites.{no_start_stays, start_stays}
 
 pub operands_append : (place : ℕ) (words more : List (List ℕ)) → operands_of place (words ++ more) ≡ operands_of place words ++ operands_of (place + length words) more
 operands_append place [] more = ap (λ n. operands_of n more) (omega arith)
@@ -163,130 +158,94 @@ version_rule state more place word rule w r = by_test state.flags.test refl stat
         rw (no_test more.flags.test both.0) (rw both.1 r)
     by_test false t false e r = absurd (none-some rule r)
 
-pub rule_kept : (applet : Applet) (state more : OptionState) (place : ℕ) (word : List ℕ) (rule : OperandRule) → is_settled applet ≡ true → with_word (options_of applet) state place word ≡ Some more → operand_rule applet state.flags ≡ Some rule → operand_rule applet more.flags ≡ Some rule
-rule_kept Info state more place word rule s w r = absurd (false≢true s)
-rule_kept Version state more place word rule s w r = version_rule state more place word rule w r
-rule_kept applet state more place word rule s w r = r
+-- ---- where a kind of `info` was read, no other is taken
 
-pub rule_stays : (applet : Applet) (state : OptionState) (place : ℕ) (words : List (List ℕ)) (rule : OperandRule) → is_settled applet ≡ true → operand_rule applet state.flags ≡ Some rule → operand_rule applet (option_reading (options_of applet) state place words).state.flags ≡ Some rule
-rule_stays applet state place [] rule s r = r
-rule_stays applet state place (word ∷ words) rule s r =
+abbrev is_common_or_kind : Meaning → Bool
+is_common_or_kind (Plain AllowUntrusted) = true
+is_common_or_kind (Plain NoScripts) = true
+is_common_or_kind (Kind flag) = true
+is_common_or_kind meaning = false
+
+info_common : list_all (λ (o : OptionSpec). is_common_or_kind o.meaning) (options_of Info) ≡ true
+unfolding common_options options_of
+info_common = refl
+
+info_passes : (test : Flags → Bool) (flags : Flags) → has_kind flags ≡ true → test flags ≡ true → test (with_flag AllowUntrusted flags) ≡ true → test (with_flag NoScripts flags) ≡ true → list_all (λ o. pass_or_none test (with_spec flags o)) (options_of Info) ≡ true
+info_passes test flags k h u n =
+    all_weaken (λ (o : OptionSpec). is_common_or_kind o.meaning) (λ o. pass_or_none test (with_spec flags o)) (options_of Info)
+    (λ o p. by_meaning o.meaning p) info_common
+  where
+    by_kind : (g : Flag) → pass_or_none test (with_meaning flags (Kind g)) ≡ true
+    by_kind g = rw k (elim (has_flag g flags) as (λ b. has_flag g flags ≡ b → pass_or_none test (if not b then None else Some (with_flag g flags)) ≡ true) [
+      | true ↦ λ e. ap test (same_with flags g e) ∙ h
+      | false ↦ λ e. refl
+    ] refl)
+
+    by_meaning : (meaning : Meaning) → is_common_or_kind meaning ≡ true → pass_or_none test (with_meaning flags meaning) ≡ true
+    by_meaning (Plain AllowUntrusted) p = u
+    by_meaning (Plain NoScripts) p = n
+    by_meaning (Kind g) p = by_kind g
+    by_meaning meaning p = absurd (false≢true p)
+
+abbrev same_bool : Bool → Bool → Bool
+same_bool true b = b
+same_bool false b = not b
+
+same_itself : (b : Bool) → same_bool b b ≡ true
+same_itself true = refl
+same_itself false = refl
+
+same_is : (a b : Bool) → same_bool a b ≡ true → b ≡ a
+same_is true b h = h
+same_is false true h = absurd (false≢true h)
+same_is false false h = refl
+
+-- whether one of the kinds that take packages was read
+abbrev takes_packages : Flags → Bool
+takes_packages flags = flags.installed || flags.contents || flags.depends
+
+abbrev is_of_kinds : Bool → Bool → Flags → Bool
+is_of_kinds owns packages flags = same_bool owns flags.who_owns && same_bool packages (takes_packages flags)
+
+abbrev info_rule_by : Bool → Bool → OperandRule
+info_rule_by owns packages = if owns then exactly 1 Path else if packages then at_least 1 PackageName else at_least 0 PackageName
+
+info_rule : (state more : OptionState) (place : ℕ) (word : List ℕ) → has_kind state.flags ≡ true → with_word (options_of Info) state place word ≡ Some more → info_operands more.flags ≡ info_operands state.flags
+info_rule state more place word k w =
+    let owns : Bool = state.flags.who_owns in
+    let packages : Bool = takes_packages state.flags in
+    let now : is_of_kinds owns packages state.flags ≡ true = and_from (same_bool owns owns) (same_bool packages packages) (same_itself owns) (same_itself packages) in
+    let both = and_parts (same_bool owns more.flags.who_owns) (same_bool packages (takes_packages more.flags))
+    (word_passes (is_of_kinds owns packages) (options_of Info) state more place word now (info_passes (is_of_kinds owns packages) state.flags k now now now) w) in
+    ap (λ b. info_rule_by b (takes_packages more.flags)) (same_is owns more.flags.who_owns both.0)
+    ∙ ap (λ b. info_rule_by owns b) (same_is packages (takes_packages more.flags) both.1)
+
+-- ---- the rule of the operands stays, whatever options follow
+
+-- it does where `info` has its kind; of another applet always
+abbrev pub keeps_rule : Applet → Flags → Bool
+keeps_rule Info flags = has_kind flags
+keeps_rule applet flags = true
+
+rule_kept : (applet : Applet) (state more : OptionState) (place : ℕ) (word : List ℕ) (rule : OperandRule) → keeps_rule applet state.flags ≡ true → with_word (options_of applet) state place word ≡ Some more → operand_rule applet state.flags ≡ Some rule → operand_rule applet more.flags ≡ Some rule
+rule_kept Info state more place word rule k w r = ap Some (info_rule state more place word k w) ∙ r
+rule_kept Version state more place word rule k w r = version_rule state more place word rule w r
+rule_kept applet state more place word rule k w r = r
+
+kept_on : (applet : Applet) (state more : OptionState) (place : ℕ) (word : List ℕ) → keeps_rule applet state.flags ≡ true → with_word (options_of applet) state place word ≡ Some more → keeps_rule applet more.flags ≡ true
+kept_on Info state more place word k w = word_passes has_kind (options_of Info) state more place word k (info_passes has_kind state.flags k k k k) w
+kept_on applet state more place word k w = refl
+
+pub rule_stays : (applet : Applet) (state : OptionState) (place : ℕ) (words : List (List ℕ)) (rule : OperandRule) → keeps_rule applet state.flags ≡ true → operand_rule applet state.flags ≡ Some rule → operand_rule applet (option_reading (options_of applet) state place words).state.flags ≡ Some rule
+rule_stays applet state place [] rule k r = r
+rule_stays applet state place (word ∷ words) rule k r =
     elim (is_option_or_value state word) as (λ b. operand_rule applet (if b then or_unread state place (λ m. option_reading (options_of applet) m (place + 1) words) (with_word (options_of applet) state place word) else if is_end word then reading_by state (operands_of (place + 1) words) None else with_operand (operand_at place word) (option_reading (options_of applet) state (place + 1) words)).state.flags ≡ Some rule) [
       | true ↦ elim (with_word (options_of applet) state place word) as (λ w. with_word (options_of applet) state place word ≡ w → operand_rule applet (or_unread state place (λ m. option_reading (options_of applet) m (place + 1) words) w).state.flags ≡ Some rule) [
         | None ↦ λ w. r
-        | Some g ↦ λ w. rule_stays applet g (place + 1) words rule s (rule_kept applet state g place word rule s w r)
+        | Some g ↦ λ w. rule_stays applet g (place + 1) words rule (kept_on applet state g place word k w) (rule_kept applet state g place word rule k w r)
       ] refl
       | false ↦ elim (is_end word) as (λ b. operand_rule applet (if b then reading_by state (operands_of (place + 1) words) None else with_operand (operand_at place word) (option_reading (options_of applet) state (place + 1) words)).state.flags ≡ Some rule) [
         | true ↦ r
-        | false ↦ rule_stays applet state (place + 1) words rule s r
+        | false ↦ rule_stays applet state (place + 1) words rule k r
       ]
     ]
-
--- no word before a place cannot be read
-abbrev pub IsOpen : ℕ → Option ℕ → Type 0
-IsOpen behind unread = (at : ℕ) → unread ≡ Some at → behind ≤ at
-
--- a reading of more words: the same where a word cannot be read, else with more operands, under the same rule if it had one
-pub record IsLonger (applet : Applet) (behind : ℕ) (reading longer : Reading) : Type 0 where
-  pub stopped : (place : ℕ) → reading.unread ≡ Some place → place < behind → longer ≡ reading
-  pub new : List Operand
-  pub operands : IsOpen behind reading.unread → longer.operands ≡ reading.operands ++ new
-  pub rule : (rule : OperandRule) → operand_rule applet reading.state.flags ≡ Some rule → IsOpen behind reading.unread → operand_rule applet longer.state.flags ≡ Some rule
-
-pub longer_operands : (applet : Applet) (state : OptionState) (behind place : ℕ) (words more : List (List ℕ)) → IsLonger applet behind (reading_by state (operands_of place words) None) (reading_by state (operands_of place (words ++ more)) None)
-longer_operands applet state behind place words more = record {
-  stopped = λ at h l. absurd (none-some at h);
-  new = operands_of (place + length words) more;
-  operands = λ h. operands_append place words more;
-  rule = λ rule r h. r;
-}
-
-pub end_at : (place at : ℕ) (awaiting : Option ValueRule) → option_map (λ (rule : ValueRule). place) awaiting ≡ Some at → at ≡ place
-end_at place at None h = absurd (none-some at h)
-end_at place at (Some rule) h = sym (same_Some place at h)
-
-pub reading_longer : (applet : Applet) (state : OptionState) (behind place : ℕ) (words more : List (List ℕ)) → is_settled applet ≡ true → place + length words ≡ behind → IsLonger applet behind (option_reading (options_of applet) state place words) (option_reading (options_of applet) state place (words ++ more))
-reading_longer applet state behind place [] more s b = record {
-  stopped = λ at h l. absurd (let is : at ≡ place = end_at place at state.awaiting h in omega arith);
-  new = (option_reading (options_of applet) state place more).operands;
-  operands = λ h. refl;
-  rule = λ rule r h. rule_stays applet state place more rule s r;
-}
-reading_longer applet state behind place (word ∷ words) more s b =
-    let next : place + 1 + length words ≡ behind = omega arith in
-    let here : place < behind = omega arith in
-    elim (is_option_or_value state word) as (λ b. IsLonger applet behind (if b then or_unread state place (λ m. option_reading (options_of applet) m (place + 1) words) (with_word (options_of applet) state place word) else if is_end word then reading_by state (operands_of (place + 1) words) None else with_operand (operand_at place word) (option_reading (options_of applet) state (place + 1) words)) (if b then or_unread state place (λ m. option_reading (options_of applet) m (place + 1) (words ++ more)) (with_word (options_of applet) state place word) else if is_end word then reading_by state (operands_of (place + 1) (words ++ more)) None else with_operand (operand_at place word) (option_reading (options_of applet) state (place + 1) (words ++ more)))) [
-      | true ↦ elim (with_word (options_of applet) state place word) as (λ w. IsLonger applet behind (or_unread state place (λ m. option_reading (options_of applet) m (place + 1) words) w) (or_unread state place (λ m. option_reading (options_of applet) m (place + 1) (words ++ more)) w)) [
-        | None ↦ record { stopped = λ at h l. refl; new = []; operands = λ h. refl; rule = λ rule r h. r }
-        | Some g ↦ reading_longer applet g behind (place + 1) words more s next
-      ]
-      | false ↦ elim (is_end word) as (λ b. IsLonger applet behind (if b then reading_by state (operands_of (place + 1) words) None else with_operand (operand_at place word) (option_reading (options_of applet) state (place + 1) words)) (if b then reading_by state (operands_of (place + 1) (words ++ more)) None else with_operand (operand_at place word) (option_reading (options_of applet) state (place + 1) (words ++ more)))) [
-        | true ↦ longer_operands applet state behind (place + 1) words more
-        | false ↦ (let rest = reading_longer applet state behind (place + 1) words more s next in record {
-          stopped = λ at h l. ap (with_operand (operand_at place word)) (rest.stopped at h l);
-          new = rest.new;
-          operands = λ h. ap (λ os. operand_at place word ∷ os) (rest.operands h);
-          rule = rest.rule;
-        })
-      ]
-    ]
-
-pub from_longer : (start : Start) (words more : List (List ℕ)) → is_settled start.applet ≡ true → start.read ≤ length words → IsLonger start.applet (length words + 1) (reading_behind start words) (reading_behind start (words ++ more))
-unfolding reading_behind
-from_longer start words more s l =
-    let state = first_state start.flags in
-    let ends : start.read + 1 + length (drop start.read words) ≡ length words + 1 = omega (arith, length-drop start.read words) in
-    subst (λ left. IsLonger start.applet (length words + 1) (if start.ended then reading_by state (operands_of (start.read + 1) (drop start.read words)) None else option_reading (options_of start.applet) state (start.read + 1) (drop start.read words)) (if start.ended then reading_by state (operands_of (start.read + 1) left) None else option_reading (options_of start.applet) state (start.read + 1) left)) (sym (drop_append start.read words more l))
-    (elim start.ended as (λ b. IsLonger start.applet (length words + 1) (if b then reading_by state (operands_of (start.read + 1) (drop start.read words)) None else option_reading (options_of start.applet) state (start.read + 1) (drop start.read words)) (if b then reading_by state (operands_of (start.read + 1) (drop start.read words ++ more)) None else option_reading (options_of start.applet) state (start.read + 1) (drop start.read words ++ more))) [
-      | true ↦ longer_operands start.applet state (length words + 1) (start.read + 1) (drop start.read words) more
-      | false ↦ reading_longer start.applet state (length words + 1) (start.read + 1) (drop start.read words) more s ends
-    ])
-
--- the first that offends in a reading
-abbrev pub first_of : Applet → Reading → Option ℕ
-first_of applet reading = option_or (refused_operand (operand_rule applet reading.state.flags) reading.operands) reading.unread
-
--- an operand that offends before a place, where no word before it cannot be read
-pub alone : (behind place : ℕ) (o unread : Option ℕ) → IsOpen behind unread → place < behind → option_or o unread ≡ Some place → o ≡ Some place
-alone behind place (Some at) unread open_from l h = h
-alone behind place None unread open_from l h = absurd (omega (arith, open_from place h))
-
-pub first_stays : (applet : Applet) (behind : ℕ) (reading longer : Reading) (place : ℕ) → IsLonger applet behind reading longer → place < behind → first_of applet reading ≡ Some place → first_of applet longer ≡ Some place
-first_stays applet behind reading longer place long l h = by_unread reading.unread refl
-  where
-    by_rule : IsOpen behind reading.unread → (rule : Option OperandRule) → operand_rule applet reading.state.flags ≡ rule → refused_operand rule reading.operands ≡ Some place → first_of applet longer ≡ Some place
-    by_rule u None r e = absurd (none-some place e)
-    by_rule u (Some rule) r e =
-        ap (λ o. option_or (refused_operand o longer.operands) longer.unread) (long.rule rule r u)
-        ∙ ap (λ o. option_or o longer.unread) (ap (first_refused rule 0) (long.operands u) ∙ refused_append rule 0 place reading.operands long.new e)
-
-    by_open : IsOpen behind reading.unread → first_of applet longer ≡ Some place
-    by_open u = by_rule u (operand_rule applet reading.state.flags) refl (alone behind place (refused_operand (operand_rule applet reading.state.flags) reading.operands) reading.unread u l h)
-
-    by_unread : (u : Option ℕ) → reading.unread ≡ u → first_of applet longer ≡ Some place
-    by_unread None u = by_open (λ at e. absurd (none-some at (sym u ∙ e)))
-    by_unread (Some at) u = elim (cases_lt at behind) as (λ _. first_of applet longer ≡ Some place) [
-      | inl less ↦ ap (first_of applet) (long.stopped at u less) ∙ h
-      | inr more ↦ by_open (λ n e. subst (λ k. behind ≤ k) (same_Some at n (sym u ∙ e)) more)
-    ]
-
--- a word that offends does so whatever follows
-pub usage_stays : (words more : List (List ℕ)) (place : ℕ) → command_of words ≡ Err place → place ≤ length words → command_of (words ++ more) ≡ Err place
-unfolding command_of
-usage_stays words more place c l =
-    elim (line_start words) as (λ s. line_start words ≡ s → command_from words s ≡ Err place → command_from (words ++ more) (line_start (words ++ more)) ≡ Err place) [
-      | Err at ↦ λ s (e : Err at ≡ Err place).
-          let same : at ≡ place = cc in
-          ap (command_from (words ++ more)) (no_start_stays words more at s (omega arith)) ∙ e
-      | Ok start ↦ λ s e. ap (command_from (words ++ more)) (start_stays words more start s) ∙ by_start start s e
-    ] refl c
-  where
-    by_start : (start : Start) → line_start words ≡ Ok start → verdict (length words + 1) start.applet (reading_behind start words) ≡ Err place → verdict (length (words ++ more) + 1) start.applet (reading_behind start (words ++ more)) ≡ Err place
-    by_start start s e =
-        let known : IsPlain start (1 + length words) = start_known words start s in
-        let long = from_longer start words more known.settled (omega (arith, known.read)) in
-        let less : place < length words + 1 = omega arith in
-        elim (judged_at start.applet (reading_behind start words) (length words + 1) place e) as (λ _. verdict (length (words ++ more) + 1) start.applet (reading_behind start (words ++ more)) ≡ Err place) [
-          | inl first ↦ judged_bad start.applet (reading_behind start (words ++ more)) (length (words ++ more) + 1) place (first_stays start.applet (length words + 1) (reading_behind start words) (reading_behind start (words ++ more)) place long less first)
-          | inr last ↦ absurd (omega (arith, last.1))
-        ]

@@ -29,7 +29,6 @@ use Rattle.words_core.specs.Stuck.{are_stuck, are_stuck_by, awaits_none, has_scr
 use Rattle.words_core.proofs.GoneOn.{IsGoing, from_going, is_not}
 use Rattle.words_core.proofs.KindsKept.{IsPlain, start_known}
 use Rattle.words_core.proofs.LinesRead.{awaited_taken, step_taken}
-use Rattle.words_core.proofs.MoreWords.{from_longer}
 use Rattle.words_core.proofs.OffendingWords.{IsBetween, IsSearched, site_searched}
 use Rattle.words_core.proofs.OneMore.{behind}
 use Rattle.words_core.proofs.Sites.{err_here, IsKnown, flags_offend, seek_early, seek_end, seek_here, seek_late, site_stays, start_stays}
@@ -123,7 +122,7 @@ stuck_bad words more start s k = by_going (from_going start words low)
     bad_on (Some rule) a w on = unread_bad start.applet (reading_behind start (words ++ more)) end (ap (λ (r : Reading). r.unread) on ∙ awaited_unread options reading.state end rule more a w)
 
     by_going : IsGoing options end ended reading (λ m. reading_behind start (words ++ m)) → IsBad start.applet (reading_behind start (words ++ more))
-    by_going (inl stopped) = unread_bad start.applet (reading_behind start (words ++ more)) stopped.0 (ap (λ (r : Reading). r.unread) ((from_longer start words more known.settled low).stopped stopped.0 stopped.1 stopped.2) ∙ stopped.1)
+    by_going (inl stopped) = unread_bad start.applet (reading_behind start (words ++ more)) stopped.0 (ap (λ (r : Reading). r.unread) (stopped.3 more) ∙ stopped.1)
     by_going (inr (inl on)) =
         elim (or_cases (ended && lacks_option start.applet reading.state) (awaits_none reading.state.awaiting reading.state.values) k) as (λ _. IsBad start.applet (reading_behind start (words ++ more))) [
           | inl both ↦ absurd (true≢false (sym (and_parts ended (lacks_option start.applet reading.state) both).0 ∙ on.over))

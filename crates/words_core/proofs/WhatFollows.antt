@@ -1,4 +1,4 @@
--- What follows a command offends behind it.
+-- What follows a command offends behind it, unless `info` can still get its kind.
 use Rattle.std.proofs.Common.{Err, List, None, Ok, Some, [], ap, arith, drop, false, inl, inr, length, length-append, length-drop, refl, subst, sym, true, ℕ, ◌++◌, ◌+◌, ◌<◌, ◌∙◌, ◌∷◌, ◌≡◌, ◌≤◌, if◌then◌else◌}
 use Rattle.std.specs.Option.{option_or}
 use Rattle.std.proofs.lemmas.Option.{none-some}
@@ -12,11 +12,13 @@ use Rattle.words_core.specs.declared.reading.OptionState.{OptionState}
 use Rattle.words_core.specs.declared.reading.Reading.{Reading}
 use Rattle.words_core.specs.declared.reading.Start.{Start}
 use Rattle.words_core.specs.Grammar.{command_from, command_of, command_read, first_state, is_end, is_option_or_value, lacks_word, line_start, operands_of, option_reading, or_unread, reading_behind, reading_by, refused_operand, unless_at, verdict, with_operand, with_word}
+use Rattle.words_core.specs.Kinds.{can_get_kind, can_get_kind_from}
 use Rattle.words_core.specs.Options.{OptionSpec, options_of}
 use Rattle.words_core.proofs.KindsKept.{IsPlain, start_known}
-use Rattle.words_core.proofs.MoreWords.{drop_append, from_longer, operands_append}
+use Rattle.words_core.proofs.MoreWords.{drop_append, operands_append}
 use Rattle.words_core.proofs.OffendingWords.{AllBetween, judged_at, operands_between, reading_placed, refused_between}
 use Rattle.words_core.proofs.Sites.{start_stays}
+use Rattle.words_core.proofs.StillOffending.{cannot_from, longer_or_same}
 use Rattle.words_core.proofs.WordsCompleted.{both_none, refused_then}
 
 -- a reading of more words has more operands, and what cannot be read, behind it
@@ -93,20 +95,28 @@ good_of applet reading behind command h =
       ] refl
     ] refl h
 
-pub offends_behind : (words more : List (List ℕ)) (command : CommandLine) (place : ℕ) → command_of words ≡ Ok command → command_of (words ++ more) ≡ Err place → length words < place
+pub offends_behind : (words more : List (List ℕ)) (command : CommandLine) (place : ℕ) → can_get_kind words ≡ false → command_of words ≡ Ok command → command_of (words ++ more) ≡ Err place → length words < place
 unfolding command_of
-offends_behind words more command place c h =
+offends_behind words more command place k c h =
     elim (line_start words) as (λ s. line_start words ≡ s → command_from words s ≡ Ok command → length words < place) [
       | Err at ↦ λ s (e : Err at ≡ Ok command). absurd (cc)
       | Ok start ↦ λ s e. by_start start s e
     ] refl c
   where
-    by_first : (start : Start) → IsPlain start (1 + length words) → IsGood start.applet (reading_behind start words) → option_or (refused_operand (operand_rule start.applet (reading_behind start (words ++ more)).state.flags) (reading_behind start (words ++ more)).operands) (reading_behind start (words ++ more)).unread ≡ Some place → length words < place
-    by_first start known good first =
+    rule_goes : (start : Start) → IsPlain start (1 + length words) → can_get_kind_from words start ≡ false → (rule : OperandRule) → operand_rule start.applet (reading_behind start words).state.flags ≡ Some rule → (reading_behind start words).unread ≡ None
+        → operand_rule start.applet (reading_behind start (words ++ more)).state.flags ≡ Some rule
+    rule_goes start known fixed rule r u =
+        elim (longer_or_same words more start known fixed) as (λ _. operand_rule start.applet (reading_behind start (words ++ more)).state.flags ≡ Some rule) [
+          | inl same ↦ absurd (same.1 u)
+          | inr long ↦ long.rule rule r
+        ]
+
+    by_first : (start : Start) → IsPlain start (1 + length words) → can_get_kind_from words start ≡ false → IsGood start.applet (reading_behind start words) → option_or (refused_operand (operand_rule start.applet (reading_behind start (words ++ more)).state.flags) (reading_behind start (words ++ more)).operands) (reading_behind start (words ++ more)).unread ≡ Some place → length words < place
+    by_first start known fixed good first =
         let low : start.read ≤ length words = omega (arith, known.read) in
         let longer = reading_behind start (words ++ more) in
         let add = from_added start words more low in
-        let rule_is : operand_rule start.applet longer.state.flags ≡ Some good.0 = (from_longer start words more known.settled low).rule good.0 good.1 (λ at u. absurd (none-some at (sym good.3 ∙ u))) in
+        let rule_is : operand_rule start.applet longer.state.flags ≡ Some good.0 = rule_goes start known fixed good.0 good.1 good.3 in
         let refused : first_refused good.0 0 longer.operands ≡ first_refused good.0 (0 + length (reading_behind start words).operands) add.new =
         ap (first_refused good.0 0) (add.operands good.3) ∙ refused_then good.0 0 (reading_behind start words).operands add.new good.2 in
         elim (first_refused good.0 (0 + length (reading_behind start words).operands) add.new) as (λ o. first_refused good.0 (0 + length (reading_behind start words).operands) add.new ≡ o → option_or o longer.unread ≡ Some place → length words < place) [
@@ -120,6 +130,6 @@ offends_behind words more command place c h =
         let longer : verdict last start.applet (reading_behind start (words ++ more)) ≡ Err place =
         sym (ap (command_from (words ++ more)) (start_stays words more start s)) ∙ h in
         elim (judged_at start.applet (reading_behind start (words ++ more)) last place longer) as (λ _. length words < place) [
-          | inl first ↦ by_first start (start_known words start s) (good_of start.applet (reading_behind start words) (length words + 1) command e) first
+          | inl first ↦ by_first start (start_known words start s) (cannot_from words start k s) (good_of start.applet (reading_behind start words) (length words + 1) command e) first
           | inr behind ↦ omega (arith, behind.1, length-append words more)
         ]

@@ -17,6 +17,7 @@ use Rattle.words_core.specs.declared.options.Meaning.TheVariants.{Flag as Plain,
 use Rattle.words_core.specs.declared.reading.OptionState.{OptionState}
 use Rattle.words_core.specs.declared.reading.Reading.{Reading}
 use Rattle.words_core.specs.Grammar.{first_state, held_value, option_name, option_reading, reading_behind, reading_by, site_at, site_behind_end, state_by}
+use Rattle.words_core.specs.Kinds.{can_get_kind}
 use Rattle.words_core.specs.Options.{OptionSpec, common_options, early_words, options_of}
 use Rattle.words_core.specs.Stuck.{are_stuck}
 
@@ -282,3 +283,37 @@ each_has_them = refl
 no_applet : are_stuck (codes "--" ∷ []) ≡ false
 unfolding are_stuck reading_behind site_at site_behind_end early_words common_options options_of option_name held_value is_name is_utf8 chars encode
 no_applet = refl
+
+-- ---- words of `info` that can still get a kind
+
+kind_may_follow : can_get_kind (codes "info" ∷ (codes "usr/x" ∷ [])) ≡ true
+unfolding can_get_kind reading_behind site_at site_behind_end early_words common_options options_of option_name held_value is_name is_utf8 chars encode
+kind_may_follow = refl
+
+kind_may_follow_none : can_get_kind (codes "info" ∷ []) ≡ true
+unfolding can_get_kind reading_behind site_at site_behind_end early_words common_options options_of option_name held_value is_name is_utf8 chars encode
+kind_may_follow_none = refl
+
+kind_may_follow_packages : can_get_kind (codes "--no-scripts" ∷ (codes "info" ∷ (codes "a" ∷ (codes "b" ∷ [])))) ≡ true
+unfolding can_get_kind reading_behind site_at site_behind_end early_words common_options options_of option_name held_value is_name is_utf8 chars encode
+kind_may_follow_packages = refl
+
+no_kind_behind_end : can_get_kind (codes "info" ∷ (codes "--" ∷ (codes "usr/x" ∷ []))) ≡ false
+unfolding can_get_kind reading_behind site_at site_behind_end early_words common_options options_of option_name held_value is_name is_utf8 chars encode
+no_kind_behind_end = refl
+
+no_kind_behind_early_end : can_get_kind (codes "--" ∷ (codes "info" ∷ (codes "usr/x" ∷ []))) ≡ false
+unfolding can_get_kind reading_behind site_at site_behind_end early_words common_options options_of option_name held_value is_name is_utf8 chars encode
+no_kind_behind_early_end = refl
+
+no_second_kind : can_get_kind (codes "info" ∷ (codes "a" ∷ (codes "-e" ∷ []))) ≡ false
+unfolding can_get_kind reading_behind site_at site_behind_end early_words common_options options_of option_name held_value is_name is_utf8 chars encode
+no_second_kind = refl
+
+no_kind_behind_bad_word : can_get_kind (codes "info" ∷ (codes "usr/x" ∷ (codes "--bad" ∷ []))) ≡ false
+unfolding can_get_kind reading_behind site_at site_behind_end early_words common_options options_of option_name held_value is_name is_utf8 chars encode
+no_kind_behind_bad_word = refl
+
+kind_of_version : can_get_kind (codes "version" ∷ (codes "a" ∷ [])) ≡ false
+unfolding can_get_kind reading_behind site_at site_behind_end early_words common_options options_of option_name held_value is_name is_utf8 chars encode
+kind_of_version = refl

@@ -7,3 +7,4 @@ pub mod Steps
 pub mod Faults
 pub mod Lines
 pub mod Stuck
+pub mod Kinds

@@ -117,7 +117,9 @@ applet_word Demo = codes "demo"
 
 -- the applets that exist
 abbrev pub applets : List Applet
-applets = Add ∷ (Del ∷ (Verify ∷ (Version ∷ (Adbdump ∷ (Mkpkg ∷ (Mkndx ∷ []))))))
+applets =
+    Add ∷ (Del ∷ (Upgrade ∷ (Fix ∷ (Info ∷
+    (Verify ∷ (Version ∷ (Adbdump ∷ (Mkpkg ∷ (Mkndx ∷ (Demo ∷ []))))))))))
 
 -- the applet that a word names, among those that exist
 abbrev pub applet_of : List ℕ → Option Applet

@@ -4,6 +4,7 @@ ghost use Rattle.std.specs.List.{list_all};
 ghost use Rattle.command_core.specs.Command.{CommandLine};
 ghost use Rattle.command_core.specs.declared.command.Applet.{Applet};
 ghost use Rattle.words_core.specs.Grammar.{command_of};
+ghost use Rattle.words_core.specs.Kinds.{can_get_kind};
 ghost use Rattle.words_core.specs.Lines.{IsLineOf};
 ghost use Rattle.words_core.specs.Options.{own_options};
 ghost use Rattle.words_core.specs.Rows.{has_its_letter};
@@ -28,9 +29,11 @@ pub fn usage_errors_are_at_words()
         (1 ≤ place) × (place ≤ length words + 1) }
 {}
 
-/// A word that offends does so whatever follows.
+/// A word that offends does so whatever follows, unless the words are `info` without a kind and can
+/// still get one: `info usr/x` offends, and `info usr/x -W` does not.
 pub fn words_offend_whatever_follows()
-    ensures { (words more : List (List ℕ)) (place : ℕ) → command_of words ≡ Err place →
+    ensures { (words more : List (List ℕ)) (place : ℕ) →
+        IsTrue (not (can_get_kind words)) → command_of words ≡ Err place →
         place ≤ length words → command_of (words ++ more) ≡ Err place }
 {}
 
@@ -51,11 +54,13 @@ pub fn stuck_words_are_no_command()
         (place : ℕ) × (command_of (words ++ more) ≡ Err place) }
 {}
 
-/// What follows a command offends behind it: no word of a command becomes the one that offends.
+/// What follows a command offends behind it: no word of a command becomes the one that offends,
+/// unless the words are `info` without a kind and can still get one: `info a b` is a command, and of
+/// `info a b -W` the `b` offends.
 pub fn what_follows_a_command_offends_behind_it()
     ensures { (words more : List (List ℕ)) (command : CommandLine) (place : ℕ) →
-        command_of words ≡ Ok command → command_of (words ++ more) ≡ Err place →
-        length words < place }
+        IsTrue (not (can_get_kind words)) → command_of words ≡ Ok command →
+        command_of (words ++ more) ≡ Err place → length words < place }
 {}
 
 /// The letter of each option with values is that of its short word.

@@ -35,14 +35,18 @@ pub(crate) enum Meaning {
 }
 
 // The applets that exist.
-const APPLETS: [Applet; 7] = [
+const APPLETS: [Applet; 11] = [
     Applet::Add,
     Applet::Del,
+    Applet::Upgrade,
+    Applet::Fix,
+    Applet::Info,
     Applet::Verify,
     Applet::Version,
     Applet::Adbdump,
     Applet::Mkpkg,
     Applet::Mkndx,
+    Applet::Demo,
 ];
 
 // The words of the options that may stand before the applet.

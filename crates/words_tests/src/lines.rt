@@ -74,12 +74,17 @@ pub fn add_command(alloc: Global, line: &Words, answer: &mut Vec<u8>) -> Result<
 
 fn applet_name(applet: Applet) -> &'static [u8] {
     match applet {
+        Applet::Add => b"add",
+        Applet::Del => b"del",
+        Applet::Upgrade => b"upgrade",
+        Applet::Fix => b"fix",
+        Applet::Info => b"info",
         Applet::Verify => b"verify",
         Applet::Adbdump => b"adbdump",
         Applet::Mkpkg => b"mkpkg",
         Applet::Mkndx => b"mkndx",
         Applet::Version => b"version",
-        _ => b"another",
+        Applet::Demo => b"demo",
     }
 }
 

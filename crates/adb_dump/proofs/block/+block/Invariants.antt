@@ -1,4 +1,4 @@
-use Rattle.std.proofs.Common.{◌≡◌, ◌+◌, ◌*◌, ◌++◌, drop, true}
+use Rattle.std.proofs.Common.{◌≡◌, ◌+◌, ◌*◌, drop, true}
 use Rattle.adb_view.specs.Adb.{payload_of}
 use Rattle.adb_view.specs.Entries.{array_entries}
 use Rattle.adb_fields.specs.Fields.{are_all_sound, values_at}
@@ -8,31 +8,32 @@ use Rattle.adb_tables.specs.Rank.{rank, rank_of_all}
 use Rattle.adb_dump.specs.Margin.{lines_at}
 use Rattle.adb_dump.specs.Words.{fields_sound, fields_at}
 use Rattle.adb_dump.proofs.Left.{entries_left, fields_left}
+use Rattle.adb_dump.proofs.Puts.{IsSoFar}
 use Rattle.adb_dump.proofs.block.+block.Given as goal
 
 abbrev pub decreases-write_block : goal.decreases-write_block
-decreases-write_block l = 2 * rank l.kind
+decreases-write_block g l = 2 * rank l.kind
 
 abbrev pub decreases-write_entries : goal.decreases-write_entries
-decreases-write_entries l = 2 * rank l.kind + 2
+decreases-write_entries g l = 2 * rank l.kind + 2
 
 abbrev pub decreases-write_entry : goal.decreases-write_entry
-decreases-write_entry l = 2 * rank l.kind + 1
+decreases-write_entry g l = 2 * rank l.kind + 1
 
 abbrev pub decreases-write_fields : goal.decreases-write_fields
-decreases-write_fields l = 2 * rank_of_all l.fields.now + 2
+decreases-write_fields g l = 2 * rank_of_all l.fields.now + 2
 
 abbrev pub decreases-write_field : goal.decreases-write_field
-decreases-write_field l = 2 * rank l.field.kind + 1
+decreases-write_field g l = 2 * rank l.field.kind + 1
 
 abbrev pub invariant-write_entries-loop-i : goal.invariant-write_entries-loop-i
-invariant-write_entries-loop-i l = record {
+invariant-write_entries-loop-i g l = record {
   sound : are_all_sound (payload_of l.adb) l.kind (drop l.i (array_entries l.words)) ≡ true;
-  so_far : l.out.items ++ lines_at l.start.depth l.begun (entries_left (payload_of l.adb) l.kind (array_entries l.words) l.i) ≡ l.initial.out.items ++ lines_at l.start.depth l.initial.begun (array_lines (block_lines (shape_of l.kind)) (values_at (payload_of l.adb) l.kind (array_entries l.words)));
+  so_far : IsSoFar (g.O.Out.holds) l.initial.out l.out (lines_at l.start.depth l.begun (entries_left (payload_of l.adb) l.kind (array_entries l.words) l.i)) (lines_at l.start.depth l.initial.begun (array_lines (block_lines (shape_of l.kind)) (values_at (payload_of l.adb) l.kind (array_entries l.words))));
 }
 
 abbrev pub invariant-write_fields-loop-i : goal.invariant-write_fields-loop-i
-invariant-write_fields-loop-i l = record {
+invariant-write_fields-loop-i g l = record {
   sound : fields_sound (payload_of l.adb) (drop l.i l.fields) (drop l.i (array_entries l.words)) ≡ true;
-  so_far : l.out.items ++ lines_at l.start.depth l.begun (fields_left (payload_of l.adb) l.fields (array_entries l.words) l.i) ≡ l.initial.out.items ++ lines_at l.start.depth l.initial.begun (fields_lines (shapes_of l.fields) (fields_at (payload_of l.adb) l.fields (array_entries l.words)));
+  so_far : IsSoFar (g.O.Out.holds) l.initial.out l.out (lines_at l.start.depth l.begun (fields_left (payload_of l.adb) l.fields (array_entries l.words) l.i)) (lines_at l.start.depth l.initial.begun (fields_lines (shapes_of l.fields) (fields_at (payload_of l.adb) l.fields (array_entries l.words))));
 }

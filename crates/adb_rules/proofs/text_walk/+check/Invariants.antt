@@ -1,4 +1,4 @@
-use Rattle.std.proofs.Common.{◌≡◌, ◌+◌, ◌*◌, true, drop}
+use Rattle.std.proofs.Common.{◌≡◌, ℕ, suc, ◌+◌, ◌*◌, true, drop, get_or, None}
 use Rattle.adb_view.specs.Adb.{payload_of}
 use Rattle.adb_view.specs.Entries.{array_entries}
 use Rattle.adb_tables.specs.Schema.{schema_number, table, shape_of, shapes_of}
@@ -25,6 +25,7 @@ invariant-check_entries-loop-i l = record {
   payload : l.judged.adb ≡ l.fn.judged.adb;
   sound : are_all_sound (payload_of l.adb) l.kind (drop l.i (array_entries l.entries)) ≡ true;
   so_far : first_bad (each_leaf (leaves (shape_of l.kind) l.field_number (surroundings_of l.around)) (values_at (payload_of l.adb) l.kind (drop l.i (array_entries l.entries)))) ≡ first_bad (each_leaf (leaves (shape_of l.kind) l.field_number (surroundings_of l.around)) (values_at (payload_of l.adb) l.kind (array_entries l.entries)));
+  before : (j : ℕ) → l.i ≡ suc j → None ≡ first_bad (leaves (shape_of l.kind) l.field_number (surroundings_of l.around) (value_at (payload_of l.adb) l.kind (get_or (array_entries l.entries) j 0)));
 }
 
 abbrev pub invariant-check_fields-loop-i : goal.invariant-check_fields-loop-i

@@ -1,17 +1,17 @@
 use Rattle.std.proofs.Common.{Ok}
-use Rattle.apk_front.proofs.Carried.{by_command, proper_by_command, run_by_command, usage_reported, usage_run}
+use Rattle.apk_front.proofs.Carried.{by_command, found_by_command, proper_by_command, run_by_command, words_by_command, usage_reported, usage_run}
 use Rattle.apk_front.proofs.Judged.{usage_found, usage_verdict}
 use Rattle.apk_front.proofs.Named.{command_named}
 use Rattle.apk_front.proofs.judge.judge.Goals as goal
 
 pub returns-in-Ok-clause-found : goal.returns-in-Ok-clause-found
-returns-in-Ok-clause-found g c = by_command c.args.words.now _ _ c.run.result c.in-Ok.ensures.ok c.run.ensures.found
+returns-in-Ok-clause-found g c = by_command c.args.words.now _ _ c.carry_out.result c.in-Ok.ensures.ok c.carry_out.ensures.found
 
 pub returns-in-Ok-clause-run : goal.returns-in-Ok-clause-run
-returns-in-Ok-clause-run g c = run_by_command c.args.words.now _ _ _ _ c.in-Ok.ensures.ok c.run.ensures.run
+returns-in-Ok-clause-run g c = run_by_command c.args.words.now _ _ _ _ c.in-Ok.ensures.ok c.carry_out.ensures.run
 
 pub returns-in-Ok-clause-proper : goal.returns-in-Ok-clause-proper
-returns-in-Ok-clause-proper g c = proper_by_command c.args.words.now _ _ _ c.in-Ok.ensures.ok c.run.ensures.proper
+returns-in-Ok-clause-proper g c = proper_by_command c.args.words.now _ _ _ c.in-Ok.ensures.ok c.carry_out.ensures.proper
 
 pub returns-in-Err-Usage-clause-found : goal.returns-in-Err-Usage-clause-found
 returns-in-Err-Usage-clause-found g c = usage_reported c.args.words.now _ c.refused.result (λ v. usage_verdict c.args.words.now _ _ _ c.refused.result c.in-Err-Usage.place-is c.in-Err-Usage.field-0-is c.in-Err-Usage.ensures.usage c.refused.ensures _)
@@ -27,3 +27,9 @@ returns-in-Err-Usage-clause-by_words g c = λ rests. usage_verdict c.args.words.
 
 pub returns-in-Ok-clause-named : goal.returns-in-Ok-clause-named
 returns-in-Ok-clause-named g c = λ memory. command_named c.args.words.now _ c.in-Ok.ensures.ok
+
+pub returns-in-Ok-clause-by_reads : goal.returns-in-Ok-clause-by_reads
+returns-in-Ok-clause-by_reads g c = found_by_command c.args.words.now _ c.carry_out.result c.in-Ok.ensures.ok c.carry_out.ensures.by_reads
+
+pub returns-in-Ok-clause-by_words : goal.returns-in-Ok-clause-by_words
+returns-in-Ok-clause-by_words g c = words_by_command c.args.words.now _ c.carry_out.result c.in-Ok.ensures.ok c.carry_out.ensures.by_words

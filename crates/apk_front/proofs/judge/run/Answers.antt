@@ -1,13 +1,36 @@
-use Rattle.apk_front.proofs.Carried.{look_found, look_memory, look_read, look_run, reads_one}
+use Rattle.std.proofs.Common.{true≢false, sym, ◌∙◌}
+use Rattle.outcome.specs.Effect.{effect_of}
+use Rattle.apk_front.proofs.Carried.{look_found, look_memory, look_read, look_run, not_on_words, reads_by_access, recovers_else, writes_by_access}
 use Rattle.apk_front.proofs.Runs.{proper_anyway}
 use Rattle.apk_front.proofs.judge.run.Goals as goal
 
-pub look-requires : goal.look-requires
-look-requires g c = reads_one c.args.command.now c.applet.result c.applet.ensures.value c.in_default.not-Mkpkg c.in_default.not-Mkndx c.in_default.not-Add c.in_default.not-Del
+pub recover_and_run-requires : goal.recover_and_run-requires
+recover_and_run-requires g c =
+    recovers_else (effect_of c.args.command.now.applet) (writes_by_access c.args.command.now c.applet.result c.applet_access.result c.applet.ensures.value c.applet_access.ensures c.in-Write.is)
 
-pub returns-in_default : goal.returns-in_default
-returns-in_default g c =
-    let reads = reads_one c.args.command.now c.applet.result c.applet.ensures.value c.in_default.not-Mkpkg c.in_default.not-Mkndx c.in_default.not-Add c.in_default.not-Del in
+pub returns-in-Write : goal.returns-in-Write
+returns-in-Write g c =
+    let writes = writes_by_access c.args.command.now c.applet.result c.applet_access.result c.applet.ensures.value c.applet_access.ensures c.in-Write.is in
+    record {
+      found = c.recover_and_run.ensures.found;
+      by_reads = c.recover_and_run.ensures.by_reads;
+      by_words = λ rests. absurd (not_on_words (effect_of c.args.command.now.applet) writes rests);
+      untouched = λ rests. absurd (not_on_words (effect_of c.args.command.now.applet) writes rests);
+      run = c.recover_and_run.ensures.run;
+      same = λ only. absurd (true≢false (sym only ∙ writes));
+      goes_on = c.recover_and_run.ensures.goes_on;
+      disk = c.recover_and_run.ensures.disk;
+      kept = c.recover_and_run.ensures.kept;
+      memory = c.recover_and_run.ensures.memory;
+      proper = c.recover_and_run.ensures.proper;
+    }
+
+pub look-requires : goal.look-requires
+look-requires g c = reads_by_access c.args.command.now c.applet.result c.applet_access.result c.applet.ensures.value c.applet_access.ensures c.in-Read.is
+
+pub returns-in-Read : goal.returns-in-Read
+returns-in-Read g c =
+    let reads = reads_by_access c.args.command.now c.applet.result c.applet_access.result c.applet.ensures.value c.applet_access.ensures c.in-Read.is in
     record {
       found = look_found c.args.command.now _ c.look.result reads c.look.ensures.found;
       by_reads = look_read c.args.command.now c.look.result reads c.look.ensures.by_reads;

@@ -1,8 +1,10 @@
-use Rattle.std.proofs.Common.{◌∙◌, sym}
+use Rattle.std.proofs.Common.{◌∙◌, ℕ, List, Ok, sym, subst}
 use Rattle.change_inputs.specs.Seen.{inputs_seen}
 use Rattle.change_inputs.specs.declared.refused.Refused.TheVariants.{Memory}
-use Rattle.engine_core.specs.Runs.{IsRunBy}
+use Rattle.engine_core.specs.Runs.{IsRunBy, IsSelectedRun}
+use Rattle.engine_core.specs.Selecting.{replacement_of_choice}
 use Rattle.engine_core.proofs.Early.{HaveClash, nothing_read}
+use Rattle.engine_core.proofs.Pools.{pool_world}
 use Rattle.engine_core.proofs.SelectedRuns.{chosen_run, run_failure, unchosen_run, unknown_run, with_error}
 use Rattle.engine_core.proofs.changing.change_in_pool.Goals as goal
 
@@ -28,4 +30,11 @@ returns-in_err-trace-clause-run g c =
 pub returns-clause-run : goal.returns-clause-run
 returns-clause-run g c =
     chosen_run c.args.command.now (inputs_seen c.args.loaded.now) _ _ _ _ c.args.pool.now c.requires.pool (sym c.unknown_operand.ensures ∙ c.in_default.is) c.in_ok-trace.ensures.0 c.in_ok-trace.ensures.1
-    _ _ c.in_ok-trace.ensures.2 c.change_selected.ensures.run
+    _ _ c.in_ok-trace.ensures.2
+    (subst (λ (again : List (List ℕ)). IsSelectedRun c.args.command.now
+    (Ok (record { inputs = inputs_seen c.args.loaded.now; replacement = replacement_of_choice again (inputs_seen c.args.loaded.now) c.args.pool.now c.in_ok-trace.trace }))
+    (g.T.Tree.history c.args.tree.now) (g.T.Tree.history c.change_selected.new.tree) (g.T.Tree.counts c.args.tree.now) (g.T.Tree.counts c.change_selected.new.tree) c.change_selected.result)
+    c.requires.again c.change_selected.ensures.run)
+
+pub choose-requires : goal.choose-requires
+choose-requires g c = pool_world c.args.command.now (inputs_seen c.args.loaded.now) c.args.pool.now c.requires.pool

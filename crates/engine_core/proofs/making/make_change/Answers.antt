@@ -1,7 +1,4 @@
-use Rattle.std.proofs.Common.{◌∙◌, ℕ, List, [], ap}
 use Rattle.change_inputs.specs.declared.refused.Refused.TheVariants.{Memory}
-use Rattle.package_changes.specs.Placed.{placed_names_of}
-use Rattle.package_changes.specs.Seen.{replacement_by}
 use Rattle.std.specs.Prelude.{Ok}
 use Rattle.engine_core.specs.Runs.{IsSelectedRun}
 use Rattle.engine_core.specs.SelectionSeen.{inputs_of_selection, selection_seen}
@@ -20,23 +17,23 @@ pub returns-in_err-arrivals-clause-run : goal.returns-in_err-arrivals-clause-run
 returns-in_err-arrivals-clause-run g c =
     let have : HaveClash = record { exists = c.a_change_has_a_first_clash_or_none.ensures.exists } in
     let s = c.args.selection.now in
-    let named = c.in_ok-names.ensures ∙ ap (λ (again : List (List ℕ)). placed_names_of (replacement_by s.db.now s.pool.now s.trace.now again)) c.new-none.ensures in
+    let named = c.in_ok-names.ensures in
     with_error (IsSelectedRun c.args.command.now (Ok (selection_seen s)) _ _ _ _) c.from_residual-in_err-arrivals.result _ c.from_residual-in_err-arrivals.ensures.1
     (unarrived s c.requires.database c.args.command.now c.requires.real have (g.T.Tree.history c.args.tree.now) (g.T.Tree.history c.read_arrivals.new.tree) (g.T.Tree.counts c.args.tree.now) (g.T.Tree.counts c.read_arrivals.new.tree) (g.met.T.Tree.whole c.args.tree.now)
-    (record { same = c.in_err-arrivals.ensures.tree.same; proper = c.in_err-arrivals.ensures.tree.proper }) _ c.repositories.ensures _ c.flags.ensures.value _ (c.in_err-arrivals.ensures.found s.trace.now [] named))
+    (record { same = c.in_err-arrivals.ensures.tree.same; proper = c.in_err-arrivals.ensures.tree.proper }) _ c.repositories.ensures _ c.flags.ensures.value _ (c.in_err-arrivals.ensures.found s.trace.now s.again.now named))
 
 pub change_members-requires-clause-members : goal.change_members-requires-clause-members
 change_members-requires-clause-members g c =
     let s = c.args.selection.now in
-    let named = c.in_ok-names.ensures ∙ ap (λ (again : List (List ℕ)). placed_names_of (replacement_by s.db.now s.pool.now s.trace.now again)) c.new-none.ensures in
-    c.in_ok-arrivals.ensures.members s.trace.now [] named (few_candidates (inputs_of_selection s) s.pool.now c.requires.pool)
+    let named = c.in_ok-names.ensures in
+    c.in_ok-arrivals.ensures.members s.trace.now s.again.now named (few_candidates c.args.command.now (inputs_of_selection s) s.pool.now c.requires.pool)
 
 pub change_members-requires-clause-read : goal.change_members-requires-clause-read
 change_members-requires-clause-read g c =
     let have : HaveClash = record { exists = c.a_change_has_a_first_clash_or_none.ensures.exists } in
     let s = c.args.selection.now in
-    let named = c.in_ok-names.ensures ∙ ap (λ (again : List (List ℕ)). placed_names_of (replacement_by s.db.now s.pool.now s.trace.now again)) c.new-none.ensures in
-    let explained = c.in_ok-arrivals.ensures.found s.trace.now [] named in (
+    let named = c.in_ok-names.ensures in
+    let explained = c.in_ok-arrivals.ensures.found s.trace.now s.again.now named in (
       explained.is.0,
       arrived s c.requires.database c.args.command.now c.requires.real have (g.T.Tree.history c.args.tree.now) (g.T.Tree.history c.read_arrivals.new.tree) (g.T.Tree.counts c.args.tree.now) (g.T.Tree.counts c.read_arrivals.new.tree) (g.met.T.Tree.whole c.args.tree.now)
           (record { same = c.in_ok-arrivals.ensures.tree.same; proper = c.in_ok-arrivals.ensures.tree.proper }) _ c.repositories.ensures _ c.flags.ensures.value c.requires.root c.in_ok-names.names named c.in_ok-arrivals.arrivals explained,
@@ -46,8 +43,8 @@ pub returns-clause-run : goal.returns-clause-run
 returns-clause-run g c =
     let have : HaveClash = record { exists = c.a_change_has_a_first_clash_or_none.ensures.exists } in
     let s = c.args.selection.now in
-    let named = c.in_ok-names.ensures ∙ ap (λ (again : List (List ℕ)). placed_names_of (replacement_by s.db.now s.pool.now s.trace.now again)) c.new-none.ensures in
-    let explained = c.in_ok-arrivals.ensures.found s.trace.now [] named in
+    let named = c.in_ok-names.ensures in
+    let explained = c.in_ok-arrivals.ensures.found s.trace.now s.again.now named in
     arrived_run s c.requires.database c.args.command.now c.requires.real have (g.T.Tree.history c.args.tree.now) (g.T.Tree.history c.read_arrivals.new.tree) (g.T.Tree.counts c.args.tree.now) (g.T.Tree.counts c.read_arrivals.new.tree) (g.met.T.Tree.whole c.args.tree.now)
     (record { same = c.in_ok-arrivals.ensures.tree.same; proper = c.in_ok-arrivals.ensures.tree.proper }) _ c.repositories.ensures _ c.flags.ensures.value c.requires.root c.in_ok-names.names named c.in_ok-arrivals.arrivals explained
     _ _ c.change_members.result

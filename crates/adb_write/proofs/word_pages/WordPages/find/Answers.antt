@@ -4,7 +4,7 @@ use Rattle.std.specs.declared.cmp.Ordering.TheVariants.{Less, Greater}
 use Rattle.std.proofs.lemmas.Fn.{always_returns_same}
 use Rattle.std.proofs.lemmas.List.{length-map}
 use Rattle.adb_view.specs.Adb.{payload_of}
-use Rattle.adb_write.specs.Keys.{key_of, key_at, HaveRisingKeys}
+use Rattle.adb_write.specs.Keys.{key_with, key_at, HaveRisingKeys}
 use Rattle.adb_write.specs.WordPages.{AllCompare, page_at, pages_of}
 use Rattle.adb_write.proofs.Rising.{cmp, searchable}
 use Rattle.adb_write.proofs.Pages.{page_of_map, page_rising, slot_in, found_at, between_at, no_page, searched_low, searched_high, searched_equal}
@@ -12,13 +12,13 @@ use Rattle.adb_write.proofs.word_pages.WordPages.find.Goals as goal
 
 pub returns-in_default : goal.returns-in_default
 returns-in_default c =
-    no_page (payload_of c.args.adb.now) (key_of c.args.parts.now) (pages_of c.args.self.now) c.page_of-page.result c.page_of-page.ensures
+    no_page (payload_of c.args.adb.now) (key_with c.args.fingerprint c.args.parts.now) (pages_of c.args.self.now) c.page_of-page.result c.page_of-page.ensures
     (omega (arith, c.in_default.ensures.lookup.3, c.deref.ensures.value, length-map c.args.self.now.pages.items (λ page. page.items)))
 
 pub returns-in-Ok : goal.returns-in-Ok
 returns-in-Ok c =
     let p : List ℕ = payload_of c.args.adb.now in
-    let key : List ℕ = key_of c.args.parts.now in
+    let key : List ℕ = key_with c.args.fingerprint c.args.parts.now in
     let k : ℕ = c.page_of-page.result in
     let look = subst (λ vs. (k < length vs) × (c.in-Some.words.now ≡ get_or vs k c.in-Some.words.now)) c.deref.ensures.value (c.in-Some.ensures.lookup.3.0, c.in-Some.ensures.lookup.3.1 c.in-Some.words.now) in
     let page : page_at (pages_of c.args.self.now) k ≡ c.deref-2.result.now = page_of_map (λ page. page.items) c.args.self.now.pages.items k c.in-Some.words.now look.0 ∙ ap (λ page. page.items) (sym look.1) ∙ sym c.deref-2.ensures.value in
@@ -32,7 +32,7 @@ returns-in-Ok c =
 pub returns-in-Err : goal.returns-in-Err
 returns-in-Err c =
     let p : List ℕ = payload_of c.args.adb.now in
-    let key : List ℕ = key_of c.args.parts.now in
+    let key : List ℕ = key_with c.args.fingerprint c.args.parts.now in
     let k : ℕ = c.page_of-page.result in
     let look = subst (λ vs. (k < length vs) × (c.in-Some.words.now ≡ get_or vs k c.in-Some.words.now)) c.deref.ensures.value (c.in-Some.ensures.lookup.3.0, c.in-Some.ensures.lookup.3.1 c.in-Some.words.now) in
     let page : page_at (pages_of c.args.self.now) k ≡ c.deref-2.result.now = page_of_map (λ page. page.items) c.args.self.now.pages.items k c.in-Some.words.now look.0 ∙ ap (λ page. page.items) (sym look.1) ∙ sym c.deref-2.ensures.value in

@@ -36,13 +36,13 @@ returns-in_err-insert-clause-err c =
 
 pub returns-clause-filled : goal.returns-clause-filled
 returns-clause-filled c =
-    filled_vectors (λ page. page.items) c.make_room.new.self.pages.items c.in_ok-slot.slot.page c.in_ok-slot.slot.index c.args.word c.insert.new.self c.index_mut.result.now c.make_room.ensures.filled c.in_ok-insert.ensures.items
+    filled_vectors (λ page. page.items) c.make_room.new.self.pages.items c.in_ok-slot.slot.page c.in_ok-slot.slot.index c.args.locator c.insert.new.self c.index_mut.result.now c.make_room.ensures.filled c.in_ok-insert.ensures.items
 
 pub returns-clause-ok : goal.returns-clause-ok
 returns-clause-ok c =
     let same = c.in_ok-slot.ensures.ok in
     let page = slot_page (pages_of c.make_room.new.self) c.in_ok-slot.slot.page c.in_ok-slot.slot.index c.make_room.ensures.some same.inside in
     let within : c.in_ok-slot.slot.page < length c.make_room.new.self.pages.items = omega (arith, page, length-map c.make_room.new.self.pages.items (λ page. page.items)) in
-    insert_vectors (λ page. page.items) c.make_room.new.self.pages.items c.in_ok-slot.slot.page c.in_ok-slot.slot.index c.args.word c.insert.new.self c.index_mut.result.now within c.index_mut.ensures.value c.in_ok-insert.ensures.items
-    ∙ ap (λ (x : List ℕ). x ++ c.args.word ∷ words_behind (pages_of c.make_room.new.self) c.in_ok-slot.slot.page c.in_ok-slot.slot.index) same.before
-    ∙ ap (λ (x : List ℕ). words_before (pages_of c.args.self.now) c.args.slot.page c.args.slot.index ++ c.args.word ∷ x) same.behind
+    insert_vectors (λ page. page.items) c.make_room.new.self.pages.items c.in_ok-slot.slot.page c.in_ok-slot.slot.index c.args.locator c.insert.new.self c.index_mut.result.now within c.index_mut.ensures.value c.in_ok-insert.ensures.items
+    ∙ ap (λ (x : List ℕ). x ++ c.args.locator ∷ words_behind (pages_of c.make_room.new.self) c.in_ok-slot.slot.page c.in_ok-slot.slot.index) same.before
+    ∙ ap (λ (x : List ℕ). words_before (pages_of c.args.self.now) c.args.slot.page c.args.slot.index ++ c.args.locator ∷ x) same.behind

@@ -3,7 +3,7 @@ use Rattle.std.specs.Prelude.{not}
 use Rattle.std.specs.List.{concat}
 use Rattle.std.proofs.lemmas.List.Sorted.{IsPartitionPoint-from_clause}
 use Rattle.adb_view.specs.Adb.{payload_of}
-use Rattle.adb_write.specs.Keys.{key_of, HaveRisingKeys}
+use Rattle.adb_write.specs.Keys.{key_with, HaveRisingKeys}
 use Rattle.adb_write.specs.WordPages.{AreFilled, IsPageFor, begins_above}
 use Rattle.adb_write.proofs.Pages.{parted, page_for}
 use Rattle.adb_write.proofs.word_pages.WordPages.page_of.Goals as goal
@@ -11,7 +11,7 @@ use Rattle.adb_write.proofs.word_pages.WordPages.page_of.Goals as goal
 pub returns : goal.returns
 returns c =
     let p : List ℕ = payload_of c.args.adb.now in
-    let key : List ℕ = key_of c.args.parts.now in
+    let key : List ℕ = key_with c.args.fingerprint c.args.parts.now in
     let filled = subst (λ vs. AreFilled (map (λ page. page.items) vs)) (sym c.deref.ensures.value) c.requires.filled in
     let rising = subst (λ vs. HaveRisingKeys p (concat (map (λ page. page.items) vs))) (sym c.deref.ensures.value) c.requires.rising in
     let point =

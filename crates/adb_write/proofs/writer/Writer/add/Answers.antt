@@ -5,15 +5,15 @@ use Rattle.std.proofs.lemmas.List.{length-drop}
 use Rattle.adb_write.specs.Canonical.{gap, Item, WrittenItem, is_equal_item, word_of_item, apart, passes, MOST_BYTES}
 use Rattle.adb_write.specs.Writing.{Writing, Grows, call, writing_by}
 use Rattle.adb_write.specs.Items.{item_of}
-use Rattle.adb_write.specs.Keys.{key_of}
+use Rattle.adb_write.specs.Keys.{fingerprint_of, key_of, locator_of}
 use Rattle.adb_write.specs.WordPages.{pages_of, words_before, words_behind}
-use Rattle.adb_write.specs.WriterState.{items_of_words, written_item, FindsWord}
+use Rattle.adb_write.specs.WriterState.{items_of_locators, written_item, FindsWord}
 use Rattle.adb_write.proofs.WriterSteps.{end_of, written_at, call_past, call_stops, call_fits, call_grows, on_err}
 use Rattle.adb_write.proofs.AnyOrder.{fits_of}
 use Rattle.adb_write.proofs.Grown.{Grown, grown, grown_len}
 use Rattle.adb_write.proofs.Pages.{parts_at}
 use Rattle.adb_write.proofs.Held.{not_found, found_item, found_word}
-use Rattle.adb_write.proofs.Appended.{Appended, appended}
+use Rattle.adb_write.proofs.Appended.{Appended, appended, locator_fingerprint, locator_word}
 use Rattle.adb_write.proofs.writer.Writer.add.Goals as goal
 
 pub returns-then-passes-clause-ok : goal.returns-then-passes-clause-ok
@@ -23,7 +23,7 @@ returns-then-passes-clause-ok c =
     let p : List ℕ = s.store.payload.items in
     let body : List ℕ = drop 8 p in
     let pages : List (List ℕ) = pages_of s.store.words in
-    let items : List WrittenItem = items_of_words (concat pages) in
+    let items : List WrittenItem = items_of_locators (concat pages) in
     let past : passes (s.counts.bytes, s.counts.values) ≡ true = sym c.passes.ensures ∙ c.if-passes.true in
     rw c.of.ensures (subst (λ (x : Writing). ◌≡◌ {A = ℕ × Writing} (0, x) (call (apart i) x)) c.self.view_is (sym (call_past i body items s.counts.bytes s.counts.values past)))
 
@@ -34,13 +34,13 @@ repeat-requires-clause-found c =
     let p : List ℕ = s.store.payload.items in
     let body : List ℕ = drop 8 p in
     let pages : List (List ℕ) = pages_of s.store.words in
-    let items : List WrittenItem = items_of_words (concat pages) in
+    let items : List WrittenItem = items_of_locators (concat pages) in
     let fine : passes (s.counts.bytes, s.counts.values) ≡ false = sym c.passes.ensures ∙ c.if-passes.false in
     let agree : s.counts.bytes ≡ 8 + length body = c.self.invariant.agree fine in
     let few : length p ≤ MOST_BYTES = omega (arith, fits_of (s.counts.bytes, s.counts.values) fine, length-drop 8 p) in
-    let found : find (is_equal_item body i) items ≡ Some (written_item c.in-Ok.word) = found_item p c.args.parts.now (concat pages) c.in-Ok.word c.self.invariant.stored c.self.invariant.rising c.requires few c.in-Ok.ensures in
-    subst (λ (x : Writing). FindsWord i x c.in-Ok.word) c.self.view_is
-    (ap (option_map word_of_item) found ∙ ap Some (found_word p (concat pages) (key_of c.args.parts.now) c.in-Ok.word c.self.invariant.stored c.in-Ok.ensures))
+    let found : find (is_equal_item body i) items ≡ Some (written_item c.in-Ok.locator) = found_item p c.args.parts.now (concat pages) c.in-Ok.locator c.self.invariant.stored c.self.invariant.rising c.requires few c.in-Ok.ensures in
+    subst (λ (x : Writing). FindsWord i x c.word_of_locator.result) c.self.view_is
+    (ap (option_map word_of_item) found ∙ ap Some (found_word p (concat pages) (key_of c.args.parts.now) c.in-Ok.locator c.self.invariant.stored c.in-Ok.ensures ∙ sym c.word_of_locator.ensures))
 
 pub returns-then-passes-2-clause-ok : goal.returns-then-passes-2-clause-ok
 returns-then-passes-2-clause-ok c =
@@ -49,7 +49,7 @@ returns-then-passes-2-clause-ok c =
     let p : List ℕ = s.store.payload.items in
     let body : List ℕ = drop 8 p in
     let pages : List (List ℕ) = pages_of s.store.words in
-    let items : List WrittenItem = items_of_words (concat pages) in
+    let items : List WrittenItem = items_of_locators (concat pages) in
     let fine : passes (s.counts.bytes, s.counts.values) ≡ false = sym c.passes.ensures ∙ c.if-passes.false in
     let agree : s.counts.bytes ≡ 8 + length body = c.self.invariant.agree fine in
     let few : length p ≤ MOST_BYTES = omega (arith, fits_of (s.counts.bytes, s.counts.values) fine, length-drop 8 p) in
@@ -68,7 +68,7 @@ returns-in_err-append-clause-wants c =
     let p : List ℕ = s.store.payload.items in
     let body : List ℕ = drop 8 p in
     let pages : List (List ℕ) = pages_of s.store.words in
-    let items : List WrittenItem = items_of_words (concat pages) in
+    let items : List WrittenItem = items_of_locators (concat pages) in
     let fine : passes (s.counts.bytes, s.counts.values) ≡ false = sym c.passes.ensures ∙ c.if-passes.false in
     let agree : s.counts.bytes ≡ 8 + length body = c.self.invariant.agree fine in
     let few : length p ≤ MOST_BYTES = omega (arith, fits_of (s.counts.bytes, s.counts.values) fine, length-drop 8 p) in
@@ -88,7 +88,7 @@ invariant_of-self-2 c =
     let p : List ℕ = s.store.payload.items in
     let body : List ℕ = drop 8 p in
     let pages : List (List ℕ) = pages_of s.store.words in
-    let items : List WrittenItem = items_of_words (concat pages) in
+    let items : List WrittenItem = items_of_locators (concat pages) in
     let fine : passes (s.counts.bytes, s.counts.values) ≡ false = sym c.passes.ensures ∙ c.if-passes.false in
     let agree : s.counts.bytes ≡ 8 + length body = c.self.invariant.agree fine in
     let few : length p ≤ MOST_BYTES = omega (arith, fits_of (s.counts.bytes, s.counts.values) fine, length-drop 8 p) in
@@ -101,8 +101,10 @@ invariant_of-self-2 c =
     let word : c.of-word.result ≡ i.kind * 2 ^ 28 + (s.counts.bytes + c.gap.result) = c.of-word.ensures ∙ ap (λ (k : ℕ). k * 2 ^ 28 + (s.counts.bytes + c.gap.result)) c.kind.ensures.value in
     let room : s.counts.bytes + c.gap.result + length i.bytes ≤ MOST_BYTES = omega (arith, fits_of (end_of i s.counts.bytes, s.counts.values + i.entries) fits, zeros) in
     let g : Grown p c.append.new.self.payload.items c.gap.result i.bytes = subst (λ (x : List ℕ). Grown p x c.gap.result i.bytes) (sym c.in_ok-append.ensures.bytes) (grown p s.counts.bytes c.gap.result i.bytes c.self.invariant.head agree) in
+    let small : c.of-word.result < 2 ^ 32 = omega (arith, word, c.kind.ensures.few, c.kind.ensures.value, room) in
+    let l : ℕ = locator_of (fingerprint_of c.args.parts.now) c.of-word.result in
     let a : Appended p c.append.new.self.payload.items pages (pages_of c.append.new.self.words) i =
-    appended p c.append.new.self.payload.items pages (pages_of c.append.new.self.words) c.args.parts.now c.in-Err.slot s.counts.bytes c.gap.result c.of-word.result c.self.invariant.head agree zeros c.self.invariant.rising c.self.invariant.stored c.requires room c.in-Err.ensures c.in_ok-append.ensures.bytes c.in_ok-append.ensures.words word in
+    appended p c.append.new.self.payload.items pages (pages_of c.append.new.self.words) c.args.parts.now c.in-Err.slot s.counts.bytes c.gap.result l c.self.invariant.head agree zeros c.self.invariant.rising c.self.invariant.stored c.requires room c.in-Err.ensures c.in_ok-append.ensures.bytes c.in_ok-append.ensures.words (locator_fingerprint (fingerprint_of c.args.parts.now) c.of-word.result small) (locator_word (fingerprint_of c.args.parts.now) c.of-word.result small ∙ word) in
     record {
       head = g.head;
       agree = λ below. grown_len p c.append.new.self.payload.items c.gap.result i.bytes s.counts.bytes c.len-2.result g agree c.len-2.ensures.value;
@@ -118,7 +120,7 @@ returns-clause-ok c =
     let p : List ℕ = s.store.payload.items in
     let body : List ℕ = drop 8 p in
     let pages : List (List ℕ) = pages_of s.store.words in
-    let items : List WrittenItem = items_of_words (concat pages) in
+    let items : List WrittenItem = items_of_locators (concat pages) in
     let fine : passes (s.counts.bytes, s.counts.values) ≡ false = sym c.passes.ensures ∙ c.if-passes.false in
     let agree : s.counts.bytes ≡ 8 + length body = c.self.invariant.agree fine in
     let few : length p ≤ MOST_BYTES = omega (arith, fits_of (s.counts.bytes, s.counts.values) fine, length-drop 8 p) in
@@ -131,8 +133,10 @@ returns-clause-ok c =
     let word : c.of-word.result ≡ i.kind * 2 ^ 28 + (s.counts.bytes + c.gap.result) = c.of-word.ensures ∙ ap (λ (k : ℕ). k * 2 ^ 28 + (s.counts.bytes + c.gap.result)) c.kind.ensures.value in
     let room : s.counts.bytes + c.gap.result + length i.bytes ≤ MOST_BYTES = omega (arith, fits_of (end_of i s.counts.bytes, s.counts.values + i.entries) fits, zeros) in
     let g : Grown p c.append.new.self.payload.items c.gap.result i.bytes = subst (λ (x : List ℕ). Grown p x c.gap.result i.bytes) (sym c.in_ok-append.ensures.bytes) (grown p s.counts.bytes c.gap.result i.bytes c.self.invariant.head agree) in
+    let small : c.of-word.result < 2 ^ 32 = omega (arith, word, c.kind.ensures.few, c.kind.ensures.value, room) in
+    let l : ℕ = locator_of (fingerprint_of c.args.parts.now) c.of-word.result in
     let a : Appended p c.append.new.self.payload.items pages (pages_of c.append.new.self.words) i =
-    appended p c.append.new.self.payload.items pages (pages_of c.append.new.self.words) c.args.parts.now c.in-Err.slot s.counts.bytes c.gap.result c.of-word.result c.self.invariant.head agree zeros c.self.invariant.rising c.self.invariant.stored c.requires room c.in-Err.ensures c.in_ok-append.ensures.bytes c.in_ok-append.ensures.words word in
+    appended p c.append.new.self.payload.items pages (pages_of c.append.new.self.words) c.args.parts.now c.in-Err.slot s.counts.bytes c.gap.result l c.self.invariant.head agree zeros c.self.invariant.rising c.self.invariant.stored c.requires room c.in-Err.ensures c.in_ok-append.ensures.bytes c.in_ok-append.ensures.words (locator_fingerprint (fingerprint_of c.args.parts.now) c.of-word.result small) (locator_word (fingerprint_of c.args.parts.now) c.of-word.result small ∙ word) in
     let bytes : drop 8 c.append.new.self.payload.items ≡ body ++ (replicate {A = ℕ} (gap i.align s.counts.bytes) 0 ++ i.bytes) = g.body ∙ ap (λ (k : ℕ). body ++ (replicate {A = ℕ} k 0 ++ i.bytes)) zeros in
     let answer : c.of-word.result ≡ i.kind * 2 ^ 28 + (s.counts.bytes + gap i.align s.counts.bytes) = word ∙ ap (λ (k : ℕ). i.kind * 2 ^ 28 + (s.counts.bytes + k)) zeros in
     let old : ◌≡◌ {A = ℕ × Writing} (i.kind * 2 ^ 28 + (s.counts.bytes + gap i.align s.counts.bytes), writing_by (body ++ (replicate {A = ℕ} (gap i.align s.counts.bytes) 0 ++ i.bytes)) (written_at i body ∷ items) (end_of i s.counts.bytes) (s.counts.values + i.entries)) (call (apart i) c.args.self.now) =

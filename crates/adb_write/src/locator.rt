@@ -1,0 +1,28 @@
+//! Locators: the fingerprint of a written item, and the word that leads to it in the 32 bits below.
+
+ghost use Rattle.std.specs.Prelude.{◌≡◌, ◌<◌, ◌^◌};
+ghost use Rattle.adb_write.specs.Keys.{fingerprint_of_locator, locator_of, word_of_locator};
+
+use adb_view::Val;
+
+/// The locator of a word with this fingerprint.
+pub(crate) fn locator_of(fingerprint: u64, word: Val) -> u64
+    requires { fingerprint < 2 ^ 32 }
+    ensures { result ≡ locator_of fingerprint word }
+{
+    fingerprint * (1 << 32) + word.word() as u64
+}
+
+/// The word of a locator.
+pub(crate) fn word_of_locator(locator: u64) -> Val
+    ensures { result ≡ word_of_locator locator }
+{
+    Val::of((locator % (1 << 32)) as u32)
+}
+
+/// The fingerprint of a locator.
+pub(crate) fn fingerprint_of_locator(locator: u64) -> u64
+    ensures { result ≡ fingerprint_of_locator locator }
+{
+    locator / (1 << 32)
+}

@@ -1,0 +1,148 @@
+-- `info`: its verdict is that of its outcome, and the run leaves the tree as it is.
+use Rattle.std.proofs.Common.{◌≡◌, ◌⊎◌, inl, inr, false, [], ◌∷◌, None, Result, Ok, Err, refl, sym, ap, subst, ◌∙◌}
+use Rattle.std.specs.Prelude.{IfOk, IsErrOf, OnOk}
+use Rattle.base_core.specs.Calls.{IfObservable}
+use Rattle.base_core.specs.Faults.{Counts, HasCause, IsNoFault}
+use Rattle.base_core.specs.Files.{Files, no_names}
+use Rattle.base_core.specs.Read.{OnlyReads}
+use Rattle.base_core.specs.Tree.{TreeState, files_of}
+use Rattle.base_core.specs.declared.tree.TreeFault.{TreeFault}
+use Rattle.base_core.specs.declared.tree.TreeFault.TheVariants as Trees
+use Rattle.change_inputs.specs.Answers.{AgreesUnlessDisk}
+use Rattle.change_inputs.specs.declared.refused.Refused.{Refused}
+use Rattle.change_inputs.specs.declared.refused.Refused.TheVariants.{Disk, Memory, Refusal as IsRefused}
+use Rattle.command_core.specs.Command.{CommandLine}
+use Rattle.command_core.specs.declared.command.Applet.{Applet}
+use Rattle.command_core.specs.declared.command.Applet.TheVariants.{Info}
+use Rattle.engine_core.specs.InfoTold.{info_told}
+use Rattle.installed_info.specs.declared.done.InfoDone.{InfoDone}
+use Rattle.make_info.specs.Reads.{Reads}
+use Rattle.make_package.specs.Runs.{Explains}
+use Rattle.report_core.specs.declared.refusal.Refusal.{Refusal}
+use Rattle.outcome.proofs.Applets.{info_is, told_commits, told_files}
+use Rattle.outcome.specs.Commands.{IsFoundOver, reads_in}
+use Rattle.outcome.specs.Effect.{Tells, effect_of, output_if}
+use Rattle.outcome.specs.Given.{IsChosenFor, IsClashBy, IsGiven, IsListingFor, MayBeGiven, MayBeListedFor, MayClash, nothing_given}
+use Rattle.outcome.specs.Outcome.{Outcome}
+use Rattle.outcome.specs.Telling.{info, told_outcome}
+use Rattle.apk_front.specs.Runs.{IfNothingWaits, IsRun}
+use Rattle.apk_front.specs.Told.{IsInfoToldAs}
+use Rattle.apk_front.specs.Verdicts.{Reports, ReportsOne}
+use Rattle.apk_front.specs.declared.answer.Verdict.{Verdict}
+use Rattle.apk_front.proofs.Carried.{Ones, RoomFor}
+use Rattle.apk_front.proofs.Runs.{History, Judged, Leaves, ok_always, run_idle}
+
+abbrev pub Answered : Type 0
+Answered = Result InfoDone Refused
+
+abbrev pub Wanted : Type 0
+Wanted = Result InfoDone Refusal
+
+abbrev pub IsToldBy : CommandLine → History → Answered → Type 0
+IsToldBy command old answer = Explains old (λ read. AgreesUnlessDisk (λ done. done) answer (info_told command read))
+
+-- ---- nothing is given
+
+tells_given : (applet : Applet) (command : CommandLine) (read : Reads) (files : Files) → effect_of applet ≡ Tells
+    → IsListingFor applet command files [] × IsChosenFor (effect_of applet) command read None × IsClashBy (effect_of applet) command read files None None
+tells_given Info command read files tells = (refl, refl, refl)
+tells_given other command read files tells = cc
+
+are_given : (command : CommandLine) (read : Reads) (files : Files) → effect_of command.applet ≡ Tells → IsGiven command read files nothing_given
+are_given command read files tells =
+    let (list, chosen, clash) = tells_given command.applet command read files tells in
+    record { names = list; chosen = chosen; clash = clash }
+
+tells_by_some : (applet : Applet) (command : CommandLine) (read : Reads) → effect_of applet ≡ Tells
+    → MayBeListedFor applet command [] × IsChosenFor (effect_of applet) command read None × MayClash (effect_of applet) None
+tells_by_some Info command read tells = (refl, refl, refl)
+tells_by_some other command read tells = cc
+
+may_be_given : (command : CommandLine) (read : Reads) → effect_of command.applet ≡ Tells → MayBeGiven command read nothing_given
+may_be_given command read tells =
+    let (list, chosen, clash) = tells_by_some command.applet command read tells in
+    record { names = list; chosen = chosen; clash = clash }
+
+-- ---- what was answered as wanted is reported so
+
+reports_wanted : (answer : Answered) (verdict : Verdict) (files : Files) (wanted : Wanted) → AgreesUnlessDisk (λ done. done) answer wanted → IsInfoToldAs answer (Ok verdict) → Reports verdict (told_outcome files wanted)
+reports_wanted (Ok done) verdict files wanted agrees told =
+    subst (λ (w : Wanted). Reports verdict (told_outcome files w)) (sym agrees) (ap (λ (o : Outcome). record o { commits = false }) (told files))
+reports_wanted (Err (IsRefused refusal)) verdict files wanted agrees told =
+    subst (λ (w : Wanted). Reports verdict (told_outcome files w)) (sym agrees) (ap (λ (o : Outcome). record o { commits = false }) (told files))
+reports_wanted (Err Disk) verdict files wanted agrees told = absurd (cc (told))
+reports_wanted (Err Memory) verdict files wanted agrees told = absurd (cc (told))
+
+same_reads : (v : TreeState) (rest : History) (P : Reads → Type 0) (e : Explains (v ∷ rest) P) → e.read ≡ reads_in (files_of v)
+same_reads v rest P e i n name = e.observed n name i
+
+module _ (command : CommandLine) (tells : effect_of command.applet ≡ Tells) where
+  pub info_found : (old : History) (answer : Answered) (judged : Judged) → IsInfoToldAs answer judged → IsToldBy command old answer → IfOk judged (λ verdict. IfNothingWaits old (λ v. ReportsOne (Ones command v) verdict))
+  info_found old answer (Err e) told by = tt
+  info_found [] answer (Ok verdict) told by = tt
+  info_found (v ∷ rest) answer (Ok verdict) told by = λ nothing. (
+    info (reads_in (files_of v)) (files_of v) command,
+    (nothing_given, are_given command (reads_in (files_of v)) (files_of v) tells, info_is command.applet command nothing_given (reads_in (files_of v)) (files_of v) tells),
+    reports_wanted answer verdict (files_of v) (info_told command (reads_in (files_of v)))
+        (subst (λ (read : Reads). AgreesUnlessDisk (λ done. done) answer (info_told command read)) (same_reads v rest (λ read. AgreesUnlessDisk (λ done. done) answer (info_told command read)) by) by.is) told,
+  )
+
+  pub info_read : (old : History) (answer : Answered) (judged : Judged) → IsInfoToldAs answer judged → IsToldBy command old answer → IfOk judged (ReportsOne (IsFoundOver command))
+  info_read old answer (Err e) told by = tt
+  info_read old answer (Ok verdict) told by = (
+    info by.read no_names command,
+    (nothing_given, by.read, no_names, may_be_given command by.read tells, inl (info_is command.applet command nothing_given by.read no_names tells)),
+    reports_wanted answer verdict no_names (info_told command by.read) by.is told,
+  )
+
+  -- ---- nothing is written
+
+  leaves : (v : TreeState) (o : Outcome) → Ones command v o → Leaves (files_of v) o
+  leaves v o (given, are, is) =
+      let files : Files = files_of v in
+      subst (Leaves files) (info_is command.applet command given (reads_in files) files tells ∙ sym is)
+      (told_files files (info_told command (reads_in files)), told_commits files (info_told command (reads_in files)))
+
+  pub info_run : (old now : History) (judged : Judged) → now ≡ old → IfNothingWaits old (λ v. IsRun (Ones command v) (effect_of command.applet) (output_if (effect_of command.applet) command) judged v old now)
+  info_run [] now judged same = tt
+  info_run (v ∷ rest) now judged same = λ nothing.
+      run_idle (Ones command v) (effect_of command.applet) (output_if (effect_of command.applet) command) judged v rest now same
+      (λ o one. ok_always (Leaves (files_of v) o) judged (leaves v o one))
+
+  pub info_proper : (old : History) (P : Type 0) → IfObservable old (λ v. P) → IfNothingWaits old (λ v. RoomFor (Ones command v) (effect_of command.applet) (output_if (effect_of command.applet) command) (files_of v) → P)
+  info_proper [] P p = tt
+  info_proper (v ∷ rest) P p = λ nothing room. p
+
+-- ---- the counts
+
+-- an error that is judged is that of the engine
+told_error : (answer : Answered) (e : TreeFault) → IsInfoToldAs answer (Err e) → ((e ≡ Trees.Disk) × (answer ≡ Err Disk)) ⊎ ((e ≡ Trees.Memory) × (answer ≡ Err Memory))
+told_error (Ok done) e told = absurd told
+told_error (Err (IsRefused refusal)) e told = absurd told
+told_error (Err Disk) e told = inl (cc (told), refl)
+told_error (Err Memory) e told = inr (cc (told), refl)
+
+pub info_disk : (answer : Answered) (judged : Judged) (old now : History) (a b : Counts) → IsInfoToldAs answer judged → OnlyReads Disk old now a b answer → IsErrOf judged Trees.Disk → HasCause a b
+info_disk answer (Ok verdict) old now a b told tree none = absurd (cc (none))
+info_disk answer (Err e) old now a b told tree none =
+    let e_is : e ≡ Trees.Disk = cc in
+    elim (told_error answer e told) as (λ _. HasCause a b) [ inl disk ↦ tree.disk disk.1 | inr memory ↦ absurd (let same : Trees.Memory ≡ Trees.Disk = sym memory.0 ∙ e_is in cc) ]
+
+pub info_kept : (answer : Answered) (judged : Judged) (old now : History) (a b : Counts) → IsInfoToldAs answer judged → OnlyReads Disk old now a b answer → OnOk judged (IsNoFault a b)
+info_kept answer (Err e) old now a b told tree = tt
+info_kept (Ok done) (Ok verdict) old now a b told tree = tree.kept
+info_kept (Err (IsRefused refusal)) (Ok verdict) old now a b told tree = tree.others (λ is. cc (is))
+info_kept (Err Disk) (Ok verdict) old now a b told tree = absurd (cc (told))
+info_kept (Err Memory) (Ok verdict) old now a b told tree = absurd (cc (told))
+
+pub info_memory : (answer : Answered) (judged : Judged) (old now : History) (a b : Counts) → IsInfoToldAs answer judged → OnlyReads Disk old now a b answer → IsErrOf judged Trees.Memory → IsNoFault a b
+info_memory answer (Ok verdict) old now a b told tree none = absurd (cc (none))
+info_memory answer (Err e) old now a b told tree none =
+    let e_is : e ≡ Trees.Memory = cc in
+    elim (told_error answer e told) as (λ _. IsNoFault a b) [
+      | inl disk ↦ absurd (let same : Trees.Disk ≡ Trees.Memory = sym disk.0 ∙ e_is in cc)
+      | inr memory ↦ not_disk answer memory.1 tree
+    ]
+  where
+    not_disk : (answer : Answered) → answer ≡ Err Memory → OnlyReads Disk old now a b answer → IsNoFault a b
+    not_disk answer is tree = (subst (λ (r : Answered). OnlyReads Disk old now a b r) is tree).others (λ same. cc (same))

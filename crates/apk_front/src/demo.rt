@@ -1,0 +1,174 @@
+//! `demo`: so many small packages are made, indexed and installed, in a tree of their own.
+//!
+//! Each command line is run by the function that runs it on every other tree, too.
+ghost use Rattle.std.specs.Prelude.{◌≡◌, IfOk, IsTrue, MatchResult, OnOk, Some};
+ghost use Rattle.apk_front.specs.DemoRuns.{IsRunTo};
+ghost use Rattle.apk_front.specs.Verdicts.{Reports, as_outcome};
+ghost use Rattle.base_core.specs.Files.{Files, no_names, put_name};
+ghost use Rattle.base_core.specs.Tree.{files_of};
+ghost use Rattle.command_core.specs.Operands.{exactly};
+ghost use Rattle.command_core.specs.Sound.{are_operands};
+ghost use Rattle.command_core.specs.declared.operands.OperandKind.TheVariants.{Number};
+ghost use Rattle.demo_lines.specs.Count.{demo_count};
+ghost use Rattle.demo_lines.specs.Lines.{mkpkg_words};
+ghost use Rattle.demo_lines.specs.Report.{demo_line};
+ghost use Rattle.outcome.specs.Commands.{IsOutcomeOf};
+ghost use Rattle.outcome.specs.Demo.{AreInstalled, ArePackaged, IsDemoOutcome, IsRunBehind, with_demo_file};
+ghost use Rattle.outcome.specs.Outcome.{Outcome, report_unless};
+ghost use Rattle.tree_memory.specs.Memory.{tree_state};
+ghost use Rattle.words_core.specs.Grammar.{command_of};
+
+use crate::answer::Verdict;
+use crate::judge::run;
+use base_core::{Name, Text, TreeFault, Words};
+use command_core::Operands;
+use demo_lines::{
+    add_words, demo_count, demo_file, demo_line, demo_repositories, demo_text, mkndx_words,
+    mkpkg_words,
+};
+use report_core::Refusal;
+use std::alloc::{AllocError, Global};
+use tree_memory::MemoryTree;
+use words_core::{WordsFault, read_words};
+
+/// Where the repositories are named.
+const REPOSITORIES: &[u8] = b"etc/apk/repositories";
+
+/// Makes, indexes and installs so many packages as the operand says, and tells the last line of
+/// that. Whatever fails, it is for want of memory.
+pub(crate) fn demo(alloc: Global, operands: &Operands) -> Result<Verdict, TreeFault>
+    requires { IsTrue (are_operands (Some (exactly 1 Number)) operands.now) }
+    ensures { MatchResult result
+        (λ verdict. (files : Files)
+        → IsDemoOutcome (demo_count operands.now) files (as_outcome files verdict))
+        (λ fault. fault ≡ TreeFault.Memory) }
+{
+    let count = demo_count(operands);
+    let mut tree = MemoryTree::new(alloc);
+    match install(alloc, count, &mut tree) {
+        Ok(verdict) => told(alloc, count, verdict),
+        Err(_) => Err(TreeFault::Memory),
+    }
+}
+
+// What is told of the last run.
+fn told(alloc: Global, count: u16, last: Verdict) -> Result<Verdict, TreeFault>
+    ensures { MatchResult result
+        (λ verdict. (files : Files) → as_outcome files verdict
+        ≡ report_unless files last.refusal (demo_line count last.report))
+        (λ fault. fault ≡ TreeFault.Memory) }
+{
+    let line = demo_line(alloc, count, last.report.as_bytes())?;
+    Ok(unless_refused(alloc, last.refusal, line))
+}
+
+// A refusal, if there is one, and a report otherwise.
+fn unless_refused(alloc: Global, refusal: Option<Refusal>, report: Text) -> Verdict
+    ensures { (files : Files) → as_outcome files result ≡ report_unless files refusal report }
+{
+    match refusal {
+        Some(refusal) => Verdict::refused(alloc, refusal),
+        None => Verdict::reported(report),
+    }
+}
+
+// The packages are made, indexed and installed.
+fn install(alloc: Global, n: u16, tree: &mut MemoryTree) -> Result<Verdict, TreeFault>
+    requires { files_of (tree_state tree.old) ≡ no_names }
+    ensures { IfOk result (λ verdict. IsRunTo (AreInstalled n) verdict tree.new) }
+{
+    let packaged = package_all(alloc, n, tree)?;
+    let words = mkndx_words(alloc, n)?;
+    let indexed = run_behind(alloc, packaged, &words, tree)?;
+    let words = add_words(alloc, n)?;
+    run_behind(alloc, indexed, &words, tree)
+}
+
+// The packages 1 to n are made.
+fn package_all(alloc: Global, n: u16, tree: &mut MemoryTree) -> Result<Verdict, TreeFault>
+    requires { files_of (tree_state tree.old) ≡ no_names }
+    ensures { IfOk result (λ verdict. IsRunTo (ArePackaged n) verdict tree.new) }
+{
+    put(alloc, REPOSITORIES, demo_repositories(), tree)?;
+    let mut last = Verdict::empty(alloc);
+    for i in 0..n {
+        last = package_behind(alloc, last, i + 1, tree)?;
+    }
+    Ok(last)
+}
+
+// Package i is made, unless the last run was refused.
+fn package_behind(
+    alloc: Global,
+    last: Verdict,
+    i: u16,
+    tree: &mut MemoryTree,
+) -> Result<Verdict, TreeFault>
+    ensures { IfOk result (λ verdict. (before : Outcome) → Reports last before
+        → files_of (tree_state tree.old) ≡ before.files
+        → IsRunTo (IsRunBehind (mkpkg_words i) (with_demo_file i before.files) before)
+        verdict tree.new) }
+{
+    if last.refusal.is_some() {
+        return Ok(last);
+    }
+    package(alloc, i, tree)
+}
+
+// Package i is made, of a file that is put there.
+fn package(alloc: Global, i: u16, tree: &mut MemoryTree) -> Result<Verdict, TreeFault>
+    ensures { IfOk result (λ verdict. IsRunTo (IsOutcomeOf (command_of (mkpkg_words i))
+        (with_demo_file i (files_of (tree_state tree.old)))) verdict tree.new) }
+{
+    let name = demo_file(alloc, i)?;
+    let text = demo_text(alloc, i)?;
+    put(alloc, &name, &text, tree)?;
+    let words = mkpkg_words(alloc, i)?;
+    run_words(alloc, &words, tree)
+}
+
+// Words are run, unless the last run was refused.
+fn run_behind(
+    alloc: Global,
+    last: Verdict,
+    words: &Words,
+    tree: &mut MemoryTree,
+) -> Result<Verdict, TreeFault>
+    ensures { IfOk result (λ verdict. (before : Outcome) → Reports last before
+        → files_of (tree_state tree.old) ≡ before.files
+        → IsRunTo (IsRunBehind words.now before.files before) verdict tree.new) }
+{
+    if last.refusal.is_some() {
+        return Ok(last);
+    }
+    run_words(alloc, words, tree)
+}
+
+// Words are run.
+fn run_words(alloc: Global, words: &Words, tree: &mut MemoryTree) -> Result<Verdict, TreeFault>
+    ensures { IfOk result (λ verdict. IsRunTo
+        (IsOutcomeOf (command_of words.now) (files_of (tree_state tree.old)))
+        verdict tree.new) }
+{
+    match read_words(alloc, words) {
+        Ok(command) => run(alloc, &command, tree),
+        Err(WordsFault::Usage { place }) => {
+            Ok(Verdict::refused(alloc, Refusal::Usage { place }))
+        }
+        Err(WordsFault::Memory) => Err(TreeFault::Memory),
+    }
+}
+
+// A file is put under a name.
+fn put(alloc: Global, name: &[u8], bytes: &[u8], tree: &mut MemoryTree) -> Result<(), AllocError>
+    ensures { OnOk result (files_of (tree_state tree.new)
+        ≡ put_name (files_of (tree_state tree.old)) name.now bytes.now) }
+{
+    let Some(name) = Name::read(alloc, name)? else {
+        return Err(AllocError);
+    };
+    if !tree.can_put(&name) {
+        return Err(AllocError);
+    }
+    tree.put(&name, bytes)
+}

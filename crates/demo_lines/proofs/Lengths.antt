@@ -1,0 +1,54 @@
+-- How many words there are.
+use Rattle.std.proofs.Common.{◌≡◌, ℕ, zero, suc, ◌+◌, ◌<◌, ◌≤◌, ◌*◌, ◌^◌, Bool, true, false, List, [], ◌∷◌, ◌++◌, length, refl, sym, ap, subst, ◌∙◌, append_assoc, arith}
+use Rattle.std.specs.Prelude.{if◌then◌else◌, nat_lt}
+use Rattle.std.proofs.lemmas.List.{length-append}
+use Rattle.demo_lines.specs.Lines.{demo_name, demo_package, demo_packages, top_name, top_names}
+
+pub packages_length : (n : ℕ) → length (demo_packages n) ≡ n
+packages_length zero = refl
+packages_length (suc i) =
+    let split : length (demo_packages i ++ (demo_package (suc i) ∷ [])) ≡ length (demo_packages i) + 1 = length-append (demo_packages i) (demo_package (suc i) ∷ []) in
+    let before = packages_length i in
+    omega (arith, split, before)
+
+if_length : (b : Bool) (x : List ℕ) → length (if b then x ∷ [] else []) ≤ 1
+if_length true x = omega arith
+if_length false x = omega arith
+
+pub names_length : (n i : ℕ) → length (top_names n i) ≤ i
+names_length n zero = omega arith
+names_length n (suc i) =
+    let split : length (top_names n i ++ top_name n (suc i)) ≡ length (top_names n i) + length (top_name n (suc i)) = length-append (top_names n i) (top_name n (suc i)) in
+    let before = names_length n i in
+    let one : length (top_name n (suc i)) ≤ 1 = if_length (nat_lt n (2 * suc i)) (demo_name (suc i)) in
+    omega (arith, split, before, one)
+
+-- words behind a few others are not too many
+pub few_packages : (words before : List (List ℕ)) (i n : ℕ) → words ≡ before ++ demo_packages i → length before < 16 → i < n → n < 2 ^ 16 → length words < 100000
+few_packages words before i n is few below small =
+    let whole = ap length is in
+    let split = length-append before (demo_packages i) in
+    let count = packages_length i in
+    omega (arith, whole, split, count)
+
+pub few_names : (words before : List (List ℕ)) (m i n : ℕ) → words ≡ before ++ top_names m i → length before < 16 → i < n → n < 2 ^ 16 → length words < 100000
+few_names words before m i n is few below small =
+    let whole = ap length is in
+    let split = length-append before (top_names m i) in
+    let count = names_length m i in
+    omega (arith, whole, split, count)
+
+-- ---- one more
+
+pub pushed : (new old : List (List ℕ)) (x y : List ℕ) → new ≡ old ++ (x ∷ []) → x ≡ y → new ≡ old ++ (y ∷ [])
+pushed new old x y is same = is ∙ ap (λ z. old ++ (z ∷ [])) same
+
+pub plus_one : (i : ℕ) → i + 1 ≡ suc i
+plus_one i = omega arith
+
+more_at : (words before next : List (List ℕ)) (i : ℕ) → words ≡ before ++ demo_packages i → next ≡ words ++ (demo_package (suc i) ∷ []) → next ≡ before ++ demo_packages (suc i)
+more_at words before next i is more = more ∙ (ap (λ w. w ++ (demo_package (suc i) ∷ [])) is ∙ append_assoc before (demo_packages i) (demo_package (suc i) ∷ []))
+
+pub more_packages : (words before next : List (List ℕ)) (i : ℕ) → words ≡ before ++ demo_packages i → next ≡ words ++ (demo_package (i + 1) ∷ []) → next ≡ before ++ demo_packages (i + 1)
+more_packages words before next i is =
+    subst (λ k. next ≡ words ++ (demo_package k ∷ []) → next ≡ before ++ demo_packages k) (sym (plus_one i)) (more_at words before next i is)

@@ -1,0 +1,4 @@
+-- what the contract of `apk` says
+pub mod Count
+pub mod Lines
+pub mod Report

@@ -1,0 +1,16 @@
+-- What `demo` prints.
+use Rattle.std.specs.Prelude.{ℕ, Bool, ◌-◌, ◌==◌, List, ◌++◌, length, take, codes}
+use Rattle.std.specs.Fmt.{decimal}
+use Rattle.std.specs.List.{after_last}
+
+abbrev pub is_line_end : ℕ → Bool
+is_line_end byte = byte == 10
+
+-- the last line of a report, without its line end
+abbrev pub last_line : List ℕ → List ℕ
+last_line report = after_last is_line_end (take (length report - 1) report)
+
+-- how many packages it made, and the last line of the report of their installation
+abbrev pub demo_line : ℕ → List ℕ → List ℕ
+demo_line n report =
+    codes "demo " ++ decimal n ++ codes ": " ++ last_line report ++ codes "\n"

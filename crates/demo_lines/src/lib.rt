@@ -1,0 +1,15 @@
+//! How many packages `demo` makes, what it runs, and what it prints.
+//!
+//! `Count` of `specs/` says how an operand is read, `Lines` which command lines make, index and
+//! install so many small packages, and `Report` how their installation is told.
+#![tactic(auto)]
+
+mod count;
+mod lines;
+mod report;
+mod texts;
+
+pub use count::demo_count;
+pub use lines::{add_words, mkndx_words, mkpkg_words};
+pub use report::demo_line;
+pub use texts::{demo_file, demo_repositories, demo_text};

@@ -1,0 +1,14 @@
+-- What `info` comes to, by what reads find.
+use Rattle.std.specs.Prelude.{Result}
+use Rattle.change_inputs.specs.Chains.{and_then}
+use Rattle.change_inputs.specs.Inputs.{database_for}
+use Rattle.command_core.specs.Command.{CommandLine}
+use Rattle.installed_info.specs.Info.{info_of}
+use Rattle.installed_info.specs.declared.done.InfoDone.{InfoDone}
+use Rattle.make_info.specs.Reads.{Reads}
+use Rattle.report_core.specs.declared.refusal.Refusal.{Refusal}
+
+-- what is told of the packages of the database, which alone is read
+abbrev pub info_told : CommandLine → Reads → Result InfoDone Refusal
+info_told command read =
+    and_then (database_for command read) (λ database. info_of command database.packages)

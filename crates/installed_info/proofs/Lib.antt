@@ -1,0 +1,7 @@
+mod Found
+mod LineSteps
+mod Listers
+mod NoName
+mod OperandSteps
+mod Refusing
+mod Worked

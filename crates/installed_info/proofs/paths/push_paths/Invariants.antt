@@ -1,0 +1,13 @@
+-- What is left of the folders is still to be added.
+use Rattle.std.proofs.Common.{◌≡◌, ◌++◌, drop}
+use Rattle.std.specs.List.{flat_map}
+use Rattle.adb_fields.specs.ListValue.{list_value}
+use Rattle.adb_fields.specs.Repeated.{list_of, paths_under}
+use Rattle.adb_tables.specs.Values.{entries_in}
+use Rattle.report_core.specs.Reports.{report_lines}
+use Rattle.installed_info.proofs.paths.push_paths.Given as goal
+
+abbrev pub invariant-loop-i : goal.invariant-loop-i
+invariant-loop-i l =
+    l.report.items ++ report_lines (flat_map paths_under (drop l.i (list_of (entries_in (list_value l.folders)))))
+    ≡ l.fn.report.items ++ report_lines (flat_map paths_under (list_of (entries_in (list_value l.folders))))

@@ -1,0 +1,100 @@
+-- What `info` tells of the packages that are installed (apk(8)).
+use Rattle.std.specs.Prelude.{ℕ, List, [], ◌∷◌, map, Option, Some, None, is_some, Result, Ok, Err, if◌then◌else◌}
+use Rattle.std.specs.List.{flat_map}
+use Rattle.std.specs.Option.{option_map_or}
+use Rattle.adb_fields.specs.Repeated.{package_name, paths_in}
+use Rattle.adb_tables.specs.Values.{entry_in, text_in}
+use Rattle.adb_view.specs.Plain.{Plain}
+use Rattle.command_core.specs.Command.{CommandLine}
+use Rattle.command_core.specs.declared.operands.Operand.{Operand}
+use Rattle.dep_core.specs.DependencyText.{dep_text}
+use Rattle.dep_core.specs.LeadingSlash.{without_slash}
+use Rattle.file_owners.specs.Replaces.{version_text}
+use Rattle.list_order.specs.ByteOrder.{bytes_cmp}
+use Rattle.list_order.specs.Sorted.{sorted_by}
+use Rattle.pool_core.specs.Candidates.{dependencies_in}
+use Rattle.report_core.specs.Reports.{contents_section, depends_section, description_section, owner_text, report_line, report_lines}
+use Rattle.report_core.specs.declared.refusal.Refusal.{Refusal}
+use Rattle.report_core.specs.declared.refusal.Refusal.TheVariants.{NotInstalled}
+use Rattle.installed_info.specs.Form.{form_of}
+use Rattle.installed_info.specs.Packages.{package_asked}
+use Rattle.installed_info.specs.declared.done.InfoDone.{InfoDone}
+use Rattle.installed_info.specs.declared.form.Form.{Form}
+use Rattle.installed_info.specs.declared.form.Form.TheVariants.{Contents, Depends, Description, Installed, Owner}
+
+-- ---- of one package
+
+-- what it is; a package that does not say so has an empty line there
+abbrev pub description_text : Plain → List ℕ
+description_text pkg =
+    description_section (package_name pkg) (version_text pkg) (text_in (entry_in (entry_in pkg 0) 3))
+
+-- the paths that it lists, folder by folder
+abbrev pub contents_text : Plain → List ℕ
+contents_text pkg = contents_section (package_name pkg) (version_text pkg) (paths_in pkg)
+
+-- what it depends on
+abbrev pub depends_text : Plain → List ℕ
+depends_text pkg =
+    depends_section (package_name pkg) (version_text pkg)
+    (map dep_text (dependencies_in (entry_in (entry_in pkg 0) 14)))
+
+-- that it owns a path
+abbrev pub owner_line : List ℕ → Plain → List ℕ
+owner_line path pkg = report_line (owner_text path (package_name pkg) (version_text pkg))
+
+-- what is told of the package that an operand asks for
+abbrev pub package_info : Form → List ℕ → Plain → List ℕ
+package_info Description name pkg = description_text pkg
+package_info Contents name pkg = contents_text pkg
+package_info Depends name pkg = depends_text pkg
+package_info Installed name pkg = report_line name
+package_info Owner path pkg = owner_line (without_slash path) pkg
+
+-- ---- of operands
+
+-- nothing where it asks for a package that is not installed
+abbrev pub operand_info : Form → List Plain → Operand → List ℕ
+operand_info form packages o =
+    option_map_or (package_info form o.text) (package_asked form packages o.text) []
+
+-- in the order given
+abbrev pub operands_info : Form → List Plain → List Operand → List ℕ
+operands_info form packages operands = flat_map (operand_info form packages) operands
+
+-- the first operand that asks for a package that is not installed, if there is one
+abbrev pub info_refusal : Form → List Plain → List Operand → Option Refusal
+info_refusal form packages [] = None
+info_refusal form packages (o ∷ operands) =
+    if is_some (package_asked form packages o.text) then info_refusal form packages operands else
+    Some (NotInstalled o.place)
+
+-- ---- of a database
+
+-- the names of all packages, in byte order
+abbrev pub names_info : List Plain → List ℕ
+names_info packages = report_lines (sorted_by bytes_cmp (map package_name packages))
+
+-- ---- what is told
+
+-- a report, and a refusal behind it, if there is one
+abbrev pub info_done : List ℕ → Option Refusal → InfoDone
+info_done report late = record { report = report; late = late }
+
+-- a report, unless there is a refusal
+abbrev pub info_unless : Option Refusal → List ℕ → Result InfoDone Refusal
+info_unless None report = Ok (info_done report None)
+info_unless (Some refusal) report = Err refusal
+
+-- `-e` tells which packages are installed, and is refused behind that
+abbrev pub form_info : Form → List Plain → List Operand → Result InfoDone Refusal
+form_info Installed packages operands =
+    Ok (info_done (operands_info Installed packages operands)
+    (info_refusal Installed packages operands))
+form_info Description packages [] = Ok (info_done (names_info packages) None)
+form_info form packages operands =
+    info_unless (info_refusal form packages operands) (operands_info form packages operands)
+
+-- what a command tells of some packages, or why it is refused
+unfoldable pub info_of : CommandLine → List Plain → Result InfoDone Refusal
+info_of command packages = form_info (form_of command.flags) packages command.operands

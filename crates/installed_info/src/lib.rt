@@ -1,0 +1,25 @@
+//! What `info` tells of the packages that are installed (apk(8)): their names, what they are, what
+//! they list, what they depend on, which of some are installed, and which one owns a path.
+//!
+//! The contract of `tell` cites `Info` of `specs/` (what is told, in each form) and with it `Form`
+//! (which form a command asks for) and `Packages` (which package an operand asks for).
+#![tactic(auto)]
+
+mod asked;
+mod dependencies;
+mod done;
+mod form;
+mod laws;
+mod lines;
+mod names;
+mod operands;
+mod package;
+mod paths;
+mod telling;
+
+pub use done::InfoDone;
+pub use laws::{
+    info_refuses_an_operand, owners_are_those_that_list_a_path,
+    packages_have_the_names_that_ask_for_them,
+};
+pub use telling::tell;

@@ -1,0 +1,75 @@
+//! The names of all packages.
+ghost use Rattle.adb_fields.specs.Repeated.{package_name};
+ghost use Rattle.adb_view.specs.Plain.{Plain};
+ghost use Rattle.db_core.specs.Seen.{packages_of};
+ghost use Rattle.installed_info.specs.Info.{info_done, names_info};
+ghost use Rattle.list_order.specs.ByteOrder.{bytes_cmp};
+ghost use Rattle.list_order.specs.Sorted.{sorted_by};
+ghost use Rattle.report_core.specs.Reports.{report_lines};
+ghost use Rattle.std.specs.Prelude.{◌≡◌, ◌<◌, ◌++◌, None, Some, length, map, slice_get, IfOk, OnOk};
+
+use crate::done::InfoDone;
+use crate::lines::push_line;
+use adb_schema::PackageView;
+use base_core::Text;
+use db_core::Db;
+use std::alloc::{AllocError, Global};
+use std::marker::PhantomData;
+
+/// A line for each package, in byte order of their names.
+pub(crate) fn tell_names(alloc: Global, db: &Db<'_>) -> Result<InfoDone, AllocError>
+    ensures { IfOk result (λ done. done ≡ info_done (names_info (packages_of db.now)) None) }
+{
+    let mut names = names_of(alloc, db)?;
+    sort_names(&mut names)?;
+    let mut report = Vec::new(alloc);
+    push_lines(&mut report, &names)?;
+    Ok(InfoDone {
+        report: Text::from_vec(report),
+        late: None,
+    })
+}
+
+// The names of the packages, in the order of these.
+fn names_of<'a>(alloc: Global, db: &Db<'a>) -> Result<Vec<&'a [u8]>, AllocError>
+    ensures { IfOk result (λ names. map (λ n. n.now) names.items
+        ≡ map package_name (packages_of db.now)) }
+{
+    let mut names = Vec::with_capacity(alloc, db.len())?;
+    for i in 0..db.len() {
+        names.push(name_at(db, i, PhantomData))?;
+    }
+    Ok(names)
+}
+
+// The name of the package at a place, counted from 0. The mark serves the borrow checker alone,
+// which does not know the parts of a view that is made and lent here unless the signature names the
+// view as an argument.
+fn name_at<'a>(db: &Db<'a>, i: usize, _mark: PhantomData<PackageView<'a>>) -> &'a [u8]
+    requires { i < length (packages_of db.now) }
+    ensures { (pkg : Plain) → slice_get (packages_of db.now) i ≡ Some pkg
+        → result.now ≡ package_name pkg }
+{
+    let pkg = db.package(i);
+    pkg.info().name()
+}
+
+// Puts names into byte order. Names that are in order are only looked at.
+fn sort_names(names: &mut Vec<&[u8]>) -> Result<(), AllocError>
+    ensures { IfOk result (λ _. map (λ n. n.now) names.new.items
+        ≡ sorted_by bytes_cmp (map (λ n. n.now) names.old.items)) }
+{
+    names.sort_by(|one, other| one.cmp(other))?;
+    Ok(())
+}
+
+// Adds a line for each name.
+fn push_lines(report: &mut Vec<u8>, names: &[&[u8]]) -> Result<(), AllocError>
+    ensures { OnOk result (report.new.items
+        ≡ report.old.items ++ report_lines (map (λ n. n.now) names.now)) }
+{
+    for i in 0..names.len() {
+        push_line(report, names[i])?;
+    }
+    Ok(())
+}

@@ -1,0 +1,103 @@
+//! What is told of the packages that operands ask for.
+ghost use Rattle.db_core.specs.Seen.{packages_of};
+ghost use Rattle.installed_info.specs.Info.{info_done, info_refusal, info_unless, operands_info, package_info};
+ghost use Rattle.installed_info.specs.Packages.{package_asked};
+ghost use Rattle.report_core.specs.declared.refusal.Refusal.TheVariants.{NotInstalled};
+ghost use Rattle.std.specs.Option.{option_map_or, option_or};
+ghost use Rattle.std.specs.Prelude.{◌≡◌, ◌++◌, [], None, Some, if◌then◌else◌, is_some, IfOk};
+
+use crate::asked::place_asked;
+use crate::done::InfoDone;
+use crate::form::Form;
+use crate::package::push_package;
+use base_core::Text;
+use command_core::Operands;
+use db_core::Db;
+use report_core::Refusal;
+use std::alloc::{AllocError, Global};
+use std::marker::PhantomData;
+
+/// What a form tells of each, unless the package of one is not installed.
+pub(crate) fn tell_operands(
+    alloc: Global,
+    form: Form,
+    operands: &Operands,
+    db: &Db<'_>,
+) -> Result<Result<InfoDone, Refusal>, AllocError>
+    ensures { IfOk result (λ told. told ≡ info_unless
+        (info_refusal form (packages_of db.now) operands.now)
+        (operands_info form (packages_of db.now) operands.now)) }
+{
+    let mut report = Vec::new(alloc);
+    for i in 0..operands.len() {
+        let operand = operands.get(i);
+        if !push_operand(alloc, &mut report, form, db, operand.text.as_bytes())? {
+            return Ok(Err(Refusal::NotInstalled {
+                place: operand.place,
+            }));
+        }
+    }
+    Ok(Ok(InfoDone {
+        report: Text::from_vec(report),
+        late: None,
+    }))
+}
+
+/// What a form tells of those whose packages are installed; the first of the others is refused
+/// behind that.
+pub(crate) fn tell_installed(
+    alloc: Global,
+    form: Form,
+    operands: &Operands,
+    db: &Db<'_>,
+) -> Result<InfoDone, AllocError>
+    ensures { IfOk result (λ done. done ≡ info_done
+        (operands_info form (packages_of db.now) operands.now)
+        (info_refusal form (packages_of db.now) operands.now)) }
+{
+    let mut report = Vec::new(alloc);
+    let mut late = None;
+    for i in 0..operands.len() {
+        let operand = operands.get(i);
+        let is_told = push_operand(alloc, &mut report, form, db, operand.text.as_bytes())?;
+        late = refusal_after(late, is_told, operand.place);
+    }
+    Ok(InfoDone {
+        report: Text::from_vec(report),
+        late,
+    })
+}
+
+// The refusal so far, or that of an operand of which nothing is told.
+fn refusal_after(late: Option<Refusal>, is_told: bool, place: u32) -> Option<Refusal>
+    ensures { result ≡ option_or late (if is_told then None else Some (NotInstalled place)) }
+{
+    if is_told || late.is_some() {
+        return late;
+    }
+    Some(Refusal::NotInstalled { place })
+}
+
+// Adds what a form tells of the package that an operand asks for, and answers whether it is
+// installed.
+fn push_operand(
+    alloc: Global,
+    report: &mut Vec<u8>,
+    form: Form,
+    db: &Db<'_>,
+    text: &[u8],
+) -> Result<bool, AllocError>
+    ensures found { IfOk result
+        (λ found. found ≡ is_some (package_asked form (packages_of db.now) text.now)) }
+    ensures told { IfOk result (λ _. report.new.items ≡ report.old.items
+        ++ option_map_or (package_info form text.now)
+        (package_asked form (packages_of db.now) text.now) []) }
+{
+    match place_asked(alloc, form, db, text)? {
+        Some(place) => {
+            push_package(alloc, report, form, db, place, text, PhantomData)?;
+            Ok(true)
+        }
+        None => Ok(false),
+    }
+}

@@ -1,0 +1,71 @@
+//! The paths that a package lists, a line each.
+ghost use Rattle.adb_fields.specs.ListValue.{list_value};
+ghost use Rattle.adb_fields.specs.Paths.{path_of};
+ghost use Rattle.adb_fields.specs.Repeated.{list_of, name_of, paths_under};
+ghost use Rattle.adb_tables.specs.Values.{count_of, entries_in, entry_in};
+ghost use Rattle.report_core.specs.Reports.{report_line, report_lines};
+ghost use Rattle.std.specs.List.{flat_map};
+ghost use Rattle.std.specs.Prelude.{◌≡◌, ◌<◌, ◌++◌, map, OnOk};
+
+use crate::lines::push_line;
+use adb_schema::{DirInfo, FileInfo, List};
+use std::alloc::AllocError;
+
+/// Adds the paths of the files of folders.
+pub(crate) fn push_paths<'a>(
+    report: &mut Vec<u8>,
+    folders: &List<'a, DirInfo<'a>>,
+) -> Result<(), AllocError>
+    ensures { OnOk result (report.new.items ≡ report.old.items
+        ++ report_lines (flat_map paths_under (list_of (entries_in (list_value folders.now))))) }
+{
+    for i in 0..folders.len() {
+        push_folder(report, folders, i)?;
+    }
+    Ok(())
+}
+
+// Adds the paths of the files of the folder at a place, counted from 0.
+fn push_folder<'a>(
+    report: &mut Vec<u8>,
+    folders: &List<'a, DirInfo<'a>>,
+    i: usize,
+) -> Result<(), AllocError>
+    requires { i < count_of (entries_in (list_value folders.now)) }
+    ensures { OnOk result (report.new.items ≡ report.old.items
+        ++ report_lines (paths_under (entry_in (list_value folders.now) i))) }
+{
+    if i >= folders.len() {
+        unreachable!();
+    }
+    let folder = folders.get(i + 1);
+    push_files(report, folder.name(), &folder.files())
+}
+
+// Adds the paths of the files of a folder.
+fn push_files<'a>(
+    report: &mut Vec<u8>,
+    folder: &[u8],
+    files: &List<'a, FileInfo<'a>>,
+) -> Result<(), AllocError>
+    ensures { OnOk result (report.new.items ≡ report.old.items ++ report_lines
+        (map (λ file. path_of folder.now (name_of file))
+        (list_of (entries_in (list_value files.now))))) }
+{
+    for i in 0..files.len() {
+        push_path(report, folder, files.get(i + 1).name())?;
+    }
+    Ok(())
+}
+
+// Adds the path of a file of a folder.
+fn push_path(report: &mut Vec<u8>, folder: &[u8], name: &[u8]) -> Result<(), AllocError>
+    ensures { OnOk result (report.new.items
+        ≡ report.old.items ++ report_line (path_of folder.now name.now)) }
+{
+    if !folder.is_empty() {
+        report.extend_from_slice(folder)?;
+        report.push(b'/')?;
+    }
+    push_line(report, name)
+}

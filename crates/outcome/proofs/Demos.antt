@@ -1,0 +1,208 @@
+-- The outcome of `demo`: there is one, and no second one.
+use Rattle.std.proofs.Common.{◌≡◌, ◌||◌, ℕ, zero, suc, Bool, true, false, List, [], ◌∷◌, codes, length, Option, Some, None, IsSome, Result, Ok, Err, refl, sym, ap, subst, ◌∙◌}
+use Rattle.std.specs.Prelude.{if◌then◌else◌}
+use Rattle.std.specs.List.{list_any}
+use Rattle.std.specs.Str.{bytes_eq}
+use Rattle.adb_rules.specs.Reserved.{is_reserved}
+use Rattle.base_core.specs.Files.{Files, IsWithin, drop_name, no_names, put_name}
+use Rattle.base_core.specs.declared.cause.Cause.{Cause}
+use Rattle.command_core.specs.Command.{CommandLine}
+use Rattle.command_core.specs.declared.command.Applet.{Applet}
+use Rattle.command_core.specs.declared.command.Applet.TheVariants.{Mkndx, Mkpkg}
+use Rattle.demo_lines.specs.Lines.{add_words, demo_file, demo_repositories, demo_text, mkndx_words, mkpkg_words}
+use Rattle.demo_lines.specs.Report.{demo_line}
+use Rattle.journal_core.specs.Replacing.{scratch_of}
+use Rattle.make_index.specs.Index.{made_index}
+use Rattle.make_info.specs.Output.{output_name}
+use Rattle.make_info.specs.declared.fault.MakeFault.{MakeFault}
+use Rattle.make_info.specs.declared.fault.MakeFault.TheVariants.{FileMissing, FileBad, InfoBad, TooLarge, Disk, Memory}
+use Rattle.make_package.specs.Making.{made_package}
+use Rattle.report_core.specs.declared.refusal.Refusal.{Refusal}
+use Rattle.report_core.specs.declared.refusal.Refusal.TheVariants.{Reserved, ResultTooLarge}
+use Rattle.root_names.specs.RootNames.{repositories_name}
+use Rattle.words_core.specs.Grammar.{command_of, site_at, unless_at, verdict}
+use Rattle.outcome.proofs.Existing.{work_within}
+use Rattle.outcome.specs.Commands.{IsOutcomeOf, IsOutcomeUnless, applet_outcome, reads_in}
+use Rattle.outcome.specs.Demo.{AreIndexed, AreInstalled, ArePackaged, IsDemoOutcome, IsRunBehind, IsRunUnless, demo_start, with_demo_file}
+use Rattle.outcome.specs.Effect.{Makes, effect_of}
+use Rattle.outcome.specs.Given.{Given}
+use Rattle.outcome.specs.Make.{files_with, index_line, make_outcome, unless_reserved}
+use Rattle.outcome.specs.Outcome.{Outcome, just_refusal, just_report, outcome_of, report_unless}
+use Rattle.outcome.specs.Work.{recovery_fault, work_files}
+
+-- ---- files under finitely many names
+
+-- the names of which they are
+abbrev pub AreFew : Files → Type 0
+AreFew files = (names : List (List ℕ)) × IsWithin names files
+
+or_right : (a b : Bool) → b ≡ true → (a || b) ≡ true
+or_right true b is = refl
+or_right false b is = is
+
+few_put : (files : Files) (name bytes : List ℕ) → AreFew files → AreFew (put_name files name bytes)
+few_put files name bytes (names, within) = (name ∷ names, λ q some. by_name (bytes_eq q name) q refl some)
+  where
+    by_name : (b : Bool) (q : List ℕ) → bytes_eq q name ≡ b → IsSome (if b then Some bytes else files q) → (bytes_eq q name || list_any (bytes_eq q) names) ≡ true
+    by_name true q is some = ap (λ b. b || list_any (bytes_eq q) names) is
+    by_name false q is some = or_right (bytes_eq q name) (list_any (bytes_eq q) names) (within q some)
+
+few_drop : (files : Files) (name : List ℕ) → AreFew files → AreFew (drop_name files name)
+few_drop files name (names, within) = (names, λ q some. within q (if_there (bytes_eq q name) (files q) some))
+  where
+    if_there : (b : Bool) (o : Option (List ℕ)) → IsSome (if b then None else o) → IsSome o
+    if_there true o some = cc
+    if_there false o some = some
+
+few_with : (output : Option (List ℕ)) (bytes : List ℕ) (files : Files) → AreFew files → AreFew (files_with output bytes files)
+few_with None bytes files few = few
+few_with (Some name) bytes files few = few_put (drop_name files (scratch_of name)) name bytes (few_drop files (scratch_of name) few)
+
+-- ---- what a command leaves that makes a file
+
+few_name : (reserved : Bool) (files : Files) (name : List ℕ) (o : Outcome) → AreFew files → AreFew o.files → AreFew ((if reserved then just_refusal files (Reserved name) else o).files)
+few_name true files name o few after = few
+few_name false files name o few after = after
+
+few_output : (files : Files) (output : Option (List ℕ)) (o : Outcome) → AreFew files → AreFew o.files → AreFew ((unless_reserved files output o).files)
+few_output files None o few after = after
+few_output files (Some name) o few after = few_name (is_reserved name) files name o few after
+
+few_made : (files : Files) (output : Option (List ℕ)) (report : List ℕ) (made : Result (List ℕ) MakeFault) → AreFew files → AreFew ((make_outcome files output report made).files)
+few_made files output report (Ok bytes) few = few_output files output (record (just_report (files_with output bytes files) report) { commits = true }) few (few_with output bytes files few)
+few_made files output report (Err (FileMissing place)) few = few
+few_made files output report (Err (FileBad place cause)) few = few
+few_made files output report (Err (InfoBad place)) few = few
+few_made files output report (Err (TooLarge bytes values)) few = few_output files output (just_refusal files (ResultTooLarge bytes values)) few few
+few_made files output report (Err Disk) few = few
+few_made files output report (Err Memory) few = few
+
+few_applet : (applet : Applet) (command : CommandLine) (given : Given) (files : Files) → effect_of applet ≡ Makes → AreFew files → AreFew ((applet_outcome applet command given (reads_in files) files).files)
+few_applet Mkpkg command given files makes few = few_made files (output_name command) [] (made_package command given.names (reads_in files)) few
+few_applet Mkndx command given files makes few = few_made files (output_name command) (index_line (length command.operands)) (made_index command (reads_in files)) few
+few_applet other command given files makes few = cc
+
+few_unless : (fault : Option Cause) (command : CommandLine) (files : Files) (o : Outcome) → effect_of command.applet ≡ Makes → IsOutcomeUnless fault command files o → AreFew files → AreFew o.files
+few_unless (Some cause) command files o makes is few = subst AreFew (sym (ap (λ (p : Outcome). p.files) is)) few
+few_unless None command files o makes (given, are, is) few =
+    let (names, within) = few in
+    let work = work_files (effect_of command.applet) files in
+    subst AreFew (sym (ap (λ (p : Outcome). p.files) is)) (few_applet command.applet command given work makes (work_within (effect_of command.applet) files names within))
+
+-- words that make a file, if they are a command
+abbrev pub DoMake : Result CommandLine ℕ → Type 0
+DoMake (Ok command) = effect_of command.applet ≡ Makes
+DoMake (Err place) = Unit {0}
+
+few_by : (read : Result CommandLine ℕ) (files : Files) (o : Outcome) → DoMake read → IsOutcomeOf read files o → AreFew files → AreFew o.files
+few_by (Err place) files o makes is few = subst AreFew (sym (ap (λ (p : Outcome). p.files) is)) few
+few_by (Ok command) files o makes is few = few_unless (recovery_fault (effect_of command.applet) files) command files o makes is few
+
+-- ---- the words
+
+unless_makes : (place : Option ℕ) (lacks : Bool) (behind : ℕ) (command : CommandLine) → effect_of command.applet ≡ Makes → DoMake (unless_at place (if lacks then Err behind else Ok command))
+unless_makes (Some place) lacks behind command makes = tt
+unless_makes None true behind command makes = tt
+unless_makes None false behind command makes = makes
+
+mkpkg_makes : (words : List (List ℕ)) → DoMake (command_of (codes "mkpkg" ∷ words))
+unfolding command_of site_at verdict
+mkpkg_makes words = unless_makes _ _ _ _ refl
+
+mkndx_makes : (words : List (List ℕ)) → DoMake (command_of (codes "mkndx" ∷ words))
+unfolding command_of site_at verdict
+mkndx_makes words = unless_makes _ _ _ _ refl
+
+-- ---- there is one
+
+-- a command that is read has an outcome over few files
+abbrev pub HaveOutcome : Type 0
+HaveOutcome = (read : Result CommandLine ℕ) (files : Files) (within : List (List ℕ)) → IsWithin within files → (o : Outcome) × IsOutcomeOf read files o
+
+-- an outcome that leaves few files
+abbrev One : (Outcome → Type 0) → Type 0
+One IsOne = (o : Outcome) × IsOne o × AreFew o.files
+
+unless_exists : HaveOutcome → (refusal : Option Refusal) (words : List (List ℕ)) (files : Files) (before : Outcome) → AreFew files → (o : Outcome) × IsRunUnless refusal words files before o
+unless_exists have (Some refusal) words files before few = (before, refl)
+unless_exists have None words files before (names, within) = have (command_of words) files names within
+
+few_behind : (refusal : Option Refusal) (words : List (List ℕ)) (files : Files) (before o : Outcome) → DoMake (command_of words) → IsRunUnless refusal words files before o → AreFew before.files → AreFew files → AreFew o.files
+few_behind (Some refusal) words files before o makes is few few_now = subst AreFew (sym (ap (λ (p : Outcome). p.files) is)) few
+few_behind None words files before o makes is few few_now = few_by (command_of words) files o makes is few_now
+
+packaged_exists : HaveOutcome → (n : ℕ) → One (ArePackaged n)
+packaged_exists have zero =
+    let start : Files = put_name no_names repositories_name demo_repositories in
+    (demo_start, refl, few_put no_names repositories_name demo_repositories ([], λ q some. cc))
+packaged_exists have (suc i) =
+    let (before, is, few) = packaged_exists have i in
+    let files = with_demo_file (suc i) before.files in
+    let few_now : AreFew files = few_put before.files (demo_file (suc i)) (demo_text (suc i)) few in
+    let (o, is_next) = unless_exists have before.refusal (mkpkg_words (suc i)) files before few_now in
+    (o, (before, is, is_next), few_behind before.refusal (mkpkg_words (suc i)) files before o (mkpkg_makes _) is_next few few_now)
+
+indexed_exists : HaveOutcome → (n : ℕ) → One (AreIndexed n)
+indexed_exists have n =
+    let (before, is, few) = packaged_exists have n in
+    let (o, is_next) = unless_exists have before.refusal (mkndx_words n) before.files before few in
+    (o, (before, is, is_next), few_behind before.refusal (mkndx_words n) before.files before o (mkndx_makes _) is_next few few)
+
+installed_exists : HaveOutcome → (n : ℕ) → (o : Outcome) × AreInstalled n o
+installed_exists have n =
+    let (before, is, few) = indexed_exists have n in
+    let (o, is_next) = unless_exists have before.refusal (add_words n) before.files before few in
+    (o, (before, is, is_next))
+
+pub demo_exists : HaveOutcome → (n : ℕ) (files : Files) → (o : Outcome) × IsDemoOutcome n files o
+demo_exists have n files =
+    let (last, is) = installed_exists have n in
+    (report_unless files last.refusal (demo_line n last.out), (last, is, refl))
+
+-- ---- there is no second one
+
+-- a command that is read has one outcome
+abbrev pub HaveOneOutcome : Type 0
+HaveOneOutcome = (read : Result CommandLine ℕ) (files : Files) (a b : Outcome) → IsOutcomeOf read files a → IsOutcomeOf read files b → a ≡ b
+
+unless_one : HaveOneOutcome → (refusal : Option Refusal) (words : List (List ℕ)) (files : Files) (before a b : Outcome) → IsRunUnless refusal words files before a → IsRunUnless refusal words files before b → a ≡ b
+unless_one one (Some refusal) words files before a b x y = x ∙ sym y
+unless_one one None words files before a b x y = one (command_of words) files a b x y
+
+-- behind one outcome, over files that it gives
+behind_one : HaveOneOutcome → (words : List (List ℕ)) (next : Outcome → Files) (p q a b : Outcome) → p ≡ q → IsRunBehind words (next p) p a → IsRunBehind words (next q) q b → a ≡ b
+behind_one one words next p q a b same x y =
+    unless_one one q.refusal words (next q) q a b (subst (λ (r : Outcome). IsRunBehind words (next r) r a) same x) y
+
+packaged_one : HaveOneOutcome → (n : ℕ) (a b : Outcome) → ArePackaged n a → ArePackaged n b → a ≡ b
+packaged_one one zero a b x y = x ∙ sym y
+packaged_one one (suc i) a b (p, is_p, x) (q, is_q, y) =
+    behind_one one (mkpkg_words (suc i)) (λ (o : Outcome). with_demo_file (suc i) o.files) p q a b (packaged_one one i p q is_p is_q) x y
+
+indexed_one : HaveOneOutcome → (n : ℕ) (a b : Outcome) → AreIndexed n a → AreIndexed n b → a ≡ b
+indexed_one one n a b (p, is_p, x) (q, is_q, y) = behind_one one (mkndx_words n) (λ (o : Outcome). o.files) p q a b (packaged_one one n p q is_p is_q) x y
+
+installed_one : HaveOneOutcome → (n : ℕ) (a b : Outcome) → AreInstalled n a → AreInstalled n b → a ≡ b
+installed_one one n a b (p, is_p, x) (q, is_q, y) = behind_one one (add_words n) (λ (o : Outcome). o.files) p q a b (indexed_one one n p q is_p is_q) x y
+
+pub demo_one : HaveOneOutcome → (n : ℕ) (files : Files) (a b : Outcome) → IsDemoOutcome n files a → IsDemoOutcome n files b → a ≡ b
+demo_one one n files a b (p, is_p, x) (q, is_q, y) =
+    x ∙ ap (λ (last : Outcome). report_unless files last.refusal (demo_line n last.out)) (installed_one one n p q is_p is_q) ∙ sym y
+
+-- ---- it leaves the files, whichever these are
+
+unless_leaves : (files : Files) (refusal : Option Refusal) (report : List ℕ) → ((report_unless files refusal report).files ≡ files) × ((report_unless files refusal report).commits ≡ false)
+unless_leaves files None report = (refl, refl)
+unless_leaves files (Some refusal) report = (refl, refl)
+
+pub demo_leaves : (n : ℕ) (files : Files) (o : Outcome) → IsDemoOutcome n files o → (o.files ≡ files) × (o.commits ≡ false)
+demo_leaves n files o (last, is_last, is) = subst (λ (p : Outcome). (p.files ≡ files) × (p.commits ≡ false)) (sym is) (unless_leaves files last.refusal (demo_line n last.out))
+
+unless_same : (files others : Files) (refusal : Option Refusal) (report : List ℕ)
+    → outcome_of (report_unless files refusal report).refusal (report_unless files refusal report).out others ≡ report_unless others refusal report
+unless_same files others None report = refl
+unless_same files others (Some refusal) report = refl
+
+pub demo_everywhere : (n : ℕ) (files others : Files) (o : Outcome) → IsDemoOutcome n files o → IsDemoOutcome n others (outcome_of o.refusal o.out others)
+demo_everywhere n files others o (last, is_last, is) =
+    (last, is_last, subst (λ (p : Outcome). outcome_of p.refusal p.out others ≡ report_unless others last.refusal (demo_line n last.out)) (sym is) (unless_same files others last.refusal (demo_line n last.out)))

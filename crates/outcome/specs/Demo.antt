@@ -1,0 +1,63 @@
+-- `demo`: other commands are run, in a tree of their own.
+use Rattle.std.specs.Prelude.{◌≡◌, ℕ, zero, suc, List, [], Option, Some, None}
+use Rattle.base_core.specs.Files.{Files, no_names, put_name}
+use Rattle.root_names.specs.RootNames.{repositories_name}
+use Rattle.report_core.specs.declared.refusal.Refusal.{Refusal}
+use Rattle.words_core.specs.Grammar.{command_of}
+use Rattle.outcome.specs.Commands.{IsOutcomeOf}
+use Rattle.demo_lines.specs.Lines.{add_words, demo_file, demo_repositories, demo_text, mkndx_words, mkpkg_words}
+use Rattle.demo_lines.specs.Report.{demo_line}
+use Rattle.outcome.specs.Outcome.{Outcome, just_report, report_unless}
+
+-- ---- one run behind another
+
+-- a refusal ends all; else the words are run over the files that were left
+abbrev pub IsRunUnless : Option Refusal → List (List ℕ) → Files → Outcome → Outcome → Type 0
+IsRunUnless (Some refusal) words files before outcome = outcome ≡ before
+IsRunUnless None words files before outcome = IsOutcomeOf (command_of words) files outcome
+
+-- the outcome of words that are run behind another outcome, over its files or changes of these
+abbrev pub IsRunBehind : List (List ℕ) → Files → Outcome → Outcome → Type 0
+IsRunBehind words files before outcome = IsRunUnless before.refusal words files before outcome
+
+-- ---- the runs
+
+-- the repositories stand in a tree that is else empty
+abbrev pub demo_start : Outcome
+demo_start = just_report (put_name no_names repositories_name demo_repositories) []
+
+-- the files with that of package i
+abbrev pub with_demo_file : ℕ → Files → Files
+with_demo_file i files = put_name files (demo_file i) (demo_text i)
+
+-- the packages 1 to n are made, each of a file that is put there before
+abbrev pub ArePackaged : ℕ → Outcome → Type 0
+ArePackaged zero outcome = outcome ≡ demo_start
+ArePackaged (suc i) outcome =
+    (before : Outcome)
+    × ArePackaged i before
+    × IsRunBehind (mkpkg_words (suc i)) (with_demo_file (suc i) before.files) before outcome
+
+-- then their index
+abbrev pub AreIndexed : ℕ → Outcome → Type 0
+AreIndexed n outcome =
+    (before : Outcome)
+    × ArePackaged n before
+    × IsRunBehind (mkndx_words n) before.files before outcome
+
+-- then they are installed
+abbrev pub AreInstalled : ℕ → Outcome → Type 0
+AreInstalled n outcome =
+    (before : Outcome)
+    × AreIndexed n before
+    × IsRunBehind (add_words n) before.files before outcome
+
+-- ---- what is told
+
+-- the last line of the last run, or the first refusal; of the files of the run itself nothing is
+-- read, and none is changed
+abbrev pub IsDemoOutcome : ℕ → Files → Outcome → Type 0
+IsDemoOutcome n files outcome =
+    (last : Outcome)
+    × AreInstalled n last
+    × (outcome ≡ report_unless files last.refusal (demo_line n last.out))

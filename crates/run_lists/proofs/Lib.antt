@@ -1,0 +1,9 @@
+pub mod Along
+pub mod AtMoments
+pub mod Called
+pub mod Ending
+pub mod Facts
+pub mod Idle
+pub mod Names
+pub mod OneRun
+pub mod Recovered

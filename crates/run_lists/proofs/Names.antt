@@ -1,0 +1,153 @@
+-- Which names are ignored.
+use Rattle.std.proofs.Common.{◌≡◌, ℕ, Bool, true, false, ◌||◌, List, [], ◌∷◌, ◌++◌, codes, Option, Some, None, Result, Ok, Err, refl, sym, ap, subst, ◌∙◌, arith}
+use Rattle.std.specs.Prelude.{IsTrue, if◌then◌else◌}
+use Rattle.std.specs.Str.{bytes_eq}
+use Rattle.std.proofs.lemmas.Bool.{false≢true}
+use Rattle.std.proofs.lemmas.Slice.Eq.{bytes_eq-Decides}
+use Rattle.apk_front.specs.Moments.{HidesScratchOf, ignored_but}
+use Rattle.apk_front.specs.declared.answer.Answer.{Answer}
+use Rattle.apk_front.specs.declared.answer.Answer.TheVariants.{Ok as Done, Refused, TreeFault, OutFault, Memory}
+use Rattle.command_core.specs.Command.{CommandLine}
+use Rattle.journal_core.specs.Recovery.{intent_name}
+use Rattle.journal_core.specs.Replacing.{scratch_of}
+use Rattle.outcome.specs.Effect.{Effect, Computes, Reads, Tells, Makes, Changes, does_only_read, effect_by, effect_of, output, output_by, output_if, reads_only}
+use Rattle.run_lists.specs.Events.{Crashes, Edits, Ends, Event, HasNoPendingOutput, Run, Stops, ignored_behind, ignored_by, nothing_ignored, with_scratch}
+use Rattle.run_lists.proofs.Facts.{AreMore, Ignored}
+
+-- ---- the intent is never ignored
+
+last_of : List ℕ → ℕ
+last_of [] = 0
+last_of (b ∷ []) = b
+last_of (b ∷ c ∷ bs) = last_of (c ∷ bs)
+
+last-behind : (xs : List ℕ) (y : ℕ) (ys : List ℕ) → last_of (xs ++ y ∷ ys) ≡ last_of (y ∷ ys)
+unfolding last_of
+last-behind [] y ys = refl
+last-behind (x ∷ []) y ys = refl
+last-behind (x ∷ z ∷ xs) y ys = last-behind (z ∷ xs) y ys
+
+differ : (n : ℕ) → n ≡ 116 → n ≡ 112 → ⊥
+differ n t p = omega (arith, t, p)
+
+-- it ends in t, and a scratch name in p
+no_scratch : (name : List ℕ) → intent_name ≡ scratch_of name → ⊥
+unfolding last_of
+no_scratch name is = differ (last_of intent_name) refl (ap last_of is ∙ last-behind name 46 (codes "apk-tmp"))
+
+neither : (a b : Bool) → (a ≡ true → ⊥) → b ≡ false → (a || b) ≡ false
+neither true b off is = absurd (off refl)
+neither false b off is = is
+
+pub scratch_hides : (o : Option (List ℕ)) (ignored : Ignored) → ignored intent_name ≡ false → with_scratch o ignored intent_name ≡ false
+scratch_hides None ignored off = off
+scratch_hides (Some name) ignored off =
+    neither (bytes_eq intent_name (scratch_of name)) (ignored intent_name) (λ is. no_scratch name ((bytes_eq-Decides intent_name (scratch_of name)).0 is)) off
+
+first_true : (a b : Bool) → a ≡ true → (a || b) ≡ true
+first_true true b is = refl
+first_true false b is = absurd (false≢true is)
+
+pub hides : (o : Option (List ℕ)) (ignored : Ignored) → ignored intent_name ≡ false → HidesScratchOf o (with_scratch o ignored)
+hides None ignored off = tt
+hides (Some name) ignored off = record {
+  scratch = first_true (bytes_eq (scratch_of name) (scratch_of name)) (ignored (scratch_of name)) ((bytes_eq-Decides (scratch_of name) (scratch_of name)).1 refl);
+  intent = scratch_hides (Some name) ignored off;
+}
+
+either_off : (a b : Bool) → b ≡ false → (if a then false else b) ≡ false
+either_off true b off = refl
+either_off false b off = off
+
+but_hides : (o : Option (List ℕ)) (ignored : Ignored) → ignored intent_name ≡ false → ignored_but o ignored intent_name ≡ false
+but_hides None ignored off = off
+but_hides (Some name) ignored off = either_off (bytes_eq intent_name name || bytes_eq intent_name (scratch_of name)) (ignored intent_name) off
+
+by_hides : (answer : Answer) (run : Run) (ignored : Ignored) → ignored intent_name ≡ false → ignored_by answer run ignored intent_name ≡ false
+by_hides Done run ignored off = but_hides (output run.words) ignored off
+by_hides (Refused r) run ignored off = off
+by_hides TreeFault run ignored off = scratch_hides (output run.words) ignored off
+by_hides OutFault run ignored off = off
+by_hides Memory run ignored off = off
+
+pub behind_hides : (ignored : Ignored) → ignored intent_name ≡ false → (events : List Event) → ignored_behind ignored events intent_name ≡ false
+behind_hides ignored off [] = off
+behind_hides ignored off (Ends run ∷ earlier) = by_hides run.answer run (ignored_behind ignored earlier) (behind_hides ignored off earlier)
+behind_hides ignored off (Stops run ∷ earlier) = scratch_hides (output run.words) (ignored_behind ignored earlier) (behind_hides ignored off earlier)
+behind_hides ignored off (Crashes ∷ earlier) = refl
+behind_hides ignored off (Edits ∷ earlier) = refl
+
+-- ---- more and fewer
+
+second_true : (a b : Bool) → b ≡ true → (a || b) ≡ true
+second_true true b is = refl
+second_true false b is = is
+
+pub scratch_more : (o : Option (List ℕ)) (ignored : Ignored) → AreMore ignored (with_scratch o ignored)
+scratch_more None ignored q is = is
+scratch_more (Some name) ignored q is = second_true (bytes_eq q (scratch_of name)) (ignored q) is
+
+less : (a b : Bool) → (if a then false else b) ≡ true → b ≡ true
+less true b is = absurd (false≢true is)
+less false b is = is
+
+pub but_fewer : (o : Option (List ℕ)) (ignored : Ignored) → AreMore (ignored_but o ignored) ignored
+but_fewer None ignored q is = is
+but_fewer (Some name) ignored q is = less (bytes_eq q name || bytes_eq q (scratch_of name)) (ignored q) is
+
+same_less : (a b c : Bool) → (if a || b then false else (b || c)) ≡ true → (if a || b then false else c) ≡ true
+same_less true b c is = is
+same_less false true c is = is
+same_less false false c is = is
+
+pub but_same : (o : Option (List ℕ)) (ignored : Ignored) → AreMore (ignored_but o (with_scratch o ignored)) (ignored_but o ignored)
+but_same None ignored q is = is
+but_same (Some name) ignored q is = same_less (bytes_eq q name) (bytes_eq q (scratch_of name)) (ignored q) is
+
+-- ---- an ordinary root
+
+but_off : (o : Option (List ℕ)) (ignored : Ignored) (q : List ℕ) → ignored q ≡ false → ignored_but o ignored q ≡ false
+but_off None ignored q off = off
+but_off (Some name) ignored q off = either_off (bytes_eq q name || bytes_eq q (scratch_of name)) (ignored q) off
+
+scratch_off : (o : Option (List ℕ)) (ignored : Ignored) (q : List ℕ) → o ≡ None → ignored q ≡ false → with_scratch o ignored q ≡ false
+scratch_off o ignored q none off = subst (λ (p : Option (List ℕ)). with_scratch p ignored q ≡ false) (sym none) off
+
+by_off : (answer : Answer) (run : Run) (ignored : Ignored) (q : List ℕ) → (answer ≡ TreeFault → output run.words ≡ None) → ignored q ≡ false → ignored_by answer run ignored q ≡ false
+by_off Done run ignored q fault off = but_off (output run.words) ignored q off
+by_off (Refused r) run ignored q fault off = off
+by_off TreeFault run ignored q fault off = scratch_off (output run.words) ignored q (fault refl) off
+by_off OutFault run ignored q fault off = off
+by_off Memory run ignored q fault off = off
+
+pub none_ignored : (events : List Event) (q : List ℕ) → HasNoPendingOutput events → ignored_behind nothing_ignored events q ≡ false
+none_ignored [] q written = refl
+none_ignored (Ends run ∷ earlier) q (fault, before) = by_off run.answer run (ignored_behind nothing_ignored earlier) q fault (none_ignored earlier q before)
+none_ignored (Stops run ∷ earlier) q (none, before) = scratch_off (output run.words) (ignored_behind nothing_ignored earlier) q none (none_ignored earlier q before)
+none_ignored (Crashes ∷ earlier) q written = refl
+none_ignored (Edits ∷ earlier) q written = refl
+
+-- ---- commands with an output make
+
+effect_makes : (effect : Effect) (command : CommandLine) (name : List ℕ) → output_if effect command ≡ Some name → effect ≡ Makes
+effect_makes Computes command name is = cc
+effect_makes Reads command name is = cc
+effect_makes Tells command name is = cc
+effect_makes Makes command name is = refl
+effect_makes Changes command name is = cc
+
+pub output_makes : (command : Result CommandLine ℕ) (name : List ℕ) → output_by command ≡ Some name → effect_by command ≡ Makes
+output_makes (Ok command) name is = effect_makes (effect_of command.applet) command name is
+output_makes (Err place) name is = cc
+
+reader_effect : (effect : Effect) (command : CommandLine) → IsTrue (does_only_read effect) → output_if effect command ≡ None
+reader_effect Computes command reads = refl
+reader_effect Reads command reads = refl
+reader_effect Tells command reads = absurd (false≢true reads)
+reader_effect Makes command reads = absurd (false≢true reads)
+reader_effect Changes command reads = absurd (false≢true reads)
+
+-- a command that only reads has none
+pub reader_output : (command : Result CommandLine ℕ) → IsTrue (reads_only command) → output_by command ≡ None
+reader_output (Ok command) reads = reader_effect (effect_of command.applet) command reads
+reader_output (Err place) reads = refl

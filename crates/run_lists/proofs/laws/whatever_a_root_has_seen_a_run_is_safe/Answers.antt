@@ -1,0 +1,77 @@
+use Rattle.run_lists.proofs.Along.{seen_atomic, seen_begins, seen_one, seen_orderly, seen_safe}
+use Rattle.run_lists.proofs.Facts.{Facts}
+use Rattle.run_lists.proofs.Names.{none_ignored}
+use Rattle.run_lists.proofs.laws.whatever_a_root_has_seen_a_run_is_safe.Goals as goal
+
+pub returns-clause-orderly : goal.returns-clause-orderly
+returns-clause-orderly c =
+    let facts : Facts = record {
+      crash_orderly = c.a_crash_leaves_an_orderly_settled_tree.ensures.orderly;
+      crash_settled = c.a_crash_leaves_an_orderly_settled_tree.ensures.settled;
+      read_left = c.a_crash_may_leave_the_files_as_read.ensures.read;
+      more_order = c.more_names_may_be_ignored.ensures.order;
+      more_settled = c.more_names_may_be_ignored.ensures.settled;
+      unique = c.an_outcome_is_unique.ensures;
+      making = c.a_command_that_makes_commits_unless_refused.ensures;
+      safe = c.a_crash_leaves_the_old_files_or_those_of_the_outcome.ensures;
+    } in
+    λ ignored first v events off orderly seen. seen_orderly facts ignored off first v events orderly seen
+
+pub returns-clause-begins : goal.returns-clause-begins
+returns-clause-begins c =
+    let facts : Facts = record {
+      crash_orderly = c.a_crash_leaves_an_orderly_settled_tree.ensures.orderly;
+      crash_settled = c.a_crash_leaves_an_orderly_settled_tree.ensures.settled;
+      read_left = c.a_crash_may_leave_the_files_as_read.ensures.read;
+      more_order = c.more_names_may_be_ignored.ensures.order;
+      more_settled = c.more_names_may_be_ignored.ensures.settled;
+      unique = c.an_outcome_is_unique.ensures;
+      making = c.a_command_that_makes_commits_unless_refused.ensures;
+      safe = c.a_crash_leaves_the_old_files_or_those_of_the_outcome.ensures;
+    } in
+    λ ignored first v events words off orderly seen. seen_begins facts ignored off first v events words orderly seen
+
+pub returns-clause-ordinary : goal.returns-clause-ordinary
+returns-clause-ordinary c = none_ignored
+
+pub returns-clause-safe : goal.returns-clause-safe
+returns-clause-safe c =
+    let facts : Facts = record {
+      crash_orderly = c.a_crash_leaves_an_orderly_settled_tree.ensures.orderly;
+      crash_settled = c.a_crash_leaves_an_orderly_settled_tree.ensures.settled;
+      read_left = c.a_crash_may_leave_the_files_as_read.ensures.read;
+      more_order = c.more_names_may_be_ignored.ensures.order;
+      more_settled = c.more_names_may_be_ignored.ensures.settled;
+      unique = c.an_outcome_is_unique.ensures;
+      making = c.a_command_that_makes_commits_unless_refused.ensures;
+      safe = c.a_crash_leaves_the_old_files_or_those_of_the_outcome.ensures;
+    } in
+    λ v run is_run ignored first events off orderly seen. seen_safe facts ignored off first v events orderly seen run is_run
+
+pub returns-clause-one_state : goal.returns-clause-one_state
+returns-clause-one_state c =
+    let facts : Facts = record {
+      crash_orderly = c.a_crash_leaves_an_orderly_settled_tree.ensures.orderly;
+      crash_settled = c.a_crash_leaves_an_orderly_settled_tree.ensures.settled;
+      read_left = c.a_crash_may_leave_the_files_as_read.ensures.read;
+      more_order = c.more_names_may_be_ignored.ensures.order;
+      more_settled = c.more_names_may_be_ignored.ensures.settled;
+      unique = c.an_outcome_is_unique.ensures;
+      making = c.a_command_that_makes_commits_unless_refused.ensures;
+      safe = c.a_crash_leaves_the_old_files_or_those_of_the_outcome.ensures;
+    } in
+    λ ignored first v events off rest seen. seen_one facts ignored off first rest v events seen
+
+pub returns-clause-atomic : goal.returns-clause-atomic
+returns-clause-atomic c =
+    let facts : Facts = record {
+      crash_orderly = c.a_crash_leaves_an_orderly_settled_tree.ensures.orderly;
+      crash_settled = c.a_crash_leaves_an_orderly_settled_tree.ensures.settled;
+      read_left = c.a_crash_may_leave_the_files_as_read.ensures.read;
+      more_order = c.more_names_may_be_ignored.ensures.order;
+      more_settled = c.more_names_may_be_ignored.ensures.settled;
+      unique = c.an_outcome_is_unique.ensures;
+      making = c.a_command_that_makes_commits_unless_refused.ensures;
+      safe = c.a_crash_leaves_the_old_files_or_those_of_the_outcome.ensures;
+    } in
+    λ v run is_run ignored first events off rest seen. seen_atomic facts ignored off first rest v events seen run is_run

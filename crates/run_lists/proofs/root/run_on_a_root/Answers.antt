@@ -1,0 +1,15 @@
+use Rattle.run_lists.proofs.Called.{called}
+use Rattle.run_lists.proofs.root.run_on_a_root.Goals as goal
+
+pub returns : goal.returns
+returns g c =
+    called c.whatever_a_root_has_seen_a_run_is_safe.ensures.safe c.whatever_a_root_has_seen_a_run_is_safe.ensures.atomic (record {
+      words = c.args.words.now;
+      old = _;
+      now = _;
+      before = _;
+      after = _;
+      out = _;
+      err = _;
+      answer = c.apk.result;
+    }) c.apk.ensures.stated c.apk.ensures.left c.apk.ensures.crash c.apk.ensures.orderly c.apk.ensures.settled c.apk.ensures.at_rest

@@ -1,0 +1,195 @@
+-- What a root may see: runs, stops, crashes and changes by others, and lists of them.
+use Rattle.std.specs.Prelude.{◌≡◌, ◌≢◌, ◌⊎◌, ◌++◌, ◌||◌, ℕ, Bool, true, false, List, [], ◌∷◌, Option, Some, None, Contains, is_some}
+use Rattle.std.specs.Str.{bytes_eq}
+use Rattle.apk_front.specs.Answers.{IsAnswerTo, LeavesFiles}
+use Rattle.apk_front.specs.Moments.{AnswersOutcome, AreSafe, CanRecover, CommitsNothing, HidesScratchOf, LeavesAtRest, LeavesLasting, ignored_but}
+use Rattle.apk_front.specs.declared.answer.Answer.{Answer}
+use Rattle.apk_front.specs.declared.answer.Answer.TheVariants.{Ok, TreeFault}
+use Rattle.base_core.specs.Calls.{HasNow}
+use Rattle.base_core.specs.Crash.{IsOrderly, Since}
+use Rattle.base_core.specs.Faults.{Counts, HasCause}
+use Rattle.base_core.specs.Restart.{IsCrashOf}
+use Rattle.base_core.specs.Sink.{SinkChange}
+use Rattle.base_core.specs.Tree.{TreeState, files_of}
+use Rattle.journal_core.specs.Quiet.{IsStill}
+use Rattle.journal_core.specs.Recovery.{RestsOn}
+use Rattle.journal_core.specs.Replacing.{scratch_of}
+use Rattle.outcome.specs.Effect.{effect_by, output}
+use Rattle.outcome.specs.Outcome.{Outcome}
+use Rattle.outcome.specs.Words.{IsOutcome}
+use Rattle.words_core.specs.Grammar.{command_of}
+
+-- ---- a run
+
+-- a call of `apk`, as its caller sees it
+pub record Run : Type 0 where
+  pub words : List (List ℕ)
+  -- the tree's history before it and behind it
+  pub old : List TreeState
+  pub now : List TreeState
+  -- the tree's counts before it and behind it
+  pub before : Counts
+  pub after : Counts
+  -- what the two sinks got
+  pub out : SinkChange
+  pub err : SinkChange
+  pub answer : Answer
+
+-- what the words come to over the files as read
+abbrev pub IsOutcomeFrom : TreeState → Run → Outcome → Type 0
+IsOutcomeFrom v run = IsOutcome run.words (files_of v)
+
+-- it has an outcome that commits
+abbrev pub HasCommit : TreeState → Run → Type 0
+HasCommit v run =
+    (outcome : Outcome) × IsOutcomeFrom v run outcome × (outcome.commits ≡ true)
+
+-- A run that begins in the state v: what the contract of `apk` says of it, clause by clause.
+pub record IsRunFrom (v : TreeState) (run : Run) : Type 0 where
+  pub begins : HasNow run.old (λ u. u ≡ v)
+  pub stated : IsAnswerTo run.words (files_of v) (LeavesFiles run.now)
+      (HasCause run.before run.after) run.answer run.out run.err
+  pub left : CommitsNothing (IsOutcomeFrom v run) run.answer → (ignored : List ℕ → Bool)
+      → IsOrderly (RestsOn ignored) v → Since (IsStill ignored v) run.old run.now
+  pub crash : (ignored : List ℕ → Bool)
+      → IsOrderly (RestsOn ignored) v → HidesScratchOf (output run.words) ignored
+      → AreSafe (IsOutcomeFrom v run) (is_some (output run.words)) ignored v run.old run.now
+  pub orderly : (ignored : List ℕ → Bool)
+      → IsOrderly (RestsOn ignored) v → HidesScratchOf (output run.words) ignored
+      → HasNow run.now (IsOrderly (RestsOn ignored))
+  pub settled : (ignored : List ℕ → Bool)
+      → IsOrderly (RestsOn ignored) v → HidesScratchOf (output run.words) ignored
+      → LeavesLasting (IsOutcomeFrom v run) (effect_by (command_of run.words)) ignored v run.now
+      run.answer
+  pub at_rest : (ignored : List ℕ → Bool)
+      → IsOrderly (RestsOn ignored) v → HidesScratchOf (output run.words) ignored
+      → AnswersOutcome run.answer
+      → LeavesAtRest (IsOutcomeFrom v run) (output run.words) ignored run.now
+
+-- a moment of a run: the state in which it begins, or one that it made
+abbrev pub IsMomentOf : Run → TreeState → Type 0
+IsMomentOf run m =
+    HasNow run.old (λ v. m ≡ v)
+    ⊎ ((added : List TreeState) × (run.now ≡ added ++ run.old) × Contains added m)
+
+-- ---- what a root sees
+
+-- a run that ends, a run that is stopped at one of its moments, and a crash; where a crash cuts off
+-- a run, that is stopped and then the crash comes; and others change files while nothing runs
+pub data Event : Type 0 where
+  Ends : Run → Event
+  Stops : Run → Event
+  Crashes : Event
+  Edits : Event
+
+-- a crash leaves just the files as read
+pub record IsAllSynced (v : TreeState) : Type 0 where
+  pub one_map : v.older ≡ []
+  pub files : (q : List ℕ) (n : ℕ) → v.names q ≡ Some n → (v.files n).synced ≡ true
+
+-- an event finds a tree in the state v, and leaves it in the state w
+abbrev pub LeadsOn : TreeState → Event → TreeState → Type 0
+LeadsOn v (Ends run) w = IsRunFrom v run × HasNow run.now (λ u. u ≡ w)
+LeadsOn v (Stops run) w = IsRunFrom v run × IsMomentOf run w
+LeadsOn v Crashes w = IsCrashOf v w
+-- to whatever they made of it, once it is synced
+LeadsOn v Edits w = IsAllSynced w
+
+-- a root that was in the state `first` has seen these events, the newest first, and is in state w
+abbrev pub HasSeen : TreeState → List Event → TreeState → Type 0
+HasSeen first [] w = w ≡ first
+HasSeen first (event ∷ earlier) w =
+    (v : TreeState) × HasSeen first earlier v × LeadsOn v event w
+
+-- ---- what is committed
+
+-- a run commits nothing: it is refused, finds no memory, or has an outcome that commits nothing; or
+-- it has no output, and no outcome that commits
+abbrev pub IsIdleRun : TreeState → Run → Type 0
+IsIdleRun v run =
+    CommitsNothing (IsOutcomeFrom v run) run.answer
+    ⊎ ((output run.words ≡ None) × (HasCommit v run → ⊥))
+
+-- a crash, or a run that commits nothing
+abbrev pub IsIdle : TreeState → Event → Type 0
+IsIdle v (Ends run) = IsIdleRun v run
+IsIdle v (Stops run) = IsIdleRun v run
+IsIdle v Crashes = Unit {0}
+IsIdle v Edits = ⊥
+
+-- a root has seen events, and none committed anything
+abbrev pub HasSeenIdly : TreeState → List Event → TreeState → Type 0
+HasSeenIdly first [] w = w ≡ first
+HasSeenIdly first (event ∷ earlier) w =
+    (v : TreeState) × HasSeenIdly first earlier v × IsIdle v event × LeadsOn v event w
+
+-- ---- where a crash leaves one state
+
+-- Behind the event each crash leaves one state: it is no run; or a run that answers its outcome, and
+-- this commits, or the run has no output and found an intent.
+abbrev pub MakesOneState : TreeState → Event → Type 0
+MakesOneState v (Ends run) =
+    AnswersOutcome run.answer
+    × (HasCommit v run
+    ⊎ ((output run.words ≡ None) × CanRecover (effect_by (command_of run.words)) v))
+MakesOneState v (Stops run) = ⊥
+MakesOneState v Crashes = Unit {0}
+MakesOneState v Edits = Unit {0}
+
+-- it does so where it did before: the run commits nothing, or ends, and not by a fault of the tree
+abbrev pub KeepsOneState : TreeState → Event → Type 0
+KeepsOneState v (Ends run) = (run.answer ≢ TreeFault) ⊎ IsIdleRun v run
+KeepsOneState v (Stops run) = IsIdleRun v run
+KeepsOneState v Crashes = Unit {0}
+KeepsOneState v Edits = Unit {0}
+
+-- a root has seen events, and each crash leaves one state: an event made it so, or it was so at
+-- first, and those behind it kept it
+abbrev pub HasSeenToOneState : TreeState → List Event → TreeState → Type 0
+HasSeenToOneState first [] w = w ≡ first
+HasSeenToOneState first (event ∷ earlier) w =
+    (v : TreeState)
+    × LeadsOn v event w
+    × ((HasSeen first earlier v × MakesOneState v event)
+    ⊎ (HasSeenToOneState first earlier v × KeepsOneState v event))
+
+-- ---- the names that are ignored
+
+-- none
+abbrev pub nothing_ignored : List ℕ → Bool
+nothing_ignored q = false
+
+-- these names and the scratch name of an output
+abbrev pub with_scratch : Option (List ℕ) → (List ℕ → Bool) → List ℕ → Bool
+with_scratch None ignored q = ignored q
+with_scratch (Some name) ignored q = bytes_eq q (scratch_of name) || ignored q
+
+-- those that are ignored during a run
+abbrev pub ignored_in : Run → (List ℕ → Bool) → List ℕ → Bool
+ignored_in run ignored = with_scratch (output run.words) ignored
+
+-- and behind it, where it ends with this answer
+abbrev pub ignored_by : Answer → Run → (List ℕ → Bool) → List ℕ → Bool
+ignored_by Ok run ignored = ignored_but (output run.words) ignored
+ignored_by TreeFault run ignored = ignored_in run ignored
+ignored_by other run ignored = ignored
+
+-- Those that are ignored behind a list: a run with an output adds its scratch name where it is stopped
+-- or the tree fails; the name counts again once the output is written, or all was synced.
+abbrev pub ignored_behind : (List ℕ → Bool) → List Event → List ℕ → Bool
+ignored_behind ignored [] = ignored
+ignored_behind ignored (Ends run ∷ earlier) =
+    ignored_by run.answer run (ignored_behind ignored earlier)
+ignored_behind ignored (Stops run ∷ earlier) = ignored_in run (ignored_behind ignored earlier)
+ignored_behind ignored (Crashes ∷ earlier) = nothing_ignored
+ignored_behind ignored (Edits ∷ earlier) = nothing_ignored
+
+-- since all was synced no run with an output was stopped, or ended by a fault of the tree
+abbrev pub HasNoPendingOutput : List Event → Type 0
+HasNoPendingOutput [] = Unit {0}
+HasNoPendingOutput (Ends run ∷ earlier) =
+    (run.answer ≡ TreeFault → output run.words ≡ None) × HasNoPendingOutput earlier
+HasNoPendingOutput (Stops run ∷ earlier) =
+    (output run.words ≡ None) × HasNoPendingOutput earlier
+HasNoPendingOutput (Crashes ∷ earlier) = Unit {0}
+HasNoPendingOutput (Edits ∷ earlier) = Unit {0}

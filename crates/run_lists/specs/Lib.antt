@@ -1,0 +1,3 @@
+-- what the laws say, in the order in which it is best read
+pub mod Events
+pub mod Safety

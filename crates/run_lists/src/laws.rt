@@ -1,0 +1,110 @@
+//! Laws on lists of runs, stops and crashes.
+ghost use Rattle.std.specs.Prelude.{◌≡◌, ◌≢◌, ℕ, Bool, false, true, List, None, IsTrue};
+ghost use Rattle.apk_front.specs.Moments.{AnswersOutcome, HasIdleOutcome, HidesScratchOf, IsAtRest};
+ghost use Rattle.base_core.specs.Calls.{HasNow};
+ghost use Rattle.base_core.specs.Crash.{IsOrderly};
+ghost use Rattle.base_core.specs.Files.{Files};
+ghost use Rattle.base_core.specs.Tree.{TreeState, files_of};
+ghost use Rattle.journal_core.specs.Recovery.{RestsOn, intent_name, state_of};
+ghost use Rattle.journal_core.specs.Staged.{unstaged_files};
+ghost use Rattle.outcome.specs.Effect.{does_recover, effect_by, output, reads_only};
+ghost use Rattle.outcome.specs.Work.{recovery_fault};
+ghost use Rattle.run_lists.specs.Events.{Event, HasNoPendingOutput, HasSeen, HasSeenIdly, HasSeenToOneState, IsIdleRun, IsOutcomeFrom, IsRunFrom, Run, ignored_behind, nothing_ignored, with_scratch};
+ghost use Rattle.run_lists.specs.Safety.{IsAtomicBehindAll, IsSafeBehindAll};
+ghost use Rattle.words_core.specs.Grammar.{command_of};
+
+use apk_front::a_crash_leaves_the_old_files_or_those_of_the_outcome;
+use base_core::a_crash_may_leave_the_files_as_read;
+use journal_core::{a_crash_leaves_an_orderly_settled_tree, more_names_may_be_ignored};
+use outcome::{
+    a_command_that_commits_nothing_leaves_the_files, a_command_that_makes_commits_unless_refused,
+    a_command_that_reads_leaves_the_files, an_outcome_is_unique,
+};
+
+/// Whatever list of runs, stops, crashes and changes by others a root has seen from an orderly tree
+/// on: a run, ended or stopped at any moment, recovers to a state from before it or to that of its
+/// outcome's files, and to the latter once the outcome was answered. Where the root had one state,
+/// these are two.
+///
+/// `ignored` are names that are left out of account from the start, as scratch names of outputs; on
+/// an ordinary root there are none.
+pub fn whatever_a_root_has_seen_a_run_is_safe()
+    // Behind each list the tree is orderly, apart from the names that are ignored then.
+    ensures orderly { (ignored : List ℕ → Bool) (first v : TreeState) (events : List Event)
+        → ignored intent_name ≡ false → IsOrderly (RestsOn ignored) first
+        → HasSeen first events v
+        → IsOrderly (RestsOn (ignored_behind ignored events)) v }
+
+    // So each clause of `apk` on crashes holds of the next run, whatever its words: with the scratch
+    // name of its output these names are such as the clauses ask for.
+    ensures begins { (ignored : List ℕ → Bool) (first v : TreeState) (events : List Event)
+        (words : List (List ℕ)) → ignored intent_name ≡ false → IsOrderly (RestsOn ignored) first
+        → HasSeen first events v
+        → let names = with_scratch (output words) (ignored_behind ignored events) in
+        IsOrderly (RestsOn names) v × HidesScratchOf (output words) names }
+
+    // On an ordinary root nothing is ignored, and so it stays while no run with an output is
+    // stopped, or ends by a fault of the tree.
+    ensures ordinary { (events : List Event) (q : List ℕ) → HasNoPendingOutput events
+        → ignored_behind nothing_ignored events q ≡ false }
+
+    // The next run is safe.
+    ensures safe { (v : TreeState) (run : Run) → IsRunFrom v run → IsSafeBehindAll v run }
+
+    // Each crash leaves one state, that of the files as read, if it did so at the start, until a
+    // run that commits is stopped, or ends by a fault of the tree; and it does so again behind a
+    // crash, a change by others that is synced, a commit that was answered, or one of which the rest
+    // was found and done.
+    ensures one_state { (ignored : List ℕ → Bool) (first v : TreeState) (events : List Event)
+        → ignored intent_name ≡ false → IsAtRest ignored (files_of first) first
+        → HasSeenToOneState first events v
+        → IsAtRest (ignored_behind ignored events) (files_of v) v }
+
+    // Then the next run is all or nothing.
+    ensures atomic { (v : TreeState) (run : Run) → IsRunFrom v run → IsAtomicBehindAll v run }
+{
+    a_crash_leaves_an_orderly_settled_tree();
+    a_crash_may_leave_the_files_as_read();
+    more_names_may_be_ignored();
+    an_outcome_is_unique();
+    a_command_that_makes_commits_unless_refused();
+    a_crash_leaves_the_old_files_or_those_of_the_outcome();
+}
+
+/// However often a root is recovered, stopped in its recovery and recovered again, it has one and
+/// the same state.
+pub fn a_root_that_commits_nothing_keeps_its_state()
+    // Runs that commit nothing, ended or stopped, and crashes leave the state as it was.
+    ensures again { (ignored : List ℕ → Bool) (v w : TreeState) (events : List Event)
+        → IsAtRest ignored (files_of v) v → HasSeenIdly v events w
+        → IsAtRest ignored (files_of v) w }
+
+    // So two recoveries of a root agree, whatever came between.
+    ensures agree { (ignored : List ℕ → Bool) (v w u : TreeState) (events others : List Event)
+        → IsAtRest ignored (files_of v) v
+        → HasSeenIdly v events w → HasSeenIdly v others u
+        → state_of ignored (files_of w) ≡ state_of ignored (files_of u) }
+
+    // A run commits nothing if its command only reads.
+    ensures readers { (v : TreeState) (run : Run) → IsTrue (reads_only (command_of run.words))
+        → IsIdleRun v run }
+
+    // The state is what a recovery leaves under each name but those ignored.
+    ensures read { (ignored : List ℕ → Bool) (files : Files) (q : List ℕ)
+        → q ≢ intent_name → ignored q ≡ false
+        → state_of ignored files q ≡ unstaged_files files q }
+
+    // So a run that recovers, and has an outcome that commits nothing, leaves the files that have
+    // it, once the outcome is answered; unless a bad intent was refused.
+    ensures recovers { (v : TreeState) (run : Run) → IsRunFrom v run
+        → does_recover (effect_by (command_of run.words)) ≡ true
+        → recovery_fault (effect_by (command_of run.words)) (files_of v) ≡ None
+        → AnswersOutcome run.answer → HasIdleOutcome (IsOutcomeFrom v run)
+        → HasNow run.now (λ w. files_of w ≡ unstaged_files (files_of v)) }
+{
+    a_crash_leaves_an_orderly_settled_tree();
+    a_crash_may_leave_the_files_as_read();
+    an_outcome_is_unique();
+    a_command_that_reads_leaves_the_files();
+    a_command_that_commits_nothing_leaves_the_files();
+}

@@ -1,0 +1,16 @@
+//! Lists of runs, stops and crashes: what the contract of `apk` comes to for a root that has seen
+//! any of them.
+//!
+//! It is a crate of definitions and laws above the top call. `Events` of `specs/` says what a run
+//! is, by the very clauses of `apk`, and what a list of runs, stops and crashes is; `Safety` what
+//! holds of the run behind such a list. The laws say that it does, and `run_on_a_root` that each
+//! call of `apk` is such a run.
+#![tactic(auto)]
+
+mod laws;
+mod root;
+
+pub use laws::{
+    a_root_that_commits_nothing_keeps_its_state, whatever_a_root_has_seen_a_run_is_safe,
+};
+pub use root::run_on_a_root;

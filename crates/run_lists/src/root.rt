@@ -1,0 +1,36 @@
+//! A run of `apk` on a root that has seen any list of runs, stops and crashes.
+ghost use Rattle.base_core.specs.Calls.{IfObservable};
+ghost use Rattle.base_core.specs.Sink.{sink_change};
+ghost use Rattle.run_lists.specs.Events.{IsRunFrom, Run};
+ghost use Rattle.run_lists.specs.Safety.{IsAtomicBehindAll, IsSafeBehindAll};
+
+use crate::laws::whatever_a_root_has_seen_a_run_is_safe;
+use apk_front::{Answer, apk};
+use base_core::{Sink, Tree, Words};
+use std::alloc::Global;
+
+/// Runs a command line on a root, by `apk`. Of a root whose history is observable, and that has
+/// seen whatever list of runs, stops and crashes, the contract says what this very run leaves.
+pub fn run_on_a_root<T: Tree, O: Sink, E: Sink>(
+    alloc: Global,
+    words: &Words,
+    tree: &mut T,
+    out: &mut O,
+    err: &mut E,
+) -> Answer
+    // What `apk` did is a run; so behind whatever list it is safe, and from one state all or
+    // nothing.
+    ensures { IfObservable (T.history tree.old) (λ v. let run : Run = record {
+      words = words.now;
+      old = T.history tree.old;
+      now = T.history tree.new;
+      before = T.counts tree.old;
+      after = T.counts tree.new;
+      out = sink_change O.bytes O.counts out.old out.new;
+      err = sink_change E.bytes E.counts err.old err.new;
+      answer = result;
+    } in IsRunFrom v run × IsSafeBehindAll v run × IsAtomicBehindAll v run) }
+{
+    whatever_a_root_has_seen_a_run_is_safe();
+    apk(alloc, words, tree, out, err)
+}

@@ -1,0 +1,232 @@
+//! Versions that stand in the same bytes and may overlap. Where one has passed, another goes on in
+//! leaps.
+
+ghost use Rattle.std.specs.Prelude.{◌≡◌, ◌<◌, ◌≤◌, false, length, slice_range, IfOk, IfSome, IfNone, Some};
+ghost use Rattle.version_core.specs.Order.{is_version};
+ghost use Rattle.version_core.specs.Overlapping.{IsNextPlace, IsLeap, can_follow};
+ghost use Rattle.version_core.specs.Reading.{unread_len};
+
+use crate::lexeme::{first_token, leading_hex_digits};
+use crate::token::Class;
+use std::alloc::{AllocError, Global};
+use std::marker::Model;
+
+/// How many bytes share one leap.
+const BLOCK: usize = 256;
+
+/// A place behind a token of a version or between the digits of its hash, and the class of that
+/// token.
+#[derive(Clone, Copy)]
+struct Place {
+    at: usize,
+    class: Class,
+}
+
+/// Two places, of which the first leads to the second.
+#[derive(Clone, Copy)]
+struct Leap {
+    from: Place,
+    to: Place,
+}
+
+/// Bytes that versions stand in, and for each block of them the leap over it, once a version has
+/// passed it.
+#[derive(Drop)]
+pub struct OverlappingVersions<'a> {
+    bytes: &'a [u8],
+    leaps: Vec<Leap>,
+}
+
+impl<'a> Model for OverlappingVersions<'a> {
+    ghost use Rattle.std.specs.Prelude.{ℕ, List, All};
+    ghost use Rattle.version_core.specs.Overlapping.{IsLeap};
+
+    ghost Value = { List ℕ };
+
+    ghost view = { λ versions. versions.bytes.now };
+
+    ghost invariant = { λ versions.
+        All (λ leap. IsLeap versions.bytes.now leap.from leap.to) versions.leaps.items };
+}
+
+impl<'a> OverlappingVersions<'a> {
+    /// Bytes of which nothing is known.
+    pub fn new(alloc: Global, bytes: &'a [u8]) -> OverlappingVersions<'a>
+        ensures { result ≡ bytes.entry.now }
+    {
+        OverlappingVersions {
+            bytes,
+            leaps: Vec::new(alloc),
+        }
+    }
+
+    /// Whether the bytes between two offsets are a version. Where an earlier version has passed it
+    /// takes a leap for each 256 bytes. The first call takes memory, an eighth of all the bytes.
+    pub fn is_version(&mut self, from: usize, end: usize) -> Result<bool, AllocError>
+        requires order { from ≤ end }
+        requires within { end ≤ length self.old }
+        ensures value { IfOk result (λ is. is ≡ is_version (slice_range self.old from end)) }
+        ensures bytes { self.new ≡ self.old }
+    {
+        self.make_leaps()?;
+        match first_place(self.bytes, from, end) {
+            Some(first) => Ok(self.is_passed(first, end)),
+            None => Ok(false),
+        }
+    }
+
+    /// Whether what stands between a place and an end may follow there.
+    fn is_passed(&mut self, first: Place, end: usize) -> bool
+        requires order { first.at ≤ end }
+        requires within { end ≤ length self.old }
+        ensures value { result ≡ can_follow self.old first end }
+        ensures bytes { self.new ≡ self.old }
+    {
+        let mut begun = first;
+        let mut place = first;
+        while place.at < end {
+            begun = self.pass(begun, place);
+            match self.next_place(place, end) {
+                Some(next) => place = next,
+                None => return false,
+            }
+        }
+        true
+    }
+
+    /// A place behind another, as far as an earlier version leads or else behind one token; none
+    /// where no token follows.
+    fn next_place(&self, place: Place, end: usize) -> Option<Place>
+        requires order { place.at < end }
+        requires within { end ≤ length self.now }
+        ensures some { IfSome result (IsNextPlace self.now end place) }
+        ensures none { IfNone result (can_follow self.now place end ≡ false) }
+    {
+        match self.leap(place, end) {
+            Some(to) => Some(to),
+            None => place_behind(self.bytes, place, end),
+        }
+    }
+
+    /// Where an earlier version leads.
+    fn leap(&self, place: Place, end: usize) -> Option<Place>
+        ensures { IfSome result (IsNextPlace self.now end place) }
+    {
+        let leap = self.leaps.get(place.at / BLOCK)?;
+        let Leap { from, to } = *leap;
+        if from.at != place.at || from.class != place.class {
+            return None;
+        }
+        if to.at <= place.at || to.at > end {
+            return None;
+        }
+        Some(to)
+    }
+
+    /// Keeps the leap from one place to another where this lies in another block, and answers from
+    /// where the next leap goes.
+    fn pass(&mut self, begun: Place, place: Place) -> Place
+        requires { IsLeap self.old begun place }
+        ensures leads { IsLeap self.old result place }
+        ensures bytes { self.new ≡ self.old }
+    {
+        if place.at / BLOCK == begun.at / BLOCK {
+            return begun;
+        }
+        self.remember(begun, place);
+        place
+    }
+
+    /// Keeps a leap, in place of one over the same block.
+    fn remember(&mut self, from: Place, to: Place)
+        requires { IsLeap self.old from to }
+        ensures { self.new ≡ self.old }
+    {
+        let block = from.at / BLOCK;
+        if block < self.leaps.len() {
+            self.leaps[block] = Leap { from, to };
+        }
+    }
+
+    /// Makes room for the leap over each block, once.
+    fn make_leaps(&mut self) -> Result<(), AllocError>
+        ensures { self.new ≡ self.old }
+    {
+        if self.leaps.is_empty() {
+            let place = Place {
+                at: 0,
+                class: Class::End,
+            };
+            let nowhere = Leap {
+                from: place,
+                to: place,
+            };
+            self.leaps.resize(self.bytes.len() / BLOCK + 1, nowhere)?;
+        }
+        Ok(())
+    }
+}
+
+/// The place behind the first token of a version.
+fn first_place(bytes: &[u8], from: usize, end: usize) -> Option<Place>
+    requires order { from ≤ end }
+    requires within { end ≤ length bytes.now }
+    ensures some { IfSome result (λ place. (place.at ≤ end)
+        × (is_version (slice_range bytes.now from end) ≡ can_follow bytes.now place end)) }
+    ensures none { IfNone result (is_version (slice_range bytes.now from end) ≡ false) }
+{
+    let (class, len) = first_token(None, &bytes[from..end]);
+    if class.is_last() {
+        return None;
+    }
+    Some(Place {
+        at: from + len,
+        class,
+    })
+}
+
+/// The place behind the next token, or behind some more digits of a hash.
+fn place_behind(bytes: &[u8], place: Place, end: usize) -> Option<Place>
+    requires order { place.at < end }
+    requires within { end ≤ length bytes.now }
+    ensures some { IfSome result (IsNextPlace bytes.now end place) }
+    ensures none { IfNone result (can_follow bytes.now place end ≡ false) }
+{
+    let len = (end - place.at).min(BLOCK);
+    let digits = unread_digits(place.class, &bytes[place.at..place.at + len]);
+    if digits > 0 {
+        return Some(Place {
+            at: place.at + digits,
+            class: place.class,
+        });
+    }
+    place_behind_token(bytes, place, end)
+}
+
+/// How many digits a text begins with that belong to a hash before it.
+fn unread_digits(class: Class, text: &[u8]) -> usize
+    ensures { result ≡ unread_len (Some class) text.now }
+{
+    if class != Class::Hash {
+        return 0;
+    }
+    leading_hex_digits(text).len()
+}
+
+/// The place behind the next token.
+fn place_behind_token(bytes: &[u8], place: Place, end: usize) -> Option<Place>
+    requires order { place.at < end }
+    requires within { end ≤ length bytes.now }
+    requires none { unread_len (Some place.class) (slice_range bytes.now place.at end) ≡ 0 }
+    ensures some { IfSome result (IsNextPlace bytes.now end place) }
+    ensures none { IfNone result (can_follow bytes.now place end ≡ false) }
+{
+    let (class, len) = first_token(Some(place.class), &bytes[place.at..end]);
+    if class.is_last() {
+        return None;
+    }
+    Some(Place {
+        at: place.at + len,
+        class,
+    })
+}

@@ -1,0 +1,29 @@
+-- Words of `info` whose kind can still follow: a kind takes other operands than `info` without one.
+use Rattle.std.specs.Prelude.{ℕ, Bool, true, false, not, ◌&&◌, ◌||◌, List, drop, None, is_some, Result, Ok, Err}
+use Rattle.command_core.specs.declared.command.Applet.{Applet}
+use Rattle.command_core.specs.declared.command.Applet.TheVariants.{Info}
+use Rattle.command_core.specs.Flags.{has_kind}
+use Rattle.words_core.specs.declared.reading.Start.{Start}
+use Rattle.words_core.specs.Grammar.{line_start, reading_behind}
+use Rattle.words_core.specs.Options.{options_of}
+use Rattle.words_core.specs.Stuck.{have_ended}
+
+abbrev pub is_info : Applet → Bool
+is_info Info = true
+is_info applet = false
+
+-- whether words whose applet was found can still get a kind: they are `info` without one, each of
+-- them can be read, and options can follow
+abbrev pub can_get_kind_from : List (List ℕ) → Start → Bool
+can_get_kind_from words start =
+    let reading = reading_behind start words in
+    is_info start.applet && not (has_kind reading.state.flags) && not (is_some reading.unread)
+    && not (start.ended || have_ended (options_of start.applet) None (drop start.read words))
+
+abbrev pub can_get_kind_by : List (List ℕ) → Result Start ℕ → Bool
+can_get_kind_by words (Err place) = false
+can_get_kind_by words (Ok start) = can_get_kind_from words start
+
+-- whether words can still get a kind
+unfoldable pub can_get_kind : List (List ℕ) → Bool
+can_get_kind words = can_get_kind_by words (line_start words)
