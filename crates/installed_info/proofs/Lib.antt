@@ -4,3 +4,4 @@ mod Listers
 mod NoName
 mod OperandSteps
 mod Refusing
+mod Worked

@@ -6,7 +6,7 @@ use command_core::Flags;
 
 /// What `info` is asked for.
 #[derive(Clone, Copy)]
-pub enum Form {
+pub(crate) enum Form {
     /// What packages are; without words, which ones are installed.
     Description,
     /// The paths that they list.

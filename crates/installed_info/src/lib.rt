@@ -18,7 +18,6 @@ mod paths;
 mod telling;
 
 pub use done::InfoDone;
-pub use form::Form;
 pub use laws::{
     info_refuses_an_operand, owners_are_those_that_list_a_path,
     packages_have_the_names_that_ask_for_them,
