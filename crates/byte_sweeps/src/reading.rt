@@ -122,7 +122,11 @@ fn text_of_blocks(alloc: Global, blocks: &mut Blocks<'_>, which: Which) -> Resul
 
 /// Tests the framing of the blocks behind the first.
 fn check_framing(blocks: &mut Blocks<'_>) -> Result<(), Cause> {
-    while blocks.next()?.is_some() {}
+    for _ in 0..u64::MAX {
+        if blocks.next()?.is_none() {
+            break;
+        }
+    }
     Ok(())
 }
 
