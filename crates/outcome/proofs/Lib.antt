@@ -7,5 +7,8 @@ pub mod MadeSound
 pub mod Commits
 pub mod Idle
 pub mod NextRoom
+pub mod Ends
+pub mod PackageRefusals
+pub mod FirstSelections
 pub mod Demos
 pub mod Worded
