@@ -9,6 +9,7 @@ pub mod Idle
 pub mod NextRoom
 pub mod Ends
 pub mod PackageRefusals
+pub mod Recovering
 pub mod FirstSelections
 pub mod Demos
 pub mod Worded

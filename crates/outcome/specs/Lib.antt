@@ -14,4 +14,5 @@ pub mod Given
 pub mod Demo
 -- what only inner contracts and proofs use
 pub mod ChangeEnd
+pub mod Recovers
 pub mod Sound
