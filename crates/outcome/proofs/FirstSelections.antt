@@ -25,7 +25,7 @@ use Rattle.report_core.specs.Reports.{change_lines}
 use Rattle.report_core.specs.declared.refusal.Refusal.{Refusal}
 use Rattle.report_core.specs.declared.refusal.Refusal.TheVariants.{NotInstalled}
 use Rattle.outcome.proofs.Applets.{change_is}
-use Rattle.outcome.proofs.Ends.{IsStated, inputs_stated, pool_stated}
+use Rattle.outcome.proofs.Ends.{HasKnownRefusal, inputs_stated, pool_stated}
 use Rattle.outcome.proofs.PackageRefusals.{refusal_stated}
 use Rattle.outcome.specs.ChangeEnd.{IsChangeEnd, IsEndBy, IsRunEnd, is_input_refusal, is_package_refusal}
 use Rattle.outcome.specs.Changing.{change_outcome}
@@ -90,7 +90,7 @@ end_by known command files clash s false simulates (Ok done) is =
     record { outcome = refl; rest = rest; report = lines; simulated = λ simulated. absurd (true≢false (sym simulated ∙ simulates)) }
 end_by known command files clash s true simulates (Err refusal) is = absurd (cc (is))
 end_by known command files clash s false simulates (Err refusal) is =
-    (subst (IsStated is_package_refusal) is (refusal_stated s.inputs s.replacement (wishes_of command) (reads_in files) clash files), refl)
+    (subst (HasKnownRefusal is_package_refusal) is (refusal_stated s.inputs s.replacement (wishes_of command) (reads_in files) clash files), refl)
 
 -- ---- by what is chosen
 
@@ -148,7 +148,7 @@ module _ (known : IsMadeKnown) (command : CommandLine) (files : Files) where
   by_pool inputs (Err refusal) chosen clash are is choice is_clash =
       inl (record {
         refusal = refusal;
-        stated = subst (IsStated is_input_refusal) is (pool_stated inputs (names_to_upgrade command.applet command.operands));
+        stated = subst (HasKnownRefusal is_input_refusal) is (pool_stated inputs (names_to_upgrade command.applet command.operands));
         outcome = refl;
         unchosen = λ other.
             ap (λ (r : Result Inputs Refusal). and_then r (selected_of_inputs command other)) are
@@ -160,7 +160,7 @@ module _ (known : IsMadeKnown) (command : CommandLine) (files : Files) where
       → IsChangeEnd command files (end_of clash (and_then inputs (selected_of_inputs command chosen)))
   by_inputs (Ok inputs) chosen clash are choice is_clash = by_pool inputs (pool_by command inputs) chosen clash are refl choice is_clash
   by_inputs (Err refusal) chosen clash are choice is_clash =
-      inl (record { refusal = refusal; stated = subst (IsStated is_input_refusal) are (inputs_stated command (reads_in files)); outcome = refl; unchosen = λ other. ap (λ (r : Result Inputs Refusal). and_then r (selected_of_inputs command other)) are })
+      inl (record { refusal = refusal; stated = subst (HasKnownRefusal is_input_refusal) are (inputs_stated command (reads_in files)); outcome = refl; unchosen = λ other. ap (λ (r : Result Inputs Refusal). and_then r (selected_of_inputs command other)) are })
 
   change_end : (chosen : Option (List ℕ)) (clash : Option NamePair) → IsChoiceFrom (pool_for command (reads_in files)) chosen → IsClashFor command (reads_in files) files chosen clash
       → IsChangeEnd command files (change_outcome files (changed command (reads_in files) files chosen clash))

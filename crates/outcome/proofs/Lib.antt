@@ -12,4 +12,6 @@ pub mod PackageRefusals
 pub mod Recovering
 pub mod FirstSelections
 pub mod Demos
+pub mod Lacking
 pub mod Worded
+mod Worked

@@ -25,11 +25,11 @@ use Rattle.path_clashes.specs.Clash.{NamePair}
 use Rattle.pool_core.specs.Candidates.{Candidate, is_same_id}
 use Rattle.report_core.specs.Reports.{Change}
 use Rattle.report_core.specs.declared.refusal.Refusal.{Refusal}
-use Rattle.outcome.proofs.Ends.{IsStated, then_stated}
+use Rattle.outcome.proofs.Ends.{HasKnownRefusal, then_stated}
 use Rattle.outcome.specs.ChangeEnd.{is_package_refusal}
 
 abbrev IsPackagesResult : {A : Type 0} → Result A Refusal → Type 0
-IsPackagesResult r = IsStated is_package_refusal r
+IsPackagesResult r = HasKnownRefusal is_package_refusal r
 
 -- ---- a package that comes
 

@@ -10,17 +10,18 @@
 //! their contracts say what follows from the definitions, for all words and files.
 #![tactic(auto)]
 
-ghost use Rattle.std.specs.Prelude.{◌≡◌, ◌⊎◌, ℕ, false, List, None, Some, Result, Ok, IsSome, IsTrue, is_some, not};
+ghost use Rattle.std.specs.Prelude.{◌≡◌, ◌⊎◌, ℕ, false, List, None, Some, Result, Ok, Err, IsSome, IsTrue, is_some, not};
 ghost use Rattle.base_core.specs.Files.{Files, IsWithin};
 ghost use Rattle.base_core.specs.Listed.{IsListOf, IsNamesOf};
 ghost use Rattle.base_core.specs.Tree.{IsWhole, TreeState, files_of};
 ghost use Rattle.base_core.specs.declared.cause.Cause.{Cause};
+ghost use Rattle.change_inputs.specs.Inputs.{database_for};
 ghost use Rattle.command_core.specs.Command.{CommandLine};
 ghost use Rattle.command_core.specs.declared.command.Applet.{Applet};
 ghost use Rattle.journal_core.specs.Recovery.{intent_name};
 ghost use Rattle.journal_core.specs.Staged.{HasRoomToReplay, HasRoomToStage, unstaged_files};
 ghost use Rattle.outcome.specs.ChangeEnd.{IsChangeEnd, IsRunEnd};
-ghost use Rattle.outcome.specs.Commands.{IsOutcomeOf, IsOutcomeOver};
+ghost use Rattle.outcome.specs.Commands.{IsOutcomeOf, IsOutcomeOver, reads_in};
 ghost use Rattle.outcome.specs.Effect.{Changes, Makes, Tells, does_recover, effect_by, effect_of, output, reads_only, rests_on_words};
 ghost use Rattle.outcome.specs.Make.{files_below};
 ghost use Rattle.outcome.specs.Outcome.{Outcome, just_refusal, outcome_of};
@@ -28,7 +29,8 @@ ghost use Rattle.outcome.specs.Recovers.{must_recover};
 ghost use Rattle.outcome.specs.Sound.{IsSoundAt};
 ghost use Rattle.outcome.specs.Words.{IsOutcome};
 ghost use Rattle.outcome.specs.Work.{fault_of_intent, work_files};
-ghost use Rattle.report_core.specs.declared.refusal.Refusal.TheVariants.{IntentBad};
+ghost use Rattle.report_core.specs.declared.refusal.Refusal.TheVariants.{IntentBad, NoDatabase};
+ghost use Rattle.root_names.specs.RootNames.{database_name, text_database_name};
 ghost use Rattle.words_core.specs.Grammar.{command_of};
 
 use adb_schema::sound_containers_hold_sound_values;
@@ -156,6 +158,15 @@ pub fn a_command_recovers()
     what_is_read_of_a_root_stands_there();
     a_change_that_writes_nothing_leaves_the_files();
 }
+
+/// A root is refused for having no database only where neither file of one stands there, and the
+/// command may not begin one.
+pub fn a_root_has_no_database_where_no_file_of_one_stands()
+    ensures { (command : CommandLine) (files : Files)
+        → database_for command (reads_in files) ≡ Err NoDatabase
+        → (files database_name ≡ None) × (files text_database_name ≡ None)
+        × (command.flags.initdb ≡ false) }
+{}
 
 /// A command that changes what is installed is refused for a stated fault of its input, or where no
 /// selection satisfies the new world, and just there as unsatisfied; else the first preferred
