@@ -1,0 +1,6 @@
+mod NewWorld
+mod Unreserved
+mod SoundBefore
+mod MembersFound
+mod DatabaseLeft
+mod RootLeft

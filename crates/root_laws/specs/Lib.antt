@@ -1,0 +1,2 @@
+-- what laws of runs say
+pub mod RootLeft
