@@ -1,5 +1,8 @@
 mod NewWorld
 mod Unreserved
+mod TextLines
+mod TextRecords
+mod TextNormal
 mod SoundBefore
 mod MembersFound
 mod DatabaseLeft

@@ -106,7 +106,7 @@ module _ (come : FilesMayCome) (tested : PackagesAreTested) (read : Reads) (byte
     where
       by_read : (o : Option (List ℕ)) → read n path ≡ o → package_found c o ≡ Ok pkg → IsFoundAs c.name (coming_found pkg).member
       by_read None is e = absurd (cc (e))
-      by_read (Some file) is e = file_ok c file pkg (bytes.files n path file is) e
+      by_read (Some file) is e = file_ok c file pkg (bytes n path file is) e
 
   script_ok : {A : Type 0} (no_scripts : Bool) (name : List ℕ) (pkg : Plain) (numbers : List ℕ) (a b : A) → unless_script no_scripts name pkg numbers a ≡ Ok b → a ≡ b
   script_ok true name pkg numbers a b e = (cc (e))

@@ -1,16 +1,13 @@
 -- The packages before a change are of a sound database.
 use Rattle.std.proofs.Common.{◌≡◌, ◌∙◌, ℕ, ◌<◌, Bool, true, false, List, [], Option, Some, None, Result, Ok, Err, refl, sym, ap, subst}
-use Rattle.std.specs.Prelude.{All, IfSome}
+use Rattle.std.specs.Prelude.{All}
 use Rattle.adb_fields.specs.FirstPair.{IsIn}
 use Rattle.adb_fields.specs.Repeated.{entries_at}
 use Rattle.adb_schema.specs.SoundContainers.{IsSound}
 use Rattle.adb_schema.proofs.Sound as Values
-use Rattle.adb_tables.specs.Schema.{shape_of}
-use Rattle.adb_tables.specs.declared.tables.Kind.TheVariants as Kinds
-use Rattle.adb_view.specs.Head.{root_of}
 use Rattle.adb_schema.specs.Soundness.{first_fault, payload_in, root_value}
 use Rattle.adb_tables.specs.declared.tables.Which.TheVariants.{Idb}
-use Rattle.adb_view.specs.Plain.{IsNormal, Plain, Shape, plain_of}
+use Rattle.adb_view.specs.Plain.{Plain}
 use Rattle.base_core.specs.declared.cause.Cause.{Cause}
 use Rattle.change_inputs.specs.Chains.{and_then, unless_cause}
 use Rattle.change_inputs.specs.Database.{Database, container_database, database_by, payload_database, root_database}
@@ -33,6 +30,7 @@ use Rattle.v2_core.specs.Payload.{payload_of_text}
 use Rattle.v2_core.specs.declared.fault.V2Fault.{V2Fault}
 use Rattle.v2_core.specs.declared.fault.V2Fault.TheVariants.{Bad, Memory, TooLarge}
 use Rattle.root_laws.specs.RootLeft.{FindBytes}
+use Rattle.root_laws.proofs.TextNormal.{Exact, ReadBack, text_normal}
 use Rattle.root_laws.proofs.NewWorld.{new_world_is, read_world_is}
 
 abbrev pub AllSound : List Plain → Type 0
@@ -43,18 +41,15 @@ abbrev pub FilesMayStay : Type 0
 FilesMayStay = (file : List ℕ) (pkg : Plain) → IsSound Idb file → All (λ b. b < 256) (payload_in file) → IsIn pkg (entries_at 0 (root_value Idb (payload_in file))) → IsOfSoundContainer pkg None
 
 abbrev pub TextsAreSound : Type 0
-TextsAreSound = (text payload : List ℕ) → payload_of_text text ≡ Ok payload → All (λ b. b < 256) payload → AllSound (entries_at 0 (root_value Idb payload))
+TextsAreSound = (text payload : List ℕ) → payload_of_text text ≡ Ok payload → AllSound (entries_at 0 (root_value Idb payload))
 
 -- what a text says is sound
-abbrev pub PayloadsAreNormal : Type 0
-PayloadsAreNormal = (payload : List ℕ) → All (λ b. b < 256) payload → (shape : Shape) (word : ℕ) → IfSome (plain_of payload shape word) IsNormal
-
-pub texts_are_sound : Values.Laws → PayloadsAreNormal → TextsAreSound
-texts_are_sound laws normal text payload is bytes pkg here =
+pub texts_are_sound : Values.Laws → ReadBack → Exact → TextsAreSound
+texts_are_sound laws back exact text payload is pkg here =
     record {
       database = root_value Idb payload;
       sound = Values.sound_value laws Idb payload (text_passes text payload is);
-      normal = Values.normal_value laws Idb payload (text_passes text payload is) (normal payload bytes (shape_of (Kinds.Obj Idb)) (root_of payload));
+      normal = text_normal back exact text payload is;
       listed = here;
     }
 
@@ -73,14 +68,11 @@ container_sound stay file database bytes e = by_fault (first_fault Idb file) ref
         (λ pkg here. stay file pkg sound (payload_all (λ b. b < 256) file bytes) here) e
     by_fault (Some cause) sound e = absurd (cc (e))
 
-abbrev IfPayload : List ℕ → Type 0
-IfPayload text = (payload : List ℕ) → payload_of_text text ≡ Ok payload → All (λ b. b < 256) payload
-
-text_sound : TextsAreSound → (text : List ℕ) (database : Database) → IfPayload text → payload_database (payload_of_text text) ≡ Ok database → AllSound database.packages
-text_sound texts text database bytes e = by_payload (payload_of_text text) refl e
+text_sound : TextsAreSound → (text : List ℕ) (database : Database) → payload_database (payload_of_text text) ≡ Ok database → AllSound database.packages
+text_sound texts text database e = by_payload (payload_of_text text) refl e
   where
     by_payload : (r : Result (List ℕ) V2Fault) → payload_of_text text ≡ r → payload_database r ≡ Ok database → AllSound database.packages
-    by_payload (Ok payload) is e = same_sound (database_by (entries_at 0 (root_value Idb payload)) None true) database (texts text payload is (bytes payload is)) e
+    by_payload (Ok payload) is e = same_sound (database_by (entries_at 0 (root_value Idb payload)) None true) database (texts text payload is) e
     by_payload (Err (Bad cause)) is e = absurd (cc (e))
     by_payload (Err (TooLarge n values)) is e = absurd (cc (e))
     by_payload (Err Memory) is e = absurd (cc (e))
@@ -88,11 +80,11 @@ text_sound texts text database bytes e = by_payload (payload_of_text text) refl 
 abbrev IfBytes : Option (List ℕ) → Type 0
 IfBytes found = (bytes : List ℕ) → found ≡ Some bytes → All (λ b. b < 256) bytes
 
-database_sound : FilesMayStay → TextsAreSound → (may_begin : Bool) (file text : Option (List ℕ)) (database : Database) → IfBytes file → ((bytes : List ℕ) → text ≡ Some bytes → IfPayload bytes) → root_database may_begin file text ≡ Ok database → AllSound database.packages
-database_sound stay texts may_begin (Some file) text database h g e = container_sound stay file database (h file refl) e
-database_sound stay texts may_begin None (Some text) database h g e = text_sound texts text database (g text refl) e
-database_sound stay texts true None None database h g e = same_sound (database_by [] None false) database (λ pkg here. absurd here) e
-database_sound stay texts false None None database h g e = absurd (cc (e))
+database_sound : FilesMayStay → TextsAreSound → (may_begin : Bool) (file text : Option (List ℕ)) (database : Database) → IfBytes file → root_database may_begin file text ≡ Ok database → AllSound database.packages
+database_sound stay texts may_begin (Some file) text database h e = container_sound stay file database (h file refl) e
+database_sound stay texts may_begin None (Some text) database h e = text_sound texts text database e
+database_sound stay texts true None None database h e = same_sound (database_by [] None false) database (λ pkg here. absurd here) e
+database_sound stay texts false None None database h e = absurd (cc (e))
 
 -- ---- what inputs are of
 
@@ -134,7 +126,7 @@ inputs_parts command read inputs e =
 pub before_sound : FilesMayStay → TextsAreSound → (command : CommandLine) (read : Reads) (root : Root) → FindBytes read → IsRootFor command read root → AllSound root.database.packages
 before_sound stay texts command read root bytes is =
     database_sound stay texts command.flags.initdb (read database_read database_name) (read text_database_read text_database_name) root.database
-    (bytes.files database_read database_name) (λ text is payload. bytes.payload text payload is) is.database
+    (bytes database_read database_name) is.database
 
 pub new_world_sound : (command : CommandLine) (read : Reads) (root : Root) → IsRootFor command read root → IsWorld root.new_world
 new_world_sound command read root is =

@@ -3,7 +3,7 @@ use Rattle.std.specs.Prelude.{◌≡◌, ℕ, ◌<◌, false, List, All, Option,
 use Rattle.adb_fields.specs.Repeated.{list_of}
 use Rattle.base_core.specs.Files.{Files}
 use Rattle.change_inputs.specs.Database.{Database, database_by}
-use Rattle.change_inputs.specs.Inputs.{database_for, database_read, text_database_read, world_read}
+use Rattle.change_inputs.specs.Inputs.{database_for, database_read, world_read}
 use Rattle.change_inputs.specs.World.{root_world, text_found}
 use Rattle.change_outcome.specs.ChangeOutcome.{ChangeDone, change_members}
 use Rattle.change_outcome.specs.MembersAfter.{MemberFound, members_found}
@@ -15,14 +15,12 @@ use Rattle.engine_core.specs.Changed.{Selected, selected_for}
 use Rattle.engine_core.specs.Wishes.{wishes_of}
 use Rattle.file_owners.specs.Owners.{owned_of}
 use Rattle.make_info.specs.Reads.{Reads}
-use Rattle.root_names.specs.RootNames.{database_name, text_database_name, world_name}
-use Rattle.v2_core.specs.Payload.{payload_of_text}
+use Rattle.root_names.specs.RootNames.{database_name, world_name}
 
--- each file that reads find has bytes, and so has the payload of the text database, if there is one
-pub record FindBytes (read : Reads) : Type 0 where
-  pub files : (n : ℕ) (name bytes : List ℕ) → read n name ≡ Some bytes → All (λ b. b < 256) bytes
-  pub payload : (text payload : List ℕ) → read text_database_read text_database_name ≡ Some text
-      → payload_of_text text ≡ Ok payload → All (λ b. b < 256) payload
+-- each file that reads find has bytes
+abbrev pub FindBytes : Reads → Type 0
+FindBytes read =
+    (n : ℕ) (name bytes : List ℕ) → read n name ≡ Some bytes → All (λ b. b < 256) bytes
 
 -- the database and world are read of these files
 pub record ReadsRoot (files : Files) (read : Reads) : Type 0 where

@@ -13,7 +13,7 @@ returns c = λ command read files chosen clash done bytes ok off.
         shaped = c.values_have_their_shape.ensures.word;
         kept = c.no_text_is_bad_where_each_keeps_its_rule.ensures;
         once = c.no_name_is_repeated_where_each_stands_once.ensures;
-      }) c.values_are_normal.ensures;
+      }) c.a_canonical_payload_is_read_back.ensures c.a_value_overflows_exactly_past_a_limit.ensures;
       written = record {
         one_owner = c.no_path_is_owned_by_two_members.ensures;
         root = c.a_database_of_sound_packages_may_stand_at_the_root.ensures;
