@@ -7,3 +7,4 @@ mod SoundBefore
 mod MembersFound
 mod DatabaseLeft
 mod RootLeft
+mod NextInputs

@@ -1,14 +1,17 @@
 //! What follows from the definition of a command that changes the installed packages, for the
 //! command that reads the root after it.
 
-ghost use Rattle.std.specs.Prelude.{◌≡◌, ℕ, false, List, Ok, Option};
-ghost use Rattle.base_core.specs.Files.{Files};
+ghost use Rattle.std.specs.Prelude.{◌≡◌, ℕ, false, Err, List, Ok, Option};
+ghost use Rattle.base_core.specs.Files.{AreNamedFiles, Files};
+ghost use Rattle.change_inputs.specs.Inputs.{Inputs, inputs_of};
 ghost use Rattle.change_outcome.specs.ChangeOutcome.{ChangeDone};
 ghost use Rattle.command_core.specs.Command.{CommandLine};
 ghost use Rattle.engine_core.specs.Changed.{changed};
 ghost use Rattle.make_info.specs.Reads.{Reads};
 ghost use Rattle.path_clashes.specs.Clash.{NamePair};
-ghost use Rattle.root_laws.specs.RootLeft.{FindBytes, IsRootLeft};
+ghost use Rattle.report_core.specs.declared.refusal.Refusal.{Refusal};
+ghost use Rattle.root_laws.specs.NextInputs.{BeginsWith, IsOfRepositories};
+ghost use Rattle.root_laws.specs.RootLeft.{FindBytes, IsRootLeft, ReadsRoot};
 
 use adb_fields::no_name_is_repeated_where_each_stands_once;
 use adb_rules::no_text_is_bad_where_each_keeps_its_rule;
@@ -45,3 +48,22 @@ pub fn what_a_change_leaves_is_read_by_the_next_run()
     a_written_database_is_read_back();
     worlds_are_read_back();
 }
+
+/// A later command that comes to its inputs has the packages and the world before it that the
+/// change has left; and one that does not is refused for its repositories or their indexes alone,
+/// neither for the database nor for the world.
+pub fn a_command_begins_with_what_the_last_change_left()
+    ensures inputs { (command later : CommandLine) (read next : Reads) (chosen : Option (List ℕ))
+        (done : ChangeDone) (inputs : Inputs) (left : IsRootLeft command read chosen done)
+        → ReadsRoot done.files next → inputs_of later next ≡ Ok inputs → BeginsWith left inputs }
+    ensures refused { (command later : CommandLine) (read next : Reads) (chosen : Option (List ℕ))
+        (done : ChangeDone) (refusal : Refusal) → IsRootLeft command read chosen done
+        → ReadsRoot done.files next → inputs_of later next ≡ Err refusal
+        → IsOfRepositories refusal }
+{}
+
+/// What is read of the files of a tree has bytes.
+pub fn reads_of_named_files_find_bytes()
+    ensures { (files : Files) (read : Reads) → AreNamedFiles files
+        → ((n : ℕ) (name : List ℕ) → read n name ≡ files name) → FindBytes read }
+{}
