@@ -62,8 +62,9 @@ pub fn apk<T: Tree, O: Sink, E: Sink>(
         (sink_change O.bytes O.counts out.old out.new)
         (sink_change E.bytes E.counts err.old err.new) }
 
-    // On every tree: the answer and the bytes are what the specification gives for some listing and
-    // some contents at each read. That these are the real ones of a file system is trusted.
+    // On every tree: the answer and the bytes are what the specification gives for some listing,
+    // some contents at each read, and some first clash of names; or a package that a change selects
+    // is no longer what was tested. That these are the real ones of a file system is trusted.
     ensures found { IsAnswerOf (IsFoundOutcome words.now) LeavesAny
         (HasCause (T.counts tree.old) (T.counts tree.new)) result
         (sink_change O.bytes O.counts out.old out.new)
@@ -124,9 +125,11 @@ pub fn apk<T: Tree, O: Sink, E: Sink>(
         → T.history tree.new ≡ T.history tree.old) }
 
     // At each moment the files as read stand for what the old ones do, and what waits only goes,
-    // if the command recovers; or behind that they are the files on which it works, but for the
-    // names under which it makes new files if its outcome commits; or they are the outcome's. So no
-    // other file is touched, also where the tree fails.
+    // if the command recovers. Behind that they are the files on which it works, but for the names
+    // under which it makes new files if its outcome commits; or a change has published its intent,
+    // and a recovery leaves the outcome's files; or they are the outcome's. So up to then the bytes
+    // under no other name change, also where the tree fails. What is read under each name while the
+    // intent is carried out is not said, nor that no file is replaced by a copy of itself.
     ensures reads { IfObservable (T.history tree.old) (λ v.
         AreReadOnTheWay (IsOutcome words.now (files_of v)) (effect_by (command_of words.now))
         (output words.now) v (T.history tree.old) (T.history tree.new)) }

@@ -1,10 +1,8 @@
 -- What `demo` prints.
-use Rattle.std.specs.Prelude.{ℕ, Bool, ◌-◌, ◌==◌, List, ◌++◌, length, take, codes}
+use Rattle.std.specs.Prelude.{ℕ, ◌-◌, List, ◌++◌, length, take, codes}
 use Rattle.std.specs.Fmt.{decimal}
 use Rattle.std.specs.List.{after_last}
-
-abbrev pub is_line_end : ℕ → Bool
-is_line_end byte = byte == 10
+use Rattle.dep_core.specs.World.{is_line_end}
 
 -- the last line of a report, without its line end
 abbrev pub last_line : List ℕ → List ℕ

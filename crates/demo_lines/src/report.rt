@@ -1,6 +1,7 @@
 //! What `demo` prints.
 ghost use Rattle.std.specs.Prelude.{◌≡◌, IfOk};
-ghost use Rattle.demo_lines.specs.Report.{demo_line, is_line_end, last_line};
+ghost use Rattle.demo_lines.specs.Report.{demo_line, last_line};
+ghost use Rattle.dep_core.specs.World.{is_line_end};
 ghost use Rattle.std.specs.List.{after_last};
 
 use base_core::Text;

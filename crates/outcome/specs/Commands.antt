@@ -34,7 +34,7 @@ applet_outcome Adbdump command given read files = adbdump read files command.ope
 applet_outcome Mkpkg command given read files = mkpkg read files command given.names
 applet_outcome Mkndx command given read files = mkndx read files command
 applet_outcome Info command given read files = info read files command
--- no word names it yet
+-- itself it comes to nothing: what it runs stands in `Demo`
 applet_outcome Demo command given read files = just_report files []
 -- `add`, `del`, `upgrade` and `fix`
 applet_outcome other command given read files =

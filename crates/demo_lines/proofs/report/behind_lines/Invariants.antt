@@ -1,6 +1,6 @@
 use Rattle.std.proofs.Common.{◌≡◌, ◌+◌, ◌≤◌, length, take, not}
 use Rattle.std.specs.List.{suffix_len}
-use Rattle.demo_lines.specs.Report.{is_line_end}
+use Rattle.dep_core.specs.World.{is_line_end}
 use Rattle.demo_lines.proofs.report.behind_lines.Given as goal
 
 -- from there on no line ends
