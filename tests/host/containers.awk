@@ -38,13 +38,13 @@ function little(value, bytes,    text) {
 }
 
 # Words of the three fields: kind, and number or place.
-function word(kind, value) { return kind * 268435456 + value }
+function word_of(kind, value) { return kind * 268435456 + value }
 
 # The word of an item, which is written at the next place that it may stand at, unless it stands somewhere.
 function item(kind, align, digits) {
     if (!((kind, digits) in written)) {
         while (length(payload) / 2 % align != 0) payload = payload "00"
-        written[kind, digits] = word(kind, length(payload) / 2)
+        written[kind, digits] = word_of(kind, length(payload) / 2)
         payload = payload digits
     }
     return written[kind, digits]
@@ -57,9 +57,26 @@ function blob(digits,    count) {
     return item(9, 2, little(count, 2) digits)
 }
 
+# A number in so many bytes, the lowest first, by its decimal digits: it may be too large for the numbers of awk.
+function little_decimal(digits, bytes,    text, rest, quotient, i) {
+    text = ""
+    while (bytes-- > 0) {
+        rest = 0; quotient = ""
+        for (i = 1; i <= length(digits); i++) {
+            rest = rest * 10 + substr(digits, i, 1)
+            quotient = quotient int(rest / 256)
+            rest = rest % 256
+        }
+        text = text sprintf("%02x", rest)
+        digits = quotient
+    }
+    return text
+}
+
 function whole(value) {
+    if (length(value) > 15) return item(3, 8, little_decimal(value, 8))
     value += 0
-    if (value < 268435456) return word(1, value)
+    if (value < 268435456) return word_of(1, value)
     if (value < 4294967296) return item(2, 4, little(value, 4))
     return item(3, 8, little(value, 8))
 }
