@@ -19,7 +19,7 @@ use Rattle.make_info.specs.Reads.{Reads}
 use Rattle.report_core.specs.declared.refusal.Refusal.{Refusal}
 use Rattle.report_core.specs.declared.refusal.Refusal.TheVariants.{IndexBad, RepositoriesBad}
 use Rattle.root_names.specs.RootNames.{repositories_name, world_name}
-use Rattle.root_laws.specs.NextInputs.{BeginsWith, IsOfRepositories}
+use Rattle.root_laws.specs.NextInputs.{AreInputsFrom, IsOfRepositories}
 use Rattle.root_laws.specs.RootLeft.{IsRootLeft, ReadsRoot, database_of_members}
 use Rattle.root_laws.proofs.SoundBefore.{inputs_parts}
 
@@ -30,7 +30,7 @@ one_answer (Ok a) x y e h = (cc (e, h))
 one_answer (Err refusal) x y e h = absurd (cc (e))
 
 pub begins : (command later : CommandLine) (read next : Reads) (chosen : Option (List ℕ)) (done : ChangeDone) (left : IsRootLeft command read chosen done) (inputs : Inputs)
-    → ReadsRoot done.files next → inputs_of later next ≡ Ok inputs → BeginsWith left inputs
+    → ReadsRoot done.files next → inputs_of later next ≡ Ok inputs → AreInputsFrom left inputs
 begins command later read next chosen done left inputs reads e =
     let is = inputs_parts later next inputs e in
     record {

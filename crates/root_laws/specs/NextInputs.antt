@@ -10,7 +10,7 @@ use Rattle.report_core.specs.declared.refusal.Refusal.TheVariants.{IndexBad, Ind
 use Rattle.root_laws.specs.RootLeft.{IsRootLeft, database_of_members}
 
 -- the packages before are those after the change, and world is the one that it was made for
-pub record BeginsWith {command : CommandLine} {read : Reads} {chosen : Option (List ℕ)}
+pub record AreInputsFrom {command : CommandLine} {read : Reads} {chosen : Option (List ℕ)}
     {done : ChangeDone} (left : IsRootLeft command read chosen done) (inputs : Inputs) : Type 0 where
   pub database : inputs.root.database ≡ database_of_members (members_found left.found) left.bytes
   pub world : inputs.root.world ≡ left.selected.inputs.root.new_world

@@ -10,7 +10,7 @@ ghost use Rattle.engine_core.specs.Changed.{changed};
 ghost use Rattle.make_info.specs.Reads.{Reads};
 ghost use Rattle.path_clashes.specs.Clash.{NamePair};
 ghost use Rattle.report_core.specs.declared.refusal.Refusal.{Refusal};
-ghost use Rattle.root_laws.specs.NextInputs.{BeginsWith, IsOfRepositories};
+ghost use Rattle.root_laws.specs.NextInputs.{AreInputsFrom, IsOfRepositories};
 ghost use Rattle.root_laws.specs.RootLeft.{FindBytes, IsRootLeft, ReadsRoot};
 
 use adb_fields::no_name_is_repeated_where_each_stands_once;
@@ -55,7 +55,7 @@ pub fn what_a_change_leaves_is_read_by_the_next_run()
 pub fn a_command_begins_with_what_the_last_change_left()
     ensures inputs { (command later : CommandLine) (read next : Reads) (chosen : Option (List ℕ))
         (done : ChangeDone) (inputs : Inputs) (left : IsRootLeft command read chosen done)
-        → ReadsRoot done.files next → inputs_of later next ≡ Ok inputs → BeginsWith left inputs }
+        → ReadsRoot done.files next → inputs_of later next ≡ Ok inputs → AreInputsFrom left inputs }
     ensures refused { (command later : CommandLine) (read next : Reads) (chosen : Option (List ℕ))
         (done : ChangeDone) (refusal : Refusal) → IsRootLeft command read chosen done
         → ReadsRoot done.files next → inputs_of later next ≡ Err refusal

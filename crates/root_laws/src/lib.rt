@@ -1,8 +1,8 @@
 //! What a change leaves is a root that the next run reads: a database and a world, and they say
 //! what the change has made.
 //!
-//! The functions are laws. They cite `RootLeft` and `NextInputs` of `specs/`, and the definitions of `engine_core`
-//! and of the crates below it.
+//! The functions are laws. They cite `RootLeft` and `NextInputs` of `specs/`, and the definitions
+//! of `engine_core` and of the crates below it.
 #![tactic(auto)]
 
 mod laws;
