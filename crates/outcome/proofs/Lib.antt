@@ -7,5 +7,9 @@ pub mod MadeSound
 pub mod Commits
 pub mod Idle
 pub mod NextRoom
+pub mod Ends
+pub mod PackageRefusals
+pub mod Recovering
+pub mod FirstSelections
 pub mod Demos
 pub mod Worded
