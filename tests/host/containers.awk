@@ -38,13 +38,13 @@ function little(value, bytes,    text) {
 }
 
 # Words of the three fields: kind, and number or place.
-function word(kind, value) { return kind * 268435456 + value }
+function word_of(kind, value) { return kind * 268435456 + value }
 
 # The word of an item, which is written at the next place that it may stand at, unless it stands somewhere.
 function item(kind, align, digits) {
     if (!((kind, digits) in written)) {
         while (length(payload) / 2 % align != 0) payload = payload "00"
-        written[kind, digits] = word(kind, length(payload) / 2)
+        written[kind, digits] = word_of(kind, length(payload) / 2)
         payload = payload digits
     }
     return written[kind, digits]
@@ -57,11 +57,27 @@ function blob(digits,    count) {
     return item(9, 2, little(count, 2) digits)
 }
 
-function whole(value) {
-    value += 0
-    if (value < 268435456) return word(1, value)
+function whole(text,    value) {
+    value = text + 0
+    if (value < 268435456) return word_of(1, value)
     if (value < 4294967296) return item(2, 4, little(value, 4))
-    return item(3, 8, little(value, 8))
+    return item(3, 8, divided(text, 8))
+}
+
+# A number of many decimal digits in so many bytes, by division digit by digit: numbers of awk are exact up to 2^53 alone.
+function divided(text, bytes,    digits, quotient, rest, i) {
+    digits = ""
+    while (bytes-- > 0) {
+        quotient = ""; rest = 0
+        for (i = 1; i <= length(text); i++) {
+            rest = 10 * rest + substr(text, i, 1)
+            quotient = quotient int(rest / 256)
+            rest %= 256
+        }
+        digits = digits sprintf("%02x", rest)
+        text = quotient
+    }
+    return digits
 }
 
 # The bytes of a text that may stand between quotes.

@@ -2,9 +2,9 @@
 //! end.
 //!
 //! The contract of `change` cites `ChangeRun` of `specs/` (what a run answers, and what it makes of
-//! the tree), `Changed` (what a command comes to, by what is read and by what is chosen) and `Choice`
-//! (which candidates are chosen). `laws` says that there is one choice. That of `info`, which tells of
-//! what is installed, cites `InfoTold`.
+//! the tree), `Changed` (what a command comes to, by what is read and by what is chosen) and
+//! `Choice` (which candidates are chosen). `laws` says that there is one choice. The contract of
+//! `info`, which tells of what is installed, cites `InfoTold`.
 #![tactic(auto)]
 
 mod arrived;

@@ -6,7 +6,6 @@
 
 use apk_front::{apk, status};
 use base_core::Words;
-use journal_core::{RecoverFault, recover};
 use row_dump::{DumpFault, container_of};
 use row_run::{Program, run_text};
 use std::alloc::{AllocError, Global};
@@ -14,6 +13,10 @@ use std::io;
 use std::io::{Read, Write};
 use std::process::ExitCode;
 use tree_memory::{MemorySink, MemoryTree};
+
+/// The status of a run that was refused: `info` is where a root has no database, or a bad one or a bad
+/// intent.
+const REFUSED: u8 = 1;
 
 /// The package keeper.
 struct Apk;
@@ -30,11 +33,15 @@ impl Program for Apk {
         status(&apk(alloc, words, tree, out, err))
     }
 
+    /// By `apk info`, which recovers and then only reads.
     fn recover(&self, alloc: Global, tree: &mut MemoryTree) -> bool {
-        match recover(alloc, tree) {
-            Ok(()) | Err(RecoverFault::IntentBad(_)) => true,
-            Err(_) => false,
+        let mut words = Words::new(alloc);
+        if words.push(b"info").is_err() {
+            return false;
         }
+        let mut out = MemorySink::new(alloc);
+        let mut err = MemorySink::new(alloc);
+        self.run(alloc, &words, tree, &mut out, &mut err) <= REFUSED
     }
 
     fn container_of(&self, alloc: Global, text: &[u8]) -> Result<Option<Vec<u8>>, AllocError> {

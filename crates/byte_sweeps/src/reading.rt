@@ -1,0 +1,141 @@
+//! What the tests of a container, and its dump, say of a file.
+
+ghost use Rattle.std.specs.Prelude.{IsTrue, IfSome, is_some};
+ghost use Rattle.adb_schema.specs.Soundness.{schema_word};
+
+use crate::tally::{AnswerKind, kind_of};
+use adb_block::Blocks;
+use adb_dump::dump;
+use adb_schema::{
+    IDB_WORD, INDEX_WORD, INTENT_WORD, PACKAGE_WORD, ReadFault, Shaped, Which, shape,
+};
+use adb_view::Adb;
+use base_core::{Cause, Name, Text, TreeFault};
+use package_test::{PackageTest, test_package};
+use pkg_core::{PackageFault, verify};
+use report_core::{Refusal, write_error};
+use std::alloc::{AllocError, Global};
+use tree_memory::{MemorySink, MemoryTree};
+
+/// How a file is read.
+#[derive(Clone, Copy)]
+pub(crate) enum Test {
+    /// Tested to its end, held whole.
+    Whole,
+    /// Tested to its end as `apk verify` does: a package in pieces, from a tree.
+    Pieces,
+    /// Printed as text, as `apk adbdump` does.
+    Dump,
+}
+
+impl Test {
+    /// Adds what this test says of a file, with a line end, and answers of which kind that is.
+    pub(crate) fn read(
+        self,
+        alloc: Global,
+        file: &[u8],
+        line: &mut Vec<u8>,
+    ) -> Result<AnswerKind, AllocError> {
+        let fault = match self {
+            Test::Whole => fault_of(alloc, file)?,
+            Test::Pieces => fault_in_pieces(alloc, file)?,
+            Test::Dump => match text_of(alloc, file) {
+                Ok(text) => {
+                    line.extend_from_slice(text.as_bytes())?;
+                    line.push(b'\n')?;
+                    return Ok(AnswerKind::Sound);
+                }
+                Err(ReadFault::Bad(cause)) => Some(cause),
+                Err(ReadFault::Memory) => return Err(AllocError),
+            },
+        };
+        match fault {
+            None => line.extend_from_slice(b"sound\n")?,
+            Some(cause) => add_cause(alloc, cause, line)?,
+        }
+        Ok(kind_of(fault))
+    }
+}
+
+/// The first failed test of a file that is held whole.
+fn fault_of(alloc: Global, file: &[u8]) -> Result<Option<Cause>, AllocError> {
+    match verify(alloc, file) {
+        Ok(()) => Ok(None),
+        Err(PackageFault::Bad(cause)) => Ok(Some(cause)),
+        Err(PackageFault::Memory) => Err(AllocError),
+    }
+}
+
+/// The first failed test of a file of a tree, which is read in pieces if it is a package.
+fn fault_in_pieces(alloc: Global, file: &[u8]) -> Result<Option<Cause>, AllocError> {
+    let Some(name) = Name::read(alloc, b"p")? else {
+        return Err(AllocError);
+    };
+    let mut tree = MemoryTree::new(alloc);
+    if tree.can_put(&name) {
+        tree.put(&name, file)?;
+    }
+    match test_package(alloc, &mut tree, &name) {
+        Ok(PackageTest::Sound) => Ok(None),
+        Ok(PackageTest::Bad(cause)) => Ok(Some(cause)),
+        Ok(PackageTest::OtherSchema) => fault_of(alloc, file),
+        Ok(PackageTest::Absent) => Err(AllocError),
+        Err(TreeFault::Disk | TreeFault::Memory) => Err(AllocError),
+    }
+}
+
+/// The text of a container, or its first failed test.
+fn text_of(alloc: Global, file: &[u8]) -> Result<Text, ReadFault> {
+    let mut blocks = Blocks::new(file)?;
+    let found = blocks.schema();
+    match root_of_schema(found) {
+        Some(which) => text_of_blocks(alloc, &mut blocks, which),
+        None => Err(ReadFault::Bad(Cause::WrongSchema { found })),
+    }
+}
+
+/// The table at the root of a container with this schema.
+fn root_of_schema(schema: u32) -> Option<Which>
+    ensures { IfSome result (λ which. IsTrue (is_some (schema_word which))) }
+{
+    match schema {
+        PACKAGE_WORD => Some(Which::Package),
+        INDEX_WORD => Some(Which::Index),
+        IDB_WORD => Some(Which::Idb),
+        INTENT_WORD => Some(Which::Intent),
+        _ => None,
+    }
+}
+
+/// The text of the blocks of a file with this table at its root.
+fn text_of_blocks(alloc: Global, blocks: &mut Blocks<'_>, which: Which) -> Result<Text, ReadFault>
+    requires { IsTrue (is_some (schema_word which)) }
+{
+    let Some(block) = blocks.next()? else {
+        return Err(ReadFault::Memory);
+    };
+    let shaped: Shaped<'_> = shape(Adb::new(block.payload)?, which)?;
+    check_framing(blocks)?;
+    let text = dump(alloc, &shaped)?;
+    Ok(text)
+}
+
+/// Tests the framing of the blocks behind the first.
+fn check_framing(blocks: &mut Blocks<'_>) -> Result<(), Cause> {
+    for _ in 0..u64::MAX {
+        if blocks.next()?.is_none() {
+            break;
+        }
+    }
+    Ok(())
+}
+
+/// Adds the text of a cause, with a line end.
+fn add_cause(alloc: Global, cause: Cause, line: &mut Vec<u8>) -> Result<(), AllocError> {
+    let mut page = MemorySink::new(alloc);
+    if write_error(&Refusal::FileBad { place: 1, cause }, &mut page).is_err() {
+        return Err(AllocError);
+    }
+    let text = page.bytes();
+    line.extend_from_slice(text.strip_prefix(b"ERROR: word 1: ").unwrap_or(text))
+}
