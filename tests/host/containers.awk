@@ -57,28 +57,27 @@ function blob(digits,    count) {
     return item(9, 2, little(count, 2) digits)
 }
 
-# A number in so many bytes, the lowest first, by its decimal digits: it may be too large for the numbers of awk.
-function little_decimal(digits, bytes,    text, rest, quotient, i) {
-    text = ""
-    while (bytes-- > 0) {
-        rest = 0; quotient = ""
-        for (i = 1; i <= length(digits); i++) {
-            rest = rest * 10 + substr(digits, i, 1)
-            quotient = quotient int(rest / 256)
-            rest = rest % 256
-        }
-        text = text sprintf("%02x", rest)
-        digits = quotient
-    }
-    return text
-}
-
-function whole(value) {
-    if (length(value) > 15) return item(3, 8, little_decimal(value, 8))
-    value += 0
+function whole(text,    value) {
+    value = text + 0
     if (value < 268435456) return word_of(1, value)
     if (value < 4294967296) return item(2, 4, little(value, 4))
-    return item(3, 8, little(value, 8))
+    return item(3, 8, divided(text, 8))
+}
+
+# A number of many decimal digits in so many bytes, by division digit by digit: numbers of awk are exact up to 2^53 alone.
+function divided(text, bytes,    digits, quotient, rest, i) {
+    digits = ""
+    while (bytes-- > 0) {
+        quotient = ""; rest = 0
+        for (i = 1; i <= length(text); i++) {
+            rest = 10 * rest + substr(text, i, 1)
+            quotient = quotient int(rest / 256)
+            rest %= 256
+        }
+        digits = digits sprintf("%02x", rest)
+        text = quotient
+    }
+    return digits
 }
 
 # The bytes of a text that may stand between quotes.

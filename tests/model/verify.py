@@ -5,8 +5,11 @@ crates/byte_sweeps that it works out.
     python3 tests/model/verify.py > crates/byte_sweeps/stdin     writes the rows
     python3 tests/model/verify.py verify FILE                    the first failed test, or `sound`
     python3 tests/model/verify.py dump FILE                      the text, or the first failed test
-    python3 tests/model/verify.py answers NAME changes|cuts      every answer of a sweep, a line each
+    python3 tests/model/verify.py answers NAME SWEEP [dump]      every answer of a sweep
     python3 tests/model/verify.py file NAME                      the bytes of a container
+
+NAME is package, index, database or intent; SWEEP is changes, words or cuts. Without `dump` the
+answers are those of `verify`. The rows take a few minutes.
 
 It shares no code with the program: where the two differ, one of them is wrong.
 """
@@ -52,6 +55,8 @@ TABLES = {
 }
 
 PACKAGE, INDEX, DATABASE, INTENT = 7, 8, 9, 10
+KINDS_OF_WORDS = {INT: (1, 2, 3), TEXT: (8, 9, 10), HASH: (8, 9, 10), "array": (13,),
+                  "object": (14,)}
 ROOTS = {0x676B6370: PACKAGE, 0x78646E69: INDEX, 0x00626469: DATABASE, 0x74746E69: INTENT}
 MOST_VISITS = 4_194_304
 
@@ -173,8 +178,7 @@ class Shape:
         if word == 0:
             return None
         kind = word >> 28
-        kinds = {INT: (1, 2, 3), TEXT: (8, 9, 10), HASH: (8, 9, 10), "array": (13,), "object": (14,)}
-        if kind not in kinds[shape if isinstance(shape, str) else shape[0]]:
+        if kind not in KINDS_OF_WORDS[shape if isinstance(shape, str) else shape[0]]:
             raise Fault("value has the wrong kind", f"value {word:08x} has the wrong kind")
         if shape == INT:
             return self.number(word)
@@ -554,11 +558,13 @@ def package():
     info = p.object(name, p.blob(b"1.0-r0"), 0, 0, 0, 0, p.blob(b"ab", 2), 0, 0, 0, p.int(9, 4),
                     p.int(6), 0, 0, depends)
     acl = p.object(p.int(493), p.blob(b"root"))
-    f = p.object(p.blob(b"f"), acl, p.int(3), p.int(1 << 32, 8), p.blob(hashlib.sha1(b"abc").digest()))
+    f = p.object(p.blob(b"f"), acl, p.int(3), p.int(1 << 32, 8),
+                 p.blob(hashlib.sha1(b"abc").digest()))
     link = p.object(p.blob(b"l"), acl, 0, 0, 0, p.blob(b"\x00\xa0f"))
     x = p.object(p.blob(b"x"), 0, p.int(2, 4), 0, p.blob(hashlib.sha256(b"xy").digest()))
     y = p.object(p.blob(b"y", 4), 0, p.int(1), 0, p.blob(hashlib.sha512(b"z").digest()))
-    paths = p.array(p.object(0, acl, p.array(f, link)), p.object(p.blob(b"u/b"), acl, p.array(x, y)))
+    paths = p.array(p.object(0, acl, p.array(f, link)),
+                    p.object(p.blob(b"u/b"), acl, p.array(x, y)))
     scripts = p.object(p.blob(b"#!t"), 0, p.blob(b"\n"))
     root = p.object(info, paths, scripts, p.array(p.blob(b"/u/*")), p.int(7))
     file = container(0x676B6370, block(ADB_BLOCK, p.end(root)), block(SIGNATURE, b"sig"),
@@ -574,9 +580,10 @@ def index():
         words = [p.blob(name), p.blob(version) if version else 0, p.int(match) if match else 0]
         return p.object(*words)
 
-    a = p.object(p.blob(b"a"), p.blob(b"1.2_rc1-r3"), p.blob(bytes(range(20))), p.blob(b" t\xc3\xa9"),
-                 p.blob(b"noarch"), p.blob(b"MIT"), p.blob(b"a"), p.blob(b"m"), p.blob(b"u:"),
-                 p.blob(b"\x01\x02"), p.int(1 << 33, 8), p.int(4096), p.int(1 << 28, 4), p.int(1),
+    a = p.object(p.blob(b"a"), p.blob(b"1.2_rc1-r3"), p.blob(bytes(range(20))),
+                 p.blob(b" t\xc3\xa9"), p.blob(b"noarch"), p.blob(b"MIT"), p.blob(b"a"),
+                 p.blob(b"m"), p.blob(b"u:"), p.blob(b"\x01\x02"), p.int(1 << 33, 8), p.int(4096),
+                 p.int(1 << 28, 4), p.int(1),
                  p.array(dependency(b"b", b"2~af", 13), dependency(b"so:c")),
                  p.array(dependency(b"v", b"1")), p.array(dependency(b"a", b"0", 2)),
                  p.array(dependency(b"/i", None, 23)), p.array(dependency(b"r")), p.int(2),
@@ -622,15 +629,22 @@ CONTAINERS = {"package": package, "index": index, "database": database, "intent"
 # Sweeps
 
 KINDS = ["sound", "not an ADB file", "compressed ADB file", "truncated", "block out of order",
-         "incompatible version", "wrong schema", "value points outside", "value has the wrong kind",
-         "values are too many", "bad field", "field repeated", "contents where others were expected",
-         "contents of another length", "hash where another was expected"]
+         "incompatible version", "wrong schema", "value points outside",
+         "value has the wrong kind", "values are too many", "bad field", "field repeated",
+         "contents where others were expected", "contents of another length",
+         "hash where another was expected"]
 
 
 def changed_files(file):
     for at in range(len(file)):
         for value in range(256):
             yield f"{at} {value}", file[:at] + bytes([value]) + file[at + 1:]
+
+
+def word_files(file):
+    for at in range(0, len(file) - 3, 4):
+        for start in range(0, len(file) - 3, 4):
+            yield f"{at} {start}", file[:at] + file[start:start + 4] + file[at + 4:]
 
 
 def cut_files(file):
@@ -663,16 +677,23 @@ def row_text(data):
     return "".join(chr(b) if 0x21 <= b <= 0x7E and b != 0x5C else f"\\x{b:02x}" for b in data)
 
 
-SWEEPS = {"changes": changed_files, "cuts": cut_files}
+def answer_text(text):
+    """A text as the wanted answer of a row."""
+    return text.replace("\\", "\\\\").replace("\n", "\\n")
+
+
+SWEEPS = {"changes": changed_files, "words": word_files, "cuts": cut_files}
 TESTS = {"verify": verify, "dump": dump}
 
 
 def write_rows():
-    print("# Each byte of a small container set to each value, and each cut. The answers are those of")
-    print("# tests/model/verify.py, which writes this file. `tests/lines.md` describes the form.")
+    print("# Each byte of a small container set to each value, each word to each other, each cut.")
+    print("# The answers are those of tests/model/verify.py, which writes this file.")
+    print("# `tests/lines.md` describes the form.")
     for name, make in CONTAINERS.items():
         file = make()
         print(f"\n# {name}: {len(file)} bytes.\ncontainer {row_text(file)} ->")
+        print(f"verify -> sound\\n\npieces -> sound\\n\ndump -> {answer_text(dump(file))}\\n")
         for sweep_name, sweep in SWEEPS.items():
             answer = sweep_answer(verify, sweep(file))
             print(f"verify_{sweep_name} -> {answer}\npieces_{sweep_name} -> {answer}")

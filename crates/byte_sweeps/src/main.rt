@@ -1,8 +1,10 @@
-//! Sweeps over small containers: each byte is set to each value, and the file is cut at each
-//! length. The answers are counted by their kinds, and a digest over all of them pins each one. Its
-//! stored run has all rows, whose wanted answers `tests/model/verify.py` works out;
-//! `tests/lines.md` describes their form. A container stays from one row to the next.
+//! Sweeps over small containers: each byte is set to each value, each word to each other word, and
+//! the file is cut at each length. The answers are counted by their kinds, and a digest over all of
+//! them pins each one. Its stored run has all rows, whose wanted answers `tests/model/verify.py`
+//! works out; `tests/lines.md` describes their form. A container stays from one row to the next.
 #![tactic(auto)]
+
+ghost use Rattle.std.specs.Prelude.{◌+◌, ◌≤◌, length};
 
 mod reading;
 mod tally;
@@ -16,22 +18,30 @@ use std::io::{Read, Write};
 use std::process::ExitCode;
 use tally::Tally;
 
-/// What is asked: a container is given, or each change or each cut of it is read.
+/// What is asked: a container is given, it is read itself, or changes of it are read.
 #[derive(Clone, Copy)]
 enum Question {
     Container,
+    Itself(Test),
     Changes(Test),
+    Words(Test),
     Cuts(Test),
 }
 
 #[rattlefmt::skip]
-const QUESTIONS: [(&[u8], Question); 7] = [
+const QUESTIONS: [(&[u8], Question); 13] = [
     (b"container", Question::Container),
+    (b"verify", Question::Itself(Test::Whole)),
     (b"verify_changes", Question::Changes(Test::Whole)),
+    (b"verify_words", Question::Words(Test::Whole)),
     (b"verify_cuts", Question::Cuts(Test::Whole)),
+    (b"pieces", Question::Itself(Test::Pieces)),
     (b"pieces_changes", Question::Changes(Test::Pieces)),
+    (b"pieces_words", Question::Words(Test::Pieces)),
     (b"pieces_cuts", Question::Cuts(Test::Pieces)),
+    (b"dump", Question::Itself(Test::Dump)),
     (b"dump_changes", Question::Changes(Test::Dump)),
+    (b"dump_words", Question::Words(Test::Dump)),
     (b"dump_cuts", Question::Cuts(Test::Dump)),
 ];
 
@@ -53,6 +63,11 @@ impl Subject for CurrentContainer {
                 self.bytes.clear();
                 self.bytes.extend_from_slice(word_at(words, 1))
             }
+            Some(Question::Itself(test)) => {
+                let _ = test.read(alloc, &self.bytes, answer)?;
+                Ok(())
+            }
+            Some(Question::Words(test)) => add_words(alloc, test, &self.bytes, answer),
             Some(Question::Changes(test)) => add_changes(alloc, test, &self.bytes, answer),
             Some(Question::Cuts(test)) => add_cuts(alloc, test, &self.bytes, answer),
             None => answer.extend_from_slice(b"no question"),
@@ -89,6 +104,43 @@ fn read_values_at(
             *byte = value;
         }
         let mut line = format!(in alloc; "{at} {value} ")?.into_bytes();
+        let kind = test.read(alloc, &changed, &mut line)?;
+        tally.count(kind, &line);
+    }
+    Ok(())
+}
+
+/// Adds what a test says of each file in which one word is replaced by another of the file: offset
+/// by offset, and for each by the first word to the last. A word is the four bytes at a multiple of
+/// four.
+fn add_words(
+    alloc: Global,
+    test: Test,
+    file: &[u8],
+    answer: &mut Vec<u8>,
+) -> Result<(), AllocError> {
+    let mut tally = Tally::new();
+    for place in 0..file.len() / 4 {
+        read_words_at(alloc, test, file, 4 * place, &mut tally)?;
+    }
+    tally.add_to(alloc, answer)
+}
+
+/// Reads the file with each of its words at an offset.
+fn read_words_at(
+    alloc: Global,
+    test: Test,
+    file: &[u8],
+    at: usize,
+    tally: &mut Tally,
+) -> Result<(), AllocError>
+    requires { at + 4 ≤ length file.now }
+{
+    for place in 0..file.len() / 4 {
+        let from = 4 * place;
+        let mut changed = file.to_vec(alloc)?;
+        changed[at..at + 4].copy_from_slice(&file[from..from + 4]);
+        let mut line = format!(in alloc; "{at} {from} ")?.into_bytes();
         let kind = test.read(alloc, &changed, &mut line)?;
         tally.count(kind, &line);
     }

@@ -7,5 +7,11 @@ pub mod MadeSound
 pub mod Commits
 pub mod Idle
 pub mod NextRoom
+pub mod Ends
+pub mod PackageRefusals
+pub mod Recovering
+pub mod FirstSelections
 pub mod Demos
+pub mod Lacking
 pub mod Worded
+mod Worked

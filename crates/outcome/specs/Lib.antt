@@ -13,4 +13,6 @@ pub mod Changing
 pub mod Given
 pub mod Demo
 -- what only inner contracts and proofs use
+pub mod ChangeEnd
+pub mod Recovers
 pub mod Sound

@@ -4,31 +4,41 @@
 //! It is a crate of definitions. `Outcome` of `specs/` says what a command comes to, `Words` what a
 //! command line comes to, `Commands` what each command but `demo` does, `Effect` what it looks at
 //! and changes, and `Version`, `Verify`, `Dump`, `Make`, `Telling` and `Changing` what each comes to;
-//! `Demo` says what `demo` runs, `Given` what no function computes of an outcome, and `Sound` when a
+//! `Demo` says what `demo` runs, and `Given` what no function computes of an outcome. `ChangeEnd`,
+//! `Recovers` and `Sound` are what laws cite: how a change ends, which commands recover, and when a
 //! file is a sound container. The functions are laws: they do nothing, and
 //! their contracts say what follows from the definitions, for all words and files.
 #![tactic(auto)]
 
-ghost use Rattle.std.specs.Prelude.{◌≡◌, ◌⊎◌, ℕ, false, List, None, Some, Result, IsSome, IsTrue, is_some, not};
+ghost use Rattle.std.specs.Prelude.{◌≡◌, ◌⊎◌, ℕ, false, List, None, Some, Result, Ok, Err, IsSome, IsTrue, is_some, not};
 ghost use Rattle.base_core.specs.Files.{Files, IsWithin};
 ghost use Rattle.base_core.specs.Listed.{IsListOf, IsNamesOf};
 ghost use Rattle.base_core.specs.Tree.{IsWhole, TreeState, files_of};
+ghost use Rattle.base_core.specs.declared.cause.Cause.{Cause};
+ghost use Rattle.change_inputs.specs.Inputs.{database_for};
 ghost use Rattle.command_core.specs.Command.{CommandLine};
-ghost use Rattle.journal_core.specs.Staged.{HasRoomToReplay, HasRoomToStage};
-ghost use Rattle.outcome.specs.Commands.{IsOutcomeOf, IsOutcomeOver};
-ghost use Rattle.outcome.specs.Effect.{Changes, Makes, Tells, effect_by, output, reads_only, rests_on_words};
+ghost use Rattle.command_core.specs.declared.command.Applet.{Applet};
+ghost use Rattle.journal_core.specs.Recovery.{intent_name};
+ghost use Rattle.journal_core.specs.Staged.{HasRoomToReplay, HasRoomToStage, unstaged_files};
+ghost use Rattle.outcome.specs.ChangeEnd.{IsChangeEnd, IsRunEnd};
+ghost use Rattle.outcome.specs.Commands.{IsOutcomeOf, IsOutcomeOver, reads_in};
+ghost use Rattle.outcome.specs.Effect.{Changes, Makes, Tells, does_recover, effect_by, effect_of, output, reads_only, rests_on_words};
 ghost use Rattle.outcome.specs.Make.{files_below};
-ghost use Rattle.outcome.specs.Outcome.{Outcome, outcome_of};
+ghost use Rattle.outcome.specs.Outcome.{Outcome, just_refusal, outcome_of};
+ghost use Rattle.outcome.specs.Recovers.{must_recover};
 ghost use Rattle.outcome.specs.Sound.{IsSoundAt};
 ghost use Rattle.outcome.specs.Words.{IsOutcome};
-ghost use Rattle.outcome.specs.Work.{work_files};
+ghost use Rattle.outcome.specs.Work.{fault_of_intent, work_files};
+ghost use Rattle.report_core.specs.declared.refusal.Refusal.TheVariants.{IntentBad, NoDatabase};
+ghost use Rattle.root_names.specs.RootNames.{database_name, text_database_name};
 ghost use Rattle.words_core.specs.Grammar.{command_of};
 
 use adb_schema::sound_containers_hold_sound_values;
 use base_core::{files_have_one_list_of_names, the_files_of_a_whole_state_are_named_files};
 use change_laws::{
     a_change_has_a_first_clash_or_none, a_change_keeps_room,
-    a_change_that_writes_nothing_leaves_the_files, what_is_read_of_a_root_stands_there,
+    a_change_that_is_made_passes_each_test, a_change_that_writes_nothing_leaves_the_files,
+    what_is_read_of_a_root_stands_there,
 };
 use engine_core::{a_choice_exists, a_choice_is_unique};
 use journal_intent::an_intent_is_read_from_a_sound_container;
@@ -120,6 +130,57 @@ pub fn a_command_that_commits_nothing_leaves_the_files()
 {
     what_is_read_of_a_root_stands_there();
     a_change_that_writes_nothing_leaves_the_files();
+}
+
+/// `add`, `del`, `upgrade`, `fix`, `info`, `mkpkg` and `mkndx` first finish what an earlier change
+/// left undone, and refuse an intent that is bad; then they work on the files that a recovery
+/// leaves, and leave these where they commit nothing. `verify`, `adbdump`, `version` and `demo`
+/// leave all files as they are.
+pub fn a_command_recovers()
+    ensures recovers { (applet : Applet) → does_recover (effect_of applet) ≡ must_recover applet }
+    ensures bad { (words : List (List ℕ)) (command : CommandLine) (files : Files) (o : Outcome)
+        (cause : Cause) → command_of words ≡ Ok command → IsTrue (must_recover command.applet)
+        → fault_of_intent (files intent_name) ≡ Some cause → IsOutcome words files o
+        → o ≡ just_refusal files (IntentBad cause) }
+    ensures works { (words : List (List ℕ)) (command : CommandLine) (files : Files) (o : Outcome)
+        → command_of words ≡ Ok command → IsTrue (must_recover command.applet)
+        → fault_of_intent (files intent_name) ≡ None → IsOutcome words files o
+        → IsOutcomeOver command (unstaged_files files) o }
+    ensures leaves { (words : List (List ℕ)) (command : CommandLine) (files : Files) (o : Outcome)
+        → command_of words ≡ Ok command → IsTrue (must_recover command.applet)
+        → fault_of_intent (files intent_name) ≡ None → IsOutcome words files o
+        → o.commits ≡ false → o.files ≡ unstaged_files files }
+    ensures others { (words : List (List ℕ)) (command : CommandLine) (files : Files) (o : Outcome)
+        → command_of words ≡ Ok command → must_recover command.applet ≡ false
+        → IsOutcome words files o → (o.files ≡ files) × (o.commits ≡ false) }
+{
+    a_command_that_reads_leaves_the_files();
+    what_is_read_of_a_root_stands_there();
+    a_change_that_writes_nothing_leaves_the_files();
+}
+
+/// A root is refused for having no database only where neither file of one stands there, and the
+/// command may not begin one.
+pub fn a_root_has_no_database_where_no_file_of_one_stands()
+    ensures { (command : CommandLine) (files : Files)
+        → database_for command (reads_in files) ≡ Err NoDatabase
+        → (files database_name ≡ None) × (files text_database_name ≡ None)
+        × (command.flags.initdb ≡ false) }
+{}
+
+/// A command that changes what is installed is refused for a stated fault of its input, or where no
+/// selection satisfies the new world, and just there as unsatisfied; else the first preferred
+/// selection takes the place of the packages before: that is committed and reported, unless the
+/// packages have a stated fault. A bad intent is refused before all else.
+pub fn a_change_takes_the_first_selection_or_is_refused()
+    ensures over { (command : CommandLine) (files : Files) (o : Outcome)
+        → effect_of command.applet ≡ Changes → IsOutcomeOver command files o
+        → IsChangeEnd command files o }
+    ensures words { (words : List (List ℕ)) (command : CommandLine) (files : Files) (o : Outcome)
+        → command_of words ≡ Ok command → effect_of command.applet ≡ Changes
+        → IsOutcome words files o → IsRunEnd command files o }
+{
+    a_change_that_is_made_passes_each_test();
 }
 
 /// A change leaves room for the next one: a recovery finds no intent, and nothing waits.

@@ -1,0 +1,63 @@
+-- A root has no database only where no file of one stands there.
+use Rattle.std.proofs.Common.{◌≡◌, ℕ, Bool, true, false, List, Option, Some, None, Result, Ok, Err, refl}
+use Rattle.adb_schema.specs.Soundness.{first_fault, payload_fault}
+use Rattle.adb_tables.specs.declared.tables.Which.TheVariants.{Idb}
+use Rattle.adb_write.specs.Canonical.{PayloadCounts, written_of}
+use Rattle.base_core.specs.Files.{Files}
+use Rattle.base_core.specs.declared.cause.Cause.{Cause}
+use Rattle.change_inputs.specs.Chains.{unless_cause}
+use Rattle.change_inputs.specs.Database.{Database, payload_database, root_database}
+use Rattle.change_inputs.specs.Inputs.{database_for}
+use Rattle.command_core.specs.Command.{CommandLine}
+use Rattle.report_core.specs.declared.refusal.Refusal.TheVariants.{DatabaseBad, NoDatabase}
+use Rattle.root_names.specs.RootNames.{database_name, text_database_name}
+use Rattle.v2_core.specs.Database.{value_of_records}
+use Rattle.v2_core.specs.Payload.{or_too_large, payload_of_text, tested_payload, unless_bad, written_payload}
+use Rattle.v2_core.specs.Reading.{records_of}
+use Rattle.v2_core.specs.Records.{Record}
+use Rattle.v2_core.specs.declared.fault.V2Fault.{V2Fault}
+use Rattle.v2_core.specs.declared.fault.V2Fault.TheVariants.{Bad, Memory, TooLarge}
+use Rattle.outcome.specs.Commands.{reads_in}
+
+-- ---- a text is never refused for want of memory
+
+bad_remembers : (payload : List ℕ) (cause : Option Cause) → unless_bad payload cause ≡ Err Memory → ⊥
+bad_remembers payload None e = cc (e)
+bad_remembers payload (Some cause) e = cc (e)
+
+large_remembers : (r : Result (List ℕ) PayloadCounts) → or_too_large r ≡ Err Memory → ⊥
+large_remembers (Ok payload) e = cc (e)
+large_remembers (Err counts) e = cc (e)
+
+written_remembers : (r : Result (List Record) ℕ) → written_payload r ≡ Err Memory → ⊥
+written_remembers (Ok records) e = large_remembers (written_of (value_of_records records)) e
+written_remembers (Err line) e = cc (e)
+
+tested_remembers : (r : Result (List ℕ) V2Fault) → (r ≡ Err Memory → ⊥) → tested_payload r ≡ Err Memory → ⊥
+tested_remembers (Ok payload) h e = bad_remembers payload (payload_fault Idb payload) e
+tested_remembers (Err fault) h e = h e
+
+text_remembers : (text : List ℕ) → payload_of_text text ≡ Err Memory → ⊥
+unfolding payload_of_text
+text_remembers text e = tested_remembers (written_payload (records_of text)) (written_remembers (records_of text)) e
+
+-- ---- so none is missing where there is a file
+
+cause_found : (cause : Option Cause) (database : Database) → unless_cause DatabaseBad cause database ≡ Err NoDatabase → ⊥
+cause_found None database e = cc (e)
+cause_found (Some cause) database e = cc (e)
+
+payload_found : (r : Result (List ℕ) V2Fault) → (r ≡ Err Memory → ⊥) → payload_database r ≡ Err NoDatabase → ⊥
+payload_found (Ok payload) h e = cc (e)
+payload_found (Err (Bad cause)) h e = cc (e)
+payload_found (Err (TooLarge bytes values)) h e = cc (e)
+payload_found (Err Memory) h e = h refl
+
+lacking_by : (may_begin : Bool) (file text : Option (List ℕ)) → root_database may_begin file text ≡ Err NoDatabase → (file ≡ None) × (text ≡ None) × (may_begin ≡ false)
+lacking_by may_begin (Some file) text e = absurd (cause_found (first_fault Idb file) _ e)
+lacking_by may_begin None (Some text) e = absurd (payload_found (payload_of_text text) (text_remembers text) e)
+lacking_by true None None e = absurd (cc (e))
+lacking_by false None None e = (refl, refl, refl)
+
+pub lacking : (command : CommandLine) (files : Files) → database_for command (reads_in files) ≡ Err NoDatabase → (files database_name ≡ None) × (files text_database_name ≡ None) × (command.flags.initdb ≡ false)
+lacking command files e = lacking_by command.flags.initdb (files database_name) (files text_database_name) e

@@ -1,0 +1,147 @@
+-- A change that is refused for its packages is refused for a stated fault.
+use Rattle.std.proofs.Common.{◌≡◌, ℕ, suc, Bool, true, false, not, List, [], ◌∷◌, Option, Some, None, Result, Ok, Err, refl}
+use Rattle.std.specs.Prelude.{if◌then◌else◌, bytes_eq}
+use Rattle.adb_view.specs.Plain.{Plain}
+use Rattle.adb_fields.specs.Repeated.{package_name}
+use Rattle.adb_write.specs.Canonical.{PayloadCounts, overflow_of}
+use Rattle.base_core.specs.Files.{Files}
+use Rattle.base_core.specs.declared.cause.Cause.{Cause}
+use Rattle.change_files.specs.PlanLists.{first_reserved}
+use Rattle.change_inputs.specs.Chains.{and_then}
+use Rattle.change_inputs.specs.Inputs.{Inputs}
+use Rattle.change_outcome.specs.ChangeOutcome.{ChangeDone, ChangeWishes, actions_of, change_done, change_members, change_or_refusal, change_with_members, file_change, new_records, touched_paths, unless_clash, unless_contested, unless_large, unless_overflow, unless_reserved_path, unless_too_large}
+use Rattle.change_outcome.specs.MembersAfter.{MemberFound, coming_by_path, coming_found, members_after, name_after, name_by_change, name_by_selected, name_that_goes, names_after}
+use Rattle.change_outcome.specs.PackageFiles.{ComingPackage, first_script_of, package_file_of, package_found, scripts_of_change, unless_different, unless_number, unless_package_bad, unless_script}
+use Rattle.change_outcome.specs.Triggers.{folders_of_paths, has_due_trigger, unless_trigger}
+use Rattle.db_core.specs.Members.{Member}
+use Rattle.db_write.specs.NewDatabase.{database_of}
+use Rattle.dep_core.specs.Repositories.{Repository}
+use Rattle.file_owners.specs.Owners.{contested_of, owned_of}
+use Rattle.journal_intent.specs.IntentValue.{intent_of_lists, value_of_intent}
+use Rattle.make_info.specs.Reads.{Reads}
+use Rattle.package_changes.specs.Changes.{Replacement}
+use Rattle.path_claims.specs.Claims.{ContestedPath}
+use Rattle.path_clashes.specs.Clash.{NamePair}
+use Rattle.pool_core.specs.Candidates.{Candidate, is_same_id}
+use Rattle.report_core.specs.Reports.{Change}
+use Rattle.report_core.specs.declared.refusal.Refusal.{Refusal}
+use Rattle.outcome.proofs.Ends.{HasKnownRefusal, then_stated}
+use Rattle.outcome.specs.ChangeEnd.{is_package_refusal}
+
+abbrev IsPackagesResult : {A : Type 0} → Result A Refusal → Type 0
+IsPackagesResult r = HasKnownRefusal is_package_refusal r
+
+-- ---- a package that comes
+
+test_stated : {A : Type 0} (test : Bool) (refusal : Refusal) (next : Result A Refusal) → is_package_refusal refusal ≡ true → IsPackagesResult next → IsPackagesResult (if test then Err refusal else next)
+test_stated true refusal next stated h = stated
+test_stated false refusal next stated h = h
+
+different_stated : (c : Candidate) (pkg : ComingPackage) → IsPackagesResult (unless_different c pkg)
+different_stated c pkg =
+    test_stated (not (is_same_id c.id pkg.id)) _ _ refl
+    (test_stated (not (bytes_eq c.name (package_name pkg.value))) _ _ refl
+    (test_stated _ _ (Ok pkg) refl tt))
+
+bad_stated : (c : Candidate) (cause : Option Cause) (pkg : ComingPackage) → IsPackagesResult (unless_package_bad c cause pkg)
+bad_stated c None pkg = different_stated c pkg
+bad_stated c (Some cause) pkg = refl
+
+file_stated : (c : Candidate) (file : Option (List ℕ)) → IsPackagesResult (package_found c file)
+file_stated c None = refl
+file_stated c (Some file) = bad_stated c _ _
+
+path_stated : (read : Reads) (n : ℕ) (c : Candidate) (path : Option (List ℕ)) → IsPackagesResult (coming_by_path read n c path)
+path_stated read n c None = file_stated c None
+path_stated read n c (Some path) = file_stated c (read n path)
+
+number_stated : {A : Type 0} (name : List ℕ) (number : Option ℕ) (a : A) → IsPackagesResult (unless_number name number a)
+number_stated name None a = tt
+number_stated name (Some number) a = refl
+
+script_stated : {A : Type 0} (no_scripts : Bool) (name : List ℕ) (pkg : Plain) (numbers : List ℕ) (a : A) → IsPackagesResult (unless_script no_scripts name pkg numbers a)
+script_stated true name pkg numbers a = tt
+script_stated false name pkg numbers a = number_stated name (first_script_of pkg numbers) a
+
+-- ---- each name
+
+goes_stated : (no_scripts : Bool) (name : List ℕ) (change : Change) (before : Option Plain) → IsPackagesResult (name_that_goes no_scripts name change before)
+goes_stated no_scripts name change None = tt
+goes_stated no_scripts name change (Some pkg) = script_stated no_scripts name pkg (scripts_of_change change) None
+
+selected_stated : (read : Reads) (repositories : List Repository) (no_scripts : Bool) (n : ℕ) (name : List ℕ) (change : Change) (before : Option Plain) (selected : Option Candidate)
+    → IsPackagesResult (name_by_selected read repositories no_scripts n name change before selected)
+selected_stated read repositories no_scripts n name change before None = goes_stated no_scripts name change before
+selected_stated read repositories no_scripts n name change before (Some c) =
+    then_stated is_package_refusal (coming_by_path read n c (package_file_of repositories c)) _ (path_stated read n c (package_file_of repositories c)) (λ pkg.
+    script_stated no_scripts name pkg.value (scripts_of_change change) (Some (coming_found pkg)))
+
+change_stated : (read : Reads) (repositories : List Repository) (no_scripts : Bool) (n : ℕ) (name : List ℕ) (change : Option Change) (before : Option Plain) (selected : Option Candidate)
+    → IsPackagesResult (name_by_change read repositories no_scripts n name change before selected)
+change_stated read repositories no_scripts n name None before selected = tt
+change_stated read repositories no_scripts n name (Some change) before selected = selected_stated read repositories no_scripts n name change before selected
+
+names_stated : (r : Replacement) (read : Reads) (repositories : List Repository) (no_scripts : Bool) (n : ℕ) (names : List (List ℕ)) → IsPackagesResult (names_after r read repositories no_scripts n names)
+names_stated r read repositories no_scripts n [] = tt
+names_stated r read repositories no_scripts n (name ∷ names) =
+    then_stated is_package_refusal (name_after r read repositories no_scripts n name) _ (change_stated read repositories no_scripts n name _ _ _) (λ first.
+    then_stated is_package_refusal (names_after r read repositories no_scripts (suc n) names) _ (names_stated r read repositories no_scripts (suc n) names) (λ others. tt))
+
+members_stated : (r : Replacement) (read : Reads) (repositories : List Repository) (no_scripts : Bool) → IsPackagesResult (members_after r read repositories no_scripts)
+unfolding members_after
+members_stated r read repositories no_scripts = names_stated r read repositories no_scripts _ _
+
+-- ---- all together
+
+reserved_stated : {A : Type 0} (path : Option (List ℕ)) (next : Result A Refusal) → IsPackagesResult next → IsPackagesResult (unless_reserved_path path next)
+reserved_stated None next h = h
+reserved_stated (Some path) next h = refl
+
+clash_stated : {A : Type 0} (clash : Option NamePair) (next : Result A Refusal) → IsPackagesResult next → IsPackagesResult (unless_clash clash next)
+clash_stated None next h = h
+clash_stated (Some pair) next h = refl
+
+contested_stated : {A : Type 0} (members : List Member) (contested : Option ContestedPath) (next : Result A Refusal) → IsPackagesResult next → IsPackagesResult (unless_contested members contested next)
+contested_stated members None next h = h
+contested_stated members (Some c) next h = refl
+
+trigger_stated : (no_scripts : Bool) (paths : List (List ℕ)) (members : List Member) → IsPackagesResult (unless_trigger no_scripts paths members)
+trigger_stated true paths members = tt
+trigger_stated false paths [] = tt
+trigger_stated false paths (m ∷ members) = test_stated (has_due_trigger (folders_of_paths paths) m.pkg) _ (unless_trigger false paths members) refl (trigger_stated false paths members)
+
+large_stated : {A : Type 0} (r : Result A PayloadCounts) → IsPackagesResult (unless_large r)
+large_stated (Ok a) = tt
+large_stated (Err counts) = refl
+
+overflow_stated : {A : Type 0} (counts : Option PayloadCounts) (a : A) → IsPackagesResult (unless_overflow counts a)
+overflow_stated None a = tt
+overflow_stated (Some counts) a = refl
+
+too_large_stated : (inputs : Inputs) (r : Replacement) (wishes : ChangeWishes) (found : List MemberFound) (files : Files) → IsPackagesResult (unless_too_large inputs r wishes found files)
+too_large_stated inputs r wishes found files =
+    let members = (file_change inputs wishes found).members in
+    then_stated {A = List ℕ} {B = ChangeDone} is_package_refusal (unless_large (database_of members (owned_of members)))
+    (λ database.
+    let records = new_records inputs database in
+    let actions = actions_of inputs (file_change inputs wishes found) files records in
+    unless_overflow (overflow_of (value_of_intent (intent_of_lists actions.removals actions.writes))) (change_done inputs r wishes found files records))
+    (large_stated (database_of members (owned_of members)))
+    (λ database.
+    let records = new_records inputs database in
+    let actions = actions_of inputs (file_change inputs wishes found) files records in
+    overflow_stated (overflow_of (value_of_intent (intent_of_lists actions.removals actions.writes))) (change_done inputs r wishes found files records))
+
+with_members_stated : (inputs : Inputs) (r : Replacement) (wishes : ChangeWishes) (clash : Option NamePair) (files : Files) (found : List MemberFound) → IsPackagesResult (change_with_members inputs r wishes clash files found)
+with_members_stated inputs r wishes clash files found =
+    let change = file_change inputs wishes found in
+    let paths = touched_paths change files in
+    let rest : IsPackagesResult (and_then (unless_trigger wishes.no_scripts paths change.members) (λ is_allowed. unless_too_large inputs r wishes found files)) =
+    then_stated is_package_refusal (unless_trigger wishes.no_scripts paths change.members) (λ is_allowed. unless_too_large inputs r wishes found files) (trigger_stated wishes.no_scripts paths change.members) (λ is_allowed. too_large_stated inputs r wishes found files) in
+    let owned : Result ChangeDone Refusal = unless_contested change.members (contested_of change.members) (and_then (unless_trigger wishes.no_scripts paths change.members) (λ is_allowed. unless_too_large inputs r wishes found files)) in
+    reserved_stated (first_reserved change.members) (unless_clash clash owned) (clash_stated clash owned (contested_stated change.members (contested_of change.members) (and_then (unless_trigger wishes.no_scripts paths change.members) (λ is_allowed. unless_too_large inputs r wishes found files)) rest))
+
+pub refusal_stated : (inputs : Inputs) (r : Replacement) (wishes : ChangeWishes) (read : Reads) (clash : Option NamePair) (files : Files) → IsPackagesResult (change_or_refusal inputs r wishes read clash files)
+unfolding change_or_refusal
+refusal_stated inputs r wishes read clash files =
+    then_stated is_package_refusal (change_members inputs r wishes read) _ (members_stated r read inputs.root.repositories wishes.no_scripts) (with_members_stated inputs r wishes clash files)

@@ -1,0 +1,122 @@
+-- How a command ends that changes what is installed: it is refused for a stated fault, or since no
+-- selection satisfies the new world; else the first preferred selection takes the place of the
+-- packages before.
+use Rattle.std.specs.Prelude.{◌≡◌, ◌⊎◌, ◌++◌, ℕ, Bool, true, false, List, Option, Some, Result, Ok, Err}
+use Rattle.base_core.specs.Files.{Files}
+use Rattle.base_core.specs.declared.cause.Cause.{Cause}
+use Rattle.change_outcome.specs.ChangeOutcome.{ChangeDone}
+use Rattle.command_core.specs.Command.{CommandLine}
+use Rattle.engine_core.specs.Changed.{IsClashFor, Selected, change_of_selected, selected_for}
+use Rattle.engine_core.specs.Selecting.{pool_for}
+use Rattle.package_changes.specs.Changes.{changes_of}
+use Rattle.package_changes.specs.Placed.{candidates_at}
+use Rattle.path_clashes.specs.Clash.{NamePair}
+use Rattle.pool_core.specs.Rank.{SealedPool}
+use Rattle.report_core.specs.Reports.{change_lines}
+use Rattle.report_core.specs.declared.refusal.Refusal.{Refusal}
+use Rattle.report_core.specs.declared.refusal.Refusal.TheVariants.{DatabaseBad, IndexBad, IndexMissing, IntentBad, NoDatabase, NotInstalled, Owned, PackageBad, PackageDiffers, PackageMissing, PathClash, RepositoriesBad, Reserved, ResultTooLarge, ScriptNeeded, TooMany, TriggerNeeded, Unsatisfied, Untrusted, WorldBad}
+use Rattle.solve_core.specs.Selection.{IsFirstSelection, IsSatisfying}
+use Rattle.outcome.specs.Changing.{change_outcome}
+use Rattle.outcome.specs.Commands.{reads_in}
+use Rattle.outcome.specs.Effect.{Changes}
+use Rattle.outcome.specs.Outcome.{Outcome, just_refusal}
+use Rattle.outcome.specs.Work.{recovery_fault, work_files}
+
+-- ---- stated faults
+
+-- of the input: the files that are read of the root, too many packages to choose from, or an
+-- operand whose package is not installed
+abbrev pub is_input_refusal : Refusal → Bool
+is_input_refusal NoDatabase = true
+is_input_refusal (DatabaseBad cause) = true
+is_input_refusal (WorldBad line) = true
+is_input_refusal (RepositoriesBad line) = true
+is_input_refusal Untrusted = true
+is_input_refusal (IndexMissing repository) = true
+is_input_refusal (IndexBad repository cause) = true
+is_input_refusal (TooMany count) = true
+is_input_refusal (NotInstalled place) = true
+-- a text database that says more than a container may have
+is_input_refusal (ResultTooLarge bytes values) = true
+is_input_refusal other = false
+
+-- of the packages that come, go and stay: their files, scripts and triggers, and the files that
+-- they would leave
+abbrev pub is_package_refusal : Refusal → Bool
+is_package_refusal (PackageMissing name version) = true
+is_package_refusal (PackageBad name version cause) = true
+is_package_refusal (PackageDiffers name version field wanted found) = true
+is_package_refusal (ScriptNeeded name script) = true
+is_package_refusal (Reserved path) = true
+is_package_refusal (PathClash path other) = true
+is_package_refusal (Owned path first second) = true
+is_package_refusal (TriggerNeeded name) = true
+is_package_refusal (ResultTooLarge bytes values) = true
+is_package_refusal other = false
+
+-- ---- without a selection
+
+-- its input is refused, whatever might be chosen
+pub record IsInputRefused (command : CommandLine) (files : Files) (o : Outcome) : Type 0 where
+  pub refusal : Refusal
+  pub stated : is_input_refusal refusal ≡ true
+  pub unchosen : (chosen : Option (List ℕ))
+      → selected_for command (reads_in files) chosen ≡ Err refusal
+  pub outcome : o ≡ just_refusal files refusal
+
+-- no selection of the candidates satisfies the new world, and just that is told
+pub record HasNoSelection (command : CommandLine) (files : Files) (o : Outcome) : Type 0 where
+  pub pool : SealedPool
+  pub is_pool : pool_for command (reads_in files) ≡ Ok pool
+  pub none : (selection : List ℕ) → IsSatisfying pool selection → ⊥
+  pub outcome : o ≡ just_refusal files Unsatisfied
+
+-- ---- with the first one
+
+-- The change is committed and reported: first what becomes of each package. One that is only
+-- simulated leaves the files.
+pub record IsReported (command : CommandLine) (files : Files) (selected : Selected)
+    (done : ChangeDone) (o : Outcome) : Type 0 where
+  pub outcome : o ≡ change_outcome files (Ok done)
+  pub rest : List ℕ
+  pub report : o.out ≡ change_lines (changes_of selected.replacement) ++ rest
+  pub simulated : command.flags.simulate ≡ true → (o.files ≡ files) × (o.commits ≡ false)
+
+-- by what comes of the change: it is made, or a stated fault of its packages is refused
+abbrev pub IsEndBy :
+    CommandLine → Files → Selected → Result ChangeDone Refusal → Outcome → Type 0
+IsEndBy command files selected (Ok done) o = IsReported command files selected done o
+IsEndBy command files selected (Err refusal) o =
+    (is_package_refusal refusal ≡ true) × (o ≡ just_refusal files refusal)
+
+-- the first preferred selection of the candidates takes the place of the packages before
+pub record TakesFirstSelection (command : CommandLine) (files : Files) (o : Outcome) : Type 0 where
+  pub pool : SealedPool
+  pub is_pool : pool_for command (reads_in files) ≡ Ok pool
+  pub trace : List ℕ
+  pub first : IsFirstSelection pool trace
+  pub selected : Selected
+  pub selects : selected_for command (reads_in files) (Some trace) ≡ Ok selected
+  pub candidates : selected.replacement.selected ≡ candidates_at pool trace
+  pub clash : Option NamePair
+  pub is_clash : IsClashFor command (reads_in files) files (Some trace) clash
+  pub end : IsEndBy command files selected
+      (change_of_selected command (reads_in files) files clash selected) o
+
+-- ---- each end
+
+-- over the files on which it works
+abbrev pub IsChangeEnd : CommandLine → Files → Outcome → Type 0
+IsChangeEnd command files o =
+    IsInputRefused command files o
+    ⊎ (HasNoSelection command files o ⊎ TakesFirstSelection command files o)
+
+-- over the files in which a run begins: a bad intent is refused before all else
+pub record IsIntentRefused (files : Files) (o : Outcome) : Type 0 where
+  pub cause : Cause
+  pub bad : recovery_fault Changes files ≡ Some cause
+  pub outcome : o ≡ just_refusal files (IntentBad cause)
+
+abbrev pub IsRunEnd : CommandLine → Files → Outcome → Type 0
+IsRunEnd command files o =
+    IsIntentRefused files o ⊎ IsChangeEnd command (work_files Changes files) o

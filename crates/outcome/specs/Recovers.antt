@@ -1,0 +1,18 @@
+-- Which commands first finish what an earlier change left undone.
+use Rattle.std.specs.Prelude.{Bool, true, false}
+use Rattle.command_core.specs.declared.command.Applet.{Applet}
+use Rattle.command_core.specs.declared.command.Applet.TheVariants.{Adbdump, Add, Del, Demo, Fix, Info, Mkndx, Mkpkg, Upgrade, Verify, Version}
+
+-- those that tell or change what is installed, and those that make a file below the root
+abbrev pub must_recover : Applet → Bool
+must_recover Add = true
+must_recover Del = true
+must_recover Upgrade = true
+must_recover Fix = true
+must_recover Info = true
+must_recover Mkpkg = true
+must_recover Mkndx = true
+must_recover Verify = false
+must_recover Adbdump = false
+must_recover Version = false
+must_recover Demo = false

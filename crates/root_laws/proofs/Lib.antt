@@ -1,0 +1,10 @@
+mod NewWorld
+mod Unreserved
+mod TextLines
+mod TextRecords
+mod TextNormal
+mod SoundBefore
+mod MembersFound
+mod DatabaseLeft
+mod RootLeft
+mod NextInputs

@@ -1,0 +1,75 @@
+-- The world that a change is made for is a world, and is read back.
+use Rattle.std.proofs.Common.{◌≡◌, ℕ, List, [], ◌∷◌, Option, Some, None, Result, Ok, Err, refl, ap}
+use Rattle.base_core.specs.Files.{Files}
+use Rattle.change_files.specs.FileChange.{FileChange}
+use Rattle.change_files.specs.FilesAfter.{Records, changed_files, world_bytes_after, world_name}
+use Rattle.change_inputs.specs.Chains.{refused_as}
+use Rattle.change_inputs.specs.World.{new_world, root_world, text_found, world_with_operand, world_with_operands, world_without_operands}
+use Rattle.command_core.specs.declared.command.Applet.{Applet}
+use Rattle.command_core.specs.declared.command.Applet.TheVariants.{Add, Del, Upgrade, Fix, Info, Verify, Adbdump, Mkpkg, Mkndx, Version, Demo}
+use Rattle.command_core.specs.declared.operands.Operand.{Operand}
+use Rattle.db_core.specs.Members.{Listing}
+use Rattle.dep_core.specs.Dependency.{Dependency}
+use Rattle.dep_core.specs.Reading.{dependency_of}
+use Rattle.dep_core.specs.World.{IsWorld, with_entry, without_name, world_of, world_text}
+use Rattle.dep_core.proofs.ReadOut.{read-out}
+use Rattle.dep_core.proofs.Worlds.{IsWorld-with_entry, IsWorld-without}
+use Rattle.dep_core.proofs.WorldWords.{world-words}
+use Rattle.std.specs.Option.{option_map_or}
+use Rattle.report_core.specs.declared.refusal.Refusal.TheVariants.{WorldBad}
+
+-- ---- the new world
+
+with_operand : (o : Operand) (world : List Dependency) → IsWorld world → IsWorld (world_with_operand o world)
+with_operand o world is = by_text (dependency_of o.text) refl
+  where
+    by_text : (d : Option Dependency) → dependency_of o.text ≡ d → IsWorld (option_map_or (λ d. with_entry d world) d world)
+    by_text None e = is
+    by_text (Some d) e = IsWorld-with_entry d world (read-out o.text d e).0 is
+
+with_operands : (operands : List Operand) (world : List Dependency) → IsWorld world → IsWorld (world_with_operands operands world)
+with_operands [] world is = is
+with_operands (o ∷ operands) world is = with_operands operands (world_with_operand o world) (with_operand o world is)
+
+without_operands : (operands : List Operand) (world : List Dependency) → IsWorld world → IsWorld (world_without_operands operands world)
+without_operands [] world is = is
+without_operands (o ∷ operands) world is = without_operands operands (without_name o.text world) (IsWorld-without o.text world is)
+
+pub new_world_is : (applet : Applet) (operands : List Operand) (world : List Dependency) → IsWorld world → IsWorld (new_world applet operands world)
+new_world_is Add operands world is = with_operands operands world is
+new_world_is Del operands world is = without_operands operands world is
+new_world_is Upgrade operands world is = is
+new_world_is Fix operands world is = is
+new_world_is Info operands world is = is
+new_world_is Verify operands world is = is
+new_world_is Adbdump operands world is = is
+new_world_is Mkpkg operands world is = is
+new_world_is Mkndx operands world is = is
+new_world_is Version operands world is = is
+new_world_is Demo operands world is = is
+
+-- ---- what is read
+
+world_kept : (r : Result (List Dependency) ℕ) (world : List Dependency) → refused_as WorldBad r ≡ Ok world → r ≡ Ok world
+world_kept (Ok w) world e = let same : w ≡ world = cc in ap (λ (x : List Dependency). Ok x) same
+world_kept (Err line) world e = absurd (cc (e))
+
+pub read_world_is : (text : List ℕ) (world : List Dependency) → root_world text ≡ Ok world → IsWorld world
+read_world_is text world e = (world-words text world (world_kept (world_of text) world e)).in_order
+
+-- ---- what is left
+
+abbrev pub WorldsAreReadBack : Type 0
+WorldsAreReadBack = (world : List Dependency) → IsWorld world → world_of (world_text world) ≡ Ok world
+
+pub root_world_left : WorldsAreReadBack → (world : List Dependency) → IsWorld world → root_world (world_text world) ≡ Ok world
+root_world_left back world is = ap (refused_as WorldBad) (back world is)
+
+text_of_world : (world : List ℕ) (old : Option (List ℕ)) → text_found (world_bytes_after world old) ≡ world
+text_of_world [] None = refl
+text_of_world [] (Some old) = refl
+text_of_world (b ∷ bytes) old = refl
+
+pub world_text_left : (change : FileChange) (bytes_of : Listing → List ℕ) (records : Records) (files : Files) → text_found (changed_files change bytes_of records files world_name) ≡ records.world
+unfolding changed_files
+world_text_left change bytes_of records files = text_of_world records.world (files world_name)

@@ -1,0 +1,70 @@
+-- The packages that a text database says are of a sound database.
+use Rattle.std.proofs.Common.{◌≡◌, ◌∙◌, ℕ, ◌≤◌, ◌||◌, Bool, true, false, List, Option, Some, None, Result, Ok, Err, refl, sym, ap, subst}
+use Rattle.std.specs.Prelude.{is_some, unwrap_or}
+use Rattle.std.proofs.lemmas.Bool.{ltb-false}
+use Rattle.adb_schema.specs.Soundness.{payload_fault, root_value}
+use Rattle.adb_tables.specs.Schema.{shape_of}
+use Rattle.adb_tables.specs.Values.{value_at}
+use Rattle.adb_tables.specs.declared.tables.Kind.TheVariants.{Obj}
+use Rattle.adb_tables.specs.declared.tables.Which.TheVariants as Tables
+use Rattle.adb_view.specs.Head.{root_of}
+use Rattle.adb_view.specs.Plain.{IsNormal, Plain, Shape, null, plain_of, value_of}
+use Rattle.adb_view.specs.Shaped.{HasShape}
+use Rattle.adb_write.specs.Canonical.{MOST_BYTES, PayloadCounts, canonical, or_overflow, overflow_of, passes, written_of}
+use Rattle.adb_write.specs.Size.{size_of, value_count}
+use Rattle.base_core.specs.declared.cause.Cause.{Cause}
+use Rattle.v2_core.specs.Database.{value_of_records}
+use Rattle.v2_core.specs.Payload.{or_too_large, payload_of_text, tested_payload, unless_bad, written_payload}
+use Rattle.v2_core.specs.Reading.{records_of}
+use Rattle.v2_core.specs.Records.{Record}
+use Rattle.v2_core.specs.declared.fault.V2Fault.{V2Fault}
+use Rattle.root_laws.proofs.TextLines.{IsFit}
+use Rattle.root_laws.proofs.TextRecords.{AreGoodIfRead, records_fit, records_good}
+
+-- what the layer of the writer says
+abbrev pub ReadBack : Type 0
+ReadBack = (shape : Shape) (v : Plain) → IsNormal v → HasShape shape v → size_of v ≤ MOST_BYTES → value_of (canonical v) shape ≡ Some v
+
+abbrev pub Exact : Type 0
+Exact = (v : Plain) → IsNormal v → is_some (overflow_of v) ≡ passes (size_of v, value_count v)
+
+-- ---- a payload that is written
+
+both_false : (a b : Bool) → (a || b) ≡ false → a ≡ false
+both_false false b e = refl
+both_false true b e = (cc)
+
+abbrev kept : List ℕ → Result (List ℕ) V2Fault
+kept payload = Ok payload
+
+tested_ok : (p payload : List ℕ) (fault : Option Cause) → unless_bad p fault ≡ kept payload → p ≡ payload
+tested_ok p payload None e = (cc (e))
+tested_ok p payload (Some cause) e = absurd (cc (e))
+
+written_ok : (v : Plain) (o : Option PayloadCounts) (payload : List ℕ) → tested_payload (or_too_large (or_overflow (canonical v) o)) ≡ kept payload → (is_some o ≡ false) × (canonical v ≡ payload)
+written_ok v None payload e = (refl, tested_ok (canonical v) payload (payload_fault Tables.Idb (canonical v)) e)
+written_ok v (Some counts) payload e = absurd (cc (e))
+
+value_is : (k : Shape) (payload : List ℕ) (v : Plain) → value_of payload k ≡ Some v → unwrap_or (plain_of payload k (root_of payload)) null ≡ v
+value_is k payload v e = ap (λ (o : Option Plain). unwrap_or o null) e
+
+root_is : (payload : List ℕ) (v : Plain) → value_of payload (shape_of (Obj Tables.Idb)) ≡ Some v → root_value Tables.Idb payload ≡ v
+unfolding value_at
+root_is payload v e = value_is (shape_of (Obj Tables.Idb)) payload v e
+
+module _ (back : ReadBack) (exact : Exact) where
+  written_normal : (v : Plain) (payload : List ℕ) → IsFit (shape_of (Obj Tables.Idb)) v → tested_payload (or_too_large (written_of v)) ≡ kept payload → IsNormal (root_value Tables.Idb payload)
+  unfolding written_of
+  written_normal v payload fit e =
+      let written = written_ok v (overflow_of v) payload e in
+      let few : size_of v ≤ MOST_BYTES = ltb-false MOST_BYTES (size_of v) (both_false _ _ (sym (exact v fit.0) ∙ written.0)) in
+      subst (λ (p : List ℕ). IsNormal (root_value Tables.Idb p)) written.1
+      (subst IsNormal (sym (root_is (canonical v) v (back (shape_of (Obj Tables.Idb)) v fit.0 fit.1 few))) fit.0)
+
+  read_normal : (read : Result (List Record) ℕ) (payload : List ℕ) → AreGoodIfRead read → tested_payload (written_payload read) ≡ kept payload → IsNormal (root_value Tables.Idb payload)
+  read_normal (Ok records) payload good e = written_normal (value_of_records records) payload (records_fit records good) e
+  read_normal (Err line) payload good e = absurd (cc (e))
+
+  pub text_normal : (text payload : List ℕ) → payload_of_text text ≡ Ok payload → IsNormal (root_value Tables.Idb payload)
+  unfolding payload_of_text
+  text_normal text payload e = read_normal (records_of text) payload (records_good text) e

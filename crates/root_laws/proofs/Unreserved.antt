@@ -1,0 +1,141 @@
+-- No path that a package which stays lists is reserved.
+use Rattle.std.proofs.Common.{◌≡◌, inl, inr, ◌∙◌, ℕ, ◌+◌, Bool, true, false, cond, List, [], ◌∷◌, ◌++◌, map, refl, ap, sym, subst, true≢false}
+use Rattle.std.specs.Prelude.{not, Option, Some, None, is_some, if◌then◌else◌}
+use Rattle.std.specs.List.{filter}
+use Rattle.adb_view.specs.Plain.{Plain, Plains, none, more}
+use Rattle.adb_view.specs.Shaped.{Each}
+use Rattle.adb_tables.specs.Values.{entries_in, entry_in}
+use Rattle.adb_tables.specs.declared.tables.Which.TheVariants.{Idb}
+use Rattle.adb_fields.specs.FirstPair.{IsIn}
+use Rattle.adb_fields.specs.Paths.{path_of}
+use Rattle.adb_fields.specs.Repeated.{files_in, folders_in, list_of, name_of}
+use Rattle.adb_rules.specs.Reserved.{is_reserved}
+use Rattle.adb_rules.specs.SoundValues.{IsFileOf, IsFolder, IsPackage}
+use Rattle.change_files.specs.PlanLists.{first_reserved}
+use Rattle.db_core.specs.Members.{Listing, Member, is_coming, listings_by, listings_from, listings_in_folder, listings_in_folders, member_listings}
+use Rattle.db_core.specs.OwnedListings.{HaveOneOwner, owned_listings}
+use Rattle.db_core.specs.SoundMembers.{AreOfSoundContainers, IsOfSoundContainer, IsOfSoundDatabase, MayBeListed, NoneReserved}
+use Rattle.list_order.specs.ByteOrder.{precedes, smaller, smallest}
+
+-- ---- a property of each listing
+
+abbrev pub EachListing : (Listing → Type 0) → List Listing → Type 0
+EachListing P [] = Unit {0}
+EachListing P (l ∷ ls) = P l × EachListing P ls
+
+pub each_appended : (P : Listing → Type 0) (xs ys : List Listing) → EachListing P xs → EachListing P ys → EachListing P (xs ++ ys)
+each_appended P [] ys h g = g
+each_appended P (x ∷ xs) ys h g = (h.0, each_appended P xs ys h.1 g)
+
+pub each_owned : (P : Listing → Type 0) (ls : List Listing) (flags : List Bool) → EachListing P ls → EachListing P (owned_listings ls flags)
+each_owned P [] flags h = tt
+each_owned P (l ∷ ls) [] h = tt
+each_owned P (l ∷ ls) (true ∷ flags) h = (h.0, each_owned P ls flags h.1)
+each_owned P (l ∷ ls) (false ∷ flags) h = each_owned P ls flags h.1
+
+each_in : (P : Plain → Type 0) (v : Plain) (vs : Plains) → Each P vs → IsIn v (list_of vs) → P v
+each_in P v none h here = absurd here
+each_in P v (more u us) h (inl is) = subst P (sym is) h.0
+each_in P v (more u us) h (inr here) = each_in P v us h.1 here
+
+not_true : (b : Bool) → not b ≡ true → b ≡ false
+not_true true e = absurd (true≢false (sym e))
+not_true false e = refl
+
+-- ---- of a package in a database
+
+abbrev IsFree : Listing → Type 0
+IsFree l = is_reserved l.path ≡ false
+
+file_free : (folder : List ℕ) (v : Plain) → IsFileOf Idb folder v → is_reserved (path_of folder (name_of v)) ≡ false
+file_free folder v is = not_true (is_reserved (path_of folder (name_of v))) is.listed
+
+folder_free : (m : Member) (place folder i : ℕ) (above : List ℕ) (vs : Plains) → Each (IsFileOf Idb above) vs → EachListing IsFree (listings_in_folder m place folder i above (list_of vs))
+folder_free m place folder i above none h = tt
+folder_free m place folder i above (more v vs) h = (file_free above v h.0, folder_free m place folder (i + 1) above vs h.1)
+
+folders_free : (m : Member) (place i : ℕ) (vs : Plains) → Each (IsFolder Idb) vs → EachListing IsFree (listings_in_folders m place i (list_of vs))
+folders_free m place i none h = tt
+folders_free m place i (more v vs) h =
+    each_appended IsFree (listings_in_folder m place i 1 (name_of v) (files_in v)) (listings_in_folders m place (i + 1) (list_of vs))
+    (folder_free m place i 1 (name_of v) (entries_in (entry_in v 2)) h.0.files) (folders_free m place (i + 1) vs h.1)
+
+-- it is of a member that comes, or its path is free
+abbrev IsFreeIfStays : Listing → Type 0
+IsFreeIfStays l = is_coming l.member ≡ false → IsFree l
+
+weaker : (ls : List Listing) → EachListing IsFree ls → EachListing IsFreeIfStays ls
+weaker [] h = tt
+weaker (l ∷ ls) h = (λ stays. h.0, weaker ls h.1)
+
+listed_free : (m : Member) (place : ℕ) → IsOfSoundDatabase m.pkg → EachListing IsFreeIfStays (listings_by place m)
+listed_free m place h =
+    let rules : IsPackage Idb m.pkg = each_in (IsPackage Idb) m.pkg (entries_in (entry_in h.database 0)) h.sound.rules h.listed in
+    weaker (listings_by place m) (folders_free m place 1 (entries_in (entry_in m.pkg 1)) rules.folders)
+
+-- ---- of a member that comes nothing is asked
+
+module _ (m : Member) (place : ℕ) (comes : is_coming m ≡ true) where
+  folder_comes : (folder i : ℕ) (above : List ℕ) (es : List Plain) → EachListing IsFreeIfStays (listings_in_folder m place folder i above es)
+  folder_comes folder i above [] = tt
+  folder_comes folder i above (e ∷ es) = (λ stays. absurd (true≢false (sym comes ∙ stays)), folder_comes folder (i + 1) above es)
+
+  folders_come : (i : ℕ) (fs : List Plain) → EachListing IsFreeIfStays (listings_in_folders m place i fs)
+  folders_come i [] = tt
+  folders_come i (f ∷ fs) =
+      each_appended IsFreeIfStays (listings_in_folder m place i 1 (name_of f) (files_in f)) (listings_in_folders m place (i + 1) fs)
+      (folder_comes i 1 (name_of f) (files_in f)) (folders_come (i + 1) fs)
+
+member_free : (m : Member) (place : ℕ) → IsOfSoundContainer m.pkg m.id → EachListing IsFreeIfStays (listings_by place m)
+member_free m place h = by_id m.id refl h
+  where
+    by_id : (id : Option (List ℕ)) → m.id ≡ id → IsOfSoundContainer m.pkg id → EachListing IsFreeIfStays (listings_by place m)
+    by_id None e sound = listed_free m place sound
+    by_id (Some digest) e sound = folders_come m place (ap is_some e) 1 (folders_in m.pkg)
+
+members_free : (place : ℕ) (ms : List Member) → AreOfSoundContainers ms → EachListing IsFreeIfStays (listings_from place ms)
+members_free place [] h = tt
+members_free place (m ∷ ms) h = each_appended IsFreeIfStays (listings_by place m) (listings_from (place + 1) ms) (member_free m place h.0) (members_free (place + 1) ms h.1)
+
+-- ---- of members, where none that comes lists a reserved path
+
+smaller_some : (a : List ℕ) (o : Option (List ℕ)) → smaller a o ≡ None → ⊥
+smaller_some a None e = absurd (cc (e))
+smaller_some a (Some b) e = by_test (precedes b a) e
+  where
+    by_test : (c : Bool) → (if c then Some b else Some a) ≡ None → ⊥
+    by_test true e = absurd (cc (e))
+    by_test false e = absurd (cc (e))
+
+abbrev reserved_of : List Listing → List (List ℕ)
+reserved_of ls = filter is_reserved (map (λ l. l.path) (filter (λ l. is_coming l.member) ls))
+
+all_free : (ls : List Listing) → smallest (reserved_of ls) ≡ None → EachListing IsFreeIfStays ls → EachListing IsFree ls
+all_free [] free h = tt
+all_free (l ∷ ls) free h = by_member (is_coming l.member) refl free (λ rest. all_free ls rest h.1)
+  where
+    by_path : (b : Bool) → is_reserved l.path ≡ b → smallest (cond b (l.path ∷ reserved_of ls) (reserved_of ls)) ≡ None
+        → (smallest (reserved_of ls) ≡ None → EachListing IsFree ls) → EachListing IsFree (l ∷ ls)
+    by_path true e free others = absurd (smaller_some l.path (smallest (reserved_of ls)) free)
+    by_path false e free others = (e, others free)
+
+    by_member : (b : Bool) → is_coming l.member ≡ b
+        → smallest (filter is_reserved (map (λ l. l.path) (cond b (l ∷ filter (λ l. is_coming l.member) ls) (filter (λ l. is_coming l.member) ls)))) ≡ None
+        → (smallest (reserved_of ls) ≡ None → EachListing IsFree ls) → EachListing IsFree (l ∷ ls)
+    by_member true e free others = by_path (is_reserved l.path) refl free others
+    by_member false e free others = (h.0 e, others free)
+
+none_reserved : (ls : List Listing) → EachListing IsFree ls → NoneReserved (map (λ l. l.path) ls)
+none_reserved [] h = tt
+none_reserved (l ∷ ls) h = (h.0, none_reserved ls h.1)
+
+-- so what they own may be listed
+pub may_be_listed : (members : List Member) (flags : List Bool) → HaveOneOwner (owned_listings (member_listings members) flags) → AreOfSoundContainers members → first_reserved members ≡ None
+    → MayBeListed (owned_listings (member_listings members) flags)
+unfolding member_listings first_reserved
+may_be_listed members flags one sound free =
+    record {
+      one_owner = one;
+      free = none_reserved (owned_listings (listings_from 0 members) flags)
+          (each_owned IsFree (listings_from 0 members) flags (all_free (listings_from 0 members) free (members_free 0 members sound)));
+    }

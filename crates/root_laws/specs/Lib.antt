@@ -1,0 +1,3 @@
+-- what laws of runs say
+pub mod RootLeft
+pub mod NextInputs

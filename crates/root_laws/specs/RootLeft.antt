@@ -1,0 +1,50 @@
+-- The root that a change leaves, as a later command reads it.
+use Rattle.std.specs.Prelude.{◌≡◌, ℕ, ◌<◌, false, List, All, Option, Some, Ok}
+use Rattle.adb_fields.specs.Repeated.{list_of}
+use Rattle.base_core.specs.Files.{Files}
+use Rattle.change_inputs.specs.Database.{Database, database_by}
+use Rattle.change_inputs.specs.Inputs.{database_for, database_read, world_read}
+use Rattle.change_inputs.specs.World.{root_world, text_found}
+use Rattle.change_outcome.specs.ChangeOutcome.{ChangeDone, change_members}
+use Rattle.change_outcome.specs.MembersAfter.{MemberFound, members_found}
+use Rattle.command_core.specs.Command.{CommandLine}
+use Rattle.db_core.specs.Members.{Member}
+use Rattle.db_write.specs.NewDatabase.{packages_after}
+use Rattle.dep_core.specs.World.{world_text}
+use Rattle.engine_core.specs.Changed.{Selected, selected_for}
+use Rattle.engine_core.specs.Wishes.{wishes_of}
+use Rattle.file_owners.specs.Owners.{owned_of}
+use Rattle.make_info.specs.Reads.{Reads}
+use Rattle.root_names.specs.RootNames.{database_name, world_name}
+
+-- each file that reads find has bytes
+abbrev pub FindBytes : Reads → Type 0
+FindBytes read =
+    (n : ℕ) (name bytes : List ℕ) → read n name ≡ Some bytes → All (λ b. b < 256) bytes
+
+-- the database and world are read of these files
+pub record ReadsRoot (files : Files) (read : Reads) : Type 0 where
+  pub database : read database_read database_name ≡ files database_name
+  pub world : read world_read world_name ≡ files world_name
+
+-- packages, each with the files that it owns, in a container of these bytes
+abbrev pub database_of_members : List Member → List ℕ → Database
+database_of_members members bytes =
+    database_by (list_of (packages_after members (owned_of members))) (Some bytes) false
+
+-- What a change leaves: each later command that reads it finds a database with the packages after
+-- the change, and as world the one that the change was made for.
+pub record IsRootLeft (command : CommandLine) (read : Reads) (chosen : Option (List ℕ))
+    (done : ChangeDone) : Type 0 where
+  pub selected : Selected
+  pub is_selected : selected_for command read chosen ≡ Ok selected
+  pub found : List MemberFound
+  pub members : change_members selected.inputs selected.replacement (wishes_of command) read
+      ≡ Ok found
+  pub bytes : List ℕ
+  pub database : (later : CommandLine) (next : Reads) → ReadsRoot done.files next
+      → database_for later next ≡ Ok (database_of_members (members_found found) bytes)
+  pub world : (next : Reads) → ReadsRoot done.files next
+      → root_world (text_found (next world_read world_name)) ≡ Ok selected.inputs.root.new_world
+  pub text : (next : Reads) → ReadsRoot done.files next
+      → text_found (next world_read world_name) ≡ world_text selected.inputs.root.new_world

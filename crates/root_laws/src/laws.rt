@@ -1,0 +1,69 @@
+//! What follows from the definition of a command that changes the installed packages, for the
+//! command that reads the root after it.
+
+ghost use Rattle.std.specs.Prelude.{◌≡◌, ℕ, false, Err, List, Ok, Option};
+ghost use Rattle.base_core.specs.Files.{AreNamedFiles, Files};
+ghost use Rattle.change_inputs.specs.Inputs.{Inputs, inputs_of};
+ghost use Rattle.change_outcome.specs.ChangeOutcome.{ChangeDone};
+ghost use Rattle.command_core.specs.Command.{CommandLine};
+ghost use Rattle.engine_core.specs.Changed.{changed};
+ghost use Rattle.make_info.specs.Reads.{Reads};
+ghost use Rattle.path_clashes.specs.Clash.{NamePair};
+ghost use Rattle.report_core.specs.declared.refusal.Refusal.{Refusal};
+ghost use Rattle.root_laws.specs.NextInputs.{AreInputsFrom, IsOfRepositories};
+ghost use Rattle.root_laws.specs.RootLeft.{FindBytes, IsRootLeft, ReadsRoot};
+
+use adb_fields::no_name_is_repeated_where_each_stands_once;
+use adb_rules::no_text_is_bad_where_each_keeps_its_rule;
+use adb_tables::values_of_few_visits_have_no_fault;
+use adb_view::values_have_their_shape;
+use adb_write::{a_canonical_payload_is_read_back, a_value_overflows_exactly_past_a_limit};
+use db_write::{
+    a_database_of_sound_packages_may_stand_at_the_root, a_written_database_is_read_back,
+    packages_of_sound_containers_may_be_members,
+};
+use dep_core::worlds_are_read_back;
+use file_owners::no_path_is_owned_by_two_members;
+use pkg_core::a_package_is_tested_by_its_values_and_then_its_files;
+
+/// Where a change comes to an end, each command that reads the files that it leaves finds a
+/// database, whose packages are those after the change, each with the files that it owns; and the
+/// world that the change was made for.
+pub fn what_a_change_leaves_is_read_by_the_next_run()
+    ensures { (command : CommandLine) (read : Reads) (files : Files) (chosen : Option (List ℕ))
+        (clash : Option NamePair) (done : ChangeDone) → FindBytes read
+        → changed command read files chosen clash ≡ Ok done → command.flags.simulate ≡ false
+        → IsRootLeft command read chosen done }
+{
+    values_of_few_visits_have_no_fault();
+    values_have_their_shape();
+    a_canonical_payload_is_read_back();
+    a_value_overflows_exactly_past_a_limit();
+    no_text_is_bad_where_each_keeps_its_rule();
+    no_name_is_repeated_where_each_stands_once();
+    packages_of_sound_containers_may_be_members();
+    a_package_is_tested_by_its_values_and_then_its_files();
+    no_path_is_owned_by_two_members();
+    a_database_of_sound_packages_may_stand_at_the_root();
+    a_written_database_is_read_back();
+    worlds_are_read_back();
+}
+
+/// A later command that comes to its inputs has the packages and the world before it that the
+/// change has left; and one that does not is refused for its repositories or their indexes alone,
+/// neither for the database nor for the world.
+pub fn a_command_begins_with_what_the_last_change_left()
+    ensures inputs { (command later : CommandLine) (read next : Reads) (chosen : Option (List ℕ))
+        (done : ChangeDone) (inputs : Inputs) (left : IsRootLeft command read chosen done)
+        → ReadsRoot done.files next → inputs_of later next ≡ Ok inputs → AreInputsFrom left inputs }
+    ensures refused { (command later : CommandLine) (read next : Reads) (chosen : Option (List ℕ))
+        (done : ChangeDone) (refusal : Refusal) → IsRootLeft command read chosen done
+        → ReadsRoot done.files next → inputs_of later next ≡ Err refusal
+        → IsOfRepositories refusal }
+{}
+
+/// What is read of the files of a tree has bytes.
+pub fn reads_of_named_files_find_bytes()
+    ensures { (files : Files) (read : Reads) → AreNamedFiles files
+        → ((n : ℕ) (name : List ℕ) → read n name ≡ files name) → FindBytes read }
+{}
