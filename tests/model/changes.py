@@ -6,8 +6,8 @@ rows of random changes with what they come to by it.
 
 prints COUNT pairs of rows for crates/rows (tests/rows.md): repositories of a few packages, an
 installation and further changes; then files that the user changed, other packages in a repository,
-and more changes. With `sweep` about half of the command lines are cut off behind each call, and meet
-a fault at each. One seed gives the same rows each time.
+and more changes. With `sweep` about half of the command lines are cut off behind each call, and
+meet a fault at each. One seed gives the same rows each time.
 
 It shares no code with the program: where the two differ, one of them is wrong. Versions are whole
 numbers here, so that their order is nothing to be worked out.
@@ -597,7 +597,8 @@ class Maker:
             scripts, triggers, self.one(0, 0, 1), self.one(0, 0, 1, 2))
 
     def repository_packages(self):
-        titles = {(self.one(*NAMES), self.one("1", "2", "3")) for _ in range(self.one(*range(2, 9)))}
+        count = self.one(*range(2, 9))
+        titles = {(self.one(*NAMES), self.one("1", "2", "3")) for _ in range(count)}
         self.known = sorted({name for name, _ in titles})
         return [self.package(*title) for title in sorted(titles)]
 
