@@ -545,10 +545,11 @@ def is_match(pattern, folder):
 # Random cases
 
 NAMES = ["a", "b", "c", "d", "e"]
-PATHS = {"usr/x": 6, "usr/y": 6, "bin/z": 6, "etc/c": 9, "etc/c.apk-new": 1, "etc/d/e": 6, "f": 4,
-         "usr": 1, "usr/x/y": 1, "etc/d": 1, "usr/share/m": 5, "usr/share/n": 5}
+PATHS = {"usr/x": 6, "usr/y": 6, "bin/z": 6, "etc/c": 9, "etc/c.apk-new": 2, "etc/d/e": 6, "f": 4,
+         "usr": 1, "usr/x/y": 1, "etc/d": 1, "usr/share/m": 5, "usr/share/n": 5,
+         "etc/c.apk-new/x": 0.5}
 PATTERNS = [["/usr/*"], ["usr"], ["/etc", "/bin"], ["/"], ["/*"], ["/usr/share"]]
-PROVIDED = ["v", "w", "v=1", "v=2", "w=3", "a=2", "c"]
+PROVIDED = ["v", "w", "v=1", "v=1", "v=2", "w=3", "a=2", "c", "!v"]
 SWEPT = ["stop each", "fail each"]
 
 
@@ -584,26 +585,30 @@ class Maker:
         if self.some(0.1):
             files["bin/l"] = Link(self.one("z", "q"))
         scripts = {self.one(*SCRIPTS[1:]): b"x"} if self.some(0.15) else {}
-        triggers = self.one(*PATTERNS) if self.some(0.15) else []
-        if triggers:
+        triggers = self.one(*PATTERNS) if self.some(0.2) else []
+        if triggers and self.some(0.8):
             scripts["trigger"] = b"x"
         depends = {each.name: each for each in dependencies(
             self.dependency(0.15, 0, 0.3) for _ in range(self.one(0, 0, 0, 1, 1, 2)))}
         return Package(
             name, version, files, list(depends.values()),
-            dependencies([self.one(*PROVIDED)] if self.some(0.3) else []),
-            dependencies([self.one(*NAMES) + self.one("", "", ">1")] if self.some(0.5) else []),
-            dependencies([self.one(*NAMES), self.one(*NAMES)] if self.some(0.12) else []),
+            dependencies([self.one(*PROVIDED)] if self.some(0.4) else []),
+            dependencies(self.one("", "", "", "!") + name + self.one("", "", ">1") for name
+                         in self.random.sample(NAMES, self.one(0, 1, 1, 2, 3))),
+            dependencies([self.one(*NAMES), self.one("", "", "!") + self.one(*NAMES)]
+                         if self.some(0.15) else []),
             scripts, triggers, self.one(0, 0, 1), self.one(0, 0, 1, 2))
 
     def repository_packages(self):
         count = self.one(*range(2, 9))
-        titles = {(self.one(*NAMES), self.one("1", "2", "3")) for _ in range(count)}
-        self.known = sorted({name for name, _ in titles})
+        titles = sorted({(self.one(*NAMES), self.one("1", "2", "3")) for _ in range(count)})
+        titles += titles[:1] if self.some(0.1) else []
+        self.known = sorted({name for name, _ in titles}) + ["v"]
         return [self.package(*title) for title in sorted(titles)]
 
     def package_files(self, repositories):
-        """Nearly all packages stand where their index says, and nearly all as it says."""
+        """Nearly all packages stand where their index says, and nearly all as it says. Of two of
+        one name and version the later one stands there."""
         return {(i, package.name, package.version):
                 package if self.some(0.98) else self.package(package.name, package.version)
                 for i, repository in enumerate(repositories) for package in repository.packages
@@ -699,8 +704,9 @@ class Maker:
     def case(self, number):
         root = Root()
         repositories = [Repository("repo", None, self.repository_packages())]
-        if self.some(0.4):
-            repositories.append(Repository("edge", "edge", self.repository_packages()))
+        if self.some(0.5):
+            tag = self.one(None, "edge", "edge")
+            repositories.append(Repository("more", tag, self.repository_packages()))
         packages = self.package_files(repositories)
         self.begin(f"before_{number}", root, repositories, packages)
         for path in ("usr/x", "etc/c", "etc/d/e", "usr/y"):
@@ -718,7 +724,7 @@ class Maker:
         packages = {**packages, **self.package_files(repositories[:1])}
         self.begin(f"behind_{number}", root, repositories, packages, f"before_{number}")
         for path in sorted(root.files):
-            if not path.startswith(("repo/", "edge/", "etc/apk/")) and self.some(0.35):
+            if not path.startswith(("repo/", "more/", "etc/apk/")) and self.some(0.35):
                 self.change_file(root, path, self.one(b"1", b"2", b"user", b""))
         self.end(root, 3, repositories, packages)
 
