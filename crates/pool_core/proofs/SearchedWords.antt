@@ -1,6 +1,6 @@
 -- Words in byte order: whether a word is one of them, and what is marked by them.
-use Rattle.std.proofs.Common.{◌≡◌, ⊎_elim, ◌<◌, Bor, Bool, true, false, List, [], ◌∷◌, length, get_or, map, Result, Ok, Err, refl, sym, ap, subst, ◌∙◌, arith, is_ok}
-use Rattle.std.specs.Prelude.{ℕ, ◌&&◌, not}
+use Rattle.std.proofs.Common.{◌≡◌, ⊎_elim, ◌<◌, ◌+◌, ◌++◌, Bor, Bool, true, false, List, [], ◌∷◌, length, take, get_or, map, Result, Ok, Err, refl, sym, ap, subst, ◌∙◌, arith, is_ok}
+use Rattle.std.specs.Prelude.{ℕ, ◌&&◌, not, slice_get, Some}
 use Rattle.std.specs.List.{All, HoldsAt, list_any}
 use Rattle.std.specs.List.Sorted.{IsBinarySearchResult, IsPartitionPoint, IsPermutation, IsSearchInRange, IsSorted}
 use Rattle.std.specs.Ordering.{is_eq, ordering_reverse}
@@ -9,9 +9,11 @@ use Rattle.std.specs.declared.cmp.Ordering.TheVariants.{Less, Equal, Greater}
 use Rattle.std.specs.Str.{bytes_eq}
 use Rattle.std.proofs.lemmas.Bool.{cases_lt}
 use Rattle.std.proofs.lemmas.Cmp.{nat_list_cmp_total}
+use Rattle.std.proofs.lemmas.List.{map-append, take_more}
 use Rattle.std.proofs.lemmas.List.Folds.{list_any_at, list_any_none}
 use Rattle.std.proofs.lemmas.List.Sorted.{IsPermutation-map, list_any-IsPermutation, searchable_from_sorted}
 use Rattle.std.proofs.lemmas.Map.Text.{is_eq-slice_cmp}
+use Rattle.std.proofs.lemmas.Option.{get_or_from_slice_get, slice_get_within}
 use Rattle.pool_core.specs.Candidates.{Candidate}
 use Rattle.pool_core.specs.Rank.{byte_cmp, is_kept_installed, listed_names}
 use Rattle.pool_core.proofs.Anyone.{any_map}
@@ -47,6 +49,13 @@ searched_words ds xs word r e up bound found =
     ∙ sym (any_map (bytes_eq word) (λ (x : Bor (List ℕ)). x.now) xs)
 
 -- ---- the words in order
+
+pub one_word_more : (before after : List (Bor (List ℕ))) (x : Bor (List ℕ)) (words : List (List ℕ)) (i : ℕ) → after ≡ before ++ x ∷ [] → slice_get words i ≡ Some x.now → map (λ w. w.now) before ≡ take i words → map (λ w. w.now) after ≡ take (i + 1) words
+one_word_more before after x words i is there so_far =
+    ap (map (λ (w : Bor (List ℕ)). w.now)) is
+    ∙ (map-append (λ (w : Bor (List ℕ)). w.now) before (x ∷ [])
+    ∙ (ap (λ (zs : List (List ℕ)). zs ++ x.now ∷ []) so_far
+    ∙ sym (take_more words i [] (slice_get_within words i x.now there) ∙ ap (λ (w : List ℕ). take i words ++ w ∷ []) (get_or_from_slice_get words i x.now [] there))))
 
 pub sorted_words : (words : List (List ℕ)) (before after : List (Bor (List ℕ))) → map (λ x. x.now) before ≡ words → IsPermutation before after → IsPermutation words (map (λ x. x.now) after)
 sorted_words words before after is moved =

@@ -1,9 +1,8 @@
 -- One more element of a list, as a loop over it goes on.
-use Rattle.std.proofs.Common.{◌≡◌, Bor, inl, inr, ℕ, zero, suc, ◌+◌, ◌≤◌, ◌<◌, Bool, List, [], ◌∷◌, ◌++◌, length, take, map, get_or, refl, sym, subst, ap, ◌∙◌, arith}
+use Rattle.std.proofs.Common.{◌≡◌, inl, inr, ℕ, zero, suc, ◌+◌, ◌≤◌, ◌<◌, Bool, List, [], ◌∷◌, ◌++◌, length, take, map, get_or, refl, sym, subst, ap, ◌∙◌, arith}
 use Rattle.std.specs.Prelude.{Result, Ok, Err, OnOk, IfErr, IfOk, slice_get, Some, if◌then◌else◌, ◌&&◌, ◌||◌, ◌==◌, not}
 use Rattle.std.specs.List.{filter, list_all, list_any}
-use Rattle.std.proofs.lemmas.List.{length-map, map-append, take_more}
-use Rattle.std.proofs.lemmas.Option.{get_or_from_slice_get, slice_get_within}
+use Rattle.std.proofs.lemmas.List.{length-map}
 use Rattle.pool_core.specs.Candidates.{Candidate}
 use Rattle.pool_core.specs.Options.{IsMember}
 use Rattle.pool_core.specs.Values.{IsPoolFault}
@@ -103,12 +102,3 @@ fault_more Memory m n h f = tt
 pub if_ok : {X E : Type 0} (r : Result X E) (P Q : X → Type 0) → ((x : X) → P x → Q x) → IfOk r P → IfOk r Q
 if_ok (Ok x) P Q to h = to x h
 if_ok (Err e) P Q to h = h
-
--- ---- a list of words
-
-pub one_word_more : (before after : List (Bor (List ℕ))) (x : Bor (List ℕ)) (words : List (List ℕ)) (i : ℕ) → after ≡ before ++ x ∷ [] → slice_get words i ≡ Some x.now → map (λ w. w.now) before ≡ take i words → map (λ w. w.now) after ≡ take (i + 1) words
-one_word_more before after x words i is there so_far =
-    ap (map (λ (w : Bor (List ℕ)). w.now)) is
-    ∙ (map-append (λ (w : Bor (List ℕ)). w.now) before (x ∷ [])
-    ∙ (ap (λ (zs : List (List ℕ)). zs ++ x.now ∷ []) so_far
-    ∙ sym (take_more words i [] (slice_get_within words i x.now there) ∙ ap (λ (w : List ℕ). take i words ++ w ∷ []) (get_or_from_slice_get words i x.now [] there))))

@@ -1,6 +1,6 @@
 use Rattle.std.proofs.Common.{◌≡◌, ◌≤◌, ◌∙◌, ◌∷◌, ◌++◌, [], Bor, List, ℕ, length, ap, sym, arith}
 use Rattle.std.proofs.lemmas.List.{take_all}
-use Rattle.pool_core.proofs.Steps.{one_word_more}
+use Rattle.pool_core.proofs.SearchedWords.{one_word_more}
 use Rattle.pool_core.proofs.sorted.borrowed_words.Goals as goal
 
 pub loop-i-preserved : goal.loop-i-preserved
