@@ -1,7 +1,7 @@
 -- Tests of a list, an element at a time.
 use Rattle.std.proofs.Common.{◌≡◌, inl, inr, ℕ, zero, suc, ◌+◌, ◌<◌, Bool, true, false, List, [], ◌∷◌, length, take, map, get_or, refl, sym, subst, ap, arith}
-use Rattle.std.specs.Prelude.{slice_get, Some, None}
-use Rattle.std.specs.List.{find, list_any}
+use Rattle.std.specs.Prelude.{Some, None}
+use Rattle.std.specs.List.{find}
 use Rattle.pool_core.proofs.OptionLists.{bool_cases}
 
 pub found_at : {X Y : Type 0} (p : Y → Bool) (f : X → Y) (xs : List X) (i : ℕ) (x : X) → find p (map f (take i xs)) ≡ None → i < length xs → x ≡ get_or xs i x → p (f x) ≡ true → find p (map f xs) ≡ Some (f x)
