@@ -57,7 +57,7 @@ impl<'a> Table<'a> {
             ≡ with_last_where (offers_name name details.now) (ids_of self.old name) id) }
     {
         self.add(details.name(), id)?;
-        self.add_provided(details.provides().as_slice(), id)?;
+        self.add_provided(details.provides(), id)?;
         Ok(())
     }
 
