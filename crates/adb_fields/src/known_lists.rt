@@ -59,7 +59,7 @@ impl<'a> KnownLists<'a> {
         if objects.len() <= SHORT {
             return name_twice(alloc, self.adb, self.which, objects);
         }
-        if let Some(pair) = self.known(list) {
+        if let Some(pair) = self.kept_pair(list) {
             return Ok(pair);
         }
         let pair = name_twice(alloc, self.adb, self.which, objects)?;
@@ -67,8 +67,8 @@ impl<'a> KnownLists<'a> {
         Ok(pair)
     }
 
-    /// What is known of a list.
-    fn known(&self, list: Val) -> Option<Option<Pair>>
+    /// The pair that is kept of a list, if it is.
+    fn kept_pair(&self, list: Val) -> Option<Option<Pair>>
         ensures { IfSome result (λ pair. pair
             ≡ twice_at (payload_of self.now.adb) self.now.which list) }
     {
