@@ -1,7 +1,7 @@
 //! The fault of a visit, as the walk hands it from value to value.
 
 ghost use Rattle.std.specs.Prelude.{◌≡◌, true};
-ghost use Rattle.adb_tables.specs.VisitFault.{is_reader_fault, reported};
+ghost use Rattle.adb_tables.specs.VisitFault.{cause_of_fault, is_reader_fault};
 
 use base_core::Cause;
 
@@ -21,7 +21,7 @@ impl VisitFault {
     /// Why a reader refused a word.
     pub(crate) fn of_reader(cause: Cause) -> VisitFault
         requires { is_reader_fault cause ≡ true }
-        ensures { reported result ≡ cause }
+        ensures { cause_of_fault result ≡ cause }
     {
         match cause {
             Cause::WrongKind { word } => VisitFault::WrongKind { word },
@@ -32,7 +32,7 @@ impl VisitFault {
 
     /// The cause that is reported.
     pub(crate) fn cause(self) -> Cause
-        ensures { result ≡ reported self }
+        ensures { result ≡ cause_of_fault self }
     {
         match self {
             VisitFault::TooLarge { count } => Cause::TooLarge { count },
