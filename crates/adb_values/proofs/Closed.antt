@@ -4,7 +4,7 @@ use Rattle.std.specs.Prelude.{min}
 use Rattle.adb_view.specs.Plain.{Plain, Plains}
 use Rattle.adb_write.specs.DepthFirst.{WritesValue, WritesValues}
 use Rattle.adb_write.specs.Writing.{Writing, calls_all}
-use Rattle.adb_values.specs.Drafts.{DraftState, draft_by, with_value, with_values, with_open_list}
+use Rattle.adb_values.specs.Drafts.{DraftState, draft_by, draft_with, draft_with_all, draft_with_open_list}
 use Rattle.adb_values.specs.LastList.{last_of, last_start, start_within}
 use Rattle.adb_values.proofs.Taken.{takes, takes_all}
 
@@ -44,8 +44,8 @@ record IsOpen (d before : DraftState) (xs : List ℕ) (later : Writing) : Type 0
   pub words : d.words ≡ before.words ++ xs
   pub starts : d.starts ≡ before.starts ++ length before.words ∷ []
 
-is_open : (vs : Plains) (d before : DraftState) → d ≡ with_values vs (with_open_list before) → IsOpen d before (calls_all vs before.writing).0 (calls_all vs before.writing).1
-unfolding with_open_list
+is_open : (vs : Plains) (d before : DraftState) → d ≡ draft_with_all vs (draft_with_open_list before) → IsOpen d before (calls_all vs before.writing).0 (calls_all vs before.writing).1
+unfolding draft_with_open_list
 is_open vs d before is =
     let all : d ≡ draft_by (calls_all vs before.writing).1 (before.words ++ (calls_all vs before.writing).0) (before.starts ++ length before.words ∷ []) = is ∙ takes_all vs before.writing before.words (before.starts ++ length before.words ∷ []) in
     record {
@@ -63,10 +63,10 @@ start_of d before xs later o =
 -- The words from the start on are those of the values of the list: so the list is closed with what
 -- the writer makes of them.
 pub closes : (v : Plain) (vs : Plains) (before old : DraftState) (tail : List ℕ) (word start : ℕ) (new : Writing) (words starts : List ℕ)
-    → old ≡ with_values vs (with_open_list before) → start ≡ last_start old → tail ≡ drop start old.words
+    → old ≡ draft_with_all vs (draft_with_open_list before) → start ≡ last_start old → tail ≡ drop start old.words
     → (WritesValues before.writing vs tail old.writing → WritesValue before.writing v word new)
     → words ≡ take start old.words ++ word ∷ [] → starts ≡ take (length old.starts - 1) old.starts
-    → draft_by new words starts ≡ with_value v before
+    → draft_by new words starts ≡ draft_with v before
 closes v vs before old tail word start new words starts is at tail_at wrote words_is starts_is =
     let xs : List ℕ = (calls_all vs before.writing).0 in
     let later : Writing = (calls_all vs before.writing).1 in

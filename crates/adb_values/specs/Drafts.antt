@@ -19,15 +19,15 @@ abbrev pub empty_draft : DraftState
 empty_draft = draft_by empty_writing [] []
 
 -- with one value more: it is written depth first
-unfoldable pub with_value : Plain → DraftState → DraftState
-with_value v d =
+unfoldable pub draft_with : Plain → DraftState → DraftState
+draft_with v d =
     draft_by (calls v d.writing).1 (d.words ++ (calls v d.writing).0 ∷ []) d.starts
 
 -- with these values more, in order
-abbrev pub with_values : Plains → DraftState → DraftState
-with_values none d = d
-with_values (more v vs) d = with_values vs (with_value v d)
+abbrev pub draft_with_all : Plains → DraftState → DraftState
+draft_with_all none d = d
+draft_with_all (more v vs) d = draft_with_all vs (draft_with v d)
 
 -- with an open list, which takes the values that come
-unfoldable pub with_open_list : DraftState → DraftState
-with_open_list d = draft_by d.writing d.words (d.starts ++ length d.words ∷ [])
+unfoldable pub draft_with_open_list : DraftState → DraftState
+draft_with_open_list d = draft_by d.writing d.words (d.starts ++ length d.words ∷ [])

@@ -1,11 +1,11 @@
 //! A payload under construction.
 
-ghost use Rattle.std.specs.Prelude.{◌≡◌, ◌<◌, ◌≤◌, ◌∷◌, ◌++◌, [], length, take, OnErr, OnOk, vec_capacity, vec_len};
+ghost use Rattle.std.specs.Prelude.{◌≡◌, ◌<◌, ◌≤◌, ◌∷◌, ◌++◌, [], length, take, IfOk, OnErr, OnOk, vec_capacity, vec_len};
 ghost use Rattle.adb_view.specs.Plain.{Plain, Plains, arr_value, blob_value, int, null, obj_value};
-ghost use Rattle.adb_values.specs.Drafts.{empty_draft, with_open_list, with_value, with_values, DraftState};
+ghost use Rattle.adb_values.specs.Drafts.{empty_draft, draft_with_open_list, draft_with, draft_with_all, DraftState};
 ghost use Rattle.adb_values.specs.LastList.{last_start, last_word};
 ghost use Rattle.adb_values.specs.Written.{IsWrittenAs};
-ghost use Rattle.adb_write.specs.Canonical.{written_of};
+ghost use Rattle.adb_write.specs.Canonical.{written_of, MOST_BYTES};
 
 use adb_view::Val;
 use adb_write::{WriteFault, Writer};
@@ -45,7 +45,7 @@ impl Draft {
 
     /// Adds Null.
     pub fn null(&mut self) -> Result<(), AllocError>
-        ensures ok { OnOk result (self.new ≡ with_value null self.old) }
+        ensures ok { OnOk result (self.new ≡ draft_with null self.old) }
         ensures err { OnErr result (self.new ≡ self.old) }
     {
         self.words.push(Val::of(0))?;
@@ -54,7 +54,7 @@ impl Draft {
 
     /// Adds an integer.
     pub fn int(&mut self, n: u64) -> Result<(), AllocError>
-        ensures ok { OnOk result (self.new ≡ with_value (int n) self.old) }
+        ensures ok { OnOk result (self.new ≡ draft_with (int n) self.old) }
         ensures err { OnErr result (self.new ≡ self.old) }
     {
         self.words.reserve(1)?;
@@ -65,7 +65,7 @@ impl Draft {
 
     /// Adds a blob; an empty one is Null.
     pub fn blob(&mut self, bytes: &[u8]) -> Result<(), AllocError>
-        ensures ok { OnOk result (self.new ≡ with_value (blob_value bytes.now) self.old) }
+        ensures ok { OnOk result (self.new ≡ draft_with (blob_value bytes.now) self.old) }
         ensures err { OnErr result (self.new ≡ self.old) }
     {
         self.words.reserve(1)?;
@@ -76,7 +76,7 @@ impl Draft {
 
     /// Opens a list, which takes the values that come until it is closed.
     pub fn open_list(&mut self) -> Result<(), AllocError>
-        ensures ok { OnOk result (self.new ≡ with_open_list self.old) }
+        ensures ok { OnOk result (self.new ≡ draft_with_open_list self.old) }
         ensures err { OnErr result (self.new ≡ self.old) }
     {
         self.starts.push(self.words.len())?;
@@ -87,8 +87,8 @@ impl Draft {
     /// is Null.
     pub fn close_array(&mut self) -> Result<(), AllocError>
         ensures ok { OnOk result ((vs : Plains) (before : DraftState)
-            → self.old ≡ with_values vs (with_open_list before)
-            → self.new ≡ with_value (arr_value vs) before) }
+            → self.old ≡ draft_with_all vs (draft_with_open_list before)
+            → self.new ≡ draft_with (arr_value vs) before) }
         ensures err { OnErr result (self.new ≡ self.old) }
     {
         self.words.reserve(1)?;
@@ -104,8 +104,8 @@ impl Draft {
     /// value is Null.
     pub fn close_object(&mut self) -> Result<(), AllocError>
         ensures ok { OnOk result ((vs : Plains) (before : DraftState)
-            → self.old ≡ with_values vs (with_open_list before)
-            → self.new ≡ with_value (obj_value vs) before) }
+            → self.old ≡ draft_with_all vs (draft_with_open_list before)
+            → self.new ≡ draft_with (obj_value vs) before) }
         ensures err { OnErr result (self.new ≡ self.old) }
     {
         self.words.reserve(1)?;
@@ -131,8 +131,10 @@ impl Draft {
     /// The payload whose root is the only value of the draft, or the counts just behind the first
     /// value at which one passes its limit.
     pub fn finish(self) -> Result<Vec<u8>, WriteFault>
-        ensures { (v : Plain) → self ≡ with_value v empty_draft
+        ensures written { (v : Plain) → self ≡ draft_with v empty_draft
             → IsWrittenAs (λ payload. payload.items) result (written_of v) }
+        ensures short { (v : Plain) → self ≡ draft_with v empty_draft
+            → IfOk result (λ payload. length payload.items ≤ MOST_BYTES) }
     {
         let root = last_word(&self.words);
         let writer = self.writer;
