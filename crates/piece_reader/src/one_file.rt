@@ -121,13 +121,14 @@ impl<'a> FilePieces<'a> {
     }
 
     /// Reads the next piece, and tells whether one came; else the file has ended. The pieces have
-    /// 65,536 bytes each, and the last one 1 to 65,536. The tree stays as it is, whatever the answer.
+    /// 65,536 bytes each, and the last one 1 to 65,536. The tree stays as it is, whatever the
+    /// answer.
     ///
     /// # Errors
     ///
-    /// `Bad` with `HashDiffers`, before the last piece is handed out, where all bytes together do not
-    /// have the file's digest, and again from then on; or `Disk` where the tree failed: then the
-    /// reader may only be dropped.
+    /// `Bad` with `HashDiffers`, before the last piece is handed out, where all bytes together do
+    /// not have the file's digest, and again from then on; at once where the file has no place in
+    /// the package (`new`); or `Disk` where the tree failed: then the reader may only be dropped.
     pub fn next_piece<T: Tree>(
         &mut self,
         tree: &mut T,
@@ -137,7 +138,7 @@ impl<'a> FilePieces<'a> {
         ensures piece { IfObservable (T.history tree.old) (λ v. (pkg left : List ℕ)
             → files_of v (package_of_file self.old) ≡ Some pkg → IsFileReading self.old pkg left
             → GivesBytes (IsFileReading self.new pkg) left piece.new result) }
-        // Of each package, also of one that was changed since: a last piece comes, and the end, only
+        // Of each package, also of one that was changed since: the last piece and the end come only
         // where all bytes together have the size and the digest that are due.
         ensures tested { (so_far : List ℕ) → HaveCome self.old so_far
             → ComesBehind self.old so_far piece.new result self.new }
