@@ -5,7 +5,7 @@ use Rattle.base_core.specs.Files.{Files}
 use Rattle.base_core.specs.Tree.{TreeState, files_of}
 use Rattle.journal_core.specs.Staged.{HasRoomBeside, Staging}
 use Rattle.journal_core.proofs.History.{History}
-use Rattle.stage_files.specs.Sources.{MayStandFor, MayStandForEach, StandForEach, StandsFor}
+use Rattle.stage_files.specs.Sources.{MayStandFor, MayStandForEach, StandForEach, StandsForBytes}
 use Rattle.stage_files.specs.declared.source.StagedWrite.{StagedWrite}
 use Rattle.stage_run.specs.StageRun.{IsStaging, IsStagingRun}
 
@@ -44,32 +44,32 @@ within (x ∷ ws) (suc i) w e = let more = within ws i w e in omega (arith, more
 
 -- the bytes of the next write
 pub bytes_next : (files : Files) (writes : List StagedWrite) (contents : List (List ℕ)) (i : ℕ) (w : StagedWrite) → slice_get writes i ≡ Some w → StandForEach files writes contents
-    → (bytes : List ℕ) × (slice_get contents i ≡ Some bytes) × StandsFor files w.source bytes
+    → (bytes : List ℕ) × (slice_get contents i ≡ Some bytes) × StandsForBytes files w.source bytes
 bytes_next files writes contents i w at stand =
     let found = some_at contents i (let less = within writes i w at in let same = stand.same in omega (arith, less, same)) in
     (found.0, found.1, stand.each i w found.0 at found.1)
 
 module _ (start stage next : Staging) (writes : List StagedWrite) (i : ℕ) (w : StagedWrite) (at : slice_get writes i ≡ Some w) (old now later : History) (so_far : AreStagedOn start stage writes i old now) where
-  pub each_run : ((contents : List (List ℕ)) (v : TreeState) (first : List TreeState) (bytes : List ℕ) → IsStaging stage contents None v first now → StandsFor (files_of v) w.source bytes → IsStagingRun v first later)
+  pub each_run : ((contents : List (List ℕ)) (v : TreeState) (first : List TreeState) (bytes : List ℕ) → IsStaging stage contents None v first now → StandsForBytes (files_of v) w.source bytes → IsStagingRun v first later)
       → (contents : List (List ℕ)) (v : TreeState) (first : List TreeState) → IsStaging start [] None v first old → StandForEach (files_of v) writes contents → IsStagingRun v first later
   each_run run contents v first staging stand =
       let (bytes, is, source) = bytes_next (files_of v) writes contents i w at stand in
       run (take i contents) v first bytes (so_far contents v first staging stand) source
 
-  pub each_more : ((contents : List (List ℕ)) (v : TreeState) (first : List TreeState) (bytes : List ℕ) → IsStaging stage contents None v first now → StandsFor (files_of v) w.source bytes → IsStaging next (contents ++ bytes ∷ []) None v first later)
+  pub each_more : ((contents : List (List ℕ)) (v : TreeState) (first : List TreeState) (bytes : List ℕ) → IsStaging stage contents None v first now → StandsForBytes (files_of v) w.source bytes → IsStaging next (contents ++ bytes ∷ []) None v first later)
       → AreStagedOn start next writes (i + 1) old later
   each_more staged contents v first staging stand =
       let (bytes, is, source) = bytes_next (files_of v) writes contents i w at stand in
       subst (λ (l : List (List ℕ)). IsStaging next l None v first later) (sym (take_next contents i bytes is)) (staged (take i contents) v first bytes (so_far contents v first staging stand) source)
 
   pub each_proper : (before between after : ℕ) → AreProperOn start writes old before between
-      → ((contents : List (List ℕ)) (v : TreeState) (first : List TreeState) (bytes : List ℕ) → IsStaging stage contents None v first now → StandsFor (files_of v) w.source bytes → HasRoomBeside (files_of v) → after ≡ between)
+      → ((contents : List (List ℕ)) (v : TreeState) (first : List TreeState) (bytes : List ℕ) → IsStaging stage contents None v first now → StandsForBytes (files_of v) w.source bytes → HasRoomBeside (files_of v) → after ≡ between)
       → AreProperOn start writes old before after
   each_proper before between after proper one contents v first staging stand room =
       let (bytes, is, source) = bytes_next (files_of v) writes contents i w at stand in
       one (take i contents) v first bytes (so_far contents v first staging stand) source room ∙ proper contents v first staging stand room
 
-  pub each_good : (P : Type 0) → ((contents : List (List ℕ)) (v : TreeState) (first : List TreeState) (bytes : List ℕ) → IsStaging stage contents None v first now → StandsFor (files_of v) w.source bytes → P)
+  pub each_good : (P : Type 0) → ((contents : List (List ℕ)) (v : TreeState) (first : List TreeState) (bytes : List ℕ) → IsStaging stage contents None v first now → StandsForBytes (files_of v) w.source bytes → P)
       → (contents : List (List ℕ)) (v : TreeState) (first : List TreeState) → IsStaging start [] None v first old → StandForEach (files_of v) writes contents → P
   each_good P good contents v first staging stand =
       let (bytes, is, source) = bytes_next (files_of v) writes contents i w at stand in

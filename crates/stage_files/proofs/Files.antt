@@ -8,7 +8,7 @@ use Rattle.piece_reader.specs.declared.one_file.FilePieces.{FilePieces}
 use Rattle.pkg_core.specs.Contents.{bytes_of_file, contents_in}
 use Rattle.pkg_core.specs.Whole.{files_in_file}
 use Rattle.stage_files.specs.Reading.{IsReadingIn}
-use Rattle.stage_files.specs.Sources.{AreListedFor, IsFileSource, MayStandFor, StandsFor}
+use Rattle.stage_files.specs.Sources.{AreListedFor, IsFileSource, MayStandFor, StandsForBytes}
 use Rattle.stage_files.specs.declared.source.PackagedFile.{PackagedFile}
 use Rattle.stage_files.specs.declared.source.Source.{Source}
 use Rattle.stage_files.specs.declared.source.Source.TheVariants.{Bytes, File, Link}
@@ -27,14 +27,14 @@ source_reading files f bytes file name len reading s = record {
 
 -- ---- what a source is
 
-pub given_stands : (files : Files) (source : Source) (own : Bor (List ℕ)) (bytes : List ℕ) → source ≡ Bytes own → StandsFor files source bytes → bytes ≡ own.now
-given_stands files source own bytes is s = subst (λ (x : Source). StandsFor files x bytes) is s
+pub given_stands : (files : Files) (source : Source) (own : Bor (List ℕ)) (bytes : List ℕ) → source ≡ Bytes own → StandsForBytes files source bytes → bytes ≡ own.now
+given_stands files source own bytes is s = subst (λ (x : Source). StandsForBytes files x bytes) is s
 
-pub link_stands : (files : Files) (source : Source) (target : Bor (List ℕ)) (bytes : List ℕ) → source ≡ Link target → StandsFor files source bytes → bytes ≡ link_to target.now
-link_stands files source target bytes is s = subst (λ (x : Source). StandsFor files x bytes) is s
+pub link_stands : (files : Files) (source : Source) (target : Bor (List ℕ)) (bytes : List ℕ) → source ≡ Link target → StandsForBytes files source bytes → bytes ≡ link_to target.now
+link_stands files source target bytes is s = subst (λ (x : Source). StandsForBytes files x bytes) is s
 
-pub file_stands : (files : Files) (source : Source) (f : PackagedFile) (bytes : List ℕ) → source ≡ File f → StandsFor files source bytes → IsFileSource files f bytes
-file_stands files source f bytes is s = subst (λ (x : Source). StandsFor files x bytes) is s
+pub file_stands : (files : Files) (source : Source) (f : PackagedFile) (bytes : List ℕ) → source ≡ File f → StandsForBytes files source bytes → IsFileSource files f bytes
+file_stands files source f bytes is s = subst (λ (x : Source). StandsForBytes files x bytes) is s
 
 -- ---- what a source may be
 

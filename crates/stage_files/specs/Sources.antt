@@ -23,10 +23,10 @@ pub record IsFileSource (files : Files) (f : PackagedFile) (bytes : List ℕ) : 
   pub is : bytes ≡ bytes_of_file f.folder f.file (contents_in (files_in_file pkg))
 
 -- over these files it stands for these bytes
-abbrev pub StandsFor : Files → Source → List ℕ → Type 0
-StandsFor files (Bytes own) bytes = bytes ≡ own.now
-StandsFor files (Link target) bytes = bytes ≡ link_to target.now
-StandsFor files (File f) bytes = IsFileSource files f bytes
+abbrev pub StandsForBytes : Files → Source → List ℕ → Type 0
+StandsForBytes files (Bytes own) bytes = bytes ≡ own.now
+StandsForBytes files (Link target) bytes = bytes ≡ link_to target.now
+StandsForBytes files (File f) bytes = IsFileSource files f bytes
 
 -- the bytes have the size and the digest that the package's value lists for its file; none where it
 -- lists no contents
@@ -54,7 +54,7 @@ pub record StandForEach (files : Files) (writes : List StagedWrite) (contents : 
     Type 0 where
   pub same : length contents ≡ length writes
   pub each : (i : ℕ) (w : StagedWrite) (bytes : List ℕ) → slice_get writes i ≡ Some w
-      → slice_get contents i ≡ Some bytes → StandsFor files w.source bytes
+      → slice_get contents i ≡ Some bytes → StandsForBytes files w.source bytes
 
 -- the source of each may stand for the bytes at its place
 abbrev pub MayStandForEach : List StagedWrite → List (List ℕ) → Type 0
