@@ -18,7 +18,7 @@ use crate::let_go::LetGo;
 use crate::near::{first_below, first_folder};
 use adb_fields::FilePath;
 use base_core::{Name, Tree, TreeFault};
-use std::alloc::{AllocError, Global};
+use std::alloc::Global;
 
 /// Two names after a change, of which the first is a folder of the second.
 #[derive(Drop)]
@@ -51,30 +51,6 @@ fn first_of(one: Option<Clash>, other: Option<Clash>) -> Option<Clash>
         Some(other)
     } else {
         Some(one)
-    }
-}
-
-/// The bytes of a path.
-fn path_bytes(alloc: Global, path: &FilePath<'_>) -> Result<Vec<u8>, AllocError>
-    ensures { IfOk result (λ bytes. bytes.items ≡ joined_path path.now) }
-{
-    let mut bytes = Vec::new(alloc);
-    if !path.folder.is_empty() {
-        bytes.extend_from_slice(path.folder)?;
-        bytes.push(b'/')?;
-    }
-    bytes.extend_from_slice(path.name)?;
-    Ok(bytes)
-}
-
-/// The name that these bytes are.
-fn name_of_bytes(alloc: Global, bytes: &[u8]) -> Result<Name, AllocError>
-    requires { IsName bytes.now }
-    ensures { IfOk result (λ name. name ≡ bytes.now) }
-{
-    match Name::read(alloc, bytes)? {
-        Some(name) => Ok(name),
-        None => unreachable!(),
     }
 }
 
@@ -114,7 +90,7 @@ fn clash_near<T: Tree, G: LetGo>(
     if before == bytes {
         return Ok(None);
     }
-    let name = name_of_bytes(alloc, bytes)?;
+    let name = Name::of(alloc, bytes)?;
     let len = common_len(before, bytes);
     if let Some(path) = first_folder(alloc, tree, written, let_go, bytes, len)? {
         return Ok(Some(Clash { path, other: name }));
@@ -151,7 +127,7 @@ pub fn first_clash<T: Tree, G: LetGo>(
     let mut first = None;
     let mut before = Vec::new(alloc);
     for path in written {
-        let bytes = path_bytes(alloc, path)?;
+        let bytes = path.to_bytes(alloc)?;
         let found = clash_near(alloc, tree, written, let_go, &before, &bytes)?;
         first = first_of(first, found);
         before = bytes;
