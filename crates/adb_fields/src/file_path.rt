@@ -1,11 +1,10 @@
 //! Paths of files whose parts are not joined, and their order.
 
-ghost use Rattle.std.specs.Prelude.{◌≡◌, ◌<◌, ◌≤◌, ◌+◌, ◌^◌, length, take, drop, slice_get, IfOk, IfSome};
+ghost use Rattle.std.specs.Prelude.{◌≡◌, ◌<◌, ◌≤◌, ◌+◌, ◌^◌, length, take, drop, slice_get, IfSome};
 ghost use Rattle.std.specs.Cmp.Lexicographic.{slice_cmp};
 ghost use Rattle.std.specs.Ordering.{nat_cmp};
 ghost use Rattle.adb_fields.specs.JoinedPath.{joined_path};
 
-use std::alloc::{AllocError, Global};
 use std::cmp::Ordering;
 
 /// The path of a file: its name behind its folder's and a slash. The root folder has the empty name.
@@ -31,19 +30,6 @@ impl FilePath<'_> {
             return self.name.cmp(&other.name);
         }
         compared_from(self, other, len)
-    }
-
-    /// The bytes of the path.
-    pub fn to_bytes(&self, alloc: Global) -> Result<Vec<u8>, AllocError>
-        ensures { IfOk result (λ bytes. bytes.items ≡ joined_path self.now) }
-    {
-        let mut bytes = Vec::new(alloc);
-        if !self.folder.is_empty() {
-            bytes.extend_from_slice(self.folder)?;
-            bytes.push(b'/')?;
-        }
-        bytes.extend_from_slice(self.name)?;
-        Ok(bytes)
     }
 
     /// A byte of the path.

@@ -11,6 +11,19 @@ use base_core::{Name, Names};
 use path_claims::Claim;
 use std::alloc::{AllocError, Global};
 
+/// The bytes of a path whose parts are not joined.
+fn path_bytes(alloc: Global, path: &FilePath<'_>) -> Result<Vec<u8>, AllocError>
+    ensures { IfOk result (λ bytes. bytes.items ≡ joined_path path.now) }
+{
+    let mut bytes = Vec::new(alloc);
+    if !path.folder.is_empty() {
+        bytes.extend_from_slice(path.folder)?;
+        bytes.push(b'/')?;
+    }
+    bytes.extend_from_slice(path.name)?;
+    Ok(bytes)
+}
+
 /// The name that a path is.
 ///
 /// # Errors
@@ -20,7 +33,7 @@ pub fn name_of_path(alloc: Global, path: &FilePath<'_>) -> Result<Name, AllocErr
     requires { IsName (joined_path path.now) }
     ensures { IfOk result (λ name. name ≡ joined_path path.now) }
 {
-    let bytes = path.to_bytes(alloc)?;
+    let bytes = path_bytes(alloc, path)?;
     Name::of(alloc, &bytes)
 }
 

@@ -18,7 +18,7 @@ use crate::let_go::LetGo;
 use crate::near::{first_below, first_folder};
 use adb_fields::FilePath;
 use base_core::{Name, Tree, TreeFault};
-use std::alloc::Global;
+use std::alloc::{AllocError, Global};
 
 /// Two names after a change, of which the first is a folder of the second.
 #[derive(Drop)]
@@ -52,6 +52,19 @@ fn first_of(one: Option<Clash>, other: Option<Clash>) -> Option<Clash>
     } else {
         Some(one)
     }
+}
+
+/// The bytes of a path.
+fn path_bytes(alloc: Global, path: &FilePath<'_>) -> Result<Vec<u8>, AllocError>
+    ensures { IfOk result (λ bytes. bytes.items ≡ joined_path path.now) }
+{
+    let mut bytes = Vec::new(alloc);
+    if !path.folder.is_empty() {
+        bytes.extend_from_slice(path.folder)?;
+        bytes.push(b'/')?;
+    }
+    bytes.extend_from_slice(path.name)?;
+    Ok(bytes)
 }
 
 /// How many bytes at the fronts of two texts are the same.
@@ -127,7 +140,7 @@ pub fn first_clash<T: Tree, G: LetGo>(
     let mut first = None;
     let mut before = Vec::new(alloc);
     for path in written {
-        let bytes = path.to_bytes(alloc)?;
+        let bytes = path_bytes(alloc, path)?;
         let found = clash_near(alloc, tree, written, let_go, &before, &bytes)?;
         first = first_of(first, found);
         before = bytes;
