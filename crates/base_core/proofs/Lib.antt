@@ -3,4 +3,3 @@ pub mod Counting
 pub mod Left
 pub mod Rising
 pub mod OneList
-pub mod NameParts

@@ -3,6 +3,7 @@ mod ListedNames
 pub mod ListingPlaces
 mod MemberPlaces
 mod NamePlaces
+pub mod Opened
 pub mod Ordered
 pub mod PathParts
 pub mod Places

@@ -1,6 +1,7 @@
 //! The fixed names of a change: that of the intent, the folder of the stage, and those of the files
 //! that wait in it.
-ghost use Rattle.std.specs.Prelude.{◌≡◌, IfOk};
+ghost use Rattle.std.specs.Prelude.{◌≡◌, true, IfOk};
+ghost use Rattle.base_core.specs.Name.{is_name};
 ghost use Rattle.journal_intent.specs.FreeNames.{stage_names_from};
 ghost use Rattle.journal_intent.specs.Intent.{intent_name, stage_folder, stage_name};
 
@@ -11,14 +12,25 @@ use std::alloc::{AllocError, Global};
 pub fn intent_name(alloc: Global) -> Result<Name, AllocError>
     ensures { IfOk result (λ name. name ≡ intent_name) }
 {
-    Name::of(alloc, b"lib/apk/intent")
+    name_of_bytes(alloc, b"lib/apk/intent")
 }
 
 /// The folder in which new files wait, `lib/apk/stage`.
 pub fn stage_folder(alloc: Global) -> Result<Name, AllocError>
     ensures { IfOk result (λ name. name ≡ stage_folder) }
 {
-    Name::of(alloc, b"lib/apk/stage")
+    name_of_bytes(alloc, b"lib/apk/stage")
+}
+
+/// The name that these bytes are.
+pub(crate) fn name_of_bytes(alloc: Global, bytes: &[u8]) -> Result<Name, AllocError>
+    requires { is_name bytes.now ≡ true }
+    ensures { IfOk result (λ name. name ≡ bytes.now) }
+{
+    match Name::read(alloc, bytes)? {
+        Some(name) => Ok(name),
+        None => unreachable!(),
+    }
 }
 
 /// The names of so many waiting files, from number 0 on.
@@ -37,5 +49,5 @@ fn stage_name(alloc: Global, k: usize) -> Result<Name, AllocError>
     ensures { IfOk result (λ name. name ≡ stage_name k) }
 {
     let text = format!(in alloc; "lib/apk/stage/{k}")?;
-    Name::of(alloc, text.as_bytes())
+    name_of_bytes(alloc, text.as_bytes())
 }

@@ -5,3 +5,4 @@ pub mod FrontSteps
 pub mod FrontSeen
 pub mod WholeReads
 pub mod WholeTests
+pub mod Opened
