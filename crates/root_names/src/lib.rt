@@ -10,11 +10,17 @@ ghost use Rattle.std.specs.Prelude.{◌≡◌, IfOk, true};
 use base_core::Name;
 use std::alloc::{AllocError, Global};
 
+/// The bytes of the name of the installed database.
+pub const DATABASE_NAME: &[u8] = b"lib/apk/db/installed.adb";
+
+/// The bytes of the name of what is asked of the installed packages.
+pub const WORLD_NAME: &[u8] = b"etc/apk/world";
+
 /// The installed database, `lib/apk/db/installed.adb`.
 pub fn database_name(alloc: Global) -> Result<Name, AllocError>
     ensures { IfOk result (λ name. name ≡ database_name) }
 {
-    name_of_bytes(alloc, b"lib/apk/db/installed.adb")
+    name_of_bytes(alloc, DATABASE_NAME)
 }
 
 /// The database as version 2 of apk-tools keeps it, `lib/apk/db/installed`.
@@ -28,7 +34,7 @@ pub fn text_database_name(alloc: Global) -> Result<Name, AllocError>
 pub fn world_name(alloc: Global) -> Result<Name, AllocError>
     ensures { IfOk result (λ name. name ≡ world_name) }
 {
-    name_of_bytes(alloc, b"etc/apk/world")
+    name_of_bytes(alloc, WORLD_NAME)
 }
 
 /// Where the indexes lie, `etc/apk/repositories`.
