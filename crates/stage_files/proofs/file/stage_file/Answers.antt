@@ -9,7 +9,7 @@ pub pieces-init : goal.pieces-init
 pieces-init g c = record {
   view = c.in_ok-begin_file.ensures.view;
   read = begun_read _ _ _ _ _ c.in_ok-begin_file.ensures.staging;
-  listed = begun_listed _ _ _ _ _ c.in_ok-begin_file.ensures.staging;
+  listed = begun_listed _ _ c.args.file _ _ c.in_ok-begin_file.ensures.staging;
   due = refl;
   goes_on = c.in_ok-begin_file.ensures.goes_on;
   kept = c.in_ok-begin_file.ensures.kept;
