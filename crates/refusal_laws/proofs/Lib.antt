@@ -1,0 +1,4 @@
+pub mod Lists
+pub mod Coming
+pub mod PackageFaults
+pub mod PackagesAfter

@@ -1,0 +1,5 @@
+-- what laws of changes say
+pub mod ComingPackages
+pub mod PackageFaults
+pub mod ChangeFaults
+pub mod PackagesAfter

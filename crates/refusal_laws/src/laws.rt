@@ -1,0 +1,32 @@
+//! What follows from the definition of a change for its refusals and for the packages after it.
+
+ghost use Rattle.std.specs.Prelude.{◌≡◌, Err, List, Ok, Option};
+ghost use Rattle.base_core.specs.Files.{Files};
+ghost use Rattle.change_inputs.specs.Inputs.{Inputs};
+ghost use Rattle.change_outcome.specs.ChangeOutcome.{ChangeWishes, IsClashOfChange, change_members, change_or_refusal};
+ghost use Rattle.change_outcome.specs.MembersAfter.{MemberFound};
+ghost use Rattle.make_info.specs.Reads.{Reads};
+ghost use Rattle.package_changes.specs.Changes.{Replacement};
+ghost use Rattle.path_clashes.specs.Clash.{NamePair};
+ghost use Rattle.report_core.specs.declared.refusal.Refusal.{Refusal};
+ghost use Rattle.refusal_laws.specs.ChangeFaults.{IsFaultOfChange};
+ghost use Rattle.refusal_laws.specs.PackagesAfter.{AreSelectedOnes};
+
+/// Where a change is refused, what the refusal says is so: of a package that comes or goes, or of
+/// the files that the packages after the change would leave.
+pub fn a_refused_change_has_its_fault()
+    ensures { (inputs : Inputs) (r : Replacement) (wishes : ChangeWishes) (read : Reads)
+        (clash : Option NamePair) (files : Files) (refusal : Refusal)
+        → change_or_refusal inputs r wishes read clash files ≡ Err refusal
+        → IsClashOfChange inputs r wishes read files clash
+        → IsFaultOfChange inputs r wishes read files refusal }
+{}
+
+/// The packages after a change are the selected ones: one that comes is as its file has it, with
+/// the name, the version and the id of its candidate; one that does not change is the package
+/// before. They stand in byte order of names, each once.
+pub fn the_packages_after_a_change_are_the_selected_ones()
+    ensures { (inputs : Inputs) (r : Replacement) (wishes : ChangeWishes) (read : Reads)
+        (found : List MemberFound) → change_members inputs r wishes read ≡ Ok found
+        → AreSelectedOnes inputs r read found }
+{}

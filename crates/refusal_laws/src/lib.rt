@@ -1,0 +1,10 @@
+//! What a refusal of a change says is so, and which packages there are after a change that is not
+//! refused.
+//!
+//! The functions are laws. They cite `ChangeFaults` and `PackagesAfter` of `specs/`, and the
+//! definitions of `change_outcome` and of the crates below it.
+#![tactic(auto)]
+
+mod laws;
+
+pub use laws::{a_refused_change_has_its_fault, the_packages_after_a_change_are_the_selected_ones};
