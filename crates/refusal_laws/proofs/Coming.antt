@@ -50,12 +50,16 @@ module _ (c : Candidate) (pkg : ComingPackage) where
           → by_fields a b v ≡ Err refusal → IsTold c pkg refusal
       by_tests false i b n v w e = (id_field, c.id, pkg.id, inl (refl, (refl, refl, i)), (let same : differs c id_field c.id pkg.id ≡ refusal = cc in same))
       by_tests true i false n v w e = (
-        name_field, c.name, package_name pkg.value,
+        name_field,
+        c.name,
+        package_name pkg.value,
         inr (inl (refl, i, (refl, refl, not_same c.name (package_name pkg.value) n))),
         (let same : differs c name_field c.name (package_name pkg.value) ≡ refusal = cc in same),
       )
       by_tests true i true n false w e = (
-        version_field, selected_version c, version_text pkg.value,
+        version_field,
+        selected_version c,
+        version_text pkg.value,
         inr (inr (refl, i, (bytes_eq-Decides c.name (package_name pkg.value)).0 n, (refl, refl, not_same (selected_version c) (version_text pkg.value) w))),
         (let same : differs c version_field (selected_version c) (version_text pkg.value) ≡ refusal = cc in same),
       )

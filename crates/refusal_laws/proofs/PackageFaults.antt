@@ -1,5 +1,5 @@
 -- A change that is refused for a package is refused for its fault.
-use Rattle.std.proofs.Common.{◌≡◌, inl, inr, ◌∙◌, ℕ, suc, ◌+◌, Bool, List, [], ◌∷◌, length, Option, Some, None, Result, Ok, Err, refl, ap, sym, arith}
+use Rattle.std.proofs.Common.{◌≡◌, inl, inr, ◌∙◌, ℕ, suc, ◌+◌, List, [], ◌∷◌, length, Option, Some, None, Ok, Err, refl, ap, arith}
 use Rattle.std.specs.Prelude.{slice_get}
 use Rattle.std.specs.List.{cons_option, find}
 use Rattle.adb_view.specs.Plain.{Plain}
@@ -7,7 +7,7 @@ use Rattle.change_inputs.specs.Chains.{and_then}
 use Rattle.change_inputs.specs.Inputs.{Inputs, first_index_read}
 use Rattle.change_outcome.specs.ChangeOutcome.{ChangeWishes, change_members}
 use Rattle.change_outcome.specs.MembersAfter.{MemberFound, coming_by_path, coming_found, members_after, name_after, name_by_change, name_by_selected, name_that_comes, name_that_goes, names_after}
-use Rattle.change_outcome.specs.PackageFiles.{ComingPackage, package_file_of, scripts_of_change, unless_script}
+use Rattle.change_outcome.specs.PackageFiles.{package_file_of, scripts_of_change, unless_script}
 use Rattle.db_core.specs.Packages.{is_package_named}
 use Rattle.make_info.specs.Reads.{Reads}
 use Rattle.package_changes.specs.Changes.{Replacement, change_of_name, is_selected_named, names_on_both_sides}
