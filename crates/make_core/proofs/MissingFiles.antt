@@ -1,11 +1,10 @@
 -- A file that is missing is reported at the option that gives it.
 use Rattle.command_core.specs.declared.values.TheConstants.{FILES, SCRIPT}
-use Rattle.std.proofs.Common.{◌≡◌, ◌⊎◌, inl, inr, ℕ, ◌+◌, List, [], ◌∷◌, length, map, Option, Some, None, Result, Ok, Err, refl, ap, sym, subst, ◌∙◌}
-use Rattle.std.specs.Prelude.{Contains}
+use Rattle.std.proofs.Common.{◌≡◌, ◌⊎◌, inl, inr, ℕ, ◌+◌, List, [], ◌∷◌, length, map, Option, Some, None, Result, Ok, Err, refl, ap, subst}
 use Rattle.adb_fields.specs.FirstPair.{IsIn}
 use Rattle.adb_fields.proofs.Members.{contains-from_in, from-map}
 use Rattle.adb_view.specs.Plain.{Plain}
-use Rattle.adb_write.specs.Canonical.{PayloadCounts, overflow_of}
+use Rattle.adb_write.specs.Canonical.{PayloadCounts}
 use Rattle.command_core.specs.Command.{CommandLine}
 use Rattle.command_core.specs.Files.{without_dot}
 use Rattle.command_core.specs.Values.{script_file, script_type}

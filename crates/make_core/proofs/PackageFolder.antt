@@ -1,6 +1,6 @@
 -- The files that a package holds are those below its folder.
 use Rattle.command_core.specs.declared.values.TheConstants.{FILES, TRIGGER}
-use Rattle.std.proofs.Common.{◌≡◌, ◌⊎◌, inl, inr, ℕ, ◌^◌, ◌<◌, true, List, [], ◌∷◌, ◌++◌, length, map, Option, Some, None, Result, Ok, Err, refl, ap, sym, subst, ◌∙◌}
+use Rattle.std.proofs.Common.{◌≡◌, inl, inr, ℕ, ◌^◌, ◌<◌, List, [], ◌∷◌, ◌++◌, length, map, Option, Some, None, Ok, refl, ap, sym, subst, ◌∙◌}
 use Rattle.std.specs.Prelude.{All}
 use Rattle.std.specs.List.{flat_map}
 use Rattle.std.specs.List.Sorted.{IsPermutation}
@@ -12,7 +12,7 @@ use Rattle.base_core.specs.Files.{Files}
 use Rattle.base_core.specs.Listed.{AreNamesBelow}
 use Rattle.adb_fields.specs.FirstPair.{IsIn}
 use Rattle.adb_fields.specs.Paths.{path_of}
-use Rattle.adb_fields.specs.Repeated.{files_in, folders_in, name_of, paths_in, paths_under}
+use Rattle.adb_fields.specs.Repeated.{files_in, folders_in, name_of, paths_under}
 use Rattle.adb_schema.specs.Soundness.{payload_in, root_value}
 use Rattle.adb_tables.specs.declared.tables.Which.TheVariants.{Package}
 use Rattle.adb_view.specs.Plain.{Plain}
@@ -20,11 +20,10 @@ use Rattle.command_core.specs.Command.{CommandLine}
 use Rattle.command_core.specs.Files.{without_dot}
 use Rattle.command_core.specs.declared.values.OptionValue.{OptionValue}
 use Rattle.make_info.specs.Information.{replaces_priority}
-use Rattle.make_info.specs.declared.fault.MakeFault.{MakeFault}
 use Rattle.make_package.specs.Folders.{FolderListing, folder_names, folders_of, last_part_of, listing_of, names_in_folder, path_below}
 use Rattle.make_package.specs.Making.{made_package}
 use Rattle.make_package.specs.Package.{Source, SourceFolder, value_of_file, value_of_folder, kind_of_file}
-use Rattle.make_package.specs.Sources.{AreNamesFor, file_at, folder_at, folders_below, found_at, on_success, source_folders_from, sources_from, texts_of, values_with}
+use Rattle.make_package.specs.Sources.{AreNamesFor, file_at, folder_at, folders_below, found_at, source_folders_from, sources_from, texts_of, values_with}
 use Rattle.pkg_core.specs.Whole.{Packed}
 use Rattle.make_core.specs.FilesBelow.{HasFilesBelow, IsFileBelow, name_below}
 use Rattle.make_core.proofs.Apart.{Tells}
@@ -32,7 +31,7 @@ use Rattle.make_core.proofs.InformationGood.{Needs}
 use Rattle.make_core.proofs.ListedNames.{AllOf, AreListed, after_ok, below_is, each_read, filter_in, listed_in, recovered, stands_in}
 use Rattle.make_core.proofs.PackageFiles.{files_stand, folder_name_stands, folders_stand, name_stands}
 use Rattle.make_core.proofs.Roots.{Exact}
-use Rattle.make_core.proofs.SoundPackage.{Holds, IsMadeOf, IsReadBack, Sizes, are_listed, made_of}
+use Rattle.make_core.proofs.SoundPackage.{Holds, IsReadBack, Sizes, are_listed, made_of}
 
 -- ---- what was read
 

@@ -6,7 +6,7 @@ use Rattle.adb_view.specs.Plain.{Plain}
 use Rattle.adb_fields.specs.Paths.{path_of}
 use Rattle.adb_fields.specs.Repeated.{files_in, folders_in, name_of, paths_in}
 use Rattle.make_package.specs.Folders.{path_below}
-use Rattle.make_package.specs.Package.{Source, value_of_file}
+use Rattle.make_package.specs.Package.{value_of_file}
 
 -- the name in the tree of a path below a folder: behind a slash (47)
 abbrev pub name_below : List ℕ → List ℕ → List ℕ
