@@ -1,3 +1,4 @@
+pub mod EntryPlaces
 pub mod IndexAgain
 pub mod IndexHeld
 pub mod IndexMade
