@@ -11,6 +11,7 @@ pub mod Offered
 pub mod Queued
 pub mod Consistency
 pub mod OccupiedNames
+pub mod NameTables
 pub mod Asking
 pub mod Raisers
 pub mod Excluders
