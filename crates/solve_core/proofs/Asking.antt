@@ -50,7 +50,7 @@ get_is [] (suc r) k d h = absurd (cc)
 get_is (x ∷ xs) zero k d h = cc
 get_is (x ∷ xs) (suc r) k d h = get_is xs r k d h
 
-there_is : {X : Type 0} (xs : List X) (r : ℕ) (x : X) → slice_get xs r ≡ Some x → (r < length xs) × IsMember x xs
+pub there_is : {X : Type 0} (xs : List X) (r : ℕ) (x : X) → slice_get xs r ≡ Some x → (r < length xs) × IsMember x xs
 there_is [] zero x h = absurd (cc)
 there_is [] (suc r) x h = absurd (cc)
 there_is (y ∷ xs) zero x h = let e : x ≡ y = cc in (omega arith, inl e)
@@ -183,8 +183,7 @@ asked_by pool t name h =
     let g = filter_in (install_if_applies pool t) m.0 pool.candidates m.1 in
     let both = and_true (has_usable_install_if pool.world m.0) (all_met pool t m.0.install_if) g.1 in
     let k = place_of pool.candidates m.0 g.0 in
-    let unmet : is_unmet pool t (named m.0.name) ≡ true = subst (λ (n : List ℕ). is_unmet pool t (named n) ≡ true) m.2 f.1 in
-    (
+    let unmet : is_unmet pool t (named m.0.name) ≡ true = subst (λ (n : List ℕ). is_unmet pool t (named n) ≡ true) m.2 f.1 in (
       k.0,
       m.2 ∙ sym (ap (λ (o : Option Candidate). option_map_or (λ (c : Candidate). c.name) o []) k.1),
       some_at (has_usable_install_if pool.world) (candidate_at pool k.0) m.0 k.1 ∙ both.0,

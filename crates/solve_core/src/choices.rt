@@ -394,10 +394,10 @@ impl<'p> Choices<'p> {
         if let Some(excluder) = self.excluder_among(self.conflicts.get(name), id) {
             return Some(excluder);
         }
-        if !is_occupied {
-            return None;
+        if is_occupied {
+            return self.excluder_among(self.pool.offers(name), id);
         }
-        self.excluder_among(self.pool.offers(name), id)
+        None
     }
 
     // The same at the names of some entries of provides, of which those with a version are occupied.
@@ -463,10 +463,10 @@ impl<'p> Choices<'p> {
             ≡ true)) (IsMember other (choices_of self.now) →
             exclude_each_other (pool_of self.now) other id ≡ false) }
     {
-        if !self.choices.has(other) {
-            return false;
+        if self.choices.has(other) {
+            return self.is_excluder(other, id);
         }
-        self.is_excluder(other, id)
+        false
     }
 
     // Whether no satisfying selection has both.

@@ -1,5 +1,5 @@
-use Rattle.std.proofs.Common.{◌≡◌, ◌∙◌, ◌+◌, ◌++◌, ◌∷◌, [], ℕ, List, false, true, take, sym, ap, arith}
-use Rattle.std.proofs.lemmas.List.{take_more}
+use Rattle.std.proofs.Common.{◌≡◌, ◌≤◌, ◌∙◌, ◌+◌, ◌++◌, ◌∷◌, [], ℕ, List, false, true, take, map, length, sym, subst, ap, arith}
+use Rattle.std.proofs.lemmas.List.{take_more, take_all}
 use Rattle.dep_core.specs.Dependency.{Dependency}
 use Rattle.dep_core.specs.Meets.{dependency}
 use Rattle.dep_core.specs.declared.dep.Dep.{Dep}
@@ -17,3 +17,9 @@ loop-dep-preserved c =
     λ d k h conflict. each_more Dep dependency P (take c.loop-dep.dep-index deps) (take (c.loop-dep.dep-index + 1) deps) c.dep-item.result
     (take_more deps c.loop-dep.dep-index c.dep-item.result (omega arith) ∙ ap (λ (x : Dep). take c.loop-dep.dep-index deps ++ x ∷ []) (sym c.dep-item.is))
     (λ e g j. c.loop-dep.invariant e j g) (λ j is g there. c.in-None.ensures j is g there) d h k conflict
+
+pub returns : goal.returns
+returns c =
+    let deps : List Dep = c.args.deps.now in
+    let past : length deps ≤ c.loop-dep.dep-index = omega arith in
+    λ d k h. c.loop-dep.invariant d k (subst (λ (z : List Dep). IsMember d (map dependency z)) (sym (take_all c.loop-dep.dep-index deps past)) h)

@@ -1,6 +1,6 @@
-use Rattle.std.proofs.Common.{◌≡◌, ◌∙◌, ◌+◌, ◌++◌, ◌∷◌, [], ℕ, List, Bool, false, take, sym, subst, ap, arith}
+use Rattle.std.proofs.Common.{◌≡◌, ◌≤◌, ◌∙◌, ◌+◌, ◌++◌, ◌∷◌, [], ℕ, List, Bool, false, take, map, length, sym, subst, ap, arith}
 use Rattle.std.specs.Prelude.{is_some}
-use Rattle.std.proofs.lemmas.List.{take_more}
+use Rattle.std.proofs.lemmas.List.{take_more, take_all}
 use Rattle.dep_core.specs.Dependency.{Dependency}
 use Rattle.dep_core.specs.Meets.{dependency}
 use Rattle.dep_core.specs.declared.dep.Dep.{Dep}
@@ -18,3 +18,9 @@ loop-entry-preserved c =
     λ p k h. each_more Dep dependency P (take c.loop-entry.entry-index provides) (take (c.loop-entry.entry-index + 1) provides) c.entry-item.result
     (take_more provides c.loop-entry.entry-index c.entry-item.result (omega arith) ∙ ap (λ (x : Dep). take c.loop-entry.entry-index provides ++ x ∷ []) (sym c.entry-item.is))
     (λ q g j. c.loop-entry.invariant q j g) (λ j g there. c.in-None.ensures j (subst (λ (b : Bool). IsAtHand c.args.self.now (dependency c.entry-item.result).name b j) (sym c.is_some.ensures) g) there) p h k
+
+pub returns : goal.returns
+returns c =
+    let provides : List Dep = c.args.provides.now in
+    let past : length provides ≤ c.loop-entry.entry-index = omega arith in
+    λ p k h. c.loop-entry.invariant p k (subst (λ (z : List Dep). IsMember p (map dependency z)) (sym (take_all c.loop-entry.entry-index provides past)) h)
