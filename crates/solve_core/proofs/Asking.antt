@@ -1,6 +1,6 @@
 -- Which candidates ask for a name by their install-if, and the least of these names.
 use Rattle.std.proofs.Common.{◌≡◌, inl, inr, ℕ, zero, suc, ◌+◌, ◌≤◌, ◌<◌, Bool, true, false, List, [], ◌∷◌, ◌++◌, length, map, get_or, refl, sym, subst, ap, ◌∙◌, arith}
-use Rattle.std.specs.Prelude.{Option, Some, None, ◌&&◌, ◌||◌, not, slice_get, if◌then◌else◌, MatchOption, ◌⊎◌}
+use Rattle.std.specs.Prelude.{Option, Some, None, ◌&&◌, not, slice_get, if◌then◌else◌, MatchOption, ◌⊎◌}
 use Rattle.std.specs.Bool.{MatchBool}
 use Rattle.std.specs.Option.{option_map, option_map_or}
 use Rattle.std.specs.List.{filter, find, list_all, list_any}
@@ -13,15 +13,15 @@ use Rattle.std.proofs.lemmas.Bool.{cases_lt}
 use Rattle.std.proofs.lemmas.Map.Text.{is_eq-slice_cmp}
 use Rattle.dep_core.specs.Dependency.{Dependency}
 use Rattle.pool_core.specs.Candidates.{Candidate, Need, entry, has_usable_install_if, named, offers_name, meets_dependency}
-use Rattle.pool_core.specs.Rank.{SealedPool, byte_cmp, candidate_at, is_at, meets_at}
+use Rattle.pool_core.specs.Rank.{SealedPool, byte_cmp, candidate_at, meets_at}
 use Rattle.pool_core.specs.Options.{IsMember, options_for, places_from}
 use Rattle.solve_core.specs.Selection.{AreMembers, is_met, is_unmet, names_by_install_if, install_if_applies, least_name, lesser_name, needs, next_need, raised_needs}
 use Rattle.solve_core.specs.Reasons.{FrameValue, IsFrameOf}
 use Rattle.solve_core.specs.InstallIf.{AreInstallIfs, AreUnasked, IsLeastAsking, IsNoneAsking, all_met, asks_at, asks_for_name, has_lesser_name, install_if_at, is_usable_at, name_at, rank_asks}
 use Rattle.solve_core.specs.NameTable.{items_of}
 use Rattle.solve_core.specs.Queue.{is_unmet_dep, queue_of}
-use Rattle.solve_core.proofs.Theory.{in_append, in_left, in_right, none_or_some}
-use Rattle.solve_core.proofs.PoolFacts.{bool_cases, any_in, filter_in, in_filter, in_map, map_in, least_in, least_none}
+use Rattle.solve_core.proofs.Theory.{in_append, in_right, none_or_some}
+use Rattle.solve_core.proofs.PoolFacts.{bool_cases, any_in, filter_in, in_filter, in_map, map_in, least_in}
 use Rattle.solve_core.proofs.Satisfying.{and_true, any_one, one_any, or_true}
 use Rattle.solve_core.proofs.Offered.{meets_offers}
 use Rattle.solve_core.proofs.Queued.{any_append}

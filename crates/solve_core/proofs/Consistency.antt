@@ -1,6 +1,6 @@
 -- Choices stay consistent when one is made and when one is taken back.
 use Rattle.std.proofs.Common.{◌≡◌, inl, inr, ℕ, zero, suc, ◌+◌, ◌≤◌, ◌<◌, Bool, true, false, List, [], ◌∷◌, ◌++◌, length, take, refl, sym, subst, ap, ◌∙◌, arith, append_assoc, append-nil}
-use Rattle.std.specs.Prelude.{Option, Some, None, slice_get, if◌then◌else◌, option_to_list, map, is_some, MatchOption, not}
+use Rattle.std.specs.Prelude.{Option, Some, None, slice_get, option_to_list, map, is_some, MatchOption, not}
 use Rattle.std.specs.Bool.{MatchBool}
 use Rattle.dep_core.specs.Dependency.{Dependency}
 use Rattle.std.specs.Option.{option_map_or}

@@ -1,5 +1,5 @@
 -- Where an excluder of a candidate is found: at a name that it has, provides or depends on.
-use Rattle.std.proofs.Common.{◌≡◌, inl, inr, ℕ, ◌+◌, ◌<◌, Bool, true, false, List, [], ◌∷◌, ◌++◌, length, map, refl, sym, subst, ap, ◌∙◌, arith}
+use Rattle.std.proofs.Common.{◌≡◌, inl, inr, ℕ, ◌+◌, Bool, true, false, List, [], ◌∷◌, ◌++◌, map, refl, sym, subst, ap, ◌∙◌, arith}
 use Rattle.std.specs.Prelude.{Option, Some, None, not, ◌&&◌, ◌||◌, ◌==◌, is_some, MatchOption}
 use Rattle.std.specs.Option.{option_map_or}
 use Rattle.std.specs.List.{filter, list_any}
@@ -13,7 +13,7 @@ use Rattle.solve_core.specs.Choices.{IsAtHand, IsConsistent, choices_of, pool_of
 use Rattle.solve_core.specs.NameTable.{items_of}
 use Rattle.solve_core.specs.declared.choices.Choices.{Choices}
 use Rattle.solve_core.proofs.Theory.{in_append}
-use Rattle.solve_core.proofs.PoolFacts.{bool_cases, filter_in, in_filter, map_in}
+use Rattle.solve_core.proofs.PoolFacts.{bool_cases, filter_in, map_in}
 use Rattle.solve_core.proofs.Satisfying.{and_true, any_one, listed_is_occupied_at, occupied_is_listed_at, one_any, or_true, true_or}
 use Rattle.solve_core.proofs.Offered.{meets_offered, meets_offers, mono_at}
 use Rattle.pool_core.proofs.OptionLists.{in_places}

@@ -1,4 +1,4 @@
-use Rattle.std.proofs.Common.{◌≡◌, ◌∙◌, false, ap, sym}
+use Rattle.std.proofs.Common.{◌∙◌, false, ap, sym}
 use Rattle.std.specs.Prelude.{Option}
 use Rattle.std.specs.Option.{option_map_or}
 use Rattle.pool_core.specs.Candidates.{Candidate}

@@ -1,4 +1,4 @@
-use Rattle.std.proofs.Common.{◌≡◌, [], ◌∷◌, inl, refl, ℕ, List, map, subst, sym}
+use Rattle.std.proofs.Common.{[], ◌∷◌, inl, refl, ℕ, List, map, subst, sym}
 use Rattle.dep_core.specs.Meets.{dependency}
 use Rattle.pool_core.specs.Options.{IsMember}
 use Rattle.solve_core.proofs.ConflictNames.{listed_more}
