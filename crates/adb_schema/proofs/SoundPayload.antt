@@ -1,4 +1,4 @@
--- A payload that passes all tests of a package can be opened.
+-- A payload that passes all tests, or that of a container without fault, can be opened.
 use Rattle.std.proofs.Common.{◌≡◌, ◌↔◌, ◌≤◌, ℕ, true, List, length, Option, Some, None, refl, ap}
 use Rattle.std.specs.Prelude.{is_none, is_some}
 use Rattle.base_core.specs.declared.cause.Cause.{Cause}
@@ -7,13 +7,14 @@ use Rattle.adb_view.specs.Plain.{Plain, Shape, plain_of}
 use Rattle.adb_view.specs.Visits.{visits}
 use Rattle.adb_tables.specs.Schema.{shape_of}
 use Rattle.adb_tables.specs.Values.{is_sound}
-use Rattle.adb_tables.specs.Walk.{LIMIT, or_else, shape_fault}
+use Rattle.adb_tables.specs.Walk.{or_else, shape_fault, LIMIT}
 use Rattle.adb_tables.specs.declared.tables.Which.{Which}
 use Rattle.adb_tables.specs.declared.tables.Kind.TheVariants as Kinds
 use Rattle.adb_fields.specs.Repeated.{repeated_fault}
 use Rattle.adb_rules.specs.SoundValues.{KeepsRules}
 use Rattle.adb_rules.specs.Texts.{text_fault}
-use Rattle.adb_schema.specs.Soundness.{payload_fault, root_value}
+use Rattle.adb_schema.specs.Soundness.{payload_fault, first_fault, payload_in, root_value}
+use Rattle.adb_schema.proofs.Sound.{sound_payload}
 
 -- what a law of `adb_tables` says
 abbrev pub Visited : Type 0
@@ -50,3 +51,9 @@ payload_rules kept which p h =
     (kept which (root_value which p)).0
     (first_passed (text_fault which (root_value which p)) (repeated_fault which (root_value which p))
     (later_passed (shape_fault p (shape_of (Kinds.Obj which)) (root_of p)) _ (later_passed (head_fault p) _ h)))
+
+pub file_head : (which : Which) (file : List ℕ) → first_fault which file ≡ None → is_none (head_fault (payload_in file)) ≡ true
+file_head which file h = payload_head which (payload_in file) (sound_payload which file h)
+
+pub file_sound : Visited → (which : Which) (file : List ℕ) → first_fault which file ≡ None → is_sound (payload_in file) (Kinds.Obj which) (root_of (payload_in file)) ≡ true
+file_sound visited which file h = payload_sound visited which (payload_in file) (sound_payload which file h)
