@@ -155,13 +155,6 @@ pub given_here : (letter : ℕ) (vs : List OptionValue) (i : ℕ) (v : OptionVal
 given_here letter vs i v at e =
     ap (values_with letter) (left_at vs i v at) ∙ ap (λ b. cond b (v ∷ values_with letter (drop (i + 1) vs)) (values_with letter (drop (i + 1) vs))) (eq-eqb v.letter letter e)
 
-pub given_not_here : (letter : ℕ) (vs : List OptionValue) (i : ℕ) (v : OptionValue) → slice_get vs i ≡ Some v → (v.letter ≡ letter → ⊥) → values_with letter (drop i vs) ≡ values_with letter (drop (i + 1) vs)
-given_not_here letter vs i v at e =
-    ap (values_with letter) (left_at vs i v at) ∙ ap (λ b. cond b (v ∷ values_with letter (drop (i + 1) vs)) (values_with letter (drop (i + 1) vs))) (ne_eqb v.letter letter e)
-
-pub given_past : (letter : ℕ) (vs : List OptionValue) (i : ℕ) → length vs ≤ i → values_with letter (drop i vs) ≡ []
-given_past letter vs i past = ap (values_with letter) (drop_of_length-le vs past)
-
 pub first_is : (values : List OptionValue) (first : Option (Bor OptionValue)) (v : Bor OptionValue) → IsFirstValue first values → first ≡ Some v → IsFirstValue (Some v) values
 first_is values first v h e = let P : Option (Bor OptionValue) → Type 0 = λ o. IsFirstValue o values in subst P e h
 

@@ -22,13 +22,8 @@ use claim_lists::{find_claim, name_of_path};
 use db_core::Members;
 use path_claims::Claim;
 use path_clashes::LetGo;
+use root_names::{DATABASE_NAME, WORLD_NAME};
 use std::alloc::{AllocError, Global};
-
-/// The installed database.
-const DATABASE_NAME: &[u8] = b"lib/apk/db/installed.adb";
-
-/// The packages that the user asked for.
-const WORLD_NAME: &[u8] = b"etc/apk/world";
 
 /// The names beside the paths of claims.
 pub(crate) fn names_beside(alloc: Global, asides: &[Claim<'_>]) -> Result<Names, AllocError>

@@ -5,7 +5,7 @@ use Rattle.adb_write.specs.Canonical.{PayloadCounts, written_of}
 use Rattle.adb_write.specs.DepthFirst.{WritesValue, WritesValues}
 use Rattle.adb_write.specs.Writing.{Writing, empty_writing, finish_result}
 use Rattle.v2_core.specs.Database.{value_of_records}
-use Rattle.v2_core.specs.Payload.{IsV2Fault, or_too_large, tested_payload, written_payload}
+use Rattle.v2_core.specs.Payload.{IsV2Fault, or_too_large, payload_if_sound, written_payload}
 use Rattle.v2_core.specs.Records.{Record}
 use Rattle.v2_core.specs.Writing.{IsLineFault, WritesDatabase, WritesRead}
 use Rattle.v2_core.specs.declared.fault.V2Fault.{V2Fault}
@@ -27,9 +27,9 @@ line_fault (TooLarge bytes values) read is = absurd is
 line_fault Memory read is = is
 
 -- a fault before the tests is the one that is answered
-pub untested_fault : (fault : V2Fault) (written : Result (List ℕ) V2Fault) → IsV2Fault fault written → IsV2Fault fault (tested_payload written)
-untested_fault (Bad cause) written is = ap tested_payload is
-untested_fault (TooLarge bytes values) written is = ap tested_payload is
+pub untested_fault : (fault : V2Fault) (written : Result (List ℕ) V2Fault) → IsV2Fault fault written → IsV2Fault fault (payload_if_sound written)
+untested_fault (Bad cause) written is = ap payload_if_sound is
+untested_fault (TooLarge bytes values) written is = ap payload_if_sound is
 untested_fault Memory written is = is
 
 abbrev pub StartsNone : Type 0
