@@ -122,7 +122,8 @@ pub(crate) struct LetGoPaths<'c, 'o, 'n> {
 }
 
 impl<'c, 'o, 'n> LetGo for LetGoPaths<'c, 'o, 'n> {
-    ghost lets_go = { λ paths name. is_some (find (is_of_path name) (map claim_seen paths.before.now))
+    ghost lets_go = { λ paths name.
+        is_some (find (is_of_path name) (map claim_seen paths.before.now))
         && not (is_some (find (is_of_path name) (map claim_seen paths.after.now))
         || is_some (find (is_of_path name) (map claim_seen paths.kept.now))) };
 
