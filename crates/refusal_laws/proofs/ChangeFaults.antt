@@ -66,10 +66,10 @@ overflow_err (Some counts) a refusal e = (counts, refl, (let same : ResultTooLar
 
 -- ---- triggers
 
-abbrev kept_test : Result Bool Refusal → Result Bool Refusal
+abbrev pub kept_test : Result Bool Refusal → Result Bool Refusal
 kept_test r = r
 
-trigger_of : (paths : List (List ℕ)) (members : List Member) (refusal : Refusal) → unless_trigger false paths members ≡ Err refusal
+pub trigger_of : (paths : List (List ℕ)) (members : List Member) (refusal : Refusal) → unless_trigger false paths members ≡ Err refusal
     → (m : Member) × IsIn m members × (has_due_trigger (folders_of_paths paths) m.pkg ≡ true) × (TriggerNeeded (member_name m) ≡ refusal)
 trigger_of paths [] refusal e = absurd (cc (e))
 trigger_of paths (m ∷ members) refusal e = by_test (has_due_trigger (folders_of_paths paths) m.pkg) refl e (trigger_of paths members refusal)
@@ -116,6 +116,18 @@ module _ (inputs : Inputs) (r : Replacement) (wishes : ChangeWishes) (files : Fi
 
   abbrev change : FileChange
   change = file_change inputs wishes found
+
+  -- it tells of counts
+  pub large_told : (refusal : Refusal) → unless_too_large inputs r wishes found files ≡ Err refusal → (bytes : ℕ) × (values : ℕ) × (ResultTooLarge bytes values ≡ refusal)
+  large_told refusal e =
+      elim (and_then_err (unless_large (database_of change.members (owned_of change.members))) (λ database.
+      unless_overflow (overflow_of (value_of_intent (intent_of_lists (actions_of inputs change files (new_records inputs database)).removals (actions_of inputs change files (new_records inputs database)).writes)))
+      (change_done inputs r wishes found files (new_records inputs database))) refusal e) [
+        | inl first ↦ (let large = large_err (database_of change.members (owned_of change.members)) refusal first in (large.0.0, large.0.1, large.2))
+        | inr next ↦ (let intent : Plain = value_of_intent (intent_of_lists (actions_of inputs change files (new_records inputs next.0)).removals (actions_of inputs change files (new_records inputs next.0)).writes) in
+            let over = overflow_err (overflow_of intent) (change_done inputs r wishes found files (new_records inputs next.0)) refusal next.2 in
+            (over.0.0, over.0.1, over.2))
+      ]
 
   result_fault : (bytes values : ℕ) (refusal : Refusal) → IsResultTooLarge inputs change files bytes values → ResultTooLarge bytes values ≡ refusal → IsSo refusal
   result_fault bytes values refusal is same = subst IsSo same is

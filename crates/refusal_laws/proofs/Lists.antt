@@ -1,7 +1,7 @@
 -- What is found in lists.
-use Rattle.std.proofs.Common.{◌≡◌, ◌⊎◌, inl, inr, ◌∙◌, ℕ, Bool, true, false, cond, List, [], ◌∷◌, map, Some, Result, Ok, Err, refl, ap, sym, true≢false}
-use Rattle.std.specs.List.{find, list_any}
-use Rattle.std.proofs.lemmas.Bool.{or_cases}
+use Rattle.std.proofs.Common.{Bool, Err, List, None, Ok, Option, Result, Some, [], ap, cond, false, inl, inr, map, refl, sym, true, true≢false, ℕ, ◌&&◌, ◌∙◌, ◌∷◌, ◌≡◌, ◌⊎◌}
+use Rattle.std.specs.List.{find, list_all, list_any}
+use Rattle.std.proofs.lemmas.Bool.{or_cases, or_left, or_right}
 use Rattle.adb_fields.specs.FirstPair.{IsIn}
 use Rattle.base_core.proofs.Rising as Names
 use Rattle.change_inputs.specs.Chains.{and_then}
@@ -44,6 +44,22 @@ any_in test (y ∷ ys) e = elim (or_cases (test y) (list_any test ys) e) [
   | inl passes ↦ (y, inl refl, passes)
   | inr more ↦ (let behind = any_in test ys more in (behind.0, inr behind.1, behind.2))
 ]
+
+pub in_any : {X : Type 0} (test : X → Bool) (xs : List X) (x : X) → IsIn x xs → test x ≡ true → list_any test xs ≡ true
+in_any test [] x here t = absurd here
+in_any test (y ∷ ys) x (inl is) t = or_left (test y) (list_any test ys) (ap test (sym is) ∙ t)
+in_any test (y ∷ ys) x (inr more) t = or_right (test y) (list_any test ys) (in_any test ys x more t)
+
+pub all_pass : {X : Type 0} (test : X → Bool) (xs : List X) → ((x : X) → IsIn x xs → test x ≡ true) → list_all test xs ≡ true
+all_pass test [] h = refl
+all_pass test (y ∷ ys) h = ap (λ b. b && list_all test ys) (h y (inl refl)) ∙ all_pass test ys (λ x here. h x (inr here))
+
+pub none_found : {X : Type 0} (test : X → Bool) (xs : List X) (x : X) → find test xs ≡ None → IsIn x xs → test x ≡ false
+none_found test xs x e here = by_test (test x) refl
+  where
+    by_test : (b : Bool) → test x ≡ b → b ≡ false
+    by_test true t = (let some = in_found test xs x here t in let both : Some some.0 ≡ None = sym some.1 ∙ e in absurd (cc (both)))
+    by_test false t = refl
 
 pub in_mapped : {X : Type 0} (f : X → List ℕ) (xs : List X) (x : X) → IsIn x xs → Names.IsIn (f x) (map f xs)
 in_mapped f [] x here = absurd here

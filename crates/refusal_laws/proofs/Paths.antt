@@ -1,9 +1,10 @@
 -- The first reserved path, and the first path that no package owns.
-use Rattle.std.proofs.Common.{◌≡◌, inl, inr, ◌∙◌, ℕ, zero, ◌+◌, ◌==◌, Bool, true, false, cond, List, [], ◌∷◌, map, Option, Some, None, refl, ap, ap₂, sym, subst, true≢false, arith}
+use Rattle.std.proofs.Common.{◌≡◌, inl, inr, ◌∙◌, ℕ, zero, ◌+◌, ◌==◌, ◌⊎◌, Bool, true, false, cond, List, [], ◌∷◌, map, Option, Some, None, refl, ap, ap₂, sym, subst, true≢false, arith}
 use Rattle.std.specs.Prelude.{not, ◌||◌, bytes_eq, is_none, is_some, option_and_then, option_map, slice_get}
 use Rattle.std.specs.Option.{option_map_or}
 use Rattle.std.specs.List.{filter, find}
 use Rattle.std.specs.Ordering.{is_lt}
+use Rattle.std.proofs.lemmas.Bool.{or_left, or_right}
 use Rattle.std.proofs.lemmas.Cmp.{nat_list_cmp_total, tied_itself}
 use Rattle.std.proofs.lemmas.Slice.Eq.{bytes_eq-Decides}
 use Rattle.adb_fields.specs.FirstPair.{IsIn}
@@ -24,10 +25,11 @@ use Rattle.list_order.proofs.Sorting.{Each, Rises, ranks, rises_in_order}
 use Rattle.own_core.proofs.Listings.{IsPlaced, each_placed}
 use Rattle.own_core.proofs.NamesOnce.{in_sorted_names, not_below, sorted_names_in}
 use Rattle.path_claims.specs.Claims.{ContestedPath, claimants, contested_at, contested_by, contested_path, is_of_path, owner_by}
-use Rattle.path_claims.specs.Contest.{first_rivals, rivals_of}
+use Rattle.path_claims.specs.Contest.{beats_each, first_rivals, rivals_of, winner}
 use Rattle.path_claims.specs.declared.contest.Rivals.{Rivals}
 use Rattle.refusal_laws.specs.ChangeFaults.{IsContested, IsFirstReserved}
-use Rattle.refusal_laws.proofs.Lists.{found_in, in_names, name_in}
+use Rattle.refusal_laws.specs.TestsPassed.{AreUnreserved, HaveOwners}
+use Rattle.refusal_laws.proofs.Lists.{all_pass, found_in, in_names, name_in, none_found}
 
 -- ---- the first name that passes
 
@@ -69,6 +71,21 @@ first_reserved_is members path e =
       reserved = passes.1;
       first = λ other here reserved. is.1 other (in_filter is_reserved (coming_paths members) other (in_names other (coming_paths members) here) reserved);
     }
+
+none_smallest : (xs : List (List ℕ)) (q : List ℕ) → smallest xs ≡ None → Names.IsIn q xs → ⊥
+none_smallest xs q e here = by_list (sorted_by bytes_cmp xs) (sym (smallest_first xs) ∙ e) (sorted_names_in q xs here)
+  where
+    by_list : (ys : List (List ℕ)) → slice_get ys zero ≡ None → Names.IsIn q ys → ⊥
+    by_list [] e here = here
+    by_list (y ∷ ys) e here = cc (e)
+
+pub are_unreserved : (members : List Member) → first_reserved members ≡ None → AreUnreserved members
+unfolding first_reserved
+are_unreserved members none path here = by_test (is_reserved path) refl
+  where
+    by_test : (b : Bool) → is_reserved path ≡ b → b ≡ false
+    by_test false e = refl
+    by_test true e = absurd (none_smallest (filter is_reserved (coming_paths members)) path none (in_filter is_reserved (coming_paths members) path (in_names path (coming_paths members) here) e))
 
 -- ---- two packages of one path
 
@@ -154,6 +171,22 @@ module _ (members : List Member) where
       let second = each_here (IsPlaced members) (member_listings members) other (each_placed members) there in
       ap₂ takes_over_if_any first.at second.at
 
+  -- where no third member claims the path, and one of the two took it over, it would own it
+  takes_neither : (path : List ℕ) (x y : ℕ) → owner_by_claims path ≡ None → IsIn x (claimants (claims_in members) path)
+      → ((z : ℕ) → IsIn z (claimants (claims_in members) path) → (z ≡ x) ⊎ (z ≡ y)) → member_beats members x y ≡ false
+  unfolding winner
+  takes_neither path x y unowned here two = by_test (member_beats members x y) refl
+    where
+      by_test : (b : Bool) → member_beats members x y ≡ b → b ≡ false
+      by_test false t = refl
+      by_test true t =
+          let ms : List ℕ = claimants (claims_in members) path in
+          let each : beats_each (member_beats members) ms x ≡ true = all_pass (λ z. (x == z) || member_beats members x z) ms (λ z there. elim (two z there) [
+            | inl is ↦ or_left (x == z) (member_beats members x z) (ap (λ w. x == w) is ∙ eq_itself x)
+            | inr is ↦ or_right (x == z) (member_beats members x z) (ap (member_beats members x) is ∙ t)
+          ]) in
+          absurd (true≢false (sym each ∙ none_found (beats_each (member_beats members) ms) ms x unowned here))
+
   contested_rivals : (path : List ℕ) (rivals : Rivals) → contested_path (member_beats members) (claims_in members) ≡ Some path → first_rivals (member_beats members) (claimants (claims_in members) path) ≡ Some rivals
       → IsContested members path (name_at_place members rivals.first) (name_at_place members rivals.second)
   unfolding claims_in
@@ -173,8 +206,71 @@ module _ (members : List Member) where
         by_other = other.0;
         lists_other = record { listed = other.1; of_path = other.2; by = sym (listed_by rivals.second other.0 other.1 other.3) };
         apart = λ same. are.apart (one.3 ∙ (same ∙ sym other.3));
+        neither = λ two.
+            (let unowned : owner_by_claims path ≡ None = none_is (owner_by_claims path) (found_in test (sorted_by bytes_cmp paths) path found).1 in
+            sym (beats_is other.0 one.0 other.1 one.1)
+            ∙ (sym (ap₂ (member_beats members) other.3 one.3)
+            ∙ takes_neither path rivals.second rivals.first unowned are.second (λ z there.
+                (let third = claimant_lists path 0 (member_listings members) z there in
+                elim (two third.0 third.1 third.2) [
+                  | inl is ↦ inr (third.3 ∙ (is ∙ sym one.3))
+                  | inr is ↦ inl (third.3 ∙ (is ∙ sym other.3))
+                ]))));
         stands = sym (beats_is one.0 other.0 one.1 other.1) ∙ (sym (ap₂ (member_beats members) one.3 other.3) ∙ are.stands);
       }
+
+  -- ---- no contested path
+
+  some_claimant : (path : List ℕ) (n : ℕ) (ls : List Listing) → Names.IsIn path (map (λ c. c.path) (claims_from n ls)) → (y : ℕ) × IsIn y (claimants (claims_from n ls) path)
+  some_claimant path n [] here = absurd here
+  some_claimant path n (l ∷ ls) here = by_test (bytes_eq l.path path) refl here (some_claimant path (n + 1) ls)
+    where
+      by_test : (b : Bool) → bytes_eq l.path path ≡ b → Names.IsIn path (l.path ∷ map (λ c. c.path) (claims_from (n + 1) ls))
+          → (Names.IsIn path (map (λ c. c.path) (claims_from (n + 1) ls)) → (y : ℕ) × IsIn y (claimants (claims_from (n + 1) ls) path))
+          → (y : ℕ) × IsIn y (map (λ c. c.member) (cond b (claim_by n l ∷ filter (is_of_path path) (claims_from (n + 1) ls)) (filter (is_of_path path) (claims_from (n + 1) ls))))
+      by_test true is here more = (l.place, inl refl)
+      by_test false is (inl same) more = absurd (true≢false (sym ((bytes_eq-Decides l.path path).1 (sym same)) ∙ is))
+      by_test false is (inr here) more = more here
+
+  -- where a path has no owner, two of its claimants are told
+  rivals_told : (beats : ℕ → ℕ → Bool) (ms : List ℕ) (y : ℕ) → IsIn y ms → winner beats ms ≡ None → first_rivals beats ms ≡ None → ⊥
+  unfolding winner first_rivals
+  rivals_told beats [] y here none e = here
+  rivals_told beats (x ∷ ms) y here none e = by_found (find (λ z. not ((x == z) || beats x z)) (x ∷ ms)) refl e
+    where
+      beaten : (a : Bool) → not a ≡ false → a ≡ true
+      beaten true f = refl
+      beaten false f = absurd (true≢false f)
+
+      by_found : (o : Option ℕ) → find (λ z. not ((x == z) || beats x z)) (x ∷ ms) ≡ o → option_map (rivals_of x) o ≡ None → ⊥
+      by_found (Some z) f e = cc (e)
+      by_found None f e =
+          let each : beats_each beats (x ∷ ms) x ≡ true = all_pass (λ z. (x == z) || beats x z) (x ∷ ms) (λ z there. beaten ((x == z) || beats x z) (none_found (λ z. not ((x == z) || beats x z)) (x ∷ ms) z f there)) in
+          true≢false (sym each ∙ none_found (beats_each beats (x ∷ ms)) (x ∷ ms) x none (inl refl))
+
+  owned_where : (path : List ℕ) → is_none (owner_by_claims path) ≡ false → is_some (owner_of_path members path) ≡ true
+  owned_where path e = owned_or_not path (λ t. true≢false (sym t ∙ e))
+
+  pub have_owners : contested_of members ≡ None → HaveOwners members
+  unfolding contested_of contested_by claims_in
+  have_owners e l here = by_path (contested_path (member_beats members) (claims_in members)) refl e
+    where
+      by_path : (o : Option (List ℕ)) → contested_path (member_beats members) (claims_in members) ≡ o → option_and_then (contested_at (member_beats members) (claims_in members)) o ≡ None → is_some (owner_of_path members l.path) ≡ true
+      by_path None is e =
+          let paths : List (List ℕ) = map (λ c. c.path) (claims_in members) in
+          let sorted : Names.IsIn l.path (sorted_by bytes_cmp paths) = sorted_names_in l.path paths (listing_claimed 0 (member_listings members) l here) in
+          owned_where l.path (none_found (λ p. is_none (owner_by_claims p)) (sorted_by bytes_cmp paths) l.path is (name_in l.path (sorted_by bytes_cmp paths) sorted))
+      by_path (Some path) is e =
+          let paths : List (List ℕ) = map (λ c. c.path) (claims_in members) in
+          let passes = found_in (λ p. is_none (owner_by_claims p)) (sorted_by bytes_cmp paths) path is in
+          let claimed : Names.IsIn path paths = in_sorted_names path paths (in_names path (sorted_by bytes_cmp paths) passes.0) in
+          let some = some_claimant path 0 (member_listings members) claimed in
+          absurd (rivals_told (member_beats members) (claimants (claims_in members) path) some.0 some.1 (none_is (owner_by_claims path) passes.1)
+          (no_rivals (first_rivals (member_beats members) (claimants (claims_in members) path)) e))
+        where
+          no_rivals : (o : Option Rivals) → option_map {U = ContestedPath} (λ rivals. record { path = path; rivals = rivals }) o ≡ None → o ≡ None
+          no_rivals None e = refl
+          no_rivals (Some rivals) e = absurd (cc (e))
 
   pub contested_is : (c : ContestedPath) → contested_of members ≡ Some c → IsContested members c.path (name_at_place members c.rivals.first) (name_at_place members c.rivals.second)
   unfolding contested_of contested_by

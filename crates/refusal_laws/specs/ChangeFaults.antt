@@ -24,7 +24,7 @@ use Rattle.package_changes.specs.Changes.{Replacement}
 use Rattle.path_clashes.specs.Clash.{IsFirstClash}
 use Rattle.report_core.specs.declared.refusal.Refusal.{Refusal}
 use Rattle.report_core.specs.declared.refusal.Refusal.TheVariants.{Owned, PackageBad, PackageDiffers, PackageMissing, PathClash, Reserved, ResultTooLarge, ScriptNeeded, TriggerNeeded}
-use Rattle.refusal_laws.specs.PackageFaults.{IsPackageBad, IsPackageMissing, IsPackageOther, IsScriptNeeded}
+use Rattle.refusal_laws.specs.PackageFaults.{IsFileBad, IsPackageMissing, IsPackageOther, IsScriptNeeded}
 
 -- ---- paths
 
@@ -42,7 +42,8 @@ pub record IsListedBy (members : List Member) (path name : List ℕ) (l : Listin
   pub by : member_name l.member ≡ name
 
 -- No package takes the path over from all others that list it, and it is the first such path. These
--- two list it, and the one does not take over the files of the other.
+-- two list it, and the one does not take over the files of the other; nor the other those of the
+-- one, where no third package lists it.
 pub record IsContested (members : List Member) (path one other : List ℕ) : Type 0 where
   pub unowned : owner_of_path members path ≡ None
   pub first : (l : Listing) → IsIn l (member_listings members) → precedes l.path path ≡ true
@@ -53,6 +54,9 @@ pub record IsContested (members : List Member) (path one other : List ℕ) : Typ
   pub lists_other : IsListedBy members path other by_other
   pub apart : by_one.place ≡ by_other.place → ⊥
   pub stands : takes_over by_one.member.pkg by_other.member.pkg ≡ false
+  pub neither : ((l : Listing) → IsIn l (member_listings members) → l.path ≡ path
+      → (l.place ≡ by_one.place) ⊎ (l.place ≡ by_other.place))
+      → takes_over by_other.member.pkg by_one.member.pkg ≡ false
 
 -- ---- triggers
 
@@ -120,7 +124,7 @@ abbrev pub IsFaultOfPackage : Inputs → Replacement → ChangeWishes → Reads 
 IsFaultOfPackage inputs r wishes read (PackageMissing name version) =
     IsPackageMissing inputs r read name version
 IsFaultOfPackage inputs r wishes read (PackageBad name version cause) =
-    IsPackageBad inputs r read name version cause
+    IsFileBad inputs r read name version cause
 IsFaultOfPackage inputs r wishes read (PackageDiffers name version field wanted found) =
     IsPackageOther inputs r read name version field wanted found
 IsFaultOfPackage inputs r wishes read (ScriptNeeded name script) =

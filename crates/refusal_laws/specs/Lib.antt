@@ -1,5 +1,7 @@
 -- what laws of changes say
+pub mod InputFaults
 pub mod ComingPackages
 pub mod PackageFaults
 pub mod ChangeFaults
+pub mod TestsPassed
 pub mod PackagesAfter

@@ -24,7 +24,7 @@ abbrev pub IsPackageMissing : Inputs → Replacement → Reads → List ℕ → 
 IsPackageMissing inputs r read name version = IsReadFor inputs r read name version None
 
 -- its file is there, and this is the first test that it fails
-pub record IsPackageBad (inputs : Inputs) (r : Replacement) (read : Reads) (name version : List ℕ)
+pub record IsFileBad (inputs : Inputs) (r : Replacement) (read : Reads) (name version : List ℕ)
     (cause : Cause) : Type 0 where
   pub file : List ℕ
   pub is_read : IsReadFor inputs r read name version (Some file)

@@ -2,15 +2,25 @@
 
 ghost use Rattle.std.specs.Prelude.{◌≡◌, Err, List, Ok, Option};
 ghost use Rattle.base_core.specs.Files.{Files};
-ghost use Rattle.change_inputs.specs.Inputs.{Inputs};
-ghost use Rattle.change_outcome.specs.ChangeOutcome.{ChangeWishes, IsClashOfChange, change_members, change_or_refusal};
+ghost use Rattle.change_inputs.specs.Inputs.{Inputs, inputs_of};
+ghost use Rattle.change_outcome.specs.ChangeOutcome.{ChangeDone, ChangeWishes, IsClashOfChange, change_members, change_or_refusal, file_change};
 ghost use Rattle.change_outcome.specs.MembersAfter.{MemberFound};
+ghost use Rattle.command_core.specs.Command.{CommandLine};
 ghost use Rattle.make_info.specs.Reads.{Reads};
 ghost use Rattle.package_changes.specs.Changes.{Replacement};
 ghost use Rattle.path_clashes.specs.Clash.{NamePair};
 ghost use Rattle.report_core.specs.declared.refusal.Refusal.{Refusal};
 ghost use Rattle.refusal_laws.specs.ChangeFaults.{IsFaultOfChange};
+ghost use Rattle.refusal_laws.specs.InputFaults.{IsFaultOfInput};
 ghost use Rattle.refusal_laws.specs.PackagesAfter.{AreSelectedOnes};
+ghost use Rattle.refusal_laws.specs.TestsPassed.{HasNoFault, HasPassedBefore};
+
+/// Where what a change reads of a root is refused, what the refusal says is so: of the database, of
+/// world, of the repositories or of their indexes.
+pub fn a_refused_input_has_its_fault()
+    ensures { (command : CommandLine) (read : Reads) (refusal : Refusal)
+        → inputs_of command read ≡ Err refusal → IsFaultOfInput command read refusal }
+{}
 
 /// Where a change is refused, what the refusal says is so: of a package that comes or goes, or of
 /// the files that the packages after the change would leave.
@@ -20,6 +30,28 @@ pub fn a_refused_change_has_its_fault()
         → change_or_refusal inputs r wishes read clash files ≡ Err refusal
         → IsClashOfChange inputs r wishes read files clash
         → IsFaultOfChange inputs r wishes read files refusal }
+{}
+
+/// A refusal for the files of a change comes behind the tests before it: a clash of names where no
+/// path is reserved; a contested path where there is no clash either; a trigger where each path has
+/// an owner; and a limit that is passed where no trigger is due.
+pub fn a_refused_change_has_passed_the_tests_before()
+    ensures { (inputs : Inputs) (r : Replacement) (wishes : ChangeWishes) (read : Reads)
+        (clash : Option NamePair) (files : Files) (found : List MemberFound) (refusal : Refusal)
+        → change_members inputs r wishes read ≡ Ok found
+        → change_or_refusal inputs r wishes read clash files ≡ Err refusal
+        → IsClashOfChange inputs r wishes read files clash
+        → HasPassedBefore wishes (file_change inputs wishes found) files refusal }
+{}
+
+/// A change that is made has no such fault.
+pub fn a_change_that_is_made_has_no_fault()
+    ensures { (inputs : Inputs) (r : Replacement) (wishes : ChangeWishes) (read : Reads)
+        (clash : Option NamePair) (files : Files) (done : ChangeDone)
+        → change_or_refusal inputs r wishes read clash files ≡ Ok done
+        → IsClashOfChange inputs r wishes read files clash
+        → (found : List MemberFound) × (change_members inputs r wishes read ≡ Ok found)
+        × HasNoFault wishes (file_change inputs wishes found) files }
 {}
 
 /// The packages after a change are the selected ones: one that comes is as its file has it, with
