@@ -21,7 +21,7 @@ use Rattle.report_core.specs.declared.refusal.Refusal.{Refusal}
 use Rattle.report_core.specs.declared.refusal.Refusal.TheVariants.{DatabaseBad, IndexBad, IndexMissing, NoDatabase, RepositoriesBad, ResultTooLarge, Untrusted, WorldBad}
 use Rattle.root_names.specs.RootNames.{database_name, repositories_name, text_database_name, world_name}
 use Rattle.v2_core.specs.Database.{value_of_records}
-use Rattle.v2_core.specs.Payload.{or_too_large, tested_payload, payload_of_text, unless_bad, written_payload}
+use Rattle.v2_core.specs.Payload.{or_too_large, payload_if_sound, payload_of_text, unless_bad, written_payload}
 use Rattle.v2_core.specs.Reading.{records_of}
 use Rattle.v2_core.specs.Records.{Record}
 use Rattle.v2_core.specs.declared.fault.V2Fault.{V2Fault}
@@ -43,7 +43,7 @@ written_remembers : (r : Result (List Record) ℕ) → written_payload r ≡ Err
 written_remembers (Ok records) e = large_remembers (written_of (value_of_records records)) e
 written_remembers (Err line) e = cc (e)
 
-tested_remembers : (r : Result (List ℕ) V2Fault) → (r ≡ Err Memory → ⊥) → tested_payload r ≡ Err Memory → ⊥
+tested_remembers : (r : Result (List ℕ) V2Fault) → (r ≡ Err Memory → ⊥) → payload_if_sound r ≡ Err Memory → ⊥
 tested_remembers (Ok payload) h e = bad_remembers payload (payload_fault Idb payload) e
 tested_remembers (Err fault) h e = h e
 
@@ -144,13 +144,13 @@ module _ (command : CommandLine) (read : Reads) where
       and_then (root_world (text_found (read world_read world_name))) (world_then database)) refusal e) [
         | inl first ↦ database_fault (read database_read database_name) (read text_database_read text_database_name) refusal refl refl first
         | inr next ↦ elim (and_then_err (root_world (text_found (read world_read world_name))) (world_then next.0) refusal next.2) [
-            | inl second ↦ world_fault refusal second
-            | inr third ↦ elim (and_then_err (root_repositories command.flags.allow_untrusted (repositories_text read)) (λ repositories.
+          | inl second ↦ world_fault refusal second
+          | inr third ↦ elim (and_then_err (root_repositories command.flags.allow_untrusted (repositories_text read)) (λ repositories.
               Ok (root_by command next.0 (text_found (read world_read world_name)) third.0 repositories)) refusal third.2) [
                 | inl last ↦ repositories_fault refusal last
                 | inr done ↦ absurd (no_refusal (root_by command next.0 (text_found (read world_read world_name)) third.0 done.0) refusal done.2)
               ]
-          ]
+        ]
       ]
 
   root_listed : (root : Root) → root_for command read ≡ Ok root → repositories_of (repositories_text read) ≡ Ok root.repositories
@@ -222,9 +222,9 @@ module _ (command : CommandLine) (read : Reads) where
               | inl first ↦ (let why = cause_err (IndexBad number) (first_fault Index file) _ refusal first in
                   subst IsSo (ap (λ m. IndexBad m why.0) (sym told) ∙ why.2) (record { file = file; is_read = read_at place n x rs (Some file) are is here; fault = why.1 }))
               | inr next ↦ elim (and_then_err (indexes_in_files (number + 1) others) (λ indexes. Ok (next.0 ∷ indexes)) refusal next.2) [
-                  | inl behind ↦ more behind
-                  | inr last ↦ absurd (no_refusal (next.0 ∷ last.0) refusal last.2)
-                ]
+                | inl behind ↦ more behind
+                | inr last ↦ absurd (no_refusal (next.0 ∷ last.0) refusal last.2)
+              ]
             ]
 
         by_read : (file : Option (List ℕ)) → read n x.path ≡ file
@@ -252,7 +252,7 @@ module _ (command : CommandLine) (read : Reads) where
       elim (and_then_err (root_for command read) (λ root. and_then (indexes_of read root.repositories) (λ indexes. Ok (inputs_by root indexes))) refusal e) [
         | inl first ↦ root_fault refusal first
         | inr next ↦ elim (and_then_err (indexes_of read next.0.repositories) (λ indexes. Ok (inputs_by next.0 indexes)) refusal next.2) [
-            | inl second ↦ indexes_fault next.0.repositories (root_listed next.0 next.1) refusal second
-            | inr last ↦ absurd (no_refusal (inputs_by next.0 last.0) refusal last.2)
-          ]
+          | inl second ↦ indexes_fault next.0.repositories (root_listed next.0 next.1) refusal second
+          | inr last ↦ absurd (no_refusal (inputs_by next.0 last.0) refusal last.2)
+        ]
       ]

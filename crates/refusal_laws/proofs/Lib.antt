@@ -1,5 +1,6 @@
 pub mod ChangeFaults
 pub mod Coming
+pub mod CommandFaults
 pub mod InputFaults
 pub mod Lists
 pub mod PackageFaults

@@ -211,11 +211,11 @@ module _ (members : List Member) where
             sym (beats_is other.0 one.0 other.1 one.1)
             ∙ (sym (ap₂ (member_beats members) other.3 one.3)
             ∙ takes_neither path rivals.second rivals.first unowned are.second (λ z there.
-                (let third = claimant_lists path 0 (member_listings members) z there in
-                elim (two third.0 third.1 third.2) [
-                  | inl is ↦ inr (third.3 ∙ (is ∙ sym one.3))
-                  | inr is ↦ inl (third.3 ∙ (is ∙ sym other.3))
-                ]))));
+            (let third = claimant_lists path 0 (member_listings members) z there in
+            elim (two third.0 third.1 third.2) [
+              | inl is ↦ inr (third.3 ∙ (is ∙ sym one.3))
+              | inr is ↦ inl (third.3 ∙ (is ∙ sym other.3))
+            ]))));
         stands = sym (beats_is one.0 other.0 one.1 other.1) ∙ (sym (ap₂ (member_beats members) one.3 other.3) ∙ are.stands);
       }
 

@@ -5,3 +5,4 @@ pub mod PackageFaults
 pub mod ChangeFaults
 pub mod TestsPassed
 pub mod PackagesAfter
+pub mod CommandFaults

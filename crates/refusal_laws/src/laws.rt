@@ -1,16 +1,20 @@
 //! What follows from the definition of a change for its refusals and for the packages after it.
 
-ghost use Rattle.std.specs.Prelude.{◌≡◌, Err, List, Ok, Option};
+ghost use Rattle.std.specs.Prelude.{◌≡◌, ℕ, Err, List, Ok, Option};
 ghost use Rattle.base_core.specs.Files.{Files};
 ghost use Rattle.change_inputs.specs.Inputs.{Inputs, inputs_of};
 ghost use Rattle.change_outcome.specs.ChangeOutcome.{ChangeDone, ChangeWishes, IsClashOfChange, change_members, change_or_refusal, file_change};
 ghost use Rattle.change_outcome.specs.MembersAfter.{MemberFound};
 ghost use Rattle.command_core.specs.Command.{CommandLine};
+ghost use Rattle.engine_core.specs.Changed.{IsClashFor, changed};
+ghost use Rattle.engine_core.specs.Choice.{IsChoiceFrom};
+ghost use Rattle.engine_core.specs.Selecting.{pool_for};
 ghost use Rattle.make_info.specs.Reads.{Reads};
 ghost use Rattle.package_changes.specs.Changes.{Replacement};
 ghost use Rattle.path_clashes.specs.Clash.{NamePair};
 ghost use Rattle.report_core.specs.declared.refusal.Refusal.{Refusal};
 ghost use Rattle.refusal_laws.specs.ChangeFaults.{IsFaultOfChange};
+ghost use Rattle.refusal_laws.specs.CommandFaults.{IsFaultOfCommand};
 ghost use Rattle.refusal_laws.specs.InputFaults.{IsFaultOfInput};
 ghost use Rattle.refusal_laws.specs.PackagesAfter.{AreSelectedOnes};
 ghost use Rattle.refusal_laws.specs.TestsPassed.{HasNoFault, HasPassedBefore};
@@ -30,6 +34,17 @@ pub fn a_refused_change_has_its_fault()
         → change_or_refusal inputs r wishes read clash files ≡ Err refusal
         → IsClashOfChange inputs r wishes read files clash
         → IsFaultOfChange inputs r wishes read files refusal }
+{}
+
+/// Where a command that changes the installed packages is refused, what the refusal says is so: of
+/// what it reads, of the candidates and the new world, or of the change that is to be made.
+pub fn a_refused_command_has_its_fault()
+    ensures { (command : CommandLine) (read : Reads) (files : Files) (chosen : Option (List ℕ))
+        (clash : Option NamePair) (refusal : Refusal)
+        → changed command read files chosen clash ≡ Err refusal
+        → IsChoiceFrom (pool_for command read) chosen
+        → IsClashFor command read files chosen clash
+        → IsFaultOfCommand command read files chosen refusal }
 {}
 
 /// A refusal for the files of a change comes behind the tests before it: a clash of names where no

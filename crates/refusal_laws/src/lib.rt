@@ -9,6 +9,6 @@ mod laws;
 
 pub use laws::{
     a_change_that_is_made_has_no_fault, a_refused_change_has_its_fault,
-    a_refused_change_has_passed_the_tests_before, a_refused_input_has_its_fault,
-    the_packages_after_a_change_are_the_selected_ones,
+    a_refused_change_has_passed_the_tests_before, a_refused_command_has_its_fault,
+    a_refused_input_has_its_fault, the_packages_after_a_change_are_the_selected_ones,
 };
