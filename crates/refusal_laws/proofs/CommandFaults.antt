@@ -1,5 +1,5 @@
 -- A command that is refused has its fault.
-use Rattle.std.proofs.Common.{◌≡◌, inl, inr, ◌∙◌, ℕ, ◌<◌, ◌+◌, Bool, true, false, List, [], ◌∷◌, length, Option, Some, None, Result, Ok, Err, refl, ap, sym, subst, arith, true≢false}
+use Rattle.std.proofs.Common.{◌≡◌, inl, inr, ◌∙◌, ℕ, ◌+◌, Bool, true, false, List, [], ◌∷◌, length, Option, Some, None, Result, Ok, Err, refl, ap, subst, true≢false}
 use Rattle.std.specs.Prelude.{◌||◌, nat_lt, if◌then◌else◌}
 use Rattle.std.proofs.lemmas.Bool.{ltb-true}
 use Rattle.adb_fields.specs.FirstPair.{IsIn}
@@ -23,8 +23,7 @@ use Rattle.pool_core.specs.Rank.{SealedPool, UpgradedNames, sealed_pool_by}
 use Rattle.pool_core.specs.declared.pool.TheConstants.{MOST_CANDIDATES}
 use Rattle.report_core.specs.declared.refusal.Refusal.{Refusal}
 use Rattle.report_core.specs.declared.refusal.Refusal.TheVariants.{NotInstalled, TooMany, Unsatisfied}
-use Rattle.refusal_laws.specs.ChangeFaults.{IsFaultOfChange}
-use Rattle.refusal_laws.specs.CommandFaults.{IsChangeRefused, IsFaultOfCommand, IsFaultOfSelection, IsUnknownOperand, IsUnknownTo}
+use Rattle.refusal_laws.specs.CommandFaults.{IsChangeRefused, IsFaultOfCommand, IsFaultOfSelection, IsUnknownTo}
 use Rattle.refusal_laws.specs.InputFaults.{AreTooMany}
 use Rattle.refusal_laws.proofs.ChangeFaults.{change_fault}
 use Rattle.refusal_laws.proofs.InputFaults.{input_fault}

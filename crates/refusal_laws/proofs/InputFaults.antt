@@ -3,13 +3,12 @@ use Rattle.std.proofs.Common.{◌≡◌, inl, inr, ◌∙◌, ℕ, suc, ◌+◌,
 use Rattle.std.specs.Prelude.{slice_get}
 use Rattle.adb_schema.specs.Soundness.{first_fault, payload_fault}
 use Rattle.adb_tables.specs.declared.tables.Which.TheVariants.{Idb, Index}
-use Rattle.adb_view.specs.Plain.{Plain}
 use Rattle.adb_write.specs.Canonical.{PayloadCounts, written_of}
 use Rattle.base_core.specs.declared.cause.Cause.{Cause}
 use Rattle.change_inputs.specs.Chains.{and_then, refused_as, unless_cause}
 use Rattle.change_inputs.specs.Database.{Database, payload_database, root_database}
 use Rattle.change_inputs.specs.Indexes.{index_file, index_files_from, index_in_file, indexes_in_files}
-use Rattle.change_inputs.specs.Inputs.{Inputs, Root, database_read, first_index_read, index_reads_from, indexes_of, inputs_by, inputs_of, repositories_read, root_by, root_for, text_database_read, world_read}
+use Rattle.change_inputs.specs.Inputs.{Root, database_read, first_index_read, index_reads_from, indexes_of, inputs_by, inputs_of, root_by, root_for, text_database_read, world_read}
 use Rattle.change_inputs.specs.Repositories.{if_trusted, root_repositories}
 use Rattle.change_inputs.specs.World.{root_world, text_found}
 use Rattle.command_core.specs.Command.{CommandLine}
@@ -19,7 +18,7 @@ use Rattle.dep_core.specs.World.{world_of}
 use Rattle.make_info.specs.Reads.{Reads}
 use Rattle.report_core.specs.declared.refusal.Refusal.{Refusal}
 use Rattle.report_core.specs.declared.refusal.Refusal.TheVariants.{DatabaseBad, IndexBad, IndexMissing, NoDatabase, RepositoriesBad, ResultTooLarge, Untrusted, WorldBad}
-use Rattle.root_names.specs.RootNames.{database_name, repositories_name, text_database_name, world_name}
+use Rattle.root_names.specs.RootNames.{database_name, text_database_name, world_name}
 use Rattle.v2_core.specs.Database.{value_of_records}
 use Rattle.v2_core.specs.Payload.{or_too_large, payload_if_sound, payload_of_text, unless_bad, written_payload}
 use Rattle.v2_core.specs.Reading.{records_of}
@@ -53,11 +52,11 @@ text_remembers text e = tested_remembers (written_payload (records_of text)) (wr
 
 -- ---- chains
 
-cause_err : {A : Type 0} (refused : Cause → Refusal) (o : Option Cause) (a : A) (refusal : Refusal) → unless_cause refused o a ≡ Err refusal → (cause : Cause) × (o ≡ Some cause) × (refused cause ≡ refusal)
+pub cause_err : {A : Type 0} (refused : Cause → Refusal) (o : Option Cause) (a : A) (refusal : Refusal) → unless_cause refused o a ≡ Err refusal → (cause : Cause) × (o ≡ Some cause) × (refused cause ≡ refusal)
 cause_err refused None a refusal e = absurd (cc (e))
 cause_err refused (Some cause) a refusal e = (cause, refl, (let same : refused cause ≡ refusal = cc in same))
 
-as_err : {A : Type 0} (refused : ℕ → Refusal) (w : Result A ℕ) (refusal : Refusal) → refused_as refused w ≡ Err refusal → (n : ℕ) × (w ≡ Err n) × (refused n ≡ refusal)
+pub as_err : {A : Type 0} (refused : ℕ → Refusal) (w : Result A ℕ) (refusal : Refusal) → refused_as refused w ≡ Err refusal → (n : ℕ) × (w ≡ Err n) × (refused n ≡ refusal)
 as_err refused (Ok a) refusal e = absurd (cc (e))
 as_err refused (Err n) refusal e = (n, refl, (let same : refused n ≡ refusal = cc in same))
 
@@ -65,7 +64,7 @@ as_ok : {A : Type 0} (refused : ℕ → Refusal) (w : Result A ℕ) (a : A) → 
 as_ok refused (Ok x) a e = let same : x ≡ a = cc in ap (λ y. Ok y) same
 as_ok refused (Err n) a e = absurd (cc (e))
 
-no_refusal : {A : Type 0} (a : A) (refusal : Refusal) → Ok a ≡ Err refusal → ⊥
+pub no_refusal : {A : Type 0} (a : A) (refusal : Refusal) → Ok a ≡ Err refusal → ⊥
 no_refusal a refusal e = cc (e)
 
 module _ (command : CommandLine) (read : Reads) where
@@ -134,7 +133,7 @@ module _ (command : CommandLine) (read : Reads) where
 
   -- ---- the root
 
-  abbrev world_then : Database → List Dependency → Result Root Refusal
+  abbrev pub world_then : Database → List Dependency → Result Root Refusal
   world_then database world =
       and_then (root_repositories command.flags.allow_untrusted (repositories_text read)) (λ repositories. Ok (root_by command database (text_found (read world_read world_name)) world repositories))
 
@@ -153,7 +152,7 @@ module _ (command : CommandLine) (read : Reads) where
         ]
       ]
 
-  root_listed : (root : Root) → root_for command read ≡ Ok root → repositories_of (repositories_text read) ≡ Ok root.repositories
+  pub root_listed : (root : Root) → root_for command read ≡ Ok root → repositories_of (repositories_text read) ≡ Ok root.repositories
   root_listed root e =
       let database = and_then_ok (root_database command.flags.initdb (read database_read database_name) (read text_database_read text_database_name)) (λ database.
       and_then (root_world (text_found (read world_read world_name))) (world_then database)) root e in

@@ -6,4 +6,5 @@ pub mod Lists
 pub mod PackageFaults
 pub mod PackagesAfter
 pub mod Paths
+pub mod ReadBefore
 pub mod TestsPassed

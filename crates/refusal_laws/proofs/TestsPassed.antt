@@ -5,7 +5,6 @@ use Rattle.adb_fields.specs.FirstPair.{IsIn}
 use Rattle.adb_view.specs.Plain.{Plain}
 use Rattle.base_core.specs.Files.{Files}
 use Rattle.change_files.specs.FileChange.{FileChange}
-use Rattle.change_files.specs.NamesAfter.{coming_paths}
 use Rattle.change_files.specs.PlanLists.{first_reserved}
 use Rattle.change_files.proofs.InOrder.{in_order}
 use Rattle.change_inputs.specs.Chains.{and_then}
@@ -22,11 +21,11 @@ use Rattle.package_changes.specs.Changes.{Replacement}
 use Rattle.path_claims.specs.Claims.{ContestedPath}
 use Rattle.path_clashes.specs.Clash.{NamePair}
 use Rattle.report_core.specs.declared.refusal.Refusal.{Refusal}
-use Rattle.report_core.specs.declared.refusal.Refusal.TheVariants.{Owned, PathClash, Reserved, ResultTooLarge, TriggerNeeded}
+use Rattle.report_core.specs.declared.refusal.Refusal.TheVariants.{Owned, PathClash, Reserved, TriggerNeeded}
 use Rattle.refusal_laws.specs.ChangeFaults.{IsWatchedFor}
 use Rattle.refusal_laws.specs.TestsPassed.{AreUnreserved, HasNoFault, HasNoTrigger, HasOwnNames, HasOwners, HasPassedBefore}
 use Rattle.refusal_laws.proofs.ChangeFaults.{kept_test, large_told, trigger_of}
-use Rattle.refusal_laws.proofs.Lists.{and_then_err, and_then_ok, in_any, in_mapped, in_names, name_in}
+use Rattle.refusal_laws.proofs.Lists.{and_then_err, and_then_ok, in_any, in_mapped, name_in}
 use Rattle.refusal_laws.proofs.Paths.{are_unreserved, have_owners}
 
 -- ---- triggers

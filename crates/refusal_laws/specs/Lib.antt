@@ -1,5 +1,6 @@
 -- what laws of changes say
 pub mod InputFaults
+pub mod ReadBefore
 pub mod ComingPackages
 pub mod PackageFaults
 pub mod ChangeFaults

@@ -17,13 +17,16 @@ ghost use Rattle.refusal_laws.specs.ChangeFaults.{IsFaultOfChange};
 ghost use Rattle.refusal_laws.specs.CommandFaults.{IsFaultOfCommand};
 ghost use Rattle.refusal_laws.specs.InputFaults.{IsFaultOfInput};
 ghost use Rattle.refusal_laws.specs.PackagesAfter.{AreSelectedOnes};
+ghost use Rattle.refusal_laws.specs.ReadBefore.{HasReadBefore};
 ghost use Rattle.refusal_laws.specs.TestsPassed.{HasNoFault, HasPassedBefore};
 
 /// Where what a change reads of a root is refused, what the refusal says is so: of the database, of
-/// world, of the repositories or of their indexes.
+/// world, of the repositories or of their indexes, in this order.
 pub fn a_refused_input_has_its_fault()
-    ensures { (command : CommandLine) (read : Reads) (refusal : Refusal)
+    ensures fault { (command : CommandLine) (read : Reads) (refusal : Refusal)
         → inputs_of command read ≡ Err refusal → IsFaultOfInput command read refusal }
+    ensures order { (command : CommandLine) (read : Reads) (refusal : Refusal)
+        → inputs_of command read ≡ Err refusal → HasReadBefore command read refusal }
 {}
 
 /// Where a change is refused, what the refusal says is so: of a package that comes or goes, or of
@@ -59,7 +62,8 @@ pub fn a_refused_change_has_passed_the_tests_before()
         → HasPassedBefore wishes (file_change inputs wishes found) files refusal }
 {}
 
-/// A change that is made has no such fault.
+/// A change that is made has none of these faults: no path that comes is reserved, no name is a
+/// folder of another, each path has an owner, and no trigger is due.
 pub fn a_change_that_is_made_has_no_fault()
     ensures { (inputs : Inputs) (r : Replacement) (wishes : ChangeWishes) (read : Reads)
         (clash : Option NamePair) (files : Files) (done : ChangeDone)
