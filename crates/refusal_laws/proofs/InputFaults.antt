@@ -25,7 +25,7 @@ use Rattle.v2_core.specs.Reading.{records_of}
 use Rattle.v2_core.specs.Records.{Record}
 use Rattle.v2_core.specs.declared.fault.V2Fault.{V2Fault}
 use Rattle.v2_core.specs.declared.fault.V2Fault.TheVariants.{Bad, Memory, TooLarge}
-use Rattle.refusal_laws.specs.InputFaults.{IsFaultOfInput, IsIndexRead, repositories_text}
+use Rattle.refusal_laws.specs.InputFaults.{IsFaultOfInput, IsIndexRead, repositories_found}
 use Rattle.refusal_laws.proofs.Lists.{and_then_err, and_then_ok}
 
 -- ---- a text is never refused for want of memory
@@ -106,7 +106,7 @@ module _ (command : CommandLine) (read : Reads) where
       let why = as_err WorldBad (world_of (text_found (read world_read world_name))) refusal e in
       subst IsSo why.2 why.1
 
-  trusted_fault : (is_allowed : Bool) (repositories : List Repository) (refusal : Refusal) → command.flags.allow_untrusted ≡ is_allowed → repositories_of (repositories_text read) ≡ Ok repositories
+  trusted_fault : (is_allowed : Bool) (repositories : List Repository) (refusal : Refusal) → command.flags.allow_untrusted ≡ is_allowed → repositories_of (repositories_found read) ≡ Ok repositories
       → if_trusted is_allowed repositories ≡ Err refusal → IsSo refusal
   trusted_fault is_allowed [] refusal leave listed e = absurd (cc (e))
   trusted_fault true (repository ∷ others) refusal leave listed e = absurd (cc (e))
@@ -114,11 +114,11 @@ module _ (command : CommandLine) (read : Reads) where
       let same : Untrusted ≡ refusal = cc in
       subst IsSo same (record { no_leave = leave; repository = repository; others = others; listed = listed })
 
-  repositories_fault : (refusal : Refusal) → root_repositories command.flags.allow_untrusted (repositories_text read) ≡ Err refusal → IsSo refusal
+  repositories_fault : (refusal : Refusal) → root_repositories command.flags.allow_untrusted (repositories_found read) ≡ Err refusal → IsSo refusal
   repositories_fault refusal e =
-      elim (and_then_err (refused_as RepositoriesBad (repositories_of (repositories_text read))) (if_trusted command.flags.allow_untrusted) refusal e) [
-        | inl first ↦ (let why = as_err RepositoriesBad (repositories_of (repositories_text read)) refusal first in subst IsSo why.2 why.1)
-        | inr next ↦ trusted_fault command.flags.allow_untrusted next.0 refusal refl (as_ok RepositoriesBad (repositories_of (repositories_text read)) next.0 next.1) next.2
+      elim (and_then_err (refused_as RepositoriesBad (repositories_of (repositories_found read))) (if_trusted command.flags.allow_untrusted) refusal e) [
+        | inl first ↦ (let why = as_err RepositoriesBad (repositories_of (repositories_found read)) refusal first in subst IsSo why.2 why.1)
+        | inr next ↦ trusted_fault command.flags.allow_untrusted next.0 refusal refl (as_ok RepositoriesBad (repositories_of (repositories_found read)) next.0 next.1) next.2
       ]
 
   trusted_ok : (is_allowed : Bool) (repositories kept : List Repository) → if_trusted is_allowed repositories ≡ Ok kept → repositories ≡ kept
@@ -126,16 +126,16 @@ module _ (command : CommandLine) (read : Reads) where
   trusted_ok true (repository ∷ others) kept e = cc (e)
   trusted_ok false (repository ∷ others) kept e = absurd (cc (e))
 
-  repositories_ok : (repositories : List Repository) → root_repositories command.flags.allow_untrusted (repositories_text read) ≡ Ok repositories → repositories_of (repositories_text read) ≡ Ok repositories
+  repositories_ok : (repositories : List Repository) → root_repositories command.flags.allow_untrusted (repositories_found read) ≡ Ok repositories → repositories_of (repositories_found read) ≡ Ok repositories
   repositories_ok repositories e =
-      let all = and_then_ok (refused_as RepositoriesBad (repositories_of (repositories_text read))) (if_trusted command.flags.allow_untrusted) repositories e in
-      as_ok RepositoriesBad (repositories_of (repositories_text read)) all.0 all.1 ∙ ap (λ (rs : List Repository). Ok rs) (trusted_ok command.flags.allow_untrusted all.0 repositories all.2)
+      let all = and_then_ok (refused_as RepositoriesBad (repositories_of (repositories_found read))) (if_trusted command.flags.allow_untrusted) repositories e in
+      as_ok RepositoriesBad (repositories_of (repositories_found read)) all.0 all.1 ∙ ap (λ (rs : List Repository). Ok rs) (trusted_ok command.flags.allow_untrusted all.0 repositories all.2)
 
   -- ---- the root
 
   abbrev pub world_then : Database → List Dependency → Result Root Refusal
   world_then database world =
-      and_then (root_repositories command.flags.allow_untrusted (repositories_text read)) (λ repositories. Ok (root_by command database (text_found (read world_read world_name)) world repositories))
+      and_then (root_repositories command.flags.allow_untrusted (repositories_found read)) (λ repositories. Ok (root_by command database (text_found (read world_read world_name)) world repositories))
 
   root_fault : (refusal : Refusal) → root_for command read ≡ Err refusal → IsSo refusal
   root_fault refusal e =
@@ -144,7 +144,7 @@ module _ (command : CommandLine) (read : Reads) where
         | inl first ↦ database_fault (read database_read database_name) (read text_database_read text_database_name) refusal refl refl first
         | inr next ↦ elim (and_then_err (root_world (text_found (read world_read world_name))) (world_then next.0) refusal next.2) [
           | inl second ↦ world_fault refusal second
-          | inr third ↦ elim (and_then_err (root_repositories command.flags.allow_untrusted (repositories_text read)) (λ repositories.
+          | inr third ↦ elim (and_then_err (root_repositories command.flags.allow_untrusted (repositories_found read)) (λ repositories.
               Ok (root_by command next.0 (text_found (read world_read world_name)) third.0 repositories)) refusal third.2) [
                 | inl last ↦ repositories_fault refusal last
                 | inr done ↦ absurd (no_refusal (root_by command next.0 (text_found (read world_read world_name)) third.0 done.0) refusal done.2)
@@ -152,18 +152,18 @@ module _ (command : CommandLine) (read : Reads) where
         ]
       ]
 
-  pub root_listed : (root : Root) → root_for command read ≡ Ok root → repositories_of (repositories_text read) ≡ Ok root.repositories
+  pub root_listed : (root : Root) → root_for command read ≡ Ok root → repositories_of (repositories_found read) ≡ Ok root.repositories
   root_listed root e =
       let database = and_then_ok (root_database command.flags.initdb (read database_read database_name) (read text_database_read text_database_name)) (λ database.
       and_then (root_world (text_found (read world_read world_name))) (world_then database)) root e in
       let world = and_then_ok (root_world (text_found (read world_read world_name))) (world_then database.0) root database.2 in
-      let listed = and_then_ok (root_repositories command.flags.allow_untrusted (repositories_text read)) (λ repositories. Ok (root_by command database.0 (text_found (read world_read world_name)) world.0 repositories)) root world.2 in
+      let listed = and_then_ok (root_repositories command.flags.allow_untrusted (repositories_found read)) (λ repositories. Ok (root_by command database.0 (text_found (read world_read world_name)) world.0 repositories)) root world.2 in
       let same : root_by command database.0 (text_found (read world_read world_name)) world.0 listed.0 ≡ root = (let last = listed.2 in cc) in
       repositories_ok listed.0 listed.1 ∙ ap (λ (x : Root). Ok x.repositories) same
 
   -- ---- the indexes
 
-  module _ (repositories : List Repository) (listed : repositories_of (repositories_text read) ≡ Ok repositories) where
+  module _ (repositories : List Repository) (listed : repositories_of (repositories_found read) ≡ Ok repositories) where
     -- the repositories behind so many
     abbrev AreFrom : ℕ → List Repository → Type 0
     AreFrom place rs = (i : ℕ) (x : Repository) → slice_get rs i ≡ Some x → slice_get repositories (place + i) ≡ Some x

@@ -8,3 +8,4 @@ pub mod PackagesAfter
 pub mod Paths
 pub mod ReadBefore
 pub mod TestsPassed
+mod Worked

@@ -18,7 +18,7 @@ use Rattle.root_names.specs.RootNames.{database_name, text_database_name, world_
 use Rattle.v2_core.specs.Payload.{payload_of_text}
 use Rattle.v2_core.specs.declared.fault.V2Fault.{V2Fault}
 use Rattle.v2_core.specs.declared.fault.V2Fault.TheVariants.{Bad, Memory, TooLarge}
-use Rattle.refusal_laws.specs.InputFaults.{repositories_text}
+use Rattle.refusal_laws.specs.InputFaults.{repositories_found}
 use Rattle.refusal_laws.specs.ReadBefore.{HasBoth, HasDatabase, HasReadBefore, HasRepositories}
 use Rattle.refusal_laws.proofs.InputFaults.{as_err, cause_err, no_refusal, root_listed, world_then}
 use Rattle.refusal_laws.proofs.Lists.{and_then_err, and_then_ok}
@@ -47,10 +47,10 @@ module _ (command : CommandLine) (read : Reads) where
   trusted_told true (repository ∷ others) refusal has e = absurd (cc (e))
   trusted_told false (repository ∷ others) refusal has e = let same : Untrusted ≡ refusal = cc in subst IsSo same has
 
-  repositories_told : (refusal : Refusal) → HasBoth command read → root_repositories command.flags.allow_untrusted (repositories_text read) ≡ Err refusal → IsSo refusal
+  repositories_told : (refusal : Refusal) → HasBoth command read → root_repositories command.flags.allow_untrusted (repositories_found read) ≡ Err refusal → IsSo refusal
   repositories_told refusal has e =
-      elim (and_then_err (refused_as RepositoriesBad (repositories_of (repositories_text read))) (if_trusted command.flags.allow_untrusted) refusal e) [
-        | inl first ↦ (let why = as_err RepositoriesBad (repositories_of (repositories_text read)) refusal first in subst IsSo why.2 has)
+      elim (and_then_err (refused_as RepositoriesBad (repositories_of (repositories_found read))) (if_trusted command.flags.allow_untrusted) refusal e) [
+        | inl first ↦ (let why = as_err RepositoriesBad (repositories_of (repositories_found read)) refusal first in subst IsSo why.2 has)
         | inr next ↦ trusted_told command.flags.allow_untrusted next.0 refusal has next.2
       ]
 
@@ -61,7 +61,7 @@ module _ (command : CommandLine) (read : Reads) where
         | inl first ↦ database_told command.flags.initdb (read database_read database_name) (read text_database_read text_database_name) refusal first
         | inr next ↦ elim (and_then_err (root_world (text_found (read world_read world_name))) (world_then command read next.0) refusal next.2) [
           | inl second ↦ world_told refusal (next.0, next.1) second
-          | inr third ↦ elim (and_then_err (root_repositories command.flags.allow_untrusted (repositories_text read)) (λ repositories.
+          | inr third ↦ elim (and_then_err (root_repositories command.flags.allow_untrusted (repositories_found read)) (λ repositories.
               Ok (root_by command next.0 (text_found (read world_read world_name)) third.0 repositories)) refusal third.2) [
                 | inl last ↦ repositories_told refusal ((next.0, next.1), (third.0, third.1)) last
                 | inr done ↦ absurd (no_refusal (root_by command next.0 (text_found (read world_read world_name)) third.0 done.0) refusal done.2)

@@ -23,7 +23,7 @@ use Rattle.path_clashes.specs.Clash.{NamePair}
 use Rattle.report_core.specs.declared.refusal.Refusal.{Refusal}
 use Rattle.report_core.specs.declared.refusal.Refusal.TheVariants.{Owned, PathClash, Reserved, TriggerNeeded}
 use Rattle.refusal_laws.specs.ChangeFaults.{IsWatchedFor}
-use Rattle.refusal_laws.specs.TestsPassed.{AreUnreserved, HasNoFault, HasNoTrigger, HasOwnNames, HasOwners, HasPassedBefore}
+use Rattle.refusal_laws.specs.TestsPassed.{AreUnreserved, HasNoFault, HasNoTrigger, HasNamesOfItsOwn, HasOwners, HasPassedBefore}
 use Rattle.refusal_laws.proofs.ChangeFaults.{kept_test, large_told, trigger_of}
 use Rattle.refusal_laws.proofs.Lists.{and_then_err, and_then_ok, in_any, in_mapped, name_in}
 use Rattle.refusal_laws.proofs.Paths.{are_unreserved, have_owners}
@@ -86,7 +86,7 @@ module _ (inputs : Inputs) (r : Replacement) (wishes : ChangeWishes) (files : Fi
             subst IsSo told.2 (owners, no_trigger wishes change files next.0 next.1))
       ]
 
-  owners_passed : (o : Option ContestedPath) (refusal : Refusal) → contested_of change.members ≡ o → HasOwnNames change files → unless_contested change.members o with_triggers ≡ Err refusal → IsSo refusal
+  owners_passed : (o : Option ContestedPath) (refusal : Refusal) → contested_of change.members ≡ o → HasNamesOfItsOwn change files → unless_contested change.members o with_triggers ≡ Err refusal → IsSo refusal
   owners_passed None refusal is names e = triggers_passed refusal (names, have_owners change.members is) e
   owners_passed (Some c) refusal is names e =
       let same : Owned c.path (name_at_place change.members c.rivals.first) (name_at_place change.members c.rivals.second) ≡ refusal = cc in
@@ -106,7 +106,7 @@ module _ (inputs : Inputs) (r : Replacement) (wishes : ChangeWishes) (files : Fi
 
   -- ---- made
 
-  owners_made : (o : Option ContestedPath) (done : ChangeDone) → contested_of change.members ≡ o → HasOwnNames change files → unless_contested change.members o with_triggers ≡ Ok done → HasNoFault wishes change files
+  owners_made : (o : Option ContestedPath) (done : ChangeDone) → contested_of change.members ≡ o → HasNamesOfItsOwn change files → unless_contested change.members o with_triggers ≡ Ok done → HasNoFault wishes change files
   owners_made None done is names e =
       let triggers = and_then_ok (unless_trigger wishes.no_scripts (touched_paths change files) change.members) (λ is_allowed. unless_too_large inputs r wishes found files) done e in
       ((names, have_owners change.members is), no_trigger wishes change files triggers.0 triggers.1)

@@ -41,20 +41,20 @@ pub record IsTextRefused (read : Reads) (fault : V2Fault) : Type 0 where
 
 -- ---- repositories
 
-abbrev pub repositories_text : Reads → List ℕ
-repositories_text read = text_found (read repositories_read repositories_name)
+abbrev pub repositories_found : Reads → List ℕ
+repositories_found read = text_found (read repositories_read repositories_name)
 
 -- the list names a repository, and there is no leave to read one that nobody checked
 pub record IsUntrusted (command : CommandLine) (read : Reads) : Type 0 where
   pub no_leave : command.flags.allow_untrusted ≡ false
   pub repository : Repository
   pub others : List Repository
-  pub listed : repositories_of (repositories_text read) ≡ Ok (repository ∷ others)
+  pub listed : repositories_of (repositories_found read) ≡ Ok (repository ∷ others)
 
 -- the repository with this number, counted from 1, is listed, and this is found under its path
 pub record IsIndexRead (read : Reads) (number : ℕ) (file : Option (List ℕ)) : Type 0 where
   pub repositories : List Repository
-  pub listed : repositories_of (repositories_text read) ≡ Ok repositories
+  pub listed : repositories_of (repositories_found read) ≡ Ok repositories
   pub place : ℕ
   pub is_number : number ≡ suc place
   pub repository : Repository
@@ -79,7 +79,7 @@ IsFaultOfInput command read (ResultTooLarge bytes values) =
 IsFaultOfInput command read (WorldBad line) =
     world_of (text_found (read world_read world_name)) ≡ Err line
 IsFaultOfInput command read (RepositoriesBad line) =
-    repositories_of (repositories_text read) ≡ Err line
+    repositories_of (repositories_found read) ≡ Err line
 IsFaultOfInput command read Untrusted = IsUntrusted command read
 IsFaultOfInput command read (IndexMissing number) = IsIndexRead read number None
 IsFaultOfInput command read (IndexBad number cause) = IsIndexBad read number cause

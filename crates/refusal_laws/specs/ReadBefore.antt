@@ -10,7 +10,7 @@ use Rattle.make_info.specs.Reads.{Reads}
 use Rattle.report_core.specs.declared.refusal.Refusal.{Refusal}
 use Rattle.report_core.specs.declared.refusal.Refusal.TheVariants.{IndexBad, IndexMissing, RepositoriesBad, Untrusted, WorldBad}
 use Rattle.root_names.specs.RootNames.{world_name}
-use Rattle.refusal_laws.specs.InputFaults.{repositories_text}
+use Rattle.refusal_laws.specs.InputFaults.{repositories_found}
 
 abbrev pub HasDatabase : CommandLine → Reads → Type 0
 HasDatabase command read = (database : Database) × (database_for command read ≡ Ok database)
@@ -21,7 +21,7 @@ HasWorld read =
 
 abbrev pub HasRepositories : Reads → Type 0
 HasRepositories read =
-    (repositories : List Repository) × (repositories_of (repositories_text read) ≡ Ok repositories)
+    (repositories : List Repository) × (repositories_of (repositories_found read) ≡ Ok repositories)
 
 abbrev pub HasBoth : CommandLine → Reads → Type 0
 HasBoth command read = HasDatabase command read × HasWorld read

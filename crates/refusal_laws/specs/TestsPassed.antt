@@ -31,12 +31,12 @@ HasNoTrigger wishes change files =
     wishes.no_scripts ≡ false → (m : Member) → IsIn m change.members
     → has_script_of m.pkg trigger_script ≡ true → IsWatchedFor change files m.pkg → ⊥
 
-abbrev pub HasOwnNames : FileChange → Files → Type 0
-HasOwnNames change files =
+abbrev pub HasNamesOfItsOwn : FileChange → Files → Type 0
+HasNamesOfItsOwn change files =
     AreUnreserved change.members × HasNoClash (name_change change files) files
 
 abbrev pub HasOwners : FileChange → Files → Type 0
-HasOwners change files = HasOwnNames change files × HaveOwners change.members
+HasOwners change files = HasNamesOfItsOwn change files × HaveOwners change.members
 
 -- none of what would refuse the files of a change, but for the limits of what is written
 abbrev pub HasNoFault : ChangeWishes → FileChange → Files → Type 0
@@ -45,7 +45,7 @@ HasNoFault wishes change files = HasOwners change files × HasNoTrigger wishes c
 -- what is tested before this refusal
 abbrev pub HasPassedBefore : ChangeWishes → FileChange → Files → Refusal → Type 0
 HasPassedBefore wishes change files (PathClash path other) = AreUnreserved change.members
-HasPassedBefore wishes change files (Owned path first second) = HasOwnNames change files
+HasPassedBefore wishes change files (Owned path first second) = HasNamesOfItsOwn change files
 HasPassedBefore wishes change files (TriggerNeeded name) = HasOwners change files
 HasPassedBefore wishes change files (ResultTooLarge bytes values) = HasNoFault wishes change files
 HasPassedBefore wishes change files other = Unit {0}

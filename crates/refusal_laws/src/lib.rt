@@ -1,8 +1,8 @@
 //! What a refusal of a change says is so, and which packages there are after a change that is not
 //! refused.
 //!
-//! The functions are laws. They cite `CommandFaults`, `TestsPassed` and `PackagesAfter` of `specs/`,
-//! and the definitions of `engine_core` and of the crates below it.
+//! The functions are laws. They cite `CommandFaults`, `TestsPassed` and `PackagesAfter` of
+//! `specs/`, and the definitions of `engine_core` and of the crates below it.
 #![tactic(auto)]
 
 mod laws;
