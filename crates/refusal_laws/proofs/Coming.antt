@@ -80,7 +80,7 @@ module _ (c : Candidate) (pkg : ComingPackage) where
         sym ((bytes_eq-Decides (selected_version c) (version_text pkg.value)).0 w),
       )
 
-found_ok : (c : Candidate) (file : List ℕ) (pkg : ComingPackage) → package_found c (Some file) ≡ Ok pkg → IsAsSelected c file × (pkg ≡ package_in_file file)
+pub found_ok : (c : Candidate) (file : List ℕ) (pkg : ComingPackage) → package_found c (Some file) ≡ Ok pkg → IsAsSelected c file × (pkg ≡ package_in_file file)
 found_ok c file pkg e = by_fault (package_fault file) refl e
   where
     by_fault : (fault : Option Cause) → package_fault file ≡ fault → unless_package_bad c fault (package_in_file file) ≡ Ok pkg → IsAsSelected c file × (pkg ≡ package_in_file file)
@@ -89,7 +89,7 @@ found_ok c file pkg e = by_fault (package_fault file) refl e
         (record { sound = sound; id = ok.1; name = ok.2; version = ok.3 }, ok.0)
     by_fault (Some cause) sound e = absurd (cc (e))
 
-path_is : (read : Reads) (n : ℕ) (c : Candidate) (path : Option (List ℕ)) → coming_by_path read n c path ≡ package_found c (option_and_then (read n) path)
+pub path_is : (read : Reads) (n : ℕ) (c : Candidate) (path : Option (List ℕ)) → coming_by_path read n c path ≡ package_found c (option_and_then (read n) path)
 path_is read n c None = refl
 path_is read n c (Some path) = refl
 

@@ -13,7 +13,7 @@ ghost use Rattle.make_info.specs.Reads.{Reads};
 ghost use Rattle.package_changes.specs.Changes.{Replacement};
 ghost use Rattle.path_clashes.specs.Clash.{NamePair};
 ghost use Rattle.report_core.specs.declared.refusal.Refusal.{Refusal};
-ghost use Rattle.refusal_laws.specs.ChangeFaults.{IsFaultOfChange};
+ghost use Rattle.refusal_laws.specs.ChangeFaults.{IsFaultOfChange, IsFaultOfPackage};
 ghost use Rattle.refusal_laws.specs.CommandFaults.{IsFaultOfCommand};
 ghost use Rattle.refusal_laws.specs.InputFaults.{IsFaultOfInput};
 ghost use Rattle.refusal_laws.specs.PackagesAfter.{AreSelectedOnes};
@@ -62,10 +62,15 @@ pub fn a_refused_change_has_passed_the_tests_before()
         → HasPassedBefore wishes (file_change inputs wishes found) files refusal }
 {}
 
-/// A change that is made has none of these faults: no path that comes is reserved, no name is a
-/// folder of another, each path has an owner, and no trigger is due.
+/// Where the packages after a change are found, none that comes or goes has a fault. A change that
+/// is made has none of the others either: no path that comes is reserved, no name is a folder of
+/// another, each path has an owner, and no trigger is due.
 pub fn a_change_that_is_made_has_no_fault()
-    ensures { (inputs : Inputs) (r : Replacement) (wishes : ChangeWishes) (read : Reads)
+    ensures packages { (inputs : Inputs) (r : Replacement) (wishes : ChangeWishes) (read : Reads)
+        (found : List MemberFound) (refusal : Refusal)
+        → change_members inputs r wishes read ≡ Ok found
+        → IsFaultOfPackage inputs r wishes read refusal → ⊥ }
+    ensures files { (inputs : Inputs) (r : Replacement) (wishes : ChangeWishes) (read : Reads)
         (clash : Option NamePair) (files : Files) (done : ChangeDone)
         → change_or_refusal inputs r wishes read clash files ≡ Ok done
         → IsClashOfChange inputs r wishes read files clash
