@@ -1,7 +1,7 @@
 -- Lists element by element.
-use Rattle.std.proofs.Common.{◌≡◌, ℕ, zero, suc, ◌+◌, ◌<◌, ◌≤◌, Bool, true, false, get_or, List, [], ◌∷◌, ◌++◌, map, length, drop, Option, Some, None, Bor, refl, sym, ◌∙◌, ap, arith, append_assoc}
-use Rattle.std.specs.Prelude.{◌||◌, option_to_list}
-use Rattle.std.specs.List.{cons_option, filter_map, list_any, slice_get}
+use Rattle.std.proofs.Common.{◌≡◌, ℕ, zero, suc, ◌+◌, ◌<◌, ◌≤◌, get_or, List, [], ◌∷◌, ◌++◌, map, length, drop, Option, Some, None, Bor, refl, sym, ◌∙◌, ap, arith, append_assoc}
+use Rattle.std.specs.Prelude.{option_to_list}
+use Rattle.std.specs.List.{cons_option, filter_map, slice_get}
 use Rattle.std.proofs.lemmas.List.{drop_all, map-append}
 
 -- what is left of a list where an element stands
@@ -50,22 +50,6 @@ item_at (y ∷ xs) zero d l = refl
 item_at (y ∷ xs) (suc i) d l =
     let next : suc (i + 1) ≡ suc i + 1 = omega arith in
     item_at xs i d (omega arith) ∙ ap (λ n. get_or xs i d ∷ drop n (y ∷ xs)) next
-
--- ---- whether an element passes a test
-
-any_step : {X : Type 0} (p : X → Bool) (xs : List X) (i : ℕ) (x : X) (all : Bool) → slice_get xs i ≡ Some x → list_any p (drop i xs) ≡ all → (p x || list_any p (drop (i + 1) xs)) ≡ all
-any_step p xs i x all h inv = ap (list_any p) (sym (left_at xs i x h)) ∙ inv
-
-pub any_here : {X : Type 0} (p : X → Bool) (xs : List X) (i : ℕ) (x : X) (all : Bool) → slice_get xs i ≡ Some x → p x ≡ true → list_any p (drop i xs) ≡ all → true ≡ all
-any_here p xs i x all h e inv =
-    ap (λ t. t || list_any p (drop (i + 1) xs)) (sym e) ∙ any_step p xs i x all h inv
-
-pub any_later : {X : Type 0} (p : X → Bool) (xs : List X) (i : ℕ) (x : X) (all : Bool) → slice_get xs i ≡ Some x → p x ≡ false → list_any p (drop i xs) ≡ all → list_any p (drop (i + 1) xs) ≡ all
-any_later p xs i x all h e inv =
-    ap (λ t. t || list_any p (drop (i + 1) xs)) (sym e) ∙ any_step p xs i x all h inv
-
-pub any_none : {X : Type 0} (p : X → Bool) (xs : List X) (i : ℕ) (all : Bool) → length xs ≤ i → list_any p (drop i xs) ≡ all → false ≡ all
-any_none p xs i all past inv = ap (list_any p) (sym (drop_all i xs past)) ∙ inv
 
 -- ---- what is made of each name
 

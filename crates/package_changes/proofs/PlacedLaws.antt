@@ -3,12 +3,15 @@ use Rattle.std.proofs.Common.{◌≡◌, ℕ, ◌+◌, Bool, true, false, cond, 
 use Rattle.std.specs.Prelude.{bytes_eq, option_and_then, option_map, slice_get}
 use Rattle.std.specs.List.{cons_option, filter_map, find, list_any, position_from}
 use Rattle.std.specs.Option.{option_map_or}
+use Rattle.std.specs.List.Sorted.{IsPermutation}
+use Rattle.std.proofs.lemmas.List.Sorted.{list_any-IsPermutation}
+use Rattle.adb_view.specs.Plain.{Plain}
 use Rattle.db_core.specs.Packages.{is_package_named}
 use Rattle.pool_core.specs.Candidates.{Candidate}
 use Rattle.pool_core.specs.Rank.{SealedPool, candidate_at, is_at}
 use Rattle.report_core.specs.Reports.{Change}
 use Rattle.package_changes.specs.Changes.{change_between, change_of_name, changes_of, is_selected_named, names_on_both_sides}
-use Rattle.package_changes.specs.Placed.{PlacedChange, PlacedReplacement, candidates_at, change_in, new_candidate, old_package, placed_change_of, placed_changes_of, placed_name_of, placed_name_with, placed_names_of, replacement_of, selected_place}
+use Rattle.package_changes.specs.Placed.{PlacedChange, PlacedName, PlacedReplacement, candidates_at, change_in, new_candidate, old_package, placed_change_of, placed_changes_of, placed_name_of, placed_name_with, placed_names_of, replacement_of, selected_place}
 use Rattle.package_changes.specs.SelectedNames.{place_beside, placed_name_at}
 
 -- ---- the first by its place
@@ -91,6 +94,21 @@ by_table p table leads [] = refl
 by_table p table leads (name ∷ names) =
     ap (λ o. placed_name_with p.before p.pool p.again name (position_from (is_package_named name) 0 p.before) o ∷ map (placed_name_at p.before p.pool p.again table) names) (leads name)
     ∙ ap (λ z. placed_name_of p name ∷ z) (by_table p table leads names)
+
+-- the order of the names that are to be installed again does not matter
+pub by_sorted : (before : List Plain) (pool : SealedPool) (again sorted : List (List ℕ)) (table : List (List ℕ × ℕ)) → IsPermutation again sorted → (names : List (List ℕ)) → map (placed_name_at before pool sorted table) names ≡ map (placed_name_at before pool again table) names
+by_sorted before pool again sorted table same [] = refl
+by_sorted before pool again sorted table same (name ∷ names) =
+    ap (λ t. made t ∷ map (placed_name_at before pool sorted table) names) (sym (list_any-IsPermutation (bytes_eq name) again sorted same))
+    ∙ ap (λ z. placed_name_at before pool again table name ∷ z) (by_sorted before pool again sorted table same names)
+  where
+    made : Bool → PlacedName
+    made is_again = record {
+      name = name;
+      change = change_between is_again name (option_and_then (slice_get before) (position_from (is_package_named name) 0 before)) (option_and_then (candidate_at pool) (place_beside name table));
+      old = position_from (is_package_named name) 0 before;
+      new = place_beside name table;
+    }
 
 changes_of_map : {A X Y : Type 0} (f : X → Option Y) (g : A → X) (h : A → Option Y) → ((a : A) → f (g a) ≡ h a) → (xs : List A) → filter_map f (map g xs) ≡ filter_map h xs
 changes_of_map f g h same [] = refl

@@ -21,7 +21,7 @@ use crate::selected::{SelectedNames, candidate_at};
 use adb_schema::PackageView;
 use base_core::Words;
 use db_core::Db;
-use pool_core::{CandId, Candidate, Sealed};
+use pool_core::{CandId, Candidate, Sealed, SortedWords};
 use solve_core::Trace;
 use std::alloc::{AllocError, Global};
 use std::marker::PhantomData;
@@ -56,8 +56,8 @@ pub struct PlacedNames<'a> {
 impl<'a> PlacedNames<'a> {
     /// What becomes of each package where the candidates of a selection take the place of the
     /// packages of a database, and some names are to be installed again. It takes time in
-    /// proportion to n log n in the number of packages and candidates, and to the names that are to
-    /// be installed again for each package that stays.
+    /// proportion to n log n in the number of packages, candidates and names that are to be
+    /// installed again.
     pub fn of(
         alloc: Global,
         db: &Db<'a>,
@@ -70,7 +70,8 @@ impl<'a> PlacedNames<'a> {
     {
         let selected = SelectedNames::of(alloc, pool, trace)?;
         let names = names_on_both_sides(alloc, db, pool, trace)?;
-        let list = placed_names(alloc, db, pool, again, &selected, &names)?;
+        let sorted = SortedWords::of(alloc, again)?;
+        let list = placed_names(alloc, db, pool, &sorted, &selected, &names)?;
         Ok(PlacedNames { list })
     }
 
@@ -183,7 +184,7 @@ fn placed_names<'a>(
     alloc: Global,
     db: &Db<'a>,
     pool: &Sealed<'a>,
-    again: &Words,
+    again: &SortedWords<'_>,
     selected: &SelectedNames<'a>,
     names: &[&'a [u8]],
 ) -> Result<Vec<PlacedName<'a>>, AllocError>
@@ -202,7 +203,7 @@ fn placed_names<'a>(
 fn placed_name<'a>(
     db: &Db<'a>,
     pool: &Sealed<'a>,
-    again: &Words,
+    again: &SortedWords<'_>,
     name: &'a [u8],
     new: Option<u32>,
 ) -> PlacedName<'a>
@@ -224,7 +225,7 @@ fn placed_name<'a>(
 fn change_between<'a>(
     db: &Db<'a>,
     pool: &Sealed<'a>,
-    again: &Words,
+    again: &SortedWords<'_>,
     name: &'a [u8],
     old: Option<usize>,
     new: Option<u32>,
@@ -239,7 +240,7 @@ fn change_between<'a>(
         (None, None) => None,
         (None, Some(c)) => Some(install(name, &c)),
         (Some(i), None) => Some(purge(name, db, i, PhantomData)),
-        (Some(i), Some(c)) => replace(name, db, i, &c, is_word(again, name), PhantomData),
+        (Some(i), Some(c)) => replace(name, db, i, &c, again.has(name), PhantomData),
     }
 }
 
@@ -252,16 +253,4 @@ fn candidate_of<'a>(pool: &Sealed<'a>, place: Option<u32>) -> Option<Candidate<'
         None => None,
         Some(place) => candidate_at(pool, CandId { place }),
     }
-}
-
-/// Whether a text is one of the words.
-fn is_word(words: &Words, text: &[u8]) -> bool
-    ensures { result ≡ list_any (bytes_eq text.now) words.now }
-{
-    for i in 0..words.len() {
-        if text == words.word(i) {
-            return true;
-        }
-    }
-    false
 }

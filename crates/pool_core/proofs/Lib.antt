@@ -16,3 +16,4 @@ pub mod Sealing
 pub mod TableAdding
 pub mod CandidateLists
 pub mod MarksThroughTable
+pub mod SearchedWords

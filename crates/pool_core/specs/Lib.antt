@@ -10,3 +10,4 @@ pub mod Table
 pub mod World
 pub mod CandidateList
 pub mod Marks
+pub mod RankWith

@@ -6,12 +6,14 @@
 #![tactic(auto)]
 
 mod candidate;
+mod keeping;
 mod laws;
 mod marks;
 mod need;
 mod pool;
 mod rank;
 mod sealed;
+mod sorted;
 mod table;
 
 pub use candidate::{CandId, Candidate, Deps, Details};
@@ -23,3 +25,4 @@ pub use laws::{
 pub use need::{Need, NeedRef, Options, Upgrade};
 pub use pool::{MOST_CANDIDATES, Pool, PoolFault};
 pub use sealed::Sealed;
+pub use sorted::SortedWords;

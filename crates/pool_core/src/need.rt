@@ -1,10 +1,7 @@
 //! What has to be met, what a command upgrades, and the candidates that a need may be met by.
 ghost use Rattle.std.specs.Prelude.{◌≡◌, ◌<◌, ◌==◌, length, slice_get, Some};
-ghost use Rattle.std.specs.List.{list_any};
-ghost use Rattle.std.specs.Str.{bytes_eq};
 ghost use Rattle.pool_core.specs.Candidates.{need_name};
-ghost use Rattle.pool_core.specs.Rank.{is_upgraded};
-ghost use Rattle.pool_core.specs.Values.{names_upgraded_by, need_by};
+ghost use Rattle.pool_core.specs.Values.{need_by};
 
 use crate::candidate::CandId;
 use base_core::Words;
@@ -50,28 +47,6 @@ pub enum Upgrade<'a> {
     All,
     /// The listed names.
     Listed(&'a Words),
-}
-
-/// Whether a command upgrades a name.
-pub(crate) fn is_upgraded(upgrade: Upgrade<'_>, name: &[u8]) -> bool
-    ensures { result ≡ is_upgraded (names_upgraded_by upgrade.entry) name.now }
-{
-    match upgrade {
-        Upgrade::Nothing => false,
-        Upgrade::All => true,
-        Upgrade::Listed(words) => has_word(words, name),
-    }
-}
-
-fn has_word(words: &Words, name: &[u8]) -> bool
-    ensures { result ≡ list_any (bytes_eq name.now) words.now }
-{
-    for i in 0..words.len() {
-        if name == words.word(i) {
-            return true;
-        }
-    }
-    false
 }
 
 /// The candidates that a need may be met by, best first.

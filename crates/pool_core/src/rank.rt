@@ -4,25 +4,26 @@
 ghost use Rattle.std.specs.Prelude.{◌≡◌, option_copied};
 ghost use Rattle.std.specs.Option.{option_cmp};
 ghost use Rattle.std.specs.Str.{bytes_eq};
-ghost use Rattle.pool_core.specs.Rank.{byte_cmp, earlier_repository, greater_version, is_kept_installed, merit_cmp, quality_cmp, text_cmp, unpinned_cmp};
-ghost use Rattle.pool_core.specs.Values.{names_upgraded_by, need_by};
+ghost use Rattle.pool_core.specs.Rank.{byte_cmp, earlier_repository, greater_version, merit_cmp, text_cmp};
+ghost use Rattle.pool_core.specs.RankWith.{quality_cmp_with, unpinned_cmp_with};
+ghost use Rattle.pool_core.specs.Values.{need_by};
 
 use crate::candidate::Details;
-use crate::need::{NeedRef, Upgrade, is_upgraded};
+use crate::need::NeedRef;
 use std::cmp::Ordering;
 use version_core::Version;
 
-/// The order by all keys but the pin and the place.
+/// The order by all keys but the pin and the place. The order by what is installed and stays is
+/// given, since that is marked once for each candidate.
 pub(crate) fn by_details(
-    upgrade: Upgrade<'_>,
     need: &NeedRef<'_>,
     one: &Details<'_>,
     other: &Details<'_>,
+    kept: Ordering,
 ) -> Ordering
-    ensures { result
-        ≡ unpinned_cmp (names_upgraded_by upgrade.entry) (need_by need.now) one.now other.now }
+    ensures { result ≡ unpinned_cmp_with kept (need_by need.now) one.now other.now }
 {
-    let quality = by_quality(upgrade, need, one, other);
+    let quality = by_quality(need, one, other, kept);
     let merit = by_merit(need, one, other);
     let text = by_text(one, other);
     quality.then(merit.then(text))
@@ -31,17 +32,15 @@ pub(crate) fn by_details(
 // The order by where a candidate comes from and what it is called: an untagged repository, the name
 // that is needed, what is installed and stays.
 fn by_quality(
-    upgrade: Upgrade<'_>,
     need: &NeedRef<'_>,
     one: &Details<'_>,
     other: &Details<'_>,
+    kept: Ordering,
 ) -> Ordering
-    ensures { result
-        ≡ quality_cmp (names_upgraded_by upgrade.entry) (need_by need.now) one.now other.now }
+    ensures { result ≡ quality_cmp_with kept (need_by need.now) one.now other.now }
 {
     let untagged = other.is_untagged().cmp(&one.is_untagged());
     let named = has_name(other, need.name()).cmp(&has_name(one, need.name()));
-    let kept = is_kept_installed(upgrade, other).cmp(&is_kept_installed(upgrade, one));
     untagged.then(named.then(kept))
 }
 
@@ -49,16 +48,6 @@ fn has_name(details: &Details<'_>, name: &[u8]) -> bool
     ensures { result ≡ bytes_eq name.now details.now.name }
 {
     name == details.name()
-}
-
-// Whether it is installed, and the command does not upgrade its name.
-fn is_kept_installed(upgrade: Upgrade<'_>, details: &Details<'_>) -> bool
-    ensures { result ≡ is_kept_installed (names_upgraded_by upgrade.entry) details.now }
-{
-    if !details.is_installed() {
-        return false;
-    }
-    !is_upgraded(upgrade, details.name())
 }
 
 // The order by how well a need is met: the version that meets it, the priority, the name, the

@@ -10,11 +10,12 @@ ghost use Rattle.dep_core.specs.Meets.{dependency};
 ghost use Rattle.pool_core.specs.Candidates.{Candidate as CandidateValue, has_usable_install_if, is_allowed, is_eligible, is_barred_by, meets_dependency, positive_entries_of, uses_tag};
 ghost use Rattle.pool_core.specs.CandidateList.{IsCandidateList};
 ghost use Rattle.pool_core.specs.Options.{may_meet, places_offering, options_for, places_from};
-ghost use Rattle.pool_core.specs.Rank.{candidate_at, candidate_cmp, is_at, is_eligible_at, is_pinned, is_pinned_at, is_pinned_to, rank_cmp, sealed_pool_by};
+ghost use Rattle.pool_core.specs.Rank.{candidate_at, candidate_cmp, is_at, is_eligible_at, is_kept_installed, is_pinned, is_pinned_at, is_pinned_to, rank_cmp, sealed_pool_by};
 ghost use Rattle.pool_core.specs.Values.{candidate_value, names_upgraded_by, need_by, need_of};
 ghost use Rattle.pool_core.specs.World.{entries_of_kind, has_positive_install_if, is_entry_of_kind, places_marked};
 
 use crate::candidate::{CandId, Candidate, Details};
+use crate::keeping::kept_marks;
 use crate::laws::rank_is_total;
 use crate::marks::{eligible_marks, pinned_marks};
 use crate::need::{Need, NeedRef, Options, Upgrade};
@@ -36,6 +37,7 @@ pub struct Sealed<'a> {
     positive_entries: Vec<Dep<'a>>,
     eligible: Vec<bool>,
     pinned: Vec<bool>,
+    kept: Vec<bool>,
     install_ifs: Vec<CandId>,
 }
 
@@ -46,7 +48,7 @@ impl<'a> Model for Sealed<'a> {
     ghost use Rattle.dep_core.specs.Meets.{dependency};
     ghost use Rattle.pool_core.specs.Candidates.{has_usable_install_if, is_eligible, positive_entries_of};
     ghost use Rattle.pool_core.specs.Options.{places_from};
-    ghost use Rattle.pool_core.specs.Rank.{SealedPool, is_pinned, sealed_pool_by};
+    ghost use Rattle.pool_core.specs.Rank.{SealedPool, is_kept_installed, is_pinned, sealed_pool_by};
     ghost use Rattle.pool_core.specs.Table.{LeadsToOffers};
     ghost use Rattle.pool_core.specs.Values.{names_upgraded_by};
 
@@ -61,6 +63,7 @@ impl<'a> Model for Sealed<'a> {
         × (map dependency s.positive_entries.items ≡ positive_entries_of s.world.now)
         × (s.eligible.items ≡ map (is_eligible s.world.now) s.details.items)
         × (s.pinned.items ≡ map (is_pinned s.world.now) s.details.items)
+        × (s.kept.items ≡ map (is_kept_installed (names_upgraded_by s.upgrade)) s.details.items)
         × (s.install_ifs.items
         ≡ places_from 0 (has_usable_install_if s.world.now) s.details.items) };
 }
@@ -207,7 +210,8 @@ impl<'a> Sealed<'a> {
             (Some(_), None) => Ordering::Greater,
             (Some(one), Some(other)) => {
                 let pin = self.by_pin(a, b);
-                pin.then(by_details(self.upgrade, need, one, other))
+                let kept = self.by_kept(a, b);
+                pin.then(by_details(need, one, other, kept))
             }
         }
     }
@@ -228,6 +232,26 @@ impl<'a> Sealed<'a> {
             return false;
         }
         self.pinned[place]
+    }
+
+    // The order by what is installed and stays.
+    fn by_kept(&self, a: CandId, b: CandId) -> Ordering
+        ensures { result ≡ flip_args bool_cmp
+            (is_at self.now (is_kept_installed self.now.upgraded) a)
+            (is_at self.now (is_kept_installed self.now.upgraded) b) }
+    {
+        self.is_kept(b).cmp(&self.is_kept(a))
+    }
+
+    // Whether the candidate is installed and the command does not upgrade its name.
+    fn is_kept(&self, id: CandId) -> bool
+        ensures { result ≡ is_at self.now (is_kept_installed self.now.upgraded) id }
+    {
+        let place = id.place as usize;
+        if place >= self.kept.len() {
+            return false;
+        }
+        self.kept[place]
     }
 }
 
@@ -261,6 +285,7 @@ pub(crate) fn seal_list<'a>(
     let eligible = eligible_marks(alloc, &details, &table, &tagged, &conflicts)?;
     let pinned = pinned_marks(alloc, &details, &table, &tagged)?;
     let install_ifs = install_ifs_among(alloc, &details, &eligible)?;
+    let kept = kept_marks(alloc, &details, upgrade)?;
     Ok(Sealed {
         details,
         table,
@@ -269,6 +294,7 @@ pub(crate) fn seal_list<'a>(
         positive_entries,
         eligible,
         pinned,
+        kept,
         install_ifs,
     })
 }

@@ -1,5 +1,5 @@
 //! What is asked of a row, and the answers as texts.
-ghost use Rattle.std.specs.Prelude.{◌≡◌};
+ghost use Rattle.std.specs.Prelude.{◌≡◌, IfOk};
 
 use crate::package::index_payload;
 use crate::row::{Repository, Row, split_word};
@@ -47,7 +47,9 @@ impl From<PoolFault> for RowFault {
 /// What a question asks for.
 #[derive(Clone, Copy)]
 enum Question {
+    Packages,
     Candidates,
+    Twice,
     Offers,
     Options,
     Named,
@@ -56,8 +58,10 @@ enum Question {
 }
 
 /// The words that questions over a pool begin with.
-const QUESTIONS: [(&[u8], Question); 6] = [
+const QUESTIONS: [(&[u8], Question); 8] = [
+    (b"packages", Question::Packages),
     (b"candidates", Question::Candidates),
+    (b"twice", Question::Twice),
     (b"offers", Question::Offers),
     (b"options", Question::Options),
     (b"named", Question::Named),
@@ -149,6 +153,7 @@ impl<'a> Packages<'a> {
         Ok(text)
     }
 
+    // The answer over the pool, unless none is asked for.
     fn answer(
         &self,
         alloc: Global,
@@ -156,16 +161,55 @@ impl<'a> Packages<'a> {
         question: Question,
         rest: &[u8],
     ) -> Result<Vec<u8>, RowFault> {
-        let pool = self.pool(alloc)?;
-        let sealed = pool.seal(world, self.upgrade)?;
         match question {
-            Question::Candidates => Ok(number_text(alloc, sealed.len() as u64)?),
+            Question::Packages => Ok(number_text(alloc, self.package_count(alloc)?)?),
+            _ => self.answer_of_pool(alloc, world, question, rest),
+        }
+    }
+
+    fn answer_of_pool(
+        &self,
+        alloc: Global,
+        world: &'a World,
+        question: Question,
+        rest: &[u8],
+    ) -> Result<Vec<u8>, RowFault> {
+        let sealed = self.sealed(alloc, world)?;
+        match question {
+            Question::Packages | Question::Candidates => {
+                Ok(number_text(alloc, sealed.len() as u64)?)
+            }
+            Question::Twice => self.counts_of_two(alloc, world, &sealed),
             Question::Offers => texts_of(alloc, &sealed, sealed.offers(rest)),
             Question::Options => options_of(alloc, &sealed, rest),
             Question::Named => named_options(alloc, &sealed, rest),
             Question::Select => selection(alloc, &sealed, world),
             Question::Count => selection_count(alloc, &sealed, world),
         }
+    }
+
+    // How many candidates a pool has, and a second one that stands beside it.
+    fn counts_of_two(
+        &self,
+        alloc: Global,
+        world: &'a World,
+        first: &Sealed<'_>,
+    ) -> Result<Vec<u8>, RowFault> {
+        let second = self.sealed(alloc, world)?;
+        let mut text = number_text(alloc, first.len() as u64)?;
+        text.push(b' ')?;
+        add_number(alloc, &mut text, second.len() as u128)?;
+        Ok(text)
+    }
+
+    // How many packages the repositories have, whose indexes are tested.
+    fn package_count(&self, alloc: Global) -> Result<u64, RowFault> {
+        let mut count = 0u64;
+        for payload in self.payloads {
+            let packages = view_of(alloc, payload)?.packages();
+            count = count.saturating_add(packages.len() as u64);
+        }
+        Ok(count)
     }
 
     // How many bytes the payloads of the repositories have.
@@ -175,6 +219,14 @@ impl<'a> Packages<'a> {
             count = count.saturating_add(payload.len() as u64);
         }
         count
+    }
+
+    // The pool of all packages, sealed.
+    fn sealed(&self, alloc: Global, world: &'a World) -> Result<Sealed<'a>, RowFault>
+        ensures { IfOk result (λ sealed. world.entry.now ≡ sealed.world) }
+    {
+        let pool = self.pool(alloc)?;
+        Ok(pool.seal(world, self.upgrade)?)
     }
 
     // The pool of all packages.

@@ -2,7 +2,8 @@ use Rattle.std.proofs.Common.{◌≡◌, ◌∙◌, List, Bool, map, ap}
 use Rattle.dep_core.specs.Dependency.{Dependency}
 use Rattle.dep_core.specs.Meets.{dependency}
 use Rattle.pool_core.specs.Candidates.{Candidate, is_eligible}
-use Rattle.pool_core.specs.Rank.{is_pinned}
+use Rattle.pool_core.specs.Rank.{is_kept_installed, is_pinned}
+use Rattle.pool_core.specs.Values.{names_upgraded_by}
 use Rattle.pool_core.specs.World.{places_marked}
 use Rattle.pool_core.proofs.Sealing.{eligible_marked, pinned_marked, install_ifs_marked}
 use Rattle.pool_core.proofs.sealed.seal_list.Goals as goal
@@ -22,4 +23,6 @@ invariant_of-result c =
     ∙ ap (map (is_pinned world)) c.deref-4.ensures.value in
     let found : c.in_ok-install_ifs.install_ifs.items ≡ places_marked 0 marks cs =
     c.in_ok-install_ifs.ensures ∙ (ap (λ (ms : List Bool). places_marked 0 ms c.deref-6.result.now) c.deref-7.ensures.value ∙ ap (places_marked 0 marks) c.deref-6.ensures.value) in
-    (c.requires.leads, c.in_ok-positive_entries.ensures, eligible, pinned, install_ifs_marked world marks cs c.in_ok-install_ifs.install_ifs.items eligible found)
+    let kept : c.in_ok-kept.kept.items ≡ map (is_kept_installed (names_upgraded_by c.args.upgrade)) cs =
+    c.in_ok-kept.ensures ∙ ap (map (is_kept_installed (names_upgraded_by c.args.upgrade))) c.deref-8.ensures.value in
+    (c.requires.leads, c.in_ok-positive_entries.ensures, eligible, pinned, kept, install_ifs_marked world marks cs c.in_ok-install_ifs.install_ifs.items eligible found)

@@ -1,0 +1,83 @@
+//! Which candidates are installed and stay before others in rank: those whose names the command
+//! does not upgrade. The names that it upgrades are put into order once, and each candidate is
+//! marked.
+ghost use Rattle.std.specs.Prelude.{◌≡◌, ◌&&◌, map, not, IfOk};
+ghost use Rattle.pool_core.specs.Rank.{is_kept_installed, listed_names};
+ghost use Rattle.pool_core.specs.Values.{names_upgraded_by};
+
+use crate::candidate::Details;
+use crate::need::Upgrade;
+use crate::sorted::SortedWords;
+use base_core::Words;
+use std::alloc::{AllocError, Global};
+
+/// For each candidate, whether it is installed and the command does not upgrade its name.
+pub(crate) fn kept_marks(
+    alloc: Global,
+    details: &[Details<'_>],
+    upgrade: Upgrade<'_>,
+) -> Result<Vec<bool>, AllocError>
+    ensures { IfOk result (λ marks. marks.items
+        ≡ map (is_kept_installed (names_upgraded_by upgrade.entry)) details.now) }
+{
+    match upgrade {
+        Upgrade::Nothing => marks_with_all(alloc, details, false),
+        Upgrade::All => marks_with_all(alloc, details, true),
+        Upgrade::Listed(words) => marks_with_listed(alloc, details, words),
+    }
+}
+
+// The marks where the command upgrades every name, or none.
+fn marks_with_all(
+    alloc: Global,
+    details: &[Details<'_>],
+    is_upgraded: bool,
+) -> Result<Vec<bool>, AllocError>
+    ensures { IfOk result (λ marks. marks.items
+        ≡ map (λ one. one.installed && not is_upgraded) details.now) }
+{
+    details
+        .iter()
+        .map(|one| is_kept(one, is_upgraded))
+        .collect(alloc)
+}
+
+// The marks where the command upgrades some names.
+fn marks_with_listed(
+    alloc: Global,
+    details: &[Details<'_>],
+    names: &Words,
+) -> Result<Vec<bool>, AllocError>
+    ensures { IfOk result (λ marks. marks.items
+        ≡ map (is_kept_installed (listed_names names.now)) details.now) }
+{
+    let sorted = SortedWords::of(alloc, names)?;
+    let marks = marks_with_sorted(alloc, details, &sorted)?;
+    Ok(marks)
+}
+
+fn marks_with_sorted(
+    alloc: Global,
+    details: &[Details<'_>],
+    names: &SortedWords<'_>,
+) -> Result<Vec<bool>, AllocError>
+    ensures { IfOk result (λ marks. marks.items
+        ≡ map (is_kept_installed (listed_names names.now)) details.now) }
+{
+    details
+        .iter()
+        .map(|one| is_kept_beside(one, names))
+        .collect(alloc)
+}
+
+fn is_kept_beside(one: &Details<'_>, names: &SortedWords<'_>) -> bool
+    ensures { result ≡ is_kept_installed (listed_names names.now) one.now }
+{
+    is_kept(one, names.has(one.name()))
+}
+
+fn is_kept(one: &Details<'_>, is_upgraded: bool) -> bool
+    ensures { result ≡ (one.now.installed && not is_upgraded) }
+{
+    one.is_installed() && !is_upgraded
+}

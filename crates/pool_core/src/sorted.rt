@@ -1,0 +1,57 @@
+//! Words in byte order, in which a word is found by halving.
+ghost use Rattle.std.specs.Prelude.{◌≡◌, map, IfOk};
+ghost use Rattle.std.specs.List.{list_any};
+ghost use Rattle.std.specs.List.Sorted.{IsPermutation};
+ghost use Rattle.std.specs.Str.{bytes_eq};
+
+use base_core::Words;
+use std::alloc::{AllocError, Global};
+use std::marker::Model;
+
+/// The words of a list, in byte order.
+#[derive(Drop)]
+pub struct SortedWords<'a> {
+    words: Vec<&'a [u8]>,
+}
+
+impl<'a> Model for SortedWords<'a> {
+    ghost use Rattle.std.specs.Prelude.{ℕ, List, map};
+    ghost use Rattle.std.specs.List.Sorted.{IsSorted};
+    ghost use Rattle.pool_core.specs.Rank.{byte_cmp};
+
+    ghost Value = { List (List ℕ) };
+
+    ghost view = { λ sorted. map (λ word. word.now) sorted.words.items };
+
+    ghost invariant = { λ sorted. IsSorted (λ one other. byte_cmp one.now other.now)
+        sorted.words.items };
+}
+
+impl<'a> SortedWords<'a> {
+    /// The words of a list, in time in proportion to n log n.
+    pub fn of(alloc: Global, words: &'a Words) -> Result<SortedWords<'a>, AllocError>
+        ensures { IfOk result (λ sorted. IsPermutation words.entry.now sorted) }
+    {
+        let mut sorted = borrowed_words(alloc, words)?;
+        sorted.sort()?;
+        Ok(SortedWords { words: sorted })
+    }
+
+    /// Whether a word is one of them, in time in proportion to log n.
+    pub fn has(&self, word: &[u8]) -> bool
+        ensures { result ≡ list_any (bytes_eq word.now) self.now }
+    {
+        self.words.binary_search(&word).is_ok()
+    }
+}
+
+// The words, in their order.
+fn borrowed_words<'a>(alloc: Global, words: &'a Words) -> Result<Vec<&'a [u8]>, AllocError>
+    ensures { IfOk result (λ borrowed. map (λ word. word.now) borrowed.items ≡ words.entry.now) }
+{
+    let mut borrowed = Vec::with_capacity(alloc, words.len())?;
+    for i in 0..words.len() {
+        borrowed.push(words.word(i))?;
+    }
+    Ok(borrowed)
+}
