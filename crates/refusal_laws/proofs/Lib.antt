@@ -8,5 +8,6 @@ pub mod PackageFaults
 pub mod PackagesAfter
 pub mod Paths
 pub mod ReadBefore
+pub mod RunFaults
 pub mod TestsPassed
 mod Worked

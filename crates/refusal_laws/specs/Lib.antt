@@ -7,3 +7,4 @@ pub mod ChangeFaults
 pub mod TestsPassed
 pub mod PackagesAfter
 pub mod CommandFaults
+pub mod RunFaults

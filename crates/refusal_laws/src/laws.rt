@@ -1,6 +1,6 @@
 //! What follows from the definition of a change for its refusals and for the packages after it.
 
-ghost use Rattle.std.specs.Prelude.{◌≡◌, ℕ, Err, List, Ok, Option};
+ghost use Rattle.std.specs.Prelude.{◌≡◌, ℕ, Err, List, Ok, Option, Some};
 ghost use Rattle.base_core.specs.Files.{Files};
 ghost use Rattle.change_inputs.specs.Inputs.{Inputs, inputs_of};
 ghost use Rattle.change_outcome.specs.ChangeOutcome.{ChangeDone, ChangeWishes, IsClashOfChange, change_members, change_or_refusal, file_change};
@@ -10,6 +10,10 @@ ghost use Rattle.engine_core.specs.Changed.{IsClashFor, changed};
 ghost use Rattle.engine_core.specs.Choice.{IsChoiceFrom};
 ghost use Rattle.engine_core.specs.Selecting.{pool_for};
 ghost use Rattle.make_info.specs.Reads.{Reads};
+ghost use Rattle.outcome.specs.Commands.{IsOutcomeOver};
+ghost use Rattle.outcome.specs.Effect.{Changes, effect_of};
+ghost use Rattle.outcome.specs.Outcome.{Outcome};
+ghost use Rattle.outcome.specs.Words.{IsOutcome};
 ghost use Rattle.package_changes.specs.Changes.{Replacement};
 ghost use Rattle.path_clashes.specs.Clash.{NamePair};
 ghost use Rattle.report_core.specs.declared.refusal.Refusal.{Refusal};
@@ -18,7 +22,11 @@ ghost use Rattle.refusal_laws.specs.CommandFaults.{IsFaultOfCommand};
 ghost use Rattle.refusal_laws.specs.InputFaults.{IsFaultOfInput};
 ghost use Rattle.refusal_laws.specs.PackagesAfter.{AreSelectedOnes};
 ghost use Rattle.refusal_laws.specs.ReadBefore.{HasReadBefore};
+ghost use Rattle.refusal_laws.specs.RunFaults.{IsFaultOfRun, IsFaultOver};
 ghost use Rattle.refusal_laws.specs.TestsPassed.{HasNoFault, HasPassedBefore};
+ghost use Rattle.words_core.specs.Grammar.{command_of};
+
+use outcome::a_command_recovers;
 
 /// Where what a change reads of a root is refused, what the refusal says is so: of the database, of
 /// world, of the repositories or of their indexes, in this order.
@@ -38,6 +46,20 @@ pub fn a_refused_change_has_its_fault()
         → IsClashOfChange inputs r wishes read files clash
         → IsFaultOfChange inputs r wishes read files refusal }
 {}
+
+/// Where a run that changes the installed packages is refused, what the refusal says is so: of the
+/// intent that an earlier change left, or of the files that a recovery leaves.
+pub fn a_refused_run_has_its_fault()
+    ensures over { (command : CommandLine) (files : Files) (o : Outcome) (refusal : Refusal)
+        → effect_of command.applet ≡ Changes → IsOutcomeOver command files o
+        → o.refusal ≡ Some refusal → IsFaultOver command files refusal }
+    ensures words { (words : List (List ℕ)) (command : CommandLine) (files : Files) (o : Outcome)
+        (refusal : Refusal) → command_of words ≡ Ok command
+        → effect_of command.applet ≡ Changes → IsOutcome words files o
+        → o.refusal ≡ Some refusal → IsFaultOfRun command files refusal }
+{
+    a_command_recovers();
+}
 
 /// Where a command that changes the installed packages is refused, what the refusal says is so: of
 /// what it reads, of the candidates and the new world, or of the change that is to be made.
