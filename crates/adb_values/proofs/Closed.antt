@@ -1,5 +1,5 @@
 -- A list that is closed is one value more of the draft from before it was opened.
-use Rattle.std.proofs.Common.{◌≡◌, ◌≤◌, ℕ, ◌+◌, ◌-◌, List, [], ◌∷◌, ◌++◌, length, take, drop, Option, Some, None, slice_get, refl, sym, ap, ◌∙◌, arith, length-append, length-drop, take_all}
+use Rattle.std.proofs.Common.{◌≡◌, ℕ, ◌+◌, ◌-◌, List, [], ◌∷◌, ◌++◌, length, take, drop, Option, Some, slice_get, refl, ap, ◌∙◌, arith, length-append, length-drop, take_all}
 use Rattle.std.specs.Prelude.{min}
 use Rattle.adb_view.specs.Plain.{Plain, Plains}
 use Rattle.adb_write.specs.DepthFirst.{WritesValue, WritesValues}

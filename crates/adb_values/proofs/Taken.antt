@@ -1,10 +1,10 @@
 -- A value that the writer wrote is one that the draft takes.
-use Rattle.std.proofs.Common.{◌≡◌, ℕ, List, [], ◌∷◌, ◌++◌, refl, sym, ap, ◌∙◌, append_assoc, append-nil}
+use Rattle.std.proofs.Common.{◌≡◌, ℕ, List, [], ◌∷◌, ◌++◌, sym, ap, ◌∙◌, append_assoc, append-nil}
 use Rattle.adb_view.specs.Plain.{Plain, null, Plains, none, more}
 use Rattle.adb_write.specs.DepthFirst.{WritesValue}
 use Rattle.adb_write.specs.Writing.{Writing, calls, calls_all}
 use Rattle.adb_write.proofs.DepthFirst.{calls_none, calls_more, calls_null}
-use Rattle.adb_values.specs.Drafts.{DraftState, draft_by, draft_with, draft_with_all}
+use Rattle.adb_values.specs.Drafts.{draft_by, draft_with, draft_with_all}
 
 pub takes : (v : Plain) (old new : Writing) (words more_words starts : List ℕ) (word : ℕ) → WritesValue old v word new → more_words ≡ words ++ word ∷ []
     → draft_by new more_words starts ≡ draft_with v (draft_by old words starts)

@@ -12,7 +12,7 @@ use Rattle.adb_block.specs.Piece.{padding_of}
 use Rattle.adb_block.specs.Written.{head_bytes}
 use Rattle.adb_block.specs.declared.block.BlockKind.TheVariants as Kinds
 use Rattle.pkg_core.specs.Contents.{Contents}
-use Rattle.make_package.specs.Blocks.{IsBegun, contents_block, contents_blocks, contents_front}
+use Rattle.make_package.specs.Blocks.{HasBlockFront, contents_block, contents_blocks, contents_front}
 use Rattle.make_package.specs.Package.{contents_of_file, has_contents, kind_of_file}
 use Rattle.make_package.specs.declared.file.FileKind.{FileKind}
 
@@ -98,26 +98,26 @@ block_is folder file bytes =
 
 -- ---- one that is begun
 
-begun_is : (folder file : ℕ) (before mid : List ℕ) (at : ℕ) → IsBegun folder file before mid at
+begun_is : (folder file : ℕ) (before mid : List ℕ) (at : ℕ) → HasBlockFront folder file before mid at
     → mid ≡ before ++ (contents_front folder file (length (drop at mid)) ++ drop at mid)
 begun_is folder file before mid at b =
     sym (take-append-drop at mid)
     ∙ ap (λ (l : List ℕ). l ++ drop at mid) (b.front ∙ ap (λ (n : ℕ). before ++ contents_front folder file n) (sym (length-drop at mid)))
     ∙ append_assoc before (contents_front folder file (length (drop at mid))) (drop at mid)
 
-begun_long : (folder file : ℕ) (before mid : List ℕ) (at : ℕ) → IsBegun folder file before mid at
+begun_long : (folder file : ℕ) (before mid : List ℕ) (at : ℕ) → HasBlockFront folder file before mid at
     → length mid ≡ length before + (length (contents_front folder file (length (drop at mid))) + length (drop at mid))
 begun_long folder file before mid at b =
     ap length (begun_is folder file before mid at b)
     ∙ length-append before (contents_front folder file (length (drop at mid)) ++ drop at mid)
     ∙ ap (λ (n : ℕ). length before + n) (length-append (contents_front folder file (length (drop at mid))) (drop at mid))
 
-pub begun_behind : (folder file : ℕ) (before mid : List ℕ) (at : ℕ) → IsBegun folder file before mid at → length before ≤ length mid
+pub begun_behind : (folder file : ℕ) (before mid : List ℕ) (at : ℕ) → HasBlockFront folder file before mid at → length before ≤ length mid
 begun_behind folder file before mid at b = let long = begun_long folder file before mid at b in omega arith
 
 -- ---- one that is ended
 
-pub placed_is : (folder file : ℕ) (before mid later : List ℕ) (at : ℕ) (kind : FileKind) → IsBegun folder file before mid at → kind ≡ kind_of_file (drop at mid)
+pub placed_is : (folder file : ℕ) (before mid later : List ℕ) (at : ℕ) (kind : FileKind) → HasBlockFront folder file before mid at → kind ≡ kind_of_file (drop at mid)
     → (has_contents kind ≡ false → later ≡ take (length before) mid) → (has_contents kind ≡ true → later ≡ mid ++ replicate (padding_of (length mid - length before)) 0)
     → later ≡ before ++ contents_blocks (contents_of_file folder file (drop at mid))
 placed_is folder file before mid later at kind b k none padded = by (has_contents kind) refl

@@ -19,7 +19,7 @@ abbrev pub contents_front : ℕ → ℕ → ℕ → List ℕ
 contents_front folder file size =
     head_bytes Kinds.Contents (8 + size) ++ (to_le_bytes w32 folder ++ to_le_bytes w32 file)
 
--- a block is begun behind what was there: from a place on stand the bytes of its file
-pub record IsBegun (folder file : ℕ) (before later : List ℕ) (at : ℕ) : Type 0 where
+-- behind what was there stands the front of a block, and from a place on the bytes of its file
+pub record HasBlockFront (folder file : ℕ) (before later : List ℕ) (at : ℕ) : Type 0 where
   pub within : at ≤ length later
   pub front : take at later ≡ before ++ contents_front folder file (length later - at)

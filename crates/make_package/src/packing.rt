@@ -4,7 +4,7 @@ ghost use Rattle.base_core.specs.Read.{OnlyReads};
 ghost use Rattle.adb_block.specs.Piece.{padding_of};
 ghost use Rattle.base_core.specs.Calls.{IfObservable};
 ghost use Rattle.base_core.specs.Tree.{files_of};
-ghost use Rattle.make_package.specs.Blocks.{IsBegun, contents_front};
+ghost use Rattle.make_package.specs.Blocks.{HasBlockFront, contents_front};
 ghost use Rattle.make_package.specs.BorrowedNames.{listings_of};
 ghost use Rattle.make_package.specs.Folders.{folders_of};
 ghost use Rattle.make_package.specs.Package.{has_contents};
@@ -49,8 +49,8 @@ fn begin_block(blocks: &mut Vec<u8>, position: (u64, u64), size: u64) -> Result<
     Ok(at)
 }
 
-/// Ends the block that begins at `start`, of a file of this kind whose bytes are the last ones: with
-/// padding. A file that has no contents has no block, and what was begun is taken away.
+/// Ends the block that begins at `start`, of a file of this kind whose bytes are the last ones, by
+/// its padding. A file that has no contents has no block, and what was begun is taken away.
 fn end_block(blocks: &mut Vec<u8>, start: usize, kind: &FileKind) -> Result<(), AllocError>
     requires { start ≤ length blocks.old.items }
     ensures none { OnOk result (has_contents kind.now ≡ false
@@ -238,7 +238,7 @@ fn read_listed<T: Tree>(
 ) -> Result<usize, MakeFault>
     ensures tree { OnlyReads MakeFault.Disk (T.history tree.old) (T.history tree.new)
         (T.counts tree.old) (T.counts tree.new) result }
-    ensures begun { IfOk result (λ at. IsBegun position.0 position.1 blocks.old.items
+    ensures begun { IfOk result (λ at. HasBlockFront position.0 position.1 blocks.old.items
         blocks.new.items at) }
     ensures read { (n : ℕ) → Explains (T.history tree.old) (λ read.
         IsAnswer (λ at bytes. bytes ≡ drop at blocks.new.items) result
@@ -260,7 +260,7 @@ fn read_in_block<T: Tree>(
 ) -> Result<Option<usize>, TreeFault>
     ensures tree { OnlyReads TreeFault.Disk (T.history tree.old) (T.history tree.new)
         (T.counts tree.old) (T.counts tree.new) result }
-    ensures begun { IfOk result (λ found. IfSome found (IsBegun position.0 position.1
+    ensures begun { IfOk result (λ found. IfSome found (HasBlockFront position.0 position.1
         blocks.old.items blocks.new.items)) }
     ensures answer { IfOk result (λ found. IfObservable (T.history tree.old) (λ v.
         option_map (λ at. drop at blocks.new.items) found ≡ files_of v name.now)) }

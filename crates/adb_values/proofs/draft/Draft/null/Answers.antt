@@ -1,4 +1,4 @@
-use Rattle.std.proofs.Common.{◌≡◌, ℕ, List, [], ◌∷◌, ◌++◌, ap, subst, ◌∙◌}
+use Rattle.std.proofs.Common.{◌≡◌, ℕ, [], ◌∷◌, ◌++◌, ap, subst, ◌∙◌}
 use Rattle.adb_view.specs.Plain.{null}
 use Rattle.adb_values.specs.Drafts.{DraftState, draft_by, draft_with}
 use Rattle.adb_values.proofs.Taken.{takes_null}
