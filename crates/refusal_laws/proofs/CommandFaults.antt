@@ -31,7 +31,7 @@ use Rattle.refusal_laws.proofs.Lists.{and_then_err}
 
 -- ---- the candidates
 
-abbrev kept_done : Result ChangeDone Refusal → Result ChangeDone Refusal
+abbrev pub kept_done : Result ChangeDone Refusal → Result ChangeDone Refusal
 kept_done r = r
 
 abbrev kept_pool : Result SealedPool Refusal → Result SealedPool Refusal

@@ -9,5 +9,6 @@ pub mod PackagesAfter
 pub mod Paths
 pub mod ReadBefore
 pub mod RunFaults
+pub mod RunMade
 pub mod TestsPassed
 mod Worked

@@ -8,3 +8,4 @@ pub mod TestsPassed
 pub mod PackagesAfter
 pub mod CommandFaults
 pub mod RunFaults
+pub mod RunMade

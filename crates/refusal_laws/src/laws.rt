@@ -1,6 +1,6 @@
 //! What follows from the definition of a change for its refusals and for the packages after it.
 
-ghost use Rattle.std.specs.Prelude.{◌≡◌, ℕ, Err, List, Ok, Option, Some};
+ghost use Rattle.std.specs.Prelude.{◌≡◌, ℕ, false, Err, List, None, Ok, Option, Some};
 ghost use Rattle.base_core.specs.Files.{Files};
 ghost use Rattle.change_inputs.specs.Inputs.{Inputs, inputs_of};
 ghost use Rattle.change_outcome.specs.ChangeOutcome.{ChangeDone, ChangeWishes, IsClashOfChange, change_members, change_or_refusal, file_change};
@@ -23,10 +23,11 @@ ghost use Rattle.refusal_laws.specs.InputFaults.{IsFaultOfInput};
 ghost use Rattle.refusal_laws.specs.PackagesAfter.{AreSelectedOnes};
 ghost use Rattle.refusal_laws.specs.ReadBefore.{HasReadBefore};
 ghost use Rattle.refusal_laws.specs.RunFaults.{IsFaultOfRun, IsFaultOver};
+ghost use Rattle.refusal_laws.specs.RunMade.{HasFirstSelection};
 ghost use Rattle.refusal_laws.specs.TestsPassed.{HasNoFault, HasPassedBefore};
 ghost use Rattle.words_core.specs.Grammar.{command_of};
 
-use outcome::a_command_recovers;
+use outcome::{a_change_takes_the_first_selection_or_is_refused, a_command_recovers};
 
 /// Where what a change reads of a root is refused, what the refusal says is so: of the database, of
 /// world, of the repositories or of their indexes, in this order.
@@ -108,3 +109,13 @@ pub fn the_packages_after_a_change_are_the_selected_ones()
         (found : List MemberFound) → change_members inputs r wishes read ≡ Ok found
         → AreSelectedOnes inputs r read found }
 {}
+
+/// So it is after a run that is not refused, nor only simulated: they are those of the first
+/// preferred selection.
+pub fn the_packages_after_a_run_are_those_of_the_first_selection()
+    ensures { (command : CommandLine) (files : Files) (o : Outcome)
+        → effect_of command.applet ≡ Changes → IsOutcomeOver command files o → o.refusal ≡ None
+        → command.flags.simulate ≡ false → HasFirstSelection command files }
+{
+    a_change_takes_the_first_selection_or_is_refused();
+}
