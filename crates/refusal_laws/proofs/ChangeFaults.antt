@@ -33,7 +33,7 @@ use Rattle.refusal_laws.proofs.Paths.{contested_is, first_reserved_is}
 
 -- ---- limits
 
-too_large : (v : Plain) (counts : PayloadCounts) → overflow_of v ≡ Some counts → IsTooLarge v counts.0 counts.1
+pub too_large : (v : Plain) (counts : PayloadCounts) → overflow_of v ≡ Some counts → IsTooLarge v counts.0 counts.1
 too_large v counts e = (e, (found_in passes (trace v empty_layout) counts e).1)
 
 written_err : (v : Plain) (counts : PayloadCounts) → written_of v ≡ Err counts → overflow_of v ≡ Some counts

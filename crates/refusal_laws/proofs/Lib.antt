@@ -4,6 +4,7 @@ pub mod CommandFaults
 pub mod FoundPackages
 pub mod InputFaults
 pub mod Lists
+pub mod MadeTooLarge
 pub mod PackageFaults
 pub mod PackagesAfter
 pub mod Paths

@@ -9,3 +9,4 @@ pub mod PackagesAfter
 pub mod CommandFaults
 pub mod RunFaults
 pub mod RunMade
+pub mod MadeTooLarge

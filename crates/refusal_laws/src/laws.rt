@@ -10,6 +10,8 @@ ghost use Rattle.engine_core.specs.Changed.{IsClashFor, changed};
 ghost use Rattle.engine_core.specs.Choice.{IsChoiceFrom};
 ghost use Rattle.engine_core.specs.Selecting.{pool_for};
 ghost use Rattle.make_info.specs.Reads.{Reads};
+ghost use Rattle.make_info.specs.declared.fault.MakeFault.TheVariants.{TooLarge};
+ghost use Rattle.make_package.specs.Making.{made_package};
 ghost use Rattle.outcome.specs.Commands.{IsOutcomeOver};
 ghost use Rattle.outcome.specs.Effect.{Changes, effect_of};
 ghost use Rattle.outcome.specs.Outcome.{Outcome};
@@ -20,6 +22,7 @@ ghost use Rattle.report_core.specs.declared.refusal.Refusal.{Refusal};
 ghost use Rattle.refusal_laws.specs.ChangeFaults.{IsFaultOfChange, IsFaultOfPackage};
 ghost use Rattle.refusal_laws.specs.CommandFaults.{IsFaultOfCommand};
 ghost use Rattle.refusal_laws.specs.InputFaults.{IsFaultOfInput};
+ghost use Rattle.refusal_laws.specs.MadeTooLarge.{IsPackageTooLarge};
 ghost use Rattle.refusal_laws.specs.PackagesAfter.{AreSelectedOnes};
 ghost use Rattle.refusal_laws.specs.ReadBefore.{HasReadBefore};
 ghost use Rattle.refusal_laws.specs.RunFaults.{IsFaultOfRun, IsFaultOver};
@@ -119,3 +122,11 @@ pub fn the_packages_after_a_run_are_those_of_the_first_selection()
 {
     a_change_takes_the_first_selection_or_is_refused();
 }
+
+/// Where `mkpkg` is refused as too large, it tells at how many bytes, and then at how many values,
+/// the value of the package that it was to make passes a limit of the writer.
+pub fn a_package_that_is_too_large_is_refused_with_its_counts()
+    ensures { (command : CommandLine) (names : List (List ℕ)) (read : Reads) (bytes values : ℕ)
+        → made_package command names read ≡ Err (TooLarge bytes values)
+        → IsPackageTooLarge command names read bytes values }
+{}
