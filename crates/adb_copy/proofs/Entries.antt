@@ -1,6 +1,6 @@
 -- The fields of a file, of its access list and of scripts, as they are written one by one.
 use Rattle.std.proofs.Common.{◌≡◌, ℕ, List, sym, ◌∙◌}
-use Rattle.adb_view.specs.Plain.{Plain, Plains, none, more, blob_value, obj_value}
+use Rattle.adb_view.specs.Plain.{Plain, none, more, blob_value, obj_value}
 use Rattle.adb_view.specs.Shaped.{HasShape}
 use Rattle.adb_tables.specs.Schema.{shape_of, shapes_of, table}
 use Rattle.adb_tables.specs.Values.{entry_in, int_in, text_in}

@@ -132,7 +132,16 @@ entry_by_fields info id len h =
     (λ k. pick_both id len vs (behind INFO k) ∙ both_behind id len vs h k) i
     ∙ (ap without_zeros (pick_both id len vs i) ∙ sym (nth_zeros us i))))
 
--- the 22 values that are written are those of the entry
+-- the 22 values that are written
+abbrev pub info_fields : (id : List ℕ) (len : ℕ) (t0 t1 t3 t4 t5 t6 t7 t8 t9 : List ℕ) (n10 n11 n13 : ℕ) (l14 l15 l16 l17 l18 : Plain) (n19 : ℕ) (l20 : Plain) (n21 : ℕ) → Plains
+info_fields id len t0 t1 t3 t4 t5 t6 t7 t8 t9 n10 n11 n13 l14 l15 l16 l17 l18 n19 l20 n21 =
+    more (blob_value t0) (more (blob_value t1) (more (blob_value id) (more (blob_value t3) (more (blob_value t4)
+    (more (blob_value t5) (more (blob_value t6) (more (blob_value t7) (more (blob_value t8) (more (blob_value t9)
+    (more (int_value n10) (more (int_value n11) (more (int_value len) (more (int_value n13)
+    (more (without_zeros l14) (more (without_zeros l15) (more (without_zeros l16) (more (without_zeros l17) (more (without_zeros l18)
+    (more (int_value n19) (more (without_zeros l20) (more (int_value n21) none)))))))))))))))))))))
+
+-- they are those of the entry
 pub info_written : (info : Plain) (id : List ℕ) (len : ℕ) → HasShape (shape_of (Kinds.Obj Tables.PkgInfo)) info
     → (t0 t1 t3 t4 t5 t6 t7 t8 t9 : List ℕ) (n10 n11 n13 : ℕ) (l14 l15 l16 l17 l18 : Plain) (n19 : ℕ) (l20 : Plain) (n21 : ℕ)
     → t0 ≡ text_in (entry_in info 0) → t1 ≡ text_in (entry_in info 1) → t3 ≡ text_in (entry_in info 3) → t4 ≡ text_in (entry_in info 4)
@@ -140,11 +149,7 @@ pub info_written : (info : Plain) (id : List ℕ) (len : ℕ) → HasShape (shap
     → n10 ≡ int_in (entry_in info 10) → n11 ≡ int_in (entry_in info 11) → n13 ≡ int_in (entry_in info 13)
     → l14 ≡ entry_in info 14 → l15 ≡ entry_in info 15 → l16 ≡ entry_in info 16 → l17 ≡ entry_in info 17 → l18 ≡ entry_in info 18
     → n19 ≡ int_in (entry_in info 19) → l20 ≡ entry_in info 20 → n21 ≡ int_in (entry_in info 21)
-    → info_with info id len ≡ obj_value (more (blob_value t0) (more (blob_value t1) (more (blob_value id) (more (blob_value t3) (more (blob_value t4)
-    (more (blob_value t5) (more (blob_value t6) (more (blob_value t7) (more (blob_value t8) (more (blob_value t9)
-    (more (int_value n10) (more (int_value n11) (more (int_value len) (more (int_value n13)
-    (more (without_zeros l14) (more (without_zeros l15) (more (without_zeros l16) (more (without_zeros l17) (more (without_zeros l18)
-    (more (int_value n19) (more (without_zeros l20) (more (int_value n21) none))))))))))))))))))))))
+    → info_with info id len ≡ obj_value (info_fields id len t0 t1 t3 t4 t5 t6 t7 t8 t9 n10 n11 n13 l14 l15 l16 l17 l18 n19 l20 n21)
 unfolding shape_of
 info_written info id len h t0 t1 t3 t4 t5 t6 t7 t8 t9 n10 n11 n13 l14 l15 l16 l17 l18 n19 l20 n21 e0 e1 e3 e4 e5 e6 e7 e8 e9 e10 e11 e13 e14 e15 e16 e17 e18 e19 e20 e21 =
     sym (entry_by_fields info id len (entries_shape 3 INFO info h))

@@ -1,4 +1,4 @@
 -- what the contract of `apk` says
 pub mod Zeros
 -- what only inner contracts and proofs use
-pub mod Appending
+pub mod Fields

@@ -1,38 +1,31 @@
 //! The information of a package, written value by value.
-ghost use Rattle.std.specs.Prelude.{◌≡◌, map, IfOk};
-ghost use Rattle.adb_view.specs.Plain.{none, more};
+ghost use Rattle.std.specs.Prelude.{◌≡◌, map, OnOk};
 ghost use Rattle.adb_schema.specs.Views.{dependency_value, info_value};
 ghost use Rattle.adb_fields.specs.ListValue.{list_value};
-ghost use Rattle.adb_write.specs.DepthFirst.{WritesValue};
+ghost use Rattle.adb_values.specs.Drafts.{draft_with, draft_with_all};
 ghost use Rattle.adb_copy.specs.Zeros.{int_value, without_zeros, info_with};
-ghost use Rattle.adb_copy.specs.Appending.{IsAppended, text_plains, int_plains};
+ghost use Rattle.adb_copy.specs.Fields.{text_plains, int_plains};
 
 use adb_schema::{DepView, List, PkgInfo};
-use adb_view::{Val, values_have_their_shape};
-use adb_write::{Writer, values_are_written_depth_first};
-use std::alloc::{AllocError, Global};
-
-/// How many fields an info has.
-const INFO_FIELDS: usize = 22;
+use adb_values::Draft;
+use adb_view::values_have_their_shape;
+use std::alloc::AllocError;
 
 /// Writes an info with this id as its hash and this length as its file's size. An integer 0 is
 /// NULL.
 pub fn write_info<'a>(
-    alloc: Global,
-    writer: &mut Writer,
+    draft: &mut Draft,
     info: &PkgInfo<'a>,
     id: &'a [u8],
     len: u64,
-) -> Result<Val, AllocError>
-    ensures { IfOk result (λ word. WritesValue writer.old
-        (info_with (info_value info.now) id.now len) word writer.new) }
+) -> Result<(), AllocError>
+    ensures { OnOk result
+        (draft.new ≡ draft_with (info_with (info_value info.now) id.now len) draft.old) }
 {
     values_have_their_shape();
-    values_are_written_depth_first();
-    let mut words = Vec::with_capacity(alloc, INFO_FIELDS)?;
-    add_texts(
-        writer,
-        &mut words,
+    draft.open_list()?;
+    write_texts(
+        draft,
         &[
             info.name(),
             info.version(),
@@ -41,9 +34,8 @@ pub fn write_info<'a>(
             info.arch(),
         ],
     )?;
-    add_texts(
-        writer,
-        &mut words,
+    write_texts(
+        draft,
         &[
             info.license(),
             info.origin(),
@@ -52,9 +44,8 @@ pub fn write_info<'a>(
             info.repo_commit(),
         ],
     )?;
-    add_ints(
-        writer,
-        &mut words,
+    write_ints(
+        draft,
         &[
             info.build_time(),
             info.installed_size(),
@@ -62,128 +53,83 @@ pub fn write_info<'a>(
             info.provider_priority(),
         ],
     )?;
-    add_deps(alloc, writer, &mut words, info.depends())?;
-    add_deps(alloc, writer, &mut words, info.provides())?;
-    add_deps(alloc, writer, &mut words, info.replaces())?;
-    add_deps(alloc, writer, &mut words, info.install_if())?;
-    add_deps(alloc, writer, &mut words, info.recommends())?;
-    add_ints(writer, &mut words, &[info.layer()])?;
-    add_tags(alloc, writer, &mut words, info.tags())?;
-    add_ints(writer, &mut words, &[info.unused()])?;
-    writer.obj(&words)
+    write_deps(draft, info.depends())?;
+    write_deps(draft, info.provides())?;
+    write_deps(draft, info.replaces())?;
+    write_deps(draft, info.install_if())?;
+    write_deps(draft, info.recommends())?;
+    write_int(draft, info.layer())?;
+    write_tags(draft, info.tags())?;
+    write_int(draft, info.unused())?;
+    draft.close_object()
 }
 
-/// Writes texts behind what an object has so far.
-fn add_texts(writer: &mut Writer, words: &mut Vec<Val>, texts: &[&[u8]]) -> Result<(), AllocError>
-    ensures { IfOk result (λ _. IsAppended writer.old words.old.items
-        (text_plains (map (λ t. t.now) texts.now)) writer.new words.new.items) }
+/// Writes texts one after another.
+fn write_texts(draft: &mut Draft, texts: &[&[u8]]) -> Result<(), AllocError>
+    ensures { OnOk result
+        (draft.new ≡ draft_with_all (text_plains (map (λ t. t.now) texts.now)) draft.old) }
 {
-    values_are_written_depth_first();
     for text in texts {
-        words.push(writer.blob(text)?)?;
+        draft.blob(text)?;
     }
     Ok(())
 }
 
-/// Writes integers behind what an object has so far.
-fn add_ints(writer: &mut Writer, words: &mut Vec<Val>, ints: &[u64]) -> Result<(), AllocError>
-    ensures { IfOk result (λ _. IsAppended writer.old words.old.items
-        (int_plains ints.now) writer.new words.new.items) }
+/// Writes integers one after another; 0 is NULL.
+fn write_ints(draft: &mut Draft, ints: &[u64]) -> Result<(), AllocError>
+    ensures { OnOk result (draft.new ≡ draft_with_all (int_plains ints.now) draft.old) }
 {
-    values_are_written_depth_first();
     for n in ints {
-        words.push(write_int(writer, *n)?)?;
+        write_int(draft, *n)?;
     }
-    Ok(())
-}
-
-/// Writes a list of dependencies behind what an object has so far.
-fn add_deps<'a>(
-    alloc: Global,
-    writer: &mut Writer,
-    words: &mut Vec<Val>,
-    deps: List<'a, DepView<'a>>,
-) -> Result<(), AllocError>
-    ensures { IfOk result (λ _. IsAppended writer.old words.old.items
-        (more (without_zeros (list_value deps.entry)) none) writer.new words.new.items) }
-{
-    values_are_written_depth_first();
-    words.push(write_deps(alloc, writer, deps)?)?;
-    Ok(())
-}
-
-/// Writes an array of texts behind what an object has so far.
-fn add_tags<'a>(
-    alloc: Global,
-    writer: &mut Writer,
-    words: &mut Vec<Val>,
-    tags: List<'a, &'a [u8]>,
-) -> Result<(), AllocError>
-    ensures { IfOk result (λ _. IsAppended writer.old words.old.items
-        (more (without_zeros (list_value tags.entry)) none) writer.new words.new.items) }
-{
-    values_are_written_depth_first();
-    words.push(write_tags(alloc, writer, tags)?)?;
     Ok(())
 }
 
 /// Writes an integer; 0 is NULL.
-pub fn write_int(writer: &mut Writer, n: u64) -> Result<Val, AllocError>
-    ensures { IfOk result (λ word. WritesValue writer.old (int_value n) word writer.new) }
+pub fn write_int(draft: &mut Draft, n: u64) -> Result<(), AllocError>
+    ensures { OnOk result (draft.new ≡ draft_with (int_value n) draft.old) }
 {
-    values_are_written_depth_first();
     if n == 0 {
-        return Ok(Val::of(0));
+        return draft.null();
     }
-    writer.int(n)
+    draft.int(n)
 }
 
 /// Writes an array of texts.
-pub fn write_tags<'a>(
-    alloc: Global,
-    writer: &mut Writer,
-    texts: List<'a, &'a [u8]>,
-) -> Result<Val, AllocError>
-    ensures { IfOk result (λ word. WritesValue writer.old
-        (without_zeros (list_value texts.entry)) word writer.new) }
+pub fn write_tags<'a>(draft: &mut Draft, texts: List<'a, &'a [u8]>) -> Result<(), AllocError>
+    ensures { OnOk result
+        (draft.new ≡ draft_with (without_zeros (list_value texts.entry)) draft.old) }
 {
     values_have_their_shape();
-    values_are_written_depth_first();
-    let mut words = Vec::new(alloc);
+    draft.open_list()?;
     for i in 0..texts.len() {
-        words.push(writer.blob(texts.get(i + 1))?)?;
+        draft.blob(texts.get(i + 1))?;
     }
-    writer.arr(&words)
+    draft.close_array()
 }
 
 /// Writes an array of dependencies.
-fn write_deps<'a>(
-    alloc: Global,
-    writer: &mut Writer,
-    deps: List<'a, DepView<'a>>,
-) -> Result<Val, AllocError>
-    ensures { IfOk result (λ word. WritesValue writer.old
-        (without_zeros (list_value deps.entry)) word writer.new) }
+fn write_deps<'a>(draft: &mut Draft, deps: List<'a, DepView<'a>>) -> Result<(), AllocError>
+    ensures { OnOk result
+        (draft.new ≡ draft_with (without_zeros (list_value deps.entry)) draft.old) }
 {
     values_have_their_shape();
-    values_are_written_depth_first();
-    let mut words = Vec::new(alloc);
+    draft.open_list()?;
     for i in 0..deps.len() {
-        words.push(write_dep(writer, &deps.get(i + 1))?)?;
+        write_dep(draft, &deps.get(i + 1))?;
     }
-    writer.arr(&words)
+    draft.close_array()
 }
 
 /// Writes a dependency.
-fn write_dep(writer: &mut Writer, dep: &DepView<'_>) -> Result<Val, AllocError>
-    ensures { IfOk result (λ word. WritesValue writer.old
-        (without_zeros (dependency_value dep.now)) word writer.new) }
+fn write_dep(draft: &mut Draft, dep: &DepView<'_>) -> Result<(), AllocError>
+    ensures { OnOk result
+        (draft.new ≡ draft_with (without_zeros (dependency_value dep.now)) draft.old) }
 {
     values_have_their_shape();
-    values_are_written_depth_first();
-    let name = writer.blob(dep.name())?;
-    let version = writer.blob(dep.version())?;
-    let matching = write_int(writer, dep.matching())?;
-    let fields = [name, version, matching];
-    writer.obj(&fields)
+    draft.open_list()?;
+    draft.blob(dep.name())?;
+    draft.blob(dep.version())?;
+    write_int(draft, dep.matching())?;
+    draft.close_object()
 }

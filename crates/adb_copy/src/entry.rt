@@ -3,53 +3,49 @@ ghost use Rattle.adb_copy.specs.Zeros.{without_zeros};
 ghost use Rattle.adb_fields.specs.ListValue.{list_value};
 ghost use Rattle.adb_schema.specs.Views.{acl_value, file_value, scripts_value};
 ghost use Rattle.adb_tables.specs.Values.{count_of, entries_in, entry_in};
-ghost use Rattle.adb_write.specs.DepthFirst.{WritesValue};
-ghost use Rattle.std.specs.Prelude.{◌≡◌, ◌<◌, IfOk};
+ghost use Rattle.adb_values.specs.Drafts.{draft_with};
+ghost use Rattle.std.specs.Prelude.{◌≡◌, ◌<◌, OnOk};
 
 use crate::copy::{write_int, write_tags};
 use adb_schema::{AclView, FileInfo, List, ScriptsView};
-use adb_view::{Val, values_have_their_shape};
-use adb_write::{Writer, values_are_written_depth_first};
-use std::alloc::{AllocError, Global};
+use adb_values::Draft;
+use adb_view::values_have_their_shape;
+use std::alloc::AllocError;
 
 /// Writes an access list once more.
-pub fn write_acl(alloc: Global, writer: &mut Writer, acl: &AclView<'_>) -> Result<Val, AllocError>
-    ensures { IfOk result (λ word. WritesValue writer.old
-        (without_zeros (acl_value acl.now)) word writer.new) }
+pub fn write_acl(draft: &mut Draft, acl: &AclView<'_>) -> Result<(), AllocError>
+    ensures { OnOk result (draft.new ≡ draft_with (without_zeros (acl_value acl.now)) draft.old) }
 {
     values_have_their_shape();
-    values_are_written_depth_first();
-    let mode = write_int(writer, acl.mode())?;
-    let user = writer.blob(acl.user())?;
-    let group = writer.blob(acl.group())?;
-    let xattrs = write_tags(alloc, writer, acl.xattrs())?;
-    let fields = [mode, user, group, xattrs];
-    writer.obj(&fields)
+    draft.open_list()?;
+    write_int(draft, acl.mode())?;
+    draft.blob(acl.user())?;
+    draft.blob(acl.group())?;
+    write_tags(draft, acl.xattrs())?;
+    draft.close_object()
 }
 
 /// Writes the file at a place of a folder once more; places count from 0.
 pub fn write_file<'a>(
-    alloc: Global,
-    writer: &mut Writer,
+    draft: &mut Draft,
     files: &List<'a, FileInfo<'a>>,
     i: usize,
-) -> Result<Val, AllocError>
+) -> Result<(), AllocError>
     requires { i < count_of (entries_in (list_value files.now)) }
-    ensures { IfOk result (λ word. WritesValue writer.old
-        (without_zeros (entry_in (list_value files.now) i)) word writer.new) }
+    ensures { OnOk result (draft.new
+        ≡ draft_with (without_zeros (entry_in (list_value files.now) i)) draft.old) }
 {
     values_have_their_shape();
-    values_are_written_depth_first();
     let file = file_at(files, i);
-    let name = writer.blob(file.name())?;
-    let acl = write_file_acl(alloc, writer, &file, files)?;
-    let size = write_int(writer, file.size())?;
-    let mtime = write_int(writer, file.mtime())?;
-    let hashes = writer.blob(file.hashes())?;
-    let target = writer.blob(file.target())?;
-    let unused = write_int(writer, file.unused())?;
-    let fields = [name, acl, size, mtime, hashes, target, unused];
-    writer.obj(&fields)
+    draft.open_list()?;
+    draft.blob(file.name())?;
+    write_file_acl(draft, &file, files)?;
+    write_int(draft, file.size())?;
+    write_int(draft, file.mtime())?;
+    draft.blob(file.hashes())?;
+    draft.blob(file.target())?;
+    write_int(draft, file.unused())?;
+    draft.close_object()
 }
 
 /// The file at a place of a folder, counted from 0.
@@ -65,40 +61,30 @@ fn file_at<'a>(files: &List<'a, FileInfo<'a>>, i: usize) -> FileInfo<'a>
 
 /// Writes the access list of a file once more.
 fn write_file_acl<'a>(
-    alloc: Global,
-    writer: &mut Writer,
+    draft: &mut Draft,
     file: &FileInfo<'a>,
     _files: &List<'a, FileInfo<'a>>,
-) -> Result<Val, AllocError>
-    ensures { IfOk result (λ word. WritesValue writer.old
-        (without_zeros (entry_in (file_value file.now) 1)) word writer.new) }
+) -> Result<(), AllocError>
+    ensures { OnOk result
+        (draft.new ≡ draft_with (without_zeros (entry_in (file_value file.now) 1)) draft.old) }
 {
     let acl = file.acl();
-    write_acl(alloc, writer, &acl)
+    write_acl(draft, &acl)
 }
 
 /// Writes scripts once more.
-pub fn write_scripts(writer: &mut Writer, scripts: &ScriptsView<'_>) -> Result<Val, AllocError>
-    ensures { IfOk result (λ word. WritesValue writer.old
-        (without_zeros (scripts_value scripts.now)) word writer.new) }
+pub fn write_scripts(draft: &mut Draft, scripts: &ScriptsView<'_>) -> Result<(), AllocError>
+    ensures { OnOk result
+        (draft.new ≡ draft_with (without_zeros (scripts_value scripts.now)) draft.old) }
 {
     values_have_their_shape();
-    values_are_written_depth_first();
-    let trigger = writer.blob(scripts.trigger())?;
-    let pre_install = writer.blob(scripts.pre_install())?;
-    let post_install = writer.blob(scripts.post_install())?;
-    let pre_deinstall = writer.blob(scripts.pre_deinstall())?;
-    let post_deinstall = writer.blob(scripts.post_deinstall())?;
-    let pre_upgrade = writer.blob(scripts.pre_upgrade())?;
-    let post_upgrade = writer.blob(scripts.post_upgrade())?;
-    let fields = [
-        trigger,
-        pre_install,
-        post_install,
-        pre_deinstall,
-        post_deinstall,
-        pre_upgrade,
-        post_upgrade,
-    ];
-    writer.obj(&fields)
+    draft.open_list()?;
+    draft.blob(scripts.trigger())?;
+    draft.blob(scripts.pre_install())?;
+    draft.blob(scripts.post_install())?;
+    draft.blob(scripts.pre_deinstall())?;
+    draft.blob(scripts.post_deinstall())?;
+    draft.blob(scripts.pre_upgrade())?;
+    draft.blob(scripts.post_upgrade())?;
+    draft.close_object()
 }

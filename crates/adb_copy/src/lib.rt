@@ -1,7 +1,7 @@
 //! Values of a container, written once more into another one (apk-v3(5)): the information of a
 //! package, its files and their access lists, and its scripts.
 //!
-//! Views go in, the words of what was written come out. An integer 0 becomes NULL, at every depth.
+//! Views go in, and what they show goes into a draft. An integer 0 becomes NULL, at every depth.
 //! The contracts cite `Zeros` of `specs/` (values in which no integer is 0, and an information with
 //! another id and length).
 #![tactic(auto)]

@@ -10,3 +10,5 @@ pub mod Once
 pub mod Fields
 pub mod ListValue
 pub mod NamedTexts
+pub mod KnownLists
+pub mod ListsOf

@@ -9,6 +9,7 @@
 #![tactic(auto)]
 
 mod file_path;
+mod known_lists;
 mod list;
 mod name_lists;
 mod pairs;

@@ -5,6 +5,7 @@ ghost use Rattle.adb_view.specs.Adb.{payload_of};
 ghost use Rattle.adb_view.specs.Entries.{array_entries};
 ghost use Rattle.adb_tables.specs.Values.{count_of, entries_in, entry_in, is_sound, kind_at, value_at};
 ghost use Rattle.adb_fields.specs.Fields.{are_all_sound};
+ghost use Rattle.adb_fields.specs.ListsOf.{AreListsOf};
 ghost use Rattle.adb_tables.specs.Shaped.{shaped_value, table_of};
 ghost use Rattle.adb_tables.specs.Walk.{or_else};
 ghost use Rattle.adb_fields.specs.Repeated.{between_fault, field_number, file_twice, files_in, folder_twice, folders_in, inside_fault, name_of, name_twice, package_twice, path_in_two, repeated_at, repeated_fault, twice, twice_in_one};
@@ -15,9 +16,10 @@ ghost use Rattle.adb_fields.specs.NamedTexts.{plains_at};
 ghost use Rattle.adb_tables.specs.declared.tables.Kind.TheVariants as Kinds;
 ghost use Rattle.adb_tables.specs.declared.tables.Which.TheVariants as Tables;
 
-use crate::name_lists::{add_texts, all_paths, object_names, package_names};
+use crate::known_lists::KnownLists;
+use crate::name_lists::{add_texts, all_paths, package_names};
 use crate::pairs::{Pair, earlier, first_pair};
-use crate::reads::{objects_field, texts_field};
+use crate::reads::{field_word, objects_field, texts_field};
 use adb_tables::{Shaped, Which, entry_word, values_of_few_visits_have_no_fault};
 use adb_view::{Adb, Arr, Val};
 use base_core::Cause;
@@ -79,9 +81,17 @@ fn in_package(alloc: Global, adb: Adb<'_>, pkg: Val) -> Result<Option<Cause>, Al
     ensures { IfOk result (λ cause. cause
         ≡ inside_fault (value_at (payload_of adb.entry) (Kinds.Obj Tables.Package) pkg ∷ [])) }
 {
-    match repeated_at(field::FOLDER_NAME, folder_twice(alloc, adb, pkg)?) {
+    let mut folders = KnownLists::new(alloc, adb, Which::Dir);
+    match repeated_at(
+        field::FOLDER_NAME,
+        folder_twice(alloc, adb, &mut folders, pkg)?,
+    ) {
         Some(cause) => Ok(Some(cause)),
-        None => Ok(repeated_at(field::FILE_NAME, file_twice(alloc, adb, pkg)?)),
+        None => {
+            let mut files = KnownLists::new(alloc, adb, Which::File);
+            let pair = file_twice(alloc, adb, &mut files, pkg)?;
+            Ok(repeated_at(field::FILE_NAME, pair))
+        }
     }
 }
 
@@ -161,60 +171,62 @@ fn in_intent(alloc: Global, adb: Adb<'_>, intent: Val) -> Result<Option<Cause>, 
     Ok(repeated_at(field::WRITE, first_pair(&mut names)))
 }
 
-/// A name that two of the objects have, whose first field it is.
-fn name_twice(
+/// A folder that stands twice in a package.
+fn folder_twice(
     alloc: Global,
     adb: Adb<'_>,
-    which: Which,
-    objects: Arr<'_>,
+    lists: &mut KnownLists<'_>,
+    pkg: Val,
 ) -> Result<Option<Pair>, AllocError>
-    requires sound { are_all_sound (payload_of adb) (Kinds.Obj which) (array_entries objects)
-        ≡ true }
-    requires kind { kind_at which 0 ≡ Some Kinds.Text }
-    ensures { IfOk result (λ pair. pair
-        ≡ twice (map name_of (plains_at (payload_of adb.entry) (Kinds.Obj which)
-        (array_entries objects.entry)))) }
-{
-    let mut names = object_names(alloc, adb, which, objects)?;
-    Ok(first_pair(&mut names))
-}
-
-/// A folder that stands twice in a package.
-fn folder_twice(alloc: Global, adb: Adb<'_>, pkg: Val) -> Result<Option<Pair>, AllocError>
-    requires { is_sound (payload_of adb) (Kinds.Obj Tables.Package) pkg ≡ true }
-    ensures { IfOk result (λ pair. pair
+    requires sound { is_sound (payload_of adb) (Kinds.Obj Tables.Package) pkg ≡ true }
+    requires lists { AreListsOf adb Tables.Dir lists.old }
+    ensures pair { IfOk result (λ pair. pair
         ≡ twice (map name_of (folders_in
         (value_at (payload_of adb.entry) (Kinds.Obj Tables.Package) pkg)))) }
+    ensures lists { AreListsOf adb.entry Tables.Dir lists.new }
 {
-    let folders = objects_field(adb, Which::Package, pkg, 1, Which::Dir);
-    name_twice(alloc, adb, Which::Dir, folders)
+    lists.twice(alloc, field_word(adb, Which::Package, pkg, 1))
 }
 
 /// A file that stands twice in one of a package's folders.
 #[tactic(auto, using(crate::proofs::FieldReads::entry_sound))]
-fn file_twice(alloc: Global, adb: Adb<'_>, pkg: Val) -> Result<Option<Pair>, AllocError>
-    requires { is_sound (payload_of adb) (Kinds.Obj Tables.Package) pkg ≡ true }
-    ensures { IfOk result (λ pair. pair
+fn file_twice(
+    alloc: Global,
+    adb: Adb<'_>,
+    lists: &mut KnownLists<'_>,
+    pkg: Val,
+) -> Result<Option<Pair>, AllocError>
+    requires sound { is_sound (payload_of adb) (Kinds.Obj Tables.Package) pkg ≡ true }
+    requires lists { AreListsOf adb Tables.File lists.old }
+    ensures pair { IfOk result (λ pair. pair
         ≡ twice_in_one (map (λ folder. map name_of (files_in folder))
         (folders_in (value_at (payload_of adb.entry) (Kinds.Obj Tables.Package) pkg)))) }
+    ensures lists { AreListsOf adb.entry Tables.File lists.new }
 {
     let folders = objects_field(adb, Which::Package, pkg, 1, Which::Dir);
     let mut first = None;
     for i in 0..folders.len() {
-        first = earlier(first, file_twice_in(alloc, adb, entry_word(folders, i))?);
+        let folder = entry_word(folders, i);
+        first = earlier(first, file_twice_in(alloc, adb, lists, folder)?);
     }
     Ok(first)
 }
 
 /// A file that stands twice in a folder.
-fn file_twice_in(alloc: Global, adb: Adb<'_>, folder: Val) -> Result<Option<Pair>, AllocError>
-    requires { is_sound (payload_of adb) (Kinds.Obj Tables.Dir) folder ≡ true }
-    ensures { IfOk result (λ pair. pair
+fn file_twice_in(
+    alloc: Global,
+    adb: Adb<'_>,
+    lists: &mut KnownLists<'_>,
+    folder: Val,
+) -> Result<Option<Pair>, AllocError>
+    requires sound { is_sound (payload_of adb) (Kinds.Obj Tables.Dir) folder ≡ true }
+    requires lists { AreListsOf adb Tables.File lists.old }
+    ensures pair { IfOk result (λ pair. pair
         ≡ twice (map name_of (files_in
         (value_at (payload_of adb.entry) (Kinds.Obj Tables.Dir) folder)))) }
+    ensures lists { AreListsOf adb.entry Tables.File lists.new }
 {
-    let files = objects_field(adb, Which::Dir, folder, 2, Which::File);
-    name_twice(alloc, adb, Which::File, files)
+    lists.twice(alloc, field_word(adb, Which::Dir, folder, 2))
 }
 
 /// A folder that stands twice in one of the packages.
@@ -226,9 +238,11 @@ fn folders_twice(alloc: Global, adb: Adb<'_>, packages: Arr<'_>) -> Result<Optio
         ≡ folder_twice (plains_at (payload_of adb.entry) (Kinds.Obj Tables.Package)
         (array_entries packages.entry))) }
 {
+    let mut lists = KnownLists::new(alloc, adb, Which::Dir);
     let mut first = None;
     for i in 0..packages.len() {
-        first = earlier(first, folder_twice(alloc, adb, entry_word(packages, i))?);
+        let pkg = entry_word(packages, i);
+        first = earlier(first, folder_twice(alloc, adb, &mut lists, pkg)?);
     }
     Ok(first)
 }
@@ -242,9 +256,11 @@ fn files_twice(alloc: Global, adb: Adb<'_>, packages: Arr<'_>) -> Result<Option<
         ≡ file_twice (plains_at (payload_of adb.entry) (Kinds.Obj Tables.Package)
         (array_entries packages.entry))) }
 {
+    let mut lists = KnownLists::new(alloc, adb, Which::File);
     let mut first = None;
     for i in 0..packages.len() {
-        first = earlier(first, file_twice(alloc, adb, entry_word(packages, i))?);
+        let pkg = entry_word(packages, i);
+        first = earlier(first, file_twice(alloc, adb, &mut lists, pkg)?);
     }
     Ok(first)
 }

@@ -2,3 +2,4 @@ pub mod ShapeWalk
 pub mod WalkSteps
 pub mod ValueEntries
 pub mod Worked
+mod ReaderFaults

@@ -9,3 +9,4 @@ pub mod CountedWalk
 pub mod Shaped
 pub mod Rank
 pub mod Shapes
+pub mod VisitFault

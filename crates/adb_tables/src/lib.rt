@@ -8,6 +8,7 @@
 
 mod shaped;
 mod tables;
+mod visit_fault;
 mod walk;
 
 pub use shaped::Shaped;

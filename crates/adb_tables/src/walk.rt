@@ -14,6 +14,7 @@ ghost use Rattle.adb_tables.specs.CountedWalk.{fields_walk};
 ghost use Rattle.adb_tables.specs.CountedWalk.{walk};
 ghost use Rattle.adb_tables.specs.CountedWalk.{each_walk};
 ghost use Rattle.adb_tables.specs.FirstFault.{IsFirstFault};
+ghost use Rattle.adb_tables.specs.VisitFault.{with_cause};
 ghost use Rattle.adb_tables.specs.Shaped.{adb_of, table_of};
 ghost use Rattle.adb_tables.specs.Values.{is_sound, value_at};
 ghost use Rattle.base_core.specs.declared.cause.Cause.{Cause};
@@ -22,6 +23,7 @@ ghost use Rattle.adb_tables.specs.declared.tables.Kind.TheVariants as Kinds;
 
 use crate::shaped::Shaped;
 use crate::tables::{Field, Kind, Which, fields_of};
+use crate::visit_fault::VisitFault;
 use adb_view::{Adb, Arr, Val, value_is_found_where_visits_are_sound};
 use base_core::Cause;
 
@@ -62,46 +64,54 @@ pub fn shape(adb: Adb<'_>, which: Which) -> Result<Shaped<'_>, Cause>
     ensures table { IfOk result (λ shaped. table_of shaped ≡ which) }
 {
     value_is_found_where_visits_are_sound();
-    walk_value(adb, Kind::Obj(which), 0, adb.root())?;
-    Ok(Shaped::of(adb, which))
+    match walk_value(adb, Kind::Obj(which), 0, adb.root()) {
+        Ok(_) => Ok(Shaped::of(adb, which)),
+        Err(fault) => Err(fault.cause()),
+    }
 }
 
 /// Visits a word and what lies below it, behind so many visits, and answers how many there were
 /// then.
 #[cycle(walk)]
-#[tactic(auto, using(crate::proofs::WalkSteps::walk_full, crate::proofs::WalkSteps::int_ok, crate::proofs::WalkSteps::int_err, crate::proofs::WalkSteps::text_ok, crate::proofs::WalkSteps::text_err, crate::proofs::WalkSteps::hash_ok, crate::proofs::WalkSteps::hash_err, crate::proofs::WalkSteps::texts_ok, crate::proofs::WalkSteps::texts_err, crate::proofs::WalkSteps::objects_ok, crate::proofs::WalkSteps::objects_err, crate::proofs::WalkSteps::object_ok, crate::proofs::WalkSteps::object_err))]
-fn walk_value(adb: Adb<'_>, kind: Kind, before: u32, word: Val) -> Result<u32, Cause>
+#[tactic(auto, using(crate::proofs::WalkSteps::walk_full, crate::proofs::WalkSteps::int_ok, crate::proofs::WalkSteps::int_err, crate::proofs::WalkSteps::text_ok, crate::proofs::WalkSteps::text_err, crate::proofs::WalkSteps::hash_ok, crate::proofs::WalkSteps::hash_err, crate::proofs::WalkSteps::texts_ok, crate::proofs::WalkSteps::texts_err, crate::proofs::WalkSteps::objects_ok, crate::proofs::WalkSteps::objects_err, crate::proofs::WalkSteps::object_ok, crate::proofs::WalkSteps::object_err, crate::proofs::ReaderFaults::int_fault, crate::proofs::ReaderFaults::blob_fault, crate::proofs::ReaderFaults::run_fault))]
+fn walk_value(adb: Adb<'_>, kind: Kind, before: u32, word: Val) -> Result<u32, VisitFault>
     requires { before ≤ LIMIT }
-    ensures exact { result ≡ walk (payload_of adb.entry) (shape_of kind) before word }
+    ensures exact { with_cause result ≡ walk (payload_of adb.entry) (shape_of kind) before word }
     ensures bound { IfOk result (λ n. n ≤ LIMIT) }
 {
     let count = before + 1;
     if count > MOST_VISITS {
-        return Err(Cause::TooLarge { count });
+        return Err(VisitFault::TooLarge { count });
     }
     match kind {
-        Kind::Int => {
-            adb.int(word)?;
-            Ok(count)
-        }
-        Kind::Text | Kind::Hash => {
-            adb.blob(word)?;
-            Ok(count)
-        }
-        Kind::TextArr => walk_entries(adb, Kind::Text, count, adb.arr(word)?),
-        Kind::ObjArr(which) => walk_entries(adb, Kind::Obj(which), count, adb.arr(word)?),
-        Kind::Obj(which) => {
-            let entries = object_entries(adb, word)?;
-            walk_fields(adb, fields_of(which), count, entries)
-        }
+        Kind::Int => match adb.int(word) {
+            Ok(_) => Ok(count),
+            Err(cause) => Err(VisitFault::of_reader(cause)),
+        },
+        Kind::Text | Kind::Hash => match adb.blob(word) {
+            Ok(_) => Ok(count),
+            Err(cause) => Err(VisitFault::of_reader(cause)),
+        },
+        Kind::TextArr => match adb.arr(word) {
+            Ok(texts) => walk_entries(adb, Kind::Text, count, texts),
+            Err(cause) => Err(VisitFault::of_reader(cause)),
+        },
+        Kind::ObjArr(which) => match adb.arr(word) {
+            Ok(objects) => walk_entries(adb, Kind::Obj(which), count, objects),
+            Err(cause) => Err(VisitFault::of_reader(cause)),
+        },
+        Kind::Obj(which) => match object_entries(adb, word) {
+            Ok(entries) => walk_each_field(adb, fields_of(which), count, entries),
+            Err(cause) => Err(VisitFault::of_reader(cause)),
+        },
     }
 }
 
 /// Visits the entries of an array.
 #[cycle(walk)]
-fn walk_entries(adb: Adb<'_>, kind: Kind, before: u32, entries: Arr<'_>) -> Result<u32, Cause>
+fn walk_entries(adb: Adb<'_>, kind: Kind, before: u32, entries: Arr<'_>) -> Result<u32, VisitFault>
     requires { before ≤ LIMIT }
-    ensures exact { result
+    ensures exact { with_cause result
         ≡ each_walk (walk (payload_of adb.entry) (shape_of kind)) before
         (array_entries entries.entry) }
     ensures bound { IfOk result (λ n. n ≤ LIMIT) }
@@ -113,22 +123,17 @@ fn walk_entries(adb: Adb<'_>, kind: Kind, before: u32, entries: Arr<'_>) -> Resu
     Ok(count)
 }
 
-/// Visits the entries of an object that have one of these fields, whatever the fields, behind so
-/// many visits, and answers how many there were then.
-///
-/// # Errors
-///
-/// The first fault, as `shape` reports it.
+/// Visits the entries of an object that have one of these fields.
 #[cycle(walk)]
 #[tactic(auto, using(crate::proofs::WalkSteps::fields_more, crate::proofs::WalkSteps::fields_stop, crate::proofs::WalkSteps::fields_past, crate::proofs::WalkSteps::fields_past_words, crate::proofs::WalkSteps::field_rank))]
-pub fn walk_fields(
+fn walk_each_field(
     adb: Adb<'_>,
     fields: &[Field],
     before: u32,
     entries: Arr<'_>,
-) -> Result<u32, Cause>
+) -> Result<u32, VisitFault>
     requires { before ≤ LIMIT }
-    ensures exact { result
+    ensures exact { with_cause result
         ≡ fields_walk (payload_of adb.entry) (shapes_of fields.now) before
         (array_entries entries.entry) }
     ensures bound { IfOk result (λ n. n ≤ LIMIT) }
@@ -141,6 +146,30 @@ pub fn walk_fields(
         count = walk_value(adb, field.kind, count, entry_word(entries, i))?;
     }
     Ok(count)
+}
+
+/// Visits the entries of an object that have one of these fields, whatever the fields, behind so
+/// many visits, and answers how many there were then.
+///
+/// # Errors
+///
+/// The first fault, as `shape` reports it.
+pub fn walk_fields(
+    adb: Adb<'_>,
+    fields: &[Field],
+    before: u32,
+    entries: Arr<'_>,
+) -> Result<u32, Cause>
+    requires { before ≤ LIMIT }
+    ensures exact { result
+        ≡ fields_walk (payload_of adb.entry) (shapes_of fields.now) before
+        (array_entries entries.entry) }
+    ensures bound { IfOk result (λ n. n ≤ LIMIT) }
+{
+    match walk_each_field(adb, fields, before, entries) {
+        Ok(count) => Ok(count),
+        Err(fault) => Err(fault.cause()),
+    }
 }
 
 /// What the walk of an object's entries by any list of fields answers: the fault of the first

@@ -1,10 +1,10 @@
 -- What was written is found again, whatever was written since.
-use Rattle.std.proofs.Common.{◌≡◌, ◌≢◌, ◌⊎◌, ℕ, suc, ◌+◌, ◌*◌, ◌^◌, ◌<◌, ◌≤◌, Bool, true, false, cond, eqb, ltb, List, [], ◌∷◌, ◌++◌, length, take, drop, replicate, Option, Some, None, refl, sym, ap, subst, ◌∙◌, append_assoc, arith, inl, inr, eq-eqb, le_trans}
+use Rattle.std.proofs.Common.{◌≡◌, ℕ, suc, ◌+◌, ◌*◌, ◌^◌, ◌<◌, ◌≤◌, Bool, true, false, cond, eqb, ltb, List, [], ◌∷◌, ◌++◌, length, take, drop, replicate, Option, Some, None, refl, sym, ap, subst, ◌∙◌, append_assoc, arith, inl, inr, eq-eqb, le_trans}
 use Rattle.std.specs.Prelude.{find, bytes_eq, ◌&&◌}
 use Rattle.std.specs.List.{flat_map, AllByRecursion}
 use Rattle.std.specs.Int.{w8, w16, w32, w64, from_le_bytes, to_le_bytes}
 use Rattle.std.proofs.lemmas.Bool.{cases_lt, lt-ltb, le-ltb}
-use Rattle.std.proofs.lemmas.List.{append-nil, take_at, drop_at, length-append, length-drop, length-replicate, take-append-le, drop-append-le, take-take, take_all}
+use Rattle.std.proofs.lemmas.List.{take_at, drop_at, length-append, length-drop, length-replicate, take-append-le, drop-append-le, take-take, take_all}
 use Rattle.std.proofs.lemmas.Slice.Eq.{bytes_eq-Decides}
 use Rattle.adb_view.specs.Plain.{Plain, null, int, blob, arr, obj, Plains, none, more, IsNormal, AreNormal}
 use Rattle.adb_view.specs.Readers.{ARRAY, OBJECT}
@@ -12,8 +12,8 @@ use Rattle.adb_write.specs.Canonical.{gap, Item, WrittenItem, Cell, in_place, ap
 use Rattle.adb_write.specs.Size.{entry_count, entries_of, entries_of_all, with_entries}
 use Rattle.adb_write.proofs.Found.{equal_kind, equal_bytes, equal_within}
 use Rattle.adb_write.proofs.Placed.{wide8, wide16, wide32, wide64}
-use Rattle.adb_write.proofs.RoundTrip.{Grows, Grows-here, stored-grows, put_run-grows, write-grows, write_all-grows, write_all-made, words_stay, item_within}
-use Rattle.adb_write.proofs.StoredWords.{int_some, blob_long, run_long}
+use Rattle.adb_write.proofs.RoundTrip.{Grows-here, put_run-grows, write-grows, write_all-grows, write_all-made, words_stay, item_within}
+use Rattle.adb_write.proofs.StoredWords.{blob_long, run_long}
 use Rattle.adb_write.proofs.Overflow.{entries_in, int_entries, blob_entries, run_entries, words_count}
 
 -- ---- an item tells its length in its front

@@ -1,5 +1,5 @@
 -- A writer with one item more.
-use Rattle.std.proofs.Common.{◌≡◌, ℕ, suc, ◌+◌, ◌-◌, ◌*◌, ◌^◌, ◌<◌, ◌≤◌, List, [], ◌∷◌, ◌++◌, length, take, drop, replicate, refl, sym, ap, subst, ◌∙◌, append_assoc, arith}
+use Rattle.std.proofs.Common.{◌≡◌, ℕ, ◌+◌, ◌-◌, ◌*◌, ◌^◌, ◌<◌, ◌≤◌, List, [], ◌∷◌, ◌++◌, length, take, drop, replicate, refl, sym, ap, subst, ◌∙◌, append_assoc, arith}
 use Rattle.std.specs.List.{concat}
 use Rattle.std.proofs.lemmas.List.{append-nil, length-append, length-replicate, length-drop, drop-drop, drop_at, take_at}
 use Rattle.adb_view.specs.Readers.{kind_of, low_of}
@@ -7,9 +7,9 @@ use Rattle.adb_write.specs.Canonical.{gap, Item, WrittenItem, MOST_BYTES}
 use Rattle.adb_write.specs.Items.{item_of, HasNumbersInRange}
 use Rattle.adb_write.specs.declared.item.Parts.{Parts}
 use Rattle.adb_write.specs.declared.word_pages.Slot.{Slot}
-use Rattle.adb_write.specs.Keys.{fingerprint_of, fingerprint_of_locator, key_of, key_at, locator_of, HaveRisingKeys, word_of_locator}
-use Rattle.adb_write.specs.WordPages.{AreFilled, words_before, words_behind, IsBetween}
-use Rattle.adb_write.specs.WriterState.{HasHead, IsStored, AreStored, written_item, items_of_locators}
+use Rattle.adb_write.specs.Keys.{fingerprint_of, fingerprint_of_locator, key_of, locator_of, HaveRisingKeys, word_of_locator}
+use Rattle.adb_write.specs.WordPages.{words_before, words_behind, IsBetween}
+use Rattle.adb_write.specs.WriterState.{HasHead, AreStored, written_item, items_of_locators}
 use Rattle.adb_write.proofs.Placed.{word_kind, word_low}
 use Rattle.adb_write.proofs.Grown.{Grown, grown}
 use Rattle.adb_write.proofs.Pages.{parts_at}

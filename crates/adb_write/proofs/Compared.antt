@@ -1,5 +1,5 @@
 -- Words and entries, compared one by one from the last on.
-use Rattle.std.proofs.Common.{◌≡◌, ◌≢◌, ℕ, zero, suc, Bool, true, false, eqb, true≢false, ◌+◌, ◌-◌, ◌%◌, ◌^◌, ◌<◌, ◌≤◌, List, [], ◌∷◌, length, get_or, map, drop, refl, sym, ap, ◌∙◌, arith, inl, inr, ◌⊎◌}
+use Rattle.std.proofs.Common.{◌≡◌, ◌≢◌, ℕ, zero, suc, false, eqb, true≢false, ◌+◌, ◌-◌, ◌%◌, ◌^◌, ◌<◌, ◌≤◌, List, [], ◌∷◌, length, get_or, drop, refl, sym, ap, ◌∙◌, arith, inl, inr, ◌⊎◌}
 use Rattle.std.specs.Prelude.{reverse}
 use Rattle.std.specs.Ordering.{nat_cmp, ordering_then, ordering_reverse}
 use Rattle.std.specs.declared.cmp.Ordering.{Ordering}
@@ -31,7 +31,7 @@ other_step xs ys i x y in_xs in_ys is has differ =
     decided Equal r ne = absurd (ne refl)
     decided Greater r ne = refl
 
-lower : (x y : ℕ) → x < y → nat_cmp x y ≡ Less
+pub lower : (x y : ℕ) → x < y → nat_cmp x y ≡ Less
 lower x y less = by_ranked (x < y) (x ≡ y) (y < x) (nat_cmp x y) (ranked x y (nat_cmp x y) refl) (λ e l. e) (λ e l. absurd (omega arith)) (λ e l. absurd (omega arith))
 
 -- where one list ends, the lengths decide

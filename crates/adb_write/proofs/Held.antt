@@ -1,25 +1,23 @@
 -- The items of a writer, by the locators of its pages.
-use Rattle.std.proofs.Common.{◌≡◌, ◌≢◌, ℕ, zero, suc, ◌+◌, ◌-◌, ◌*◌, ◌/◌, ◌%◌, ◌^◌, ◌<◌, ◌≤◌, Bool, true, false, cond, eqb, ltb, List, [], ◌∷◌, ◌++◌, length, map, take, drop, replicate, Option, Some, None, refl, sym, ap, subst, ◌∙◌, append_assoc, arith, inl, inr, ◌⊎◌}
-use Rattle.std.specs.Prelude.{find, option_map}
+use Rattle.std.proofs.Common.{◌≡◌, ◌≢◌, ℕ, ◌<◌, ◌≤◌, Bool, true, false, cond, ltb, List, [], ◌∷◌, ◌++◌, length, take, drop, replicate, Some, None, refl, sym, ap, subst, ◌∙◌, arith, inl, inr, ◌⊎◌}
+use Rattle.std.specs.Prelude.{find}
 use Rattle.std.specs.List.{AllByRecursion, concat}
-use Rattle.std.specs.Ordering.{nat_cmp}
-use Rattle.std.specs.declared.cmp.Ordering.{Ordering}
 use Rattle.std.specs.declared.cmp.Ordering.TheVariants.{Less, Equal, Greater}
 use Rattle.std.proofs.lemmas.Bool.{lt-ltb, le-ltb}
 use Rattle.std.proofs.lemmas.Cmp.{nat_list_cmp_total}
-use Rattle.std.proofs.lemmas.List.{length-append, drop_at, take_at, length-take}
+use Rattle.std.proofs.lemmas.List.{length-take}
 use Rattle.base_core.specs.declared.cause.Cause.{Cause}
 use Rattle.adb_view.specs.Head.{head_fault}
-use Rattle.adb_view.specs.Readers.{kind_of, low_of}
-use Rattle.adb_write.specs.Canonical.{Item, WrittenItem, is_equal_item, word_of_item, MOST_BYTES}
+use Rattle.adb_view.specs.Readers.{low_of}
+use Rattle.adb_write.specs.Canonical.{WrittenItem, is_equal_item, word_of_item, MOST_BYTES}
 use Rattle.adb_write.specs.Items.{item_of, HasNumbersInRange}
 use Rattle.adb_write.specs.declared.item.Parts.{Parts}
 use Rattle.adb_write.specs.Keys.{key_of, key_at, HaveRisingKeys, word_of_locator}
 use Rattle.adb_write.specs.WordPages.{AreFilled, AllCompare, IsFoundIn, IsBetween}
 use Rattle.adb_write.specs.WriterState.{HasHead, IsStored, AreStored, written_item, with_item, items_of_locators}
 use Rattle.adb_write.proofs.Found.{find-none, Has}
-use Rattle.adb_write.proofs.Rising.{cmp, flipped, IsBelow, less_chain, all_both, all_first, all_last, all_into, all_two, rising_none, rising_head, rising_rest, rising_more, rising_before, rising_with, rising_last}
-use Rattle.adb_write.proofs.StoredWords.{stored_of, stored_ends, item_some, stored_more, key_more, equal_key, key_equal, parts_stored, parts_key, parts_some, parts_small}
+use Rattle.adb_write.proofs.Rising.{cmp, flipped, IsBelow, all_both, all_first, all_last, all_into, all_two, rising_none, rising_head, rising_rest, rising_more, rising_before, rising_with, rising_last}
+use Rattle.adb_write.proofs.StoredWords.{stored_ends, item_some, stored_more, key_more, equal_key, key_equal}
 
 -- ---- the one that is found
 

@@ -2,6 +2,7 @@ pub mod Found
 pub mod Rising
 pub mod Pages
 pub mod Compared
+pub mod Nearby
 pub mod StoredWords
 pub mod Held
 pub mod Appended

@@ -5,7 +5,7 @@ use Rattle.std.specs.Int.{w8, w16, w32, w64, to_le_bytes}
 use Rattle.std.proofs.lemmas.Bool.{cases_lt, lt-ltb, le-ltb, ltb-true}
 use Rattle.adb_view.specs.Plain.{Plain, null, int, blob, arr, obj, Plains, none, more, IsNormal, AreNormal}
 use Rattle.adb_view.specs.Readers.{ARRAY, OBJECT}
-use Rattle.adb_write.specs.Canonical.{Item, WrittenItem, Cell, in_place, apart, int_item, int_cell, blob_item, blob_cell, run_cell, trimmed_words, Layout, empty_layout, end_offset, is_equal_item, put_unless, put_cell, write, write_all, payload_with_root, PayloadCounts, layout_counts, passes, trace, trace_all, overflow_of, canonical, or_overflow, written_of, MOST_BYTES, MOST_VALUES}
+use Rattle.adb_write.specs.Canonical.{Item, WrittenItem, Cell, in_place, apart, int_cell, blob_cell, run_cell, trimmed_words, Layout, empty_layout, end_offset, is_equal_item, put_unless, put_cell, write, write_all, payload_with_root, PayloadCounts, layout_counts, passes, trace, trace_all, overflow_of, canonical, or_overflow, written_of, MOST_BYTES, MOST_VALUES}
 use Rattle.adb_write.specs.Size.{size_of, entry_count, entries_of, entries_of_all, value_count}
 use Rattle.adb_write.specs.Writing.{empty_writing, calls}
 use Rattle.adb_write.proofs.RoundTrip.{Grows-here, stored-grows, put_run-grows, write_all-grows, write_all-made, words_stay}

@@ -1,20 +1,20 @@
 -- Words in pages: where a key would stand, and what changes of the pages do.
-use Rattle.std.proofs.Common.{◌≡◌, ◌≢◌, ℕ, zero, suc, ◌+◌, ◌-◌, ◌<◌, ◌≤◌, Bool, true, false, List, [], ◌∷◌, ◌++◌, length, get_or, set, map, take, drop, refl, sym, ap, subst, ◌∙◌, arith, inl, inr, append_assoc, take-append-drop}
+use Rattle.std.proofs.Common.{◌≡◌, ℕ, zero, suc, ◌+◌, ◌-◌, ◌<◌, ◌≤◌, Bool, true, false, List, [], ◌∷◌, ◌++◌, length, get_or, set, map, take, drop, refl, sym, ap, subst, ◌∙◌, arith, inl, inr, append_assoc, take-append-drop}
 use Rattle.std.specs.Prelude.{not}
-use Rattle.std.specs.List.{AllByRecursion, AllWithin, HoldsAt, concat, insert}
+use Rattle.std.specs.Bool.{OnTrue}
+use Rattle.std.specs.List.{AllByRecursion, AllWithin, concat, insert}
 use Rattle.std.specs.List.Sorted.{IsPartitionPoint, IsPartitionedBy}
 use Rattle.std.proofs.lemmas.Bool.{cases_lt}
-use Rattle.std.specs.Ordering.{nat_cmp, ordering_reverse, is_lt}
-use Rattle.std.specs.Cmp.Lexicographic.{slice_cmp}
+use Rattle.std.specs.Ordering.{ordering_reverse, is_lt}
 use Rattle.std.specs.declared.cmp.Ordering.{Ordering}
 use Rattle.std.specs.declared.cmp.Ordering.TheVariants.{Less, Equal, Greater}
 use Rattle.std.proofs.lemmas.Cmp.{nat_list_cmp_total}
 use Rattle.std.proofs.lemmas.List.{drop_more, length-append, length-take, length-drop, drop-drop, get_or-map, length-map, map-set}
 use Rattle.std.proofs.lemmas.List.Edits.{get_or-insert_below}
 use Rattle.adb_write.specs.Keys.{key_at, HaveRisingKeys}
-use Rattle.adb_write.specs.WordPages.{page_at, words_before, words_behind, IsSlotIn, IsSameSlot, AreFilled, HALF, with_split, begins_above, AllCompare, IsPageFor, IsFoundIn, IsBetween}
+use Rattle.adb_write.specs.WordPages.{page_at, words_before, words_behind, IsSlotIn, IsSameSlot, AreFilled, HALF, with_split, begins_above, AllCompare, IsPageAt, IsPageFor, IsFoundIn, IsBetween}
 use Rattle.adb_write.specs.declared.word_pages.Slot.{Slot}
-use Rattle.adb_write.proofs.Rising.{cmp, flipped, IsBelow, less_chain, all_both, all_first, all_last, all_into, all_front, all_back, rising_none, rising_head, rising_rest, rising_first, rising_last, rising_before}
+use Rattle.adb_write.proofs.Rising.{cmp, flipped, IsBelow, less_chain, all_both, all_last, all_into, all_front, all_back, rising_none, rising_head, rising_rest, rising_first, rising_last}
 
 -- ---- a slot parts the words
 
@@ -181,19 +181,19 @@ split_upper (page ∷ pages) (suc k) = split_upper pages k
 
 -- ---- a list in two at h, seen from a slot before it or behind it
 
-take_take : (i h : ℕ) (xs : List ℕ) → i ≤ h → take i (take h xs) ≡ take i xs
+pub take_take : (i h : ℕ) (xs : List ℕ) → i ≤ h → take i (take h xs) ≡ take i xs
 take_take zero h xs upto = refl
 take_take (suc i) zero xs upto = absurd (omega arith)
 take_take (suc i) (suc h) [] upto = refl
 take_take (suc i) (suc h) (x ∷ xs) upto = ap (λ (ys : List ℕ). x ∷ ys) (take_take i h xs (omega arith))
 
-drop_take : (i h : ℕ) (xs : List ℕ) → i ≤ h → drop i (take h xs) ++ drop h xs ≡ drop i xs
+pub drop_take : (i h : ℕ) (xs : List ℕ) → i ≤ h → drop i (take h xs) ++ drop h xs ≡ drop i xs
 drop_take zero h xs upto = take-append-drop h xs
 drop_take (suc i) zero xs upto = absurd (omega arith)
 drop_take (suc i) (suc h) [] upto = refl
 drop_take (suc i) (suc h) (x ∷ xs) upto = drop_take i h xs (omega arith)
 
-take_on : (h n i : ℕ) (xs : List ℕ) → i ≡ h + n → take h xs ++ take n (drop h xs) ≡ take i xs
+pub take_on : (h n i : ℕ) (xs : List ℕ) → i ≡ h + n → take h xs ++ take n (drop h xs) ≡ take i xs
 take_on zero n i xs is = ap (λ (m : ℕ). take m xs) (omega arith)
 take_on (suc h) n zero xs is = absurd (omega arith)
 take_on (suc h) zero (suc i) [] is = refl
@@ -330,6 +330,14 @@ page_for_next p key pages k f r within low high = record {
   ];
 }
 
+-- the page that begins at or before a key, while the next one begins above it
+pub page_for_at : (p key : List ℕ) (pages : List (List ℕ)) (k : ℕ) → AreFilled pages → HaveRisingKeys p (concat pages) → IsPageAt p pages key k → IsPageFor p pages key k
+page_for_at p key pages k f r at = page_for_next p key pages k f r at.inside at.here at.next
+
+pub next_begins : (p key : List ℕ) (pages : List (List ℕ)) (k : ℕ) (r : Bool) → k < length pages → begins_above p key (page_at pages k) ≡ false → r ≡ begins_above p key (page_at pages (suc k)) → OnTrue r (IsPageAt p pages key k)
+next_begins p key pages k true inside here is = record { inside = inside; here = here; next = λ more. sym is }
+next_begins p key pages k false inside here is = tt
+
 not_true : (b : Bool) → not b ≡ true → b ≡ false
 not_true true e = absurd cc
 not_true false e = refl
@@ -404,7 +412,7 @@ page_rising p (page ∷ pages) zero r = rising_first p page (concat pages) r
 page_rising p (page ∷ pages) (suc k) r = page_rising p pages k (rising_last p page (concat pages) r)
 
 -- what a search in halves tells
-reversed : (o q : Ordering) → ordering_reverse o ≡ q → o ≡ ordering_reverse q
+pub reversed : (o q : Ordering) → ordering_reverse o ≡ q → o ≡ ordering_reverse q
 reversed Less q e = ap ordering_reverse e
 reversed Equal q e = ap ordering_reverse e
 reversed Greater q e = ap ordering_reverse e
@@ -414,9 +422,6 @@ searched_low p key ws i h = all_front (λ w. cmp key (key_at p w) ≡ Greater) w
 
 pub searched_high : (p key ws : List ℕ) (i : ℕ) → AllWithin (λ w. ordering_reverse (cmp key (key_at p w)) ≡ Greater) ws i (length ws) → AllCompare Less p key (drop i ws)
 searched_high p key ws i h = all_back (λ w. cmp key (key_at p w) ≡ Less) ws i (λ k d low high. reversed (cmp key (key_at p (get_or ws k d))) Greater (h k d low high))
-
-pub searched_equal : (p key ws : List ℕ) (i w : ℕ) → w ≡ get_or ws i w → HoldsAt (λ v. ordering_reverse (cmp key (key_at p v)) ≡ Equal) ws i → cmp key (key_at p w) ≡ Equal
-searched_equal p key ws i w here h = ap (λ v. cmp key (key_at p v)) here ∙ reversed (cmp key (key_at p (get_or ws i w))) Equal (h w)
 
 pub no_page : (p key : List ℕ) (pages : List (List ℕ)) (k : ℕ) → IsPageFor p pages key k → length pages ≤ k → IsBetween p pages key (record { page = k; index = 0 })
 no_page p key [] k page past = record { inside = page.inside; lower = tt; higher = tt }

@@ -1,31 +1,29 @@
 -- What a locator of the pages names is read as it was written, and is found by its key.
-use Rattle.std.proofs.Common.{◌≡◌, ◌≢◌, ℕ, zero, suc, ◌+◌, ◌-◌, ◌*◌, ◌/◌, ◌%◌, ◌^◌, ◌<◌, ◌≤◌, Bool, true, false, cond, eqb, leb, ltb, List, [], ◌∷◌, ◌++◌, length, map, take, drop, replicate, Option, Some, None, Ok, refl, sym, ap, subst, ◌∙◌, append_assoc, arith, inl, inr, ◌⊎◌, take-append-drop, eq-eqb}
-use Rattle.std.specs.Prelude.{find, option_map, bytes_eq, reverse, ◌&&◌}
-use Rattle.std.specs.List.{AllByRecursion, flat_map, concat}
+use Rattle.std.proofs.Common.{◌≡◌, ℕ, suc, ◌+◌, ◌-◌, ◌*◌, ◌%◌, ◌^◌, ◌<◌, ◌≤◌, Bool, true, false, cond, eqb, ltb, List, [], ◌∷◌, ◌++◌, length, take, drop, Ok, refl, sym, ap, subst, ◌∙◌, arith, inl, inr, ◌⊎◌, take-append-drop, eq-eqb}
+use Rattle.std.specs.Prelude.{bytes_eq, reverse}
+use Rattle.std.specs.List.{AllByRecursion, flat_map}
 use Rattle.std.specs.Int.{w8, w16, w32, w64, to_le_bytes}
-use Rattle.std.specs.Ordering.{nat_cmp}
-use Rattle.std.specs.declared.cmp.Ordering.{Ordering}
-use Rattle.std.specs.declared.cmp.Ordering.TheVariants.{Less, Equal, Greater}
+use Rattle.std.specs.declared.cmp.Ordering.TheVariants.{Equal}
 use Rattle.std.proofs.lemmas.Cmp.{nat_list_cmp_total, tied_itself}
-use Rattle.std.proofs.lemmas.Bool.{eqb-true, cases_lt, lt-ltb, le-ltb}
-use Rattle.std.proofs.lemmas.List.{length-append, length-take, length-drop, take-append-le, drop-append-le, drop-drop, length-map, reverse-reverse}
+use Rattle.std.proofs.lemmas.Bool.{cases_lt, lt-ltb, le-ltb}
+use Rattle.std.proofs.lemmas.List.{length-append, length-drop, take-append-le, drop-append-le, drop-drop, length-map, reverse-reverse}
 use Rattle.std.proofs.lemmas.List.Concat.{flat_map-cons}
 use Rattle.std.proofs.lemmas.Slice.Eq.{bytes_eq-Decides}
 use Rattle.std.proofs.lemmas.Map.Lookups.{exact_bytes}
-use Rattle.adb_view.specs.Readers.{kind_of, low_of, int_of, blob_of, run_of, ARRAY, OBJECT}
+use Rattle.adb_view.specs.Readers.{kind_of, low_of, int_of, blob_of, ARRAY, OBJECT}
 use Rattle.adb_view.specs.Visits.{or_empty}
-use Rattle.adb_write.specs.Canonical.{Item, WrittenItem, int_item, blob_item, run_item, run_bytes, is_equal_item, word_of_item, MOST_BYTES}
+use Rattle.adb_write.specs.Canonical.{Item, int_item, blob_item, run_bytes, is_equal_item, MOST_BYTES}
 use Rattle.adb_write.specs.Items.{list_kind, item_of, HasNumbersInRange}
 use Rattle.adb_write.specs.declared.item.ListKind.{ListKind}
 use Rattle.adb_write.specs.declared.item.ListKind.TheVariants.{Array, Object}
 use Rattle.adb_write.specs.declared.item.Parts.{Parts}
 use Rattle.adb_write.specs.declared.item.Parts.TheVariants.{Int, Blob, List as Listed}
-use Rattle.adb_write.specs.Keys.{low_words, content_of, content_key_of, key_of, content_at, content_key_at, key_at, HaveRisingKeys, single_or_empty, blob_fingerprint, list_fingerprint, fingerprint_of, fingerprint_of_locator, word_of_locator}
-use Rattle.adb_write.specs.WriterState.{Stored, stored_int, stored_blob, stored_list, item_of_stored, fingerprint_of_stored, IsSmall, IsStoredAt, IsStored, AreStored, written_item, with_item, items_of_locators}
+use Rattle.adb_write.specs.Keys.{low_words, content_of, content_key_of, key_of, content_at, content_key_at, key_at, single_or_empty, blob_fingerprint, list_fingerprint, fingerprint_of, fingerprint_of_locator, word_of_locator}
+use Rattle.adb_write.specs.WriterState.{Stored, stored_int, stored_blob, stored_list, item_of_stored, fingerprint_of_stored, IsSmall, IsStoredAt, IsStored, written_item}
 use Rattle.adb_write.proofs.Rising.{cmp}
-use Rattle.adb_write.proofs.Placed.{Stands, words_len}
+use Rattle.adb_write.proofs.Placed.{words_len}
 use Rattle.adb_write.proofs.Found.{equal_kind, equal_bytes, equal_within}
-use Rattle.adb_write.proofs.RoundTrip.{Leads, neq-eqb, int_of-32, int_of-64, blob_of-8, blob_of-16, blob_of-32, run_of-placed}
+use Rattle.adb_write.proofs.RoundTrip.{Leads, int_of-32, int_of-64, blob_of-8, blob_of-16, blob_of-32, run_of-placed}
 
 -- ---- kinds
 

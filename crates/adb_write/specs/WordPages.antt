@@ -1,6 +1,6 @@
 -- The locators of a writer, in pages.
-use Rattle.std.specs.Prelude.{◌≡◌, ℕ, zero, suc, Bool, false, ◌≤◌, ◌<◌, List, [], ◌∷◌, ◌++◌, length, get_or, map, take, drop, Result, Ok, Err}
-use Rattle.std.specs.List.{AllByRecursion, concat}
+use Rattle.std.specs.Prelude.{◌≡◌, ℕ, zero, suc, Bool, false, true, ◌≤◌, ◌<◌, List, [], ◌∷◌, ◌++◌, length, get_or, map, take, drop, Result, Ok, Err}
+use Rattle.std.specs.List.{AllByRecursion, HoldsAt, concat}
 use Rattle.std.specs.Ordering.{nat_cmp, is_lt}
 use Rattle.std.specs.Cmp.Lexicographic.{slice_cmp}
 use Rattle.std.specs.declared.cmp.Ordering.{Ordering}
@@ -86,6 +86,23 @@ pub record IsPageFor (payload : List ℕ) (pages : List (List ℕ)) (key : List 
   pub inside : IsSlotIn pages k 0
   pub lower : AllCompare Greater payload key (words_before pages k 0)
   pub higher : AllCompare Less payload key (words_behind pages (suc k) 0)
+
+-- the page begins at or before this key, and the next one above it
+pub record IsPageAt (payload : List ℕ) (pages : List (List ℕ)) (key : List ℕ)
+    (k : ℕ) : Type 0 where
+  pub inside : k < length pages
+  pub here : begins_above payload key (page_at pages k) ≡ false
+  pub next : suc k < length pages → begins_above payload key (page_at pages (suc k)) ≡ true
+
+-- the index of the locator with this key, or the one between the lower keys and the higher ones
+abbrev pub SearchesPage : List ℕ → List ℕ → List ℕ → Result ℕ ℕ → Type 0
+SearchesPage payload page key (Ok index) =
+    (index < length page)
+    × HoldsAt (λ word. slice_cmp nat_cmp key (key_at payload word) ≡ Equal) page index
+SearchesPage payload page key (Err index) =
+    (index ≤ length page)
+    × AllCompare Greater payload key (take index page)
+    × AllCompare Less payload key (drop index page)
 
 -- the locator that is found, or the slot between the lower keys and the higher ones
 abbrev pub FindsIn : List ℕ → List (List ℕ) → List ℕ → Result ℕ Slot → Type 0

@@ -1,6 +1,6 @@
 -- What a writer keeps: the payload with its head, once anything was written, the locators of
 -- its items, and the two counts.
-use Rattle.std.specs.Prelude.{◌≡◌, ℕ, ◌+◌, ◌*◌, ◌-◌, ◌^◌, ◌<◌, ◌≤◌, ◌⊎◌, ◌%◌, suc, false, List, [], ◌∷◌, length, map, take, drop, replicate, nat_lt, find, option_map, Some, Result, Ok, Err, if◌then◌else◌}
+use Rattle.std.specs.Prelude.{◌≡◌, ℕ, ◌+◌, ◌-◌, ◌^◌, ◌<◌, ◌≤◌, ◌⊎◌, ◌%◌, suc, false, List, [], ◌∷◌, length, take, drop, replicate, nat_lt, find, option_map, Some, Result, Ok, Err, if◌then◌else◌}
 use Rattle.std.specs.List.{AllByRecursion, concat}
 use Rattle.adb_view.specs.Readers.{kind_of, low_of}
 use Rattle.adb_write.specs.Canonical.{Item, WrittenItem, is_equal_item, word_of_item, int_item, blob_item, run_item, PayloadCounts, passes}

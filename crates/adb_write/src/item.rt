@@ -185,7 +185,7 @@ impl Parts<'_> {
 
     /// How it compares with the written item to which a word leads: first by kind, then by what it
     /// holds. So equal is what has one kind and one value.
-    fn compare_content(&self, adb: &Adb<'_>, word: Val) -> Ordering
+    pub(crate) fn compare_content(&self, adb: &Adb<'_>, word: Val) -> Ordering
         ensures { result ≡ slice_cmp nat_cmp (content_key_of self.now)
             (content_key_at (payload_of adb.now) word) }
     {

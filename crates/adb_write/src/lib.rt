@@ -10,6 +10,7 @@
 //! them, so that nobody needs to look into them.
 #![tactic(auto)]
 
+mod first_locators;
 mod item;
 mod laws;
 mod locator;

@@ -1,15 +1,22 @@
 //! The locators of what was written, in the order of their keys, so that each is found again.
 //!
 //! They stand in pages of at most 512, so that a new one moves few others. One takes eight bytes,
-//! and a page that was split is at least half full.
+//! and a page that was split is at least half full. A page, and the index in it, are guessed first,
+//! and found by halving where the guess fails.
 
-ghost use Rattle.std.specs.Prelude.{◌≡◌, ◌≤◌, ◌<◌, ℕ, List, [], ◌∷◌, ◌++◌, length, IfOk, OnOk, OnErr};
+ghost use Rattle.std.specs.Prelude.{◌≡◌, ◌≤◌, ◌<◌, ℕ, List, [], ◌∷◌, ◌++◌, length, take, drop, IfOk, OnOk, OnErr};
 ghost use Rattle.std.specs.List.{concat};
 ghost use Rattle.adb_view.specs.Adb.{payload_of};
-ghost use Rattle.adb_write.specs.Keys.{key_with, HaveRisingKeys};
-ghost use Rattle.adb_write.specs.WordPages.{AreFilled, HALF, page_at, pages_of, words_before, words_behind, with_split, IsSlotIn, IsSameSlot, FindsIn, IsPageFor, begins_above};
+ghost use Rattle.adb_write.specs.Keys.{key_at, key_with, HaveRisingKeys};
+ghost use Rattle.std.specs.Bool.{OnTrue};
+ghost use Rattle.std.specs.Ordering.{nat_cmp, is_lt};
+ghost use Rattle.std.specs.Cmp.Lexicographic.{slice_cmp};
+ghost use Rattle.adb_write.specs.WordPages.{AreFilled, HALF, page_at, pages_of, words_before, words_behind, with_split, IsSlotIn, IsSameSlot, AllCompare, FindsIn, SearchesPage, IsPageAt, IsPageFor, begins_above};
+ghost use Rattle.std.specs.declared.cmp.Ordering.TheVariants.{Less, Greater};
 
+use crate::first_locators::FirstLocators;
 use crate::item::Parts;
+use crate::locator::{fingerprint_of_locator, word_of_locator};
 use adb_view::Adb;
 use std::alloc::{AllocError, Global};
 use std::cmp::Ordering;
@@ -19,6 +26,9 @@ const FULL: usize = 512;
 
 /// How many locators stay in a page that is split.
 const HALF: usize = FULL / 2;
+
+/// How far from its likely index in a page an item is looked for first.
+const NEARBY: usize = 12;
 
 /// Where a locator would stand: its page, and its index there.
 #[derive(Clone, Copy)]
@@ -32,6 +42,7 @@ pub(crate) struct Slot {
 pub(crate) struct WordPages {
     alloc: Global,
     pub pages: Vec<Vec<u64>>,
+    firsts: FirstLocators,
 }
 
 impl WordPages {
@@ -42,6 +53,7 @@ impl WordPages {
         WordPages {
             alloc,
             pages: Vec::new(alloc),
+            firsts: FirstLocators::new(alloc),
         }
     }
 
@@ -62,7 +74,7 @@ impl WordPages {
         let Some(words) = self.pages.get(page) else {
             return Err(Slot { page, index: 0 });
         };
-        match words.binary_search_by(|it| parts.compare(fingerprint, adb, *it).reverse()) {
+        match search(words, adb, parts, fingerprint) {
             Ok(index) => Ok(words[index]),
             Err(index) => Err(Slot { page, index }),
         }
@@ -75,9 +87,30 @@ impl WordPages {
         ensures { IsPageFor (payload_of adb.now) (pages_of self.now)
             (key_with fingerprint parts.now) result }
     {
+        let likely = self.firsts.page_of(fingerprint);
+        if self.is_page_of(likely, adb, parts, fingerprint) {
+            return likely;
+        }
         self.pages
             .partition_point(|page| !begins_behind(page, adb, parts, fingerprint))
             .saturating_sub(1)
+    }
+
+    /// Whether the page does not begin behind the item, and the one behind it does, if there is one.
+    fn is_page_of(&self, page: usize, adb: &Adb<'_>, parts: &Parts<'_>, fingerprint: u64) -> bool
+        ensures { OnTrue result (IsPageAt (payload_of adb.now) (pages_of self.now)
+            (key_with fingerprint parts.now) page) }
+    {
+        let Some(here) = self.pages.get(page) else {
+            return false;
+        };
+        if begins_behind(here, adb, parts, fingerprint) {
+            return false;
+        }
+        match self.pages.get(page + 1) {
+            Some(next) => begins_behind(next, adb, parts, fingerprint),
+            None => true,
+        }
     }
 
     /// Lets a locator stand at a slot. A refused growth leaves those before as they were.
@@ -95,6 +128,7 @@ impl WordPages {
         }
         let slot = self.make_room(slot)?;
         self.pages[slot.page].insert(slot.index, locator)?;
+        self.firsts.enter(slot.page, slot.index, locator);
         Ok(())
     }
 
@@ -106,6 +140,7 @@ impl WordPages {
     {
         let mut page = Vec::new(self.alloc);
         page.push(locator)?;
+        self.firsts.add(0, &page)?;
         self.pages.push(page)?;
         Ok(())
     }
@@ -143,9 +178,21 @@ impl WordPages {
     {
         let mut upper = Vec::with_capacity(self.alloc, FULL)?;
         upper.extend_from_slice(&self.pages[page][HALF..])?;
+        self.firsts.add(page + 1, &upper)?;
         self.pages.insert(page + 1, upper)?;
         self.pages[page].truncate(HALF);
         Ok(())
+    }
+}
+
+/// Whether a locator stands behind the item.
+fn is_before(adb: &Adb<'_>, parts: &Parts<'_>, fingerprint: u64, locator: u64) -> bool
+    ensures { result ≡ is_lt (slice_cmp nat_cmp (key_with fingerprint parts.now)
+        (key_at (payload_of adb.now) locator)) }
+{
+    match fingerprint.cmp(&fingerprint_of_locator(locator)) {
+        Ordering::Equal => parts.compare_content(adb, word_of_locator(locator)) == Ordering::Less,
+        by_fingerprint => by_fingerprint == Ordering::Less,
     }
 }
 
@@ -154,7 +201,71 @@ fn begins_behind(page: &[u64], adb: &Adb<'_>, parts: &Parts<'_>, fingerprint: u6
     ensures { result ≡ begins_above (payload_of adb.now) (key_with fingerprint parts.now) page.now }
 {
     match page.first() {
-        Some(locator) => parts.compare(fingerprint, adb, *locator) == Ordering::Less,
+        Some(locator) => is_before(adb, parts, fingerprint, *locator),
         None => false,
+    }
+}
+
+/// The index in a page of an item like this one, or the one where its own would stand. It is looked
+/// for near its likely index first, so that few bytes of a page are read.
+fn search(page: &[u64], adb: &Adb<'_>, parts: &Parts<'_>, fingerprint: u64) -> Result<usize, usize>
+    requires rising { HaveRisingKeys (payload_of adb.now) page.now }
+    ensures { SearchesPage (payload_of adb.now) page.now (key_with fingerprint parts.now) result }
+{
+    let likely = likely_index(page, fingerprint);
+    let from = lower_end(page, fingerprint, likely);
+    let to = upper_end(page, fingerprint, likely);
+    let near = &page[from..to];
+    match near.binary_search_by(|it| parts.compare(fingerprint, adb, *it).reverse()) {
+        Ok(index) => Ok(from + index),
+        Err(index) => Err(from + index),
+    }
+}
+
+/// Where an item with this fingerprint would stand if the fingerprints of a page had equal
+/// distances.
+fn likely_index(page: &[u64], fingerprint: u64) -> usize
+    ensures { result ≤ length page.now }
+{
+    let (Some(first), Some(last)) = (page.first(), page.last()) else {
+        return 0;
+    };
+    let low = fingerprint_of_locator(*first);
+    let high = fingerprint_of_locator(*last);
+    if fingerprint <= low {
+        return 0;
+    }
+    if fingerprint >= high {
+        return page.len();
+    }
+    let index = (fingerprint - low).wrapping_mul(page.len() as u64) / (high - low);
+    page.len().min(index as usize)
+}
+
+/// An index before which all locators have lower fingerprints, at or before the likely one.
+fn lower_end(page: &[u64], fingerprint: u64, likely: usize) -> usize
+    ensures inside { result ≤ likely }
+    ensures lower { (payload content : List ℕ) → HaveRisingKeys payload page.now
+        → AllCompare Greater payload (fingerprint ∷ content) (take result page.now) }
+{
+    let low = likely.saturating_sub(NEARBY);
+    match page.get(low) {
+        Some(locator) if fingerprint_of_locator(*locator) < fingerprint => low,
+        _ => 0,
+    }
+}
+
+/// An index from which on all locators have higher fingerprints, at or behind the likely one.
+fn upper_end(page: &[u64], fingerprint: u64, likely: usize) -> usize
+    requires { likely ≤ length page.now }
+    ensures inside { result ≤ length page.now }
+    ensures behind { likely ≤ result }
+    ensures higher { (payload content : List ℕ) → HaveRisingKeys payload page.now
+        → AllCompare Less payload (fingerprint ∷ content) (drop result page.now) }
+{
+    let high = likely.saturating_add(NEARBY);
+    match page.get(high) {
+        Some(locator) if fingerprint < fingerprint_of_locator(*locator) => high,
+        _ => page.len(),
     }
 }

@@ -12,7 +12,7 @@ use Rattle.base_core.specs.Tree.{TreeState, files_of}
 use Rattle.base_core.specs.declared.cause.Cause.{Cause}
 use Rattle.base_core.specs.declared.tree.TreeFault.{TreeFault}
 use Rattle.base_core.specs.declared.tree.TreeFault.TheVariants.{Memory as NoMemory}
-use Rattle.journal_core.specs.Kept.{IsLessWaiting, ShownNamesLast}
+use Rattle.journal_core.specs.Kept.{HasOldOrNewBytes, IsLessWaiting, ShownNamesLast}
 use Rattle.journal_core.specs.Quiet.{IsQuiet, IsStill}
 use Rattle.journal_core.specs.Recovery.{IsOldOrNew, IsSettled, RestsOn, intent_name, intent_of, state_of}
 use Rattle.journal_core.specs.Replacing.{IsReplacing}
@@ -127,6 +127,10 @@ none_since P old now same = record { added = []; is = same; each = All-nil P }
 abbrev pub RecoversAs : TreeState → TreeState → Type 0
 RecoversAs v w = unstaged_files (files_of w) ≡ unstaged_files (files_of v)
 
+-- each name that does not wait has its old bytes or its recovered ones
+abbrev pub BytesAs : TreeState → TreeState → Type 0
+BytesAs v w = HasOldOrNewBytes (files_of v) (unstaged_files (files_of v)) w
+
 -- as soon as no intent is read, a crash undoes no change of a name that does not wait
 abbrev pub LastsUnread : TreeState → Type 0
 LastsUnread w = w.names intent_name ≡ None → ShownNamesLast w
@@ -135,6 +139,7 @@ LastsUnread w = w.names intent_name ≡ None → ShownNamesLast w
 pub record IsRecovery (v : TreeState) (old mid : History) : Type 0 where
   pub calm : IsCalm v old mid
   pub reads : Since (RecoversAs v) old mid
+  pub bytes : Since (BytesAs v) old mid
   pub waiting : Since (IsLessWaiting v) old mid
   pub last : IsSome (v.names intent_name) → Since LastsUnread old mid
   pub idle : v.names intent_name ≡ None → IsEmptyStage v.names → mid ≡ old
@@ -162,8 +167,8 @@ since_and P Q old now p q =
 
 recovering : (v : TreeState) (old mid : History) → IsRecovery v old mid → Since (IsRecovering v) old mid
 recovering v old mid recovery =
-    since_weaker (λ w. RecoversAs v w × IsLessWaiting v w) (IsRecovering v) old mid (λ w both. record { reads = both.0; waiting = both.1 })
-    (since_and (RecoversAs v) (IsLessWaiting v) old mid recovery.reads recovery.waiting)
+    since_weaker (λ w. RecoversAs v w × (BytesAs v w × IsLessWaiting v w)) (IsRecovering v) old mid (λ w all. record { reads = all.0; bytes = all.1.0; waiting = all.1.1 })
+    (since_and (RecoversAs v) (λ w. BytesAs v w × IsLessWaiting v w) old mid recovery.reads (since_and (BytesAs v) (IsLessWaiting v) old mid recovery.bytes recovery.waiting))
 
 reads_behind : (A B : Outcome → Type 0) (effect : Effect) (output : Option (List ℕ)) (v u : TreeState) (old mid now : History) → does_recover effect ≡ true → files_of u ≡ work_files effect (files_of v) → ((o : Outcome) → A o → B o)
     → Since (IsRecovering v) old mid → AreReadAtWork A effect output u mid now → AreReadOnTheWay B effect output v old now

@@ -25,7 +25,7 @@ use Rattle.apk_front.specs.Runs.{HasNothingWaiting, IfNothingWaits, IsRun, IsWho
 use Rattle.apk_front.specs.Verdicts.{ReportsOne, as_outcome}
 use Rattle.apk_front.specs.declared.answer.Verdict.{Verdict}
 use Rattle.apk_front.proofs.Carried.{Ones, RoomFor, Wholes}
-use Rattle.apk_front.proofs.AfterRecovery.{AreLaws, IsCalm, IsRecovery, LastsUnread, LeavesAll, RecoversAs, StaysWithout, whole_behind, whole_failed, whole_idle}
+use Rattle.apk_front.proofs.AfterRecovery.{AreLaws, BytesAs, IsCalm, IsRecovery, LastsUnread, LeavesAll, RecoversAs, StaysWithout, whole_behind, whole_failed, whole_idle}
 use Rattle.apk_front.proofs.Runs.{History, Judged, Leaves, none_is_some}
 
 -- ---- a command that recovers
@@ -194,10 +194,10 @@ refused_run laws command fault output (Err e) (v ∷ rest) mid recovering recove
     (λ some. let (cause, is) = bad_found (effect_of command.applet) (files_of v) some in idle cause is)
 
 -- what a recovery says of each moment
-pub is_recovery : (old mid : History) → IfObservable old (λ v. IsCalm v old mid) → IfObservable old (λ v. Since (RecoversAs v) old mid) → IfObservable old (λ v. Since (IsLessWaiting v) old mid)
+pub is_recovery : (old mid : History) → IfObservable old (λ v. IsCalm v old mid) → IfObservable old (λ v. Since (RecoversAs v) old mid) → IfObservable old (λ v. Since (BytesAs v) old mid) → IfObservable old (λ v. Since (IsLessWaiting v) old mid)
     → IfObservable old (λ v. IsSome (v.names intent_name) → Since LastsUnread old mid) → IfObservable old (Idle old mid) → IfObservable old (λ v. IsRecovery v old mid)
-is_recovery [] mid calm reads waiting last idle = tt
-is_recovery (v ∷ rest) mid calm reads waiting last idle = record { calm = calm; reads = reads; waiting = waiting; last = last; idle = idle }
+is_recovery [] mid calm reads bytes waiting last idle = tt
+is_recovery (v ∷ rest) mid calm reads bytes waiting last idle = record { calm = calm; reads = reads; bytes = bytes; waiting = waiting; last = last; idle = idle }
 
 pub refused_proper : (Room : TreeState → Type 0) (old : History) (P : Type 0) → ((v : TreeState) → Room v → HasRoomToReplay (files_of v)) → IfObservable old (λ v. HasRoomToReplay (files_of v) → P) → IfObservable old (λ v. Room v → P)
 refused_proper Room [] P f proper = tt

@@ -22,6 +22,7 @@ use Rattle.engine_core.specs.Changed.{IsClashFor, changed, selected_for}
 use Rattle.engine_core.specs.Choice.{IsChoiceFrom}
 use Rattle.engine_core.specs.Runs.{IsRunCounted}
 use Rattle.engine_core.specs.Selecting.{pool_for}
+use Rattle.journal_core.specs.Kept.{HasOldOrNewBytes}
 use Rattle.journal_core.specs.Recovery.{IsSettled, RestsOn, intent_name}
 use Rattle.journal_core.specs.Staged.{IsOnTheWay}
 use Rattle.make_info.specs.Reads.{Reads}
@@ -278,7 +279,7 @@ module _ (command : CommandLine) (changes : effect_of command.applet ≡ Changes
 
     at_work : (w : TreeState) → IsReadInChange commit.done.files (files_of v) w → IsReadAtWork Changes None outcome.files (files_of v) w
     at_work w (inl waiting) = inl waiting
-    at_work w (inr (inl (some, leads))) = inr (inl (refl, some, leads ∙ sym files_are))
+    at_work w (inr (inl by_intent)) = inr (inl (record { changes = refl; intent = by_intent.intent; leads = by_intent.leads ∙ sym files_are; bytes = subst (λ (f : Files). HasOldOrNewBytes (files_of v) f w) (sym files_are) by_intent.bytes }))
     at_work w (inr (inr is)) = inr (inr (is ∙ sym files_are))
 
     rests : (ignored : List ℕ → Bool) (h : History) (files : Files) → HasNow h (IsOrderly (RestsOn ignored)) → HasNow h (IsSettled ignored files) → HasNow h (IsAtRest ignored files)

@@ -6,7 +6,7 @@ use Rattle.base_core.specs.Crash.{IsOrderly, Since}
 use Rattle.base_core.specs.Files.{Files}
 use Rattle.base_core.specs.Restart.{SinceBy}
 use Rattle.base_core.specs.Tree.{TreeState, files_of}
-use Rattle.journal_core.specs.Kept.{IsLessWaiting, ShownNamesLastBut}
+use Rattle.journal_core.specs.Kept.{HasOldOrNewBytes, IsLessWaiting, ShownNamesLastBut}
 use Rattle.journal_core.specs.Quiet.{IsStill}
 use Rattle.journal_core.specs.Recovery.{IsSettled, RestsOn, intent_name, intent_of, is_staged}
 use Rattle.journal_core.specs.Replacing.{HasRoom, HidesScratch, IsReplacing, scratch_of}
@@ -81,16 +81,19 @@ abbrev pub IsDrafting : Effect → Option (List ℕ) → Files → TreeState →
 IsDrafting effect output files w =
     (q : List ℕ) → is_draft_name effect output q ≡ false → files_of w q ≡ files q
 
--- a change has published its intent, and a recovery leaves these files
-abbrev pub IsPublished : Effect → Files → TreeState → Type 0
-IsPublished effect files w =
-    (effect ≡ Changes) × IsSome (w.names intent_name) × (unstaged_files (files_of w) ≡ files)
+-- a change has published its intent, and a recovery leaves the new files; each name that does not
+-- wait has its old bytes or its new ones
+pub record IsPublished (effect : Effect) (new old : Files) (w : TreeState) : Type 0 where
+  pub changes : effect ≡ Changes
+  pub intent : IsSome (w.names intent_name)
+  pub leads : unstaged_files (files_of w) ≡ new
+  pub bytes : HasOldOrNewBytes old new w
 
 -- the files as read are the old ones, apart from the draft names; or on the way to the new ones by a
 -- published change; or the new ones
 abbrev pub IsReadAtWork : Effect → Option (List ℕ) → Files → Files → TreeState → Type 0
 IsReadAtWork effect output new old w =
-    IsDrafting effect output old w ⊎ (IsPublished effect new w ⊎ (files_of w ≡ new))
+    IsDrafting effect output old w ⊎ (IsPublished effect new old w ⊎ (files_of w ≡ new))
 
 -- ---- recovery
 
@@ -103,10 +106,11 @@ HasNothingToRecover effect v =
 abbrev pub CanRecover : Effect → TreeState → Type 0
 CanRecover effect v = (does_recover effect ≡ true) × IsSome (intent_of (files_of v))
 
--- the files as read stand for what the old ones do, apart from what waits; and the intent and all
--- that waits is as it was or is gone
+-- the files as read stand for what the old ones do, apart from what waits; each other name has its
+-- old bytes or its recovered ones; and the intent and all that waits is as it was or is gone
 pub record IsRecovering (v w : TreeState) : Type 0 where
   pub reads : unstaged_files (files_of w) ≡ unstaged_files (files_of v)
+  pub bytes : HasOldOrNewBytes (files_of v) (unstaged_files (files_of v)) w
   pub waiting : IsLessWaiting v w
 
 -- the tree is being recovered, if the command does that; or this holds

@@ -127,9 +127,10 @@ pub fn apk<T: Tree, O: Sink, E: Sink>(
     // At each moment the files as read stand for what the old ones do, and what waits only goes,
     // if the command recovers. Behind that they are the files on which it works, but for the names
     // under which it makes new files if its outcome commits; or a change has published its intent,
-    // and a recovery leaves the outcome's files; or they are the outcome's. So up to then the bytes
-    // under no other name change, also where the tree fails. What is read under each name while the
-    // intent is carried out is not said, nor that no file is replaced by a copy of itself.
+    // and a recovery leaves the outcome's files; or they are the outcome's. So each name but the
+    // intent's and those of drafts has its old bytes, its recovered ones or the outcome's, also
+    // where the tree fails: no file goes for a while. That none is replaced by a copy of itself is
+    // not said.
     ensures reads { IfObservable (T.history tree.old) (λ v.
         AreReadOnTheWay (IsOutcome words.now (files_of v)) (effect_by (command_of words.now))
         (output words.now) v (T.history tree.old) (T.history tree.new)) }

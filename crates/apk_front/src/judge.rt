@@ -118,7 +118,8 @@ pub(crate) fn run<T: Tree>(
     ensures by_words { IsTrue (does_rest_on_words (effect_of command.now.applet))
         → MatchResult result
         (λ verdict. (files : Files)
-        → as_outcome files verdict ≡ command_outcome command.now nothing_given (reads_in files) files)
+        → as_outcome files verdict
+        ≡ command_outcome command.now nothing_given (reads_in files) files)
         (λ fault. fault ≡ TreeFault.Memory) }
     ensures untouched { IsTrue (does_rest_on_words (effect_of command.now.applet))
         → tree.new ≡ tree.old }
@@ -158,7 +159,8 @@ fn look<T: Tree>(alloc: Global, command: &Command, tree: &mut T) -> Result<Verdi
     ensures by_words { IsTrue (does_rest_on_words (effect_of command.now.applet))
         → MatchResult result
         (λ verdict. (files : Files)
-        → as_outcome files verdict ≡ command_outcome command.now nothing_given (reads_in files) files)
+        → as_outcome files verdict
+        ≡ command_outcome command.now nothing_given (reads_in files) files)
         (λ fault. fault ≡ TreeFault.Memory) }
     ensures untouched { IsTrue (does_rest_on_words (effect_of command.now.applet))
         → tree.new ≡ tree.old }

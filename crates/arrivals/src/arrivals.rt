@@ -94,7 +94,8 @@ pub fn read_arrivals<T: Tree>(
         → placed_names_seen names.now
         ≡ placed_names_of (replacement_by db.now pool.now trace again)
         → Explains (T.history tree.old) (λ read. StandsUnlessDisk (λ arrivals found.
-        AreMembersRead (T.history tree.old) (packages_of db.now) (arrivals_seen arrivals) found) result
+        AreMembersRead (T.history tree.old) (packages_of db.now) (arrivals_seen arrivals) found)
+        result
         (members_after (replacement_of (replacement_by db.now pool.now trace again)) read
         repositories.now no_scripts)) }
     ensures members { (trace : List ℕ) (again : List (List ℕ))

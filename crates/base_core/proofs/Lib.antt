@@ -3,3 +3,4 @@ pub mod Counting
 pub mod Left
 pub mod Rising
 pub mod OneList
+pub mod NameParts

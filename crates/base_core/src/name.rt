@@ -40,6 +40,15 @@ impl Name {
         Ok(Some(Name { bytes }))
     }
 
+    /// The name that the bytes are, where they are known to be one.
+    pub fn of(alloc: Global, bytes: &[u8]) -> Result<Name, AllocError>
+        requires { IsName bytes.now }
+        ensures { IfOk result (λ name. name ≡ bytes.now) }
+    {
+        let bytes = Vec::from_slice(alloc, bytes)?;
+        Ok(Name { bytes })
+    }
+
     /// The bytes of the name.
     pub fn as_bytes(&self) -> &[u8]
         ensures value { result.now ≡ self.now }

@@ -33,7 +33,7 @@ none_smallest (x ∷ xs) e q here = some_smaller x (smallest xs) e
     some_smaller x None e = (cc)
     some_smaller x (Some a) e = some_if (precedes a x) a x e
 
-unreserved_path : (change : FileChange) (path : List ℕ) → first_reserved change.members ≡ None → IsIn path (coming_paths change.members) → is_reserved path ≡ false
+pub unreserved_path : (change : FileChange) (path : List ℕ) → first_reserved change.members ≡ None → IsIn path (coming_paths change.members) → is_reserved path ≡ false
 unfolding first_reserved
 unreserved_path change path none here =
     false_from_ne_true (is_reserved path) (λ reserved.

@@ -19,7 +19,8 @@ is_record_name records name =
 
 -- a file is laid beside another one under this name
 abbrev pub is_aside_name : FileChange → Files → List ℕ → Bool
-is_aside_name change files name = is_some (option_and_then (laid_beside change files) (path_beside name))
+is_aside_name change files name =
+    is_some (option_and_then (laid_beside change files) (path_beside name))
 
 -- a package that comes lists the path
 abbrev pub is_coming_path : FileChange → List ℕ → Bool
@@ -30,8 +31,10 @@ is_coming_path change path = list_any (bytes_eq path) (coming_paths change.membe
 pub record IsUsersFile (change : FileChange) (files : Files) (path bytes : List ℕ) : Type 0 where
   pub guarded : is_guarded path ≡ true
   pub present : files path ≡ Some bytes
-  pub unlike_new : (l : Listing) → coming_owner change path ≡ Some l → is_as_listed l.entry bytes ≡ false
-  pub unlike_old : (entry : Plain) → old_entry change path ≡ Some entry → is_as_listed entry bytes ≡ false
+  pub unlike_new : (l : Listing) → coming_owner change path ≡ Some l
+      → is_as_listed l.entry bytes ≡ false
+  pub unlike_old : (entry : Plain) → old_entry change path ≡ Some entry
+      → is_as_listed entry bytes ≡ false
 
 -- what a package listed under the path before says something else than the entry
 abbrev pub IsNewEntry : FileChange → List ℕ → Plain → Type 0

@@ -17,7 +17,7 @@ use Rattle.dep_core.specs.Repositories.{Repository}
 use Rattle.report_core.specs.declared.refusal.Refusal as Refusals
 use Rattle.report_core.specs.declared.refusal.Refusal.TheVariants.{IndexBad}
 use Rattle.change_inputs.proofs.Handed.{failure_agrees, handed_on_disk}
-use Rattle.db_core.proofs.Opened.{none_of}
+use Rattle.adb_schema.proofs.SoundPayload.{none_of}
 use Rattle.change_inputs.specs.Answers.{Agrees, AgreesUnlessDisk, IsFailure, StandAt, StandsAt}
 use Rattle.change_inputs.specs.Chains.{and_then, unless_cause}
 use Rattle.change_inputs.specs.IndexFiles.{are_indexes, bytes_of_each, index_of_file, is_index}

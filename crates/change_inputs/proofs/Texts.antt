@@ -3,7 +3,7 @@ use Rattle.std.proofs.Common.{◌≡◌, ℕ, List, Option, Some, None, Result, 
 use Rattle.base_core.specs.declared.cause.Cause.{Cause}
 use Rattle.adb_schema.specs.Soundness.{payload_fault}
 use Rattle.adb_tables.specs.declared.tables.Which.TheVariants.{Idb}
-use Rattle.v2_core.specs.Payload.{payload_of_text, tested_payload, unless_bad, written_payload}
+use Rattle.v2_core.specs.Payload.{payload_of_text, payload_if_sound, unless_bad, written_payload}
 use Rattle.v2_core.specs.Reading.{records_of}
 use Rattle.v2_core.specs.declared.fault.V2Fault.{V2Fault}
 
@@ -11,7 +11,7 @@ by_fault : (made payload : List ℕ) (fault : Option Cause) → payload_fault Id
 by_fault made payload None tested is = let same : made ≡ payload = cc in subst (λ p. payload_fault Idb p ≡ None) same tested
 by_fault made payload (Some c) tested is = absurd (cc)
 
-by_payload : (r : Result (List ℕ) V2Fault) (payload : List ℕ) → tested_payload r ≡ Ok payload → payload_fault Idb payload ≡ None
+by_payload : (r : Result (List ℕ) V2Fault) (payload : List ℕ) → payload_if_sound r ≡ Ok payload → payload_fault Idb payload ≡ None
 by_payload (Ok made) payload is = by_fault made payload (payload_fault Idb made) refl is
 by_payload (Err fault) payload is = absurd (cc)
 

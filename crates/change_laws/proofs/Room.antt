@@ -1,8 +1,8 @@
 -- Files that leave room for a stage leave it after a change too.
 use Rattle.std.proofs.Common.{◌≡◌, ◌⊎◌, inl, inr, ◌∙◌, ℕ, Bool, true, false, List, [], ◌∷◌, ◌++◌, get_or, codes, eqb, Option, Some, None, refl, sym, ap, subst, arith, true≢false}
-use Rattle.std.specs.Prelude.{IsSome, not, ◌&&◌, ◌||◌, if◌then◌else◌, is_some, option_and_then}
+use Rattle.std.specs.Prelude.{IsSome, not, ◌&&◌, ◌||◌, is_some, option_and_then}
 use Rattle.std.specs.Str.{bytes_eq}
-use Rattle.std.specs.List.{filter, list_any}
+use Rattle.std.specs.List.{list_any}
 use Rattle.std.specs.Fmt.{decimal}
 use Rattle.std.proofs.lemmas.Bool.{and_parts, or_cases, or_left, or_right, false_from_ne_true}
 use Rattle.std.proofs.lemmas.Slice.Eq.{bytes_eq-Decides}
@@ -15,14 +15,12 @@ use Rattle.change_files.specs.NamesAfter.{coming_paths, counts_as_written, name_
 use Rattle.change_files.specs.PlanLists.{first_reserved}
 use Rattle.change_files.specs.Touched.{is_record_name}
 use Rattle.change_files.proofs.AfterNames.{names_after}
-use Rattle.change_files.proofs.InOrder.{in_filter}
-use Rattle.change_files.proofs.Reserved.{written_unreserved}
+use Rattle.change_files.proofs.Reserved.{unreserved_path, written_unreserved}
 use Rattle.change_files.proofs.Untouched.{changed_so}
 use Rattle.db_core.specs.Members.{Listing}
 use Rattle.journal_core.specs.Staged.{HasRoomBeside, HasRoomToStage, IsEmptyStage, MayBePresent}
 use Rattle.journal_intent.specs.FreeNames.{IsTakenName}
 use Rattle.journal_intent.specs.Intent.{intent_name, is_staged, stage_name}
-use Rattle.list_order.specs.ByteOrder.{precedes, smaller, smallest}
 use Rattle.path_clashes.specs.Clash.{HasNoClash, is_name_after}
 use Rattle.path_clashes.proofs.FolderLike.{folder_like}
 use Rattle.change_laws.proofs.FreeNames.{name_of_any}
@@ -80,24 +78,6 @@ below_taken p q (inr (k, is)) (rest, e) = ap is_reserved (e ∙ ap (λ (x : List
     in_stage_folder k rest = refl
 
 -- ---- names that count as written
-
-none_smallest : (xs : List (List ℕ)) → smallest xs ≡ None → (q : List ℕ) → IsIn q xs → ⊥
-none_smallest [] e q here = here
-none_smallest (x ∷ xs) e q here = some_smaller x (smallest xs) e
-  where
-    some_if : (b : Bool) (a x : List ℕ) → (if b then Some a else Some x) ≡ None → ⊥
-    some_if true a x e = (cc)
-    some_if false a x e = (cc)
-
-    some_smaller : (x : List ℕ) (o : Option (List ℕ)) → smaller x o ≡ None → ⊥
-    some_smaller x None e = (cc)
-    some_smaller x (Some a) e = some_if (precedes a x) a x e
-
-unreserved_path : (change : FileChange) (path : List ℕ) → first_reserved change.members ≡ None → IsIn path (coming_paths change.members) → is_reserved path ≡ false
-unfolding first_reserved
-unreserved_path change path none here =
-    false_from_ne_true (is_reserved path) (λ reserved.
-    none_smallest (filter is_reserved (coming_paths change.members)) none path (in_filter is_reserved (coming_paths change.members) path here reserved))
 
 beside_written : (change : FileChange) (files : Files) (name : List ℕ) → is_some (option_and_then (laid_beside change files) (path_beside name)) ≡ true → (l : Listing) × (written_as change files name ≡ Some l)
 unfolding written_as

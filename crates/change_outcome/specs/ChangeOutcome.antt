@@ -180,7 +180,8 @@ change_with_members inputs r wishes clash files found =
     (λ is_allowed. unless_too_large inputs r wishes found files))))
 
 -- the packages after it, or the first refusal of one
-abbrev pub change_members : Inputs → Replacement → ChangeWishes → Reads → Result (List MemberFound) Refusal
+abbrev pub change_members :
+    Inputs → Replacement → ChangeWishes → Reads → Result (List MemberFound) Refusal
 change_members inputs r wishes read =
     members_after r read inputs.root.repositories wishes.no_scripts
 

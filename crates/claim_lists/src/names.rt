@@ -34,10 +34,7 @@ pub fn name_of_path(alloc: Global, path: &FilePath<'_>) -> Result<Name, AllocErr
     ensures { IfOk result (λ name. name ≡ joined_path path.now) }
 {
     let bytes = path_bytes(alloc, path)?;
-    match Name::read(alloc, &bytes)? {
-        Some(name) => Ok(name),
-        None => unreachable!(),
-    }
+    Name::of(alloc, &bytes)
 }
 
 /// The names that the paths of claims are, in their order.

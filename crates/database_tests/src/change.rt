@@ -1,21 +1,14 @@
 //! Changes of a database, from the words of a row.
-ghost use Rattle.adb_fields.specs.Repeated.{package_name};
-ghost use Rattle.adb_view.specs.Plain.{Plain};
-ghost use Rattle.db_core.specs.Seen.{packages_of};
-ghost use Rattle.pkg_pieces.specs.Values.{value_of_contents};
-ghost use Rattle.std.specs.Prelude.{◌≡◌, ◌<◌, Some, length, slice_get};
-
-use adb_schema::{PACKAGE_WORD, PackageView, ReadFault};
+use adb_schema::ReadFault;
 use adb_write::WriteFault;
-use base_core::{Name, Words};
-use db_core::{Db, MOST_MEMBERS, Members, Owned};
+use base_core::Words;
+use db_core::{Db, Members, Owned};
 use db_write::write_db;
-use pkg_core::PackageFault;
-use pkg_pieces::{Contents, Front, FrontFault, read_front};
+use pkg_pieces::Front;
 use row_lines::word_at;
+use row_members::{add_coming, add_installed, front_of, name_at};
 use std::alloc::{AllocError, Global};
 use std::marker::PhantomData;
-use tree_memory::MemoryTree;
 
 /// The database after `change FLAGS NAME ..`: the packages of the database without those of these
 /// names, and behind them those that come, with the files whose flag is 1. A file that is none has
@@ -34,22 +27,6 @@ pub fn changed_database(
         }
     }
     changed_over(alloc, file, &fronts, words)
-}
-
-/// The front of the package in a file, unless it is bad.
-fn front_of(alloc: Global, file: &[u8]) -> Result<Option<Front>, AllocError> {
-    let Some(name) = Name::read(alloc, b"p")? else {
-        return Ok(None);
-    };
-    let mut tree = MemoryTree::new(alloc);
-    if tree.can_put(&name) {
-        tree.put(&name, file)?;
-    }
-    match read_front(alloc, &mut tree, &name, PACKAGE_WORD) {
-        Ok(front) => Ok(front),
-        Err(FrontFault::Bad(_) | FrontFault::Disk) => Ok(None),
-        Err(FrontFault::Memory) => Err(AllocError),
-    }
 }
 
 /// The same over the fronts of the packages that come.
@@ -117,65 +94,6 @@ fn is_among(words: &Words, name: &[u8]) -> bool {
         }
     }
     false
-}
-
-/// The name of the package at a place, counted from 0.
-fn name_at<'a>(db: &Db<'a>, i: usize, _mark: PhantomData<PackageView<'a>>) -> &'a [u8]
-    requires { i < length (packages_of db.now) }
-    ensures { (pkg : Plain) → slice_get (packages_of db.now) i ≡ Some pkg
-        → result.now ≡ package_name pkg }
-{
-    let package = db.package(i);
-    package.info().name()
-}
-
-/// Adds the package at a place of the database, unless it is not in order.
-fn add_installed<'a>(members: &mut Members<'a>, db: &Db<'a>, i: usize) -> Result<bool, AllocError>
-    requires { i < length (packages_of db.now) }
-{
-    if members.len() >= MOST_MEMBERS {
-        return Ok(false);
-    }
-    if !members.comes_behind(name_at(db, i, PhantomData)) {
-        return Ok(false);
-    }
-    members.stays(db, i)?;
-    Ok(true)
-}
-
-/// Adds the package with this front, unless it is bad or not in order.
-fn add_coming<'a>(
-    alloc: Global,
-    members: &mut Members<'a>,
-    front: &'a Front,
-) -> Result<bool, AllocError> {
-    match Contents::new(alloc, front) {
-        Ok(contents) => add_contents(members, &contents),
-        Err(PackageFault::Bad(_)) => Ok(false),
-        Err(PackageFault::Memory) => Err(AllocError),
-    }
-}
-
-fn add_contents<'a>(
-    members: &mut Members<'a>,
-    contents: &Contents<'a>,
-) -> Result<bool, AllocError> {
-    if members.len() >= MOST_MEMBERS {
-        return Ok(false);
-    }
-    if !members.comes_behind(name_of(contents, PhantomData)) {
-        return Ok(false);
-    }
-    members.comes_in_pieces(contents)?;
-    Ok(true)
-}
-
-/// The name of a package.
-fn name_of<'a>(contents: &Contents<'a>, _mark: PhantomData<PackageView<'a>>) -> &'a [u8]
-    ensures { result.now ≡ package_name (value_of_contents contents.now) }
-{
-    let info = contents.view().info();
-    info.name()
 }
 
 /// The database of members with these flags.

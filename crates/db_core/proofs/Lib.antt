@@ -3,7 +3,6 @@ mod ListedNames
 pub mod ListingPlaces
 mod MemberPlaces
 mod NamePlaces
-pub mod Opened
 pub mod Ordered
 pub mod PathParts
 pub mod Places

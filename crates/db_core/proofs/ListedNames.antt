@@ -2,13 +2,14 @@
 use Rattle.std.proofs.Common.{◌≡◌, ℕ, suc, zero, ◌+◌, ◌<◌, Bool, true, false, cond, List, [], ◌∷◌, ◌++◌, map, length, get_or, Option, Some, None, Result, Ok, Err, refl, ap, sym, ◌∙◌, subst, arith, true≢false}
 use Rattle.std.specs.Prelude.{◌&&◌, ◌||◌, ◌==◌, not, nat_le, nat_lt, if◌then◌else◌, is_ok, slice_get, All}
 use Rattle.std.specs.Str.{IsUtf8, is_utf8}
-use Rattle.std.specs.List.{flat_map, list_all, list_any, onto_first}
+use Rattle.std.specs.List.{flat_map, list_all, list_any}
 use Rattle.std.proofs.lemmas.Bool.{and_parts, lt-ltb}
 use Rattle.std.proofs.lemmas.List.{length-append}
 use Rattle.std.proofs.lemmas.List.Folds.{list_all-append, list_all-map, list_any-append}
 use Rattle.std.proofs.lemmas.Str.{IsUtf8-append, IsUtf8-from_ascii, IsUtf8-from_is_utf8, is_utf8-from_IsUtf8}
 use Rattle.std.proofs.lemmas.Str.Ascii.{IsAscii-cons, IsAscii-nil}
 use Rattle.base_core.specs.Name.{IsName, is_name, is_part, parts_of}
+use Rattle.base_core.proofs.NameParts.{split_slash}
 use Rattle.adb_view.specs.Plain.{Plain, Plains, none, more}
 use Rattle.adb_view.specs.Shaped.{Each}
 use Rattle.adb_tables.specs.Values.{entries_in, entry_in}
@@ -24,29 +25,6 @@ use Rattle.db_core.specs.Members.{Member, is_coming, listings_by, listings_from,
 use Rattle.db_core.specs.Packages.{comes_or_lists_no_reserved, lists_names, lists_no_reserved}
 
 -- ---- a name behind another one and a slash
-
-split_some : (xs : List ℕ) → (first : List ℕ) × (others : List (List ℕ)) × (parts_of xs ≡ first ∷ others)
-split_some [] = ([], [], refl)
-split_some (x ∷ xs) = by_slash (x == 47) (split_some xs)
-  where
-    by_slash : (b : Bool) → (first : List ℕ) × (others : List (List ℕ)) × (parts_of xs ≡ first ∷ others)
-        → (first : List ℕ) × (others : List (List ℕ)) × (cond b ([] ∷ parts_of xs) (onto_first x (parts_of xs)) ≡ first ∷ others)
-    by_slash true s = ([], parts_of xs, refl)
-    by_slash false (q, qs, e) = (x ∷ q, qs, ap (onto_first x) e)
-
-onto_append : (x : ℕ) (q : List ℕ) (qs others : List (List ℕ)) → onto_first x ((q ∷ qs) ++ others) ≡ onto_first x (q ∷ qs) ++ others
-onto_append x q qs others = refl
-
-split_slash : (a b : List ℕ) → parts_of (a ++ 47 ∷ b) ≡ parts_of a ++ parts_of b
-split_slash [] b = refl
-split_slash (x ∷ xs) b = by_slash (x == 47) (split_slash xs b) (split_some xs)
-  where
-    by_slash : (c : Bool) → parts_of (xs ++ 47 ∷ b) ≡ parts_of xs ++ parts_of b → (first : List ℕ) × (others : List (List ℕ)) × (parts_of xs ≡ first ∷ others)
-        → cond c ([] ∷ parts_of (xs ++ 47 ∷ b)) (onto_first x (parts_of (xs ++ 47 ∷ b))) ≡ cond c ([] ∷ parts_of xs) (onto_first x (parts_of xs)) ++ parts_of b
-    by_slash true e s = ap (λ (ps : List (List ℕ)). [] ∷ ps) e
-    by_slash false e (q, qs, is) =
-        ap (onto_first x) (e ∙ ap (λ (ps : List (List ℕ)). ps ++ parts_of b) is)
-        ∙ (onto_append x q qs (parts_of b) ∙ ap (λ (ps : List (List ℕ)). onto_first x ps ++ parts_of b) (sym is))
 
 both_true : (a b : Bool) → a ≡ true → b ≡ true → (a && b) ≡ true
 both_true a b e f = rw (e, f) refl

@@ -17,7 +17,7 @@ use Rattle.list_order.proofs.Sorting.{Each, Rises, ranks, rises_sorted, sorted_u
 use Rattle.adb_view.specs.Plain.{Plain, Plains, none, more}
 use Rattle.adb_tables.specs.Values.{count_of, nth}
 use Rattle.adb_fields.specs.Repeated.{list_of, package_name}
-use Rattle.db_core.specs.NamePlaces.{PlacedName, placed_name_cmp, placed_names_in_order, place_named, placed_names_from}
+use Rattle.db_core.specs.NamePlaces.{NameWithPlace, placed_name_cmp, placed_names_in_order, place_named, placed_names_from}
 use Rattle.db_core.specs.NameSeen.{name_seen}
 use Rattle.db_core.specs.Packages.{is_package_named}
 use Rattle.db_core.specs.declared.name_places.NamePlace.{NamePlace}
@@ -26,10 +26,10 @@ pub names_total : IsTotalOrder placed_name_cmp
 unfolding placed_name_cmp
 names_total = on_total (λ n. n.name) nat_list_cmp_total
 
-abbrev pub is_named : List ℕ → PlacedName → Bool
+abbrev pub is_named : List ℕ → NameWithPlace → Bool
 is_named q n = bytes_eq n.name q
 
-abbrev pub is_below : PlacedName → PlacedName → Bool
+abbrev pub is_below : NameWithPlace → NameWithPlace → Bool
 is_below x y = is_lt (placed_name_cmp x y)
 
 -- ---- order among texts
@@ -68,11 +68,11 @@ behind_other a b q h e = go (bytes_eq b q) refl
         let one : b ≡ a = (bytes_decides b q).0 s ∙ sym ((bytes_decides a q).0 e) in
         absurd (true≢false (sym h ∙ (ap (λ c. is_gt (bytes_cmp a c)) one ∙ ap is_gt (tied_itself nat_list_cmp_total a))))
 
-cond_swap : (a b : Bool) (x y : PlacedName) (r : Option PlacedName) → (a ≡ true → b ≡ false) → cond b (Some y) (cond a (Some x) r) ≡ cond a (Some x) (cond b (Some y) r)
+cond_swap : (a b : Bool) (x y : NameWithPlace) (r : Option NameWithPlace) → (a ≡ true → b ≡ false) → cond b (Some y) (cond a (Some x) r) ≡ cond a (Some x) (cond b (Some y) r)
 cond_swap true b x y r f = ap (λ t. cond t (Some y) (Some x)) (f refl)
 cond_swap false b x y r f = refl
 
-found_put : (q : List ℕ) (x : PlacedName) (ys : List PlacedName) → find (is_named q) (with_element placed_name_cmp x ys) ≡ cond (is_named q x) (Some x) (find (is_named q) ys)
+found_put : (q : List ℕ) (x : NameWithPlace) (ys : List NameWithPlace) → find (is_named q) (with_element placed_name_cmp x ys) ≡ cond (is_named q x) (Some x) (find (is_named q) ys)
 unfolding placed_name_cmp
 found_put q x [] = refl
 found_put q x (y ∷ ys) = go (is_gt (placed_name_cmp x y)) refl (found_put q x ys)
@@ -82,7 +82,7 @@ found_put q x (y ∷ ys) = go (is_gt (placed_name_cmp x y)) refl (found_put q x 
     go true g r = ap (λ o. cond (is_named q y) (Some y) o) r ∙ cond_swap (is_named q x) (is_named q y) x y (find (is_named q) ys) (behind_other x.name y.name q g)
     go false g r = refl
 
-found_sorted : (q : List ℕ) (xs : List PlacedName) → find (is_named q) (sorted_by placed_name_cmp xs) ≡ find (is_named q) xs
+found_sorted : (q : List ℕ) (xs : List NameWithPlace) → find (is_named q) (sorted_by placed_name_cmp xs) ≡ find (is_named q) xs
 found_sorted q [] = refl
 found_sorted q (x ∷ xs) = found_put q x (sorted_by placed_name_cmp xs) ∙ ap (λ o. cond (is_named q x) (Some x) o) (found_sorted q xs)
 
@@ -101,7 +101,7 @@ place_in_order q pkgs = ap (option_map (λ m. m.place)) (found_sorted q (placed_
 
 -- ---- where a name stands
 
-none_named : (q : List ℕ) (x : PlacedName) (ys : List PlacedName) → is_lt (bytes_cmp q x.name) ≡ true → Each (λ y. is_below y x ≡ false) ys → find (is_named q) ys ≡ None
+none_named : (q : List ℕ) (x : NameWithPlace) (ys : List NameWithPlace) → is_lt (bytes_cmp q x.name) ≡ true → Each (λ y. is_below y x ≡ false) ys → find (is_named q) ys ≡ None
 unfolding placed_name_cmp
 none_named q x [] h up = refl
 none_named q x (y ∷ ys) h up = ap (λ t. cond t (Some y) (find (is_named q) ys)) (go (is_named q y) refl) ∙ none_named q x ys h up.1
@@ -111,13 +111,13 @@ none_named q x (y ∷ ys) h up = ap (λ t. cond t (Some y) (find (is_named q) ys
     go true e = absurd (true≢false (sym h ∙ (ap (λ a. is_lt (bytes_cmp a x.name)) (sym ((bytes_decides y.name q).0 e)) ∙ up.0)))
 
 -- the one at a place, if it has the name
-abbrev at_place : List ℕ → Option PlacedName → Option PlacedName
+abbrev at_place : List ℕ → Option NameWithPlace → Option NameWithPlace
 at_place q None = None
 at_place q (Some n) = cond (is_named q n) (Some n) None
 
-parted : (q : List ℕ) (xs : List PlacedName) (i : ℕ) → Rises is_below (ranks placed_name_cmp names_total) xs
-    → ((k : ℕ) (d : PlacedName) → k < i → precedes (get_or xs k d).name q ≡ true)
-    → ((k : ℕ) (d : PlacedName) → i ≤ k → k < length xs → precedes (get_or xs k d).name q ≡ false)
+parted : (q : List ℕ) (xs : List NameWithPlace) (i : ℕ) → Rises is_below (ranks placed_name_cmp names_total) xs
+    → ((k : ℕ) (d : NameWithPlace) → k < i → precedes (get_or xs k d).name q ≡ true)
+    → ((k : ℕ) (d : NameWithPlace) → i ≤ k → k < length xs → precedes (get_or xs k d).name q ≡ false)
     → find (is_named q) xs ≡ at_place q (slice_get xs i)
 parted q [] i up low high = refl
 parted q (x ∷ xs) zero up low high = go (is_named q x) refl
@@ -131,7 +131,7 @@ parted q (x ∷ xs) (suc i) up low high =
 
 -- ---- over what is seen
 
-seen_within : (P : PlacedName → Type 0) (ns : List NamePlace) (k : ℕ) (d : PlacedName) → k < length ns → ((e : NamePlace) → P (name_seen (get_or ns k e))) → P (get_or (map name_seen ns) k d)
+seen_within : (P : NameWithPlace → Type 0) (ns : List NamePlace) (k : ℕ) (d : NameWithPlace) → k < length ns → ((e : NamePlace) → P (name_seen (get_or ns k e))) → P (get_or (map name_seen ns) k d)
 seen_within P [] k d l h = absurd (omega arith)
 seen_within P (n ∷ ns) zero d l h = h n
 seen_within P (n ∷ ns) (suc k) d l h = seen_within P ns k d (omega arith) h
@@ -198,7 +198,7 @@ not_false t false h e = absurd (true≢false (sym h ∙ e))
 -- ---- the names of packages, one by one
 
 -- those of the packages that are left are still to come
-abbrev pub NamesLeft : List PlacedName → Plains → ℕ → Type 0
+abbrev pub NamesLeft : List NameWithPlace → Plains → ℕ → Type 0
 NamesLeft names vs i = names ++ placed_names_from i (drop i (list_of vs)) ≡ placed_names_from 0 (list_of vs)
 
 nothing : (n : ℕ) → drop {A = Plain} n [] ≡ []
@@ -243,7 +243,7 @@ names_added ns vs i h inv = sym (none_behind (map name_seen ns)) ∙ (ap (λ r. 
 
 -- ---- in a database
 
-pub names_sorted : (pkgs : List Plain) (names : List PlacedName) → names ≡ placed_names_in_order pkgs → IsSorted placed_name_cmp names
+pub names_sorted : (pkgs : List Plain) (names : List NameWithPlace) → names ≡ placed_names_in_order pkgs → IsSorted placed_name_cmp names
 names_sorted pkgs names e = subst (IsSorted placed_name_cmp) (sym e) (sorted_up placed_name_cmp names_total (placed_names_from 0 pkgs))
 
 pub within : (p : Plain → Bool) (n : ℕ) (pkgs : List Plain) → IfSome (position_from p n pkgs) (λ i. i < n + length pkgs)

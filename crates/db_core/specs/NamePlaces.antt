@@ -9,24 +9,24 @@ use Rattle.adb_view.specs.Plain.{Plain}
 use Rattle.adb_fields.specs.Repeated.{package_name}
 
 -- the name of a package, and its place, which counts from 0
-pub record PlacedName : Type 0 where
+pub record NameWithPlace : Type 0 where
   pub name : List ℕ
   pub place : ℕ
 
 -- of packages, the first of which has this place
-abbrev pub placed_names_from : ℕ → List Plain → List PlacedName
+abbrev pub placed_names_from : ℕ → List Plain → List NameWithPlace
 placed_names_from place [] = []
 placed_names_from place (pkg ∷ packages) =
     record { name = package_name pkg; place = place } ∷ placed_names_from (place + 1) packages
 
 -- by name
-unfoldable pub placed_name_cmp : PlacedName → PlacedName → Ordering
+unfoldable pub placed_name_cmp : NameWithPlace → NameWithPlace → Ordering
 placed_name_cmp = on (λ n. n.name) bytes_cmp
 
 -- those of packages, in byte order
-abbrev pub placed_names_in_order : List Plain → List PlacedName
+abbrev pub placed_names_in_order : List Plain → List NameWithPlace
 placed_names_in_order packages = sorted_by placed_name_cmp (placed_names_from 0 packages)
 
 -- the place beside the first name that is this one
-abbrev pub place_named : List ℕ → List PlacedName → Option ℕ
+abbrev pub place_named : List ℕ → List NameWithPlace → Option ℕ
 place_named name names = option_map (λ n. n.place) (find (λ n. bytes_eq n.name name) names)

@@ -1,6 +1,6 @@
 -- What a name with its place stands for.
-use Rattle.db_core.specs.NamePlaces.{PlacedName}
+use Rattle.db_core.specs.NamePlaces.{NameWithPlace}
 use Rattle.db_core.specs.declared.name_places.NamePlace.{NamePlace}
 
-abbrev pub name_seen : NamePlace → PlacedName
+abbrev pub name_seen : NamePlace → NameWithPlace
 name_seen n = record { name = n.name.now; place = n.place }

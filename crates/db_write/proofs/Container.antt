@@ -7,7 +7,7 @@ use Rattle.adb_write.specs.declared.writer.WriteFault.{WriteFault}
 use Rattle.adb_write.specs.declared.writer.WriteFault.TheVariants.{TooLarge, Memory}
 use Rattle.db_core.specs.Members.{Member}
 use Rattle.db_write.specs.NewDatabase.{database_container, database_of, database_value}
-use Rattle.db_write.specs.Written.{IsWrittenAs}
+use Rattle.adb_values.specs.Written.{IsWrittenAs}
 
 pub file_written : (members : List Member) (flags slice : List Bool) (payload bytes file : List ℕ) → slice ≡ flags → written_of (database_value members slice) ≡ Ok payload → bytes ≡ payload → file ≡ file_of IDB_WORD bytes
     → database_of members flags ≡ Ok file

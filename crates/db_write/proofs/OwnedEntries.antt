@@ -7,7 +7,7 @@ use Rattle.adb_fields.specs.Repeated.{files_in, folders_in, list_of, name_of}
 use Rattle.adb_copy.specs.Zeros.{without_zeros}
 use Rattle.db_core.specs.Members.{Listing, Member, listings_by, listings_from, listings_in_folder, listings_in_folders, member_listings, staying_member}
 use Rattle.db_core.specs.OwnedListings.{owned_listings}
-use Rattle.db_write.specs.NewDatabase.{file_count, folder_after, folders_after, member_file_count, owned_entries, package_after, packages_after}
+use Rattle.db_write.specs.NewDatabase.{file_count, folders_after, member_file_count, owned_entries, package_after, packages_after}
 use Rattle.db_write.proofs.Listed.{in_folder, in_folders}
 use Rattle.db_write.proofs.OwnedPaths.{owned_joined}
 use Rattle.db_write.proofs.RootNames.{folder_files, package_folders}

@@ -3,4 +3,3 @@ pub mod NewDatabase
 -- what only inner contracts and proofs use
 pub mod Information
 pub mod Unchanged
-pub mod Written

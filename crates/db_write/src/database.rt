@@ -1,6 +1,7 @@
 //! The database's container.
+ghost use Rattle.adb_values.specs.Drafts.{draft_with};
+ghost use Rattle.adb_values.specs.Written.{IsWrittenAs};
 ghost use Rattle.adb_write.specs.Canonical.{written_of, MOST_BYTES};
-ghost use Rattle.adb_write.specs.DepthFirst.{WritesValue};
 ghost use Rattle.adb_schema.specs.SoundContainers.{IsSound};
 ghost use Rattle.adb_tables.specs.declared.tables.Which.TheVariants as Tables;
 ghost use Rattle.db_core.specs.Members.{member_listings};
@@ -8,19 +9,15 @@ ghost use Rattle.db_core.specs.OwnedListings.{owned_listings};
 ghost use Rattle.db_core.specs.Seen.{members_of};
 ghost use Rattle.db_core.specs.SoundMembers.{MayBeListed};
 ghost use Rattle.db_write.specs.NewDatabase.{database_of, database_value};
-ghost use Rattle.db_write.specs.Written.{IsWrittenAs};
-ghost use Rattle.std.specs.Prelude.{◌≡◌, ◌≤◌, IfOk, length};
+ghost use Rattle.std.specs.Prelude.{◌≡◌, ◌≤◌, IfOk, OnOk, length};
 
 use crate::laws::{
     a_database_of_sound_packages_may_stand_at_the_root, a_written_database_is_read_back,
 };
 use crate::packages::write_packages;
 use adb_schema::IDB_WORD;
-use adb_view::Val;
-use adb_write::{
-    WriteFault, Writer, a_value_written_depth_first_is_canonical, file_of,
-    values_are_written_depth_first,
-};
+use adb_values::Draft;
+use adb_write::{WriteFault, file_of};
 use db_core::{Members, Owned};
 use std::alloc::{AllocError, Global};
 
@@ -60,24 +57,21 @@ fn database_payload(
         (written_of (database_value (members_of members.now) flags.now)) }
     ensures small { IfOk result (λ payload. length payload.items ≤ MOST_BYTES) }
 {
-    a_value_written_depth_first_is_canonical();
-    let mut writer = Writer::new(alloc);
-    let root = write_database(alloc, &mut writer, members, flags)?;
-    writer.finish(root)
+    let mut draft = Draft::new(alloc);
+    write_database(&mut draft, members, flags)?;
+    draft.finish()
 }
 
 /// Writes the values of a database.
 fn write_database(
-    alloc: Global,
-    writer: &mut Writer,
+    draft: &mut Draft,
     members: &Members<'_>,
     flags: &[bool],
-) -> Result<Val, AllocError>
-    ensures { IfOk result (λ root. WritesValue writer.old
-        (database_value (members_of members.now) flags.now) root writer.new) }
+) -> Result<(), AllocError>
+    ensures { OnOk result
+        (draft.new ≡ draft_with (database_value (members_of members.now) flags.now) draft.old) }
 {
-    values_are_written_depth_first();
-    let packages = write_packages(alloc, writer, members, flags)?;
-    let fields = [packages];
-    writer.obj(&fields)
+    draft.open_list()?;
+    write_packages(draft, members, flags)?;
+    draft.close_object()
 }

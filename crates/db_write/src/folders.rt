@@ -4,36 +4,33 @@ ghost use Rattle.adb_fields.specs.ListValue.{list_value};
 ghost use Rattle.adb_fields.specs.Repeated.{list_of};
 ghost use Rattle.adb_schema.specs.Views.{dir_value};
 ghost use Rattle.adb_tables.specs.Values.{count_of, entries_in, entry_in};
+ghost use Rattle.adb_values.specs.Drafts.{draft_with};
 ghost use Rattle.adb_view.specs.Plain.{arr_value};
-ghost use Rattle.adb_write.specs.DepthFirst.{WritesValue};
 ghost use Rattle.db_write.specs.NewDatabase.{file_count, folder_after, folders_after, owned_entries, total_of};
-ghost use Rattle.std.specs.Prelude.{◌≡◌, ◌<◌, false, IfOk, Some, drop, length, slice_get, unwrap_or};
+ghost use Rattle.std.specs.Prelude.{◌≡◌, ◌<◌, false, OnOk, Some, drop, length, slice_get, unwrap_or};
 
 use adb_copy::{write_acl, write_file};
 use adb_schema::{DirInfo, FileInfo, List};
-use adb_view::Val;
-use adb_write::{Writer, values_are_written_depth_first};
-use std::alloc::{AllocError, Global};
+use adb_values::Draft;
+use std::alloc::AllocError;
 
 /// Writes folders with the files whose flag is set, by one flag for each.
 pub(crate) fn write_folders<'a>(
-    alloc: Global,
-    writer: &mut Writer,
+    draft: &mut Draft,
     folders: &List<'a, DirInfo<'a>>,
     flags: &[bool],
-) -> Result<Val, AllocError>
-    ensures { IfOk result (λ word. WritesValue writer.old
+) -> Result<(), AllocError>
+    ensures { OnOk result (draft.new ≡ draft_with
         (arr_value (folders_after (list_of (entries_in (list_value folders.now))) flags.now))
-        word writer.new) }
+        draft.old) }
 {
-    values_are_written_depth_first();
-    let mut words = Vec::new(alloc);
+    draft.open_list()?;
     let mut left = flags;
     for i in 0..folders.len() {
-        words.push(write_folder(alloc, writer, folders, i, left)?)?;
+        write_folder(draft, folders, i, left)?;
         left = flags_behind_folder(folders, i, left);
     }
-    writer.arr(&words)
+    draft.close_array()
 }
 
 /// The flags behind those of the files of these folders.
@@ -79,60 +76,55 @@ fn folder_at<'a>(folders: &List<'a, DirInfo<'a>>, i: usize) -> DirInfo<'a>
 
 /// Writes the folder at a place, counted from 0, with the files whose flag is set.
 fn write_folder<'a>(
-    alloc: Global,
-    writer: &mut Writer,
+    draft: &mut Draft,
     folders: &List<'a, DirInfo<'a>>,
     i: usize,
     flags: &[bool],
-) -> Result<Val, AllocError>
+) -> Result<(), AllocError>
     requires { i < count_of (entries_in (list_value folders.now)) }
-    ensures { IfOk result (λ word. WritesValue writer.old
-        (folder_after (entry_in (list_value folders.now) i) flags.now) word writer.new) }
+    ensures { OnOk result (draft.new
+        ≡ draft_with (folder_after (entry_in (list_value folders.now) i) flags.now) draft.old) }
 {
-    values_are_written_depth_first();
     let folder = folder_at(folders, i);
-    let name = writer.blob(folder.name())?;
-    let acl = write_folder_acl(alloc, writer, folders, i)?;
-    let files = write_files(alloc, writer, &folder.files(), flags)?;
-    let fields = [name, acl, files];
-    writer.obj(&fields)
+    draft.open_list()?;
+    draft.blob(folder.name())?;
+    write_folder_acl(draft, folders, i)?;
+    write_files(draft, &folder.files(), flags)?;
+    draft.close_object()
 }
 
 /// Writes the access list of the folder at a place, counted from 0.
 fn write_folder_acl<'a>(
-    alloc: Global,
-    writer: &mut Writer,
+    draft: &mut Draft,
     folders: &List<'a, DirInfo<'a>>,
     i: usize,
-) -> Result<Val, AllocError>
+) -> Result<(), AllocError>
     requires { i < count_of (entries_in (list_value folders.now)) }
-    ensures { IfOk result (λ word. WritesValue writer.old
-        (without_zeros (entry_in (entry_in (list_value folders.now) i) 1)) word writer.new) }
+    ensures { OnOk result (draft.new ≡ draft_with
+        (without_zeros (entry_in (entry_in (list_value folders.now) i) 1)) draft.old) }
 {
     let folder = folder_at(folders, i);
     let acl = folder.acl();
-    write_acl(alloc, writer, &acl)
+    write_acl(draft, &acl)
 }
 
 /// Writes the files whose flag is set.
 fn write_files<'a>(
-    alloc: Global,
-    writer: &mut Writer,
+    draft: &mut Draft,
     files: &List<'a, FileInfo<'a>>,
     flags: &[bool],
-) -> Result<Val, AllocError>
-    ensures { IfOk result (λ word. WritesValue writer.old
+) -> Result<(), AllocError>
+    ensures { OnOk result (draft.new ≡ draft_with
         (arr_value (owned_entries (list_of (entries_in (list_value files.now))) flags.now))
-        word writer.new) }
+        draft.old) }
 {
-    values_are_written_depth_first();
-    let mut words = Vec::new(alloc);
+    draft.open_list()?;
     for i in 0..files.len() {
         if is_set(flags, i) {
-            words.push(write_file(alloc, writer, files, i)?)?;
+            write_file(draft, files, i)?;
         }
     }
-    writer.arr(&words)
+    draft.close_array()
 }
 
 /// Whether there is a flag at a place, and it is set.

@@ -1,4 +1,3 @@
-mod LastSlash
 pub mod Loops
 mod Stars
 mod Watching

@@ -1,11 +1,12 @@
 //! The folders of the files that a change writes and removes.
 ghost use Rattle.change_outcome.specs.Triggers.{folders_of_paths};
 ghost use Rattle.due_triggers.specs.Due.{planned_paths};
-ghost use Rattle.make_package.specs.Folders.{folder_of, is_slash};
+ghost use Rattle.make_package.specs.Folders.{folder_of};
 ghost use Rattle.own_core.specs.WritesSeen.{writes_in};
-ghost use Rattle.std.specs.Prelude.{◌≡◌, ◌++◌, ◌∷◌, [], map, not, IfOk, OnOk};
+ghost use Rattle.std.specs.Prelude.{◌≡◌, ◌++◌, map, IfOk, OnOk};
 
 use base_core::Names;
+use make_package::folder_of;
 use own_core::{FilePlan, Writes};
 use package_changes::names_in_order;
 use std::alloc::{AllocError, Global};
@@ -52,16 +53,4 @@ fn push_removed_folders<'p>(
         folders.push(folder_of(removals.get(i).as_bytes()))?;
     }
     Ok(())
-}
-
-/// The folder in which a path stands, which is empty for the root.
-fn folder_of(path: &[u8]) -> &[u8]
-    ensures { result.now ≡ folder_of path.now }
-{
-    for i in (0..path.len()).rev() {
-        if path[i] == b'/' {
-            return &path[..i];
-        }
-    }
-    &[]
 }

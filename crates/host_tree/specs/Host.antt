@@ -1,4 +1,5 @@
--- The counts of what stands for a part of the host: it may fail at any call, and is never misused as far as it tells.
+-- The counts of what stands for a part of the host: it may fail at any call, and is never misused as
+-- far as it tells.
 use Rattle.std.specs.Prelude.{ℕ, true}
 use Rattle.base_core.specs.Faults.{Counts}
 

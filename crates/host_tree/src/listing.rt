@@ -94,7 +94,8 @@ impl Walk {
     /// The files that were found, in byte order, each once: a host that changes under a walk may
     /// show one twice.
     fn into_names(mut self) -> Result<Names, AllocError>
-        ensures { (root : List ℕ) → All (IsFolderOf root) self.files.items → IfOk result (AreNamesBelow root) }
+        ensures { (root : List ℕ) → All (IsFolderOf root) self.files.items
+            → IfOk result (AreNamesBelow root) }
     {
         self.files.sort_by(|a, b| a.as_bytes().cmp(b.as_bytes()))?;
         let names = each_once(self.alloc, self.files)?;

@@ -82,7 +82,7 @@ waits_at (c ∷ cs) k (suc i) F bytes few at =
     ap (λ n. with_staged (k + 1) cs (put_name F (stage_name k) c) (stage_name n)) (omega arith)
     ∙ waits_at cs (k + 1) i (put_name F (stage_name k) c) bytes (omega (arith, few)) at
 
-moved_at : (names : List (List ℕ)) (k i : ℕ) (F : Files) (name bytes : List ℕ) → AreFreeNames names → AreOnce names → k + length names < 2 ^ 64 → slice_get names i ≡ Some name → F (stage_name (k + i)) ≡ Some bytes → after_moves k names F name ≡ Some bytes
+pub moved_at : (names : List (List ℕ)) (k i : ℕ) (F : Files) (name bytes : List ℕ) → AreFreeNames names → AreOnce names → k + length names < 2 ^ 64 → slice_get names i ≡ Some name → F (stage_name (k + i)) ≡ Some bytes → after_moves k names F name ≡ Some bytes
 moved_at [] k i F name bytes free once few at waits = absurd (cc (at))
 moved_at (n ∷ ns) k zero F name bytes free once few at waits =
     let same : n ≡ name = cc in

@@ -24,6 +24,7 @@ pub mod Lasting
 pub mod Leaving
 pub mod Maps
 pub mod More
+pub mod OldOrNew
 pub mod OnTheWay
 pub mod OneCall
 pub mod Proper

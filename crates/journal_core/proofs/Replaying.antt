@@ -9,7 +9,7 @@ use Rattle.base_core.specs.Calls.{IfObservable, HasNow}
 use Rattle.base_core.specs.Crash.{IsOrderly, Since}
 use Rattle.adb_schema.specs.Soundness.{first_fault}
 use Rattle.adb_tables.specs.declared.tables.Which.TheVariants.{Intent as IntentTable}
-use Rattle.journal_core.specs.Kept.{RecoversTo}
+use Rattle.journal_core.specs.Kept.{HasOldOrNewBytes, RecoversTo}
 use Rattle.journal_core.specs.Recovering.{IsReplayed}
 use Rattle.journal_core.specs.Recovery.{IsSettled, RestsOn, intent_name, intent_at, intent_of, recovered_files, recovered_files_by}
 use Rattle.journal_core.specs.Quiet.{IsStill}
@@ -53,6 +53,10 @@ module _ (old mid new : History) (same : mid ≡ old) (name file : List ℕ) (na
   pub found_reads : IfObservable mid (λ v. There v → Since (RecoversTo (recovered_files (files_of v))) mid new) → IfObservable old (λ v. Since (RecoversTo (recovered_files (files_of v))) old new)
   found_reads told =
       both_told old (λ v. There v → Since (RecoversTo (recovered_files (files_of v))) mid new) There _ (λ v t at. subst (λ (l : History). Since (RecoversTo (recovered_files (files_of v))) l new) same (t at)) (back _ told) there
+
+  pub found_bytes : IfObservable mid (λ v. There v → Since (HasOldOrNewBytes (files_of v) (recovered_files (files_of v))) mid new) → IfObservable old (λ v. Since (HasOldOrNewBytes (files_of v) (recovered_files (files_of v))) old new)
+  found_bytes told =
+      both_told old (λ v. There v → Since (HasOldOrNewBytes (files_of v) (recovered_files (files_of v))) mid new) There _ (λ v t at. subst (λ (l : History). Since (HasOldOrNewBytes (files_of v) (recovered_files (files_of v))) l new) same (t at)) (back _ told) there
 
   pub found_replayed : {T E : Type 0} (r : Result T E) → IfObservable mid (λ v. There v → OnOk r (HasNow new (IsReplayed v))) → IfObservable old (λ v. OnOk r (HasNow new (IsReplayed v)))
   found_replayed r told = both_told old (λ v. There v → OnOk r (HasNow new (IsReplayed v))) There _ (λ v t at. t at) (back _ told) there

@@ -1,5 +1,6 @@
 -- What a call of a stage keeps: the files under other names, and the names that no crash undoes.
 use Rattle.std.specs.Prelude.{◌≡◌, ◌≢◌, ◌⊎◌, ℕ, ◌+◌, true, false, List, [], length, None, Some, slice_get}
+use Rattle.base_core.specs.Crash.{Since}
 use Rattle.base_core.specs.Files.{Files, NameMap}
 use Rattle.base_core.specs.Tree.{TreeState, IsMapOf, files_of}
 use Rattle.journal_core.specs.Recovery.{Intent, intent_name, is_staged, recovered_files, stage_name}
@@ -31,6 +32,16 @@ IsWaitingName name = (name ≡ intent_name) ⊎ (is_staged name ≡ true)
 abbrev pub IsLessWaiting : TreeState → TreeState → Type 0
 IsLessWaiting start v = (q : List ℕ) → IsWaitingName q
     → (files_of v q ≡ None) ⊎ (files_of v q ≡ files_of start q)
+
+-- each name that does not wait has the bytes of the old files or those of the new ones
+abbrev pub HasOldOrNewBytes : Files → Files → TreeState → Type 0
+HasOldOrNewBytes old new v =
+    (q : List ℕ) → (IsWaitingName q → ⊥) → (files_of v q ≡ old q) ⊎ (files_of v q ≡ new q)
+
+-- so it stays at each moment since, whatever the old files are
+abbrev pub KeepsOldOrNewBytes : Files → TreeState → List TreeState → List TreeState → Type 0
+KeepsOldOrNewBytes files v old new =
+    (base : Files) → HasOldOrNewBytes base files v → Since (HasOldOrNewBytes base files) old new
 
 -- the intent stays, and each file that waits stays or goes
 pub record KeepsIntent (start v : TreeState) : Type 0 where

@@ -6,7 +6,7 @@ ghost use Rattle.base_core.specs.Faults.{GoesOn, HasCause, IsNoFault};
 ghost use Rattle.base_core.specs.Files.{Files};
 ghost use Rattle.base_core.specs.Tree.{CanRename};
 ghost use Rattle.journal_core.specs.Acting.{MovesIfThere, acting_stage};
-ghost use Rattle.journal_core.specs.Kept.{IsOfAction, KeepsFilesBut, KeepsIntent, RecoversTo};
+ghost use Rattle.journal_core.specs.Kept.{IsOfAction, KeepsFilesBut, KeepsIntent, KeepsOldOrNewBytes, RecoversTo};
 ghost use Rattle.journal_core.specs.Quiet.{IsStill};
 ghost use Rattle.journal_core.specs.Recovery.{RestsOn};
 ghost use Rattle.journal_core.specs.Staged.{HasRoomBeside, IsActing, action_count};
@@ -33,6 +33,9 @@ pub(crate) fn act<T: Tree>(
     ensures reads { IfObservable (T.history tree.old) (λ v. (files : Files)
         → IsActing (acting_stage intent.now acted) files v
         → Since (RecoversTo files) (T.history tree.old) (T.history tree.new)) }
+    ensures bytes { IfObservable (T.history tree.old) (λ v. (files : Files)
+        → IsActing (acting_stage intent.now acted) files v
+        → KeepsOldOrNewBytes files v (T.history tree.old) (T.history tree.new)) }
     ensures waiting { IfObservable (T.history tree.old) (λ v.
         Since (KeepsIntent v) (T.history tree.old) (T.history tree.new)) }
     ensures others { IfObservable (T.history tree.old) (λ v.
@@ -74,6 +77,9 @@ fn remove_one<T: Tree>(intent: &PreparedIntent, i: usize, tree: &mut T) -> Resul
     ensures reads { IfObservable (T.history tree.old) (λ v. (files : Files)
         → IsActing (acting_stage intent.now i) files v
         → Since (RecoversTo files) (T.history tree.old) (T.history tree.new)) }
+    ensures bytes { IfObservable (T.history tree.old) (λ v. (files : Files)
+        → IsActing (acting_stage intent.now i) files v
+        → KeepsOldOrNewBytes files v (T.history tree.old) (T.history tree.new)) }
     ensures waiting { IfObservable (T.history tree.old) (λ v.
         Since (KeepsIntent v) (T.history tree.old) (T.history tree.new)) }
     ensures others { IfObservable (T.history tree.old) (λ v.
@@ -110,6 +116,9 @@ fn move_one<T: Tree>(
     ensures reads { IfObservable (T.history tree.old) (λ v. (files : Files)
         → IsActing (acting_stage intent.now acted) files v
         → Since (RecoversTo files) (T.history tree.old) (T.history tree.new)) }
+    ensures bytes { IfObservable (T.history tree.old) (λ v. (files : Files)
+        → IsActing (acting_stage intent.now acted) files v
+        → KeepsOldOrNewBytes files v (T.history tree.old) (T.history tree.new)) }
     ensures waiting { IfObservable (T.history tree.old) (λ v.
         Since (KeepsIntent v) (T.history tree.old) (T.history tree.new)) }
     ensures others { IfObservable (T.history tree.old) (λ v.

@@ -8,7 +8,7 @@ ghost use Rattle.base_core.specs.Faults.{GoesOn, HasCause, IsNoFault};
 ghost use Rattle.base_core.specs.Files.{Files};
 ghost use Rattle.base_core.specs.Tree.{files_of};
 ghost use Rattle.base_core.specs.declared.cause.Cause.{Cause};
-ghost use Rattle.journal_core.specs.Kept.{IsInNoMap, IsLessWaiting, KeepsFilesBut, KeepsIntent, RecoversTo, ShownNamesLast};
+ghost use Rattle.journal_core.specs.Kept.{HasOldOrNewBytes, IsInNoMap, IsLessWaiting, KeepsFilesBut, KeepsIntent, KeepsOldOrNewBytes, RecoversTo, ShownNamesLast};
 ghost use Rattle.journal_core.specs.Quiet.{IsStill};
 ghost use Rattle.journal_core.specs.Recovering.{AllStaged, IsEmptied, IsReplayed, IsWithout};
 ghost use Rattle.journal_core.specs.Recovery.{IsSettled, RestsOn, intent_name, intent_of, is_staged, recovered_files};
@@ -96,6 +96,11 @@ pub fn recover<T: Tree>(alloc: Global, tree: &mut T) -> Result<(), RecoverFault>
         Since (λ w. unstaged_files (files_of w) ≡ unstaged_files (files_of v))
         (T.history tree.old) (T.history tree.new)) }
 
+    // At each moment a name that does not wait has its old bytes or its recovered ones.
+    ensures bytes { IfObservable (T.history tree.old) (λ v.
+        Since (HasOldOrNewBytes (files_of v) (unstaged_files (files_of v)))
+        (T.history tree.old) (T.history tree.new)) }
+
     // Once it has answered Ok, the files as read have the intent done and nothing that waits; and
     // no intent is read.
     ensures files { IfObservable (T.history tree.old) (λ v.
@@ -162,6 +167,9 @@ fn replay<T: Tree>(alloc: Global, tree: &mut T) -> Result<(), RecoverFault>
     ensures reads { IfObservable (T.history tree.old) (λ v.
         Since (RecoversTo (recovered_files (files_of v)))
         (T.history tree.old) (T.history tree.new)) }
+    ensures bytes { IfObservable (T.history tree.old) (λ v.
+        Since (HasOldOrNewBytes (files_of v) (recovered_files (files_of v)))
+        (T.history tree.old) (T.history tree.new)) }
     ensures replayed { IfObservable (T.history tree.old) (λ v.
         OnOk result (HasNow (T.history tree.new) (IsReplayed v))) }
     ensures settled { IfObservable (T.history tree.old) (λ v. (ignored : List ℕ → Bool)
@@ -212,6 +220,10 @@ fn replay_file<T: Tree>(alloc: Global, tree: &mut T, file: Vec<u8>) -> Result<()
     ensures reads { IfObservable (T.history tree.old) (λ v. files_of v intent_name
         ≡ Some file.items → Since (RecoversTo (recovered_files (files_of v)))
         (T.history tree.old) (T.history tree.new)) }
+    ensures bytes { IfObservable (T.history tree.old) (λ v. files_of v intent_name
+        ≡ Some file.items
+        → Since (HasOldOrNewBytes (files_of v) (recovered_files (files_of v)))
+        (T.history tree.old) (T.history tree.new)) }
     ensures replayed { IfObservable (T.history tree.old) (λ v. files_of v intent_name
         ≡ Some file.items → OnOk result (HasNow (T.history tree.new) (IsReplayed v))) }
     ensures settled { IfObservable (T.history tree.old) (λ v. (ignored : List ℕ → Bool)
@@ -261,6 +273,9 @@ pub fn apply_all<T: Tree>(stage: &mut Stage, tree: &mut T) -> Result<(), Disk>
     ensures reads { IfObservable (T.history tree.old) (λ v. (files : Files)
         → IsActing stage.old files v
         → Since (RecoversTo files) (T.history tree.old) (T.history tree.new)) }
+    ensures bytes { IfObservable (T.history tree.old) (λ v. (files : Files)
+        → IsActing stage.old files v
+        → KeepsOldOrNewBytes files v (T.history tree.old) (T.history tree.new)) }
     ensures waiting { IfObservable (T.history tree.old) (λ v.
         Since (KeepsIntent v) (T.history tree.old) (T.history tree.new)) }
     ensures all { OnOk result (stage.new.acted ≡ action_count stage.new.intent) }

@@ -11,7 +11,7 @@ ghost use Rattle.base_core.specs.Restart.{SinceBy};
 ghost use Rattle.base_core.specs.Tree.{files_of};
 ghost use Rattle.base_core.specs.declared.cause.Cause.{Cause};
 ghost use Rattle.journal_core.specs.Acting.{IsNextName};
-ghost use Rattle.journal_core.specs.Kept.{IsInNoMap, IsLessWaiting, IsOfAction, KeepsFilesBut, KeepsIntent, KeepsMapsBut, NamesLastBut, RecoversTo};
+ghost use Rattle.journal_core.specs.Kept.{IsInNoMap, IsLessWaiting, IsOfAction, KeepsFilesBut, KeepsIntent, KeepsMapsBut, KeepsOldOrNewBytes, NamesLastBut, RecoversTo};
 ghost use Rattle.journal_core.specs.Quiet.{IsStill};
 ghost use Rattle.journal_core.specs.Recovery.{IsSettled, RestsOn, after_actions, intent_name, read_intent, stage_name};
 ghost use Rattle.journal_core.specs.Staged.{Staging, HasRoomBeside, HasRoomToStage, IsActing, IsAlone, IsOnTheWay, IsStaged, PublishedBy, action_count, new_stage};
@@ -341,6 +341,11 @@ impl Stage {
             → IsActing self.old files v
             → Since (RecoversTo files) (T.history tree.old) (T.history tree.new)) }
 
+        // At each moment a name that does not wait has its old bytes or its new ones.
+        ensures bytes { IfObservable (T.history tree.old) (λ v. (files : Files)
+            → IsActing self.old files v
+            → KeepsOldOrNewBytes files v (T.history tree.old) (T.history tree.new)) }
+
         // At each moment the intent stays, and each file that waits stays or goes.
         ensures waiting { IfObservable (T.history tree.old) (λ v.
             Since (KeepsIntent v) (T.history tree.old) (T.history tree.new)) }
@@ -397,6 +402,9 @@ impl Stage {
             Since (IsLessWaiting v) (T.history tree.old) (T.history tree.new)) }
         ensures others { IfObservable (T.history tree.old) (λ v. HasNow (T.history tree.new)
             (KeepsFilesBut (λ q. q ≡ intent_name) v)) }
+        ensures shown { IfObservable (T.history tree.old) (λ v.
+            Since (KeepsFilesBut (λ q. q ≡ intent_name) v)
+            (T.history tree.old) (T.history tree.new)) }
         ensures view { self.new ≡ self.old }
         ensures goes_on { GoesOn (T.counts tree.old) (T.counts tree.new) }
         ensures cause { OnErr result (HasCause (T.counts tree.old) (T.counts tree.new)) }

@@ -1,11 +1,10 @@
 //! The container of an intent is written.
-ghost use Rattle.std.specs.Prelude.{◌≡◌, ◌++◌, ◌<◌, ◌≤◌, ◌+◌, ◌^◌, ℕ, List, Some, None, length, IfOk, OnOk, IsErrOf};
+ghost use Rattle.std.specs.Prelude.{◌≡◌, ◌++◌, ◌<◌, ◌+◌, ◌^◌, ℕ, List, Some, None, length, IfOk, OnOk, IsErrOf};
 ghost use Rattle.adb_schema.specs.declared.read.TheConstants.{INTENT_WORD};
+ghost use Rattle.adb_values.specs.Drafts.{draft_with};
 ghost use Rattle.adb_view.specs.Plain.{arr_value};
-ghost use Rattle.adb_write.specs.Canonical.{canonical, overflow_of, MOST_BYTES};
-ghost use Rattle.adb_write.specs.DepthFirst.{WritesValue};
+ghost use Rattle.adb_write.specs.Canonical.{canonical, overflow_of};
 ghost use Rattle.adb_write.specs.File.{file_of};
-ghost use Rattle.adb_write.specs.Size.{size_of};
 ghost use Rattle.journal_intent.specs.Intent.{AreChangeNames, read_intent};
 ghost use Rattle.journal_intent.specs.IntentValue.{intent_of_lists, name_plains, value_of_intent};
 
@@ -14,11 +13,8 @@ use adb_fields::no_name_is_repeated_where_each_stands_once;
 use adb_rules::no_text_is_bad_where_each_keeps_its_rule;
 use adb_schema::INTENT_WORD;
 use adb_sound::{a_container_of_a_good_value_is_sound, what_a_container_is_made_of_is_read_back};
-use adb_view::Val;
-use adb_write::{
-    WriteFault, Writer, a_file_is_spelled, a_value_overflows_exactly_past_a_limit,
-    a_value_written_depth_first_is_canonical, file_of, values_are_written_depth_first,
-};
+use adb_values::Draft;
+use adb_write::{WriteFault, a_file_is_spelled, a_value_overflows_exactly_past_a_limit, file_of};
 use base_core::Names;
 use std::alloc::{AllocError, Global};
 
@@ -42,14 +38,13 @@ pub(crate) fn intent_file(
         (overflow_of (value_of_intent (intent_of_lists removals.now writes.now)) ≡ None) }
     ensures few { OnOk result (length removals.now + length writes.now < 2 ^ 63) }
 {
-    values_are_written_depth_first();
-    a_value_written_depth_first_is_canonical();
     an_intent_is_read_back();
-    let mut writer = Writer::new(alloc);
-    let removals = write_names(alloc, &mut writer, removals)?;
-    let writes = write_names(alloc, &mut writer, writes)?;
-    let root = writer.obj(&[removals, writes])?;
-    let payload = writer.finish(root)?;
+    let mut draft = Draft::new(alloc);
+    draft.open_list()?;
+    write_names(&mut draft, removals)?;
+    write_names(&mut draft, writes)?;
+    draft.close_object()?;
+    let payload = draft.finish()?;
     let file = file_of(alloc, INTENT_WORD, &payload)?;
     Ok(file)
 }
@@ -65,9 +60,6 @@ fn an_intent_is_read_back()
     ensures few { (removals writes : List (List ℕ))
         → overflow_of (value_of_intent (intent_of_lists removals writes)) ≡ None
         → length removals + length writes < 2 ^ 63 }
-    ensures short { (removals writes : List (List ℕ))
-        → overflow_of (value_of_intent (intent_of_lists removals writes)) ≡ None
-        → size_of (value_of_intent (intent_of_lists removals writes)) ≤ MOST_BYTES }
 {
     a_file_is_spelled();
     what_is_spelled_is_read();
@@ -79,16 +71,15 @@ fn an_intent_is_read_back()
 }
 
 /// Writes an array of names.
-fn write_names(alloc: Global, writer: &mut Writer, names: &Names) -> Result<Val, AllocError>
-    ensures { IfOk result
-        (λ word. WritesValue writer.old (arr_value (name_plains names.now)) word writer.new) }
+fn write_names(draft: &mut Draft, names: &Names) -> Result<(), AllocError>
+    ensures { OnOk result
+        (draft.new ≡ draft_with (arr_value (name_plains names.now)) draft.old) }
 {
-    values_are_written_depth_first();
-    let mut words = Vec::new(alloc);
+    draft.open_list()?;
     for i in 0..names.len() {
-        words.push(writer.blob(names.get(i).as_bytes())?)?;
+        draft.blob(names.get(i).as_bytes())?;
     }
-    writer.arr(&words)
+    draft.close_array()
 }
 
 /// Equal names.

@@ -10,10 +10,9 @@ ghost use Rattle.journal_intent.specs.FreeNames.{AllNamed};
 ghost use Rattle.journal_intent.specs.Intent.{read_intent};
 ghost use Rattle.journal_intent.specs.IntentValue.{intent_of_lists};
 
-use crate::names::name_of_bytes;
 use adb_fields::List;
 use adb_schema::{ReadFault, Which, read_adb, sound_containers_hold_sound_values};
-use base_core::Names;
+use base_core::{Name, Names};
 use std::alloc::{AllocError, Global};
 
 /// The two lists of an intent.
@@ -53,7 +52,7 @@ fn names_in<'a>(alloc: Global, list: List<'a, &'a [u8]>) -> Result<Names, AllocE
 {
     let mut names = Names::new(alloc);
     for i in 0..list.len() {
-        names.push(name_of_bytes(alloc, list.get(i + 1))?)?;
+        names.push(Name::of(alloc, list.get(i + 1))?)?;
     }
     Ok(names)
 }

@@ -1,7 +1,6 @@
 //! The fixed names of a change: that of the intent, the folder of the stage, and those of the files
 //! that wait in it.
-ghost use Rattle.std.specs.Prelude.{◌≡◌, true, IfOk};
-ghost use Rattle.base_core.specs.Name.{is_name};
+ghost use Rattle.std.specs.Prelude.{◌≡◌, IfOk};
 ghost use Rattle.journal_intent.specs.FreeNames.{stage_names_from};
 ghost use Rattle.journal_intent.specs.Intent.{intent_name, stage_folder, stage_name};
 
@@ -12,25 +11,14 @@ use std::alloc::{AllocError, Global};
 pub fn intent_name(alloc: Global) -> Result<Name, AllocError>
     ensures { IfOk result (λ name. name ≡ intent_name) }
 {
-    name_of_bytes(alloc, b"lib/apk/intent")
+    Name::of(alloc, b"lib/apk/intent")
 }
 
 /// The folder in which new files wait, `lib/apk/stage`.
 pub fn stage_folder(alloc: Global) -> Result<Name, AllocError>
     ensures { IfOk result (λ name. name ≡ stage_folder) }
 {
-    name_of_bytes(alloc, b"lib/apk/stage")
-}
-
-/// The name that these bytes are.
-pub(crate) fn name_of_bytes(alloc: Global, bytes: &[u8]) -> Result<Name, AllocError>
-    requires { is_name bytes.now ≡ true }
-    ensures { IfOk result (λ name. name ≡ bytes.now) }
-{
-    match Name::read(alloc, bytes)? {
-        Some(name) => Ok(name),
-        None => unreachable!(),
-    }
+    Name::of(alloc, b"lib/apk/stage")
 }
 
 /// The names of so many waiting files, from number 0 on.
@@ -49,5 +37,5 @@ fn stage_name(alloc: Global, k: usize) -> Result<Name, AllocError>
     ensures { IfOk result (λ name. name ≡ stage_name k) }
 {
     let text = format!(in alloc; "lib/apk/stage/{k}")?;
-    name_of_bytes(alloc, text.as_bytes())
+    Name::of(alloc, text.as_bytes())
 }

@@ -62,13 +62,6 @@ good_back (x ∷ xs) ys a = behind_front (keeps_rule x) (BadText (number_of_leaf
 pub good_leaf : (x : Leaf) → keeps_rule x ≡ true → first_bad (x ∷ []) ≡ None
 good_leaf x e = rw e refl
 
-pub leaf_kept : (x : Leaf) → first_bad (x ∷ []) ≡ None → keeps_rule x ≡ true
-leaf_kept x h = step (keeps_rule x) h
-  where
-    step : (b : Bool) → (if b then None else Some (BadText (number_of_leaf x))) ≡ None → b ≡ true
-    step true e = refl
-    step false e = (cc)
-
 -- ---- good values
 
 -- normal, of its shape, and each text and number keeps the rule of its place

@@ -2,14 +2,17 @@ pub mod Apart
 pub mod Blind
 pub mod GoodValues
 pub mod IndexEntry
+pub mod IndexPackages
 pub mod InformationGood
 pub mod ListedNames
 pub mod MadeIndex
 pub mod MadePackage
+pub mod MissingFiles
 pub mod NameParts
 pub mod OpenedPackage
 pub mod PackageContents
 pub mod PackageFiles
+pub mod PackageFolder
 pub mod Roots
 pub mod SaidGood
 pub mod SoundIndex

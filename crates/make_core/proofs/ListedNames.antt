@@ -1,14 +1,14 @@
 -- The folders of names that are listed below a folder, and the files in them, may stand in a package.
-use Rattle.std.proofs.Common.{◌≡◌, ◌≢◌, ◌⊎◌, inl, inr, ℕ, ◌+◌, ◌^◌, ◌<◌, Bool, true, false, cond, if◌then◌else◌, List, [], ◌∷◌, ◌++◌, length, drop, map, bytes_eq, filter, Result, Ok, Err, refl, sym, ap, subst, ◌∙◌, append_assoc, arith}
+use Rattle.std.proofs.Common.{◌≡◌, ◌≢◌, inl, inr, ℕ, ◌+◌, ◌^◌, ◌<◌, Bool, true, false, cond, if◌then◌else◌, List, [], ◌∷◌, ◌++◌, length, drop, map, bytes_eq, filter, Result, Ok, Err, refl, sym, ap, subst, ◌∙◌, append_assoc, arith}
 use Rattle.std.specs.Prelude.{sum_by}
 use Rattle.std.specs.List.{flat_map}
 use Rattle.std.proofs.lemmas.Bool.{eqb-true}
 use Rattle.std.proofs.lemmas.List.{drop_at, length-append}
-use Rattle.std.proofs.lemmas.List.Concat.{flat_map-cons}
 use Rattle.std.proofs.lemmas.List.Sums.{sum_by-cons}
 use Rattle.std.proofs.lemmas.Slice.Eq.{bytes_eq-Decides}
 use Rattle.base_core.specs.Name.{is_name}
 use Rattle.adb_fields.specs.FirstPair.{IsIn}
+use Rattle.adb_fields.proofs.Members.{from-flat_map, from-map}
 use Rattle.adb_fields.specs.Paths.{path_of}
 use Rattle.adb_rules.specs.Rules.{is_file_name, is_folder_name}
 use Rattle.make_package.specs.Folders.{FolderListing, before_slashes, path_below, names_in_folder, folder_names, folder_of, folders_of, folders_over, is_slash, listing_of, last_part_of}
@@ -27,13 +27,13 @@ AreListed dir (name ∷ names) = ((path : List ℕ) × (name ≡ dir ++ 47 ∷ p
 
 -- ---- a name and its path
 
-below_is : (dir path : List ℕ) → path_below dir (dir ++ 47 ∷ path) ≡ path
+pub below_is : (dir path : List ℕ) → path_below dir (dir ++ 47 ∷ path) ≡ path
 below_is dir path =
     ap (drop (length dir + 1)) (sym (append_assoc dir (47 ∷ []) path)) ∙ drop_at (dir ++ 47 ∷ []) path (length dir + 1) (omega (arith, length-append dir (47 ∷ [])))
 
-record IsListed (dir name : List ℕ) : Type 0 where
-  is : name ≡ dir ++ 47 ∷ path_below dir name
-  named : is_name (path_below dir name) ≡ true
+pub record IsListed (dir name : List ℕ) : Type 0 where
+  pub is : name ≡ dir ++ 47 ∷ path_below dir name
+  pub named : is_name (path_below dir name) ≡ true
 
 listed_name : (dir name path : List ℕ) → name ≡ dir ++ 47 ∷ path → is_name name ≡ true → IsListed dir name
 listed_name dir name path is named =
@@ -43,41 +43,19 @@ listed_name dir name path is named =
       named = ap is_name same ∙ (sides dir path (ap is_name (sym is) ∙ named)).1;
     }
 
-listed_in : (dir : List ℕ) (names : List (List ℕ)) (name : List ℕ) → AreListed dir names → IsIn name names → IsListed dir name
+pub listed_in : (dir : List ℕ) (names : List (List ℕ)) (name : List ℕ) → AreListed dir names → IsIn name names → IsListed dir name
 listed_in dir [] name all h = absurd h
 listed_in dir (x ∷ xs) name all (inl is) = subst (IsListed dir) (sym is) (listed_name dir x all.0.0 all.0.1 all.0.2)
 listed_in dir (x ∷ xs) name all (inr h) = listed_in dir xs name all.1 h
 
 -- ---- folders
 
-in_map : (f : List ℕ → List ℕ) (q : List ℕ) (xs : List (List ℕ)) → IsIn q (map f xs) → (x : List ℕ) × IsIn x xs × (q ≡ f x)
-in_map f q [] h = absurd h
-in_map f q (x ∷ xs) (inl is) = (x, inl refl, is)
-in_map f q (x ∷ xs) (inr h) = let (y, here, is) = in_map f q xs h in (y, inr here, is)
-
-in_append : (q : List ℕ) (xs ys : List (List ℕ)) → IsIn q (xs ++ ys) → IsIn q xs ⊎ IsIn q ys
-in_append q [] ys h = inr h
-in_append q (x ∷ xs) ys (inl is) = inl (inl is)
-in_append q (x ∷ xs) ys (inr h) = shift (in_append q xs ys h)
-  where
-    shift : IsIn q xs ⊎ IsIn q ys → IsIn q (x ∷ xs) ⊎ IsIn q ys
-    shift (inl here) = inl (inr here)
-    shift (inr here) = inr here
-
-in_flat : (f : List ℕ → List (List ℕ)) (q : List ℕ) (xs : List (List ℕ)) → IsIn q (flat_map f xs) → (x : List ℕ) × IsIn x xs × IsIn q (f x)
-in_flat f q [] h = absurd h
-in_flat f q (x ∷ xs) h = by_side (in_flat f q xs) (in_append q (f x) (flat_map f xs) (subst (IsIn q) (flat_map-cons f x xs) h))
-  where
-    by_side : (IsIn q (flat_map f xs) → (y : List ℕ) × IsIn y xs × IsIn q (f y)) → IsIn q (f x) ⊎ IsIn q (flat_map f xs) → (y : List ℕ) × IsIn y (x ∷ xs) × IsIn q (f y)
-    by_side further (inl here) = (x, inl refl, here)
-    by_side further (inr there) = let (y, at, is) = further there in (y, inr at, is)
-
 abbrev IsBefore : List ℕ → List ℕ → Type 0
 IsBefore path f = (rest : List ℕ) × (path ≡ f ++ 47 ∷ rest)
 
 one_more : (b : ℕ) (bs : List ℕ) → ((f : List ℕ) → IsIn f (before_slashes bs) → IsBefore bs f) → (f : List ℕ) → IsIn f (map (λ folder. b ∷ folder) (before_slashes bs)) → IsBefore (b ∷ bs) f
 one_more b bs further f h =
-    let (x, here, is) = in_map (λ folder. b ∷ folder) f (before_slashes bs) h in
+    let (x, here, is) = from-map (λ folder. b ∷ folder) f (before_slashes bs) h in
     let (rest, e) = further x here in
     (rest, ap (λ (xs : List ℕ). b ∷ xs) e ∙ ap (λ (xs : List ℕ). xs ++ 47 ∷ rest) (sym is))
 
@@ -97,8 +75,8 @@ over_good path f name (inr h) = let (rest, e) = before_slash path f h in folder_
 
 pub folder_named : (dir : List ℕ) (names : List (List ℕ)) (f : List ℕ) → AreListed dir names → IsIn f (folder_names (map (path_below dir) names)) → is_folder_name f ≡ true
 folder_named dir names f all h =
-    let (path, at, over) = in_flat folders_over f (map (path_below dir) names) (in_order_in f (flat_map folders_over (map (path_below dir) names)) h) in
-    let (name, here, is) = in_map (path_below dir) path names at in
+    let (path, at, over) = from-flat_map folders_over f (map (path_below dir) names) (in_order_in f (flat_map folders_over (map (path_below dir) names)) h) in
+    let (name, here, is) = from-map (path_below dir) path names at in
     over_good path f (ap is_name is ∙ (listed_in dir names name all here).named) over
 
 -- ---- files
@@ -108,7 +86,7 @@ abbrev pub AreFileNames : List ℕ → List (List ℕ) → Type 0
 AreFileNames f [] = Unit {0}
 AreFileNames f (part ∷ parts) = (is_file_name f part ≡ true) × AreFileNames f parts
 
-abbrev stands_in : List ℕ → List ℕ → List ℕ → Bool
+abbrev pub stands_in : List ℕ → List ℕ → List ℕ → Bool
 stands_in dir f name = bytes_eq (folder_of (path_below dir name)) f
 
 part_is : (dir name : List ℕ) → IsListed dir name → last_part_of name ≡ last_part_of (path_below dir name)
@@ -121,7 +99,7 @@ file_named dir f name l here =
     let part = part_is dir name l in
     (λ k. is_file_name (sym folder k) (part k)) ∙ (path_good path l.named).good
 
-recovered : (dir f name : List ℕ) → IsListed dir name → stands_in dir f name ≡ true → name ≡ dir ++ 47 ∷ path_of f (last_part_of name)
+pub recovered : (dir f name : List ℕ) → IsListed dir name → stands_in dir f name ≡ true → name ≡ dir ++ 47 ∷ path_of f (last_part_of name)
 recovered dir f name l here =
     let path : List ℕ = path_below dir name in
     let folder : folder_of path ≡ f = (bytes_eq-Decides (folder_of path) f).0 here in
@@ -137,7 +115,7 @@ files_named dir f (name ∷ names) all = by_folder (stands_in dir f name) refl (
     by_folder true e further = (file_named dir f name (listed_name dir name all.0.0 all.0.1 all.0.2) e, further)
     by_folder false e further = further
 
-filter_in : (p : List ℕ → Bool) (z : List ℕ) (xs : List (List ℕ)) → IsIn z (filter p xs) → IsIn z xs × (p z ≡ true)
+pub filter_in : (p : List ℕ → Bool) (z : List ℕ) (xs : List (List ℕ)) → IsIn z (filter p xs) → IsIn z xs × (p z ≡ true)
 filter_in p z [] h = absurd h
 filter_in p z (x ∷ xs) h = by_test (p x) refl (filter_in p z xs) h
   where
@@ -149,7 +127,7 @@ filter_in p z (x ∷ xs) h = by_test (p x) refl (filter_in p z xs) h
 other_part : (dir f name : List ℕ) (names : List (List ℕ)) → IsListed dir name → AreListed dir names → stands_in dir f name ≡ true → ((q : List ℕ) → IsIn q names → name ≢ q)
     → (q : List ℕ) → IsIn q (map last_part_of (names_in_folder dir names f)) → last_part_of name ≢ q
 other_part dir f name names l all here apart q h same =
-    let (z, at, is) = in_map last_part_of q (names_in_folder dir names f) h in
+    let (z, at, is) = from-map last_part_of q (names_in_folder dir names f) h in
     let both = filter_in (stands_in dir f) z names at in
     let one = recovered dir f name l here in
     let two = recovered dir f z (listed_in dir names z all both.0) both.1 in
@@ -181,7 +159,7 @@ AllOf R [] (y ∷ ys) = ⊥
 AllOf R (x ∷ xs) [] = ⊥
 AllOf R (x ∷ xs) (y ∷ ys) = R x y × AllOf R xs ys
 
-each_read : {X Y : Type 0} (R : X → Y → Type 0) (count : X → ℕ) (of : ℕ → X → Result Y MakeFault) → ((n : ℕ) (x : X) (y : Y) → of n x ≡ Ok y → R x y)
+pub each_read : {X Y : Type 0} (R : X → Y → Type 0) (count : X → ℕ) (of : ℕ → X → Result Y MakeFault) → ((n : ℕ) (x : X) (y : Y) → of n x ≡ Ok y → R x y)
     → (n : ℕ) (xs : List X) (ys : List Y) → each_from count of n xs ≡ Ok ys → AllOf R xs ys
 each_read R count of h n [] ys e = let same : [] ≡ ys = cc (e) in subst (AllOf R []) same tt
 each_read R count of h n (x ∷ xs) ys e =

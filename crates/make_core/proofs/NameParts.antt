@@ -1,41 +1,17 @@
 -- Where a name has a slash, names stand before it and behind it; the last one ends the folder.
 use Rattle.std.proofs.Common.{◌≡◌, ◌⊎◌, inl, inr, ℕ, suc, zero, ◌+◌, ◌-◌, ◌<◌, ◌≤◌, Bool, true, false, cond, not, ◌&&◌, ◌||◌, ◌==◌, eqb, nat_le, nat_lt, List, [], ◌∷◌, ◌++◌, length, take, drop, get_or, refl, sym, ap, subst, ◌∙◌, append_assoc, arith}
 use Rattle.std.specs.Str.{IsUtf8, is_utf8}
-use Rattle.std.specs.List.{list_all, list_any, onto_first, suffix_len}
+use Rattle.std.specs.List.{list_all, list_any, suffix_len}
 use Rattle.std.proofs.lemmas.Bool.{and_parts, eqb-true, le-leb, leb-true, lt-ltb, ltb-true}
 use Rattle.std.proofs.lemmas.List.{drop_at, get_or-append-add, length-append, take_at}
 use Rattle.std.proofs.lemmas.List.Folds.{list_all-append, list_any-append}
 use Rattle.std.proofs.lemmas.List.Sums.{suffix_len_is}
 use Rattle.std.proofs.lemmas.Str.{IsCharBoundary-after_ascii, IsCharBoundary-before_ascii, IsUtf8-drop, IsUtf8-from_is_utf8, IsUtf8-take, is_utf8-from_IsUtf8}
 use Rattle.base_core.specs.Name.{is_name, is_part, parts_of}
+use Rattle.base_core.proofs.NameParts.{split_slash}
 use Rattle.adb_fields.specs.Paths.{path_of}
 use Rattle.adb_rules.specs.Rules.{is_file_name, is_folder_name, is_one_part}
 use Rattle.make_package.specs.Folders.{folder_of, is_slash, last_part_of}
-
--- ---- the parts on both sides
-
-split_some : (xs : List ℕ) → (first : List ℕ) × (others : List (List ℕ)) × (parts_of xs ≡ first ∷ others)
-split_some [] = ([], [], refl)
-split_some (x ∷ xs) = by_slash (eqb x 47) (split_some xs)
-  where
-    by_slash : (b : Bool) → (first : List ℕ) × (others : List (List ℕ)) × (parts_of xs ≡ first ∷ others)
-        → (first : List ℕ) × (others : List (List ℕ)) × (cond b ([] ∷ parts_of xs) (onto_first x (parts_of xs)) ≡ first ∷ others)
-    by_slash true s = ([], parts_of xs, refl)
-    by_slash false (q, qs, e) = (x ∷ q, qs, ap (onto_first x) e)
-
-onto_append : (x : ℕ) (q : List ℕ) (qs others : List (List ℕ)) → onto_first x ((q ∷ qs) ++ others) ≡ onto_first x (q ∷ qs) ++ others
-onto_append x q qs others = refl
-
-split_slash : (a b : List ℕ) → parts_of (a ++ 47 ∷ b) ≡ parts_of a ++ parts_of b
-split_slash [] b = refl
-split_slash (x ∷ xs) b = by_slash (eqb x 47) (split_slash xs b) (split_some xs)
-  where
-    by_slash : (c : Bool) → parts_of (xs ++ 47 ∷ b) ≡ parts_of xs ++ parts_of b → (first : List ℕ) × (others : List (List ℕ)) × (parts_of xs ≡ first ∷ others)
-        → cond c ([] ∷ parts_of (xs ++ 47 ∷ b)) (onto_first x (parts_of (xs ++ 47 ∷ b))) ≡ cond c ([] ∷ parts_of xs) (onto_first x (parts_of xs)) ++ parts_of b
-    by_slash true e s = ap (λ (ps : List (List ℕ)). [] ∷ ps) e
-    by_slash false e (q, qs, is) =
-        ap (onto_first x) (e ∙ ap (λ (ps : List (List ℕ)). ps ++ parts_of b) is)
-        ∙ (onto_append x q qs (parts_of b) ∙ ap (λ (ps : List (List ℕ)). onto_first x ps ++ parts_of b) (sym is))
 
 -- ---- what a name is, test by test
 

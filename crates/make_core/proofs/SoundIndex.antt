@@ -19,7 +19,7 @@ use Rattle.adb_write.specs.File.{file_of}
 use Rattle.pkg_core.specs.Whole.{container_fault, package_fault}
 use Rattle.command_core.specs.Files.{without_dot}
 use Rattle.command_core.specs.declared.operands.Operand.{Operand}
-use Rattle.make_index.specs.Index.{and_entries, found_entries, found_entry, index_by, index_container, index_of, index_of_found, value_of_index, entry_unless, description_in, made_index}
+use Rattle.make_index.specs.Index.{and_entries, found_entries, found_entry, index_container, index_of, index_of_found, value_of_index, entry_unless, description_in, made_index}
 use Rattle.make_info.specs.Values.{plains_of_list}
 use Rattle.command_core.specs.Command.{CommandLine}
 use Rattle.make_index.specs.Entries.{entry_of_package}

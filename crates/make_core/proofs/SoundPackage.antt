@@ -77,7 +77,7 @@ module _ (P : Plain → List Contents → List ℕ → Type 0) where
 
 -- ---- of a command
 
-are_listed : (folder : List ℕ) (names : List (List ℕ)) → All (IsNameBelow folder) names → AreListed folder names
+pub are_listed : (folder : List ℕ) (names : List (List ℕ)) → All (IsNameBelow folder) names → AreListed folder names
 are_listed folder [] all = tt
 are_listed folder (name ∷ names) all =
     let first = All-head (IsNameBelow folder) name names all in
@@ -95,16 +95,16 @@ info_ok (Ok x) items e = let same : x ≡ items = cc (e) in ap Ok same
 info_ok (Err place) items e = absurd (cc (e))
 
 -- what a made package was made of
-record IsMadeOf (P : Plain → List Contents → List ℕ → Type 0) (command : CommandLine) (names : List (List ℕ)) (read : Reads) (bytes : List ℕ) : Type 0 where
-  scripts : List Script
-  items : List InfoItem
-  sources : List SourceFolder
-  scripts_read : scripts_from read 0 (values_with SCRIPT command.values) ≡ Ok scripts
-  items_read : or_info_bad (information command) ≡ Ok items
-  sources_read : folders_below read (length scripts) (values_with FILES command.values) names ≡ Ok sources
-  holds : P (value_of_package (information_value items (installed_size sources)) sources scripts (texts_of (values_with TRIGGER command.values)) (replaces_priority items)) (contents_of_folders 1 sources) bytes
+pub record IsMadeOf (P : Plain → List Contents → List ℕ → Type 0) (command : CommandLine) (names : List (List ℕ)) (read : Reads) (bytes : List ℕ) : Type 0 where
+  pub scripts : List Script
+  pub items : List InfoItem
+  pub sources : List SourceFolder
+  pub scripts_read : scripts_from read 0 (values_with SCRIPT command.values) ≡ Ok scripts
+  pub items_read : or_info_bad (information command) ≡ Ok items
+  pub sources_read : folders_below read (length scripts) (values_with FILES command.values) names ≡ Ok sources
+  pub holds : P (value_of_package (information_value items (installed_size sources)) sources scripts (texts_of (values_with TRIGGER command.values)) (replaces_priority items)) (contents_of_folders 1 sources) bytes
 
-made_of : (P : Plain → List Contents → List ℕ → Type 0) → Holds P → Sizes → Exact → Needs → Tells → (command : CommandLine) (names : List (List ℕ)) (read : Reads) (bytes : List ℕ) → AreNamesFor (values_with FILES command.values) names
+pub made_of : (P : Plain → List Contents → List ℕ → Type 0) → Holds P → Sizes → Exact → Needs → Tells → (command : CommandLine) (names : List (List ℕ)) (read : Reads) (bytes : List ℕ) → AreNamesFor (values_with FILES command.values) names
     → made_package command names read ≡ Ok bytes → length bytes < 2 ^ 64 → IsMadeOf P command names read bytes
 unfolding made_package
 made_of P holds sizes exact needs tells command names read bytes below e short =

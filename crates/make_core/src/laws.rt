@@ -1,7 +1,8 @@
-//! What is made is sound: no test of a container fails (apk-v3(5)).
+//! What is made is sound, and what it holds: no test of a container fails (apk-v3(5)), and it is
+//! read back.
 ghost use Rattle.adb_schema.specs.Soundness.{payload_in, root_value};
-ghost use Rattle.adb_tables.specs.declared.tables.Which.TheVariants.{Index};
-ghost use Rattle.command_core.specs.declared.values.TheConstants.{FILES};
+ghost use Rattle.adb_tables.specs.declared.tables.Which.TheVariants.{Index, Package};
+ghost use Rattle.command_core.specs.declared.values.TheConstants.{FILES, SCRIPT};
 ghost use Rattle.make_index.specs.Files.{AreFiles};
 ghost use Rattle.make_index.specs.Index.{made_index};
 ghost use Rattle.make_info.specs.Reads.{Reads};
@@ -9,8 +10,16 @@ ghost use Rattle.make_package.specs.Making.{made_package};
 ghost use Rattle.make_package.specs.Sources.{AreNamesFor, values_with};
 ghost use Rattle.make_core.specs.ReadBack.{index_value_by, packed_package};
 ghost use Rattle.pkg_core.specs.Whole.{container_fault, package_with_contents};
-ghost use Rattle.std.specs.Prelude.{◌≡◌, ◌<◌, ◌^◌, ℕ, List, length, None, Ok};
+ghost use Rattle.std.specs.Prelude.{◌≡◌, ◌<◌, ◌^◌, ◌∷◌, ◌⊎◌, ℕ, List, length, None, Ok, Err};
+ghost use Rattle.base_core.specs.Files.{Files};
+ghost use Rattle.base_core.specs.Listed.{AreNamesBelow};
 ghost use Rattle.command_core.specs.Command.{CommandLine};
+ghost use Rattle.command_core.specs.Files.{without_dot};
+ghost use Rattle.command_core.specs.declared.values.OptionValue.{OptionValue};
+ghost use Rattle.make_core.specs.FilesBelow.{HasFilesBelow};
+ghost use Rattle.make_core.specs.IndexOrder.{HasPackagesInOrder};
+ghost use Rattle.make_core.specs.Missing.{IsMissingFile, IsMissingScript};
+ghost use Rattle.make_info.specs.declared.fault.MakeFault.TheVariants.{FileMissing};
 
 use adb_fields::the_first_pair_in_one_of_several_lists_is_reported;
 use adb_sound::{
@@ -21,7 +30,8 @@ use adb_tables::values_of_few_visits_have_no_fault;
 use adb_view::{values_are_normal, values_have_their_shape};
 use adb_write::a_value_overflows_exactly_past_a_limit;
 use dep_core::{read_texts_are_spelled, values_are_read_back};
-use make_package::the_installed_size_is_that_of_the_contents;
+use make_index::an_index_is_in_order;
+use make_package::{each_name_stands_in_one_folder, the_installed_size_is_that_of_the_contents};
 
 /// An index that `mkndx` makes is sound, whatever packages it is made of: of files of bytes, fewer
 /// than 2^64 each.
@@ -84,3 +94,48 @@ pub fn a_made_package_is_read_back()
     values_are_read_back();
     the_first_pair_in_one_of_several_lists_is_reported();
 }
+
+/// An index that `mkndx` makes tells of just the packages that its operands name, each of which
+/// passes all its tests, and has their entries in order.
+pub fn a_made_index_has_its_packages_in_order()
+    ensures { (command : CommandLine) (read : Reads) (bytes : List ℕ)
+        → AreFiles read 0 command.operands → made_index command read ≡ Ok bytes
+        → HasPackagesInOrder read command.operands (root_value Index (payload_in bytes)) }
+{
+    an_index_is_in_order();
+    what_a_container_is_made_of_is_read_back();
+    a_value_overflows_exactly_past_a_limit();
+    values_are_normal();
+    values_have_their_shape();
+    values_of_few_visits_have_no_fault();
+}
+
+/// A package that `mkpkg` makes of a tree holds just the files below the folder that is given, each
+/// once and under its path, where the package has fewer than 2^64 bytes.
+pub fn a_made_package_has_the_files_below_its_folder()
+    ensures { (command : CommandLine) (names : List (List ℕ)) (files : Files) (bytes : List ℕ)
+        (folder : OptionValue) (others : List OptionValue)
+        → values_with FILES command.values ≡ folder ∷ others
+        → AreNamesBelow (without_dot folder.text) names
+        → made_package command names (λ n name. files name) ≡ Ok bytes → length bytes < 2 ^ 64
+        → HasFilesBelow files (without_dot folder.text) names
+        (root_value Package (payload_in bytes)) }
+{
+    each_name_stands_in_one_folder();
+    what_a_container_is_made_of_is_read_back();
+    contents_stand_in_their_container();
+    the_installed_size_is_that_of_the_contents();
+    a_value_overflows_exactly_past_a_limit();
+    read_texts_are_spelled();
+    values_are_read_back();
+    the_first_pair_in_one_of_several_lists_is_reported();
+}
+
+/// A file that is missing is reported at the option that gives it: at a script whose file is
+/// absent, or at the folder, where a name that was listed below it is gone.
+pub fn a_missing_file_is_reported_at_its_option()
+    ensures { (command : CommandLine) (names : List (List ℕ)) (read : Reads) (place : ℕ)
+        → made_package command names read ≡ Err (FileMissing place)
+        → IsMissingScript read (values_with SCRIPT command.values) place
+        ⊎ IsMissingFile read (values_with FILES command.values) names place }
+{}

@@ -11,8 +11,9 @@ mod laws;
 
 pub use commands::{mkndx, mkpkg};
 pub use laws::{
-    a_made_index_is_read_back, a_made_index_is_sound, a_made_package_is_read_back,
-    a_made_package_is_sound,
+    a_made_index_has_its_packages_in_order, a_made_index_is_read_back, a_made_index_is_sound,
+    a_made_package_has_the_files_below_its_folder, a_made_package_is_read_back,
+    a_made_package_is_sound, a_missing_file_is_reported_at_its_option,
 };
 pub use make_index::{an_entry_is_an_info, an_index_is_in_order};
 pub use make_info::{

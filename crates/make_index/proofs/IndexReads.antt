@@ -1,5 +1,5 @@
 -- Packages that are read, operand by operand.
-use Rattle.std.proofs.Common.{◌≡◌, ℕ, zero, suc, ◌+◌, ◌<◌, ◌==◌, Bool, true, false, ◌&&◌, if◌then◌else◌, List, [], ◌∷◌, ◌++◌, length, drop, Option, Some, None, IfSome, Result, Ok, Err, refl, sym, ◌∙◌, ap, subst, arith, append_assoc, append-nil, ◌≤◌}
+use Rattle.std.proofs.Common.{◌≡◌, ℕ, zero, suc, ◌+◌, ◌<◌, ◌==◌, Bool, true, false, if◌then◌else◌, List, [], ◌∷◌, ◌++◌, length, drop, Option, Some, None, IfSome, Result, Ok, Err, refl, sym, ◌∙◌, ap, subst, arith, append_assoc, append-nil, ◌≤◌}
 use Rattle.std.proofs.lemmas.Bool.{eq-eqb, ne_eqb}
 use Rattle.std.proofs.Math.ListN.{drop_of_length-le}
 use Rattle.std.specs.List.{slice_get}
@@ -50,11 +50,6 @@ left_at [] i x e = cc
 left_at (y ∷ xs) zero x e = cc
 left_at (y ∷ xs) (suc i) x e =
     let next : suc (i + 1) ≡ suc i + 1 = omega arith in left_at xs i x e ∙ ap (λ n. x ∷ drop n (y ∷ xs)) next
-
-pub both_true : (a b : Bool) → a && b ≡ true → (a ≡ true) × (b ≡ true)
-both_true true true h = (refl, refl)
-both_true true false h = cc
-both_true false b h = cc
 
 -- ---- entries in front of those that are left
 
@@ -177,10 +172,6 @@ pub told_more : (old now : List TreeState) (os : List Operand) (i : ℕ) (o : Op
 told_more [] now os i o es new e at same so one is = tt
 told_more (v ∷ earlier) now os i o es new e at same so one is =
     so_far_more (reads_of v) os i o es new e at so (subst (λ (t : List TreeState). IfObservable t (λ w. found_entry o.place (files_of w (without_dot o.text)) ≡ Ok e)) same one) is
-
-pub told_all : (old : List TreeState) (os : List Operand) (i : ℕ) (es : List Plain) → length os ≤ i → IfObservable old (λ v. IsSoFar (reads_of v) os i es) → IfObservable old (λ v. found_entries (reads_of v) 0 os ≡ Ok es)
-told_all [] os i es past so = tt
-told_all (v ∷ earlier) os i es past so = so_far_all (reads_of v) os i es past so
 
 pub told_err : {A B : Type 0} (view : A → List Plain) (one : B → Plain) (old now : List TreeState) (os : List Operand) (i : ℕ) (o : Operand) (es : List Plain) (fault : MakeFault) (r : Result A MakeFault) → slice_get os i ≡ Some o → now ≡ old → IfObservable old (λ v. IsSoFar (reads_of v) os i es) → IfObservable now (λ v. IsMadeBy one (Err fault) (found_entry o.place (files_of v (without_dot o.text)))) → r ≡ Err fault → IfObservable old (λ v. IsMadeBy view r (found_entries (reads_of v) 0 os))
 told_err view one [] now os i o es fault r at same so made e = tt

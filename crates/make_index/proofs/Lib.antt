@@ -1,6 +1,6 @@
+pub mod EntryPlaces
 pub mod IndexAgain
 pub mod IndexHeld
-pub mod IndexLists
 pub mod IndexMade
 pub mod IndexOrdering
 pub mod IndexReads

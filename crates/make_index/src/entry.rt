@@ -1,7 +1,7 @@
 //! An entry of an index: the tests of its package, and its order among the others.
 ghost use Rattle.adb_schema.specs.Soundness.{first_fault, payload_in, root_value};
 ghost use Rattle.adb_view.specs.Gives.{cause_of};
-ghost use Rattle.adb_write.specs.DepthFirst.{WritesValue};
+ghost use Rattle.adb_values.specs.Drafts.{draft_with};
 ghost use Rattle.base_core.specs.declared.cause.Cause.{Cause};
 ghost use Rattle.make_index.specs.Entries.{entry_of_package};
 ghost use Rattle.make_index.specs.EntryOrder.{entry_cmp};
@@ -11,14 +11,15 @@ ghost use Rattle.pkg_core.specs.Contents.{fault_in};
 ghost use Rattle.pkg_core.specs.Opened.{opened_files, opened_payload, opened_value};
 ghost use Rattle.pkg_core.specs.Whole.{package_fault};
 ghost use Rattle.pkg_core.specs.Refusals.{IsFaultOf};
-ghost use Rattle.std.specs.Prelude.{◌≡◌, Some, None, IfOk, IfErr, IfSome, IsTrue, Option};
+ghost use Rattle.std.specs.Prelude.{◌≡◌, Some, None, IfOk, IfErr, IfSome, IsTrue, OnOk, Option};
 ghost use Rattle.version_core.specs.Order.{is_version, version_cmp};
 ghost use Rattle.adb_tables.specs.declared.tables.Which.TheVariants as Tables;
 
 use crate::source::{EntryPayload, EntrySource, PackageFile, entry_payload};
 use adb_schema::sound_containers_hold_sound_values;
-use adb_view::{Val, values_are_normal, values_have_their_shape};
-use adb_write::{Writer, a_canonical_payload_is_read_back, a_value_overflows_exactly_past_a_limit};
+use adb_values::Draft;
+use adb_view::{values_are_normal, values_have_their_shape};
+use adb_write::{a_canonical_payload_is_read_back, a_value_overflows_exactly_past_a_limit};
 use base_core::Cause;
 use make_info::MakeFault;
 use pkg_core::{Package, PackageFault, a_package_is_tested_by_its_values_and_then_its_files};
@@ -82,11 +83,10 @@ impl Entry {
     }
 
     /// Writes the entry.
-    pub(crate) fn write(&self, alloc: Global, writer: &mut Writer) -> Result<Val, AllocError>
-        ensures { IfOk result (λ word. WritesValue writer.old
-            (entry_view self.now) word writer.new) }
+    pub(crate) fn write(&self, alloc: Global, draft: &mut Draft) -> Result<(), AllocError>
+        ensures { OnOk result (draft.new ≡ draft_with (entry_view self.now) draft.old) }
     {
-        self.source.write(alloc, writer)
+        self.source.write(alloc, draft)
     }
 }
 

@@ -6,8 +6,8 @@ ghost use Rattle.adb_tables.specs.declared.tables.Kind.TheVariants as Kinds;
 ghost use Rattle.adb_tables.specs.declared.tables.Which.TheVariants as Tables;
 ghost use Rattle.adb_view.specs.Plain.{Plain, arr_value, IsNormal};
 ghost use Rattle.adb_view.specs.Shaped.{HasShape};
+ghost use Rattle.adb_values.specs.Drafts.{draft_with};
 ghost use Rattle.adb_write.specs.Canonical.{written_of, MOST_BYTES};
-ghost use Rattle.adb_write.specs.DepthFirst.{WritesValue};
 ghost use Rattle.base_core.specs.Calls.{IfObservable};
 ghost use Rattle.base_core.specs.Read.{OnlyReads, bytes_in};
 ghost use Rattle.base_core.specs.Tree.{files_of};
@@ -23,16 +23,15 @@ ghost use Rattle.make_info.specs.Faults.{IsOverflow};
 ghost use Rattle.make_info.specs.Reads.{Reads};
 ghost use Rattle.make_info.specs.Values.{plains_of_list};
 ghost use Rattle.std.specs.List.Sorted.{IsPermutation, IsSorted, IsStable};
-ghost use Rattle.std.specs.Prelude.{◌≡◌, ◌≤◌, Ok, IfOk, IfErr, length, map, ◌<◌, ◌^◌, ℕ, List, All, true, None, ◌++◌, ◌∷◌, [], Option, IfSome, IsTrue};
+ghost use Rattle.std.specs.Prelude.{◌≡◌, ◌≤◌, Ok, IfOk, IfErr, OnOk, length, map, ◌<◌, ◌^◌, ℕ, List, All, true, None, ◌++◌, ◌∷◌, [], Option, IfSome, IsTrue};
 ghost use Rattle.version_core.specs.Order.{is_version};
 ghost use Rattle.command_core.specs.Named.{are_files};
 
 use crate::entry::Entry;
 use adb_schema::{INDEX_WORD, sound_containers_hold_sound_values};
-use adb_view::{Val, values_are_normal, values_have_their_shape};
-use adb_write::{
-    Writer, a_value_written_depth_first_is_canonical, file_of, values_are_written_depth_first,
-};
+use adb_values::Draft;
+use adb_view::{values_are_normal, values_have_their_shape};
+use adb_write::file_of;
 use base_core::{Name, Tree, read_all};
 use command_core::{Applet, Command, DESCRIPTION, Operands, Values, file_operands_are_files};
 use make_info::MakeFault;
@@ -169,40 +168,37 @@ fn index_payload(alloc: Global, description: &[u8], entries: &[Entry]) -> Result
     ensures err { IfErr result (λ fault. IsOverflow fault
         (written_of (value_of_index description.now (map entry_view entries.now)))) }
 {
-    a_value_written_depth_first_is_canonical();
-    let mut writer = Writer::new(alloc);
-    let root = write_index(alloc, &mut writer, description, entries)?;
-    Ok(writer.finish(root)?)
+    let mut draft = Draft::new(alloc);
+    write_index(alloc, &mut draft, description, entries)?;
+    Ok(draft.finish()?)
 }
 
 /// Writes the values of an index.
 fn write_index(
     alloc: Global,
-    writer: &mut Writer,
+    draft: &mut Draft,
     description: &[u8],
     entries: &[Entry],
-) -> Result<Val, AllocError>
-    ensures { IfOk result (λ root. WritesValue writer.old
-        (value_of_index description.now (map entry_view entries.now)) root writer.new) }
+) -> Result<(), AllocError>
+    ensures { OnOk result (draft.new
+        ≡ draft_with (value_of_index description.now (map entry_view entries.now)) draft.old) }
 {
-    values_are_written_depth_first();
-    let description = writer.blob(description)?;
-    let packages = write_entries(alloc, writer, entries)?;
-    let fields = [description, packages];
-    writer.obj(&fields)
+    draft.open_list()?;
+    draft.blob(description)?;
+    write_entries(alloc, draft, entries)?;
+    draft.close_object()
 }
 
 /// Writes an array of entries.
-fn write_entries(alloc: Global, writer: &mut Writer, entries: &[Entry]) -> Result<Val, AllocError>
-    ensures { IfOk result (λ word. WritesValue writer.old
-        (arr_value (plains_of_list (map entry_view entries.now))) word writer.new) }
+fn write_entries(alloc: Global, draft: &mut Draft, entries: &[Entry]) -> Result<(), AllocError>
+    ensures { OnOk result (draft.new
+        ≡ draft_with (arr_value (plains_of_list (map entry_view entries.now))) draft.old) }
 {
-    values_are_written_depth_first();
-    let mut words = Vec::with_capacity(alloc, entries.len())?;
+    draft.open_list()?;
     for entry in entries {
-        words.push(entry.write(alloc, writer)?)?;
+        entry.write(alloc, draft)?;
     }
-    writer.arr(&words)
+    draft.close_array()
 }
 
 /// The entry of a package is normal and has the shape of an info, and its version is one where the

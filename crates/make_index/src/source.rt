@@ -2,20 +2,21 @@
 ghost use Rattle.adb_schema.specs.Soundness.{first_fault, root_value};
 ghost use Rattle.adb_tables.specs.Values.{is_sound, entry_in};
 ghost use Rattle.adb_view.specs.Head.{head_fault, root_of};
+ghost use Rattle.adb_values.specs.Drafts.{draft_with};
 ghost use Rattle.adb_write.specs.Canonical.{written_of};
-ghost use Rattle.adb_write.specs.DepthFirst.{WritesValue};
 ghost use Rattle.make_index.specs.Entries.{entry_of_package};
 ghost use Rattle.adb_copy.specs.Zeros.{info_with};
 ghost use Rattle.pkg_core.specs.Opened.{opened_payload, opened_value};
 ghost use Rattle.sha2.specs.Sha256.{sha256};
-ghost use Rattle.std.specs.Prelude.{◌≡◌, true, is_none, ◌<◌, ◌^◌, Ok, IfOk, IfSome};
+ghost use Rattle.std.specs.Prelude.{◌≡◌, true, is_none, ◌<◌, ◌^◌, Ok, IfOk, IfSome, OnOk};
 ghost use Rattle.adb_tables.specs.declared.tables.Kind.TheVariants as Kinds;
 ghost use Rattle.adb_tables.specs.declared.tables.Which.TheVariants as Tables;
 
 use adb_copy::write_info;
 use adb_schema::{PkgInfo, View};
-use adb_view::{Adb, Val};
-use adb_write::{WriteFault, Writer, a_value_written_depth_first_is_canonical};
+use adb_values::Draft;
+use adb_view::Adb;
+use adb_write::WriteFault;
 use pkg_core::{Package, PackageFault};
 use std::alloc::{AllocError, Global};
 
@@ -49,13 +50,12 @@ impl EntrySource {
     ghost use Rattle.make_index.specs.Kept.{kept_value};
 
     /// Writes the entry.
-    pub(crate) fn write(&self, alloc: Global, writer: &mut Writer) -> Result<Val, AllocError>
-        ensures { IfOk result (λ word. WritesValue writer.old
-            (kept_value self.now) word writer.new) }
+    pub(crate) fn write(&self, alloc: Global, draft: &mut Draft) -> Result<(), AllocError>
+        ensures { OnOk result (draft.new ≡ draft_with (kept_value self.now) draft.old) }
     {
         match self {
-            EntrySource::Payload(own) => own.write(alloc, writer),
-            EntrySource::File(own) => own.write(alloc, writer),
+            EntrySource::Payload(own) => own.write(draft),
+            EntrySource::File(own) => own.write(alloc, draft),
         }
     }
 }
@@ -64,26 +64,26 @@ impl EntryPayload {
     ghost use Rattle.make_index.specs.Kept.{copy_of_entry};
 
     /// Writes the entry.
-    fn write(&self, alloc: Global, writer: &mut Writer) -> Result<Val, AllocError>
-        ensures { IfOk result (λ word. WritesValue writer.old
-            (copy_of_entry (root_value Tables.PkgInfo self.now.payload.items)) word writer.new) }
+    fn write(&self, draft: &mut Draft) -> Result<(), AllocError>
+        ensures { OnOk result (draft.new ≡ draft_with
+            (copy_of_entry (root_value Tables.PkgInfo self.now.payload.items)) draft.old) }
     {
         let Ok(adb) = Adb::new(&self.payload) else {
             unreachable!()
         };
         let info = PkgInfo::of(adb, adb.root());
-        write_info(alloc, writer, &info, info.hashes(), info.file_size())
+        write_info(draft, &info, info.hashes(), info.file_size())
     }
 }
 
 impl PackageFile {
     /// Writes the entry.
-    fn write(&self, alloc: Global, writer: &mut Writer) -> Result<Val, AllocError>
-        ensures { IfOk result (λ word. WritesValue writer.old
-            (entry_of_package self.now.file.items) word writer.new) }
+    fn write(&self, alloc: Global, draft: &mut Draft) -> Result<(), AllocError>
+        ensures { OnOk result
+            (draft.new ≡ draft_with (entry_of_package self.now.file.items) draft.old) }
     {
         match Package::new(alloc, &self.file) {
-            Ok(pkg) => write_package(alloc, writer, &pkg, self.file.len() as u64),
+            Ok(pkg) => write_package(draft, &pkg, self.file.len() as u64),
             Err(PackageFault::Memory) => Err(AllocError),
             Err(PackageFault::Bad(_)) => unreachable!(),
         }
@@ -91,19 +91,14 @@ impl PackageFile {
 }
 
 /// Writes the entry of a package whose file has this length.
-fn write_package(
-    alloc: Global,
-    writer: &mut Writer,
-    pkg: &Package<'_>,
-    len: u64,
-) -> Result<Val, AllocError>
-    ensures { IfOk result (λ word. WritesValue writer.old
+fn write_package(draft: &mut Draft, pkg: &Package<'_>, len: u64) -> Result<(), AllocError>
+    ensures { OnOk result (draft.new ≡ draft_with
         (info_with (entry_in (opened_value pkg.now) 0) (sha256 (opened_payload pkg.now)) len)
-        word writer.new) }
+        draft.old) }
 {
     let id = pkg.id();
     let info = pkg.view().info();
-    write_info(alloc, writer, &info, &id, len)
+    write_info(draft, &info, &id, len)
 }
 
 /// The entry of a package in a payload of its own, or None where it passes a limit of the writer.
@@ -117,10 +112,9 @@ pub(crate) fn entry_payload(
         (info_with (entry_in (opened_value pkg.now) 0) (sha256 (opened_payload pkg.now)) len)
         ≡ Ok payload.items)) }
 {
-    a_value_written_depth_first_is_canonical();
-    let mut writer = Writer::new(alloc);
-    let root = write_package(alloc, &mut writer, pkg, len)?;
-    match writer.finish(root) {
+    let mut draft = Draft::new(alloc);
+    write_package(&mut draft, pkg, len)?;
+    match draft.finish() {
         Ok(payload) => Ok(Some(payload)),
         Err(WriteFault::TooLarge { .. }) => Ok(None),
         Err(WriteFault::Memory) => Err(AllocError),

@@ -1,6 +1,7 @@
 pub mod FileNames
 pub mod FirstOffence
 pub mod Left
+pub mod Mapped
 pub mod Numbers
 pub mod OptionFields
 pub mod OutputFacts

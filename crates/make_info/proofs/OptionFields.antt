@@ -1,5 +1,5 @@
 -- The field that an option names is the table's field of that name.
-use Rattle.std.proofs.Common.{◌≡◌, ℕ, List, Some, refl}
+use Rattle.std.proofs.Common.{◌≡◌, ℕ, List, refl}
 use Rattle.adb_tables.specs.Schema.{table}
 use Rattle.adb_tables.specs.declared.tables.Which.TheVariants.{PkgInfo}
 use Rattle.make_info.specs.declared.field.Field.{Field}

@@ -19,4 +19,4 @@ pub use output::{
     a_package_with_information_has_an_output, an_index_has_an_output, an_output_is_short,
     output_name,
 };
-pub use writing::write_need;
+pub use writing::{write_need, write_number, write_size};

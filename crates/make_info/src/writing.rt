@@ -1,18 +1,17 @@
 //! Writes the information of a package as a value of schema 3 (apk-v3(5)), column by column.
-ghost use Rattle.adb_view.specs.Plain.{blob_value, null};
-ghost use Rattle.adb_write.specs.DepthFirst.{WritesValue, WritesValues};
+ghost use Rattle.adb_values.specs.Drafts.{draft_with, draft_with_all};
+ghost use Rattle.adb_view.specs.Plain.{blob_value};
 ghost use Rattle.dep_core.specs.Meets.{dependency};
 ghost use Rattle.dep_core.specs.Value.{dep_value, matching_of};
 ghost use Rattle.make_info.specs.Columns.{column_value, column_values};
 ghost use Rattle.make_info.specs.Information.{information_value, value_of_list, need_value, number_in, replaces_priority, plain_value, value_of_single};
 ghost use Rattle.make_info.specs.Values.{number_value, size_value};
 ghost use Rattle.make_info.specs.Views.{value_view};
-ghost use Rattle.std.specs.Prelude.{◌≡◌, IfOk};
+ghost use Rattle.std.specs.Prelude.{◌≡◌, OnOk};
 
 use crate::field::Field;
 use crate::information::{Information, Items, Value};
-use adb_view::Val;
-use adb_write::{Writer, values_are_written_depth_first};
+use adb_values::Draft;
 use dep_core::Dep;
 use std::alloc::AllocError;
 
@@ -58,14 +57,13 @@ const COLUMNS: [Column; 22] = [
 impl Information<'_> {
     /// Writes the information, with the size of the package's files: 22 fields in order.
     #[tactic(auto, unfolding(crate::specs::Information::information_value))]
-    pub fn write(&self, writer: &mut Writer, installed_size: u64) -> Result<Val, AllocError>
-        ensures { IfOk result (λ word. WritesValue writer.old
-            (information_value self.now installed_size) word writer.new) }
+    pub fn write(&self, draft: &mut Draft, installed_size: u64) -> Result<(), AllocError>
+        ensures { OnOk result
+            (draft.new ≡ draft_with (information_value self.now installed_size) draft.old) }
     {
-        let words = self
-            .entries
-            .write_columns(writer, &COLUMNS, installed_size)?;
-        writer.obj(&words)
+        draft.open_list()?;
+        self.entries.write_columns(draft, &COLUMNS, installed_size)?;
+        draft.close_object()
     }
 
     /// The priority of what the package replaces, which is a field of the package itself.
@@ -80,64 +78,57 @@ impl Items<'_> {
     // Writes columns one after the other.
     fn write_columns(
         &self,
-        writer: &mut Writer,
+        draft: &mut Draft,
         columns: &[Column],
         installed_size: u64,
-    ) -> Result<Vec<Val>, AllocError>
-        ensures { IfOk result (λ words. WritesValues writer.old
-            (column_values self.now installed_size columns.now) words.items writer.new) }
+    ) -> Result<(), AllocError>
+        ensures { OnOk result (draft.new
+            ≡ draft_with_all (column_values self.now installed_size columns.now) draft.old) }
     {
-        values_are_written_depth_first();
-        let mut words = Vec::with_capacity(self.alloc, columns.len())?;
         for column in columns {
-            let word = self.write_column(writer, *column, installed_size)?;
-            words.push(word)?;
+            self.write_column(draft, *column, installed_size)?;
         }
-        Ok(words)
+        Ok(())
     }
 
     fn write_column(
         &self,
-        writer: &mut Writer,
+        draft: &mut Draft,
         column: Column,
         installed_size: u64,
-    ) -> Result<Val, AllocError>
-        ensures { IfOk result (λ word. WritesValue writer.old
-            (column_value self.now installed_size column) word writer.new) }
+    ) -> Result<(), AllocError>
+        ensures { OnOk result
+            (draft.new ≡ draft_with (column_value self.now installed_size column) draft.old) }
     {
         match column {
-            Column::Single(field) => self.write_single(writer, field),
-            Column::List(field) => self.write_list(writer, field),
-            Column::InstalledSize => write_size(writer, installed_size),
-            Column::Null => write_null(writer),
+            Column::Single(field) => self.write_single(draft, field),
+            Column::List(field) => self.write_list(draft, field),
+            Column::InstalledSize => write_size(draft, installed_size),
+            Column::Null => draft.null(),
         }
     }
 
     // Writes what is said of a field that is given once.
-    fn write_single(&self, writer: &mut Writer, field: Field) -> Result<Val, AllocError>
-        ensures { IfOk result (λ word. WritesValue writer.old
-            (value_of_single field self.now) word writer.new) }
+    fn write_single(&self, draft: &mut Draft, field: Field) -> Result<(), AllocError>
+        ensures { OnOk result (draft.new ≡ draft_with (value_of_single field self.now) draft.old) }
     {
         match self.find(field) {
-            Some(entry) => entry.value.write(writer),
-            None => write_null(writer),
+            Some(entry) => entry.value.write(draft),
+            None => draft.null(),
         }
     }
 
     // Writes all that is said of a field.
-    fn write_list(&self, writer: &mut Writer, field: Field) -> Result<Val, AllocError>
-        ensures { IfOk result (λ word. WritesValue writer.old
-            (value_of_list field self.now) word writer.new) }
+    fn write_list(&self, draft: &mut Draft, field: Field) -> Result<(), AllocError>
+        ensures { OnOk result (draft.new ≡ draft_with (value_of_list field self.now) draft.old) }
     {
-        values_are_written_depth_first();
-        let mut words = Vec::new(self.alloc);
+        draft.open_list()?;
         for entry in &self.entries {
             if entry.field == field {
-                let word = entry.value.write(writer)?;
-                words.push(word)?;
+                entry.value.write(draft)?;
             }
         }
-        writer.arr(&words)
+        draft.close_array()
     }
 }
 
@@ -152,66 +143,58 @@ impl Value<'_> {
         }
     }
 
-    fn write(&self, writer: &mut Writer) -> Result<Val, AllocError>
-        ensures { IfOk result (λ word. WritesValue writer.old
-            (plain_value (value_view self.now)) word writer.new) }
+    fn write(&self, draft: &mut Draft) -> Result<(), AllocError>
+        ensures { OnOk result
+            (draft.new ≡ draft_with (plain_value (value_view self.now)) draft.old) }
     {
         match self {
-            Value::Text(text) => writer.blob(text),
-            Value::Bytes(bytes) => writer.blob(bytes),
-            Value::Number(n) => writer.int(*n),
-            Value::Need(dep) => write_need(writer, dep),
+            Value::Text(text) => draft.blob(text),
+            Value::Bytes(bytes) => draft.blob(bytes),
+            Value::Number(n) => draft.int(*n),
+            Value::Need(dep) => write_need(draft, dep),
         }
     }
 }
 
-// Writes NULL.
-fn write_null(writer: &mut Writer) -> Result<Val, AllocError>
-    ensures { IfOk result (λ word. WritesValue writer.old null word writer.new) }
-{
-    values_are_written_depth_first();
-    Ok(Val::of(0))
-}
-
-// Writes a size; one of 0 is NULL.
-fn write_size(writer: &mut Writer, size: u64) -> Result<Val, AllocError>
-    ensures { IfOk result (λ word. WritesValue writer.old (size_value size) word writer.new) }
+/// Writes a size; one of 0 is NULL.
+pub fn write_size(draft: &mut Draft, size: u64) -> Result<(), AllocError>
+    ensures { OnOk result (draft.new ≡ draft_with (size_value size) draft.old) }
 {
     if size == 0 {
-        return write_null(writer);
+        return draft.null();
     }
-    writer.int(size)
+    draft.int(size)
 }
 
 /// Writes a dependency: its name, version and match number (apk-v3(5)).
-pub fn write_need(writer: &mut Writer, dep: &Dep<'_>) -> Result<Val, AllocError>
-    ensures { IfOk result (λ word. WritesValue writer.old
-        (need_value (dep_value (dependency dep.now))) word writer.new) }
+pub fn write_need(draft: &mut Draft, dep: &Dep<'_>) -> Result<(), AllocError>
+    ensures { OnOk result
+        (draft.new ≡ draft_with (need_value (dep_value (dependency dep.now))) draft.old) }
 {
-    values_are_written_depth_first();
-    let name = writer.blob(dep.name)?;
-    let version = write_version(writer, dep)?;
-    let matching = write_matching(writer, dep)?;
-    writer.obj(&[name, version, matching])
+    draft.open_list()?;
+    draft.blob(dep.name)?;
+    write_version(draft, dep)?;
+    write_number(draft, matching_of(dep))?;
+    draft.close_object()
 }
 
-fn write_version(writer: &mut Writer, dep: &Dep<'_>) -> Result<Val, AllocError>
-    ensures { IfOk result (λ word. WritesValue writer.old
-        (blob_value (dep_value (dependency dep.now)).version) word writer.new) }
+fn write_version(draft: &mut Draft, dep: &Dep<'_>) -> Result<(), AllocError>
+    ensures { OnOk result (draft.new
+        ≡ draft_with (blob_value (dep_value (dependency dep.now)).version) draft.old) }
 {
     match &dep.version {
-        Some(version) => writer.blob(version.text()),
-        None => write_null(writer),
+        Some(version) => draft.blob(version.text()),
+        None => draft.null(),
     }
 }
 
-fn write_matching(writer: &mut Writer, dep: &Dep<'_>) -> Result<Val, AllocError>
-    ensures { IfOk result (λ word. WritesValue writer.old
-        (number_value (dep_value (dependency dep.now)).matching) word writer.new) }
+/// Writes a number; one that is lacking is NULL.
+pub fn write_number(draft: &mut Draft, number: Option<u64>) -> Result<(), AllocError>
+    ensures { OnOk result (draft.new ≡ draft_with (number_value number) draft.old) }
 {
-    match matching_of(dep) {
-        Some(matching) => writer.int(matching),
-        None => write_null(writer),
+    match number {
+        Some(n) => draft.int(n),
+        None => draft.null(),
     }
 }
 

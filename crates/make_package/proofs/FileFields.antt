@@ -1,5 +1,5 @@
 -- What the fields of a file say of its bytes.
-use Rattle.std.proofs.Common.{◌≡◌, ℕ, Bool, true, false, List, ◌∷◌, Some, codes, length, refl, ap, ◌∙◌, if◌then◌else◌}
+use Rattle.std.proofs.Common.{◌≡◌, ℕ, Bool, true, false, List, ◌∷◌, Some, codes, length, ap, if◌then◌else◌}
 use Rattle.sha2.specs.Sha256.{sha256}
 use Rattle.adb_tables.specs.Schema.{table}
 use Rattle.adb_tables.specs.declared.tables.Which.TheVariants.{File}

@@ -8,6 +8,7 @@ pub mod MadeRuns
 pub mod PackLemmas
 pub mod PackedWorked
 pub mod PlaceLemmas
+pub mod PlacedBlocks
 pub mod ReadLemmas
 pub mod ScriptLemmas
 pub mod WriteLemmas

@@ -8,8 +8,7 @@ use Rattle.std.specs.Prelude.{IfSome}
 use Rattle.std.specs.Result.{IsErrAnd}
 use Rattle.std.specs.Str.{bytes_eq}
 use Rattle.std.specs.declared.alloc.Global.{Global}
-use Rattle.std.proofs.Math.ListN.{drop_of_length-le}
-use Rattle.std.proofs.lemmas.Bool.{and_parts, eq-eqb, eqb-true, ne_eqb}
+use Rattle.std.proofs.lemmas.Bool.{and_parts, eq-eqb, eqb-true}
 use Rattle.std.proofs.lemmas.List.Concat.{flat_map-cons}
 use Rattle.std.proofs.lemmas.List.Sums.{sum_by-cons}
 use Rattle.adb_block.specs.Piece.{Piece}
@@ -154,13 +153,6 @@ no_folder vs e = no_folder_by vs (first_value FILES vs) (first_in FILES vs) e
 pub given_here : (letter : ℕ) (vs : List OptionValue) (i : ℕ) (v : OptionValue) → slice_get vs i ≡ Some v → v.letter ≡ letter → values_with letter (drop i vs) ≡ v ∷ values_with letter (drop (i + 1) vs)
 given_here letter vs i v at e =
     ap (values_with letter) (left_at vs i v at) ∙ ap (λ b. cond b (v ∷ values_with letter (drop (i + 1) vs)) (values_with letter (drop (i + 1) vs))) (eq-eqb v.letter letter e)
-
-pub given_not_here : (letter : ℕ) (vs : List OptionValue) (i : ℕ) (v : OptionValue) → slice_get vs i ≡ Some v → (v.letter ≡ letter → ⊥) → values_with letter (drop i vs) ≡ values_with letter (drop (i + 1) vs)
-given_not_here letter vs i v at e =
-    ap (values_with letter) (left_at vs i v at) ∙ ap (λ b. cond b (v ∷ values_with letter (drop (i + 1) vs)) (values_with letter (drop (i + 1) vs))) (ne_eqb v.letter letter e)
-
-pub given_past : (letter : ℕ) (vs : List OptionValue) (i : ℕ) → length vs ≤ i → values_with letter (drop i vs) ≡ []
-given_past letter vs i past = ap (values_with letter) (drop_of_length-le vs past)
 
 pub first_is : (values : List OptionValue) (first : Option (Bor OptionValue)) (v : Bor OptionValue) → IsFirstValue first values → first ≡ Some v → IsFirstValue (Some v) values
 first_is values first v h e = let P : Option (Bor OptionValue) → Type 0 = λ o. IsFirstValue o values in subst P e h

@@ -93,20 +93,24 @@ pub file_own : (place : ℕ) → RestsOnOwn (λ (name : List ℕ). 1) (file_at p
 file_own place f g n name h =
     ap (λ (o : Option (List ℕ)). on_success (found_at place o) (λ bytes. let file : Source = record { name = last_part_of name; bytes = bytes } in Ok file)) (h n name (omega arith) (omega arith))
 
-pub file_fault : (folder at : ℕ) (before later : List ℕ) (place : ℕ) (read : Reads) (n : ℕ) (name : List ℕ) (fault : MakeFault)
-    → IsAnswer IsFound (Err fault) (found_at place (read n name)) → IsAnswer (IsPackedFile folder at before later) (Err fault) (file_at place read n name)
-file_fault folder at before later place read n name fault h =
-    fault_of_part IsFound (IsPackedFile folder at before later) fault (found_at place (read n name)) (λ bytes. Ok (record { name = last_part_of name; bytes = bytes })) h
+-- what was found stands in the blocks from a place on
+abbrev pub IsFoundAt : List ℕ → ℕ → List ℕ → Type 0
+IsFoundAt blocks at found = found ≡ drop at blocks
 
-pub packed_file_is : (folder at : ℕ) (before later : List ℕ) (place : ℕ) (read : Reads) (n : ℕ) (name : List ℕ) (bytes : Vec ℕ Global) (part : Bor (List ℕ)) (kind : FileKind) (first second : List ℕ)
-    → first ≡ bytes.items → second ≡ bytes.items → part.now ≡ last_part_of name → kind ≡ kind_of_file first → later ≡ before ++ contents_blocks (contents_of_file folder at second)
-    → IsAnswer IsFound (Ok bytes) (found_at place (read n name)) → IsAnswer (IsPackedFile folder at before later) (Ok (record { name = part; kind = kind })) (file_at place read n name)
-packed_file_is folder at before later place read n name bytes part kind first second e f p k b h = (
+pub file_fault : (folder file : ℕ) (before mid later : List ℕ) (place : ℕ) (read : Reads) (n : ℕ) (name : List ℕ) (fault : MakeFault)
+    → IsAnswer (IsFoundAt mid) (Err fault) (found_at place (read n name)) → IsAnswer (IsPackedFile folder file before later) (Err fault) (file_at place read n name)
+file_fault folder file before mid later place read n name fault h =
+    fault_of_part (IsFoundAt mid) (IsPackedFile folder file before later) fault (found_at place (read n name)) (λ bytes. Ok (record { name = last_part_of name; bytes = bytes })) h
+
+pub packed_file_is : (folder file : ℕ) (before mid later : List ℕ) (place : ℕ) (read : Reads) (n : ℕ) (name : List ℕ) (at : ℕ) (part : Bor (List ℕ)) (kind : FileKind)
+    → part.now ≡ last_part_of name → kind ≡ kind_of_file (drop at mid) → later ≡ before ++ contents_blocks (contents_of_file folder file (drop at mid))
+    → IsAnswer (IsFoundAt mid) (Ok at) (found_at place (read n name)) → IsAnswer (IsPackedFile folder file before later) (Ok (record { name = part; kind = kind })) (file_at place read n name)
+packed_file_is folder file before mid later place read n name at part kind p k b h = (
   record { name = last_part_of name; bytes = h.0 },
   ap (λ (r : Result (List ℕ) MakeFault). on_success r (λ bytes. let file : Source = record { name = last_part_of name; bytes = bytes } in Ok file)) h.1,
   record {
-    is = record { name = p; kind = k ∙ ap kind_of_file (e ∙ sym h.2) };
-    blocks = b ∙ ap (λ (l : List ℕ). before ++ contents_blocks (contents_of_file folder at l)) (f ∙ sym h.2);
+    is = record { name = p; kind = k ∙ ap kind_of_file (sym h.2) };
+    blocks = b ∙ ap (λ (l : List ℕ). before ++ contents_blocks (contents_of_file folder file l)) (sym h.2);
   },
 )
 

@@ -1,33 +1,15 @@
--- Values that are written one after the other from a list.
-use Rattle.std.proofs.Common.{◌≡◌, ℕ, ◌+◌, ◌<◌, List, [], ◌∷◌, ◌++◌, length, take, get_or, map, refl, sym, ap, ◌∙◌, subst, Bool, true, false, ◌==◌, if◌then◌else◌, slice_get, Some, append-nil, filter}
+-- The values of an option, and those that are given one after the other.
+use Rattle.std.proofs.Common.{◌≡◌, ℕ, ◌+◌, ◌<◌, List, [], ◌∷◌, ◌++◌, length, take, drop, map, sym, ap, ◌∙◌, Bool, true, false, ◌==◌, if◌then◌else◌, slice_get, Some, append-nil, filter}
 use borrow.Author.Tests.{ne_eqb, eq-eqb}
 use Rattle.std.proofs.lemmas.Option.{get_or_from_slice_get, slice_get_within}
 use Rattle.std.proofs.lemmas.List.Elements.{filter-append}
-use Rattle.adb_view.specs.Plain.{blob_value, Plain, Plains, more}
+use Rattle.adb_view.specs.Plain.{blob_value, Plains, more}
 use Rattle.command_core.specs.declared.values.OptionValue.{OptionValue}
 use Rattle.make_package.specs.Sources.{values_with, texts_of}
-use Rattle.std.proofs.lemmas.List.{take_more, map-append}
-use Rattle.adb_write.specs.DepthFirst.{WritesValues, push}
-use Rattle.adb_write.specs.Writing.{Writing}
+use Rattle.std.proofs.lemmas.List.{take_more}
+use Rattle.adb_values.specs.Drafts.{DraftState, draft_with, draft_with_all}
+use Rattle.adb_values.proofs.Lists.{drop_at}
 use Rattle.make_info.specs.Values.{plains_of_list}
-
-plains_push : (vs : List Plain) (v : Plain) → plains_of_list (vs ++ v ∷ []) ≡ push (plains_of_list vs) v
-plains_push [] v = refl
-plains_push (u ∷ us) v = ap (more u) (plains_push us v)
-
-module _ {X : Type 0} (f : X → Plain) where
-  -- one more than the first of a list
-  pub plains_more : (xs : List X) (i : ℕ) (x d : X) → i < length xs → x ≡ get_or xs i d → plains_of_list (map f (take (i + 1) xs)) ≡ push (plains_of_list (map f (take i xs))) (f x)
-  plains_more xs i x d lt e =
-      ap (λ l. plains_of_list (map f l)) (take_more xs i d lt ∙ ap (λ y. take i xs ++ y ∷ []) (sym e))
-      ∙ ap plains_of_list (map-append f (take i xs) (x ∷ [])) ∙ plains_push (map f (take i xs)) (f x)
-
-  pub written_more : (xs : List X) (i : ℕ) (x d : X) (words later : List ℕ) (a b : Writing) → i < length xs → x ≡ get_or xs i d
-      → later ≡ words → WritesValues a (push (plains_of_list (map f (take i xs))) (f x)) words b → WritesValues a (plains_of_list (map f (take (i + 1) xs))) later b
-  written_more xs i x d words later a b lt e same h =
-      let P : Plains → Type 0 = λ vs. WritesValues a vs words b in
-      let Q : List ℕ → Type 0 = λ ws. WritesValues a (plains_of_list (map f (take (i + 1) xs))) ws b in
-      subst Q (sym same) (subst P (sym (plains_more xs i x d lt e)) h)
 
 -- ---- the values of an option
 
@@ -56,23 +38,28 @@ given_other letter values i v here ne = given_next letter values i v false here 
 abbrev pub blobs : List OptionValue → Plains
 blobs values = plains_of_list (map blob_value (texts_of values))
 
-blobs_push : (values : List OptionValue) (v : OptionValue) → blobs (values ++ v ∷ []) ≡ push (blobs values) (blob_value v.text)
-blobs_push values v =
-    ap (λ (l : List (List ℕ)). plains_of_list (map blob_value l)) (map-append (λ (w : OptionValue). w.text) values (v ∷ []))
-    ∙ ap plains_of_list (map-append blob_value (texts_of values) (v.text ∷ [])) ∙ plains_push (map blob_value (texts_of values)) (blob_value v.text)
+-- the blobs from a place on: with a value of the option in front, and without
+blobs_from : (letter : ℕ) (values : List OptionValue) (i : ℕ) (v : OptionValue) (b : Bool) → slice_get values i ≡ Some v → (v.letter == letter) ≡ b
+    → blobs (values_with letter (drop i values)) ≡ (if b then more (blob_value v.text) (blobs (values_with letter (drop (i + 1) values))) else blobs (values_with letter (drop (i + 1) values)))
+blobs_from letter values i v b here e =
+    ap (λ (l : List OptionValue). blobs (values_with letter l)) (drop_at values i v here) ∙ behind b e
+  where
+    rest : List OptionValue
+    rest = drop (i + 1) values
 
-pub blob_more : (letter : ℕ) (values : List OptionValue) (i : ℕ) (v : OptionValue) (words later : List ℕ) (a b b' : Writing) → slice_get values i ≡ Some v → v.letter ≡ letter → b' ≡ b
-    → later ≡ words → WritesValues a (push (blobs (values_with letter (take i values))) (blob_value v.text)) words b → WritesValues a (blobs (values_with letter (take (i + 1) values))) later b'
-blob_more letter values i v words later a b b' here e w l h =
-    let P : Plains → Type 0 = λ vs. WritesValues a vs words b in
-    let Q : List ℕ → Type 0 = λ ws. WritesValues a (blobs (values_with letter (take (i + 1) values))) ws b in
-    let R : Writing → Type 0 = λ x. WritesValues a (blobs (values_with letter (take (i + 1) values))) later x in
-    subst R (sym w) (subst Q (sym l) (subst P (sym (ap blobs (given_one letter values i v here e) ∙ blobs_push (values_with letter (take i values)) v)) h))
+    behind : (c : Bool) → (v.letter == letter) ≡ c → blobs (values_with letter (v ∷ rest)) ≡ (if c then more (blob_value v.text) (blobs (values_with letter rest)) else blobs (values_with letter rest))
+    behind true is = ap (λ (c : Bool). blobs (if c then v ∷ values_with letter rest else values_with letter rest)) is
+    behind false is = ap (λ (c : Bool). blobs (if c then v ∷ values_with letter rest else values_with letter rest)) is
 
-pub blob_same : (letter : ℕ) (values : List OptionValue) (i : ℕ) (v : OptionValue) (words later : List ℕ) (a b b' : Writing) → slice_get values i ≡ Some v → (v.letter ≡ letter → ⊥) → b' ≡ b
-    → later ≡ words → WritesValues a (blobs (values_with letter (take i values))) words b → WritesValues a (blobs (values_with letter (take (i + 1) values))) later b'
-blob_same letter values i v words later a b b' here ne w l h =
-    let P : Plains → Type 0 = λ vs. WritesValues a vs words b in
-    let Q : List ℕ → Type 0 = λ ws. WritesValues a (blobs (values_with letter (take (i + 1) values))) ws b in
-    let R : Writing → Type 0 = λ x. WritesValues a (blobs (values_with letter (take (i + 1) values))) later x in
-    subst R (sym w) (subst Q (sym l) (subst P (sym (ap blobs (given_other letter values i v here ne))) h))
+module _ (letter : ℕ) (values : List OptionValue) (i : ℕ) (v : OptionValue) (old new whole : DraftState) (here : slice_get values i ≡ Some v) (left : draft_with_all (blobs (values_with letter (drop i values))) old ≡ whole) where
+  -- a value of the option is given
+  pub blob_given : v.letter ≡ letter → new ≡ draft_with (blob_value v.text) old → draft_with_all (blobs (values_with letter (drop (i + 1) values))) new ≡ whole
+  blob_given e one =
+      ap (λ (d : DraftState). draft_with_all (blobs (values_with letter (drop (i + 1) values))) d) one
+      ∙ sym (ap (λ (us : Plains). draft_with_all us old) (blobs_from letter values i v true here (eq-eqb v.letter letter e))) ∙ left
+
+  -- another is left out
+  pub blob_passed : (v.letter ≡ letter → ⊥) → new ≡ old → draft_with_all (blobs (values_with letter (drop (i + 1) values))) new ≡ whole
+  blob_passed ne same =
+      ap (λ (d : DraftState). draft_with_all (blobs (values_with letter (drop (i + 1) values))) d) same
+      ∙ sym (ap (λ (us : Plains). draft_with_all us old) (blobs_from letter values i v false here (ne_eqb v.letter letter ne))) ∙ left

@@ -1,7 +1,9 @@
 -- The bytes of contents blocks.
-use Rattle.std.specs.Prelude.{ℕ, List}
+use Rattle.std.specs.Prelude.{◌≡◌, ℕ, ◌+◌, ◌-◌, ◌≤◌, List, ◌++◌, length, take}
+use Rattle.std.specs.Int.{w32, to_le_bytes}
 use Rattle.std.specs.List.{flat_map}
-use Rattle.adb_block.specs.Written.{block_bytes}
+use Rattle.adb_block.specs.Written.{block_bytes, head_bytes}
+use Rattle.adb_block.specs.declared.block.BlockKind.TheVariants as Kinds
 use Rattle.pkg_core.specs.Contents.{Contents}
 use Rattle.adb_sound.specs.Container.{contents_piece}
 
@@ -11,3 +13,13 @@ contents_block contents = block_bytes (contents_piece contents)
 -- one after the other
 abbrev pub contents_blocks : List Contents → List ℕ
 contents_blocks contents = flat_map contents_block contents
+
+-- what stands in front of the bytes of a file in its block: the header, and the positions
+abbrev pub contents_front : ℕ → ℕ → ℕ → List ℕ
+contents_front folder file size =
+    head_bytes Kinds.Contents (8 + size) ++ (to_le_bytes w32 folder ++ to_le_bytes w32 file)
+
+-- behind what was there stands the front of a block, and from a place on the bytes of its file
+pub record HasBlockFront (folder file : ℕ) (before later : List ℕ) (at : ℕ) : Type 0 where
+  pub within : at ≤ length later
+  pub front : take at later ≡ before ++ contents_front folder file (length later - at)

@@ -111,7 +111,8 @@ script_in (script ∷ scripts) field =
     if bytes_eq script.field field then script.bytes else script_in scripts field
 
 abbrev pub script_fields : List Script → Plains
-script_fields scripts = plains_of_list (map (λ field. blob_value (script_in scripts field)) script_types)
+script_fields scripts =
+    plains_of_list (map (λ field. blob_value (script_in scripts field)) script_types)
 
 abbrev pub value_of_scripts : List Script → Plain
 value_of_scripts scripts = obj_value (script_fields scripts)

@@ -3,7 +3,6 @@ ghost use Rattle.command_core.specs.declared.values.TheConstants.{TRIGGER};
 ghost use Rattle.std.specs.Prelude.{ℕ, ◌≡◌, ◌≤◌, ◌<◌, ◌^◌, ◌++◌, Ok, List, length, map, IfOk, IfErr};
 ghost use Rattle.adb_schema.specs.declared.read.TheConstants.{PACKAGE_WORD};
 ghost use Rattle.adb_write.specs.Canonical.{MOST_BYTES, written_of};
-ghost use Rattle.adb_write.specs.DepthFirst.{WritesValue};
 ghost use Rattle.adb_write.specs.File.{file_of};
 ghost use Rattle.make_info.specs.Faults.{IsOverflow};
 ghost use Rattle.make_info.specs.Information.{information_value, replaces_priority};
@@ -20,8 +19,8 @@ use crate::file::{File, Folder, Packing};
 use crate::packing::put_in_front;
 use crate::writing::{Script, write_package};
 use adb_schema::PACKAGE_WORD;
-use adb_view::Val;
-use adb_write::{Writer, a_value_written_depth_first_is_canonical, file_of};
+use adb_values::Draft;
+use adb_write::file_of;
 use command_core::{Command, Values};
 use make_info::{Information, MakeFault};
 use std::alloc::{AllocError, Global};
@@ -98,31 +97,9 @@ fn payload(
         (map packed_folder folders.now) (scripts_view scripts.now)
         (texts_of (values_with TRIGGER values.now)) (replaces_priority about.now)))) }
 {
-    a_value_written_depth_first_is_canonical();
-    let mut writer = Writer::new(alloc);
-    let root = write_root(alloc, &mut writer, values, about, folders, scripts, size)?;
-    Ok(writer.finish(root)?)
-}
-
-/// Writes the package.
-fn write_root(
-    alloc: Global,
-    writer: &mut Writer,
-    values: &Values,
-    about: &Information<'_>,
-    folders: &[Folder<'_>],
-    scripts: &[Script<'_>],
-    size: u64,
-) -> Result<Val, AllocError>
-    ensures { IfOk result (λ root. WritesValue writer.old
-        (package_with (information_value about.now size) (map packed_folder folders.now)
-        (scripts_view scripts.now) (texts_of (values_with TRIGGER values.now))
-        (replaces_priority about.now)) root writer.new) }
-{
-    let info = about.write(writer, size)?;
-    let priority = about.replaces_priority();
-    let root = write_package(alloc, writer, info, folders, scripts, values, priority)?;
-    Ok(root)
+    let mut draft = Draft::new(alloc);
+    write_package(&mut draft, values, about, folders, scripts, size)?;
+    Ok(draft.finish()?)
 }
 
 /// The package with this payload and these blocks behind it, which are not held twice.

@@ -138,7 +138,7 @@ fn empty_lists<'a>(alloc: Global, len: usize) -> Result<Vec<Vec<&'a Name>>, Allo
 }
 
 /// The folder in which a path stands, which is empty for the root.
-pub(crate) fn folder_of(path: &[u8]) -> &[u8]
+pub fn folder_of(path: &[u8]) -> &[u8]
     ensures { result.now ≡ folder_of path.now }
 {
     &path[..part_start(path).saturating_sub(1)]

@@ -2,41 +2,68 @@
 //! blocks (apk-package(5)).
 ghost use Rattle.base_core.specs.Read.{OnlyReads};
 ghost use Rattle.adb_block.specs.Piece.{padding_of};
-ghost use Rattle.make_package.specs.Blocks.{contents_block, contents_blocks};
+ghost use Rattle.base_core.specs.Calls.{IfObservable};
+ghost use Rattle.base_core.specs.Tree.{files_of};
+ghost use Rattle.make_package.specs.Blocks.{HasBlockFront, contents_front};
 ghost use Rattle.make_package.specs.BorrowedNames.{listings_of};
 ghost use Rattle.make_package.specs.Folders.{folders_of};
-ghost use Rattle.make_package.specs.Package.{kind_of_file, contents_of_file};
+ghost use Rattle.make_package.specs.Package.{has_contents};
 ghost use Rattle.make_package.specs.Packed.{IsPackedFile, ArePackedFiles, IsPackedFolder, IsPacking};
 ghost use Rattle.make_package.specs.Runs.{Explains, IsAnswer};
 ghost use Rattle.make_package.specs.Sources.{found_at, file_at, sources_from, folder_at, source_folders_from};
-ghost use Rattle.std.specs.Prelude.{◌≡◌, ◌++◌, ◌<◌, ◌+◌, ◌^◌, length, replicate, OnOk, IfOk, [], ◌∷◌, ℕ, map};
+ghost use Rattle.std.specs.Option.{option_map};
+ghost use Rattle.std.specs.Prelude.{◌≡◌, ◌++◌, ◌<◌, ◌≤◌, ◌+◌, ◌-◌, ◌^◌, length, take, drop, replicate, OnOk, IfOk, IfSome, [], ◌∷◌, ℕ, map, true, false};
 
 use crate::file::{File, FileKind, Folder, Packing};
 use crate::folders::{FolderNames, folder_names, last_part_of, names_in_folders};
 use adb_block::{BlockKind, block_head};
-use base_core::{Name, Names, Tree, read_all};
+use base_core::{Name, Names, Tree, TreeFault, read_all};
 use make_info::MakeFault;
 use std::alloc::{AllocError, Global};
 
-/// Appends the block with the contents of a file: the positions of its folder and of itself in it,
-/// which count from 1, and its bytes. A position of more than 32 bits is cut: so many files pass
-/// the limits of a payload.
-pub(crate) fn append_block(
-    blocks: &mut Vec<u8>,
-    folder: u64,
-    file: u64,
-    bytes: &[u8],
-) -> Result<(), AllocError>
-    requires { length bytes.now < 2 ^ 63 }
-    ensures { OnOk result (blocks.new.items ≡ blocks.old.items ++ contents_block
-        (record { folder = folder; file = file; bytes = bytes.now })) }
+/// The most bytes that memory holds in one piece.
+const MOST_IN_MEMORY: u64 = isize::MAX as u64;
+
+/// Appends the front of the block with the contents of a file: its header, and the positions of its
+/// folder and of itself in it, which count from 1. Behind it stand zeros in place of the file's
+/// bytes. Gives where these begin. A position of more than 32 bits is cut: so many files pass the
+/// limits of a payload.
+fn begin_block(blocks: &mut Vec<u8>, position: (u64, u64), size: u64) -> Result<usize, AllocError>
+    ensures small { IfOk result (λ _. size < 2 ^ 63) }
+    ensures at { IfOk result (λ at. at + size ≡ length blocks.new.items) }
+    ensures begun { IfOk result (λ at. blocks.new.items
+        ≡ (blocks.old.items ++ contents_front position.0 position.1 size) ++ replicate size 0) }
 {
-    let head = block_head(BlockKind::Contents, 8 + bytes.len() as u64);
+    if size > MOST_IN_MEMORY {
+        return Err(AllocError);
+    }
+    let head = block_head(BlockKind::Contents, 8 + size);
     blocks.extend_from_slice(head.bytes())?;
-    blocks.extend_from_slice(&folder.to_le_bytes()[..4])?;
-    blocks.extend_from_slice(&file.to_le_bytes()[..4])?;
-    blocks.extend_from_slice(bytes)?;
-    append_padding(blocks, head.bytes().len() as u64 + 8 + bytes.len() as u64)
+    blocks.extend_from_slice(&position.0.to_le_bytes()[..4])?;
+    blocks.extend_from_slice(&position.1.to_le_bytes()[..4])?;
+    let at = blocks.len();
+    let Some(end) = at.checked_add(size as usize) else {
+        return Err(AllocError);
+    };
+    blocks.resize(end, 0)?;
+    Ok(at)
+}
+
+/// Ends the block that begins at `start`, of a file of this kind whose bytes are the last ones, by
+/// its padding. A file that has no contents has no block, and what was begun is taken away.
+fn end_block(blocks: &mut Vec<u8>, start: usize, kind: &FileKind) -> Result<(), AllocError>
+    requires { start ≤ length blocks.old.items }
+    ensures none { OnOk result (has_contents kind.now ≡ false
+        → blocks.new.items ≡ take start blocks.old.items) }
+    ensures padded { OnOk result (has_contents kind.now ≡ true
+        → blocks.new.items ≡ blocks.old.items
+        ++ replicate (padding_of (length blocks.old.items - start)) 0) }
+{
+    if !kind.has_contents() {
+        blocks.truncate(start);
+        return Ok(());
+    }
+    append_padding(blocks, (blocks.len() - start) as u64)
 }
 
 /// Appends zeros behind so many bytes, up to a multiple of eight.
@@ -193,30 +220,57 @@ fn pack_file<'a, T: Tree>(
         IsAnswer (IsPackedFile position.0 position.1 blocks.old.items blocks.new.items) result
         (file_at place read n name.now)) }
 {
-    let bytes = read_file(alloc, tree, place, name)?;
-    let kind = FileKind::of(alloc, &bytes)?;
-    append_contents(blocks, position, &kind, &bytes)?;
+    let start = blocks.len();
+    let at = read_listed(tree, place, position, name, blocks)?;
+    let kind = FileKind::of(alloc, &blocks[at..])?;
+    end_block(blocks, start, &kind)?;
     let name = last_part_of(name.as_bytes());
     Ok(File { name, kind })
 }
 
-/// Appends the contents of a file, if it has some.
-fn append_contents(
-    blocks: &mut Vec<u8>,
+/// Reads the file under a name, which the argument at a place lists, as `read_in_block` does.
+fn read_listed<T: Tree>(
+    tree: &mut T,
+    place: u32,
     position: (u64, u64),
-    kind: &FileKind,
-    bytes: &[u8],
-) -> Result<(), AllocError>
-    requires kind { kind.now ≡ kind_of_file bytes.now }
-    requires short { length bytes.now < 2 ^ 63 }
-    ensures { OnOk result (blocks.new.items ≡ blocks.old.items ++ contents_blocks
-        (contents_of_file position.0 position.1 bytes.now)) }
+    name: &Name,
+    blocks: &mut Vec<u8>,
+) -> Result<usize, MakeFault>
+    ensures tree { OnlyReads MakeFault.Disk (T.history tree.old) (T.history tree.new)
+        (T.counts tree.old) (T.counts tree.new) result }
+    ensures begun { IfOk result (λ at. HasBlockFront position.0 position.1 blocks.old.items
+        blocks.new.items at) }
+    ensures read { (n : ℕ) → Explains (T.history tree.old) (λ read.
+        IsAnswer (λ at bytes. bytes ≡ drop at blocks.new.items) result
+        (found_at place (read n name.now))) }
 {
-    if !kind.has_contents() {
-        return Ok(());
+    match read_in_block(tree, position, name, blocks)? {
+        Some(at) => Ok(at),
+        None => Err(MakeFault::FileMissing { place }),
     }
-    append_block(blocks, position.0, position.1, bytes)?;
-    Ok(())
+}
+
+/// Reads the file under a name where its bytes will stand: behind the front of a block, which is
+/// appended. Gives where the bytes begin, or None exactly where the file is absent.
+fn read_in_block<T: Tree>(
+    tree: &mut T,
+    position: (u64, u64),
+    name: &Name,
+    blocks: &mut Vec<u8>,
+) -> Result<Option<usize>, TreeFault>
+    ensures tree { OnlyReads TreeFault.Disk (T.history tree.old) (T.history tree.new)
+        (T.counts tree.old) (T.counts tree.new) result }
+    ensures begun { IfOk result (λ found. IfSome found (HasBlockFront position.0 position.1
+        blocks.old.items blocks.new.items)) }
+    ensures answer { IfOk result (λ found. IfObservable (T.history tree.old) (λ v.
+        option_map (λ at. drop at blocks.new.items) found ≡ files_of v name.now)) }
+{
+    let Some(size) = tree.size(name)? else {
+        return Ok(None);
+    };
+    let at = begin_block(blocks, position, size)?;
+    tree.read_at(name, 0, &mut blocks[at..])?;
+    Ok(Some(at))
 }
 
 /// Reads the file under a name, which the argument at a place gives or lists.

@@ -12,7 +12,7 @@ use Rattle.command_core.specs.Command.{CommandLine}
 use Rattle.report_core.specs.declared.refusal.Refusal.TheVariants.{DatabaseBad, NoDatabase}
 use Rattle.root_names.specs.RootNames.{database_name, text_database_name}
 use Rattle.v2_core.specs.Database.{value_of_records}
-use Rattle.v2_core.specs.Payload.{or_too_large, payload_of_text, tested_payload, unless_bad, written_payload}
+use Rattle.v2_core.specs.Payload.{or_too_large, payload_of_text, payload_if_sound, unless_bad, written_payload}
 use Rattle.v2_core.specs.Reading.{records_of}
 use Rattle.v2_core.specs.Records.{Record}
 use Rattle.v2_core.specs.declared.fault.V2Fault.{V2Fault}
@@ -33,7 +33,7 @@ written_remembers : (r : Result (List Record) ℕ) → written_payload r ≡ Err
 written_remembers (Ok records) e = large_remembers (written_of (value_of_records records)) e
 written_remembers (Err line) e = cc (e)
 
-tested_remembers : (r : Result (List ℕ) V2Fault) → (r ≡ Err Memory → ⊥) → tested_payload r ≡ Err Memory → ⊥
+tested_remembers : (r : Result (List ℕ) V2Fault) → (r ≡ Err Memory → ⊥) → payload_if_sound r ≡ Err Memory → ⊥
 tested_remembers (Ok payload) h e = bad_remembers payload (payload_fault Idb payload) e
 tested_remembers (Err fault) h e = h e
 

@@ -23,7 +23,7 @@ use Rattle.own_core.specs.ClaimEntries.{AreClaimsOf, claim_entry, is_of_coming_o
 use Rattle.own_core.specs.Fates.{claim_fate, is_fate, is_flag, is_free_beside, marked_claims}
 use Rattle.own_core.specs.Found.{AreByFiles, said_of}
 use Rattle.own_core.specs.Going.{does_stay, is_beside, is_left}
-use Rattle.own_core.specs.ListsSeen.{AreListsOf}
+use Rattle.own_core.specs.ListsSeen.{AreListsOfParts}
 use Rattle.own_core.specs.Parts.{AreParts, asides_of, ins_of, kept_of_parts, left_claims_by, removed_of}
 use Rattle.own_core.specs.Planned.{ArePlanLists}
 use Rattle.own_core.specs.Sides.{HasClaims, claims_after, claims_before, file_change_of}
@@ -207,7 +207,7 @@ module _ (change : Change) (claims : HasClaims change) (coming : List PathClaim)
   pub removed_parts : removed_of parts ≡ going (file_change_of change) files (claims_before change) before_up before_each (asides_of parts) beside_parts false
   removed_parts = by_flag false (removed_of parts) are.removed
 
-  pub planned : (owned : List Bool) (plan : FilePlan) → AreListsOf parts owned plan → ArePlanLists (file_change_of change) files plan
+  pub planned : (owned : List Bool) (plan : FilePlan) → AreListsOfParts parts owned plan → ArePlanLists (file_change_of change) files plan
   planned owned plan lists = record {
     removals = lists.removals ∙ (ap paths removed_parts ∙ removals_are (file_change_of change) files (claims_before change) before_up before_each (asides_of parts) beside_parts);
     writes = lists.writes ∙ ((λ j. sorted_by write_cmp (map claim_write (ins_are j) ++ map aside_write (asides_are j))) ∙ writes_are (file_change_of change) files coming up each);

@@ -27,7 +27,7 @@ use Rattle.change_files.specs.NamesAfter.{name_change}
 use Rattle.own_core.specs.ClaimEntries.{AreClaimsOf, is_of_coming_owner}
 use Rattle.own_core.specs.Fates.{claim_fate}
 use Rattle.own_core.specs.Going.{does_stay, is_beside, is_left}
-use Rattle.own_core.specs.ListsSeen.{AreListsOf}
+use Rattle.own_core.specs.ListsSeen.{AreListsOfParts}
 use Rattle.own_core.specs.Parts.{AreParts, asides_of, left_claims_by}
 use Rattle.own_core.specs.Planned.{IsPlanOf}
 use Rattle.own_core.specs.Sides.{HasClaims, claims_after, claims_before, file_change_of}
@@ -96,7 +96,7 @@ module _ (change : Change) (claims : HasClaims change) (coming : List PathClaim)
       subst (λ (g : Files). HasNoClash (name_change (file_change_of change) g) g) (sym is)
       (subst (λ (o : Option Clash). IsClashOf (name_change (file_change_of change) (files_of v)) (files_of v) (option_map clash_seen o)) none told)
 
-  pub plan_is : (flags : List Bool) (plan : FilePlan) → AreListsOf parts flags plan → (h1 : List TreeState) → h1 ≡ h → (found : Option Clash) → found ≡ None
+  pub plan_is : (flags : List Bool) (plan : FilePlan) → AreListsOfParts parts flags plan → (h1 : List TreeState) → h1 ≡ h → (found : Option Clash) → found ≡ None
       → IfObservable h1 (λ v. IsClashOf (name_change (file_change_of change) (files_of v)) (files_of v) (option_map clash_seen found)) → IsPlanOf (file_change_of change) h plan
   plan_is flags plan lists h1 same found none told = record {
     files = over_files.files;

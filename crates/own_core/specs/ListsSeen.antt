@@ -6,7 +6,7 @@ use Rattle.own_core.specs.WritesSeen.{aside_write, claim_write, write_cmp, write
 use Rattle.own_core.specs.declared.planning.FilePlan.{FilePlan}
 use Rattle.own_core.specs.declared.planning.Parts.{Parts}
 
-pub record AreListsOf (parts : Parts) (flags : List Bool) (plan : FilePlan) : Type 0 where
+pub record AreListsOfParts (parts : Parts) (flags : List Bool) (plan : FilePlan) : Type 0 where
   pub removals : plan.removals ≡ map (λ c. c.path) (removed_of parts)
   pub writes : writes_in plan.writes
       ≡ sorted_by write_cmp (map claim_write (ins_of parts) ++ map aside_write (asides_of parts))

@@ -22,13 +22,8 @@ use claim_lists::{find_claim, name_of_path};
 use db_core::Members;
 use path_claims::Claim;
 use path_clashes::LetGo;
+use root_names::{DATABASE_NAME, WORLD_NAME};
 use std::alloc::{AllocError, Global};
-
-/// The installed database.
-const DATABASE_NAME: &[u8] = b"lib/apk/db/installed.adb";
-
-/// The packages that the user asked for.
-const WORLD_NAME: &[u8] = b"etc/apk/world";
 
 /// The names beside the paths of claims.
 pub(crate) fn names_beside(alloc: Global, asides: &[Claim<'_>]) -> Result<Names, AllocError>
@@ -127,7 +122,8 @@ pub(crate) struct LetGoPaths<'c, 'o, 'n> {
 }
 
 impl<'c, 'o, 'n> LetGo for LetGoPaths<'c, 'o, 'n> {
-    ghost lets_go = { λ paths name. is_some (find (is_of_path name) (map claim_seen paths.before.now))
+    ghost lets_go = { λ paths name.
+        is_some (find (is_of_path name) (map claim_seen paths.before.now))
         && not (is_some (find (is_of_path name) (map claim_seen paths.after.now))
         || is_some (find (is_of_path name) (map claim_seen paths.kept.now))) };
 

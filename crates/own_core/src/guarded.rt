@@ -37,10 +37,7 @@ pub(crate) fn name_beside(alloc: Global, name: &Name) -> Result<Name, AllocError
     ensures { IfOk result (λ beside. beside ≡ aside_name name.now) }
 {
     let bytes = aside_bytes(alloc, name.as_bytes())?;
-    match Name::read(alloc, &bytes)? {
-        Some(beside) => Ok(beside),
-        None => unreachable!(),
-    }
+    Name::of(alloc, &bytes)
 }
 
 /// The path beside which a file of this path would lie: what stands in front of the ending.

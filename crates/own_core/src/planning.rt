@@ -22,7 +22,7 @@ ghost use Rattle.path_claims.specs.Seen.{claim_seen};
 ghost use Rattle.path_clashes.specs.ClashSeen.{clash_seen};
 ghost use Rattle.path_clashes.specs.FirstClash.{IsClashOf};
 ghost use Rattle.own_core.specs.ClaimEntries.{AreClaimsOf, IsClaimOf, is_of_coming_owner, is_reserved_coming};
-ghost use Rattle.own_core.specs.ListsSeen.{AreListsOf};
+ghost use Rattle.own_core.specs.ListsSeen.{AreListsOfParts};
 ghost use Rattle.own_core.specs.Parts.{AreParts, asides_of, ins_of, kept_of_parts, removed_of};
 ghost use Rattle.own_core.specs.Planned.{HasOwnNames, HasSources, IsOwnedBy, IsPlanFor, IsPlanOf, IsRefusalFor, IsRefusalOf, change_by, member_name_at};
 ghost use Rattle.own_core.specs.Sides.{HasClaims, claims_after, file_change_of};
@@ -225,7 +225,7 @@ fn lists_of(alloc: Global, parts: &Parts<'_, '_>, owned: Vec<bool>) -> Result<Fi
     requires kept { HaveNames (kept_of_parts parts.now) }
     requires ins { HaveNames (ins_of parts.now) }
     requires asides { HaveNamesBeside (asides_of parts.now) }
-    ensures { IfOk result (AreListsOf parts.now owned.items) }
+    ensures { IfOk result (AreListsOfParts parts.now owned.items) }
 {
     let removals = names_of_claims(alloc, &parts.removed)?;
     let kept = names_of_claims(alloc, &parts.kept)?;

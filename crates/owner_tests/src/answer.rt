@@ -1,22 +1,12 @@
 //! Who owns the files of packages, as text.
 
-ghost use Rattle.adb_fields.specs.Repeated.{package_name};
-ghost use Rattle.pkg_pieces.specs.Values.{value_of_contents};
-ghost use Rattle.std.specs.Prelude.{◌≡◌};
-
-use adb_schema::{FilePath, PACKAGE_WORD, PackageView};
-use base_core::Name;
-use db_core::Members;
+use adb_schema::FilePath;
+use db_core::{MOST_MEMBERS, Members};
 use file_owners::{Contested, Owners, owners_of_files};
-use pkg_core::PackageFault;
-use pkg_pieces::{Contents, Front, FrontFault, read_front};
+use pkg_pieces::Front;
 use row_lines::{add_number, add_word};
+use row_members::{add_coming, front_of};
 use std::alloc::{AllocError, Global};
-use std::marker::PhantomData;
-use tree_memory::MemoryTree;
-
-/// How many packages there may be.
-const MOST_MEMBERS: usize = 65536;
 
 /// Adds who owns the files of packages, which all come: for each path `PATH=PLACE`, or `PATH=?`
 /// where none owns it, then for each file that is listed `1` or `0` for whether its package owns
@@ -34,22 +24,6 @@ pub fn add_owners(
         fronts.push(front)?;
     }
     add_owners_of(alloc, &fronts, answer)
-}
-
-/// The front of the package in a file, unless it is bad.
-fn front_of(alloc: Global, file: &[u8]) -> Result<Option<Front>, AllocError> {
-    let Some(name) = Name::read(alloc, b"p")? else {
-        return Ok(None);
-    };
-    let mut tree = MemoryTree::new(alloc);
-    if tree.can_put(&name) {
-        tree.put(&name, file)?;
-    }
-    match read_front(alloc, &mut tree, &name, PACKAGE_WORD) {
-        Ok(front) => Ok(front),
-        Err(FrontFault::Bad(_) | FrontFault::Disk) => Ok(None),
-        Err(FrontFault::Memory) => Err(AllocError),
-    }
 }
 
 /// Adds who owns the files of the packages with these fronts.
@@ -70,41 +44,6 @@ fn add_owners_of(alloc: Global, fronts: &[Front], answer: &mut Vec<u8>) -> Resul
         Some(contested) => add_contested(alloc, contested, answer),
         None => Ok(()),
     }
-}
-
-/// Adds the package with this front, unless it is bad or not in order.
-fn add_coming<'a>(
-    alloc: Global,
-    members: &mut Members<'a>,
-    front: &'a Front,
-) -> Result<bool, AllocError> {
-    match Contents::new(alloc, front) {
-        Ok(contents) => add_contents(members, &contents),
-        Err(PackageFault::Bad(_)) => Ok(false),
-        Err(PackageFault::Memory) => Err(AllocError),
-    }
-}
-
-fn add_contents<'a>(
-    members: &mut Members<'a>,
-    contents: &Contents<'a>,
-) -> Result<bool, AllocError> {
-    if members.len() >= MOST_MEMBERS {
-        return Ok(false);
-    }
-    if !members.comes_behind(name_of(contents, PhantomData)) {
-        return Ok(false);
-    }
-    members.comes_in_pieces(contents)?;
-    Ok(true)
-}
-
-/// The name of a package.
-fn name_of<'a>(contents: &Contents<'a>, _mark: PhantomData<PackageView<'a>>) -> &'a [u8]
-    ensures { result.now ≡ package_name (value_of_contents contents.now) }
-{
-    let info = contents.view().info();
-    info.name()
 }
 
 /// Adds each path once, with the place of its owner.

@@ -3,4 +3,5 @@ mod NamesInOrder
 mod NameTable
 mod PlacedLaws
 mod ReportLines
+mod StayingNames
 mod Worked

@@ -5,14 +5,16 @@ ghost use Rattle.dep_core.specs.Dependency.{Dependency};
 ghost use Rattle.dep_core.specs.Meets.{dependency};
 ghost use Rattle.package_changes.specs.Changes.{is_selected_named};
 ghost use Rattle.package_changes.specs.Placed.{candidates_at};
+ghost use Rattle.package_changes.specs.SelectedNames.{place_beside};
 ghost use Rattle.package_changes.specs.Report.{is_in_need, names_in_need, needs_candidate, selected_stay_lines, stay_lines, was_installed};
 ghost use Rattle.pool_core.specs.Candidates.{Candidate, meets_dependency};
 ghost use Rattle.pool_core.specs.Rank.{candidate_at};
 ghost use Rattle.report_core.specs.Reports.{report_line, spaced_behind, stays_text};
 ghost use Rattle.std.specs.List.{filter, flat_map, list_any};
-ghost use Rattle.std.specs.Prelude.{◌≡◌, ◌++◌, ◌&&◌, not, if◌then◌else◌, [], ◌∷◌, map, option_to_list, IfOk, OnOk};
+ghost use Rattle.std.specs.Prelude.{◌≡◌, ◌++◌, ◌&&◌, not, if◌then◌else◌, [], ◌∷◌, map, option_to_list, is_some, IfOk, OnOk};
 
 use crate::names::{names_in_order, names_of_words};
+use crate::selected::SelectedNames;
 use base_core::Words;
 use db_core::Db;
 use dep_core::Dep;
@@ -22,8 +24,8 @@ use solve_core::Trace;
 use std::alloc::{AllocError, Global};
 
 /// Adds a line for each of some names that was a package's and is a selected candidate's, in byte
-/// order of the names, each once: that it stays, and which others need it. It takes a pass over the
-/// selection for each of the names.
+/// order of the names, each once: that it stays, and which others need it. It walks over the
+/// selection once, and again for each line.
 pub fn push_stay_lines(
     alloc: Global,
     report: &mut Report,
@@ -37,8 +39,26 @@ pub fn push_stay_lines(
 {
     let names = names_of_words(alloc, to_go)?;
     let names = names_in_order(names)?;
-    push_lines_of_names(alloc, report, db, pool, trace, &names)?;
+    let selected = SelectedNames::of(alloc, pool, trace)?;
+    let staying = selected_among(alloc, &names, &selected)?;
+    push_lines_of_names(alloc, report, db, pool, trace, &staying)?;
     Ok(())
+}
+
+/// Those of some names that a selected candidate has, in their order.
+fn selected_among<'n>(
+    alloc: Global,
+    names: &[&'n [u8]],
+    selected: &SelectedNames<'_>,
+) -> Result<Vec<&'n [u8]>, AllocError>
+    ensures { IfOk result (λ found. found.items
+        ≡ filter (λ name. is_some (place_beside name.now selected.now)) names.now) }
+{
+    names
+        .iter()
+        .copied()
+        .filter(|name| selected.place_of(name).is_some())
+        .collect(alloc)
 }
 
 /// Adds the lines of names that are in order.

@@ -101,22 +101,38 @@ off_there pkg folder file (p ∷ ps) (c ∷ cs) stand is =
 
 -- ---- what a tested package gives
 
-abbrev pub IsReadFrom : (List ℕ → List ℕ → Type 0) → ℕ → Plain → ℕ → ℕ → ℕ → Type 0
-IsReadFrom Reads len value folder file at = (pkg bytes : List ℕ) (e : Expected) → length pkg ≡ len → expected_with_positions folder file (expected_contents value) ≡ Some e → HasAt pkg at bytes → length bytes ≡ e.size → hash_fault e.hash bytes ≡ None → Reads pkg bytes
+abbrev pub IsReadFrom : (List ℕ → List ℕ → Type 0) → ℕ → Plain → ℕ → ℕ → Option ℕ → Type 0
+IsReadFrom Reads len value folder file at = (pkg bytes : List ℕ) (e : Expected) (start : ℕ) → length pkg ≡ len → at ≡ Some start → expected_with_positions folder file (expected_contents value) ≡ Some e → HasAt pkg start bytes → length bytes ≡ e.size → hash_fault e.hash bytes ≡ None → Reads pkg bytes
 
-pub gives_file : (Reads : List ℕ → List ℕ → Type 0) (len folder file at : ℕ) (value : Plain) (pkg : List ℕ) (places : List FilePlace) → package_fault pkg ≡ None → value ≡ root_value Package (payload_in pkg) → length pkg ≡ len → AreAtPlaces pkg places (contents_in (files_in_file pkg))
-    → (AreInFileOrder places → Some at ≡ offset_of_file folder file places) → IsReadFrom Reads len value folder file at → Reads pkg (bytes_of_file folder file (contents_in (files_in_file pkg)))
-gives_file Reads len folder file at value pkg places sound same long stand offset reads =
-    let cs : List Contents = contents_in (files_in_file pkg) in
-    let are : AreContentsOf (expected_contents value) cs = subst (λ (v : Plain). AreContentsOf (expected_contents v) cs) (sym same) (package_right pkg sound) in
-    let order : AreInFileOrder places = placed_in_order pkg places cs (expected_contents value) stand are (expected_in_order value) in
-    let f = found_there pkg folder file at places cs (expected_contents value) stand are (offset order) in
-    subst (Reads pkg) (sym (ap bytes_or_none f.found)) (reads pkg f.contents.bytes f.expected long f.due f.stands f.of.size f.of.hash)
+none_due : (folder file : ℕ) (cs : List Contents) (es : List Expected) → AreContentsOf es cs → find (is_of_file folder file) cs ≡ None → expected_with_positions folder file es ≡ None
+none_due folder file [] [] are is = refl
+none_due folder file [] (e ∷ es) are is = absurd are
+none_due folder file (c ∷ cs) [] are is = absurd are
+none_due folder file (c ∷ cs) (e ∷ es) are is =
+    by_test (is_of_file folder file c) (sym (same_pair c.folder c.file e.folder e.file folder file are.0.folder are.0.file)) is (none_due folder file cs es are.1)
+  where
+    by_test : (b : Bool) → has_positions folder file e ≡ b → cond b (Some c) (find (is_of_file folder file) cs) ≡ None → (find (is_of_file folder file) cs ≡ None → expected_with_positions folder file es ≡ None) → cond (has_positions folder file e) (Some e) (find (has_positions folder file) es) ≡ None
+    by_test true t here others = absurd (let s : Some c ≡ None = here in (cc))
+    by_test false t here others = ap (λ (b : Bool). cond b (Some e) (find (has_positions folder file) es)) t ∙ others here
 
-pub gives_none : (Reads : List ℕ → List ℕ → Type 0) (folder file : ℕ) (pkg : List ℕ) (places : List FilePlace) → package_fault pkg ≡ None → AreAtPlaces pkg places (contents_in (files_in_file pkg)) → (AreInFileOrder places → None ≡ offset_of_file folder file places) → ((pkg : List ℕ) → Reads pkg [])
+pub gives_bytes : (Reads : List ℕ → List ℕ → Type 0) (due : Option Expected) (len folder file : ℕ) (at : Option ℕ) (value : Plain) (pkg : List ℕ) (places : List FilePlace) → package_fault pkg ≡ None → value ≡ root_value Package (payload_in pkg) → length pkg ≡ len → AreAtPlaces pkg places (contents_in (files_in_file pkg))
+    → (AreInFileOrder places → at ≡ offset_of_file folder file places) → due ≡ expected_with_positions folder file (expected_contents value) → IsReadFrom Reads len value folder file at → ((pkg : List ℕ) → due ≡ None → Reads pkg [])
     → Reads pkg (bytes_of_file folder file (contents_in (files_in_file pkg)))
-gives_none Reads folder file pkg places sound stand offset reads =
-    let cs : List Contents = contents_in (files_in_file pkg) in
-    let value : Plain = root_value Package (payload_in pkg) in
-    let order : AreInFileOrder places = placed_in_order pkg places cs (expected_contents value) stand (package_right pkg sound) (expected_in_order value) in
-    subst (Reads pkg) (sym (ap bytes_or_none (off_there pkg folder file places cs stand (offset order)))) (reads pkg)
+gives_bytes Reads due len folder file at value pkg places sound same long stand offset is reads empty = by at refl
+  where
+    cs : List Contents
+    cs = contents_in (files_in_file pkg)
+
+    are : AreContentsOf (expected_contents value) cs
+    are = subst (λ (v : Plain). AreContentsOf (expected_contents v) cs) (sym same) (package_right pkg sound)
+
+    order : AreInFileOrder places
+    order = placed_in_order pkg places cs (expected_contents value) stand are (expected_in_order value)
+
+    by : (o : Option ℕ) → at ≡ o → Reads pkg (bytes_of_file folder file cs)
+    by (Some start) found =
+        let f = found_there pkg folder file start places cs (expected_contents value) stand are (sym found ∙ offset order) in
+        subst (Reads pkg) (sym (ap bytes_or_none f.found)) (reads pkg f.contents.bytes f.expected start long found f.due f.stands f.of.size f.of.hash)
+    by None found =
+        let off = off_there pkg folder file places cs stand (sym found ∙ offset order) in
+        subst (Reads pkg) (sym (ap bytes_or_none off)) (empty pkg (is ∙ none_due folder file cs (expected_contents value) are off))

@@ -21,10 +21,11 @@ pub struct TestedPackage {
 }
 
 impl TestedPackage {
-    ghost use Rattle.std.specs.Prelude.{◌≡◌, ℕ, List};
+    ghost use Rattle.std.specs.Prelude.{◌≡◌, [], ℕ, List};
     ghost use Rattle.package_test.specs.Tested.{IsTestedOf, tested_id, tested_len, tested_name, tested_payload, tested_value};
-    ghost use Rattle.piece_reader.specs.FileReading.{IsFileReading, len_around_file, package_of_file};
-    ghost use Rattle.pkg_core.specs.Contents.{bytes_of_file, contents_in};
+    ghost use Rattle.piece_reader.specs.FileReading.{HaveCome, IsFileReading, file_due, len_around_file, package_of_file};
+    ghost use Rattle.pkg_core.specs.Contents.{bytes_of_file, contents_in, expected_contents};
+    ghost use Rattle.pkg_core.specs.Opened.{expected_with_positions};
     ghost use Rattle.pkg_core.specs.Whole.{files_in_file};
     ghost use Rattle.pkg_pieces.specs.Values.{payload_of_contents, value_of_contents};
     ghost use Rattle.sha2.specs.Sha256.{sha256};
@@ -50,14 +51,16 @@ impl TestedPackage {
     pub fn file(&self, folder: u32, file: u32) -> FilePieces<'_>
         ensures name { package_of_file result ≡ tested_name self.now }
         ensures len { len_around_file result ≡ tested_len self.now }
+        // Whatever the tree shows: its bytes are compared with the size and the digest that the
+        // package's value lists for it.
+        ensures due { file_due result ≡ expected_with_positions folder file
+            (expected_contents (tested_value self.now)) }
+        ensures begun { HaveCome result [] }
         ensures reading { (name pkg : List ℕ) → IsTestedOf name pkg self.now → IsFileReading
             result pkg (bytes_of_file folder file (contents_in (files_in_file pkg))) }
     {
         let len = self.front.file_len();
-        let contents = self.contents();
-        match offset_of(&self.places, folder, file) {
-            Some(at) => FilePieces::new(&self.name, len, contents, folder, file, at),
-            None => FilePieces::none(&self.name, len, contents),
-        }
+        let at = offset_of(&self.places, folder, file);
+        FilePieces::new(&self.name, len, self.contents(), folder, file, at)
     }
 }

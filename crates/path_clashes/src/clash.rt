@@ -67,17 +67,6 @@ fn path_bytes(alloc: Global, path: &FilePath<'_>) -> Result<Vec<u8>, AllocError>
     Ok(bytes)
 }
 
-/// The name that these bytes are.
-fn name_of_bytes(alloc: Global, bytes: &[u8]) -> Result<Name, AllocError>
-    requires { IsName bytes.now }
-    ensures { IfOk result (λ name. name ≡ bytes.now) }
-{
-    match Name::read(alloc, bytes)? {
-        Some(name) => Ok(name),
-        None => unreachable!(),
-    }
-}
-
 /// How many bytes at the fronts of two texts are the same.
 fn common_len(one: &[u8], other: &[u8]) -> usize
     ensures one { result ≤ length one.now }
@@ -114,7 +103,7 @@ fn clash_near<T: Tree, G: LetGo>(
     if before == bytes {
         return Ok(None);
     }
-    let name = name_of_bytes(alloc, bytes)?;
+    let name = Name::of(alloc, bytes)?;
     let len = common_len(before, bytes);
     if let Some(path) = first_folder(alloc, tree, written, let_go, bytes, len)? {
         return Ok(Some(Clash { path, other: name }));

@@ -4,3 +4,4 @@ pub mod BlockStepped
 pub mod FilesFound
 pub mod Readings
 pub mod FileRead
+pub mod FileDue

@@ -1,7 +1,10 @@
 -- A single file of a package that is read in pieces.
-use Rattle.std.specs.Prelude.{◌≡◌, ◌<◌, ℕ, ◌+◌, Bool, true, false, List, [], ◌++◌, Option, Some, None, Result, Ok, Err}
+use Rattle.std.specs.Prelude.{◌≡◌, ◌<◌, ℕ, ◌+◌, ◌⊎◌, Bool, true, false, List, [], ◌++◌, length, Option, Some, None, option_map, Result, Ok, Err}
+use Rattle.base_core.specs.declared.cause.Cause.{Cause}
+use Rattle.pkg_core.specs.Contents.{Expected, hash_fault}
+use Rattle.pkg_core.specs.Opened.{expected_of}
 use Rattle.piece_core.specs.Taking.{HasTaken, file_bytes_left}
-use Rattle.piece_reader.specs.Opened.{AreTestedSoFar, AreToCome}
+use Rattle.piece_reader.specs.Opened.{AreToCome}
 use Rattle.piece_reader.specs.declared.fault.PieceFault.{PieceFault}
 use Rattle.piece_reader.specs.declared.fault.PieceFault.TheVariants.{Bad, Disk}
 use Rattle.piece_reader.specs.declared.one_file.FilePieces.{FilePieces}
@@ -25,6 +28,15 @@ bytes_left_in (Some o) = file_bytes_left o.file
 abbrev pub bytes_left_of : FilePieces → ℕ
 bytes_left_of file = bytes_left_in file.opened
 
+-- the positions, the size and the digest that its bytes are compared with; None where it has no
+-- contents
+abbrev pub file_due : FilePieces → Option Expected
+file_due file = option_map expected_of file.due
+
+-- the test that failed, if one did
+abbrev pub kept_fault : FilePieces → Option Cause
+kept_fault file = file.refused
+
 -- ---- which bytes of the package are still to come
 
 -- no test failed, and of a package of these bytes those of the file that are left are still to come
@@ -41,18 +53,39 @@ GivesBytes AreToComeThen left bytes (Ok false) = (left ≡ []) × AreToComeThen 
 GivesBytes AreToComeThen left bytes (Err (Bad c)) = ⊥
 GivesBytes AreToComeThen left bytes (Err Disk) = Unit {0}
 
--- of a file that is open just these bytes were handed out
-abbrev pub HaveComeFrom : Option OpenFile → List ℕ → Type 0
-HaveComeFrom None bytes = ⊥
-HaveComeFrom (Some o) bytes = HasTaken o.file bytes
+-- ---- what the bytes are compared with, whatever the tree shows
+
+-- the bytes have the size and the digest that are due; a file without contents has none
+abbrev pub AreAsDue : Option Expected → List ℕ → Type 0
+AreAsDue None bytes = bytes ≡ []
+AreAsDue (Some e) bytes = (length bytes ≡ e.size) × (hash_fault e.hash bytes ≡ None)
+
+-- the bytes have the size that is due, and another digest
+abbrev pub HaveOtherDigest : Option Expected → List ℕ → Cause → Type 0
+HaveOtherDigest None bytes c = ⊥
+HaveOtherDigest (Some e) bytes c = (length bytes ≡ e.size) × (hash_fault e.hash bytes ≡ Some c)
+
+-- just these bytes were handed out: more are to come, or they are as is due; after a failed test
+-- nothing is said
+abbrev pub HaveComeBy : Option Cause → Option OpenFile → Option Expected → List ℕ → Type 0
+HaveComeBy (Some c) opened due bytes = Unit {0}
+HaveComeBy None None due bytes = AreAsDue due bytes
+HaveComeBy None (Some o) due bytes = HasTaken o.file bytes
 
 abbrev pub HaveCome : FilePieces → List ℕ → Type 0
-HaveCome file bytes = HaveComeFrom file.opened bytes
+HaveCome file bytes = HaveComeBy (kept_fault file) file.opened (file_due file) bytes
 
--- behind a piece more bytes of the file are to come, or all have come and have its digest
-abbrev pub AreTestedFrom : Option OpenFile → List ℕ → Option OpenFile → Type 0
-AreTestedFrom None bytes after = Unit {0}
-AreTestedFrom (Some o) bytes after = AreTestedSoFar o bytes after
+-- What is answered behind these bytes: the piece comes behind them; or they are all, and as is due;
+-- and no test failed then. Or with the piece they are all, and have another digest; or a test had
+-- failed before.
+abbrev pub ComesBehind : FilePieces → List ℕ → List ℕ → Result Bool PieceFault → FilePieces → Type 0
+ComesBehind old so_far bytes (Ok true) new =
+    (kept_fault new ≡ None) × HaveCome new (so_far ++ bytes)
+ComesBehind old so_far bytes (Ok false) new =
+    (kept_fault new ≡ None) × AreAsDue (file_due old) so_far × HaveCome new so_far
+ComesBehind old so_far bytes (Err (Bad c)) new =
+    (kept_fault old ≡ Some c) ⊎ HaveOtherDigest (file_due old) (so_far ++ bytes) c
+ComesBehind old so_far bytes (Err Disk) new = Unit {0}
 
 -- the piece that came has so many bytes, and so many fewer are to come; or none is left
 abbrev pub HasFewerLeft : FilePieces → ℕ → FilePieces → Bool → Type 0

@@ -1,6 +1,8 @@
 -- A file of a package whose pieces are read one by one, of the package's bytes.
-use Rattle.std.specs.Prelude.{◌≡◌, ℕ, ◌+◌, true, false, List, [], ◌++◌, length, take, drop, Option, Some, None, Result, Ok, Err}
-use Rattle.pkg_core.specs.Contents.{hash_fault}
+use Rattle.std.specs.Prelude.{◌≡◌, ℕ, ◌+◌, ◌-◌, nat_lt, if◌then◌else◌, true, false, List, [], ◌++◌, length, take, drop, Option, Some, None, Result, Ok, Err}
+use Rattle.base_core.specs.declared.cause.Cause.{Cause}
+use Rattle.base_core.specs.declared.cause.Cause.TheVariants.{DataOrder, DataSize}
+use Rattle.pkg_core.specs.Contents.{Expected, hash_fault}
 use Rattle.pkg_core.specs.Opened.{expected_of}
 use Rattle.piece_core.specs.Pieces.{PiecesRead, part_of, piece, refusal}
 use Rattle.piece_core.specs.Taking.{HasTaken, file_bytes_left, pieces_in}
@@ -33,11 +35,16 @@ abbrev pub AreToCome : Option OpenFile → List ℕ → List ℕ → Type 0
 AreToCome None pkg left = left ≡ []
 AreToCome (Some o) pkg left = AreLeftOf o pkg left
 
--- these bytes of the file were handed out, and unless more are to come they have its digest
-abbrev pub AreTestedSoFar : OpenFile → List ℕ → Option OpenFile → Type 0
-AreTestedSoFar o bytes None = hash_fault o.file.wanted.hash.now bytes ≡ None
-AreTestedSoFar o bytes (Some further) =
+-- these bytes of the file were handed out, and unless more are to come they have its size and its
+-- digest; or its size, and another digest
+abbrev pub AreTestedSoFar : OpenFile → List ℕ → Result (Part × Option OpenFile) PieceFault → Type 0
+AreTestedSoFar o bytes (Ok (part, None)) =
+    (length bytes ≡ o.file.wanted.size) × (hash_fault o.file.wanted.hash.now bytes ≡ None)
+AreTestedSoFar o bytes (Ok (part, Some further)) =
     HasTaken further.file bytes × (further.file.wanted ≡ o.file.wanted)
+AreTestedSoFar o bytes (Err (Bad c)) =
+    (length bytes ≡ o.file.wanted.size) × (hash_fault o.file.wanted.hash.now bytes ≡ Some c)
+AreTestedSoFar o bytes (Err Disk) = Unit {0}
 
 -- it was not answered that the tree failed
 abbrev pub NotDisk : {A : Type 0} → Result A PieceFault → Type 0
@@ -67,3 +74,10 @@ IsPieceOf o len (part, None) = part ≡ part_of (expected_of o.file.wanted) true
 abbrev pub open_end : Option OpenFile → ℕ
 open_end None = 0
 open_end (Some o) = o.at + file_bytes_left o.file
+
+-- why a file that is due cannot stand at an offset of a package with so many bytes, if it cannot
+abbrev pub place_fault : Option Expected → Option ℕ → ℕ → Option Cause
+place_fault None at len = None
+place_fault (Some e) None len = Some (DataOrder (e.folder, e.file) (0, 0))
+place_fault (Some e) (Some at) len =
+    if nat_lt (len - at) e.size then Some (DataSize e.size (len - at)) else None

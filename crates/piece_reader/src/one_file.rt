@@ -1,7 +1,7 @@
 //! The pieces of a single file of a package.
 
 ghost use Rattle.std.specs.Option.{ForSome};
-ghost use Rattle.std.specs.Prelude.{◌<◌, ◌≤◌};
+ghost use Rattle.std.specs.Prelude.{◌≡◌, ◌<◌, ◌≤◌, Some};
 ghost use Rattle.piece_reader.specs.Opened.{open_end};
 ghost use Rattle.piece_core.specs.Taking.{file_bytes_left};
 
@@ -9,7 +9,7 @@ use crate::fault::PieceFault;
 use crate::open::{OpenFile, open_at};
 use crate::piece::Piece;
 use base_core::{Cause, Name, Tree};
-use pkg_core::wanted_file;
+use pkg_core::{Wanted, wanted_file};
 use pkg_pieces::Contents;
 
 /// The bytes of a single file of a package in pieces, read from the package at the offset at which
@@ -19,82 +19,116 @@ use pkg_pieces::Contents;
 pub struct FilePieces<'a> {
     pub(crate) name: &'a Name,
     pub(crate) len: u64,
-    // They tell the file's size and digest.
+    // They tell what is due.
     pub(crate) contents: Contents<'a>,
+    // What the bytes are compared with; None where the file has no contents.
+    pub(crate) due: Option<Wanted<'a>>,
     pub(crate) opened: Option<OpenFile<'a>>,
     pub(crate) refused: Option<Cause>,
     ghost within: { open_end opened ≤ len },
     ghost more: { ForSome opened (λ o. 0 < file_bytes_left o.file) },
+    ghost same: { ForSome opened (λ o. due ≡ Some o.file.wanted) },
 }
 
 impl<'a> FilePieces<'a> {
-    ghost use Rattle.std.specs.Prelude.{◌≡◌, ◌++◌, [], ℕ, List, None, Some, length, IfErr, IfOk, IfSome, Err};
+    ghost use Rattle.std.specs.Prelude.{◌≡◌, ◌<◌, [], ℕ, List, None, Some, length, IfErr, IfOk, IfSome, Err};
     ghost use Rattle.base_core.specs.Calls.{IfObservable};
     ghost use Rattle.base_core.specs.Tree.{files_of};
     ghost use Rattle.pkg_core.specs.Contents.{Expected, expected_contents, hash_fault};
-    ghost use Rattle.pkg_core.specs.Opened.{expected_with_positions};
+    ghost use Rattle.pkg_core.specs.Opened.{expected_of, expected_with_positions};
     ghost use Rattle.pkg_pieces.specs.Seen.{HasAt, ReadsFile};
     ghost use Rattle.pkg_pieces.specs.Values.{value_of_contents};
-    ghost use Rattle.piece_reader.specs.FileReading.{AreTestedFrom, GivesBytes, HasFewerLeft, HasRefusedFile, HaveCome, IsFileReading, bytes_left_of, len_around_file, package_of_file};
+    ghost use Rattle.piece_reader.specs.FileReading.{ComesBehind, GivesBytes, HasFewerLeft, HasRefusedFile, HaveCome, IsFileReading, bytes_left_of, file_due, kept_fault, len_around_file, package_of_file};
+    ghost use Rattle.piece_reader.specs.Opened.{place_fault};
     ghost use Rattle.piece_reader.specs.declared.fault.PieceFault.TheVariants.{Bad, Disk as DiskFault};
 
-    /// A file that has no contents, of a package of this name and with so many bytes and these
-    /// values: no piece comes.
-    pub fn none(name: &'a Name, len: u64, contents: Contents<'a>) -> FilePieces<'a>
-        ensures name { package_of_file result ≡ name.entry.now }
-        ensures len { len_around_file result ≡ len }
-        ensures reading { (pkg : List ℕ) → IsFileReading result pkg [] }
-    {
-        FilePieces {
-            name,
-            len,
-            contents,
-            opened: None,
-            refused: None,
-        }
-    }
-
     /// The file with these positions, which begins at this offset in the package of this name and
-    /// with so many bytes and these values. No piece comes where it has no contents, or the package is
-    /// too short for them.
+    /// with so many bytes and these values. No piece comes where it has no contents. Where it has
+    /// some, and no offset is given or the package is too short for them, each call is refused.
     pub fn new(
         name: &'a Name,
         len: u64,
         contents: Contents<'a>,
         folder: u32,
         file: u32,
-        at: u64,
+        at: Option<u64>,
     ) -> FilePieces<'a>
         ensures name { package_of_file result ≡ name.entry.now }
         ensures len { len_around_file result ≡ len }
-        ensures reading { (pkg bytes : List ℕ) (e : Expected) → length pkg ≡ len
-            → expected_with_positions folder file
+        // The size and the digest that are compared are those that the values list for the file.
+        ensures due { file_due result ≡ expected_with_positions folder file
+            (expected_contents (value_of_contents contents.entry)) }
+        ensures begun { HaveCome result [] }
+        ensures fault { kept_fault result ≡ place_fault (file_due result) at len }
+        ensures reading { (pkg bytes : List ℕ) (e : Expected) (start : ℕ) → length pkg ≡ len
+            → at ≡ Some start → expected_with_positions folder file
             (expected_contents (value_of_contents contents.entry)) ≡ Some e
-            → HasAt pkg at bytes → length bytes ≡ e.size → hash_fault e.hash bytes ≡ None
+            → HasAt pkg start bytes → length bytes ≡ e.size → hash_fault e.hash bytes ≡ None
             → IsFileReading result pkg bytes }
+        ensures empty { (pkg : List ℕ) → file_due result ≡ None → IsFileReading result pkg [] }
     {
         let view = contents.view();
-        let opened = match wanted_file(&view, folder, file) {
-            Some(wanted) => open_at(wanted, at, len),
-            None => None,
-        };
-        FilePieces {
-            name,
-            len,
-            contents,
-            opened,
-            refused: None,
+        match wanted_file(&view, folder, file) {
+            Some(wanted) => FilePieces::of(name, len, contents, wanted, at),
+            None => FilePieces {
+                name,
+                len,
+                contents,
+                due: None,
+                opened: None,
+                refused: None,
+            },
+        }
+    }
+
+    /// A file with contents that begins at this offset.
+    fn of(
+        name: &'a Name,
+        len: u64,
+        contents: Contents<'a>,
+        wanted: Wanted<'a>,
+        at: Option<u64>,
+    ) -> FilePieces<'a>
+        requires { 0 < wanted.size }
+        ensures name { package_of_file result ≡ name.entry.now }
+        ensures len { len_around_file result ≡ len }
+        ensures due { file_due result ≡ Some (expected_of wanted.entry) }
+        ensures begun { HaveCome result [] }
+        ensures fault { kept_fault result ≡ place_fault (file_due result) at len }
+        ensures reading { (pkg bytes : List ℕ) (start : ℕ) → length pkg ≡ len → at ≡ Some start
+            → HasAt pkg start bytes → length bytes ≡ wanted.entry.size
+            → hash_fault wanted.entry.hash.now bytes ≡ None → IsFileReading result pkg bytes }
+    {
+        let due = Some(wanted);
+        match open_at(wanted, at, len) {
+            Ok(file) => FilePieces {
+                name,
+                len,
+                contents,
+                due,
+                opened: Some(file),
+                refused: None,
+            },
+            Err(cause) => FilePieces {
+                name,
+                len,
+                contents,
+                due,
+                opened: None,
+                refused: Some(cause),
+            },
         }
     }
 
     /// Reads the next piece, and tells whether one came; else the file has ended. The pieces have
-    /// 65,536 bytes each, and the last one 1 to 65,536. The tree stays as it is, whatever the answer.
+    /// 65,536 bytes each, and the last one 1 to 65,536. The tree stays as it is, whatever the
+    /// answer.
     ///
     /// # Errors
     ///
-    /// `Bad` with `HashDiffers`, before the last piece is handed out, where all bytes together do not
-    /// have the file's digest, and again from then on; or `Disk` where the tree failed: then the
-    /// reader may only be dropped.
+    /// `Bad` with `HashDiffers`, before the last piece is handed out, where all bytes together do
+    /// not have the file's digest, and again from then on; at once where the file has no place in
+    /// the package (`new`); or `Disk` where the tree failed: then the reader may only be dropped.
     pub fn next_piece<T: Tree>(
         &mut self,
         tree: &mut T,
@@ -104,12 +138,14 @@ impl<'a> FilePieces<'a> {
         ensures piece { IfObservable (T.history tree.old) (λ v. (pkg left : List ℕ)
             → files_of v (package_of_file self.old) ≡ Some pkg → IsFileReading self.old pkg left
             → GivesBytes (IsFileReading self.new pkg) left piece.new result) }
-        // Of each package, also of one that was changed since.
-        ensures tested { (so_far : List ℕ) → HaveCome self.old so_far → IfOk result (λ _.
-            AreTestedFrom self.old.opened (so_far ++ piece.new) self.new.opened) }
+        // Of each package, also of one that was changed since: the last piece and the end come only
+        // where all bytes together have the size and the digest that are due.
+        ensures tested { (so_far : List ℕ) → HaveCome self.old so_far
+            → ComesBehind self.old so_far piece.new result self.new }
+        ensures due { file_due self.new ≡ file_due self.old }
         ensures left { IfOk result (HasFewerLeft self.old (length piece.new) self.new) }
         ensures refused { IfErr result (λ fault. HasRefusedFile fault self.new) }
-        ensures again { IfSome self.old.refused (λ cause. result ≡ Err (Bad cause)) }
+        ensures again { IfSome (kept_fault self.old) (λ cause. result ≡ Err (Bad cause)) }
         ensures name { package_of_file self.new ≡ package_of_file self.old }
         ensures len { len_around_file self.new ≡ len_around_file self.old }
         ensures tree { ReadsFile (package_of_file self.old) (len_around_file self.old) DiskFault
@@ -130,12 +166,13 @@ impl<'a> FilePieces<'a> {
 
     /// Reads the next piece, where no test failed.
     fn read_next<T: Tree>(&mut self, tree: &mut T, piece: &mut Piece) -> Result<bool, PieceFault>
-        requires { self.old.refused ≡ None }
+        requires { kept_fault self.old ≡ None }
         ensures piece { IfObservable (T.history tree.old) (λ v. (pkg left : List ℕ)
             → files_of v (package_of_file self.old) ≡ Some pkg → IsFileReading self.old pkg left
             → GivesBytes (IsFileReading self.new pkg) left piece.new result) }
-        ensures tested { (so_far : List ℕ) → HaveCome self.old so_far → IfOk result (λ _.
-            AreTestedFrom self.old.opened (so_far ++ piece.new) self.new.opened) }
+        ensures tested { (so_far : List ℕ) → HaveCome self.old so_far
+            → ComesBehind self.old so_far piece.new result self.new }
+        ensures due { file_due self.new ≡ file_due self.old }
         ensures left { IfOk result (HasFewerLeft self.old (length piece.new) self.new) }
         ensures name { package_of_file self.new ≡ package_of_file self.old }
         ensures len { len_around_file self.new ≡ len_around_file self.old }

@@ -1,16 +1,18 @@
 //! A file of a package whose pieces are read one by one.
 
-ghost use Rattle.std.specs.Prelude.{◌≡◌, ◌≤◌, ◌<◌, ◌+◌, ◌++◌, ◌^◌, ℕ, List, None, length, IfNone, IfOk, IfSome};
+ghost use Rattle.std.specs.Prelude.{◌≡◌, ◌≤◌, ◌<◌, ◌+◌, ◌++◌, ◌^◌, [], ℕ, List, None, Some, length, IfNone, IfOk, IfSome, IsOkAnd};
+ghost use Rattle.adb_view.specs.Gives.{cause_of};
 ghost use Rattle.piece_core.specs.Pieces.{PiecesRead};
 ghost use Rattle.piece_core.specs.Taking.{HasTaken, file_bytes_left, next_len};
 ghost use Rattle.pkg_core.specs.Contents.{hash_fault};
+ghost use Rattle.pkg_core.specs.Opened.{expected_of};
 ghost use Rattle.pkg_pieces.specs.Seen.{HasAt, IsSeen, ReadsFile};
-ghost use Rattle.piece_reader.specs.Opened.{AreTestedSoFar, AreToCome, IsNextPiece, IsOpenFile, IsPieceOf, NotDisk, open_end};
+ghost use Rattle.piece_reader.specs.Opened.{AreLeftOf, AreTestedSoFar, IsNextPiece, IsOpenFile, IsPieceOf, NotDisk, place_fault};
 ghost use Rattle.piece_reader.specs.declared.fault.PieceFault.TheVariants.{Disk as DiskFault};
 
 use crate::fault::PieceFault;
 use crate::piece::Piece;
-use base_core::{Name, Tree};
+use base_core::{Cause, Name, Tree};
 use piece_core::{FileCheck, Part};
 use pkg_core::Wanted;
 
@@ -48,13 +50,15 @@ impl<'a> OpenFile<'a> {
             → IsNextPiece so_far file piece.new further before result }
         ensures len { NotDisk result → length piece.new ≡ next_len self.entry.file }
         ensures part { IfOk result (IsPieceOf self.entry (length piece.new)) }
-        // Only the last piece ends the file, and behind it all bytes together have its digest.
+        // Only the last piece ends the file, and behind it all bytes together have its size and its
+        // digest.
         ensures more { IfOk result (λ read. IfSome read.1 (λ further.
             0 < file_bytes_left further.file)) }
         ensures all { IfOk result (λ read. IfNone read.1
             (length piece.new ≡ file_bytes_left self.entry.file)) }
         ensures digest { (so_far : List ℕ) → HasTaken self.entry.file so_far
-            → IfOk result (λ read. AreTestedSoFar self.entry (so_far ++ piece.new) read.1) }
+            → 0 < file_bytes_left self.entry.file
+            → AreTestedSoFar self.entry (so_far ++ piece.new) result }
         ensures room { IfOk result (λ read. IfSome read.1 (λ further.
             further.at + file_bytes_left further.file ≡ self.entry.at + file_bytes_left self.entry.file)) }
         ensures tree { (file_len : ℕ) → self.entry.at + file_bytes_left self.entry.file ≤ file_len
@@ -72,24 +76,41 @@ impl<'a> OpenFile<'a> {
     }
 }
 
-/// Opens a file with contents at an offset, of a package with so many bytes. None comes where it does
-/// not end within the package.
-pub(crate) fn open_at<'a>(wanted: Wanted<'a>, at: u64, len: u64) -> Option<OpenFile<'a>>
-    ensures within { open_end result ≤ len }
-    ensures more { IfSome result (λ o. 0 < file_bytes_left o.file) }
-    ensures left { (pkg bytes : List ℕ) → length pkg ≡ len → HasAt pkg at bytes
-        → length bytes ≡ wanted.entry.size → hash_fault wanted.entry.hash.now bytes ≡ None
-        → AreToCome result pkg bytes }
+/// Opens a file with contents at an offset, of a package with so many bytes.
+///
+/// # Errors
+///
+/// `DataOrder` with the pair (0, 0) where no offset is given, or `DataSize` where the package ends
+/// before the file.
+pub(crate) fn open_at<'a>(
+    wanted: Wanted<'a>,
+    at: Option<u64>,
+    len: u64,
+) -> Result<OpenFile<'a>, Cause>
+    requires { 0 < wanted.size }
+    ensures fault { cause_of result ≡ place_fault (Some (expected_of wanted.entry)) at len }
+    ensures within { IfOk result (λ o. o.at + file_bytes_left o.file ≤ len) }
+    ensures wanted { IfOk result (λ o. o.file.wanted ≡ wanted.entry) }
+    ensures taken { IfOk result (λ o. HasTaken o.file []) }
+    ensures more { IfOk result (λ o. 0 < file_bytes_left o.file) }
+    ensures left { (pkg bytes : List ℕ) (start : ℕ) → length pkg ≡ len → at ≡ Some start
+        → HasAt pkg start bytes → length bytes ≡ wanted.entry.size
+        → hash_fault wanted.entry.hash.now bytes ≡ None
+        → IsOkAnd result (λ o. AreLeftOf o pkg bytes) }
 {
-    if wanted.size == 0 {
-        return None;
-    }
-    if at > len {
-        return None;
-    }
-    if wanted.size > len - at {
-        return None;
+    let Some(at) = at else {
+        return Err(Cause::DataOrder {
+            expected: (wanted.folder, wanted.file),
+            found: (0, 0),
+        });
+    };
+    let found = len.saturating_sub(at);
+    if found < wanted.size {
+        return Err(Cause::DataSize {
+            wanted: wanted.size,
+            found,
+        });
     }
     let file = FileCheck::new(wanted);
-    Some(OpenFile { file, at })
+    Ok(OpenFile { file, at })
 }

@@ -5,4 +5,3 @@ pub mod FrontSteps
 pub mod FrontSeen
 pub mod WholeReads
 pub mod WholeTests
-pub mod Opened

@@ -1,20 +1,14 @@
 //! Changes of packages, from the words of rows, and the plans of their files.
-ghost use Rattle.adb_fields.specs.Repeated.{package_name};
-ghost use Rattle.adb_view.specs.Plain.{Plain};
-ghost use Rattle.db_core.specs.Seen.{packages_of};
-ghost use Rattle.pkg_pieces.specs.Values.{value_of_contents};
-ghost use Rattle.std.specs.Prelude.{◌≡◌, ◌<◌, Some, length, slice_get};
-
 use crate::answer::{add_fault, add_files};
 use crate::package::{database_file, package_file};
-use adb_schema::{PACKAGE_WORD, PackageView, ReadFault};
-use base_core::{Name, Tree, Words};
-use db_core::{Db, MOST_MEMBERS, Members, Owned};
+use adb_schema::ReadFault;
+use base_core::{Tree, Words};
+use db_core::{Db, Members, Owned};
 use db_write::write_db;
 use own_core::plan;
-use pkg_core::PackageFault;
-use pkg_pieces::{Contents, Front, FrontFault, read_front};
+use pkg_pieces::Front;
 use row_lines::word_at;
+use row_members::{add_coming, add_installed, front_of, name_at};
 use std::alloc::{AllocError, Global};
 use std::marker::PhantomData;
 use tree_memory::MemoryTree;
@@ -106,29 +100,13 @@ fn fronts_of(alloc: Global, rows: &[Words]) -> Result<Vec<Front>, AllocError> {
     let mut fronts = Vec::new(alloc);
     for row in rows {
         if !does_stay(row) {
-            if let Some(front) = front_of(alloc, row)? {
+            let file = package_file(alloc, row)?;
+            if let Some(front) = front_of(alloc, &file)? {
                 fronts.push(front)?;
             }
         }
     }
     Ok(fronts)
-}
-
-/// The front of the package of a row.
-fn front_of(alloc: Global, row: &Words) -> Result<Option<Front>, AllocError> {
-    let file = package_file(alloc, row)?;
-    let Some(name) = Name::read(alloc, b"p")? else {
-        return Ok(None);
-    };
-    let mut tree = MemoryTree::new(alloc);
-    if tree.can_put(&name) {
-        tree.put(&name, &file)?;
-    }
-    match read_front(alloc, &mut tree, &name, PACKAGE_WORD) {
-        Ok(front) => Ok(front),
-        Err(FrontFault::Bad(_) | FrontFault::Disk) => Ok(None),
-        Err(FrontFault::Memory) => Err(AllocError),
-    }
 }
 
 // ---- the packages after the change
@@ -145,9 +123,9 @@ fn members_of<'a>(
     let mut left = fronts.iter();
     for row in rows {
         let added = if does_stay(row) {
-            add_installed(&mut members, db, word_at(row, 1))?
+            add_named(&mut members, db, word_at(row, 1))?
         } else {
-            add_coming(alloc, &mut members, left.next())?
+            add_next(alloc, &mut members, left.next())?
         };
         if !added {
             return Ok(None);
@@ -156,78 +134,24 @@ fn members_of<'a>(
     Ok(Some(members))
 }
 
-/// The name of the package at a place, counted from 0.
-fn name_at<'a>(db: &Db<'a>, i: usize, _mark: PhantomData<PackageView<'a>>) -> &'a [u8]
-    requires { i < length (packages_of db.now) }
-    ensures { (pkg : Plain) → slice_get (packages_of db.now) i ≡ Some pkg
-        → result.now ≡ package_name pkg }
-{
-    let package = db.package(i);
-    package.info().name()
-}
-
 /// Adds the package of the database with this name, unless there is none or it is not in order.
-fn add_installed<'a>(
-    members: &mut Members<'a>,
-    db: &Db<'a>,
-    name: &[u8],
-) -> Result<bool, AllocError> {
+fn add_named<'a>(members: &mut Members<'a>, db: &Db<'a>, name: &[u8]) -> Result<bool, AllocError> {
     for i in 0..db.len() {
         if name_at(db, i, PhantomData) == name {
-            return add_at(members, db, i);
+            return add_installed(members, db, i);
         }
     }
     Ok(false)
 }
 
-/// Adds the package at a place of the database, unless it is not in order.
-fn add_at<'a>(members: &mut Members<'a>, db: &Db<'a>, i: usize) -> Result<bool, AllocError>
-    requires { i < length (packages_of db.now) }
-{
-    if members.len() >= MOST_MEMBERS {
-        return Ok(false);
-    }
-    if !members.comes_behind(name_at(db, i, PhantomData)) {
-        return Ok(false);
-    }
-    members.stays(db, i)?;
-    Ok(true)
-}
-
-/// Adds the package with this front, unless it is bad or not in order.
-fn add_coming<'a>(
+/// Adds the package with this front, unless there is none, or it is bad or not in order.
+fn add_next<'a>(
     alloc: Global,
     members: &mut Members<'a>,
     front: Option<&'a Front>,
 ) -> Result<bool, AllocError> {
-    let Some(front) = front else {
-        return Ok(false);
-    };
-    match Contents::new(alloc, front) {
-        Ok(contents) => add_contents(members, &contents),
-        Err(PackageFault::Bad(_)) => Ok(false),
-        Err(PackageFault::Memory) => Err(AllocError),
+    match front {
+        Some(front) => add_coming(alloc, members, front),
+        None => Ok(false),
     }
-}
-
-fn add_contents<'a>(
-    members: &mut Members<'a>,
-    contents: &Contents<'a>,
-) -> Result<bool, AllocError> {
-    if members.len() >= MOST_MEMBERS {
-        return Ok(false);
-    }
-    if !members.comes_behind(name_of(contents, PhantomData)) {
-        return Ok(false);
-    }
-    members.comes_in_pieces(contents)?;
-    Ok(true)
-}
-
-/// The name of a package.
-fn name_of<'a>(contents: &Contents<'a>, _mark: PhantomData<PackageView<'a>>) -> &'a [u8]
-    ensures { result.now ≡ package_name (value_of_contents contents.now) }
-{
-    let info = contents.view().info();
-    info.name()
 }

@@ -14,7 +14,7 @@ use Rattle.adb_write.specs.Canonical.{MOST_BYTES, PayloadCounts, canonical, or_o
 use Rattle.adb_write.specs.Size.{size_of, value_count}
 use Rattle.base_core.specs.declared.cause.Cause.{Cause}
 use Rattle.v2_core.specs.Database.{value_of_records}
-use Rattle.v2_core.specs.Payload.{or_too_large, payload_of_text, tested_payload, unless_bad, written_payload}
+use Rattle.v2_core.specs.Payload.{or_too_large, payload_of_text, payload_if_sound, unless_bad, written_payload}
 use Rattle.v2_core.specs.Reading.{records_of}
 use Rattle.v2_core.specs.Records.{Record}
 use Rattle.v2_core.specs.declared.fault.V2Fault.{V2Fault}
@@ -41,7 +41,7 @@ tested_ok : (p payload : List ℕ) (fault : Option Cause) → unless_bad p fault
 tested_ok p payload None e = (cc (e))
 tested_ok p payload (Some cause) e = absurd (cc (e))
 
-written_ok : (v : Plain) (o : Option PayloadCounts) (payload : List ℕ) → tested_payload (or_too_large (or_overflow (canonical v) o)) ≡ kept payload → (is_some o ≡ false) × (canonical v ≡ payload)
+written_ok : (v : Plain) (o : Option PayloadCounts) (payload : List ℕ) → payload_if_sound (or_too_large (or_overflow (canonical v) o)) ≡ kept payload → (is_some o ≡ false) × (canonical v ≡ payload)
 written_ok v None payload e = (refl, tested_ok (canonical v) payload (payload_fault Tables.Idb (canonical v)) e)
 written_ok v (Some counts) payload e = absurd (cc (e))
 
@@ -53,7 +53,7 @@ unfolding value_at
 root_is payload v e = value_is (shape_of (Obj Tables.Idb)) payload v e
 
 module _ (back : ReadBack) (exact : Exact) where
-  written_normal : (v : Plain) (payload : List ℕ) → IsFit (shape_of (Obj Tables.Idb)) v → tested_payload (or_too_large (written_of v)) ≡ kept payload → IsNormal (root_value Tables.Idb payload)
+  written_normal : (v : Plain) (payload : List ℕ) → IsFit (shape_of (Obj Tables.Idb)) v → payload_if_sound (or_too_large (written_of v)) ≡ kept payload → IsNormal (root_value Tables.Idb payload)
   unfolding written_of
   written_normal v payload fit e =
       let written = written_ok v (overflow_of v) payload e in
@@ -61,7 +61,7 @@ module _ (back : ReadBack) (exact : Exact) where
       subst (λ (p : List ℕ). IsNormal (root_value Tables.Idb p)) written.1
       (subst IsNormal (sym (root_is (canonical v) v (back (shape_of (Obj Tables.Idb)) v fit.0 fit.1 few))) fit.0)
 
-  read_normal : (read : Result (List Record) ℕ) (payload : List ℕ) → AreGoodIfRead read → tested_payload (written_payload read) ≡ kept payload → IsNormal (root_value Tables.Idb payload)
+  read_normal : (read : Result (List Record) ℕ) (payload : List ℕ) → AreGoodIfRead read → payload_if_sound (written_payload read) ≡ kept payload → IsNormal (root_value Tables.Idb payload)
   read_normal (Ok records) payload good e = written_normal (value_of_records records) payload (records_fit records good) e
   read_normal (Err line) payload good e = absurd (cc (e))
 

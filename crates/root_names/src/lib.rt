@@ -3,48 +3,42 @@
 //! them.
 #![tactic(auto)]
 
-ghost use Rattle.base_core.specs.Name.{is_name};
 ghost use Rattle.root_names.specs.RootNames.{database_name, repositories_name, text_database_name, world_name};
-ghost use Rattle.std.specs.Prelude.{◌≡◌, IfOk, true};
+ghost use Rattle.std.specs.Prelude.{◌≡◌, IfOk};
 
 use base_core::Name;
 use std::alloc::{AllocError, Global};
+
+/// The bytes of the name of the installed database.
+pub const DATABASE_NAME: &[u8] = b"lib/apk/db/installed.adb";
+
+/// The bytes of the name of what is asked of the installed packages.
+pub const WORLD_NAME: &[u8] = b"etc/apk/world";
 
 /// The installed database, `lib/apk/db/installed.adb`.
 pub fn database_name(alloc: Global) -> Result<Name, AllocError>
     ensures { IfOk result (λ name. name ≡ database_name) }
 {
-    name_of_bytes(alloc, b"lib/apk/db/installed.adb")
+    Name::of(alloc, DATABASE_NAME)
 }
 
 /// The database as version 2 of apk-tools keeps it, `lib/apk/db/installed`.
 pub fn text_database_name(alloc: Global) -> Result<Name, AllocError>
     ensures { IfOk result (λ name. name ≡ text_database_name) }
 {
-    name_of_bytes(alloc, b"lib/apk/db/installed")
+    Name::of(alloc, b"lib/apk/db/installed")
 }
 
 /// What is asked of the installed packages, `etc/apk/world`.
 pub fn world_name(alloc: Global) -> Result<Name, AllocError>
     ensures { IfOk result (λ name. name ≡ world_name) }
 {
-    name_of_bytes(alloc, b"etc/apk/world")
+    Name::of(alloc, WORLD_NAME)
 }
 
 /// Where the indexes lie, `etc/apk/repositories`.
 pub fn repositories_name(alloc: Global) -> Result<Name, AllocError>
     ensures { IfOk result (λ name. name ≡ repositories_name) }
 {
-    name_of_bytes(alloc, b"etc/apk/repositories")
-}
-
-/// The name that these bytes are.
-fn name_of_bytes(alloc: Global, bytes: &[u8]) -> Result<Name, AllocError>
-    requires { is_name bytes.now ≡ true }
-    ensures { IfOk result (λ name. name ≡ bytes.now) }
-{
-    match Name::read(alloc, bytes)? {
-        Some(name) => Ok(name),
-        None => unreachable!(),
-    }
+    Name::of(alloc, b"etc/apk/repositories")
 }

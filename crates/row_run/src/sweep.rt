@@ -2,11 +2,11 @@
 //! stream that ends behind each number of bytes.
 use crate::run::{StreamEnds, run_once};
 use row_check::{
-    Found, Program, RowFault, Run, Sides, check_run, check_streams, compare, compare_numbers,
-    copy_of, differs, digits, images_of,
+    Found, Program, RowFault, Run, Sides, add_number, check_run, check_streams, compare,
+    compare_numbers, copy_of, differs, images_of,
 };
 use row_text::Step;
-use std::alloc::Global;
+use std::alloc::{AllocError, Global};
 use tree_memory::MemoryTree;
 
 /// The most calls that a run may make of which each fails in turn.
@@ -46,8 +46,11 @@ impl<'a, P: Program> Swept<'a, P> {
             self.look(alloc, call, &failed.tree)?;
             let Run { mut tree, .. } = failed;
             tree.fail_at(&[])?;
+            let place = at_call(alloc, call, b", what is left")?;
             let copy = copy_of(alloc, &tree)?;
-            let found = self.find(alloc, call, copy, b"what is left")?;
+            let found = self
+                .sides
+                .find(alloc, self.program, self.step, copy, &place)?;
             self.go_on(alloc, call, found, tree)?;
         }
         Err(self.too_many(alloc))
@@ -83,10 +86,7 @@ impl<'a, P: Program> Swept<'a, P> {
     /// A run whose tree failed says so, and nothing else.
     fn check_fault(&self, alloc: Global, call: u64, run: &Run) -> Result<(), RowFault> {
         let line = self.step.line;
-        let call = digits(alloc, call)?;
-        let mut what = Vec::from_slice(alloc, b"with a fault at call ")?;
-        what.extend_from_slice(&call)?;
-        what.extend_from_slice(b", what is seen")?;
+        let what = at_call(alloc, call, b", what is seen")?;
         compare_numbers(alloc, line, &what, u64::from(run.status), TREE_FAULT)?;
         compare(alloc, line, &what, run.out.bytes(), b"")?;
         compare(alloc, line, &what, run.err.bytes(), TREE_FAULT_TEXT)
@@ -98,31 +98,15 @@ impl<'a, P: Program> Swept<'a, P> {
         let mut new_seen = false;
         for choice in 0..images_of(tree) {
             let image = tree.pick_image(alloc, choice)?;
+            let place = at_image(alloc, call, choice)?;
             let copy = copy_of(alloc, &image)?;
-            let number = digits(alloc, choice)?;
-            let mut what = Vec::from_slice(alloc, b"image ")?;
-            what.extend_from_slice(&number)?;
-            let found = self.find(alloc, call, copy, &what)?;
+            let found = self
+                .sides
+                .find(alloc, self.program, self.step, copy, &place)?;
             self.go_on(alloc, call, found, image)?;
             new_seen = new_seen || found.after;
         }
         Ok(new_seen)
-    }
-
-    fn find(
-        &self,
-        alloc: Global,
-        call: u64,
-        tree: MemoryTree,
-        what: &[u8],
-    ) -> Result<Found, RowFault> {
-        let call = digits(alloc, call)?;
-        let mut place = Vec::from_slice(alloc, b"with a fault at call ")?;
-        place.extend_from_slice(&call)?;
-        place.extend_from_slice(b", ")?;
-        place.extend_from_slice(what)?;
-        self.sides
-            .find(alloc, self.program, self.step, tree, &place)
     }
 
     /// A second run ends as the row says where it finds the files of before, and else as one does
@@ -146,10 +130,7 @@ impl<'a, P: Program> Swept<'a, P> {
 
     fn check_again(&self, alloc: Global, call: u64, second: &Run) -> Result<(), RowFault> {
         let line = self.step.line;
-        let call = digits(alloc, call)?;
-        let mut what = Vec::from_slice(alloc, b"run again behind a fault at call ")?;
-        what.extend_from_slice(&call)?;
-        what.extend_from_slice(b", what is seen")?;
+        let what = at_call(alloc, call, b" and a second run, what is seen")?;
         let (found, wanted) = (u64::from(second.status), u64::from(self.again.status));
         compare_numbers(alloc, line, &what, found, wanted)?;
         compare(
@@ -168,8 +149,8 @@ impl<'a, P: Program> Swept<'a, P> {
         )
     }
 
-    /// Lets a stream end behind each number of bytes in turn. It has these bytes then, and the files
-    /// are those of behind.
+    /// Lets a stream end behind each number of bytes in turn. It has these bytes then, and the
+    /// files are those of behind.
     pub(crate) fn end_each(&self, alloc: Global, is_out: bool) -> Result<(), RowFault> {
         let whole = wanted_text(self.step, is_out);
         for count in 0..whole.len() {
@@ -179,10 +160,7 @@ impl<'a, P: Program> Swept<'a, P> {
             };
             let tree = copy_of(alloc, self.before)?;
             let cut = run_once(alloc, self.program, self.step, tree, ends);
-            let number = digits(alloc, count as u64)?;
-            let mut what = Vec::from_slice(alloc, b"with a stream that ends after ")?;
-            what.extend_from_slice(&number)?;
-            what.extend_from_slice(b" bytes, what is seen")?;
+            let what = at_end(alloc, count as u64)?;
             let line = self.step.line;
             compare_numbers(alloc, line, &what, u64::from(cut.status), STREAM_FAULT)?;
             compare(alloc, line, &what, seen_text(&cut, is_out), &whole[..count])?;
@@ -205,4 +183,27 @@ fn seen_text(run: &Run, is_out: bool) -> &[u8] {
     } else {
         run.err.bytes()
     }
+}
+
+/// Where a fault was: at a call.
+fn at_call(alloc: Global, call: u64, rest: &[u8]) -> Result<Vec<u8>, AllocError> {
+    let mut text = Vec::from_slice(alloc, b"with a fault at call ")?;
+    add_number(alloc, &mut text, call)?;
+    text.extend_from_slice(rest)?;
+    Ok(text)
+}
+
+/// In an image behind it.
+fn at_image(alloc: Global, call: u64, choice: u64) -> Result<Vec<u8>, AllocError> {
+    let mut text = at_call(alloc, call, b", image ")?;
+    add_number(alloc, &mut text, choice)?;
+    Ok(text)
+}
+
+/// At the end of a stream.
+fn at_end(alloc: Global, count: u64) -> Result<Vec<u8>, AllocError> {
+    let mut text = Vec::from_slice(alloc, b"with a stream that ends after ")?;
+    add_number(alloc, &mut text, count)?;
+    text.extend_from_slice(b" bytes, what is seen")?;
+    Ok(text)
 }

@@ -14,8 +14,8 @@ use std::io::{Read, Write};
 use std::process::ExitCode;
 use tree_memory::{MemorySink, MemoryTree};
 
-/// The status of a run that was refused: `info` is where a root has no database, or a bad one or a bad
-/// intent.
+/// The status of a run that was refused: `info` is where a root has no database, or a bad one or a
+/// bad intent.
 const REFUSED: u8 = 1;
 
 /// The package keeper.

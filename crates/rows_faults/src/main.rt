@@ -1,9 +1,9 @@
 //! Shows what is reported of texts that are no rows, and of rows that fail.
 //!
 //! Standard input has texts of rows, each behind a line `==== NAME`. Each is run with a program
-//! that mostly echoes: it prints each word on a line, and is refused where there is none. Some words
-//! make it do what no program should. A text whose last line is `\` has no end of its line before
-//! that.
+//! that mostly echoes: it prints each word on a line, and is refused where there is none. Some
+//! words make it do what no program should. A text whose last line is `\` has no end of its line
+//! before that.
 #![tactic(auto)]
 
 use base_core::{Disk, Name, Tree, Words, write_all};

@@ -1,104 +1,272 @@
--- The least name that is asked for, by the places whose install-if may ask.
-use Rattle.std.proofs.Common.{◌≡◌, inl, inr, ℕ, zero, suc, ◌+◌, ◌≤◌, ◌<◌, Bool, true, false, List, [], ◌∷◌, length, drop, map, refl, sym, subst, ap, ◌∙◌, arith}
-use Rattle.std.specs.Prelude.{Option, Some, None, ◌&&◌, slice_get, if◌then◌else◌}
+-- Which candidates ask for a name by their install-if, and the least of these names.
+use Rattle.std.proofs.Common.{◌≡◌, inl, inr, ℕ, zero, suc, ◌+◌, ◌≤◌, ◌<◌, Bool, true, false, List, [], ◌∷◌, ◌++◌, length, map, get_or, refl, sym, subst, ap, ◌∙◌, arith}
+use Rattle.std.specs.Prelude.{Option, Some, None, ◌&&◌, not, slice_get, if◌then◌else◌, MatchOption, ◌⊎◌}
+use Rattle.std.specs.Bool.{MatchBool}
 use Rattle.std.specs.Option.{option_map, option_map_or}
-use Rattle.std.specs.List.{filter, find}
-use Rattle.std.specs.Ordering.{is_lt}
-use Rattle.pool_core.specs.Candidates.{Candidate, has_usable_install_if, named}
-use Rattle.pool_core.specs.Rank.{SealedPool, byte_cmp, candidate_at, is_at}
+use Rattle.std.specs.List.{filter, find, list_all, list_any}
+use Rattle.std.specs.Str.{bytes_eq}
+use Rattle.std.specs.Ordering.{is_eq, is_lt, ordering_reverse}
+use Rattle.std.specs.declared.cmp.Ordering.{Ordering}
+use Rattle.std.specs.declared.cmp.Ordering.TheVariants.{Less, Equal, Greater}
+use Rattle.std.specs.Cmp.Lexicographic.{bytes_decides, nat_list_cmp_total}
+use Rattle.std.proofs.lemmas.Bool.{cases_lt}
+use Rattle.std.proofs.lemmas.Map.Text.{is_eq-slice_cmp}
+use Rattle.dep_core.specs.Dependency.{Dependency}
+use Rattle.pool_core.specs.Candidates.{Candidate, Need, entry, has_usable_install_if, named, offers_name, meets_dependency}
+use Rattle.pool_core.specs.Rank.{SealedPool, byte_cmp, candidate_at, meets_at}
 use Rattle.pool_core.specs.Options.{IsMember, options_for, places_from}
-use Rattle.solve_core.specs.Selection.{AreMembers, names_by_install_if, install_if_applies, is_unmet, least_name, lesser_name, needs, next_need, raised_needs}
+use Rattle.solve_core.specs.Selection.{AreMembers, is_met, is_unmet, names_by_install_if, install_if_applies, least_name, lesser_name, needs, next_need, raised_needs}
 use Rattle.solve_core.specs.Reasons.{FrameValue, IsFrameOf}
-use Rattle.solve_core.specs.InstallIf.{all_met, install_ifs_of, least_at, lesser_at, name_at, asks_for_name, with_asking}
+use Rattle.solve_core.specs.InstallIf.{AreInstallIfs, AreUnasked, IsLeastAsking, IsNoneAsking, all_met, asks_at, asks_for_name, has_lesser_name, install_if_at, is_usable_at, name_at, rank_asks}
+use Rattle.solve_core.specs.NameTable.{items_of}
 use Rattle.solve_core.specs.Queue.{is_unmet_dep, queue_of}
-use Rattle.solve_core.proofs.Theory.{in_right}
-use Rattle.solve_core.proofs.PoolFacts.{bool_cases, in_filter, in_map}
-use Rattle.solve_core.proofs.Satisfying.{and_true}
+use Rattle.solve_core.proofs.Theory.{in_append, in_right, none_or_some}
+use Rattle.solve_core.proofs.PoolFacts.{bool_cases, any_in, filter_in, in_filter, in_map, map_in, least_in}
+use Rattle.solve_core.proofs.Satisfying.{and_true, any_one, one_any, or_true}
+use Rattle.solve_core.proofs.Offered.{meets_offers}
+use Rattle.solve_core.proofs.Queued.{any_append}
 use Rattle.solve_core.proofs.Consistency.{passing_is_within, none_raised}
 
-name_of : Candidate → List ℕ
-name_of c = c.name
+-- ---- places and ranks
 
--- what the names are, a candidate at a time
-module _ (pool : SealedPool) (t : List ℕ) where
-  abbrev names_of : List Candidate → List (List ℕ)
-  names_of cs = filter (λ (name : List ℕ). is_unmet pool t (named name)) (map (λ (c : Candidate). c.name) (filter (install_if_applies pool t) cs))
+not_both : (b : Bool) → b ≡ true → b ≡ false → ⊥
+not_both b h g = let bad : true ≡ false = sym h ∙ g in absurd (cc)
 
-  -- the least name and the least place agree
-  agree : (n : ℕ) (cs : List Candidate) → ((k : ℕ) → candidate_at pool (n + k) ≡ slice_get cs k) → option_map (name_at pool) (least_at pool t (places_from n (has_usable_install_if pool.world) cs)) ≡ least_name (names_of cs)
-  agree n [] there = refl
-  agree n (c ∷ cs) there =
-      let z : n + 0 ≡ n = omega arith in
-      let here : candidate_at pool n ≡ Some c = subst (λ (k : ℕ). candidate_at pool k ≡ Some c) z (there 0) in
-      let rest = agree (suc n) cs (λ k. let e : n + suc k ≡ suc n + k = omega arith in subst (λ (j : ℕ). candidate_at pool j ≡ slice_get cs k) e (there (suc k))) in
-      let wants : is_at pool (asks_for_name pool t) n ≡ asks_for_name pool t c = ap (λ (o : Option Candidate). option_map_or (asks_for_name pool t) o false) here in
-      let name : name_at pool n ≡ c.name = ap (λ (o : Option Candidate). option_map_or (λ (k : Candidate). k.name) o []) here in
-      let best = least_at pool t (places_from (suc n) (has_usable_install_if pool.world) cs) in
-      elim (bool_cases (has_usable_install_if pool.world c)) [
-        | inr m ↦ rw m rest
-        | inl m ↦ rw m (elim (bool_cases (all_met pool t c.install_if)) [
-          | inr a ↦ rw a (rw (wants ∙ no_first (all_met pool t c.install_if) _ a) rest)
-          | inl a ↦ rw a (elim (bool_cases (is_unmet pool t (named c.name))) [
-            | inr u ↦ rw u (rw (wants ∙ no_last (all_met pool t c.install_if) _ u) rest)
-            | inl u ↦ rw u (rw (wants ∙ both (all_met pool t c.install_if) _ a u) (ap Some (lesser_is n c best (least_name (names_of cs)) name rest)))
-          ])
-        ])
+pub at_some : {X : Type 0} (p : X → Bool) (o : Option X) → option_map_or p o false ≡ true → (x : X) × (o ≡ Some x) × (p x ≡ true)
+at_some p None h = absurd (cc)
+at_some p (Some x) h = (x, refl, h)
+
+some_at : {X : Type 0} (p : X → Bool) (o : Option X) (x : X) → o ≡ Some x → option_map_or p o false ≡ p x
+some_at {X} p o x e = ap (λ (z : Option X). option_map_or p z false) e
+
+rank_of : (xs : List ℕ) (k : ℕ) → IsMember k xs → (r : ℕ) × (r < length xs) × (slice_get xs r ≡ Some k)
+rank_of [] k h = absurd h
+rank_of (x ∷ xs) k (inl e) = (0, omega arith, ap Some (sym e))
+rank_of (x ∷ xs) k (inr h) = let r = rank_of xs k h in (suc r.0, omega (arith, r.1), r.2)
+
+get_is : (xs : List ℕ) (r k d : ℕ) → slice_get xs r ≡ Some k → get_or xs r d ≡ k
+get_is [] zero k d h = absurd (cc)
+get_is [] (suc r) k d h = absurd (cc)
+get_is (x ∷ xs) zero k d h = cc
+get_is (x ∷ xs) (suc r) k d h = get_is xs r k d h
+
+pub there_is : {X : Type 0} (xs : List X) (r : ℕ) (x : X) → slice_get xs r ≡ Some x → (r < length xs) × IsMember x xs
+there_is [] zero x h = absurd (cc)
+there_is [] (suc r) x h = absurd (cc)
+there_is (y ∷ xs) zero x h = let e : x ≡ y = cc in (omega arith, inl e)
+there_is (y ∷ xs) (suc r) x h = let g = there_is xs r x h in (omega (arith, g.0), inr g.1)
+
+past_of : (xs : List ℕ) (r : ℕ) → slice_get xs r ≡ None → length xs ≤ r
+past_of [] r h = omega arith
+past_of (x ∷ xs) zero h = absurd (cc)
+past_of (x ∷ xs) (suc r) h = let g = past_of xs r h in omega (arith, g)
+
+place_of : (cs : List Candidate) (c : Candidate) → IsMember c cs → (k : ℕ) × (slice_get cs k ≡ Some c)
+place_of [] c h = absurd h
+place_of (x ∷ cs) c (inl e) = (0, ap Some (sym e))
+place_of (x ∷ cs) c (inr h) = let r = place_of cs c h in (suc r.0, r.1)
+
+-- ---- the first rank that asks
+
+-- where the cursor is past the last, none asks
+pub none_ask : (pool : SealedPool) (t by_name : List ℕ) (waiting : List (List ℕ × List ℕ)) (cursor : ℕ) → AreInstallIfs pool by_name waiting → AreUnasked pool t by_name cursor → slice_get by_name cursor ≡ None → IsNoneAsking pool t
+none_ask pool t by_name waiting cursor are free none = λ o usable.
+    let r = rank_of by_name o (are.each o usable) in
+    let past = past_of by_name cursor none in
+    sym (some_at (λ (k : ℕ). asks_at pool t k) (slice_get by_name r.0) o r.2) ∙ free r.0 (omega (arith, r.1, past))
+
+-- where the candidate at the cursor asks, it has the least name
+pub least_asks : (pool : SealedPool) (t by_name : List ℕ) (waiting : List (List ℕ × List ℕ)) (cursor k : ℕ) → AreInstallIfs pool by_name waiting → AreUnasked pool t by_name cursor → slice_get by_name cursor ≡ Some k → asks_at pool t k ≡ true → IsLeastAsking pool t k
+least_asks pool t by_name waiting cursor k are free here asks = record {
+  usable = are.those k (there_is by_name cursor k here).1;
+  asks = asks;
+  least = λ o usable asking.
+      let r = rank_of by_name o (are.each o usable) in
+      elim (cases_lt r.0 cursor) [
+        | inl low ↦ absurd (not_both (rank_asks pool t by_name r.0) (some_at (λ (j : ℕ). asks_at pool t j) (slice_get by_name r.0) o r.2 ∙ asking) (free r.0 low))
+        | inr high ↦
+            let up = are.rising cursor r.0 0 high r.1 in
+            subst (λ (j : ℕ). has_lesser_name pool o j ≡ false) (get_is by_name cursor k 0 here)
+            (subst (λ (j : ℕ). has_lesser_name pool j (get_or by_name cursor 0) ≡ false) (get_is by_name r.0 o 0 r.2) up)
+      ];
+}
+
+-- where it does not ask, the cursor moves on
+pub one_more_unasked : (pool : SealedPool) (t by_name : List ℕ) (cursor k : ℕ) → AreUnasked pool t by_name cursor → slice_get by_name cursor ≡ Some k → asks_at pool t k ≡ false → (cursor + 1 ≤ length by_name) × AreUnasked pool t by_name (cursor + 1)
+one_more_unasked pool t by_name cursor k free here asks = (
+  (let g = there_is by_name cursor k here in omega (arith, g.0)),
+  (λ rank low. elim (cases_lt rank cursor) [
+    | inl before ↦ free rank before
+    | inr at ↦
+        let e : cursor ≡ rank = omega (arith, low, at) in
+        subst (λ (j : ℕ). rank_asks pool t by_name j ≡ false) e (some_at (λ (j : ℕ). asks_at pool t j) (slice_get by_name cursor) k here ∙ asks)
+  ]),
+)
+
+pub front_of : (pool : SealedPool) (t by_name : List ℕ) (waiting : List (List ℕ × List ℕ)) (cursor k : ℕ) (b : Bool) → AreInstallIfs pool by_name waiting → AreUnasked pool t by_name cursor → slice_get by_name cursor ≡ Some k → b ≡ asks_at pool t k → MatchBool (not b) ((cursor + 1 ≤ length by_name) × AreUnasked pool t by_name (cursor + 1)) (MatchOption (slice_get by_name cursor) (IsNoneAsking pool t) (λ id. IsLeastAsking pool t id))
+front_of pool t by_name waiting cursor k true are free here is = rw here (least_asks pool t by_name waiting cursor k are free here (sym is))
+front_of pool t by_name waiting cursor k false are free here is = one_more_unasked pool t by_name cursor k free here (sym is)
+
+pub front_past : (pool : SealedPool) (t by_name : List ℕ) (waiting : List (List ℕ × List ℕ)) (cursor : ℕ) → AreInstallIfs pool by_name waiting → AreUnasked pool t by_name cursor → slice_get by_name cursor ≡ None → MatchOption (slice_get by_name cursor) (IsNoneAsking pool t) (λ id. IsLeastAsking pool t id)
+front_past pool t by_name waiting cursor are free none = rw none (none_ask pool t by_name waiting cursor are free none)
+
+-- ---- what a further choice changes
+
+all_in : {X : Type 0} (p : X → Bool) (xs : List X) (x : X) → list_all p xs ≡ true → IsMember x xs → p x ≡ true
+all_in p [] x h m = absurd m
+all_in p (y ∷ xs) x h (inl e) = let a = and_true (p y) (list_all p xs) h in ap p e ∙ a.0
+all_in p (y ∷ xs) x h (inr m) = let a = and_true (p y) (list_all p xs) h in all_in p xs x a.1 m
+
+not_all : {X : Type 0} (p : X → Bool) (xs : List X) → list_all p xs ≡ false → (x : X) × IsMember x xs × (p x ≡ false)
+not_all p [] h = absurd (cc)
+not_all p (y ∷ xs) h = elim (bool_cases (p y)) [
+  | inr e ↦ (y, inl refl, e)
+  | inl e ↦ let r = not_all p xs (rw e at h) in (r.0, inr r.1, r.2)
+]
+
+met_by_last : (pool : SealedPool) (t : List ℕ) (c : ℕ) (q : Need) → is_met pool (t ++ c ∷ []) q ≡ true → is_met pool t q ≡ false → meets_at pool c q ≡ true
+met_by_last pool t c q h none =
+    let r = any_in (λ k. meets_at pool k q) (t ++ c ∷ []) h in
+    elim (in_append r.0 t (c ∷ []) r.1) [
+      | inl a ↦ absurd (not_both (is_met pool t q) (one_any (λ k. meets_at pool k q) t r.0 a r.2) none)
+      | inr b ↦ elim b [ inl e ↦ subst (λ (z : ℕ). meets_at pool z q ≡ true) e r.2 | inr bad ↦ absurd bad ]
+    ]
+
+unmet_less : (pool : SealedPool) (t : List ℕ) (c : ℕ) (q : Need) → is_unmet pool (t ++ c ∷ []) q ≡ true → is_unmet pool t q ≡ true
+unmet_less pool t c q h = elim (bool_cases (is_met pool t q)) [
+  | inr e ↦ ap not e
+  | inl e ↦ let m : is_met pool (t ++ c ∷ []) q ≡ true = any_append (λ k. meets_at pool k q) t (c ∷ []) e in absurd (not_both (is_unmet pool (t ++ c ∷ []) q) h (ap not m))
+]
+
+-- the ranks in front of the cursor stay unasked where it does not pass one that the choice makes ask
+pub unasked_more : (pool : SealedPool) (t : List ℕ) (c : ℕ) (details : Candidate) (by_name : List ℕ) (waiting : List (List ℕ × List ℕ)) (old new : ℕ) → AreInstallIfs pool by_name waiting → candidate_at pool c ≡ Some details → AreUnasked pool t by_name old → new ≤ old → ((name : List ℕ) (rank : ℕ) → offers_name name details ≡ true → IsMember rank (items_of waiting name) → rank < new → rank_asks pool (t ++ c ∷ []) by_name rank ≡ false) → AreUnasked pool (t ++ c ∷ []) by_name new
+unasked_more pool t c details by_name waiting old new are here was less now = λ rank low. elim (bool_cases (rank_asks pool (t ++ c ∷ []) by_name rank)) [
+  | inr e ↦ e
+  | inl e ↦
+      let k = at_some (λ (j : ℕ). asks_at pool (t ++ c ∷ []) j) (slice_get by_name rank) e in
+      let one = at_some (asks_for_name pool (t ++ c ∷ [])) (candidate_at pool k.0) k.2 in
+      let both = and_true (all_met pool (t ++ c ∷ []) one.0.install_if) (is_unmet pool (t ++ c ∷ []) (named one.0.name)) one.2 in
+      let low_old : rank < old = omega (arith, low, less) in
+      elim (bool_cases (all_met pool t one.0.install_if)) [
+        | inl all ↦
+            let asks : asks_for_name pool t one.0 ≡ true = rw all (unmet_less pool t c (named one.0.name) both.1) in
+            let at : asks_at pool t k.0 ≡ true = some_at (asks_for_name pool t) (candidate_at pool k.0) one.0 one.1 ∙ asks in
+            absurd (not_both (rank_asks pool t by_name rank) (some_at (λ (j : ℕ). asks_at pool t j) (slice_get by_name rank) k.0 k.1 ∙ at) (was rank low_old))
+        | inr some ↦
+            let d = not_all (λ (d : Dependency). is_met pool t (entry d)) one.0.install_if some in
+            let met = all_in (λ (d : Dependency). is_met pool (t ++ c ∷ []) (entry d)) one.0.install_if d.0 both.0 d.1 in
+            let meets = met_by_last pool t c (entry d.0) met d.2 in
+            let offers : offers_name d.0.name details ≡ true = meets_offers d.0 details (sym (some_at (meets_dependency d.0) (candidate_at pool c) details here) ∙ meets) in
+            let entries : install_if_at pool k.0 ≡ one.0.install_if = ap (λ (o : Option Candidate). option_map_or (λ (x : Candidate). x.install_if) o []) one.1 in
+            now d.0.name rank offers (are.entries rank k.0 d.0 k.1 (subst (λ (z : List Dependency). IsMember d.0 z) (sym entries) d.1)) low
       ]
-    where
-      no_first : (p q : Bool) → p ≡ false → (p && q) ≡ false
-      no_first p q e = rw e refl
+]
 
-      no_last : (p q : Bool) → q ≡ false → (p && q) ≡ false
-      no_last true q e = e
-      no_last false q e = refl
+-- what a candidate offers is its own name, or one that it provides
+pub offered_names : (name : List ℕ) (c : Candidate) → offers_name name c ≡ true → (name ≡ c.name) ⊎ ((p : Dependency) × IsMember p c.provides × (name ≡ p.name))
+offered_names name c h = elim (or_true (bytes_eq name c.name) (list_any (λ (p : Dependency). not p.conflict && bytes_eq name p.name) c.provides) h) [
+  | inl e ↦ inl ((bytes_decides name c.name).0 e)
+  | inr e ↦
+      let a = any_one (λ (p : Dependency). not p.conflict && bytes_eq name p.name) c.provides e in
+      inr (a.0, a.1, (bytes_decides name a.0.name).0 (and_true (not a.0.conflict) (bytes_eq name a.0.name) a.2).1)
+]
 
-      both : (p q : Bool) → p ≡ true → q ≡ true → (p && q) ≡ true
-      both p q e f = rw e f
+-- ---- the least name
 
-      pick : (b : Bool) (o n : ℕ) → name_at pool (if b then o else n) ≡ (if b then name_at pool o else name_at pool n)
-      pick true o n = refl
-      pick false o n = refl
+abbrev asked_names : SealedPool → List ℕ → List (List ℕ)
+asked_names pool t = filter (λ (name : List ℕ). is_unmet pool t (named name)) (names_by_install_if pool t)
 
-      lesser_is : (n : ℕ) (c : Candidate) (best : Option ℕ) (other : Option (List ℕ)) → name_at pool n ≡ c.name → option_map (name_at pool) best ≡ other → name_at pool (lesser_at pool n best) ≡ lesser_name c.name other
-      lesser_is n c None None name h = name
-      lesser_is n c None (Some x) name h = absurd (cc)
-      lesser_is n c (Some o) None name h = absurd (cc)
-      lesser_is n c (Some o) (Some x) name h =
-          let e : name_at pool o ≡ x = cc in
-          pick (is_lt (byte_cmp (name_at pool o) (name_at pool n))) o n
-          ∙ (ap (λ (a : List ℕ). if is_lt (byte_cmp a (name_at pool n)) then a else name_at pool n) e
-          ∙ ap (λ (a : List ℕ). if is_lt (byte_cmp x a) then x else a) name)
+asked_by : (pool : SealedPool) (t : List ℕ) (name : List ℕ) → IsMember name (asked_names pool t) → (o : ℕ) × (name ≡ name_at pool o) × (is_usable_at pool o ≡ true) × (asks_at pool t o ≡ true)
+asked_by pool t name h =
+    let f = filter_in (λ (n : List ℕ). is_unmet pool t (named n)) name (names_by_install_if pool t) h in
+    let m = map_in (λ (c : Candidate). c.name) name (filter (install_if_applies pool t) pool.candidates) f.0 in
+    let g = filter_in (install_if_applies pool t) m.0 pool.candidates m.1 in
+    let both = and_true (has_usable_install_if pool.world m.0) (all_met pool t m.0.install_if) g.1 in
+    let k = place_of pool.candidates m.0 g.0 in
+    let unmet : is_unmet pool t (named m.0.name) ≡ true = subst (λ (n : List ℕ). is_unmet pool t (named n) ≡ true) m.2 f.1 in (
+      k.0,
+      m.2 ∙ sym (ap (λ (o : Option Candidate). option_map_or (λ (c : Candidate). c.name) o []) k.1),
+      some_at (has_usable_install_if pool.world) (candidate_at pool k.0) m.0 k.1 ∙ both.0,
+      some_at (asks_for_name pool t) (candidate_at pool k.0) m.0 k.1 ∙ rw both.1 unmet,
+    )
 
-  -- the least place asks
-  least_wants : (ks : List ℕ) (k : ℕ) → least_at pool t ks ≡ Some k → IsMember k ks × (is_at pool (asks_for_name pool t) k ≡ true)
-  least_wants [] k h = absurd (cc)
-  least_wants (x ∷ ks) k h = elim (bool_cases (is_at pool (asks_for_name pool t) x)) [
-    | inr e ↦ let r = least_wants ks k (rw e at h) in (inr r.0, r.1)
-    | inl e ↦ chosen (λ j g. least_wants ks j g) (least_at pool t ks) refl (rw e at h) e
-  ]
-    where
-      chosen : ((j : ℕ) → least_at pool t ks ≡ Some j → IsMember j ks × (is_at pool (asks_for_name pool t) j ≡ true)) → (best : Option ℕ) → best ≡ least_at pool t ks → Some (lesser_at pool x best) ≡ Some k → is_at pool (asks_for_name pool t) x ≡ true → IsMember k (x ∷ ks) × (is_at pool (asks_for_name pool t) k ≡ true)
-      chosen rec None b h e = let s : k ≡ x = cc in (inl s, subst (λ (z : ℕ). is_at pool (asks_for_name pool t) z ≡ true) (sym s) e)
-      chosen rec (Some o) b h e = elim (bool_cases (is_lt (byte_cmp (name_at pool o) (name_at pool x)))) [
-        | inl l ↦ let s : Some o ≡ Some k = rw l at h in let r = rec k (sym b ∙ s) in (inr r.0, r.1)
-        | inr l ↦ let q : Some x ≡ Some k = rw l at h in let s : k ≡ x = cc in (inl s, subst (λ (z : ℕ). is_at pool (asks_for_name pool t) z ≡ true) (sym s) e)
-      ]
+asked_there : (pool : SealedPool) (t : List ℕ) (o : ℕ) → is_usable_at pool o ≡ true → asks_at pool t o ≡ true → IsMember (name_at pool o) (asked_names pool t)
+asked_there pool t o usable asks =
+    let one = at_some (has_usable_install_if pool.world) (candidate_at pool o) usable in
+    let both = and_true (all_met pool t one.0.install_if) (is_unmet pool t (named one.0.name)) (sym (some_at (asks_for_name pool t) (candidate_at pool o) one.0 one.1) ∙ asks) in
+    let applies : install_if_applies pool t one.0 ≡ true = rw one.2 both.0 in
+    let name : name_at pool o ≡ one.0.name = ap (λ (z : Option Candidate). option_map_or (λ (c : Candidate). c.name) z []) one.1 in
+    subst (λ (n : List ℕ). IsMember n (asked_names pool t)) (sym name)
+    (in_filter (λ (n : List ℕ). is_unmet pool t (named n)) one.0.name (names_by_install_if pool t)
+    (in_map (λ (c : Candidate). c.name) one.0 (filter (install_if_applies pool t) pool.candidates) (in_filter (install_if_applies pool t) one.0 pool.candidates (there_is pool.candidates o one.0 one.1).1 applies)) both.1)
 
-agree_all : (pool : SealedPool) (t : List ℕ) → option_map (name_at pool) (least_at pool t (install_ifs_of pool)) ≡ least_name (filter (λ (name : List ℕ). is_unmet pool t (named name)) (names_by_install_if pool t))
-agree_all pool t = agree pool t 0 pool.candidates (λ k. ap (slice_get pool.candidates) (omega arith))
+same_name : (x y : List ℕ) → is_lt (byte_cmp x y) ≡ false → is_lt (byte_cmp y x) ≡ false → x ≡ y
+same_name x y h g = (bytes_decides x y).0 (sym (is_eq-slice_cmp x y) ∙ tied (byte_cmp x y) (byte_cmp y x) (nat_list_cmp_total.antisymm x y) h g)
+  where
+    tied : (o p : Ordering) → o ≡ ordering_reverse p → is_lt o ≡ false → is_lt p ≡ false → is_eq o ≡ true
+    tied Less p e h g = absurd (cc)
+    tied Equal p e h g = refl
+    tied Greater Less e h g = absurd (cc)
+    tied Greater Equal e h g = absurd (cc)
+    tied Greater Greater e h g = absurd (cc)
+
+least_is : (x : List ℕ) (xs : List (List ℕ)) → IsMember x xs → ((y : List ℕ) → IsMember y xs → is_lt (byte_cmp y x) ≡ false) → least_name xs ≡ Some x
+least_is x [] h least = absurd h
+least_is x (y ∷ ys) (inl e) least =
+    subst (λ (z : List ℕ). Some (lesser_name z (least_name ys)) ≡ Some x) e (ap Some (stays (least_name ys) (λ z is. least z (inr (least_in ys z is)))))
+  where
+    stays : (o : Option (List ℕ)) → ((z : List ℕ) → o ≡ Some z → is_lt (byte_cmp z x) ≡ false) → lesser_name x o ≡ x
+    stays None below = refl
+    stays (Some z) below = rw (below z refl) refl
+least_is x (y ∷ ys) (inr h) least =
+    let rest = least_is x ys h (λ z m. least z (inr m)) in
+    rw rest (ap Some (taken (least y (inl refl))))
+  where
+    taken : is_lt (byte_cmp y x) ≡ false → (if is_lt (byte_cmp x y) then x else y) ≡ x
+    taken above = elim (bool_cases (is_lt (byte_cmp x y))) [
+      | inl e ↦ rw e refl
+      | inr e ↦ rw e (same_name y x above e)
+    ]
+
+least_named : (pool : SealedPool) (t : List ℕ) (k : ℕ) → IsLeastAsking pool t k → least_name (asked_names pool t) ≡ Some (name_at pool k)
+least_named pool t k is = least_is (name_at pool k) (asked_names pool t) (asked_there pool t k is.usable is.asks) (λ y h.
+    let o = asked_by pool t y h in
+    subst (λ (n : List ℕ). is_lt (byte_cmp n (name_at pool k)) ≡ false) (sym o.1) (is.least o.0 o.2 o.3))
+
+none_named : (pool : SealedPool) (t : List ℕ) → IsNoneAsking pool t → least_name (asked_names pool t) ≡ None
+none_named pool t none = elim (none_or_some (least_name (asked_names pool t))) [
+  | inl e ↦ e
+  | inr some ↦ let o = asked_by pool t some.0 (least_in (asked_names pool t) some.0 some.1) in absurd (not_both (asks_at pool t o.0) o.3 (none o.0 o.2))
+]
 
 -- no name is asked for and unmet
-pub none_asked : (pool : SealedPool) (t : List ℕ) → find (is_unmet_dep pool t) (queue_of pool t) ≡ None → least_at pool t (install_ifs_of pool) ≡ None → next_need pool t ≡ None
+pub none_asked : (pool : SealedPool) (t : List ℕ) → find (is_unmet_dep pool t) (queue_of pool t) ≡ None → IsNoneAsking pool t → next_need pool t ≡ None
 unfolding next_need
-none_asked pool t met none =
-    let names : least_name (filter (λ (name : List ℕ). is_unmet pool t (named name)) (names_by_install_if pool t)) ≡ None = sym (agree_all pool t) ∙ ap (option_map (name_at pool)) none in
-    rw (none_raised pool t met) (ap (option_map named) names)
+none_asked pool t met none = rw (none_raised pool t met) (ap (option_map named) (none_named pool t none))
 
-in_candidates : (cs : List Candidate) (k : ℕ) (c : Candidate) → slice_get cs k ≡ Some c → IsMember c cs
-in_candidates [] zero c h = absurd (cc)
-in_candidates [] (suc k) c h = absurd (cc)
-in_candidates (x ∷ cs) zero c h = let s : c ≡ x = cc in inl s
-in_candidates (x ∷ cs) (suc k) c h = inr (in_candidates cs k c h)
+pub least_within : (pool : SealedPool) (t : List ℕ) (k : ℕ) → IsLeastAsking pool t k → k < length pool.candidates
+least_within pool t k is = passing_is_within pool (has_usable_install_if pool.world) k is.usable
+
+-- the entries of the asking candidate's install-if are met
+pub asks_all : (pool : SealedPool) (t : List ℕ) (k : ℕ) (c : Candidate) → IsLeastAsking pool t k → candidate_at pool k ≡ Some c → all_met pool t c.install_if ≡ true
+asks_all pool t k c is here =
+    (and_true (all_met pool t c.install_if) (is_unmet pool t (named c.name)) (sym (some_at (asks_for_name pool t) (candidate_at pool k) c here) ∙ is.asks)).0
+
+-- the frame of the least name
+pub open_asked : (pool : SealedPool) (t : List ℕ) (k : ℕ) (c : Candidate) (by : List ℕ) (frame : FrameValue) → find (is_unmet_dep pool t) (queue_of pool t) ≡ None → IsLeastAsking pool t k → candidate_at pool k ≡ Some c → AreMembers by t → all_met pool by c.install_if ≡ true → frame ≡ ([], options_for pool (named c.name), by) → IsFrameOf pool t frame
+unfolding next_need
+open_asked pool t k c by frame met least here within all is =
+    let name : name_at pool k ≡ c.name = ap (λ (o : Option Candidate). option_map_or (λ (x : Candidate). x.name) o []) here in
+    let names : least_name (asked_names pool t) ≡ Some c.name = least_named pool t k least ∙ ap Some name in
+    let usable : has_usable_install_if pool.world c ≡ true = sym (some_at (has_usable_install_if pool.world) (candidate_at pool k) c here) ∙ least.usable in
+    let applies : install_if_applies pool by c ≡ true = rw usable all in
+    let there : IsMember c.name (names_by_install_if pool by) = in_map (λ (x : Candidate). x.name) c (filter (install_if_applies pool by) pool.candidates) (in_filter (install_if_applies pool by) c pool.candidates (there_is pool.candidates k c here).1 applies) in
+    let need : IsMember (named c.name) (needs pool by) = in_right (named c.name) (raised_needs pool by) (map named (names_by_install_if pool by)) (in_map named c.name (names_by_install_if pool by) there) in
+    let open_now : IsFrameOf pool t ([], options_for pool (named c.name), by) =
+    (named c.name, rw (none_raised pool t met) (ap (option_map named) names), refl, within, need, tt) in
+    subst (λ (f : FrameValue). IsFrameOf pool t f) (sym is) open_now
+
+-- ---- places that pass a test
 
 pub places_pass : (n : ℕ) (test : Candidate → Bool) (cs : List Candidate) (o : ℕ) → IsMember o (places_from n test cs) → (k : ℕ) × (o ≡ n + k) × (option_map_or test (slice_get cs k) false ≡ true)
 places_pass n test [] o h = absurd h
@@ -109,54 +277,3 @@ places_pass n test (c ∷ cs) o h = elim (bool_cases (test c)) [
   ]
   | inr e ↦ let r = places_pass (suc n) test cs o (rw e at h) in (suc r.0, omega arith, r.2)
 ]
-
-pub may_ask_there : (pool : SealedPool) (k : ℕ) → IsMember k (install_ifs_of pool) → is_at pool (has_usable_install_if pool.world) k ≡ true
-may_ask_there pool k h =
-    let r = places_pass 0 (has_usable_install_if pool.world) pool.candidates k h in
-    let z : r.0 ≡ k = omega (arith, r.1) in
-    subst (λ (j : ℕ). is_at pool (has_usable_install_if pool.world) j ≡ true) z r.2
-
-at_known : (pool : SealedPool) (p : Candidate → Bool) (k : ℕ) (c : Candidate) → candidate_at pool k ≡ Some c → is_at pool p k ≡ true → p c ≡ true
-at_known pool p k c e h = sym (ap (λ (o : Option Candidate). option_map_or p o false) e) ∙ h
-
--- the entries of the asking candidate's install-if are met
-pub asks_all : (pool : SealedPool) (t : List ℕ) (k : ℕ) (c : Candidate) → least_at pool t (install_ifs_of pool) ≡ Some k → candidate_at pool k ≡ Some c → all_met pool t c.install_if ≡ true
-asks_all pool t k c least_is here =
-    (and_true (all_met pool t c.install_if) (is_unmet pool t (named c.name)) (at_known pool (asks_for_name pool t) k c here (least_wants pool t (install_ifs_of pool) k least_is).1)).0
-
--- the frame of the least name
-pub open_asked : (pool : SealedPool) (t : List ℕ) (k : ℕ) (c : Candidate) (by : List ℕ) (frame : FrameValue) → find (is_unmet_dep pool t) (queue_of pool t) ≡ None → least_at pool t (install_ifs_of pool) ≡ Some k → candidate_at pool k ≡ Some c → AreMembers by t → all_met pool by c.install_if ≡ true → frame ≡ ([], options_for pool (named c.name), by) → IsFrameOf pool t frame
-unfolding next_need
-open_asked pool t k c by frame met least_is here within all is =
-    let name : name_at pool k ≡ c.name = ap (λ (o : Option Candidate). option_map_or (λ (x : Candidate). x.name) o []) here in
-    let names : least_name (filter (λ (n : List ℕ). is_unmet pool t (named n)) (names_by_install_if pool t)) ≡ Some c.name = sym (agree_all pool t) ∙ (ap (option_map (name_at pool)) least_is ∙ ap Some name) in
-    let may : has_usable_install_if pool.world c ≡ true = at_known pool (has_usable_install_if pool.world) k c here (may_ask_there pool k (least_wants pool t (install_ifs_of pool) k least_is).0) in
-    let install_ifs : install_if_applies pool by c ≡ true = rw may all in
-    let there : IsMember c.name (names_by_install_if pool by) = in_map (λ (x : Candidate). x.name) c (filter (install_if_applies pool by) pool.candidates) (in_filter (install_if_applies pool by) c pool.candidates (in_candidates pool.candidates k c here) install_ifs) in
-    let need : IsMember (named c.name) (needs pool by) = in_right (named c.name) (raised_needs pool by) (map named (names_by_install_if pool by)) (in_map named c.name (names_by_install_if pool by) there) in
-    let open_now : IsFrameOf pool t ([], options_for pool (named c.name), by) =
-    (named c.name, rw (none_raised pool t met) (ap (option_map named) names), refl, within, need, tt) in
-    subst (λ (f : FrameValue). IsFrameOf pool t f) (sym is) open_now
-
--- the loop from the back
-pub drop_here : (xs : List ℕ) (i x : ℕ) → i < length xs → slice_get xs i ≡ Some x → drop i xs ≡ x ∷ drop (suc i) xs
-drop_here [] i x h e = absurd (omega arith)
-drop_here (y ∷ xs) zero x h e = let s : y ≡ x = cc in ap (λ (z : ℕ). z ∷ xs) s
-drop_here (y ∷ xs) (suc i) x h e = drop_here xs i x (omega arith) e
-
-pub drop_past : (xs : List ℕ) (i : ℕ) → length xs ≤ i → drop i xs ≡ []
-drop_past [] zero h = refl
-drop_past [] (suc i) h = refl
-drop_past (x ∷ xs) zero h = absurd (omega arith)
-drop_past (x ∷ xs) (suc i) h = drop_past xs i (omega arith)
-
-pub least_within : (pool : SealedPool) (t : List ℕ) (k : ℕ) → least_at pool t (install_ifs_of pool) ≡ Some k → k < length pool.candidates
-least_within pool t k h = passing_is_within pool (asks_for_name pool t) k (least_wants pool t (install_ifs_of pool) k h).1
-
-pub none_by : (pool : SealedPool) (t : List ℕ) (o : Option ℕ) → o ≡ least_at pool t (install_ifs_of pool) → find (is_unmet_dep pool t) (queue_of pool t) ≡ None → o ≡ None → next_need pool t ≡ None
-none_by pool t o is met none = none_asked pool t met (sym is ∙ none)
-
-pub least_step : (pool : SealedPool) (t : List ℕ) (ks : List ℕ) (i j k : ℕ) (best new : Option ℕ) → j ≡ suc i → best ≡ least_at pool t (drop j ks) → i < length ks → slice_get ks i ≡ Some k → new ≡ with_asking pool t k best → new ≡ least_at pool t (drop i ks)
-least_step pool t ks i j k best new e was h here is =
-    let was' : best ≡ least_at pool t (drop (suc i) ks) = was ∙ ap (λ (n : ℕ). least_at pool t (drop n ks)) e in
-    is ∙ (ap (with_asking pool t k) was' ∙ sym (ap (least_at pool t) (drop_here ks i k h here)))

@@ -1,6 +1,6 @@
 -- Choices stay consistent when one is made and when one is taken back.
 use Rattle.std.proofs.Common.{◌≡◌, inl, inr, ℕ, zero, suc, ◌+◌, ◌≤◌, ◌<◌, Bool, true, false, List, [], ◌∷◌, ◌++◌, length, take, refl, sym, subst, ap, ◌∙◌, arith, append_assoc, append-nil}
-use Rattle.std.specs.Prelude.{Option, Some, None, slice_get, if◌then◌else◌, option_to_list, map, is_some, MatchOption, not}
+use Rattle.std.specs.Prelude.{Option, Some, None, slice_get, option_to_list, map, is_some, MatchOption, not}
 use Rattle.std.specs.Bool.{MatchBool}
 use Rattle.dep_core.specs.Dependency.{Dependency}
 use Rattle.std.specs.Option.{option_map_or}
@@ -13,38 +13,42 @@ use Rattle.std.proofs.Common.{get_or}
 use Rattle.pool_core.specs.Options.{IsMember, options_for}
 use Rattle.solve_core.specs.Selection.{AreMembers, names_by_install_if, depends_at, is_met, is_unmet, needs, positive_needs, next_need, raised_needs}
 use Rattle.solve_core.specs.Reasons.{FrameValue, IsFrameOf}
-use Rattle.solve_core.specs.Queue.{AreMet, RaisedDepValue, has_conflict_at, is_unmet_dep, queue_of, raised_deps_at, raised_deps}
-use Rattle.solve_core.specs.Choices.{AreCheckpoints, HasOptions, IsConsistent, choices_of, pool_of}
+use Rattle.solve_core.specs.InstallIf.{AreInstallIfs, AreUnasked}
+use Rattle.solve_core.specs.Queue.{AreMet, RaisedDepValue, is_unmet_dep, queue_of, raised_deps_at, raised_deps}
+use Rattle.solve_core.specs.Choices.{AreCheckpoints, AreListed, HasOptions, IsConsistent, choices_of, install_ifs_of, pool_of}
+use Rattle.solve_core.specs.declared.conflicts.Conflicts.{Conflicts}
+use Rattle.solve_core.specs.declared.install_ifs.InstallIfs.{InstallIfs}
 use Rattle.solve_core.specs.declared.choices.Choices.{Choices}
 use Rattle.solve_core.specs.declared.queue.Checkpoint.{Checkpoint}
 use Rattle.solve_core.proofs.Theory.{in_left, in_right, in_append}
 use Rattle.solve_core.proofs.PoolFacts.{bool_cases, find_in, map_in, in_map}
-use Rattle.solve_core.proofs.Queued.{filter_twice, filtered, find_here, past_end, met_more, met_next, queue_more}
+use Rattle.solve_core.proofs.Queued.{filter_twice, find_here, past_end, met_more, met_next, queue_more}
 
-abbrev pub IsBefore : SealedPool → List ℕ → Checkpoint → Type 0
-IsBefore pool u b = (b.queue_len ≡ length (queue_of pool u)) × AreMet pool u b.cursor × (b.with_conflicts_len ≡ length (filter (has_conflict_at pool) u))
+module _ (pool : SealedPool) (install_ifs : List ℕ) where
+  abbrev pub IsBefore : List ℕ → Checkpoint → Type 0
+  IsBefore u b = (b.queue_len ≡ length (queue_of pool u)) × AreMet pool u b.cursor × AreUnasked pool u install_ifs b.asking_cursor
 
-pub checkpoints_more : (pool : SealedPool) (u cs : List ℕ) (bs : List Checkpoint) (c : ℕ) (b : Checkpoint) → AreCheckpoints pool u cs bs → IsBefore pool (u ++ cs) b → AreCheckpoints pool u (cs ++ c ∷ []) (bs ++ b ∷ [])
-checkpoints_more pool u [] [] c b checkpoints last =
-    let l : IsBefore pool u b = subst (λ (z : List ℕ). IsBefore pool z b) (append-nil u) last in
-    (l.0, l.1, l.2, tt)
-checkpoints_more pool u [] (x ∷ bs) c b checkpoints last = absurd checkpoints
-checkpoints_more pool u (d ∷ cs) [] c b checkpoints last = absurd checkpoints
-checkpoints_more pool u (d ∷ cs) (x ∷ bs) c b checkpoints last =
-    (checkpoints.0, checkpoints.1, checkpoints.2, checkpoints_more pool (u ++ d ∷ []) cs bs c b checkpoints.3 (subst (λ (z : List ℕ). IsBefore pool z b) (sym (append_assoc u (d ∷ []) cs)) last))
+  pub checkpoints_more : (u cs : List ℕ) (bs : List Checkpoint) (c : ℕ) (b : Checkpoint) → AreCheckpoints pool install_ifs u cs bs → IsBefore (u ++ cs) b → AreCheckpoints pool install_ifs u (cs ++ c ∷ []) (bs ++ b ∷ [])
+  checkpoints_more u [] [] c b checkpoints last =
+      let l : IsBefore u b = subst (λ (z : List ℕ). IsBefore z b) (append-nil u) last in
+      (l.0, l.1, l.2, tt)
+  checkpoints_more u [] (x ∷ bs) c b checkpoints last = absurd checkpoints
+  checkpoints_more u (d ∷ cs) [] c b checkpoints last = absurd checkpoints
+  checkpoints_more u (d ∷ cs) (x ∷ bs) c b checkpoints last =
+      (checkpoints.0, checkpoints.1, checkpoints.2, checkpoints_more (u ++ d ∷ []) cs bs c b checkpoints.3 (subst (λ (z : List ℕ). IsBefore z b) (sym (append_assoc u (d ∷ []) cs)) last))
 
-pub checkpoints_none : (pool : SealedPool) (u cs : List ℕ) → AreCheckpoints pool u cs [] → cs ≡ []
-checkpoints_none pool u [] checkpoints = refl
-checkpoints_none pool u (c ∷ cs) checkpoints = absurd checkpoints
+  pub checkpoints_none : (u cs : List ℕ) → AreCheckpoints pool install_ifs u cs [] → cs ≡ []
+  checkpoints_none u [] checkpoints = refl
+  checkpoints_none u (c ∷ cs) checkpoints = absurd checkpoints
 
-pub checkpoints_less : (pool : SealedPool) (u cs : List ℕ) (bs : List Checkpoint) (b : Checkpoint) → AreCheckpoints pool u cs (bs ++ b ∷ []) → (rest : List ℕ) × (c : ℕ) × (cs ≡ rest ++ c ∷ []) × AreCheckpoints pool u rest bs × IsBefore pool (u ++ rest) b
-checkpoints_less pool u [] [] b checkpoints = absurd checkpoints
-checkpoints_less pool u [] (x ∷ bs) b checkpoints = absurd checkpoints
-checkpoints_less pool u (d ∷ cs) [] b checkpoints =
-    ([], d, ap (λ (z : List ℕ). d ∷ z) (checkpoints_none pool (u ++ d ∷ []) cs checkpoints.3), tt, subst (λ (z : List ℕ). IsBefore pool z b) (sym (append-nil u)) (checkpoints.0, checkpoints.1, checkpoints.2))
-checkpoints_less pool u (d ∷ cs) (x ∷ bs) b checkpoints =
-    let r = checkpoints_less pool (u ++ d ∷ []) cs bs b checkpoints.3 in
-    (d ∷ r.0, r.1, ap (λ (z : List ℕ). d ∷ z) r.2, (checkpoints.0, checkpoints.1, checkpoints.2, r.3), subst (λ (z : List ℕ). IsBefore pool z b) (append_assoc u (d ∷ []) r.0) r.4)
+  pub checkpoints_less : (u cs : List ℕ) (bs : List Checkpoint) (b : Checkpoint) → AreCheckpoints pool install_ifs u cs (bs ++ b ∷ []) → (rest : List ℕ) × (c : ℕ) × (cs ≡ rest ++ c ∷ []) × AreCheckpoints pool install_ifs u rest bs × IsBefore (u ++ rest) b
+  checkpoints_less u [] [] b checkpoints = absurd checkpoints
+  checkpoints_less u [] (x ∷ bs) b checkpoints = absurd checkpoints
+  checkpoints_less u (d ∷ cs) [] b checkpoints =
+      ([], d, ap (λ (z : List ℕ). d ∷ z) (checkpoints_none (u ++ d ∷ []) cs checkpoints.3), tt, subst (λ (z : List ℕ). IsBefore z b) (sym (append-nil u)) (checkpoints.0, checkpoints.1, checkpoints.2))
+  checkpoints_less u (d ∷ cs) (x ∷ bs) b checkpoints =
+      let r = checkpoints_less (u ++ d ∷ []) cs bs b checkpoints.3 in
+      (d ∷ r.0, r.1, ap (λ (z : List ℕ). d ∷ z) r.2, (checkpoints.0, checkpoints.1, checkpoints.2, r.3), subst (λ (z : List ℕ). IsBefore z b) (append_assoc u (d ∷ []) r.0) r.4)
 
 pub never_empty : (rest : List ℕ) (c : ℕ) → [] ≡ rest ++ c ∷ [] → ⊥
 never_empty [] c e = cc
@@ -63,35 +67,65 @@ passing_is_within pool p k h = at_within p pool.candidates k h
 
 -- ---- a choice is made
 
-conflicting_one : (pool : SealedPool) (c : ℕ) → filter (has_conflict_at pool) (c ∷ []) ≡ (if list_any (λ (d : Dependency). d.conflict) (depends_at pool c) then c ∷ [] else [])
-conflicting_one pool c = refl
+-- what the pool, the choices and the order of the install-ifs say of all else
+pub record IsStep (old new : Choices) (t : List ℕ) : Type 0 where
+  pub pool : pool_of new ≡ pool_of old
+  pub choices : choices_of new ≡ t
+  pub install_ifs : new.install_ifs ≡ old.install_ifs
 
-pub consistent_more : (old new : Choices) (c : ℕ) (deps : List Dependency) (b : Checkpoint) → IsConsistent old → c < length (pool_of old).candidates → deps ≡ depends_at (pool_of old) c → pool_of new ≡ pool_of old → choices_of new ≡ choices_of old ++ c ∷ [] → new.queue.items ≡ old.queue.items ++ raised_deps (Some c) deps → new.cursor ≡ old.cursor → new.with_conflicts.items ≡ old.with_conflicts.items ++ (if list_any (λ (d : Dependency). d.conflict) deps then c ∷ [] else []) → new.checkpoints.items ≡ old.checkpoints.items ++ b ∷ [] → b.queue_len ≡ length old.queue.items → b.cursor ≡ old.cursor → b.with_conflicts_len ≡ length old.with_conflicts.items → IsConsistent new
-consistent_more old new c deps b consistent small is pool choices queue at with_conflicts checkpoints b_queue b_at b_conflicts =
+-- consistent again, where all is as a list of choices has it
+pub consistent_by : (old new : Choices) (t : List ℕ) → IsStep old new t
+    → AreInstallIfs (pool_of old) (install_ifs_of old) old.install_ifs.waiting
+    → ((c : ℕ) → IsMember c t → c < length (pool_of old).candidates)
+    → new.queue.items ≡ queue_of (pool_of old) t
+    → AreMet (pool_of old) t new.cursor
+    → AreUnasked (pool_of old) t (install_ifs_of old) new.asking_cursor
+    → AreListed (depends_at (pool_of old)) new.conflicts
+    → AreMembers t new.conflicts.added
+    → AreCheckpoints (pool_of old) (install_ifs_of old) [] t new.checkpoints.items
+    → IsConsistent new
+consistent_by old new t step are within queue met unasked listed added checkpoints =
+    let p = sym step.pool in
+    let s = sym step.choices in
+    let i : install_ifs_of old ≡ install_ifs_of new = ap (λ (z : InstallIfs). z.by_name.items) (sym step.install_ifs) in
+    let w : List (List ℕ × List ℕ) = old.install_ifs.waiting in
+    let same_waiting : w ≡ new.install_ifs.waiting = ap (λ (z : InstallIfs). z.waiting) (sym step.install_ifs) in
+    record {
+      within = λ k h. subst (λ (q : SealedPool). k < length q.candidates) p (within k (subst (λ (z : List ℕ). IsMember k z) step.choices h));
+      queue = queue ∙ (ap (queue_of (pool_of old)) s ∙ ap (λ (q : SealedPool). queue_of q (choices_of new)) p);
+      met = subst (λ (q : SealedPool). AreMet q (choices_of new) new.cursor) p (subst (λ (z : List ℕ). AreMet (pool_of old) z new.cursor) s met);
+      install_ifs = subst (λ (q : SealedPool). AreInstallIfs q (install_ifs_of new) new.install_ifs.waiting) p
+          (subst (λ (z : List ℕ). AreInstallIfs (pool_of old) z new.install_ifs.waiting) i (subst (λ (z : List (List ℕ × List ℕ)). AreInstallIfs (pool_of old) (install_ifs_of old) z) same_waiting are));
+      unasked = subst (λ (q : SealedPool). AreUnasked q (choices_of new) (install_ifs_of new) new.asking_cursor) p
+          (subst (λ (z : List ℕ). AreUnasked (pool_of old) z (install_ifs_of new) new.asking_cursor) s (subst (λ (z : List ℕ). AreUnasked (pool_of old) t z new.asking_cursor) i unasked));
+      listed = subst (λ (q : SealedPool). AreListed (depends_at q) new.conflicts) p listed;
+      added = subst (λ (z : List ℕ). AreMembers z new.conflicts.added) s added;
+      checkpoints = subst (λ (q : SealedPool). AreCheckpoints q (install_ifs_of new) [] (choices_of new) new.checkpoints.items) p
+          (subst (λ (z : List ℕ). AreCheckpoints (pool_of old) (install_ifs_of new) [] z new.checkpoints.items) s (subst (λ (z : List ℕ). AreCheckpoints (pool_of old) z [] t new.checkpoints.items) i checkpoints));
+    }
+
+pub consistent_more : (old new : Choices) (c : ℕ) (deps : List Dependency) (b : Checkpoint) → IsConsistent old → c < length (pool_of old).candidates → deps ≡ depends_at (pool_of old) c → IsStep old new (choices_of old ++ c ∷ []) → new.queue.items ≡ old.queue.items ++ raised_deps (Some c) deps → new.cursor ≡ old.cursor → new.checkpoints.items ≡ old.checkpoints.items ++ b ∷ [] → b.queue_len ≡ length old.queue.items → b.cursor ≡ old.cursor → b.asking_cursor ≡ old.asking_cursor
+    → AreUnasked (pool_of old) (choices_of old ++ c ∷ []) (install_ifs_of old) new.asking_cursor → AreListed (depends_at (pool_of old)) new.conflicts → AreMembers old.conflicts.added new.conflicts.added → IsMember c new.conflicts.added → IsConsistent new
+consistent_more old new c deps b consistent small is step queue at checkpoints b_queue b_at b_asking unasked listed kept here =
     let p = pool_of old in
     let t = choices_of old in
     let t' = t ++ c ∷ [] in
-    let before : IsBefore p t b =
-    (b_queue ∙ ap length consistent.queue, subst (λ (k : ℕ). AreMet p t k) (sym b_at) consistent.met, b_conflicts ∙ ap length consistent.with_conflicts) in
+    let before : IsBefore p (install_ifs_of old) t b =
+    (b_queue ∙ ap length consistent.queue, subst (λ (k : ℕ). AreMet p t k) (sym b_at) consistent.met, subst (λ (k : ℕ). AreUnasked p t (install_ifs_of old) k) (sym b_asking) consistent.unasked) in
     let all_queue : new.queue.items ≡ queue_of p t' =
     queue ∙ (ap (λ (z : List RaisedDepValue). z ++ raised_deps (Some c) deps) consistent.queue ∙ (ap (λ (z : List Dependency). queue_of p t ++ raised_deps (Some c) z) is ∙ sym (queue_more p t c))) in
-    let all_conflicting : new.with_conflicts.items ≡ filter (has_conflict_at p) t' =
-    with_conflicts ∙ (ap (λ (z : List ℕ). z ++ (if list_any (λ (d : Dependency). d.conflict) deps then c ∷ [] else [])) consistent.with_conflicts
-    ∙ (ap (λ (z : List Dependency). filter (has_conflict_at p) t ++ (if list_any (λ (d : Dependency). d.conflict) z then c ∷ [] else [])) is ∙ sym (filtered (has_conflict_at p) t (c ∷ [])))) in
     let all_met : AreMet p t' new.cursor = subst (λ (k : ℕ). AreMet p t' k) (sym at) (met_more p t c old.cursor consistent.met) in
-    let all_saved : AreCheckpoints p [] t' new.checkpoints.items =
-    subst (λ (z : List Checkpoint). AreCheckpoints p [] t' z) (sym checkpoints) (checkpoints_more p [] t old.checkpoints.items c b consistent.checkpoints before) in
+    let all_saved : AreCheckpoints p (install_ifs_of old) [] t' new.checkpoints.items =
+    subst (λ (z : List Checkpoint). AreCheckpoints p (install_ifs_of old) [] t' z) (sym checkpoints) (checkpoints_more p (install_ifs_of old) [] t old.checkpoints.items c b consistent.checkpoints before) in
     let all_within : (k : ℕ) → IsMember k t' → k < length p.candidates = λ k h. elim (in_append k t (c ∷ []) h) [
       | inl a ↦ consistent.within k a
       | inr d ↦ elim d [ inl e ↦ subst (λ (z : ℕ). z < length p.candidates) (sym e) small | inr bad ↦ absurd bad ]
     ] in
-    record {
-      within = λ k h. subst (λ (q : SealedPool). k < length q.candidates) (sym pool) (all_within k (subst (λ (z : List ℕ). IsMember k z) choices h));
-      queue = all_queue ∙ (ap (queue_of p) (sym choices) ∙ ap (λ (q : SealedPool). queue_of q (choices_of new)) (sym pool));
-      met = subst (λ (q : SealedPool). AreMet q (choices_of new) new.cursor) (sym pool) (subst (λ (z : List ℕ). AreMet p z new.cursor) (sym choices) all_met);
-      with_conflicts = all_conflicting ∙ (ap (filter (has_conflict_at p)) (sym choices) ∙ ap (λ (q : SealedPool). filter (has_conflict_at q) (choices_of new)) (sym pool));
-      checkpoints = subst (λ (q : SealedPool). AreCheckpoints q [] (choices_of new) new.checkpoints.items) (sym pool) (subst (λ (z : List ℕ). AreCheckpoints p [] z new.checkpoints.items) (sym choices) all_saved);
-    }
+    let all_added : AreMembers t' new.conflicts.added = λ k h. elim (in_append k t (c ∷ []) h) [
+      | inl a ↦ kept k (consistent.added k a)
+      | inr d ↦ elim d [ inl e ↦ subst (λ (z : ℕ). IsMember z new.conflicts.added) (sym e) here | inr bad ↦ absurd bad ]
+    ] in
+    consistent_by old new t' step consistent.install_ifs all_within all_queue all_met unasked listed all_added all_saved
 
 take_none : {X : Type 0} (xs : List X) → take 0 xs ≡ []
 take_none [] = refl
@@ -105,8 +139,11 @@ met_start pool t = (omega arith, ap (find (is_unmet_dep pool t)) (take_none (que
 abbrev of_world : Dependency → RaisedDepValue
 of_world d = (d, None)
 
-pub consistent_start : (chosen : Choices) → choices_of chosen ≡ [] → chosen.queue.items ≡ [] ++ raised_deps None (positive_entries_of (pool_of chosen).world) → chosen.cursor ≡ 0 → chosen.with_conflicts.items ≡ [] → chosen.checkpoints.items ≡ [] → IsConsistent chosen
-consistent_start chosen none queue at with_conflicts checkpoints =
+none_below : (k : ℕ) → k < 0 → ⊥
+none_below k h = absurd (omega (arith, h))
+
+pub consistent_start : (chosen : Choices) → choices_of chosen ≡ [] → chosen.queue.items ≡ [] ++ raised_deps None (positive_entries_of (pool_of chosen).world) → chosen.cursor ≡ 0 → chosen.asking_cursor ≡ 0 → AreInstallIfs (pool_of chosen) (install_ifs_of chosen) chosen.install_ifs.waiting → chosen.conflicts.added ≡ [] → chosen.checkpoints.items ≡ [] → IsConsistent chosen
+consistent_start chosen none queue at asking are added checkpoints =
     let p = pool_of chosen in
     let all : raised_deps None (positive_entries_of p.world) ≡ queue_of p [] =
     ap (map of_world) (filter_twice (λ (d : Dependency). not d.conflict) p.world) ∙ sym (append-nil (raised_deps None p.world)) in
@@ -114,23 +151,21 @@ consistent_start chosen none queue at with_conflicts checkpoints =
       within = λ k h. absurd (subst (λ (z : List ℕ). IsMember k z) none h);
       queue = queue ∙ (all ∙ ap (queue_of p) (sym none));
       met = subst (λ (k : ℕ). AreMet p (choices_of chosen) k) (sym at) (met_start p (choices_of chosen));
-      with_conflicts = with_conflicts ∙ ap (filter (has_conflict_at p)) (sym none);
-      checkpoints = subst (λ (z : List ℕ). AreCheckpoints p [] z chosen.checkpoints.items) (sym none) (subst (λ (z : List Checkpoint). AreCheckpoints p [] [] z) (sym checkpoints) tt);
+      install_ifs = are;
+      unasked = subst (λ (k : ℕ). AreUnasked p (choices_of chosen) (install_ifs_of chosen) k) (sym asking) (λ rank low. absurd (none_below rank low));
+      listed = λ c d h there conflict. absurd (subst (λ (z : List ℕ). IsMember c z) added h);
+      added = λ k h. absurd (subst (λ (z : List ℕ). IsMember k z) none h);
+      checkpoints = subst (λ (z : List ℕ). AreCheckpoints p (install_ifs_of chosen) [] z chosen.checkpoints.items) (sym none) (subst (λ (z : List Checkpoint). AreCheckpoints p (install_ifs_of chosen) [] [] z) (sym checkpoints) tt);
     }
 
--- ---- the cursor
+-- ---- the cursors
 
-pub consistent_on : (old new : Choices) → IsConsistent old → pool_of new ≡ pool_of old → choices_of new ≡ choices_of old → new.queue.items ≡ old.queue.items → new.with_conflicts.items ≡ old.with_conflicts.items → new.checkpoints.items ≡ old.checkpoints.items → AreMet (pool_of old) (choices_of old) new.cursor → IsConsistent new
-consistent_on old new consistent pool choices queue with_conflicts checkpoints met =
-    let p = pool_of old in
-    let t = choices_of old in
-    record {
-      within = λ k h. subst (λ (q : SealedPool). k < length q.candidates) (sym pool) (consistent.within k (subst (λ (z : List ℕ). IsMember k z) choices h));
-      queue = queue ∙ (consistent.queue ∙ (ap (queue_of p) (sym choices) ∙ ap (λ (q : SealedPool). queue_of q (choices_of new)) (sym pool)));
-      met = subst (λ (q : SealedPool). AreMet q (choices_of new) new.cursor) (sym pool) (subst (λ (z : List ℕ). AreMet p z new.cursor) (sym choices) met);
-      with_conflicts = with_conflicts ∙ (consistent.with_conflicts ∙ (ap (filter (has_conflict_at p)) (sym choices) ∙ ap (λ (q : SealedPool). filter (has_conflict_at q) (choices_of new)) (sym pool)));
-      checkpoints = subst (λ (q : SealedPool). AreCheckpoints q [] (choices_of new) new.checkpoints.items) (sym pool) (subst (λ (z : List ℕ). AreCheckpoints p [] z new.checkpoints.items) (sym choices) (subst (λ (z : List Checkpoint). AreCheckpoints p [] t z) (sym checkpoints) consistent.checkpoints));
-    }
+pub consistent_on : (old new : Choices) → IsConsistent old → IsStep old new (choices_of old) → new.queue.items ≡ old.queue.items → new.conflicts ≡ old.conflicts → new.checkpoints.items ≡ old.checkpoints.items → AreMet (pool_of old) (choices_of old) new.cursor → AreUnasked (pool_of old) (choices_of old) (install_ifs_of old) new.asking_cursor → IsConsistent new
+consistent_on old new consistent step queue conflicts checkpoints met unasked =
+    consistent_by old new (choices_of old) step consistent.install_ifs consistent.within (queue ∙ consistent.queue) met unasked
+    (subst (λ (z : Conflicts). AreListed (depends_at (pool_of old)) z) (sym conflicts) consistent.listed)
+    (subst (λ (z : Conflicts). AreMembers (choices_of old) z.added) (sym conflicts) consistent.added)
+    (subst (λ (z : List Checkpoint). AreCheckpoints (pool_of old) (install_ifs_of old) [] (choices_of old) z) (sym checkpoints) consistent.checkpoints)
 
 get_within : {X : Type 0} (xs : List X) (i : ℕ) (x : X) → slice_get xs i ≡ Some x → i < length xs
 get_within [] zero x h = absurd (cc)

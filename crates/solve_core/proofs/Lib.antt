@@ -11,7 +11,10 @@ pub mod Offered
 pub mod Queued
 pub mod Consistency
 pub mod OccupiedNames
+pub mod NameTables
+pub mod ConflictNames
 pub mod Asking
+pub mod ByteOrder
 pub mod Raisers
 pub mod Excluders
 pub mod Existence

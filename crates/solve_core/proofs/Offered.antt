@@ -29,7 +29,7 @@ places_below n test (c ∷ cs) k d h = elim (bool_cases (test c)) [
 pub offered_below : (name : List ℕ) (cs : List Candidate) (k d : ℕ) → k < length (places_offering name cs) → get_or (places_offering name cs) k d < length cs
 offered_below name cs k d h = let r = places_below 0 (offers_name name) cs k d h in omega arith
 
-meets_offers : (d : Dependency) (c : Candidate) → meets_dependency d c ≡ true → offers_name d.name c ≡ true
+pub meets_offers : (d : Dependency) (c : Candidate) → meets_dependency d c ≡ true → offers_name d.name c ≡ true
 meets_offers d c h = elim (or_true (meets_by_own_name d c) (list_any (is_met_by_entry d) c.provides) h) [
   | inl e ↦ true_or (bytes_eq d.name c.name) _ (inl (and_true (bytes_eq d.name c.name) (is_wanted d.version d.bits c.version) e).0)
   | inr e ↦

@@ -1,13 +1,14 @@
--- The place of a candidate with the byte-least name whose install-if applies and that no choice
--- has, found from the back of the places that have an install-if.
-use Rattle.std.specs.Prelude.{ℕ, Bool, ◌&&◌, if◌then◌else◌, List, [], ◌∷◌, Option, Some, None}
+-- Which candidates ask by their install-if for a name that no choice has, and the least of these
+-- names.
+use Rattle.std.specs.Prelude.{◌≡◌, ◌≤◌, ◌<◌, ℕ, Bool, true, false, ◌&&◌, List, [], get_or, length, slice_get, Some}
 use Rattle.std.specs.Option.{option_map_or}
 use Rattle.std.specs.List.{list_all}
 use Rattle.std.specs.Ordering.{is_lt}
 use Rattle.dep_core.specs.Dependency.{Dependency}
 use Rattle.pool_core.specs.Candidates.{Candidate, entry, has_usable_install_if, named}
-use Rattle.pool_core.specs.Options.{places_from}
+use Rattle.pool_core.specs.Options.{IsMember}
 use Rattle.pool_core.specs.Rank.{SealedPool, byte_cmp, candidate_at, is_at}
+use Rattle.solve_core.specs.NameTable.{items_of}
 use Rattle.solve_core.specs.Selection.{is_met, is_unmet}
 
 abbrev pub all_met : SealedPool → List ℕ → List Dependency → Bool
@@ -18,21 +19,52 @@ abbrev pub asks_for_name : SealedPool → List ℕ → Candidate → Bool
 asks_for_name pool chosen c = all_met pool chosen c.install_if
     && is_unmet pool chosen (named c.name)
 
+abbrev pub asks_at : SealedPool → List ℕ → ℕ → Bool
+asks_at pool chosen k = is_at pool (asks_for_name pool chosen) k
+
+abbrev pub is_usable_at : SealedPool → ℕ → Bool
+is_usable_at pool k = is_at pool (has_usable_install_if pool.world) k
+
 abbrev pub name_at : SealedPool → ℕ → List ℕ
 name_at pool k = option_map_or (λ (c : Candidate). c.name) (candidate_at pool k) []
 
-abbrev pub lesser_at : SealedPool → ℕ → Option ℕ → ℕ
-lesser_at pool k None = k
-lesser_at pool k (Some o) = if is_lt (byte_cmp (name_at pool o) (name_at pool k)) then o else k
+abbrev pub install_if_at : SealedPool → ℕ → List Dependency
+install_if_at pool k = option_map_or (λ (c : Candidate). c.install_if) (candidate_at pool k) []
 
-abbrev pub with_asking : SealedPool → List ℕ → ℕ → Option ℕ → Option ℕ
-with_asking pool chosen k best = if is_at pool (asks_for_name pool chosen) k then Some
-    (lesser_at pool k best) else best
+abbrev pub has_lesser_name : SealedPool → ℕ → ℕ → Bool
+has_lesser_name pool a b = is_lt (byte_cmp (name_at pool a) (name_at pool b))
 
-abbrev pub least_at : SealedPool → List ℕ → List ℕ → Option ℕ
-least_at pool chosen [] = None
-least_at pool chosen (k ∷ ks) = with_asking pool chosen k (least_at pool chosen ks)
+-- the candidates whose install-if can come to apply, in byte order of their names; and a table that
+-- leads from the name of each entry of an install-if to the rank of its candidate
+pub record AreInstallIfs (pool : SealedPool) (by_name : List ℕ) (waiting : List (List ℕ × List ℕ)) :
+    Type 0 where
+  pub those : (k : ℕ) → IsMember k by_name → is_usable_at pool k ≡ true
+  pub each : (k : ℕ) → is_usable_at pool k ≡ true → IsMember k by_name
+  pub rising :
+      (i j d : ℕ) → i ≤ j → j < length by_name →
+      has_lesser_name pool (get_or by_name j d) (get_or by_name i d) ≡ false
+  pub entries :
+      (rank k : ℕ) (d : Dependency) → slice_get by_name rank ≡ Some k →
+      IsMember d (install_if_at pool k) → IsMember rank (items_of waiting d.name)
 
--- the places whose install-if can come to apply
-abbrev pub install_ifs_of : SealedPool → List ℕ
-install_ifs_of pool = places_from 0 (has_usable_install_if pool.world) pool.candidates
+-- whether the candidate of that rank asks
+abbrev pub rank_asks : SealedPool → List ℕ → List ℕ → ℕ → Bool
+rank_asks pool chosen by_name rank =
+    option_map_or (λ (k : ℕ). asks_at pool chosen k) (slice_get by_name rank) false
+
+-- none of the first ranks asks
+abbrev pub AreUnasked : SealedPool → List ℕ → List ℕ → ℕ → Type 0
+AreUnasked pool chosen by_name count =
+    (rank : ℕ) → rank < count → rank_asks pool chosen by_name rank ≡ false
+
+-- it asks, and none that asks has a lesser name
+pub record IsLeastAsking (pool : SealedPool) (chosen : List ℕ) (k : ℕ) : Type 0 where
+  pub usable : is_usable_at pool k ≡ true
+  pub asks : asks_at pool chosen k ≡ true
+  pub least :
+      (o : ℕ) → is_usable_at pool o ≡ true → asks_at pool chosen o ≡ true →
+      has_lesser_name pool o k ≡ false
+
+-- none that can come to ask asks
+abbrev pub IsNoneAsking : SealedPool → List ℕ → Type 0
+IsNoneAsking pool chosen = (o : ℕ) → is_usable_at pool o ≡ true → asks_at pool chosen o ≡ false

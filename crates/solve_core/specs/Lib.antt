@@ -3,6 +3,7 @@ pub mod Selection
 -- what only serves proofs
 pub mod Reasons
 pub mod Queue
+pub mod NameTable
 pub mod InstallIf
 pub mod Choices
 pub mod Measure

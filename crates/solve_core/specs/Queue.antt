@@ -1,6 +1,6 @@
 -- The dependencies that are raised, each with the choice that has it.
 use Rattle.std.specs.Prelude.{◌≡◌, ◌≤◌, ℕ, Bool, not, List, ◌++◌, length, map, take, Option, Some, None}
-use Rattle.std.specs.List.{filter, find, flat_map, list_any}
+use Rattle.std.specs.List.{filter, find, flat_map}
 use Rattle.dep_core.specs.Dependency.{Dependency}
 use Rattle.pool_core.specs.Candidates.{entry}
 use Rattle.pool_core.specs.Rank.{SealedPool}
@@ -19,10 +19,6 @@ raised_deps_at pool c = raised_deps (Some c) (depends_at pool c)
 
 abbrev pub queue_of : SealedPool → List ℕ → List RaisedDepValue
 queue_of pool chosen = raised_deps None pool.world ++ flat_map (raised_deps_at pool) chosen
-
--- whether a choice has a conflict
-abbrev pub has_conflict_at : SealedPool → ℕ → Bool
-has_conflict_at pool c = list_any (λ (d : Dependency). d.conflict) (depends_at pool c)
 
 abbrev pub is_unmet_dep : SealedPool → List ℕ → RaisedDepValue → Bool
 is_unmet_dep pool chosen r = is_unmet pool chosen (entry r.0)

@@ -1,5 +1,5 @@
 //! A list of candidates, each once, that answers at once whether it has one.
-ghost use Rattle.std.specs.Prelude.{◌≡◌, ◌<◌, ◌^◌, ℕ, List, [], ◌∷◌, ◌++◌, false, MatchBool, OnOk, vec_len, slice_index_or};
+ghost use Rattle.std.specs.Prelude.{◌≡◌, ◌<◌, ◌^◌, ℕ, List, [], ◌∷◌, ◌++◌, false, length, MatchBool, OnOk, vec_len, slice_index_or};
 ghost use Rattle.pool_core.specs.Options.{IsMember};
 ghost use Rattle.solve_core.specs.Reasons.{HasSameMembers};
 
@@ -82,9 +82,20 @@ impl CandidateSet {
         Ok(())
     }
 
+    /// Takes all away.
+    pub(crate) fn clear(&mut self)
+        ensures { self.new ≡ [] }
+    {
+        while !self.as_slice().is_empty() {
+            self.pop();
+        }
+    }
+
     /// Takes the last one away.
     pub(crate) fn pop(&mut self)
-        ensures { (rest : List ℕ) (last : ℕ) → self.old ≡ rest ++ last ∷ [] → self.new ≡ rest }
+        ensures last { (rest : List ℕ) (last : ℕ) → self.old ≡ rest ++ last ∷ [] →
+            self.new ≡ rest }
+        ensures fewer { 0 < length self.old → length self.new < length self.old }
     {
         if let Some(id) = self.ids.pop() {
             let place = id.place as usize;

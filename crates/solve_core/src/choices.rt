@@ -1,30 +1,35 @@
 //! The choices so far: the first need that none of them meets, and what excludes a further choice.
-ghost use Rattle.std.specs.Prelude.{◌≡◌, ℕ, List, [], ◌∷◌, ◌++◌, ◌<◌, ◌^◌, length, map, IfSome, false, true, IfOk, OnOk, MatchOption, MatchBool, None, Some, ◌+◌, if◌then◌else◌, option_copied, slice_get, option_to_list};
-ghost use Rattle.std.specs.List.{find, list_any};
+ghost use Rattle.std.specs.Prelude.{◌≡◌, ◌≤◌, ℕ, List, [], ◌∷◌, ◌++◌, ◌<◌, ◌^◌, length, map, IfSome, false, true, IfOk, OnOk, MatchOption, MatchBool, None, Some, ◌+◌, option_copied, slice_get, option_to_list, is_some};
+ghost use Rattle.std.specs.List.{find};
 ghost use Rattle.dep_core.specs.Dependency.{Dependency};
 ghost use Rattle.dep_core.specs.Meets.{dependency};
 ghost use Rattle.pool_core.specs.Candidates.{entry};
-ghost use Rattle.pool_core.specs.Options.{IsMember, places_offering, options_for};
-ghost use Rattle.solve_core.specs.InstallIf.{install_ifs_of, least_at, lesser_at, name_at, with_asking};
-ghost use Rattle.solve_core.specs.Queue.{AreMet, is_unmet_dep, queue_of, raised_deps};
+ghost use Rattle.pool_core.specs.Candidates.{offers_name};
+ghost use Rattle.pool_core.specs.Options.{IsMember, options_for, places_offering};
+ghost use Rattle.solve_core.specs.InstallIf.{AreUnasked, IsLeastAsking, IsNoneAsking, rank_asks};
+ghost use Rattle.solve_core.specs.NameTable.{items_of};
+ghost use Rattle.solve_core.specs.Queue.{AreMet, is_unmet_dep, queue_of};
 ghost use Rattle.solve_core.specs.Selection.{exclude_each_other, next_need};
 ghost use Rattle.solve_core.specs.Reasons.{IsFrameOf};
-ghost use Rattle.solve_core.specs.Choices.{IsConsistent, choices_of, pool_of};
+ghost use Rattle.solve_core.specs.Choices.{IsAtHand, IsConsistent, choices_of, install_ifs_of, pool_of};
 
 use crate::candidate_set::CandidateSet;
+use crate::conflicts::Conflicts;
 use crate::exclusion::keeps_out;
 use crate::frame::Frame;
+use crate::install_ifs::InstallIfs;
 use crate::needs::{asks_for_name, choice_meeting, raisers};
-use crate::queue::{Checkpoint, RaisedDep, push_if_conflicting, queue_all, queue_world};
+use crate::queue::{Checkpoint, RaisedDep, queue_all, queue_world};
 use crate::selection::Trace;
 use dep_core::Dep;
-use pool_core::{CandId, NeedRef, Sealed};
+use pool_core::{CandId, Details, NeedRef, Sealed};
 use std::alloc::{AllocError, Global};
 use std::marker::Model;
 
 /// The choices so far; the queue of the dependencies that they and world raise, with a cursor in
-/// front of which each is met; the choices that have conflicts; and, for each choice, where these
-/// lists stood before it.
+/// front of which each is met; the install-ifs in byte order of names, with a cursor in front of
+/// which none asks; the conflicts of the choices; and, for each choice, where the queue and the
+/// cursors stood before it.
 #[derive(Drop)]
 pub(crate) struct Choices<'p> {
     alloc: Global,
@@ -32,8 +37,10 @@ pub(crate) struct Choices<'p> {
     choices: CandidateSet,
     queue: Vec<RaisedDep<'p>>,
     cursor: usize,
+    install_ifs: InstallIfs<'p>,
+    asking_cursor: usize,
+    conflicts: Conflicts<'p>,
     checkpoints: Vec<Checkpoint>,
-    with_conflicts: Vec<CandId>,
 }
 
 impl<'p> Choices<'p> {
@@ -45,14 +52,17 @@ impl<'p> Choices<'p> {
     {
         let mut queue = Vec::new(alloc);
         queue_world(&mut queue, pool.positive_entries())?;
+        let install_ifs = InstallIfs::new(alloc, pool)?;
         Ok(Choices {
             alloc,
             pool,
             choices: CandidateSet::new(alloc),
             queue,
             cursor: 0,
+            install_ifs,
+            asking_cursor: 0,
+            conflicts: Conflicts::new(alloc),
             checkpoints: Vec::new(alloc),
-            with_conflicts: Vec::new(alloc),
         })
     }
 
@@ -68,13 +78,15 @@ impl<'p> Choices<'p> {
         let before = Checkpoint {
             queue_len: self.queue.len(),
             cursor: self.cursor,
-            with_conflicts_len: self.with_conflicts.len(),
+            asking_cursor: self.asking_cursor,
         };
-        let deps = self.pool.details(id).depends().as_slice();
+        let details = self.pool.details(id);
+        let deps = details.depends().as_slice();
         queue_all(&mut self.queue, deps, id)?;
-        push_if_conflicting(&mut self.with_conflicts, deps, id)?;
+        self.conflicts.add(deps, id)?;
         self.checkpoints.push(before)?;
         self.choices.push(id)?;
+        self.asking_cursor = self.least_rank_asking(details);
         Ok(())
     }
 
@@ -89,8 +101,8 @@ impl<'p> Choices<'p> {
         if let Some(before) = self.checkpoints.pop() {
             self.choices.pop();
             self.queue.truncate(before.queue_len);
-            self.with_conflicts.truncate(before.with_conflicts_len);
             self.cursor = before.cursor;
+            self.asking_cursor = before.asking_cursor;
         }
     }
 
@@ -155,16 +167,20 @@ impl<'p> Choices<'p> {
     }
 
     // The frame of the byte-least name whose install-if applies and that no choice has.
-    fn frame_asked(&self) -> Result<Option<Frame>, AllocError>
-        requires consistent { IsConsistent self.now }
-        requires met { find (is_unmet_dep (pool_of self.now) (choices_of self.now)) (queue_of
-            (pool_of self.now) (choices_of self.now)) ≡ None }
+    fn frame_asked(&mut self) -> Result<Option<Frame>, AllocError>
+        requires consistent { IsConsistent self.old }
+        requires met { find (is_unmet_dep (pool_of self.old) (choices_of self.old)) (queue_of
+            (pool_of self.old) (choices_of self.old)) ≡ None }
+        ensures consistent { IsConsistent self.new }
+        ensures pool { pool_of self.new ≡ pool_of self.old }
+        ensures choices { choices_of self.new ≡ choices_of self.old }
         ensures few { IfOk result (λ found. IfSome found (λ frame. length frame.1 < 2 ^ 64)) }
-        ensures frame { IfOk result (λ found. MatchOption found (next_need (pool_of self.now)
-            (choices_of self.now) ≡ None) (λ frame. IsFrameOf (pool_of self.now)
-            (choices_of self.now) frame)) }
+        ensures frame { IfOk result (λ found. MatchOption found (next_need (pool_of self.old)
+            (choices_of self.old) ≡ None) (λ frame. IsFrameOf (pool_of self.old)
+            (choices_of self.old) frame)) }
     {
-        match self.least_asked() {
+        self.skip_unasked();
+        match self.install_ifs.at(self.asking_cursor) {
             None => Ok(None),
             Some(id) => {
                 let frame = self.frame_named(id)?;
@@ -173,12 +189,42 @@ impl<'p> Choices<'p> {
         }
     }
 
-    // The frame of that name.
+    // Moves the cursor of the install-ifs to the first that asks.
+    fn skip_unasked(&mut self)
+        requires { IsConsistent self.old }
+        ensures consistent { IsConsistent self.new }
+        ensures pool { pool_of self.new ≡ pool_of self.old }
+        ensures choices { choices_of self.new ≡ choices_of self.old }
+        ensures first { MatchOption (slice_get (install_ifs_of self.new) self.new.asking_cursor)
+            (IsNoneAsking (pool_of self.old) (choices_of self.old))
+            (λ id. IsLeastAsking (pool_of self.old) (choices_of self.old) id) }
+    {
+        while self.is_front_unasked() {
+            self.asking_cursor += 1;
+        }
+    }
+
+    // Whether there is a candidate at the cursor of the install-ifs, and it does not ask.
+    fn is_front_unasked(&self) -> bool
+        requires { IsConsistent self.now }
+        ensures { MatchBool result ((self.now.asking_cursor + 1
+            ≤ length (install_ifs_of self.now)) × AreUnasked (pool_of self.now)
+            (choices_of self.now) (install_ifs_of self.now) (self.now.asking_cursor + 1))
+            (MatchOption (slice_get (install_ifs_of self.now) self.now.asking_cursor)
+            (IsNoneAsking (pool_of self.now) (choices_of self.now))
+            (λ id. IsLeastAsking (pool_of self.now) (choices_of self.now) id)) }
+    {
+        match self.install_ifs.at(self.asking_cursor) {
+            None => false,
+            Some(id) => !asks_for_name(self.pool, &self.choices, self.pool.at(id)),
+        }
+    }
+
+    // The frame of the name of the candidate that asks for the byte-least one.
     fn frame_named(&self, id: CandId) -> Result<Frame, AllocError>
         requires met { find (is_unmet_dep (pool_of self.now) (choices_of self.now)) (queue_of
             (pool_of self.now) (choices_of self.now)) ≡ None }
-        requires least_name { least_at (pool_of self.now) (choices_of self.now) (install_ifs_of
-            (pool_of self.now)) ≡ Some id }
+        requires least { IsLeastAsking (pool_of self.now) (choices_of self.now) id }
         ensures few { IfOk result (λ frame. length frame.1 < 2 ^ 64) }
         ensures frame { IfOk result (λ frame. IsFrameOf (pool_of self.now)
             (choices_of self.now) frame) }
@@ -196,52 +242,70 @@ impl<'p> Choices<'p> {
         Ok(Frame::new(self.alloc, options.into_ids(), by))
     }
 
-    // The place of a candidate of that name whose install-if applies.
-    fn least_asked(&self) -> Option<CandId>
-        ensures { result ≡ least_at (pool_of self.now) (choices_of self.now) (install_ifs_of
-            (pool_of self.now)) }
+    // Whether the candidate of a rank asks.
+    fn rank_asks(&self, rank: usize) -> bool
+        ensures { result ≡ rank_asks (pool_of self.now) (choices_of self.now)
+            (install_ifs_of self.now) rank }
     {
-        let install_ifs = self.pool.install_ifs();
-        let mut best: Option<CandId> = None;
-        let mut i = install_ifs.len();
-        while i > 0 {
-            i -= 1;
-            best = self.with_asking(install_ifs[i], best);
-        }
-        best
-    }
-
-    // The place of the lesser of the best name so far and that of a candidate, if its install-if
-    // applies.
-    fn with_asking(&self, id: CandId, best: Option<CandId>) -> Option<CandId>
-        ensures { result ≡ with_asking (pool_of self.now) (choices_of self.now) id best }
-    {
-        if !asks_for_name(self.pool, &self.choices, self.pool.at(id)) {
-            return best;
-        }
-        match best {
-            None => Some(id),
-            Some(other) => Some(self.lesser(id, other)),
+        match self.install_ifs.at(rank) {
+            None => false,
+            Some(id) => asks_for_name(self.pool, &self.choices, self.pool.at(id)),
         }
     }
 
-    fn lesser(&self, id: CandId, other: CandId) -> CandId
-        ensures { result ≡ lesser_at (pool_of self.now) id (Some other) }
+    // The cursor of the install-ifs, or the least rank in front of it that asks and waits for a
+    // name that the candidate offers.
+    fn least_rank_asking(&self, details: &Details<'_>) -> usize
+        ensures less { result ≤ self.now.asking_cursor }
+        ensures unasked { (name : List ℕ) (rank : ℕ) → offers_name name details.now ≡ true →
+            IsMember rank (items_of self.now.install_ifs.waiting name) → rank < result →
+            rank_asks (pool_of self.now) (choices_of self.now) (install_ifs_of self.now) rank
+            ≡ false }
     {
-        if self.name_at(other).cmp(&self.name_at(id)).is_lt() {
-            other
-        } else {
-            id
-        }
+        let own = self.least_rank_waiting(details.name(), self.asking_cursor);
+        self.least_rank_provided(details.provides().as_slice(), own)
     }
 
-    fn name_at(&self, id: CandId) -> &[u8]
-        ensures { result.now ≡ name_at (pool_of self.now) id }
+    // A rank, or the least one in front of it that asks and waits for a name of these entries.
+    fn least_rank_provided(&self, provides: &[Dep<'_>], cursor: usize) -> usize
+        ensures less { result ≤ cursor }
+        ensures unasked { (d : Dependency) (rank : ℕ) → IsMember d (map dependency provides.now) →
+            IsMember rank (items_of self.now.install_ifs.waiting d.name) → rank < result →
+            rank_asks (pool_of self.now) (choices_of self.now) (install_ifs_of self.now) rank
+            ≡ false }
     {
-        match self.pool.at(id) {
-            Some(details) => details.name(),
-            None => &[],
+        let mut least = cursor;
+        for entry in provides {
+            least = self.least_rank_waiting(entry.name, least);
         }
+        least
+    }
+
+    // A rank, or the least one in front of it that asks and waits for a name.
+    fn least_rank_waiting(&self, name: &[u8], cursor: usize) -> usize
+        ensures less { result ≤ cursor }
+        ensures unasked { (rank : ℕ) →
+            IsMember rank (items_of self.now.install_ifs.waiting name.now) → rank < result →
+            rank_asks (pool_of self.now) (choices_of self.now) (install_ifs_of self.now) rank
+            ≡ false }
+    {
+        let mut least = cursor;
+        for rank in self.install_ifs.waiting_for(name) {
+            least = self.lesser_rank(*rank, least);
+        }
+        least
+    }
+
+    // The lesser of two ranks, of which the first counts only where it asks.
+    fn lesser_rank(&self, rank: usize, least: usize) -> usize
+        ensures less { result ≤ least }
+        ensures unasked { rank < result → rank_asks (pool_of self.now) (choices_of self.now)
+            (install_ifs_of self.now) rank ≡ false }
+    {
+        if rank < least && self.rank_asks(rank) {
+            return rank;
+        }
+        least
     }
 
     /// A choice that no satisfying selection holds beside the candidate. It is looked for among all
@@ -280,8 +344,8 @@ impl<'p> Choices<'p> {
         self.excluder_among(self.choices.as_slice(), id)
     }
 
-    // The excluder among the choices that have conflicts, and those that offer a name which the
-    // candidate has, provides or depends on.
+    // The excluder among the choices that have a conflict of a name which the candidate offers, that
+    // offer a name which it occupies, or that offer the name of one of its conflicts.
     fn excluder_by_names(&self, id: CandId) -> Option<CandId>
         requires consistent { IsConsistent self.now }
         requires within { id < length (pool_of self.now).candidates }
@@ -291,13 +355,10 @@ impl<'p> Choices<'p> {
             × (exclude_each_other (pool_of self.now) other id ≡ true)) }
     {
         let details = self.pool.details(id);
-        if let Some(excluder) = self.excluder_among(self.with_conflicts.as_slice(), id) {
+        if let Some(excluder) = self.excluder_named(details.name(), true, id) {
             return Some(excluder);
         }
-        if let Some(excluder) = self.excluder_named(details.name(), id) {
-            return Some(excluder);
-        }
-        if let Some(excluder) = self.excluder_offering(details.provides().as_slice(), id) {
+        if let Some(excluder) = self.excluder_provided(details.provides().as_slice(), id) {
             return Some(excluder);
         }
         self.excluder_offering(details.depends().as_slice(), id)
@@ -305,7 +366,7 @@ impl<'p> Choices<'p> {
 
     // The first of some candidates that is a choice and excludes another, or is excluded by it.
     fn excluder_among(&self, ids: &[CandId], id: CandId) -> Option<CandId>
-        requires ids { (k : ℕ) → IsMember k ids.now → k < length (pool_of self.now).candidates }
+        requires consistent { IsConsistent self.now }
         requires within { id < length (pool_of self.now).candidates }
         ensures { MatchOption result ((k : ℕ) → IsMember k ids.now →
             IsMember k (choices_of self.now) → exclude_each_other (pool_of self.now) k id
@@ -320,30 +381,38 @@ impl<'p> Choices<'p> {
         None
     }
 
-    // The same among the candidates that offer a name.
-    fn excluder_named(&self, name: &[u8], id: CandId) -> Option<CandId>
-        requires { id < length (pool_of self.now).candidates }
-        ensures { MatchOption result ((k : ℕ) → IsMember k (places_offering name.now
-            (pool_of self.now).candidates) → IsMember k (choices_of self.now) →
-            exclude_each_other (pool_of self.now) k id
+    // The same among the candidates that have a conflict of a name, and, where it is occupied, those
+    // that offer it.
+    fn excluder_named(&self, name: &[u8], is_occupied: bool, id: CandId) -> Option<CandId>
+        requires consistent { IsConsistent self.now }
+        requires within { id < length (pool_of self.now).candidates }
+        ensures { MatchOption result ((k : ℕ) → IsAtHand self.now name.now is_occupied k →
+            IsMember k (choices_of self.now) → exclude_each_other (pool_of self.now) k id
             ≡ false) (λ other. IsMember other (choices_of self.now)
             × (exclude_each_other (pool_of self.now) other id ≡ true)) }
     {
-        self.excluder_among(self.pool.offers(name), id)
+        if let Some(excluder) = self.excluder_among(self.conflicts.get(name), id) {
+            return Some(excluder);
+        }
+        if is_occupied {
+            return self.excluder_among(self.pool.offers(name), id);
+        }
+        None
     }
 
-    // The same among the candidates that offer the name of one of some dependencies.
-    fn excluder_offering(&self, deps: &[Dep<'_>], id: CandId) -> Option<CandId>
-        requires { id < length (pool_of self.now).candidates }
-        ensures { MatchOption result ((d : Dependency) (k : ℕ) →
-            IsMember d (map dependency deps.now) → IsMember k (places_offering d.name
-            (pool_of self.now).candidates) → IsMember k (choices_of self.now) →
-            exclude_each_other (pool_of self.now) k id
+    // The same at the names of some entries of provides, of which those with a version are occupied.
+    fn excluder_provided(&self, provides: &[Dep<'_>], id: CandId) -> Option<CandId>
+        requires consistent { IsConsistent self.now }
+        requires within { id < length (pool_of self.now).candidates }
+        ensures { MatchOption result ((p : Dependency) (k : ℕ) →
+            IsMember p (map dependency provides.now) →
+            IsAtHand self.now p.name (is_some p.version) k →
+            IsMember k (choices_of self.now) → exclude_each_other (pool_of self.now) k id
             ≡ false) (λ other. IsMember other (choices_of self.now)
             × (exclude_each_other (pool_of self.now) other id ≡ true)) }
     {
-        for dep in deps {
-            match self.excluder_named(dep.name, id) {
+        for entry in provides {
+            match self.excluder_named(entry.name, entry.version.is_some(), id) {
                 Some(excluder) => return Some(excluder),
                 None => {}
             }
@@ -351,18 +420,53 @@ impl<'p> Choices<'p> {
         None
     }
 
+    // The same among the candidates that offer the name of a conflict.
+    fn excluder_offering(&self, deps: &[Dep<'_>], id: CandId) -> Option<CandId>
+        requires consistent { IsConsistent self.now }
+        requires within { id < length (pool_of self.now).candidates }
+        ensures { MatchOption result ((d : Dependency) (k : ℕ) →
+            IsMember d (map dependency deps.now) → d.conflict ≡ true →
+            IsMember k (places_offering d.name (pool_of self.now).candidates) →
+            IsMember k (choices_of self.now) → exclude_each_other (pool_of self.now) k id
+            ≡ false) (λ other. IsMember other (choices_of self.now)
+            × (exclude_each_other (pool_of self.now) other id ≡ true)) }
+    {
+        for dep in deps {
+            match self.excluder_by_conflict(dep, id) {
+                Some(excluder) => return Some(excluder),
+                None => {}
+            }
+        }
+        None
+    }
+
+    fn excluder_by_conflict(&self, dep: &Dep<'_>, id: CandId) -> Option<CandId>
+        requires consistent { IsConsistent self.now }
+        requires within { id < length (pool_of self.now).candidates }
+        ensures { MatchOption result ((k : ℕ) → (dependency dep.now).conflict ≡ true →
+            IsMember k (places_offering (dependency dep.now).name (pool_of self.now).candidates) →
+            IsMember k (choices_of self.now) → exclude_each_other (pool_of self.now) k id
+            ≡ false) (λ other. IsMember other (choices_of self.now)
+            × (exclude_each_other (pool_of self.now) other id ≡ true)) }
+    {
+        if !dep.conflict {
+            return None;
+        }
+        self.excluder_among(self.pool.offers(dep.name), id)
+    }
+
     fn is_excluding_choice(&self, other: CandId, id: CandId) -> bool
-        requires other { other < length (pool_of self.now).candidates }
+        requires consistent { IsConsistent self.now }
         requires within { id < length (pool_of self.now).candidates }
         ensures { MatchBool result (IsMember other (choices_of self.now)
             × (exclude_each_other (pool_of self.now) other id
             ≡ true)) (IsMember other (choices_of self.now) →
             exclude_each_other (pool_of self.now) other id ≡ false) }
     {
-        if !self.choices.has(other) {
-            return false;
+        if self.choices.has(other) {
+            return self.is_excluder(other, id);
         }
-        self.is_excluder(other, id)
+        false
     }
 
     // Whether no satisfying selection has both.

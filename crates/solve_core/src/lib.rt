@@ -6,9 +6,12 @@
 
 mod candidate_set;
 mod choices;
+mod conflicts;
 mod exclusion;
 mod frame;
+mod install_ifs;
 mod laws;
+mod name_table;
 mod needs;
 mod queue;
 mod search;

@@ -1,15 +1,7 @@
 //! The dependencies that world and the choices raise, in the order in which they are to be met.
-ghost use Rattle.std.specs.Prelude.{◌≡◌, ℕ, List, [], ◌∷◌, ◌++◌, ◌<◌, ◌^◌, length, map, IfSome, false, true, IfOk, OnOk, MatchOption, MatchBool, None, Some, ◌+◌, if◌then◌else◌, option_copied, slice_get, option_to_list};
-ghost use Rattle.std.specs.List.{find, list_any};
-ghost use Rattle.dep_core.specs.Dependency.{Dependency};
+ghost use Rattle.std.specs.Prelude.{◌≡◌, ◌∷◌, ◌++◌, [], map, OnOk, None, Some};
 ghost use Rattle.dep_core.specs.Meets.{dependency};
-ghost use Rattle.pool_core.specs.Candidates.{entry};
-ghost use Rattle.pool_core.specs.Options.{IsMember, places_offering, options_for};
-ghost use Rattle.solve_core.specs.InstallIf.{install_ifs_of, least_at, lesser_at, name_at, with_asking};
-ghost use Rattle.solve_core.specs.Queue.{AreMet, is_unmet_dep, queue_of, raised_deps};
-ghost use Rattle.solve_core.specs.Selection.{exclude_each_other, next_need};
-ghost use Rattle.solve_core.specs.Reasons.{IsFrameOf};
-ghost use Rattle.solve_core.specs.Choices.{IsConsistent, choices_of, pool_of};
+ghost use Rattle.solve_core.specs.Queue.{raised_deps};
 
 use dep_core::Dep;
 use pool_core::CandId;
@@ -48,12 +40,12 @@ impl<'p> RaisedDep<'p> {
     }
 }
 
-/// Where the lists and the cursor stood before a choice.
+/// Where the queue and the cursors stood before a choice.
 #[derive(Clone, Copy)]
 pub(crate) struct Checkpoint {
     pub(crate) queue_len: usize,
     pub(crate) cursor: usize,
-    pub(crate) with_conflicts_len: usize,
+    pub(crate) asking_cursor: usize,
 }
 
 /// Queues what world asks for.
@@ -97,34 +89,4 @@ fn queue_one<'p>(
         queue.push(RaisedDep { dep, by })?;
     }
     Ok(())
-}
-
-/// Adds a choice that has a conflict.
-pub(crate) fn push_if_conflicting(
-    with_conflicts: &mut Vec<CandId>,
-    deps: &[Dep<'_>],
-    id: CandId,
-) -> Result<(), AllocError>
-    ensures { OnOk result (with_conflicts.new.items ≡ with_conflicts.old.items
-        ++ (if list_any (λ (d : Dependency). d.conflict)
-        (map dependency deps.now) then id ∷ [] else [])) }
-{
-    if has_conflict(deps) {
-        with_conflicts.push(id)?;
-    }
-    Ok(())
-}
-
-// Whether one of some dependencies is a conflict.
-#[tactic(auto, using(crate::proofs::Queued::any_map))]
-fn has_conflict(deps: &[Dep<'_>]) -> bool
-    ensures { result ≡ list_any (λ (d : Dependency). d.conflict) (map dependency deps.now) }
-{
-    any_conflict(deps)
-}
-
-fn any_conflict(deps: &[Dep<'_>]) -> bool
-    ensures { result ≡ list_any (λ dep. (dependency dep).conflict) deps.now }
-{
-    deps.iter().any(|dep| dep.conflict)
 }

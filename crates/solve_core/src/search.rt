@@ -46,13 +46,14 @@ struct Hint {
     place: usize,
 }
 
-/// A search under way.
+/// A search under way, with the set in which the reason of each dead end is made.
 #[derive(Drop)]
 pub(crate) struct Search<'p> {
     alloc: Global,
     chosen: Choices<'p>,
     turns: Vec<Turn>,
     hints: Vec<Option<Hint>>,
+    reason: CandidateSet,
 }
 
 impl<'p> Search<'p> {
@@ -68,6 +69,7 @@ impl<'p> Search<'p> {
             chosen,
             turns: Vec::new(alloc),
             hints: Vec::new(alloc),
+            reason: CandidateSet::new(alloc),
         })
     }
 
@@ -169,7 +171,7 @@ impl<'p> Search<'p> {
                         turn: self.turns.len(),
                         place: top.ruled_out().len(),
                     };
-                    remember(&mut self.hints, id, hint);
+                    remember(&mut self.hints, id, hint)?;
                     top.rule_out(id, others)?;
                 }
             }
@@ -208,7 +210,8 @@ impl<'p> Search<'p> {
             spent)) }
     {
         options_are_as_promised();
-        let found = reason_of(self.alloc, &spent)?;
+        let last = std::mem::replace(&mut self.reason, CandidateSet::new(self.alloc));
+        let found = reason_of(last, &spent)?;
         let members = &found;
         while let Some(turn) = self.turns.pop() {
             self.chosen.pop();
@@ -219,8 +222,9 @@ impl<'p> Search<'p> {
                     turn: self.turns.len(),
                     place: frame.ruled_out().len(),
                 };
-                remember(&mut self.hints, choice, hint);
+                remember(&mut self.hints, choice, hint)?;
                 frame.rule_out(choice, others)?;
+                self.reason = found;
                 return Ok(Some(frame));
             }
         }
@@ -229,19 +233,22 @@ impl<'p> Search<'p> {
 }
 
 // Remembers where an option is ruled out.
-fn remember(hints: &mut Vec<Option<Hint>>, id: CandId, hint: Hint) {
+fn remember(hints: &mut Vec<Option<Hint>>, id: CandId, hint: Hint) -> Result<(), AllocError> {
     let place = id.place as usize;
-    if place < hints.len() {
-        hints[place] = Some(hint);
+    while hints.len() <= place {
+        hints.push(None)?;
     }
+    hints[place] = Some(hint);
+    Ok(())
 }
 
 // The reason of a dead end: the choices that raised the need, and the other members of the reasons
-// of its options.
-fn reason_of(alloc: Global, spent: &Frame) -> Result<CandidateSet, AllocError>
+// of its options. It is made in a set that was used before, so that no marks are made anew.
+fn reason_of(used: CandidateSet, spent: &Frame) -> Result<CandidateSet, AllocError>
     ensures { IfOk result (λ members. HasSameMembers members (dead_end_reason spent.now)) }
 {
-    let mut members = CandidateSet::new(alloc);
+    let mut members = used;
+    members.clear();
     members.add_all(spent.by())?;
     for ruled_out in spent.ruled_out() {
         members.add_all(ruled_out.others())?;

@@ -25,6 +25,21 @@ carried law h h1 stage removals names writes new same P make = go h (law removal
     go (v ∷ earlier) starts = λ contents unread empty stand.
         make v contents (subst (λ (s : Staging). IsStaging s [] None v h h1) (sym new) (subst (λ (k : History). IsStaging (new_stage removals names) [] None v h k) (sym same) (starts unread empty))) stand
 
+-- the same, whatever the sources stand for
+pub carried_on : NewIsStaging → (h h1 : History) (stage : Staging) (removals names : List (List ℕ)) → stage ≡ new_stage removals names → h1 ≡ h → (P : TreeState → Type 0) → ((v : TreeState) → IsStaging stage [] None v h h1 → P v)
+    → IfObservable h (λ v. v.names intent_name ≡ None → IsEmptyStage (files_of v) → P v)
+carried_on law h h1 stage removals names new same P make = go h (law removals names h)
+  where
+    go : (k : History) → IfObservable k (λ v. v.names intent_name ≡ None → IsEmptyStage (files_of v) → IsStaging (new_stage removals names) [] None v h h)
+        → IfObservable k (λ v. v.names intent_name ≡ None → IsEmptyStage (files_of v) → P v)
+    go [] starts = tt
+    go (v ∷ earlier) starts = λ unread empty.
+        make v (subst (λ (s : Staging). IsStaging s [] None v h h1) (sym new) (subst (λ (k : History). IsStaging (new_stage removals names) [] None v h k) (sym same) (starts unread empty)))
+
+pub of_each : (h : History) (P : TreeState → Type 0) → ((v : TreeState) → P v) → IfObservable h P
+of_each [] P all = tt
+of_each (v ∷ earlier) P all = all v
+
 pub where_seen : (h : History) (v : TreeState) (A : Type 0) → HasNow h (λ w. w ≡ v) → IfObservable h (λ w. A) → A
 where_seen [] v A now a = absurd now
 where_seen (w ∷ earlier) v A now a = a

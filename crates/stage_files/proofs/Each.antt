@@ -5,7 +5,7 @@ use Rattle.base_core.specs.Files.{Files}
 use Rattle.base_core.specs.Tree.{TreeState, files_of}
 use Rattle.journal_core.specs.Staged.{HasRoomBeside, Staging}
 use Rattle.journal_core.proofs.History.{History}
-use Rattle.stage_files.specs.Sources.{StandForEach, StandsFor}
+use Rattle.stage_files.specs.Sources.{MayStandFor, MayStandForEach, StandForEach, StandsForBytes}
 use Rattle.stage_files.specs.declared.source.StagedWrite.{StagedWrite}
 use Rattle.stage_run.specs.StageRun.{IsStaging, IsStagingRun}
 
@@ -20,7 +20,7 @@ AreProperOn start writes old before now =
     (contents : List (List ℕ)) (v : TreeState) (first : List TreeState) → IsStaging start [] None v first old
     → StandForEach (files_of v) writes contents → HasRoomBeside (files_of v) → now ≡ before
 
-take_next : (xs : List (List ℕ)) (i : ℕ) (x : List ℕ) → slice_get xs i ≡ Some x → take (i + 1) xs ≡ take i xs ++ x ∷ []
+take_next : {A : Type 0} (xs : List A) (i : ℕ) (x : A) → slice_get xs i ≡ Some x → take (i + 1) xs ≡ take i xs ++ x ∷ []
 take_next [] i x e = cc
 take_next (y ∷ xs) zero x e = cc
 take_next (y ∷ xs) (suc i) x e =
@@ -44,32 +44,32 @@ within (x ∷ ws) (suc i) w e = let more = within ws i w e in omega (arith, more
 
 -- the bytes of the next write
 pub bytes_next : (files : Files) (writes : List StagedWrite) (contents : List (List ℕ)) (i : ℕ) (w : StagedWrite) → slice_get writes i ≡ Some w → StandForEach files writes contents
-    → (bytes : List ℕ) × (slice_get contents i ≡ Some bytes) × StandsFor files w.source bytes
+    → (bytes : List ℕ) × (slice_get contents i ≡ Some bytes) × StandsForBytes files w.source bytes
 bytes_next files writes contents i w at stand =
     let found = some_at contents i (let less = within writes i w at in let same = stand.same in omega (arith, less, same)) in
     (found.0, found.1, stand.each i w found.0 at found.1)
 
 module _ (start stage next : Staging) (writes : List StagedWrite) (i : ℕ) (w : StagedWrite) (at : slice_get writes i ≡ Some w) (old now later : History) (so_far : AreStagedOn start stage writes i old now) where
-  pub each_run : ((contents : List (List ℕ)) (v : TreeState) (first : List TreeState) (bytes : List ℕ) → IsStaging stage contents None v first now → StandsFor (files_of v) w.source bytes → IsStagingRun v first later)
+  pub each_run : ((contents : List (List ℕ)) (v : TreeState) (first : List TreeState) (bytes : List ℕ) → IsStaging stage contents None v first now → StandsForBytes (files_of v) w.source bytes → IsStagingRun v first later)
       → (contents : List (List ℕ)) (v : TreeState) (first : List TreeState) → IsStaging start [] None v first old → StandForEach (files_of v) writes contents → IsStagingRun v first later
   each_run run contents v first staging stand =
       let (bytes, is, source) = bytes_next (files_of v) writes contents i w at stand in
       run (take i contents) v first bytes (so_far contents v first staging stand) source
 
-  pub each_more : ((contents : List (List ℕ)) (v : TreeState) (first : List TreeState) (bytes : List ℕ) → IsStaging stage contents None v first now → StandsFor (files_of v) w.source bytes → IsStaging next (contents ++ bytes ∷ []) None v first later)
+  pub each_more : ((contents : List (List ℕ)) (v : TreeState) (first : List TreeState) (bytes : List ℕ) → IsStaging stage contents None v first now → StandsForBytes (files_of v) w.source bytes → IsStaging next (contents ++ bytes ∷ []) None v first later)
       → AreStagedOn start next writes (i + 1) old later
   each_more staged contents v first staging stand =
       let (bytes, is, source) = bytes_next (files_of v) writes contents i w at stand in
       subst (λ (l : List (List ℕ)). IsStaging next l None v first later) (sym (take_next contents i bytes is)) (staged (take i contents) v first bytes (so_far contents v first staging stand) source)
 
   pub each_proper : (before between after : ℕ) → AreProperOn start writes old before between
-      → ((contents : List (List ℕ)) (v : TreeState) (first : List TreeState) (bytes : List ℕ) → IsStaging stage contents None v first now → StandsFor (files_of v) w.source bytes → HasRoomBeside (files_of v) → after ≡ between)
+      → ((contents : List (List ℕ)) (v : TreeState) (first : List TreeState) (bytes : List ℕ) → IsStaging stage contents None v first now → StandsForBytes (files_of v) w.source bytes → HasRoomBeside (files_of v) → after ≡ between)
       → AreProperOn start writes old before after
   each_proper before between after proper one contents v first staging stand room =
       let (bytes, is, source) = bytes_next (files_of v) writes contents i w at stand in
       one (take i contents) v first bytes (so_far contents v first staging stand) source room ∙ proper contents v first staging stand room
 
-  pub each_good : (P : Type 0) → ((contents : List (List ℕ)) (v : TreeState) (first : List TreeState) (bytes : List ℕ) → IsStaging stage contents None v first now → StandsFor (files_of v) w.source bytes → P)
+  pub each_good : (P : Type 0) → ((contents : List (List ℕ)) (v : TreeState) (first : List TreeState) (bytes : List ℕ) → IsStaging stage contents None v first now → StandsForBytes (files_of v) w.source bytes → P)
       → (contents : List (List ℕ)) (v : TreeState) (first : List TreeState) → IsStaging start [] None v first old → StandForEach (files_of v) writes contents → P
   each_good P good contents v first staging stand =
       let (bytes, is, source) = bytes_next (files_of v) writes contents i w at stand in
@@ -83,3 +83,37 @@ pub all_staged : (start stage : Staging) (writes : List StagedWrite) (i : ℕ) (
 all_staged start stage writes i old now past staged contents v first staging stand =
     let same = stand.same in
     subst (λ (l : List (List ℕ)). IsStaging stage l None v first now) (take_all i contents (omega (arith, past, same))) (staged contents v first staging stand)
+
+-- ---- whatever the packages hold
+
+-- so many of the writes have files with bytes that their sources may stand for
+abbrev pub AreListedOn : Staging → Staging → List StagedWrite → ℕ → History → History → Type 0
+AreListedOn start stage writes count old now =
+    (v : TreeState) (first : List TreeState) → IsStaging start [] None v first old
+    → (contents : List (List ℕ)) × MayStandForEach (take count writes) contents × IsStaging stage contents None v first now
+
+may_more : (ws : List StagedWrite) (contents : List (List ℕ)) (w : StagedWrite) (bytes : List ℕ) → MayStandForEach ws contents → MayStandFor w.source bytes → MayStandForEach (ws ++ w ∷ []) (contents ++ bytes ∷ [])
+may_more [] [] w bytes may is = (is, tt)
+may_more [] (own ∷ contents) w bytes may is = absurd may
+may_more (x ∷ ws) [] w bytes may is = absurd may
+may_more (x ∷ ws) (own ∷ contents) w bytes may is = (may.0, may_more ws contents w bytes may.1 is)
+
+pub none_listed : (start : Staging) (writes : List StagedWrite) (old : History) → AreListedOn start start writes 0 old old
+none_listed start writes old v first staging = ([], tt, staging)
+
+pub listed_next : (start stage next : Staging) (writes : List StagedWrite) (i : ℕ) (w : StagedWrite) (old now later : History) → slice_get writes i ≡ Some w → AreListedOn start stage writes i old now
+    → ((contents : List (List ℕ)) (v : TreeState) (first : List TreeState) → IsStaging stage contents None v first now → (bytes : List ℕ) × MayStandFor w.source bytes × IsStaging next (contents ++ bytes ∷ []) None v first later)
+    → AreListedOn start next writes (i + 1) old later
+listed_next start stage next writes i w old now later at listed one v first staging =
+    let so_far = listed v first staging in
+    let found = one so_far.0 v first so_far.2 in (
+      so_far.0 ++ found.0 ∷ [],
+      subst (λ (ws : List StagedWrite). MayStandForEach ws (so_far.0 ++ found.0 ∷ [])) (sym (take_next writes i w at)) (may_more (take i writes) so_far.0 w found.0 so_far.1 found.1),
+      found.2,
+    )
+
+pub all_listed : (start stage : Staging) (writes : List StagedWrite) (i : ℕ) (old now : History) → length writes ≤ i → AreListedOn start stage writes i old now
+    → (v : TreeState) (first : List TreeState) → IsStaging start [] None v first old → (contents : List (List ℕ)) × MayStandForEach writes contents × IsStaging stage contents None v first now
+all_listed start stage writes i old now past listed v first staging =
+    let found = listed v first staging in
+    (found.0, subst (λ (ws : List StagedWrite). MayStandForEach ws found.0) (take_all i writes past) found.1, found.2)

@@ -1,5 +1,6 @@
 -- A file of a package is read while others come to wait.
-use Rattle.std.proofs.Common.{◌≡◌, ℕ, List, ap, sym, subst, ◌∙◌, Bor}
+use Rattle.std.proofs.Common.{◌≡◌, ℕ, List, Result, Ok, Err, refl, ap, sym, subst, ◌∙◌, Bor}
+use Rattle.std.specs.Prelude.{OnOk}
 use Rattle.base_core.specs.Files.{Files}
 use Rattle.package_test.specs.Tested.{IsTestedOf, tested_len, tested_name}
 use Rattle.piece_reader.specs.FileReading.{IsFileReading, len_around_file, package_of_file}
@@ -7,7 +8,7 @@ use Rattle.piece_reader.specs.declared.one_file.FilePieces.{FilePieces}
 use Rattle.pkg_core.specs.Contents.{bytes_of_file, contents_in}
 use Rattle.pkg_core.specs.Whole.{files_in_file}
 use Rattle.stage_files.specs.Reading.{IsReadingIn}
-use Rattle.stage_files.specs.Sources.{IsFileSource, StandsFor}
+use Rattle.stage_files.specs.Sources.{AreListedFor, IsFileSource, MayStandFor, StandsForBytes}
 use Rattle.stage_files.specs.declared.source.PackagedFile.{PackagedFile}
 use Rattle.stage_files.specs.declared.source.Source.{Source}
 use Rattle.stage_files.specs.declared.source.Source.TheVariants.{Bytes, File, Link}
@@ -26,11 +27,23 @@ source_reading files f bytes file name len reading s = record {
 
 -- ---- what a source is
 
-pub given_stands : (files : Files) (source : Source) (own : Bor (List ℕ)) (bytes : List ℕ) → source ≡ Bytes own → StandsFor files source bytes → bytes ≡ own.now
-given_stands files source own bytes is s = subst (λ (x : Source). StandsFor files x bytes) is s
+pub given_stands : (files : Files) (source : Source) (own : Bor (List ℕ)) (bytes : List ℕ) → source ≡ Bytes own → StandsForBytes files source bytes → bytes ≡ own.now
+given_stands files source own bytes is s = subst (λ (x : Source). StandsForBytes files x bytes) is s
 
-pub link_stands : (files : Files) (source : Source) (target : Bor (List ℕ)) (bytes : List ℕ) → source ≡ Link target → StandsFor files source bytes → bytes ≡ link_to target.now
-link_stands files source target bytes is s = subst (λ (x : Source). StandsFor files x bytes) is s
+pub link_stands : (files : Files) (source : Source) (target : Bor (List ℕ)) (bytes : List ℕ) → source ≡ Link target → StandsForBytes files source bytes → bytes ≡ link_to target.now
+link_stands files source target bytes is s = subst (λ (x : Source). StandsForBytes files x bytes) is s
 
-pub file_stands : (files : Files) (source : Source) (f : PackagedFile) (bytes : List ℕ) → source ≡ File f → StandsFor files source bytes → IsFileSource files f bytes
-file_stands files source f bytes is s = subst (λ (x : Source). StandsFor files x bytes) is s
+pub file_stands : (files : Files) (source : Source) (f : PackagedFile) (bytes : List ℕ) → source ≡ File f → StandsForBytes files source bytes → IsFileSource files f bytes
+file_stands files source f bytes is s = subst (λ (x : Source). StandsForBytes files x bytes) is s
+
+-- ---- what a source may be
+
+pub given_listed : (source : Source) (own : Bor (List ℕ)) (Waits : List ℕ → Type 0) → source ≡ Bytes own → Waits own.now → (bytes : List ℕ) × MayStandFor source bytes × Waits bytes
+given_listed source own Waits is waits = (own.now, subst (λ (x : Source). MayStandFor x own.now) (sym is) refl, waits)
+
+pub link_listed : (source : Source) (target : Bor (List ℕ)) (Waits : List ℕ → Type 0) → source ≡ Link target → Waits (link_to target.now) → (bytes : List ℕ) × MayStandFor source bytes × Waits bytes
+link_listed source target Waits is waits = (link_to target.now, subst (λ (x : Source). MayStandFor x (link_to target.now)) (sym is) refl, waits)
+
+pub file_listed : {A E : Type 0} (r : Result A E) (source : Source) (f : PackagedFile) (Waits : List ℕ → Type 0) → source ≡ File f → OnOk r ((bytes : List ℕ) × AreListedFor f bytes × Waits bytes) → OnOk r ((bytes : List ℕ) × MayStandFor source bytes × Waits bytes)
+file_listed (Ok x) source f Waits is found = (found.0, subst (λ (s : Source). MayStandFor s found.0) (sym is) found.1, found.2)
+file_listed (Err e) source f Waits is found = tt

@@ -11,10 +11,11 @@ use Rattle.journal_core.specs.Recovery.{is_staged}
 use Rattle.journal_core.specs.Staged.{HasRoomBeside, IsEmptyStage, Staging}
 use Rattle.journal_core.proofs.Chain.{by_now}
 use Rattle.journal_core.proofs.History.{History, now_map, now_since}
-use Rattle.piece_reader.specs.FileReading.{GivesBytes, IsFileReading, len_around_file, package_of_file}
+use Rattle.piece_reader.specs.FileReading.{AreAsDue, ComesBehind, GivesBytes, HaveCome, IsFileReading, file_due, len_around_file, package_of_file}
 use Rattle.piece_reader.specs.declared.fault.PieceFault.{PieceFault}
 use Rattle.piece_reader.specs.declared.fault.PieceFault.TheVariants.{Bad, Disk}
 use Rattle.piece_reader.specs.declared.one_file.FilePieces.{FilePieces}
+use Rattle.pkg_core.specs.Contents.{Expected}
 use Rattle.pkg_pieces.specs.Seen.{IsSoLong}
 use Rattle.stage_run.specs.StageRun.{IsReadButWaiting, IsStaging, IsStagingRun}
 use Rattle.stage_run.proofs.Joins.{start_is}
@@ -124,6 +125,36 @@ module _ (start stage : Staging) (whole file next : FilePieces) (piece : List �
         let ended = subst (GivesBytes (IsFileReading next half.reading.pkg) half.left piece) is (given contents v first bytes half) in
         let all : bytes ≡ half.so_far = half.parts ∙ ap (λ l. half.so_far ++ l) ended.0 ∙ append-nil half.so_far in
         subst (λ (b : List ℕ). IsStaging stage contents (Some b) v first now) (sym all) half.staging
+
+-- ---- whatever the package holds
+
+-- just the bytes wait that came
+abbrev pub IsListedOn : Staging → Staging → FilePieces → FilePieces → History → History → Type 0
+IsListedOn start stage whole file old now =
+    HaveCome whole [] → (contents : List (List ℕ)) (v : TreeState) (first : List TreeState) → IsStaging start contents None v first old
+    → (so_far : List ℕ) × HaveCome file so_far × IsStaging stage contents (Some so_far) v first now
+
+pub begun_listed : (start stage : Staging) (whole : FilePieces) (old now : History)
+    → ((contents : List (List ℕ)) (v : TreeState) (first : List TreeState) → IsStaging start contents None v first old → IsStaging stage contents (Some []) v first now)
+    → IsListedOn start stage whole whole old now
+begun_listed start stage whole old now begun come contents v first staging = ([], come, begun contents v first staging)
+
+module _ (start stage : Staging) (whole file next : FilePieces) (piece : List ℕ) (old now later : History) (result : Result Bool PieceFault)
+    (listed : IsListedOn start stage whole file old now) (tested : (so_far : List ℕ) → HaveCome file so_far → ComesBehind file so_far piece result next) where
+  pub listed_more : (grown : Staging) → result ≡ Ok true
+      → ((contents : List (List ℕ)) (so_far : List ℕ) (v : TreeState) (first : List TreeState) → IsStaging stage contents (Some so_far) v first now → IsStaging grown contents (Some (so_far ++ piece)) v first later)
+      → IsListedOn start grown whole next old later
+  listed_more grown is appended come contents v first staging =
+      let (so_far, came, half) = listed come contents v first staging in
+      let behind = subst (λ (r : Result Bool PieceFault). ComesBehind file so_far piece r next) is (tested so_far came) in
+      (so_far ++ piece, behind.1, appended contents so_far v first half)
+
+  pub listed_whole : file_due file ≡ file_due whole → result ≡ Ok false → HaveCome whole [] → (contents : List (List ℕ)) (v : TreeState) (first : List TreeState) → IsStaging start contents None v first old
+      → (bytes : List ℕ) × AreAsDue (file_due whole) bytes × IsStaging stage contents (Some bytes) v first now
+  listed_whole due is come contents v first staging =
+      let (so_far, came, half) = listed come contents v first staging in
+      let behind = subst (λ (r : Result Bool PieceFault). ComesBehind file so_far piece r next) is (tested so_far came) in
+      (so_far, subst (λ (d : Option Expected). AreAsDue d so_far) due behind.1, half)
 
 -- ---- the first and the last call
 

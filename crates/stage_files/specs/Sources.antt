@@ -1,9 +1,11 @@
 -- Which bytes stand behind what is to be staged.
-use Rattle.std.specs.Prelude.{◌≡◌, ℕ, List, Some, length, slice_get}
+use Rattle.std.specs.Prelude.{◌≡◌, ℕ, List, [], ◌∷◌, Some, length, slice_get}
 use Rattle.base_core.specs.Files.{Files}
 use Rattle.file_guard.specs.AsListed.{link_to}
-use Rattle.package_test.specs.Tested.{IsTestedOf}
-use Rattle.pkg_core.specs.Contents.{bytes_of_file, contents_in}
+use Rattle.package_test.specs.Tested.{IsTestedOf, tested_value}
+use Rattle.piece_reader.specs.FileReading.{AreAsDue}
+use Rattle.pkg_core.specs.Contents.{bytes_of_file, contents_in, expected_contents}
+use Rattle.pkg_core.specs.Opened.{expected_with_positions}
 use Rattle.pkg_core.specs.Whole.{files_in_file}
 use Rattle.stage_files.specs.declared.source.PackagedFile.{PackagedFile}
 use Rattle.stage_files.specs.declared.source.Source.{Source}
@@ -21,10 +23,23 @@ pub record IsFileSource (files : Files) (f : PackagedFile) (bytes : List ℕ) : 
   pub is : bytes ≡ bytes_of_file f.folder f.file (contents_in (files_in_file pkg))
 
 -- over these files it stands for these bytes
-abbrev pub StandsFor : Files → Source → List ℕ → Type 0
-StandsFor files (Bytes own) bytes = bytes ≡ own.now
-StandsFor files (Link target) bytes = bytes ≡ link_to target.now
-StandsFor files (File f) bytes = IsFileSource files f bytes
+abbrev pub StandsForBytes : Files → Source → List ℕ → Type 0
+StandsForBytes files (Bytes own) bytes = bytes ≡ own.now
+StandsForBytes files (Link target) bytes = bytes ≡ link_to target.now
+StandsForBytes files (File f) bytes = IsFileSource files f bytes
+
+-- the bytes have the size and the digest that the package's value lists for its file; none where it
+-- lists no contents
+abbrev pub AreListedFor : PackagedFile → List ℕ → Type 0
+AreListedFor f bytes =
+    AreAsDue (expected_with_positions f.folder f.file (expected_contents (tested_value f.package.now)))
+    bytes
+
+-- over whatever files: it may stand for these bytes
+abbrev pub MayStandFor : Source → List ℕ → Type 0
+MayStandFor (Bytes own) bytes = bytes ≡ own.now
+MayStandFor (Link target) bytes = bytes ≡ link_to target.now
+MayStandFor (File f) bytes = AreListedFor f bytes
 
 -- it is a file of the package at this place
 abbrev pub IsFileAt : ℕ → Source → Type 0
@@ -39,7 +54,15 @@ pub record StandForEach (files : Files) (writes : List StagedWrite) (contents : 
     Type 0 where
   pub same : length contents ≡ length writes
   pub each : (i : ℕ) (w : StagedWrite) (bytes : List ℕ) → slice_get writes i ≡ Some w
-      → slice_get contents i ≡ Some bytes → StandsFor files w.source bytes
+      → slice_get contents i ≡ Some bytes → StandsForBytes files w.source bytes
+
+-- the source of each may stand for the bytes at its place
+abbrev pub MayStandForEach : List StagedWrite → List (List ℕ) → Type 0
+MayStandForEach [] [] = Unit {0}
+MayStandForEach [] (bytes ∷ others) = ⊥
+MayStandForEach (w ∷ writes) [] = ⊥
+MayStandForEach (w ∷ writes) (bytes ∷ others) =
+    MayStandFor w.source bytes × MayStandForEach writes others
 
 -- one of them is a file of the package at this place
 pub record HasFileOf (member : ℕ) (writes : List StagedWrite) : Type 0 where

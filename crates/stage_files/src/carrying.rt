@@ -8,9 +8,9 @@ ghost use Rattle.base_core.specs.declared.cause.Cause.{Cause};
 ghost use Rattle.journal_core.specs.Recovery.{after_actions, intent_name};
 ghost use Rattle.journal_core.specs.Staged.{HasRoomBeside, IsEmptyStage, new_stage, with_staged};
 ghost use Rattle.stage_files.specs.Carried.{IsCarriedTo};
-ghost use Rattle.stage_files.specs.Sources.{HasFileOf, StandForEach};
+ghost use Rattle.stage_files.specs.Sources.{HasFileOf, MayStandForEach, StandForEach};
 ghost use Rattle.stage_files.specs.declared.fault.StageFault.TheVariants.{Bad, Disk as DiskFault};
-ghost use Rattle.stage_run.specs.StageRun.{IsStaging, IsStagingRun};
+ghost use Rattle.stage_run.specs.StageRun.{IsStageRunDone, IsStaging, IsStagingRun};
 
 use crate::fault::StageFault;
 use crate::source::StagedWrite;
@@ -64,6 +64,10 @@ fn stage_each<T: Tree>(
         → IsStaging stage.old [] None v first (T.history tree.old)
         → StandForEach (files_of v) writes.now contents
         → IfErr result (λ fault. fault ≡ DiskFault) }
+    ensures listed { (v : TreeState) (first : List TreeState)
+        → IsStaging stage.old [] None v first (T.history tree.old)
+        → OnOk result ((contents : List (List ℕ)) × MayStandForEach writes.now contents
+        × IsStaging stage.new contents None v first (T.history tree.new)) }
     ensures bad { (member : ℕ) (cause : Cause) → IsErrOf result (Bad member cause)
         → HasFileOf member writes.now }
     ensures view { OnOk result (stage.new ≡ record stage.old { staged = length writes.now }) }
@@ -106,6 +110,13 @@ pub fn carry_out<T: Tree>(
         → StandForEach (files_of v) writes.now contents
         → IsCarriedTo (after_actions stage.old.intent (with_staged 1 contents (files_of v)))
         v (T.history tree.old) (T.history tree.new) result) }
+    // Whatever else the tree shows then: it has come to files with bytes that the sources may stand
+    // for, so those of a package have the size and the digest that its value lists.
+    ensures listed { IfObservable (T.history tree.old) (λ v.
+        v.names intent_name ≡ None → IsEmptyStage (files_of v)
+        → OnOk result ((contents : List (List ℕ)) × MayStandForEach writes.now contents
+        × IsStageRunDone (after_actions stage.old.intent (with_staged 1 contents (files_of v)))
+        v (T.history tree.new))) }
     ensures bad { (member : ℕ) (cause : Cause) → IsErrOf result (Bad member cause)
         → HasFileOf member writes.now }
     ensures goes_on { GoesOn (T.counts tree.old) (T.counts tree.new) }

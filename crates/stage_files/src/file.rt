@@ -3,6 +3,7 @@ ghost use Rattle.std.specs.Prelude.{◌≡◌, ◌<◌, ◌+◌, ◌++◌, ◌�
 ghost use Rattle.base_core.specs.Faults.{GoesOn, HasCause, IsNoFault};
 ghost use Rattle.base_core.specs.Tree.{TreeState, files_of};
 ghost use Rattle.journal_core.specs.Staged.{HasRoomBeside};
+ghost use Rattle.piece_reader.specs.FileReading.{AreAsDue, HaveCome, file_due};
 ghost use Rattle.piece_reader.specs.declared.fault.PieceFault.TheVariants.{Disk as DiskFault};
 ghost use Rattle.stage_files.specs.Reading.{IsReadingIn};
 ghost use Rattle.stage_run.specs.StageRun.{IsStaging, IsStagingRun};
@@ -40,6 +41,12 @@ pub(crate) fn stage_file<T: Tree>(
         (bytes : List ℕ) → IsStaging stage.old contents None v first (T.history tree.old)
         → IsReadingIn (files_of v) file.entry bytes
         → IfErr result (λ fault. fault ≡ DiskFault) }
+    // Whatever the tree shows of the package: bytes wait that have the size and the digest that are
+    // due.
+    ensures listed { HaveCome file.entry [] → (contents : List (List ℕ)) (v : TreeState)
+        (first : List TreeState) → IsStaging stage.old contents None v first (T.history tree.old)
+        → OnOk result ((bytes : List ℕ) × AreAsDue (file_due file.entry) bytes
+        × IsStaging stage.new (contents ++ bytes ∷ []) None v first (T.history tree.new)) }
     ensures view { OnOk result (stage.new ≡ record stage.old { staged = stage.old.staged + 1 }) }
     ensures goes_on { GoesOn (T.counts tree.old) (T.counts tree.new) }
     ensures disk { IsErrOf result DiskFault → HasCause (T.counts tree.old) (T.counts tree.new) }

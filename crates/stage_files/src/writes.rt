@@ -6,7 +6,7 @@ ghost use Rattle.base_core.specs.Tree.{TreeState, files_of};
 ghost use Rattle.base_core.specs.declared.cause.Cause.{Cause};
 ghost use Rattle.file_guard.specs.AsListed.{link_to};
 ghost use Rattle.journal_core.specs.Staged.{HasRoomBeside};
-ghost use Rattle.stage_files.specs.Sources.{HasFileOf, IsFileAt, IsFileSource, StandForEach, StandsFor};
+ghost use Rattle.stage_files.specs.Sources.{AreListedFor, IsFileAt, IsFileSource, MayStandFor, StandsForBytes};
 ghost use Rattle.stage_files.specs.declared.fault.StageFault.TheVariants.{Bad, Disk as DiskFault};
 ghost use Rattle.stage_run.specs.StageRun.{IsStaging, IsStagingRun};
 
@@ -81,6 +81,10 @@ fn stage_packaged<T: Tree>(
     ensures good { (contents : List (List ℕ)) (v : TreeState) (first : List TreeState)
         (bytes : List ℕ) → IsStaging stage.old contents None v first (T.history tree.old)
         → IsFileSource (files_of v) f.now bytes → IfErr result (λ fault. fault ≡ DiskFault) }
+    ensures listed { (contents : List (List ℕ)) (v : TreeState) (first : List TreeState)
+        → IsStaging stage.old contents None v first (T.history tree.old)
+        → OnOk result ((bytes : List ℕ) × AreListedFor f.now bytes
+        × IsStaging stage.new (contents ++ bytes ∷ []) None v first (T.history tree.new)) }
     ensures bad { (member : ℕ) (cause : Cause) → IsErrOf result (Bad member cause)
         → f.now.member ≡ member }
     ensures view { OnOk result (stage.new ≡ record stage.old { staged = stage.old.staged + 1 }) }
@@ -116,15 +120,19 @@ pub(crate) fn stage_write<T: Tree>(
     requires more { stage.old.staged < length stage.old.intent.writes }
     ensures run { (contents : List (List ℕ)) (v : TreeState) (first : List TreeState)
         (bytes : List ℕ) → IsStaging stage.old contents None v first (T.history tree.old)
-        → StandsFor (files_of v) source.now bytes → IsStagingRun v first (T.history tree.new) }
+        → StandsForBytes (files_of v) source.now bytes → IsStagingRun v first (T.history tree.new) }
     ensures staging { (contents : List (List ℕ)) (v : TreeState) (first : List TreeState)
         (bytes : List ℕ) → IsStaging stage.old contents None v first (T.history tree.old)
-        → StandsFor (files_of v) source.now bytes
+        → StandsForBytes (files_of v) source.now bytes
         → OnOk result (IsStaging stage.new (contents ++ bytes ∷ []) None v first
         (T.history tree.new)) }
     ensures good { (contents : List (List ℕ)) (v : TreeState) (first : List TreeState)
         (bytes : List ℕ) → IsStaging stage.old contents None v first (T.history tree.old)
-        → StandsFor (files_of v) source.now bytes → IfErr result (λ fault. fault ≡ DiskFault) }
+        → StandsForBytes (files_of v) source.now bytes → IfErr result (λ fault. fault ≡ DiskFault) }
+    ensures listed { (contents : List (List ℕ)) (v : TreeState) (first : List TreeState)
+        → IsStaging stage.old contents None v first (T.history tree.old)
+        → OnOk result ((bytes : List ℕ) × MayStandFor source.now bytes
+        × IsStaging stage.new (contents ++ bytes ∷ []) None v first (T.history tree.new)) }
     ensures bad { (member : ℕ) (cause : Cause) → IsErrOf result (Bad member cause)
         → IsFileAt member source.now }
     ensures view { OnOk result (stage.new ≡ record stage.old { staged = stage.old.staged + 1 }) }
@@ -135,7 +143,7 @@ pub(crate) fn stage_write<T: Tree>(
         → IsNoFault (T.counts tree.old) (T.counts tree.new)) }
     ensures proper { (contents : List (List ℕ)) (v : TreeState) (first : List TreeState)
         (bytes : List ℕ) → IsStaging stage.old contents None v first (T.history tree.old)
-        → StandsFor (files_of v) source.now bytes → HasRoomBeside (files_of v)
+        → StandsForBytes (files_of v) source.now bytes → HasRoomBeside (files_of v)
         → (T.counts tree.new).misuses ≡ (T.counts tree.old).misuses }
 {
     match source {

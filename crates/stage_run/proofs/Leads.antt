@@ -5,13 +5,13 @@ use Rattle.base_core.specs.Crash.{IsOrderly, Since}
 use Rattle.base_core.specs.Files.{Files}
 use Rattle.base_core.specs.Restart.{EachMoment, SinceBy}
 use Rattle.base_core.specs.Tree.{TreeState, File, bytes_at, files_of}
-use Rattle.journal_core.specs.Kept.{IsInNoMap, KeepsFilesBut, KeepsMapsBut, RecoversTo, ShownNamesLast}
+use Rattle.journal_core.specs.Kept.{HasOldOrNewBytes, IsInNoMap, KeepsFilesBut, KeepsMapsBut, KeepsOldOrNewBytes, RecoversTo, ShownNamesLast}
 use Rattle.journal_core.specs.Quiet.{IsStill}
 use Rattle.journal_core.specs.Recovery.{Intent, IsSettled, RestsOn, after_actions, intent_at, intent_name, stage_name}
 use Rattle.journal_core.specs.Staged.{HasPublished, IsActing, IsEmptyStage, IsOnTheWay, IsStaged, PublishedBy, Staging}
 use Rattle.journal_core.proofs.Between.{no_intent_read}
 use Rattle.journal_core.proofs.Chain.{by_now, now_both}
-use Rattle.journal_core.proofs.History.{History, now_map, now_since, observable_map, since_on, since_weaker}
+use Rattle.journal_core.proofs.History.{History, now_map, now_since, observable_at, observable_map, on_observable, since_on, since_weaker}
 use Rattle.journal_core.proofs.Lasting.{some_none}
 use Rattle.journal_core.proofs.OnTheWay.{way_behind}
 use Rattle.journal_intent.specs.FreeNames.{HasFreeNames}
@@ -19,7 +19,7 @@ use Rattle.stage_run.specs.StageRun.{IsReadInChange, IsStageRun, IsStageRunDone,
 use Rattle.stage_run.proofs.Empty.{change_empties}
 use Rattle.stage_run.proofs.Joins.{now_of, since_and}
 use Rattle.stage_run.proofs.Waits.{none_entering, shown_last}
-use Rattle.stage_run.proofs.Ways.{G, Lasts, Reads, Waits, Way, read_behind, read_entering, run_led, same_files, still_now}
+use Rattle.stage_run.proofs.Ways.{G, Lasts, Reads, Waits, Way, entered_bytes, read_behind, read_entering, run_led, same_files, still_now}
 
 way_now : (ignored : List ℕ → Bool) (files : Files) (u : TreeState) (added old : History) → HasPublished ignored files u.made added → EachMoment (IsOnTheWay ignored files u) added → HasNow (added ++ old) (λ x. IsOrderly (RestsOn ignored) x × (u.made ≤ x.made))
 way_now ignored files u [] old published each = absurd published
@@ -129,12 +129,19 @@ module _ (stage : Staging) (contents : List (List ℕ)) (v : TreeState) (first m
       abbrev pub EnactReads : Type 0
       EnactReads = IfObservable now (λ x. (files : Files) → IsActing next files x → Since (RecoversTo files) now new)
 
-      enact_reads : PublishReads → PublishOthers → EnactReads → Reads stage contents v first mid s new
-      enact_reads reads others more = observable_map mid _ (λ u. W u → Since (IsReadInChange H (files_of u)) mid new) (publish_reads reads others) (λ u t waits.
-          since_on (IsReadInChange H (files_of u)) mid now new (t waits)
-          (by_now now Acts (Since (IsReadInChange H (files_of u)) now new) acts_now
-          (observable_map now _ (λ x. Acts x → Since (IsReadInChange H (files_of u)) now new) more (λ x k acts.
-          since_weaker (RecoversTo H) (IsReadInChange H (files_of u)) now new (λ w. read_behind H (files_of u) (empty u waits) w) (k H acts)))))
+      abbrev pub EnactBytes : Type 0
+      EnactBytes = IfObservable now (λ x. (files : Files) → IsActing next files x → KeepsOldOrNewBytes files x now new)
+
+      enact_reads : PublishReads → PublishOthers → EnactReads → EnactBytes → Reads stage contents v first mid s new
+      enact_reads reads others more bytes = on_observable mid (λ u. W u → Since (IsReadInChange H (files_of u)) mid new) (λ u rest is waits.
+          let Keeps = KeepsFilesBut (λ q. (q ≡ intent_name) ⊎ (q ≡ stage_name 0)) u in
+          let keeps = observable_at mid u rest is (λ x. Since (KeepsFilesBut (λ q. (q ≡ intent_name) ⊎ (q ≡ stage_name 0)) x) mid now) others in
+          since_on (IsReadInChange H (files_of u)) mid now new
+          (observable_at mid u rest is (λ x. W x → Since (IsReadInChange H (files_of x)) mid now) (publish_reads reads others) waits)
+          (by_now now (λ x. Acts x × Keeps x) (Since (IsReadInChange H (files_of u)) now new) (now_both now Acts Keeps acts_now (now_since Keeps mid now u rest is (λ q off. refl) keeps))
+          (both now _ _ (λ x. Acts x × Keeps x → Since (IsReadInChange H (files_of u)) now new) more bytes (λ x k b q.
+          since_weaker (λ w. RecoversTo H w × HasOldOrNewBytes (files_of u) H w) (IsReadInChange H (files_of u)) now new (λ w r. read_behind H (files_of u) (empty u waits) w r.0 r.1)
+          (since_and (RecoversTo H) (HasOldOrNewBytes (files_of u) H) now new (k H q.0) (b H q.0 (files_of u) (entered_bytes H u x q.1)))))))
 
       abbrev pub EnactLasts : Type 0
       EnactLasts = IfObservable now (λ x. IsSome (x.names intent_name) → Since LastsUnread now new)
@@ -151,8 +158,8 @@ module _ (stage : Staging) (contents : List (List ℕ)) (v : TreeState) (first m
       enact_lasts : PublishMaps → EnactLasts → Lasts stage contents v first mid s new
       enact_lasts maps more = observable_map mid _ (λ u. W u → ShownNamesLast u → Since LastsUnread mid new) (publish_lasts maps) (λ u t waits last. since_on LastsUnread mid now new (t waits last) (more_lasts more))
 
-      pub enact_run : PublishReads → PublishOthers → PublishMaps → EnactMoments → EnactReads → EnactLasts → IsStageRun H v first new
-      enact_run reads others maps moments more lasts = run_led stage contents v first mid s new (enact_way moments) (enact_reads reads others more) (enact_lasts maps lasts)
+      pub enact_run : PublishReads → PublishOthers → PublishMaps → EnactMoments → EnactReads → EnactBytes → EnactLasts → IsStageRun H v first new
+      enact_run reads others maps moments more bytes lasts = run_led stage contents v first mid s new (enact_way moments) (enact_reads reads others more bytes) (enact_lasts maps lasts)
 
       -- ---- and its end
 

@@ -6,7 +6,7 @@ use Rattle.base_core.specs.Crash.{IsOrderly, Since}
 use Rattle.base_core.specs.Files.{Files}
 use Rattle.base_core.specs.Restart.{EachMoment, SinceBy}
 use Rattle.base_core.specs.Tree.{TreeState, bytes_at, files_of}
-use Rattle.journal_core.specs.Kept.{KeepsFilesBut, RecoversTo, ShownNamesLast}
+use Rattle.journal_core.specs.Kept.{HasOldOrNewBytes, IsWaitingName, KeepsFilesBut, RecoversTo, ShownNamesLast}
 use Rattle.journal_core.specs.Quiet.{IsStill}
 use Rattle.journal_core.specs.Recovery.{RestsOn, after_actions, intent_at, intent_name, is_staged, recovered_files, recovered_files_by, stage_name}
 use Rattle.journal_core.specs.Staged.{IsEmptyStage, IsOnTheWay, IsStaged, Staging, unstaged_files, with_staged}
@@ -16,6 +16,7 @@ use Rattle.journal_core.proofs.OnTheWay.{way_before}
 use Rattle.journal_core.proofs.Published.{since_by, still_on_the_way}
 use Rattle.journal_core.proofs.Waiting.{still_self}
 use Rattle.journal_intent.proofs.AtName.{name_cases, off_name}
+use Rattle.journal_intent.proofs.StageNames.{stage_name_staged}
 use Rattle.stage_run.specs.StageRun.{IsReadButWaiting, IsReadInChange, IsStageRun, IsStaging, IsStagingRun, LastsUnread}
 use Rattle.stage_run.proofs.Joins.{so_far_now}
 use Rattle.stage_run.proofs.Waits.{shown_off}
@@ -58,15 +59,18 @@ recovered_unread : (w : TreeState) → w.names intent_name ≡ None → recovere
 recovered_unread w none = ap (λ o. recovered_files_by o (files_of w)) (ap intent_at (ap (bytes_at w.files) none))
 
 -- the intent is read and leads to the files, or they are read
-pub read_behind : (G old : Files) → IsEmptyStage G → (w : TreeState) → RecoversTo G w → IsReadInChange G old w
-read_behind G old empty w recovers = by (w.names intent_name) refl
+pub read_behind : (G old : Files) → IsEmptyStage G → (w : TreeState) → RecoversTo G w → HasOldOrNewBytes old G w → IsReadInChange G old w
+read_behind G old empty w recovers bytes = by (w.names intent_name) refl
   where
     by : (o : Option ℕ) → w.names intent_name ≡ o → IsReadInChange G old w
     by None none = inr (inr (sym (recovered_unread w none) ∙ recovers))
-    by (Some n) some = inr (inl (subst IsSome (sym some) refl, emptied_at G empty w recovers))
+    by (Some n) some = inr (inl (record { intent = subst IsSome (sym some) refl; leads = emptied_at G empty w recovers; bytes = bytes }))
 
 Entering : List ℕ → Type 0
 Entering q = (q ≡ intent_name) ⊎ (q ≡ stage_name 0)
+
+pub entered_bytes : (G : Files) (u w : TreeState) → KeepsFilesBut (λ q. (q ≡ intent_name) ⊎ (q ≡ stage_name 0)) u w → HasOldOrNewBytes (files_of u) G w
+entered_bytes G u w keeps q shown = inl (keeps q (λ either. shown (⊎_elim (λ intent. inl intent) (λ place. inr (ap is_staged place ∙ stage_name_staged 0)) either)))
 
 -- at a moment at which the intent moves to its name
 pub read_entering : (G : Files) → IsEmptyStage G → (u w : TreeState) → files_of u intent_name ≡ None → KeepsFilesBut (λ q. (q ≡ intent_name) ⊎ (q ≡ stage_name 0)) u w → (IsSome (w.names intent_name) → RecoversTo G w) → IsReadInChange G (files_of u) w
@@ -79,11 +83,19 @@ read_entering G empty u w unread keeps reads = by (w.names intent_name) refl
         (name_cases q intent_name))
     by (Some n) some =
         let has = subst IsSome (sym some) refl in
-        inr (inl (has, emptied_at G empty w (reads has)))
+        inr (inl (record { intent = has; leads = emptied_at G empty w (reads has); bytes = entered_bytes G u w keeps }))
 
 pub read_from : (G old : Files) (u w : TreeState) → IsReadButWaiting old u → IsReadInChange G (files_of u) w → IsReadInChange G old w
 read_from G old u w before (inl reads) = inl (λ q shown. reads q shown ∙ before q shown)
-read_from G old u w before (inr reads) = inr reads
+read_from G old u w before (inr (inl leads)) = inr (inl (record { intent = leads.intent; leads = leads.leads; bytes = bytes }))
+  where
+    unstaged : (q : List ℕ) → (IsWaitingName q → ⊥) → (b : Bool) → is_staged q ≡ b → is_staged q ≡ false
+    unstaged q shown true is = absurd (shown (inr is))
+    unstaged q shown false is = is
+
+    bytes : HasOldOrNewBytes old G w
+    bytes q shown = ⊎_elim (λ was. inl (was ∙ before q (unstaged q shown (is_staged q) refl))) (λ new. inr new) (leads.bytes q shown)
+read_from G old u w before (inr (inr reads)) = inr (inr reads)
 
 -- ---- a run
 

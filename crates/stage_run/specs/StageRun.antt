@@ -6,7 +6,7 @@ use Rattle.base_core.specs.Crash.{IsOrderly, Since}
 use Rattle.base_core.specs.Files.{Files}
 use Rattle.base_core.specs.Restart.{SinceBy}
 use Rattle.base_core.specs.Tree.{TreeState, files_of}
-use Rattle.journal_core.specs.Kept.{IsInNoMap, ShownNamesLast}
+use Rattle.journal_core.specs.Kept.{HasOldOrNewBytes, IsInNoMap, ShownNamesLast}
 use Rattle.journal_core.specs.Quiet.{IsStill}
 use Rattle.journal_core.specs.Recovery.{IsSettled, RestsOn, intent_name, is_staged}
 use Rattle.journal_core.specs.Staged.{IsEmptyStage, IsOnTheWay, IsStaged, Staging, unstaged_files}
@@ -17,14 +17,18 @@ use Rattle.journal_core.specs.Staged.{IsEmptyStage, IsOnTheWay, IsStaged, Stagin
 abbrev pub IsReadButWaiting : Files → TreeState → Type 0
 IsReadButWaiting files w = (q : List ℕ) → is_staged q ≡ false → files_of w q ≡ files q
 
--- an intent is read, and a recovery leaves these files
-abbrev pub LeadsByIntent : Files → TreeState → Type 0
-LeadsByIntent files w = IsSome (w.names intent_name) × (unstaged_files (files_of w) ≡ files)
+-- an intent is read, and a recovery leaves the new files; each name that does not wait has its old
+-- bytes or its new ones
+pub record LeadsByIntent (new old : Files) (w : TreeState) : Type 0 where
+  pub intent : IsSome (w.names intent_name)
+  pub leads : unstaged_files (files_of w) ≡ new
+  pub bytes : HasOldOrNewBytes old new w
 
 -- the files as read are the old ones, but for what waits; or an intent that is read leads to the new
 -- ones; or they are the new ones
 abbrev pub IsReadInChange : Files → Files → TreeState → Type 0
-IsReadInChange new old w = IsReadButWaiting old w ⊎ (LeadsByIntent new w ⊎ (files_of w ≡ new))
+IsReadInChange new old w =
+    IsReadButWaiting old w ⊎ (LeadsByIntent new old w ⊎ (files_of w ≡ new))
 
 -- where no intent is read, a crash undoes no change of a name that does not wait
 abbrev pub LastsUnread : TreeState → Type 0

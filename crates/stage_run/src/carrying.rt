@@ -5,7 +5,7 @@ ghost use Rattle.base_core.specs.Crash.{IsOrderly, Since};
 ghost use Rattle.base_core.specs.Faults.{GoesOn, HasCause, IsNoFault};
 ghost use Rattle.base_core.specs.Files.{Files};
 ghost use Rattle.base_core.specs.Tree.{TreeState, files_of};
-ghost use Rattle.journal_core.specs.Kept.{IsInNoMap, RecoversTo, ShownNamesLast};
+ghost use Rattle.journal_core.specs.Kept.{IsInNoMap, KeepsOldOrNewBytes, RecoversTo, ShownNamesLast};
 ghost use Rattle.journal_core.specs.Quiet.{IsStill};
 ghost use Rattle.journal_core.specs.Recovery.{IsSettled, RestsOn, after_actions, intent_name};
 ghost use Rattle.journal_core.specs.Staged.{HasRoomBeside, IsActing, action_count, with_staged};
@@ -57,6 +57,9 @@ fn enact<T: Tree>(stage: &mut Stage, tree: &mut T) -> Result<(), Disk>
     ensures reads { IfObservable (T.history tree.old) (λ v. (files : Files)
         → IsActing stage.old files v
         → Since (RecoversTo files) (T.history tree.old) (T.history tree.new)) }
+    ensures bytes { IfObservable (T.history tree.old) (λ v. (files : Files)
+        → IsActing stage.old files v
+        → KeepsOldOrNewBytes files v (T.history tree.old) (T.history tree.new)) }
     ensures last { IfObservable (T.history tree.old) (λ v. IsSome (v.names intent_name)
         → Since LastsUnread (T.history tree.old) (T.history tree.new)) }
     ensures settled { IfObservable (T.history tree.old) (λ v. (ignored : List ℕ → Bool)

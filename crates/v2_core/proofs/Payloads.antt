@@ -1,24 +1,26 @@
 -- The payload of what was read.
-use Rattle.std.proofs.Common.{◌≡◌, ℕ, List, [], ◌∷◌, Result, Ok, Err, sym, ◌∙◌, ap}
-use Rattle.adb_view.specs.Plain.{Plain, Plains, none, more, arr_value, obj_value}
+use Rattle.std.proofs.Common.{◌≡◌, ℕ, List, [], ◌∷◌, map, Result, Ok, Err, sym, ◌∙◌, ap}
+use Rattle.adb_view.specs.Plain.{Plain, none, more, arr_value, obj_value}
+use Rattle.adb_values.specs.Drafts.{DraftState, draft_with, draft_with_open_list, empty_draft}
+use Rattle.adb_values.proofs.Lists.{Closes}
 use Rattle.adb_write.specs.Canonical.{PayloadCounts, written_of}
-use Rattle.adb_write.specs.DepthFirst.{WritesValue, WritesValues}
-use Rattle.adb_write.specs.Writing.{Writing, empty_writing, finish_result}
-use Rattle.v2_core.specs.Database.{value_of_records}
-use Rattle.v2_core.specs.Payload.{IsV2Fault, or_too_large, tested_payload, written_payload}
+use Rattle.make_info.specs.Values.{plains_of_list}
+use Rattle.v2_core.specs.Database.{array_of, record_value, value_of_records}
+use Rattle.v2_core.specs.Payload.{IsV2Fault, or_too_large, payload_if_sound, written_payload}
 use Rattle.v2_core.specs.Records.{Record}
-use Rattle.v2_core.specs.Writing.{IsLineFault, WritesDatabase, WritesRead}
+use Rattle.v2_core.specs.Writing.{IsLineFault, draft_with_database, draft_with_read}
 use Rattle.v2_core.specs.declared.fault.V2Fault.{V2Fault}
 use Rattle.v2_core.specs.declared.fault.V2Fault.TheVariants.{Bad, TooLarge, Memory}
+use Rattle.make_info.proofs.Mapped.{with_list}
 
--- what the crate of the writer says of a value written depth first
-abbrev pub EndsCanonical : Type 0
-EndsCanonical = (v : Plain) (root : ℕ) (w : Writing) → WritesValue empty_writing v root w → finish_result root w ≡ written_of v
-
-pub finished : EndsCanonical → (read : Result (List Record) ℕ) (root : ℕ) (w : Writing) (answer : Result (List ℕ) PayloadCounts) → WritesDatabase empty_writing read root w → finish_result root w ≡ answer → written_payload read ≡ or_too_large answer
-finished law (Ok records) root w answer so is =
-    ap or_too_large (sym (law (value_of_records records) root w so) ∙ is)
-finished law (Err line) root w answer so is = absurd so
+-- what a draft of the database ends with is the payload, or the counts at which it overflows
+pub finished : (read : Result (List Record) ℕ) (start d : DraftState) (answer : Result (List ℕ) PayloadCounts) → start ≡ empty_draft → draft_with_database read start ≡ Ok d
+    → ((v : Plain) → d ≡ draft_with v empty_draft → written_of v ≡ answer) → written_payload read ≡ or_too_large answer
+finished (Ok records) start d answer fresh so end =
+    let v : Plain = value_of_records records in
+    let same : draft_with v start ≡ d = cc in
+    ap or_too_large (end v (sym same ∙ ap (λ (s : DraftState). draft_with v s) fresh))
+finished (Err line) start d answer fresh so end = absurd cc
 
 -- a bad line is why there is no payload
 pub line_fault : (fault : V2Fault) (read : Result (List Record) ℕ) → IsLineFault fault read → IsV2Fault fault (written_payload read)
@@ -27,19 +29,17 @@ line_fault (TooLarge bytes values) read is = absurd is
 line_fault Memory read is = is
 
 -- a fault before the tests is the one that is answered
-pub untested_fault : (fault : V2Fault) (written : Result (List ℕ) V2Fault) → IsV2Fault fault written → IsV2Fault fault (tested_payload written)
-untested_fault (Bad cause) written is = ap tested_payload is
-untested_fault (TooLarge bytes values) written is = ap tested_payload is
+pub untested_fault : (fault : V2Fault) (written : Result (List ℕ) V2Fault) → IsV2Fault fault written → IsV2Fault fault (payload_if_sound written)
+untested_fault (Bad cause) written is = ap payload_if_sound is
+untested_fault (TooLarge bytes values) written is = ap payload_if_sound is
 untested_fault Memory written is = is
 
-abbrev pub StartsNone : Type 0
-StartsNone = (w : Writing) → WritesValues w none [] w
-
-abbrev pub GoesOn : Type 0
-GoesOn = (v : Plain) (vs : Plains) (x : ℕ) (xs : List ℕ) (a b c : Writing) → WritesValue a v x b → WritesValues b vs xs c → WritesValues a (more v vs) (x ∷ xs) c
-
 -- the packages make the database
-pub database_written : StartsNone → GoesOn → (read : Result (List Record) ℕ) (words : List ℕ) (list root : ℕ) (start mid near end : Writing) → WritesRead start read words mid → ((vs : Plains) (before : Writing) → WritesValues before vs words mid → WritesValue before (arr_value vs) list near) → ((vs : Plains) (before : Writing) → WritesValues before vs (list ∷ []) near → WritesValue before (obj_value vs) root end) → WritesDatabase start read root end
-database_written nothing goes (Ok records) words list root start mid near end so array object =
-    object _ start (goes _ none list [] start near near (array _ start so) (nothing near))
-database_written nothing goes (Err line) words list root start mid near end so array object = so
+pub database_closed : (read : Result (List Record) ℕ) (a b c d e f : DraftState) → b ≡ draft_with_open_list a → c ≡ draft_with_open_list b → draft_with_read read c ≡ Ok d → Closes arr_value d e → Closes obj_value e f
+    → draft_with_database read a ≡ Ok f
+database_closed (Ok records) a b c d e f first second so array object =
+    let packages : List Plain = map record_value records in
+    let all : with_list packages c ≡ d = cc in
+    let list : e ≡ draft_with (array_of packages) b = array (plains_of_list packages) b (sym all ∙ ap (λ (s : DraftState). with_list packages s) second) in
+    ap (λ (s : DraftState). Ok s) (sym (object (more (array_of packages) none) a (list ∙ ap (λ (s : DraftState). draft_with (array_of packages) s) first)))
+database_closed (Err line) a b c d e f first second so array object = absurd cc

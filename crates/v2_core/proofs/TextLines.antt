@@ -1,28 +1,19 @@
 -- The lines of a text one after the other.
-use Rattle.std.proofs.Common.{◌≡◌, ℕ, ◌+◌, ◌-◌, ◌<◌, ◌≤◌, true, false, cond, eqb, List, [], ◌∷◌, length, get_or, drop, Option, Some, None, Result, Ok, Err, refl, sym, ◌∙◌, ap, subst, append-nil, arith}
+use Rattle.std.proofs.Common.{◌≡◌, ℕ, ◌+◌, ◌-◌, ◌<◌, ◌≤◌, true, false, cond, eqb, List, [], ◌∷◌, length, get_or, drop, Option, Some, None, Result, Ok, Err, IfErr, OnOk, refl, sym, ◌∙◌, ap, subst, arith}
 use Rattle.std.specs.Option.{option_map_or}
 use Rattle.std.proofs.lemmas.Bool.Decides.{nat_tests}
 use Rattle.std.proofs.lemmas.List.{at_drop_more, at_drop_all}
-use Rattle.adb_write.specs.Writing.{Writing}
-use Rattle.v2_core.specs.Reading.{at_record_end, records_from, with_records, with_text}
+use Rattle.adb_values.specs.Drafts.{DraftState}
+use Rattle.v2_core.specs.Reading.{at_record_end, records_from, with_text}
 use Rattle.v2_core.specs.Records.{Record, empty_record}
 use Rattle.v2_core.specs.declared.fault.V2Fault.{V2Fault}
 use Rattle.v2_core.specs.declared.fault.V2Fault.TheVariants.{Bad, TooLarge, Memory}
-use Rattle.v2_core.specs.Writing.{IsLineFault, ReadsOn, WritesPackages, WritesRead}
-
-with_no_records : (r : Result (List Record) ℕ) → with_records [] r ≡ r
-with_no_records (Ok rs) = refl
-with_no_records (Err line) = refl
-
--- nothing was read, and nothing written
-pub reads_from_start : (start : Writing) (words : List ℕ) (read : Result (List Record) ℕ) → WritesPackages start [] words start → ReadsOn start words start read read
-reads_from_start start words read none = record { records = []; written = none; same = with_no_records read }
+use Rattle.v2_core.specs.Writing.{IsLineFault, draft_with_read}
 
 -- the next line of a text
-pub next_line : (start : Writing) (words : List ℕ) (later : Writing) (whole : Result (List Record) ℕ) (n : ℕ) (r : Record) (lines : List (List ℕ)) (i : ℕ) (x : List ℕ) → (i < length lines) × (x ≡ get_or lines i x) → ReadsOn start words later (records_from n r (drop i lines)) whole → ReadsOn start words later (records_from n r (x ∷ drop (i + 1) lines)) whole
-next_line start words later whole n r lines i x h on =
-    subst (λ o. ReadsOn start words later o whole)
-    (at_drop_more (λ ls. records_from n r ls) lines i x h.0 ∙ ap (λ y. records_from n r (y ∷ drop (i + 1) lines)) (sym h.1)) on
+next_line : (n : ℕ) (r : Record) (lines : List (List ℕ)) (i : ℕ) (x : List ℕ) → (i < length lines) × (x ≡ get_or lines i x) → records_from n r (drop i lines) ≡ records_from n r (x ∷ drop (i + 1) lines)
+next_line n r lines i x h =
+    at_drop_more (λ ls. records_from n r ls) lines i x h.0 ∙ ap (λ y. records_from n r (y ∷ drop (i + 1) lines)) (sym h.1)
 
 -- a line with a byte is not empty
 pub not_zero : (b : ℕ) (bs : List ℕ) → eqb (length (b ∷ bs)) 0 ≡ false
@@ -32,34 +23,46 @@ not_zero b bs = grind (arith, nat_tests)
 pub at_end : (n : ℕ) (r : Record) (lines : List (List ℕ)) (i : ℕ) → length lines ≤ i → records_from n r (drop i lines) ≡ at_record_end n r (Ok [])
 at_end n r lines i h = at_drop_all (λ ls. records_from n r ls) lines i h
 
--- one line more was read
-pub turn : (start : Writing) (words words' : List ℕ) (later later' : Writing) (whole : Result (List Record) ℕ) (n : ℕ) (r s : Record) (lines : List (List ℕ)) (i j : ℕ) (x : List ℕ) → j ≡ i + 1 → (i < length lines) × (x ≡ get_or lines i x) → ReadsOn start words later (records_from n r (drop i lines)) whole → ((rest : List (List ℕ)) → ReadsOn start words later (records_from (n + 1 - 1) r (x ∷ rest)) whole → ReadsOn start words' later' (records_from (n + 1) s rest) whole) → ReadsOn start words' later' (records_from (n + 1) s (drop j lines)) whole
-turn start words words' later later' whole n r s lines i j x more h on step =
-    let same : n ≡ n + 1 - 1 = omega arith in
-    let before : ReadsOn start words later (records_from n r (x ∷ drop (i + 1) lines)) whole = next_line start words later whole n r lines i x h on in
-    let read = step (drop (i + 1) lines) (subst (λ k. ReadsOn start words later (records_from k r (x ∷ drop (i + 1) lines)) whole) same before) in
-    subst (λ k. ReadsOn start words' later' (records_from (n + 1) s (drop k lines)) whole) (sym more) read
+-- one line more is read
+pub turn : (whole : Result DraftState ℕ) (old new : DraftState) (n : ℕ) (r s : Record) (lines : List (List ℕ)) (i j : ℕ) (x : List ℕ) → j ≡ i + 1 → (i < length lines) × (x ≡ get_or lines i x)
+    → draft_with_read (records_from n r (drop i lines)) old ≡ whole
+    → ((rest : List (List ℕ)) → draft_with_read (records_from (n + 1) s rest) new ≡ draft_with_read (records_from (n + 1 - 1) r (x ∷ rest)) old)
+    → draft_with_read (records_from (n + 1) s (drop j lines)) new ≡ whole
+turn whole old new n r s lines i j x more h on step =
+    let same : n + 1 - 1 ≡ n = omega arith in
+    ap (λ (k : ℕ). draft_with_read (records_from (n + 1) s (drop k lines)) new) more
+    ∙ step (drop (i + 1) lines)
+    ∙ ap (λ (k : ℕ). draft_with_read (records_from k r (x ∷ drop (i + 1) lines)) old) same
+    ∙ sym (ap (λ o. draft_with_read o old) (next_line n r lines i x h)) ∙ on
+
+-- what is told of a draft is told of what is read
+told_of : (whole : Result (List Record) ℕ) (start : DraftState) (line : ℕ) → draft_with_read whole start ≡ Err line → whole ≡ Err line
+told_of (Ok records) start line e = absurd cc
+told_of (Err other) start line e = let same : other ≡ line = cc in ap (λ (k : ℕ). Err k) same
 
 -- why the rest is refused, the whole is
-whole_fault : (fault : V2Fault) (start : Writing) (words : List ℕ) (later : Writing) (rest whole : Result (List Record) ℕ) → IsLineFault fault rest → ReadsOn start words later rest whole → IsLineFault fault whole
-whole_fault (Bad cause) start words later rest whole is on =
-    (is.0, is.1, sym on.same ∙ ap (with_records on.records) is.2)
-whole_fault (TooLarge bytes values) start words later rest whole is on = absurd is
-whole_fault Memory start words later rest whole is on = is
+whole_fault : (fault : V2Fault) (rest whole : Result (List Record) ℕ) (old start : DraftState) → IsLineFault fault rest → draft_with_read rest old ≡ draft_with_read whole start → IsLineFault fault whole
+whole_fault (Bad cause) rest whole old start is on =
+    (is.0, is.1, told_of whole start is.0 (sym on ∙ ap (λ o. draft_with_read o old) is.2))
+whole_fault (TooLarge bytes values) rest whole old start is on = absurd is
+whole_fault Memory rest whole old start is on = is
 
 -- a line is refused
-pub fault_at_line : (fault : V2Fault) (start : Writing) (words : List ℕ) (later : Writing) (whole : Result (List Record) ℕ) (n : ℕ) (r : Record) (lines : List (List ℕ)) (i : ℕ) (x : List ℕ) → (i < length lines) × (x ≡ get_or lines i x) → ReadsOn start words later (records_from n r (drop i lines)) whole → ((rest : List (List ℕ)) → IsLineFault fault (records_from (n + 1 - 1) r (x ∷ rest))) → IsLineFault fault whole
-fault_at_line fault start words later whole n r lines i x h on is =
+pub fault_at_line : (fault : V2Fault) (whole : Result (List Record) ℕ) (old start : DraftState) (n : ℕ) (r : Record) (lines : List (List ℕ)) (i : ℕ) (x : List ℕ) → (i < length lines) × (x ≡ get_or lines i x)
+    → draft_with_read (records_from n r (drop i lines)) old ≡ draft_with_read whole start → ((rest : List (List ℕ)) → IsLineFault fault (records_from (n + 1 - 1) r (x ∷ rest))) → IsLineFault fault whole
+fault_at_line fault whole old start n r lines i x h on is =
     let same : n + 1 - 1 ≡ n = omega arith in
-    whole_fault fault start words later (records_from n r (x ∷ drop (i + 1) lines)) whole
+    whole_fault fault (records_from n r (x ∷ drop (i + 1) lines)) whole old start
     (subst (λ k. IsLineFault fault (records_from k r (x ∷ drop (i + 1) lines))) same (is (drop (i + 1) lines)))
-    (next_line start words later whole n r lines i x h on)
+    (sym (ap (λ o. draft_with_read o old) (next_line n r lines i x h)) ∙ on)
 
 -- the last record is refused
-pub fault_at_end : (fault : V2Fault) (start : Writing) (words : List ℕ) (later : Writing) (whole : Result (List Record) ℕ) (n : ℕ) (r : Record) (lines : List (List ℕ)) (i : ℕ) → length lines ≤ i → ReadsOn start words later (records_from n r (drop i lines)) whole → ((others : Result (List Record) ℕ) → IsLineFault fault (at_record_end n r others)) → IsLineFault fault whole
-fault_at_end fault start words later whole n r lines i h on is =
-    whole_fault fault start words later (at_record_end n r (Ok [])) whole (is (Ok []))
-    (subst (λ o. ReadsOn start words later o whole) (at_end n r lines i h) on)
+pub fault_at_end : {T : Type 0} (result : Result T V2Fault) (whole : Result (List Record) ℕ) (old start : DraftState) (n : ℕ) (r : Record) (lines : List (List ℕ)) (i : ℕ) → length lines ≤ i
+    → draft_with_read (records_from n r (drop i lines)) old ≡ draft_with_read whole start → IfErr result (λ fault. (others : Result (List Record) ℕ) → IsLineFault fault (at_record_end n r others))
+    → IfErr result (λ fault. IsLineFault fault whole)
+fault_at_end (Ok done) whole old start n r lines i h on is = is
+fault_at_end (Err fault) whole old start n r lines i h on is =
+    whole_fault fault (at_record_end n r (Ok [])) whole old start (is (Ok [])) (sym (ap (λ o. draft_with_read o old) (at_end n r lines i h)) ∙ on)
 
 -- an empty line ends a record
 pub at_empty_line : (n : ℕ) (r : Record) (x : List ℕ) (rest : List (List ℕ)) → eqb (length x) 0 ≡ true → records_from n r (x ∷ rest) ≡ at_record_end n r (records_from (n + 1) empty_record rest)
@@ -79,13 +82,19 @@ at_good_line n r s x rest e t = another_line n r x rest (Some s) e t
 pub at_bad_line : (n : ℕ) (r : Record) (x : List ℕ) (rest : List (List ℕ)) → eqb (length x) 0 ≡ false → with_text r x ≡ None → records_from n r (x ∷ rest) ≡ Err (n + 1)
 at_bad_line n r x rest e t = another_line n r x rest None e t
 
--- all is read
-all_read : (start : Writing) (words : List ℕ) (later : Writing) (whole : Result (List Record) ℕ) → ReadsOn start words later (Ok []) whole → WritesRead start whole words later
-all_read start words later whole on =
-    subst (λ w. WritesRead start w words later) on.same
-    (subst (λ rs. WritesPackages start rs words later) (sym (append-nil on.records)) on.written)
+-- the last record is given
+pub all_read_at_end : {T E : Type 0} (result : Result T E) (whole : Result (List Record) ℕ) (start old new : DraftState) (n : ℕ) (r : Record) (lines : List (List ℕ)) (i : ℕ) → length lines ≤ i
+    → draft_with_read (records_from n r (drop i lines)) old ≡ draft_with_read whole start
+    → OnOk result ((others : Result (List Record) ℕ) → draft_with_read others new ≡ draft_with_read (at_record_end n r others) old) → OnOk result (draft_with_read whole start ≡ Ok new)
+all_read_at_end (Ok done) whole start old new n r lines i h on step =
+    sym (step (Ok []) ∙ sym (ap (λ o. draft_with_read o old) (at_end n r lines i h)) ∙ on)
+all_read_at_end (Err fault) whole start old new n r lines i h on step = step
 
--- the last record was written
-pub all_read_at_end : (start : Writing) (words words' : List ℕ) (later later' : Writing) (whole : Result (List Record) ℕ) (n : ℕ) (r : Record) (lines : List (List ℕ)) (i : ℕ) → length lines ≤ i → ReadsOn start words later (records_from n r (drop i lines)) whole → ((others : Result (List Record) ℕ) → ReadsOn start words later (at_record_end n r others) whole → ReadsOn start words' later' others whole) → WritesRead start whole words' later'
-all_read_at_end start words words' later later' whole n r lines i h on step =
-    all_read start words' later' whole (step (Ok []) (subst (λ o. ReadsOn start words later o whole) (at_end n r lines i h) on))
+-- an empty line ends a record, and begins one
+pub read_empty_line : (n : ℕ) (r s : Record) (x : List ℕ) (rest : List (List ℕ)) (old new : DraftState) → eqb (length x) 0 ≡ true → s ≡ empty_record
+    → ((others : Result (List Record) ℕ) → draft_with_read others new ≡ draft_with_read (at_record_end n r others) old)
+    → draft_with_read (records_from (n + 1) s rest) new ≡ draft_with_read (records_from n r (x ∷ rest)) old
+read_empty_line n r s x rest old new e fresh step =
+    ap (λ t. draft_with_read (records_from (n + 1) t rest) new) fresh
+    ∙ step (records_from (n + 1) empty_record rest)
+    ∙ ap (λ o. draft_with_read o old) (sym (at_empty_line n r x rest e))

@@ -26,14 +26,14 @@ written_payload (Ok records) = or_too_large (written_of (value_of_records record
 written_payload (Err line) = Err (Bad (TextLine line))
 
 -- a payload that passes the tests of an installed database, or the first of them that it fails
-abbrev pub tested_payload : Result (List ℕ) V2Fault → Result (List ℕ) V2Fault
-tested_payload (Ok payload) = unless_bad payload (payload_fault Idb payload)
-tested_payload (Err fault) = Err fault
+abbrev pub payload_if_sound : Result (List ℕ) V2Fault → Result (List ℕ) V2Fault
+payload_if_sound (Ok payload) = unless_bad payload (payload_fault Idb payload)
+payload_if_sound (Err fault) = Err fault
 
 -- the first bad line, then a limit of the writer that is passed, then the first test of an
 -- installed database that fails
 unfoldable pub payload_of_text : List ℕ → Result (List ℕ) V2Fault
-payload_of_text text = tested_payload (written_payload (records_of text))
+payload_of_text text = payload_if_sound (written_payload (records_of text))
 
 -- a refusal is the one that stands; want of memory may come at any text
 abbrev pub IsV2Fault : V2Fault → Result (List ℕ) V2Fault → Type 0

@@ -1,26 +1,24 @@
 //! Reads a text line by line, and writes each package at the end of its record.
-ghost use Rattle.std.specs.Prelude.{◌≡◌, ◌<◌, ◌-◌, ◌++◌, ◌∷◌, [], IfErr, IfOk, List, None, OnOk, Ok, Result, ℕ};
+ghost use Rattle.std.specs.Prelude.{◌≡◌, ◌<◌, ◌-◌, ◌∷◌, IfErr, IfOk, List, None, OnOk, Ok, Result, ℕ};
 ghost use Rattle.base_core.specs.declared.cause.Cause.TheVariants.{TextLine};
 ghost use Rattle.adb_schema.specs.ReadFaults.{IsReadFault};
 ghost use Rattle.v2_core.specs.declared.fault.V2Fault.TheVariants.{Bad};
 ghost use Rattle.adb_schema.specs.Soundness.{payload_fault};
 ghost use Rattle.adb_tables.specs.declared.tables.Which.TheVariants as Tables;
-ghost use Rattle.adb_write.specs.Writing.{Writing};
 ghost use Rattle.v2_core.specs.Payload.{IsV2Fault, payload_of_text, written_payload};
 ghost use Rattle.v2_core.specs.Reading.{at_record_end, records_from, records_of};
 ghost use Rattle.v2_core.specs.Records.{Record as RecordModel, empty_record};
-ghost use Rattle.v2_core.specs.Writing.{IsLineFault, ReadsOn, WritesDatabase, WritesPackages, WritesRead};
+ghost use Rattle.v2_core.specs.Writing.{IsLineFault, draft_with_database, draft_with_read};
 
 use crate::fault::V2Fault;
 use crate::record::Record;
 use crate::writing::write_package;
 use adb_schema::{Checked, ReadFault, Which, repeated, shape};
-use adb_view::{Adb, Val};
-use adb_write::{
-    WriteFault, Writer, a_value_written_depth_first_is_canonical, values_are_written_depth_first,
-};
+use adb_values::Draft;
+use adb_view::Adb;
+use adb_write::WriteFault;
 use base_core::Cause;
-use std::alloc::{AllocError, Global};
+use std::alloc::Global;
 
 /// Reads a text database (`lib/apk/db/installed` of apk-tools 2): the payload of the installed
 /// database that it says.
@@ -64,10 +62,9 @@ fn write_payload(alloc: Global, bytes: &[u8]) -> Result<Vec<u8>, V2Fault>
         (λ payload. written_payload (records_of bytes.now) ≡ Ok payload.items) }
     ensures err { IfErr result (λ fault. IsV2Fault fault (written_payload (records_of bytes.now))) }
 {
-    a_value_written_depth_first_is_canonical();
-    let mut writer = Writer::new(alloc);
-    let root = write_database(alloc, &mut writer, bytes)?;
-    match writer.finish(root) {
+    let mut draft = Draft::new(alloc);
+    write_database(alloc, &mut draft, bytes)?;
+    match draft.finish() {
         Ok(payload) => Ok(payload),
         Err(WriteFault::TooLarge { bytes, values }) => Err(V2Fault::TooLarge { bytes, values }),
         Err(WriteFault::Memory) => Err(V2Fault::Memory),
@@ -75,56 +72,51 @@ fn write_payload(alloc: Global, bytes: &[u8]) -> Result<Vec<u8>, V2Fault>
 }
 
 // Writes the database that a text says.
-fn write_database(alloc: Global, writer: &mut Writer, bytes: &[u8]) -> Result<Val, V2Fault>
-    ensures ok { IfOk result (λ word. WritesDatabase writer.old (records_of bytes.now) word
-        writer.new) }
+fn write_database(alloc: Global, draft: &mut Draft, bytes: &[u8]) -> Result<(), V2Fault>
+    ensures ok { OnOk result
+        (draft_with_database (records_of bytes.now) draft.old ≡ Ok draft.new) }
     ensures bad { IfErr result (λ fault. IsLineFault fault (records_of bytes.now)) }
 {
-    values_are_written_depth_first();
-    let packages = write_packages(alloc, writer, bytes)?;
-    let list = writer.arr(&packages)?;
-    Ok(writer.obj(&[list])?)
+    draft.open_list()?;
+    draft.open_list()?;
+    write_packages(alloc, draft, bytes)?;
+    draft.close_array()?;
+    draft.close_object()?;
+    Ok(())
 }
 
 // Writes the packages that a text says.
 #[tactic(auto, unfolding(crate::specs::Reading::records_of))]
-fn write_packages(alloc: Global, writer: &mut Writer, bytes: &[u8]) -> Result<Vec<Val>, V2Fault>
-    ensures ok { IfOk result (λ words. WritesRead writer.old (records_of bytes.now) words.items
-        writer.new) }
+fn write_packages(alloc: Global, draft: &mut Draft, bytes: &[u8]) -> Result<(), V2Fault>
+    ensures ok { OnOk result (draft_with_read (records_of bytes.now) draft.old ≡ Ok draft.new) }
     ensures bad { IfErr result (λ fault. IsLineFault fault (records_of bytes.now)) }
 {
-    values_are_written_depth_first();
-    let mut packages = Vec::new(alloc);
     let mut record = Record::new(alloc);
     let mut number = 0;
     for line in bytes.split(|byte| *byte == b'\n') {
         number += 1;
-        add_line(alloc, writer, &mut packages, &mut record, line, number)?;
+        add_line(draft, &mut record, line, number)?;
     }
-    write_record(alloc, writer, &mut packages, &record, number)?;
-    Ok(packages)
+    write_record(draft, &record, number)
 }
 
 // Reads the line with this number: an empty one ends the record, another belongs to it.
 fn add_line<'a>(
-    alloc: Global,
-    writer: &mut Writer,
-    packages: &mut Vec<Val>,
+    draft: &mut Draft,
     record: &mut Record<'a>,
     line: &'a [u8],
     number: u64,
 ) -> Result<(), V2Fault>
     requires { 0 < number }
-    ensures ok { OnOk result ((start : Writing) (rest : List (List ℕ))
-        (whole : Result (List RecordModel) ℕ)
-        → ReadsOn start packages.old.items writer.old
-        (records_from (number - 1) record.old (line.entry.now ∷ rest)) whole
-        → ReadsOn start packages.new.items writer.new (records_from number record.new rest) whole) }
+    ensures ok { OnOk result ((rest : List (List ℕ))
+        → draft_with_read (records_from number record.new rest) draft.new
+        ≡ draft_with_read (records_from (number - 1) record.old (line.entry.now ∷ rest))
+        draft.old) }
     ensures bad { IfErr result (λ fault. (rest : List (List ℕ))
         → IsLineFault fault (records_from (number - 1) record.old (line.entry.now ∷ rest))) }
 {
     if line.is_empty() {
-        return end_record(alloc, writer, packages, record, number - 1);
+        return end_record(draft, record, number - 1);
     }
     if !record.add_text(line)? {
         return Err(bad_line(number));
@@ -133,37 +125,25 @@ fn add_line<'a>(
 }
 
 // Ends a record, where so many lines stand up to there, and begins a new one.
-fn end_record(
-    alloc: Global,
-    writer: &mut Writer,
-    packages: &mut Vec<Val>,
-    record: &mut Record<'_>,
-    lines: u64,
-) -> Result<(), V2Fault>
+fn end_record(draft: &mut Draft, record: &mut Record<'_>, lines: u64) -> Result<(), V2Fault>
     ensures new { OnOk result (record.new ≡ empty_record) }
-    ensures ok { OnOk result ((start : Writing) (others whole : Result (List RecordModel) ℕ)
-        → ReadsOn start packages.old.items writer.old (at_record_end lines record.old others) whole
-        → ReadsOn start packages.new.items writer.new others whole) }
+    ensures ok { OnOk result ((others : Result (List RecordModel) ℕ)
+        → draft_with_read others draft.new
+        ≡ draft_with_read (at_record_end lines record.old others) draft.old) }
     ensures bad { IfErr result (λ fault. (others : Result (List RecordModel) ℕ)
         → IsLineFault fault (at_record_end lines record.old others)) }
 {
-    write_record(alloc, writer, packages, record, lines)?;
+    write_record(draft, record, lines)?;
     record.clear();
     Ok(())
 }
 
 // Writes the package of a record, where so many lines stand up to its end; a record without a line
 // is none.
-fn write_record(
-    alloc: Global,
-    writer: &mut Writer,
-    packages: &mut Vec<Val>,
-    record: &Record<'_>,
-    lines: u64,
-) -> Result<(), V2Fault>
-    ensures ok { OnOk result ((start : Writing) (others whole : Result (List RecordModel) ℕ)
-        → ReadsOn start packages.old.items writer.old (at_record_end lines record.now others) whole
-        → ReadsOn start packages.new.items writer.new others whole) }
+fn write_record(draft: &mut Draft, record: &Record<'_>, lines: u64) -> Result<(), V2Fault>
+    ensures ok { OnOk result ((others : Result (List RecordModel) ℕ)
+        → draft_with_read others draft.new
+        ≡ draft_with_read (at_record_end lines record.now others) draft.old) }
     ensures bad { IfErr result (λ fault. (others : Result (List RecordModel) ℕ)
         → IsLineFault fault (at_record_end lines record.now others)) }
 {
@@ -173,24 +153,7 @@ fn write_record(
     if record.lacks_needed_line() {
         return Err(bad_line(lines));
     }
-    push_package(alloc, writer, packages, record)?;
-    Ok(())
-}
-
-// Writes the package of a record behind others.
-fn push_package(
-    alloc: Global,
-    writer: &mut Writer,
-    packages: &mut Vec<Val>,
-    record: &Record<'_>,
-) -> Result<(), AllocError>
-    ensures { OnOk result ((start : Writing) (records : List RecordModel)
-        → WritesPackages start records packages.old.items writer.old
-        → WritesPackages start (records ++ record.now ∷ []) packages.new.items writer.new) }
-{
-    values_are_written_depth_first();
-    let word = write_package(alloc, writer, record)?;
-    packages.push(word)?;
+    write_package(draft, record)?;
     Ok(())
 }
 

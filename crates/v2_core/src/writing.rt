@@ -1,27 +1,24 @@
 //! Writes the package that a record says, as an installed database has it (apk-v3(5)).
-ghost use Rattle.adb_view.specs.Plain.{Plain, null};
-ghost use Rattle.adb_write.specs.DepthFirst.{WritesValue};
-ghost use Rattle.adb_write.specs.Writing.{Writing};
+ghost use Rattle.adb_values.specs.Drafts.{draft_with, draft_with_all};
 ghost use Rattle.dep_core.specs.Meets.{dependency};
 ghost use Rattle.make_info.specs.Fields.{need};
 ghost use Rattle.make_info.specs.Information.{plain_value};
+ghost use Rattle.make_info.specs.Values.{plains_of_list};
 ghost use Rattle.std.specs.List.{find};
 ghost use Rattle.std.specs.Option.{option_map};
-ghost use Rattle.std.specs.Prelude.{◌≡◌, ◌++◌, IfOk, List, OnOk, Some, map};
+ghost use Rattle.std.specs.Prelude.{◌≡◌, OnOk, Some, map};
 ghost use Rattle.v2_core.specs.Columns.{value_of_column};
 ghost use Rattle.v2_core.specs.Database.{listed_access_value, array_of, listed_file_value, value_of_first, listed_folder_value, listed_hash_value, record_info_value, joined_value, single_value, record_value};
 ghost use Rattle.v2_core.specs.Records.{is_line_of};
 ghost use Rattle.v2_core.specs.Views.{access_views, hash_view};
-ghost use Rattle.v2_core.specs.Writing.{WritesList};
 ghost use Rattle.v2_lines.specs.Accesses.{access_view};
 ghost use Rattle.v2_lines.specs.Views.{line_value_view};
 
 use crate::record::{File, Folder, InfoLine, Record};
-use adb_view::Val;
-use adb_write::{Writer, values_are_written_depth_first};
+use adb_values::Draft;
 use dep_core::Dep;
 use make_info::write_need;
-use std::alloc::{AllocError, Global};
+use std::alloc::AllocError;
 use v2_lines::{Access, InfoField, Value};
 
 /// Where a field of the package's information comes from.
@@ -58,79 +55,62 @@ const COLUMNS: [Column; 18] = [
 ];
 
 /// Writes the package of a record.
-pub(crate) fn write_package(
-    alloc: Global,
-    writer: &mut Writer,
-    record: &Record<'_>,
-) -> Result<Val, AllocError>
-    ensures { IfOk result (λ word. WritesValue writer.old (record_value record.now) word
-        writer.new) }
+pub(crate) fn write_package(draft: &mut Draft, record: &Record<'_>) -> Result<(), AllocError>
+    ensures { OnOk result (draft.new ≡ draft_with (record_value record.now) draft.old) }
 {
-    values_are_written_depth_first();
-    let info = write_info(alloc, writer, &record.info)?;
-    let paths = write_folders(alloc, writer, &record.folders)?;
-    let priority = write_once(writer, &record.info, InfoField::ReplacesPriority)?;
-    writer.obj(&[info, paths, Val::of(0), Val::of(0), priority])
+    draft.open_list()?;
+    write_info(draft, &record.info)?;
+    write_folders(draft, &record.folders)?;
+    draft.null()?;
+    draft.null()?;
+    write_once(draft, &record.info, InfoField::ReplacesPriority)?;
+    draft.close_object()
 }
 
 // ---- the package's information
 
 #[tactic(auto, unfolding(crate::specs::Database::record_info_value))]
-fn write_info(alloc: Global, writer: &mut Writer, info: &[InfoLine<'_>]) -> Result<Val, AllocError>
-    ensures { IfOk result (λ word. WritesValue writer.old (record_info_value info.now) word
-        writer.new) }
+fn write_info(draft: &mut Draft, info: &[InfoLine<'_>]) -> Result<(), AllocError>
+    ensures { OnOk result (draft.new ≡ draft_with (record_info_value info.now) draft.old) }
 {
-    let words = write_columns(alloc, writer, info, &COLUMNS)?;
-    writer.obj(&words)
+    draft.open_list()?;
+    write_columns(draft, info, &COLUMNS)?;
+    draft.close_object()
 }
 
 // Writes columns one after the other.
 fn write_columns(
-    alloc: Global,
-    writer: &mut Writer,
+    draft: &mut Draft,
     info: &[InfoLine<'_>],
     columns: &[Column],
-) -> Result<Vec<Val>, AllocError>
-    ensures { IfOk result (λ words. WritesList writer.old
-        (map (value_of_column info.now) columns.now) words.items writer.new) }
+) -> Result<(), AllocError>
+    ensures { OnOk result (draft.new
+        ≡ draft_with_all (plains_of_list (map (value_of_column info.now) columns.now))
+        draft.old) }
 {
-    values_are_written_depth_first();
-    let mut words = Vec::with_capacity(alloc, columns.len())?;
     for column in columns {
-        let word = write_column(alloc, writer, info, *column)?;
-        words.push(word)?;
+        write_column(draft, info, *column)?;
     }
-    Ok(words)
+    Ok(())
 }
 
-fn write_column(
-    alloc: Global,
-    writer: &mut Writer,
-    info: &[InfoLine<'_>],
-    column: Column,
-) -> Result<Val, AllocError>
-    ensures { IfOk result (λ word. WritesValue writer.old (value_of_column info.now column) word
-        writer.new) }
+fn write_column(draft: &mut Draft, info: &[InfoLine<'_>], column: Column) -> Result<(), AllocError>
+    ensures { OnOk result (draft.new ≡ draft_with (value_of_column info.now column) draft.old) }
 {
     match column {
-        Column::Once(field) => write_once(writer, info, field),
-        Column::List(field) => write_list(alloc, writer, info, field),
-        Column::Null => write_null(writer),
+        Column::Once(field) => write_once(draft, info, field),
+        Column::List(field) => write_list(draft, info, field),
+        Column::Null => draft.null(),
     }
 }
 
 // Writes what the line of a field says.
-fn write_once(
-    writer: &mut Writer,
-    info: &[InfoLine<'_>],
-    field: InfoField,
-) -> Result<Val, AllocError>
-    ensures { IfOk result (λ word. WritesValue writer.old (single_value field info.now) word
-        writer.new) }
+fn write_once(draft: &mut Draft, info: &[InfoLine<'_>], field: InfoField) -> Result<(), AllocError>
+    ensures { OnOk result (draft.new ≡ draft_with (single_value field info.now) draft.old) }
 {
     match find_line(info, field) {
-        Some(line) => write_first(writer, &line.value),
-        None => write_null(writer),
+        Some(line) => write_first(draft, &line.value),
+        None => draft.null(),
     }
 }
 
@@ -141,172 +121,132 @@ fn find_line<'a, 'b>(info: &'a [InfoLine<'b>], field: InfoField) -> Option<&'a I
 }
 
 // Writes the value that a field has once.
-fn write_first(writer: &mut Writer, value: &Value<'_>) -> Result<Val, AllocError>
-    ensures { IfOk result (λ word. WritesValue writer.old
-        (value_of_first (line_value_view value.now)) word writer.new) }
+fn write_first(draft: &mut Draft, value: &Value<'_>) -> Result<(), AllocError>
+    ensures { OnOk result
+        (draft.new ≡ draft_with (value_of_first (line_value_view value.now)) draft.old) }
 {
     match value {
-        Value::Text(text) => writer.blob(text),
-        Value::Bytes(bytes) => writer.blob(bytes),
-        Value::Number(n) => writer.int(*n),
+        Value::Text(text) => draft.blob(text),
+        Value::Bytes(bytes) => draft.blob(bytes),
+        Value::Number(n) => draft.int(*n),
         Value::Needs(needs) => match needs.first() {
-            Some(need) => write_need(writer, need),
-            None => write_null(writer),
+            Some(need) => write_need(draft, need),
+            None => draft.null(),
         },
-        Value::Nothing => write_null(writer),
+        Value::Nothing => draft.null(),
     }
 }
 
 // Writes what all lines of a field say.
-fn write_list(
-    alloc: Global,
-    writer: &mut Writer,
-    info: &[InfoLine<'_>],
-    field: InfoField,
-) -> Result<Val, AllocError>
-    ensures { IfOk result (λ word. WritesValue writer.old (joined_value field info.now) word
-        writer.new) }
+fn write_list(draft: &mut Draft, info: &[InfoLine<'_>], field: InfoField) -> Result<(), AllocError>
+    ensures { OnOk result (draft.new ≡ draft_with (joined_value field info.now) draft.old) }
 {
-    values_are_written_depth_first();
-    let mut words = Vec::new(alloc);
+    draft.open_list()?;
     for line in info {
         if line.field == field {
-            write_values(writer, &mut words, &line.value)?;
+            write_values(draft, &line.value)?;
         }
     }
-    writer.arr(&words)
+    draft.close_array()
 }
 
-// Writes what a line says behind other values.
-fn write_values(
-    writer: &mut Writer,
-    words: &mut Vec<Val>,
-    value: &Value<'_>,
-) -> Result<(), AllocError>
-    ensures { OnOk result ((vs : List Plain) (before : Writing)
-        → WritesList before vs words.old.items writer.old
-        → WritesList before (vs ++ map plain_value (line_value_view value.now)) words.new.items
-        writer.new) }
+// Writes the values that a line says.
+fn write_values(draft: &mut Draft, value: &Value<'_>) -> Result<(), AllocError>
+    ensures { OnOk result (draft.new
+        ≡ draft_with_all (plains_of_list (map plain_value (line_value_view value.now)))
+        draft.old) }
 {
-    values_are_written_depth_first();
     match value {
-        Value::Needs(needs) => write_needs(writer, words, needs),
+        Value::Needs(needs) => write_needs(draft, needs),
         Value::Nothing => Ok(()),
-        _ => {
-            let word = write_first(writer, value)?;
-            words.push(word)?;
-            Ok(())
-        }
+        _ => write_first(draft, value),
     }
 }
 
-fn write_needs(
-    writer: &mut Writer,
-    words: &mut Vec<Val>,
-    needs: &[Dep<'_>],
-) -> Result<(), AllocError>
-    ensures { OnOk result ((vs : List Plain) (before : Writing)
-        → WritesList before vs words.old.items writer.old
-        → WritesList before (vs ++ map (λ d. plain_value (need (dependency d))) needs.now)
-        words.new.items writer.new) }
+fn write_needs(draft: &mut Draft, needs: &[Dep<'_>]) -> Result<(), AllocError>
+    ensures { OnOk result (draft.new
+        ≡ draft_with_all (plains_of_list (map (λ d. plain_value (need (dependency d))) needs.now))
+        draft.old) }
 {
-    values_are_written_depth_first();
     for need in needs {
-        let word = write_need(writer, need)?;
-        words.push(word)?;
+        write_need(draft, need)?;
     }
     Ok(())
 }
 
 // ---- folders and files
 
-fn write_folders(
-    alloc: Global,
-    writer: &mut Writer,
-    folders: &[Folder<'_>],
-) -> Result<Val, AllocError>
-    ensures { IfOk result (λ word. WritesValue writer.old
-        (array_of (map listed_folder_value folders.now)) word writer.new) }
+fn write_folders(draft: &mut Draft, folders: &[Folder<'_>]) -> Result<(), AllocError>
+    ensures { OnOk result
+        (draft.new ≡ draft_with (array_of (map listed_folder_value folders.now)) draft.old) }
 {
-    values_are_written_depth_first();
-    let mut words = Vec::with_capacity(alloc, folders.len())?;
+    draft.open_list()?;
     for folder in folders {
-        let word = write_folder(alloc, writer, folder)?;
-        words.push(word)?;
+        write_folder(draft, folder)?;
     }
-    writer.arr(&words)
+    draft.close_array()
 }
 
-fn write_folder(alloc: Global, writer: &mut Writer, folder: &Folder<'_>) -> Result<Val, AllocError>
-    ensures { IfOk result (λ word. WritesValue writer.old (listed_folder_value folder.now) word
-        writer.new) }
+fn write_folder(draft: &mut Draft, folder: &Folder<'_>) -> Result<(), AllocError>
+    ensures { OnOk result (draft.new ≡ draft_with (listed_folder_value folder.now) draft.old) }
 {
-    values_are_written_depth_first();
-    let name = writer.blob(folder.name)?;
-    let access = write_access(writer, &folder.access)?;
-    let files = write_files(alloc, writer, &folder.files)?;
-    writer.obj(&[name, access, files])
+    draft.open_list()?;
+    draft.blob(folder.name)?;
+    write_access(draft, &folder.access)?;
+    write_files(draft, &folder.files)?;
+    draft.close_object()
 }
 
-fn write_files(alloc: Global, writer: &mut Writer, files: &[File<'_>]) -> Result<Val, AllocError>
-    ensures { IfOk result (λ word. WritesValue writer.old
-        (array_of (map listed_file_value files.now)) word writer.new) }
+fn write_files(draft: &mut Draft, files: &[File<'_>]) -> Result<(), AllocError>
+    ensures { OnOk result
+        (draft.new ≡ draft_with (array_of (map listed_file_value files.now)) draft.old) }
 {
-    values_are_written_depth_first();
-    let mut words = Vec::with_capacity(alloc, files.len())?;
+    draft.open_list()?;
     for file in files {
-        let word = write_file(writer, file)?;
-        words.push(word)?;
+        write_file(draft, file)?;
     }
-    writer.arr(&words)
+    draft.close_array()
 }
 
-fn write_file(writer: &mut Writer, file: &File<'_>) -> Result<Val, AllocError>
-    ensures { IfOk result (λ word. WritesValue writer.old (listed_file_value file.now) word
-        writer.new) }
+fn write_file(draft: &mut Draft, file: &File<'_>) -> Result<(), AllocError>
+    ensures { OnOk result (draft.new ≡ draft_with (listed_file_value file.now) draft.old) }
 {
-    values_are_written_depth_first();
-    let name = writer.blob(file.name)?;
-    let access = write_access(writer, &file.access)?;
-    let hash = write_hash(writer, &file.hash)?;
-    writer.obj(&[name, access, Val::of(0), Val::of(0), hash])
+    draft.open_list()?;
+    draft.blob(file.name)?;
+    write_access(draft, &file.access)?;
+    draft.null()?;
+    draft.null()?;
+    write_hash(draft, &file.hash)?;
+    draft.close_object()
 }
 
-fn write_access(writer: &mut Writer, access: &Option<Access<'_>>) -> Result<Val, AllocError>
-    ensures { IfOk result (λ word. WritesValue writer.old
-        (listed_access_value (access_views access.now)) word writer.new) }
+fn write_access(draft: &mut Draft, access: &Option<Access<'_>>) -> Result<(), AllocError>
+    ensures { OnOk result
+        (draft.new ≡ draft_with (listed_access_value (access_views access.now)) draft.old) }
 {
     let Some(access) = access else {
-        return write_null(writer);
+        return draft.null();
     };
-    write_known_access(writer, access)
+    write_known_access(draft, access)
 }
 
-fn write_known_access(writer: &mut Writer, access: &Access<'_>) -> Result<Val, AllocError>
-    ensures { IfOk result (λ word. WritesValue writer.old
-        (listed_access_value (Some (access_view access.now))) word writer.new) }
+fn write_known_access(draft: &mut Draft, access: &Access<'_>) -> Result<(), AllocError>
+    ensures { OnOk result (draft.new
+        ≡ draft_with (listed_access_value (Some (access_view access.now))) draft.old) }
 {
-    values_are_written_depth_first();
-    let mode = writer.int(access.mode)?;
-    let user = writer.blob(access.user)?;
-    let group = writer.blob(access.group)?;
-    writer.obj(&[mode, user, group])
+    draft.open_list()?;
+    draft.int(access.mode)?;
+    draft.blob(access.user)?;
+    draft.blob(access.group)?;
+    draft.close_object()
 }
 
-fn write_hash(writer: &mut Writer, hash: &Option<Vec<u8>>) -> Result<Val, AllocError>
-    ensures { IfOk result (λ word. WritesValue writer.old
-        (listed_hash_value (hash_view hash.now)) word writer.new) }
+fn write_hash(draft: &mut Draft, hash: &Option<Vec<u8>>) -> Result<(), AllocError>
+    ensures { OnOk result
+        (draft.new ≡ draft_with (listed_hash_value (hash_view hash.now)) draft.old) }
 {
     match hash {
-        Some(hash) => writer.blob(hash),
-        None => write_null(writer),
+        Some(hash) => draft.blob(hash),
+        None => draft.null(),
     }
-}
-
-// Writes NULL.
-fn write_null(writer: &mut Writer) -> Result<Val, AllocError>
-    ensures { IfOk result (λ word. WritesValue writer.old null word writer.new) }
-{
-    values_are_written_depth_first();
-    Ok(Val::of(0))
 }

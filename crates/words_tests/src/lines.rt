@@ -66,26 +66,35 @@ pub fn add_command(alloc: Global, line: &Words, answer: &mut Vec<u8>) -> Result<
     let Some(command) = command_of(alloc, line)? else {
         return answer.extend_from_slice(b"none");
     };
-    add_word(answer, applet_name(command.applet()))?;
+    add_applet(&command, answer)?;
     add_flags(&command, answer)?;
     add_next(alloc, u128::from(command.behind()), answer)?;
     add_operands(alloc, &command, answer)
 }
 
-fn applet_name(applet: Applet) -> &'static [u8] {
-    match applet {
-        Applet::Add => b"add",
-        Applet::Del => b"del",
-        Applet::Upgrade => b"upgrade",
-        Applet::Fix => b"fix",
-        Applet::Info => b"info",
-        Applet::Verify => b"verify",
-        Applet::Adbdump => b"adbdump",
-        Applet::Mkpkg => b"mkpkg",
-        Applet::Mkndx => b"mkndx",
-        Applet::Version => b"version",
-        Applet::Demo => b"demo",
+/// The applets, by their words.
+#[rattlefmt::skip]
+const APPLETS: [(Applet, &[u8]); 11] = [
+    (Applet::Add, b"add"),
+    (Applet::Del, b"del"),
+    (Applet::Upgrade, b"upgrade"),
+    (Applet::Fix, b"fix"),
+    (Applet::Info, b"info"),
+    (Applet::Verify, b"verify"),
+    (Applet::Adbdump, b"adbdump"),
+    (Applet::Mkpkg, b"mkpkg"),
+    (Applet::Mkndx, b"mkndx"),
+    (Applet::Version, b"version"),
+    (Applet::Demo, b"demo"),
+];
+
+fn add_applet(command: &Command, answer: &mut Vec<u8>) -> Result<(), AllocError> {
+    for (applet, word) in &APPLETS {
+        if *applet == command.applet() {
+            add_word(answer, word)?;
+        }
     }
+    Ok(())
 }
 
 /// The options without a value, by their words.

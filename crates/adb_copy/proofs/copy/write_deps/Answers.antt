@@ -1,4 +1,5 @@
 use Rattle.std.proofs.Common.{◌≡◌, ◌-◌, ◌+◌, arith, ap, ◌∙◌}
+use Rattle.adb_view.specs.Plain.{Plain, arr_value}
 use Rattle.adb_view.specs.Entries.{array_entries}
 use Rattle.adb_view.specs.Adb.{payload_of}
 use Rattle.adb_tables.specs.Values.{entries_in, entry_in}
@@ -6,17 +7,21 @@ use Rattle.adb_schema.specs.Views.{dependency_value}
 use Rattle.adb_fields.specs.ListValue.{list_value}
 use Rattle.adb_tables.specs.declared.tables.Which.TheVariants as Tables
 use Rattle.adb_tables.specs.declared.tables.Kind.TheVariants as Kinds
-use Rattle.adb_copy.proofs.Lists.{zeros_more, zeros_start, if_ok, list_written}
+use Rattle.adb_values.proofs.Lists.{closed_as}
+use Rattle.adb_copy.specs.Zeros.{all_without_zeros, without_zeros}
+use Rattle.adb_copy.proofs.Lists.{zeros_given, zeros_left}
 use Rattle.adb_copy.proofs.Shapes.{array_shape}
+use Rattle.adb_copy.proofs.Zeros.{zeros_array}
 use Rattle.adb_copy.proofs.copy.write_deps.Goals as goal
-
-pub loop-i-init : goal.loop-i-init
-loop-i-init c = zeros_start c.values_are_written_depth_first.ensures.none _ _ c.new-words.ensures.items (entries_in (list_value c.args.deps))
 
 pub loop-i-preserved : goal.loop-i-preserved
 loop-i-preserved c =
     let n : c.loop-i.i + 1 - 1 ≡ c.loop-i.i = omega arith in
-    zeros_more c.values_are_written_depth_first.ensures.push _ _ _ _ _ (entries_in (list_value c.args.deps)) (dependency_value c.get.result) c.loop-i.i _ (omega (arith, c.len-i-end.ensures, c.loop-i-test.true)) (c.get.ensures ∙ ap (entry_in (list_value c.args.deps)) n) c.loop-i.invariant c.in_ok-write_dep.ensures c.in_ok-push.ensures.items
+    zeros_left c.loop-i.i (entries_in (list_value c.args.deps)) (dependency_value c.get.result) _ _ _ (omega (arith, c.len-i-end.ensures, c.loop-i-test.true)) (c.get.ensures ∙ ap (entry_in (list_value c.args.deps)) n) c.loop-i.invariant c.in_ok-write_dep.ensures
 
 pub returns : goal.returns
-returns c = if_ok _ _ c.arr.result (λ word law. list_written _ (list_value c.args.deps) (array_shape c.values_have_their_shape.ensures.word (payload_of c.args.deps.adb) (Kinds.Obj Tables.Dep) (array_entries c.args.deps.entries)) _ _ _ _ _ c.loop-i.i word (omega (arith, c.len-i-end.ensures, c.loop-i-test.false, c.loop-i.auto.i-end)) c.loop-i.invariant c.deref.ensures.value law) c.arr.ensures.written
+returns c =
+    let v : Plain = list_value c.args.deps in
+    closed_as arr_value (without_zeros v) (all_without_zeros (entries_in v)) c.args.draft.now _ _ c.close_array.result
+    (zeros_array _ v (array_shape c.values_have_their_shape.ensures.word (payload_of c.args.deps.adb) (Kinds.Obj Tables.Dep) (array_entries c.args.deps.entries))) c.close_array.ensures.ok
+    (zeros_given c.loop-i.i (entries_in v) _ _ _ (omega (arith, c.len-i-end.ensures, c.loop-i-test.false, c.loop-i.auto.i-end)) c.loop-i.invariant c.in_ok-open_list.ensures.ok)

@@ -15,11 +15,14 @@ use Rattle.adb_fields.proofs.repeated.file_twice.Goals as goal
 pub loop-i-preserved : goal.loop-i-preserved
 loop-i-preserved c =
     let g : Plain → Option Pair = λ folder. twice (map name_of (files_in folder)) in
-    one_first (payload_of c.args.adb) (Kinds.Obj Tables.Dir) g (array_entries c.objects_field-folders.result) c.loop-i.i c.entry_word.result c.loop-i.first c.in_ok-file_twice_in.field-0 _ _ c.objects_field-folders.ensures.sound (grind arith) c.entry_word.ensures c.in_ok-file_twice_in.ensures c.earlier-first.ensures c.loop-i.invariant
+    record {
+      so_far = one_first (payload_of c.args.adb) (Kinds.Obj Tables.Dir) g (array_entries c.objects_field-folders.result) c.loop-i.i c.entry_word-folder.result c.loop-i.first c.in_ok-file_twice_in.field-0 _ _ c.objects_field-folders.ensures.sound (grind arith) c.entry_word-folder.ensures c.in_ok-file_twice_in.ensures.pair c.earlier-first.ensures c.loop-i.invariant.so_far;
+      lists = c.in_ok-file_twice_in.ensures.lists;
+    }
 
-pub returns : goal.returns
-returns c =
+pub returns-clause-pair : goal.returns-clause-pair
+returns-clause-pair c =
     let g : Plain → Option Pair = λ folder. twice (map name_of (files_in folder)) in
-    no_first (payload_of c.args.adb) (Kinds.Obj Tables.Dir) g (array_entries c.objects_field-folders.result) c.loop-i.i c.loop-i.first _ c.objects_field-folders.ensures.sound (grind arith) c.loop-i.invariant
+    no_first (payload_of c.args.adb) (Kinds.Obj Tables.Dir) g (array_entries c.objects_field-folders.result) c.loop-i.i c.loop-i.first _ c.objects_field-folders.ensures.sound (grind arith) c.loop-i.invariant.so_far
     ∙ (one_each (λ folder. map name_of (files_in folder)) (plains_at (payload_of c.args.adb) (Kinds.Obj Tables.Dir) (array_entries c.objects_field-folders.result))
     ∙ ap (λ (folders : Plain). twice_in_one (map (λ folder. map name_of (files_in folder)) (list_of (entries_in folders)))) c.objects_field-folders.ensures.value)

@@ -2,6 +2,7 @@
 use Rattle.std.proofs.Common.{◌≡◌, map, drop}
 use Rattle.adb_view.specs.Adb.{payload_of}
 use Rattle.adb_view.specs.Entries.{array_entries}
+use Rattle.adb_fields.specs.ListsOf.{AreListsOf}
 use Rattle.adb_fields.specs.Pairs.{earlier, earliest}
 use Rattle.adb_fields.specs.Repeated.{twice, name_of, files_in}
 use Rattle.adb_fields.specs.NamedTexts.{plains_at}
@@ -10,6 +11,7 @@ use Rattle.adb_tables.specs.declared.tables.Which.TheVariants as Tables
 use Rattle.adb_fields.proofs.repeated.file_twice.Given as goal
 
 abbrev pub invariant-loop-i : goal.invariant-loop-i
-invariant-loop-i l =
-    earlier l.first (earliest (map (λ folder. twice (map name_of (files_in folder))) (drop l.i (plains_at (payload_of l.adb) (Kinds.Obj Tables.Dir) (array_entries l.folders)))))
-    ≡ earliest (map (λ folder. twice (map name_of (files_in folder))) (plains_at (payload_of l.adb) (Kinds.Obj Tables.Dir) (array_entries l.folders)))
+invariant-loop-i l = record {
+  so_far : earlier l.first (earliest (map (λ folder. twice (map name_of (files_in folder))) (drop l.i (plains_at (payload_of l.adb) (Kinds.Obj Tables.Dir) (array_entries l.folders))))) ≡ earliest (map (λ folder. twice (map name_of (files_in folder))) (plains_at (payload_of l.adb) (Kinds.Obj Tables.Dir) (array_entries l.folders)));
+  lists : AreListsOf l.adb Tables.File l.lists;
+}

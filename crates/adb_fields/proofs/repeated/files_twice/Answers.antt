@@ -14,10 +14,13 @@ use Rattle.adb_fields.proofs.repeated.files_twice.Goals as goal
 pub loop-i-preserved : goal.loop-i-preserved
 loop-i-preserved c =
     let g : Plain → Option Pair = λ pkg. twice_in_one (map (λ folder. map name_of (files_in folder)) (folders_in pkg)) in
-    one_first (payload_of c.args.adb) (Kinds.Obj Tables.Package) g (array_entries c.args.packages) c.loop-i.i c.entry_word.result c.loop-i.first c.in_ok-file_twice.field-0 _ _ c.requires (grind arith) c.entry_word.ensures c.in_ok-file_twice.ensures c.earlier-first.ensures c.loop-i.invariant
+    record {
+      so_far = one_first (payload_of c.args.adb) (Kinds.Obj Tables.Package) g (array_entries c.args.packages) c.loop-i.i c.entry_word-pkg.result c.loop-i.first c.in_ok-file_twice.field-0 _ _ c.requires (grind arith) c.entry_word-pkg.ensures c.in_ok-file_twice.ensures.pair c.earlier-first.ensures c.loop-i.invariant.so_far;
+      lists = c.in_ok-file_twice.ensures.lists;
+    }
 
 pub returns : goal.returns
 returns c =
     let g : Plain → Option Pair = λ pkg. twice_in_one (map (λ folder. map name_of (files_in folder)) (folders_in pkg)) in
-    no_first (payload_of c.args.adb) (Kinds.Obj Tables.Package) g (array_entries c.args.packages) c.loop-i.i c.loop-i.first _ c.requires (grind arith) c.loop-i.invariant
+    no_first (payload_of c.args.adb) (Kinds.Obj Tables.Package) g (array_entries c.args.packages) c.loop-i.i c.loop-i.first _ c.requires (grind arith) c.loop-i.invariant.so_far
     ∙ several_each (λ pkg. map (λ folder. map name_of (files_in folder)) (folders_in pkg)) (plains_at (payload_of c.args.adb) (Kinds.Obj Tables.Package) (array_entries c.args.packages))

@@ -12,8 +12,8 @@ use Rattle.adb_tables.proofs.walk.+walk.Given as goal
 abbrev pub decreases-walk_entries : goal.decreases-walk_entries
 decreases-walk_entries l = rank l.kind + 1
 
-abbrev pub decreases-walk_fields : goal.decreases-walk_fields
-decreases-walk_fields l = rank_of_all l.fields.now + 1
+abbrev pub decreases-walk_each_field : goal.decreases-walk_each_field
+decreases-walk_each_field l = rank_of_all l.fields.now + 1
 
 abbrev pub decreases-walk_value : goal.decreases-walk_value
 decreases-walk_value l = rank l.kind
@@ -24,8 +24,8 @@ invariant-walk_entries-loop-i l = record {
   bound : l.count ≤ LIMIT;
 }
 
-abbrev pub invariant-walk_fields-loop-i : goal.invariant-walk_fields-loop-i
-invariant-walk_fields-loop-i l = record {
+abbrev pub invariant-walk_each_field-loop-i : goal.invariant-walk_each_field-loop-i
+invariant-walk_each_field-loop-i l = record {
   so_far : fields_walk (payload_of l.adb) (shapes_of (drop l.i l.fields)) l.count (drop l.i (array_entries l.entries)) ≡ fields_walk (payload_of l.adb) (shapes_of l.fields) l.fn.before (array_entries l.entries);
   bound : l.count ≤ LIMIT;
 }

@@ -10,4 +10,4 @@ pub of-requires-clause-sound : goal.of-requires-clause-sound
 of-requires-clause-sound c =
     let P : ℕ → Type 0 = λ w. is_sound (payload_of c.args.adb) (Kinds.Obj c.args.which) w ≡ true in
     subst P c.root.ensures
-    (walk_sound c.value_is_found_where_visits_are_sound.ensures.word (payload_of c.args.adb) (Kinds.Obj c.args.which) c.root.result c.in_ok-walk_value.field-0 (sym c.in_ok-walk_value.ensures.exact))
+    (walk_sound c.value_is_found_where_visits_are_sound.ensures.word (payload_of c.args.adb) (Kinds.Obj c.args.which) c.root.result c.in-Ok.field-0 (sym c.in-Ok.ensures.exact))

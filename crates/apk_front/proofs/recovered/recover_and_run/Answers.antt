@@ -17,7 +17,7 @@ returns-in-Ok-clause-run g c =
       behind = c.quiet_then_old_or_new_is_old_or_new.ensures.both;
       still = c.moments_on_the_way_join.ensures.still;
       before = c.moments_on_the_way_join.ensures.before;
-    }) c.args.command.now (output_if (effect_of c.args.command.now.applet) c.args.command.now) c.run_recovered.result _ _ _ c.requires (is_recovery _ _ c.in-Ok.ensures.moments c.in-Ok.ensures.reads c.in-Ok.ensures.waiting c.in-Ok.ensures.last c.in-Ok.ensures.idle) c.in-Ok.ensures.good c.in-Ok.ensures.files c.in-Ok.ensures.settled c.run_recovered.ensures.run
+    }) c.args.command.now (output_if (effect_of c.args.command.now.applet) c.args.command.now) c.run_recovered.result _ _ _ c.requires (is_recovery _ _ c.in-Ok.ensures.moments c.in-Ok.ensures.reads c.in-Ok.ensures.bytes c.in-Ok.ensures.waiting c.in-Ok.ensures.last c.in-Ok.ensures.idle) c.in-Ok.ensures.good c.in-Ok.ensures.files c.in-Ok.ensures.settled c.run_recovered.ensures.run
     c.run_recovered.ensures.undone
 
 pub returns-in-Ok-clause-proper : goal.returns-in-Ok-clause-proper
@@ -41,4 +41,4 @@ returns-in-Err-clause-run g c =
       behind = c.quiet_then_old_or_new_is_old_or_new.ensures.both;
       still = c.moments_on_the_way_join.ensures.still;
       before = c.moments_on_the_way_join.ensures.before;
-    }) c.args.command.now _ (output_if (effect_of c.args.command.now.applet) c.args.command.now) c.refuse_to_recover.result _ _ c.requires (is_recovery _ _ c.in-Err.ensures.moments c.in-Err.ensures.reads c.in-Err.ensures.waiting c.in-Err.ensures.last c.in-Err.ensures.idle) (λ cause is. c.in-Err.ensures.bad cause (ap Err is)) c.in-Err.ensures.bad_idle c.refuse_to_recover.ensures.refused
+    }) c.args.command.now _ (output_if (effect_of c.args.command.now.applet) c.args.command.now) c.refuse_to_recover.result _ _ c.requires (is_recovery _ _ c.in-Err.ensures.moments c.in-Err.ensures.reads c.in-Err.ensures.bytes c.in-Err.ensures.waiting c.in-Err.ensures.last c.in-Err.ensures.idle) (λ cause is. c.in-Err.ensures.bad cause (ap Err is)) c.in-Err.ensures.bad_idle c.refuse_to_recover.ensures.refused

@@ -1,5 +1,5 @@
 use Rattle.adb_tables.specs.declared.tables.Which.TheVariants.{Idb}
-use Rattle.db_core.proofs.Opened.{payload_head, payload_sound}
+use Rattle.adb_schema.proofs.SoundPayload.{payload_head, payload_sound}
 use Rattle.db_core.proofs.db.open_idb.Goals as goal
 
 pub open_root-requires-clause-head : goal.open_root-requires-clause-head

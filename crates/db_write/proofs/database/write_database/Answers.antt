@@ -1,10 +1,12 @@
-use Rattle.adb_copy.proofs.Lists.{if_ok}
-use Rattle.db_write.specs.NewDatabase.{database_value}
+use Rattle.std.proofs.Common.{refl}
+use Rattle.adb_view.specs.Plain.{none, more, arr_value, obj_value}
+use Rattle.adb_values.proofs.Lists.{closed}
+use Rattle.db_core.specs.Seen.{members_of}
+use Rattle.db_write.specs.NewDatabase.{database_value, packages_after}
 use Rattle.db_write.proofs.database.write_database.Goals as goal
 
 pub returns : goal.returns
 unfolding database_value
 returns c =
-    let law = c.values_are_written_depth_first.ensures in
-    let all = law.more _ _ _ _ _ _ _ c.in_ok-packages.ensures (law.none _) in
-    if_ok _ _ c.obj.result (λ root made. made _ _ all) c.obj.ensures.written
+    closed obj_value (more (arr_value (packages_after (members_of c.args.members.now) c.args.flags.now)) none) c.args.draft.now _ _ c.close_object.result c.close_object.ensures.ok
+    (rw (c.in_ok-write_packages.ensures, c.in_ok-open_list.ensures.ok) refl)

@@ -1,8 +1,11 @@
--- The members so far were written, and their flags are passed.
+-- With the members that are left, by the flags that are left, it has all.
+use Rattle.std.proofs.Common.{◌≡◌, drop}
+use Rattle.adb_values.specs.Drafts.{draft_with_all}
 use Rattle.db_core.specs.Seen.{members_of}
-use Rattle.db_write.specs.NewDatabase.{member_file_count, package_after}
-use Rattle.db_write.proofs.Segments.{IsSoFar}
+use Rattle.db_write.specs.NewDatabase.{each_by_flags, member_file_count, package_after}
 use Rattle.db_write.proofs.packages.write_packages.Given as goal
 
 abbrev pub invariant-loop-i : goal.invariant-loop-i
-invariant-loop-i l = IsSoFar member_file_count package_after (members_of l.members) l.flags l.i l.left l.initial.writer l.words.items l.writer
+invariant-loop-i l =
+    draft_with_all (each_by_flags member_file_count package_after (drop l.i (members_of l.members)) l.left) l.draft
+    ≡ draft_with_all (each_by_flags member_file_count package_after (members_of l.members) l.flags) l.initial.draft

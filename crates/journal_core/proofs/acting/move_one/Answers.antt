@@ -1,3 +1,4 @@
+use Rattle.journal_core.proofs.OldOrNew.{move_bytes}
 use Rattle.journal_core.proofs.Leaving.{move_waiting}
 use Rattle.journal_core.proofs.Acted.{move_moments, move_reads, moved_acting, move_proper}
 use Rattle.journal_core.proofs.Keeping.{move_keeps}
@@ -24,3 +25,6 @@ returns-clause-reads g c =
 
 pub returns-clause-waiting : goal.returns-clause-waiting
 returns-clause-waiting g c = move_waiting _ c.names_are_free.ensures.free c.names_are_free.ensures.few _ _ c.args.j _ _ c.stage_name.ensures c.write.ensures c.move_waiting.result c.move_waiting.ensures.moves
+
+pub returns-clause-bytes : goal.returns-clause-bytes
+returns-clause-bytes g c = move_bytes _ c.names_are_free.ensures.free c.names_are_free.ensures.few _ _ c.args.j c.args.acted c.requires.within _ _ c.stage_name.ensures c.write.ensures c.move_waiting.result c.move_waiting.ensures.moves

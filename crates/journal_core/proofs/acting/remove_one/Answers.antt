@@ -1,3 +1,4 @@
+use Rattle.journal_core.proofs.OldOrNew.{removal_bytes}
 use Rattle.journal_core.proofs.Leaving.{removal_waiting}
 use Rattle.journal_core.proofs.Acted.{remove_moments, remove_reads, removed_acting}
 use Rattle.journal_core.proofs.Keeping.{removal_keeps}
@@ -20,3 +21,6 @@ returns-clause-reads g c =
 
 pub returns-clause-waiting : goal.returns-clause-waiting
 returns-clause-waiting g c = removal_waiting _ c.names_are_free.ensures.free c.names_are_free.ensures.few _ _ c.args.i _ c.removal.ensures c.remove.result c.remove.ensures.moves
+
+pub returns-clause-bytes : goal.returns-clause-bytes
+returns-clause-bytes g c = removal_bytes _ c.names_are_free.ensures.free c.names_are_free.ensures.few _ _ c.args.i _ c.removal.ensures c.remove.result c.remove.ensures.moves

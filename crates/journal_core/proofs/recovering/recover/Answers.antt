@@ -1,3 +1,4 @@
+use Rattle.journal_core.proofs.OldOrNew.{all_bytes, replay_bytes}
 use Rattle.journal_core.proofs.Leaving.{all_lasts, waiting_on}
 use Rattle.std.proofs.Common.{rules}
 use Rattle.journal_core.proofs.Replaying.{good_idle}
@@ -49,3 +50,12 @@ returns-clause-waiting g c = waiting_on _ _ _ c.replay.ensures.waiting c.empty_s
 
 pub returns-clause-last : goal.returns-clause-last
 returns-clause-last g c = all_lasts _ _ _ c.replay.ensures.last c.in_ok-replay.ensures.replayed c.empty_stage.ensures.last
+
+pub returns-in_err-replay-clause-bytes : goal.returns-in_err-replay-clause-bytes
+returns-in_err-replay-clause-bytes g c = replay_bytes _ _ c.replay.ensures.bytes
+
+pub returns-in_err-empty_stage-clause-bytes : goal.returns-in_err-empty_stage-clause-bytes
+returns-in_err-empty_stage-clause-bytes g c = all_bytes _ _ _ c.replay.ensures.bytes c.empty_stage.ensures.shown
+
+pub returns-clause-bytes : goal.returns-clause-bytes
+returns-clause-bytes g c = all_bytes _ _ _ c.replay.ensures.bytes c.empty_stage.ensures.shown

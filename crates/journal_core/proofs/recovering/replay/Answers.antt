@@ -1,6 +1,7 @@
+use Rattle.journal_core.proofs.OldOrNew.{recover_bytes_none}
 use Rattle.journal_core.proofs.Leaving.{lasts_back, lasts_none, waiting_back, waiting_none}
 use Rattle.std.proofs.Common.{refl}
-use Rattle.journal_core.proofs.Replaying.{absent_good, absent_replayed, absent_settled, found_bad, found_bad_idle, found_good_called, found_idle, found_moments, found_proper, found_reads, found_replayed, found_settled, idle_none, none_found, some_found}
+use Rattle.journal_core.proofs.Replaying.{absent_good, absent_replayed, absent_settled, found_bad, found_bad_idle, found_bytes, found_good_called, found_idle, found_moments, found_proper, found_reads, found_replayed, found_settled, idle_none, none_found, some_found}
 use Rattle.journal_core.proofs.Lasting.{found_gone, none_gone}
 use Rattle.journal_core.proofs.recovering.replay.Goals as goal
 
@@ -78,3 +79,15 @@ returns-in-Some-clause-last g c = lasts_back _ _ _ c.read_all.ensures.tree.same 
 
 pub returns-clause-last : goal.returns-clause-last
 returns-clause-last g c = lasts_none _ _ c.read_all.ensures.tree.same
+
+pub returns-in_err-name-clause-bytes : goal.returns-in_err-name-clause-bytes
+returns-in_err-name-clause-bytes g c = recover_bytes_none _ _ refl
+
+pub returns-in_err-file-clause-bytes : goal.returns-in_err-file-clause-bytes
+returns-in_err-file-clause-bytes g c = recover_bytes_none _ _ c.read_all.ensures.tree.same
+
+pub returns-in-Some-clause-bytes : goal.returns-in-Some-clause-bytes
+returns-in-Some-clause-bytes g c = found_bytes _ _ _ c.read_all.ensures.tree.same _ _ c.in_ok-name.ensures (some_found _ _ _ _ c.in_ok-file.ensures.answer c.in-Some.is) c.replay_file.ensures.bytes
+
+pub returns-clause-bytes : goal.returns-clause-bytes
+returns-clause-bytes g c = recover_bytes_none _ _ c.read_all.ensures.tree.same

@@ -1,3 +1,4 @@
+use Rattle.journal_core.proofs.OldOrNew.{bytes_end, found_bytes}
 use Rattle.journal_core.proofs.Leaving.{act_lasts, end_lasts, intent_waiting, lasts_none, waiting_none, waiting_on}
 use Rattle.std.proofs.Common.{refl}
 use Rattle.journal_core.proofs.Replaying.{no_fault}
@@ -80,3 +81,12 @@ returns-clause-waiting g c = waiting_on _ _ _ (intent_waiting _ _ c.apply_all.en
 
 pub returns-clause-last : goal.returns-clause-last
 returns-clause-last g c = end_lasts _ _ _ c.apply_all.ensures.waiting c.finish.ensures.last
+
+pub returns-in_err-apply_all-clause-bytes : goal.returns-in_err-apply_all-clause-bytes
+returns-in_err-apply_all-clause-bytes g c = found_bytes _ _ c.in_ok-stage.ensures.intent c.in_ok-stage.ensures.none _ _ c.apply_all.ensures.bytes
+
+pub returns-in_err-finish-clause-bytes : goal.returns-in_err-finish-clause-bytes
+returns-in_err-finish-clause-bytes g c = found_bytes _ _ c.in_ok-stage.ensures.intent c.in_ok-stage.ensures.none _ _ (bytes_end _ _ _ _ c.apply_all.ensures.bytes c.finish.ensures.shown)
+
+pub returns-clause-bytes : goal.returns-clause-bytes
+returns-clause-bytes g c = found_bytes _ _ c.in_ok-stage.ensures.intent c.in_ok-stage.ensures.none _ _ (bytes_end _ _ _ _ c.apply_all.ensures.bytes c.finish.ensures.shown)

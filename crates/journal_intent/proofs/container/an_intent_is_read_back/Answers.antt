@@ -36,8 +36,3 @@ returns-clause-few c = λ removals writes none.
     let most = few_of (overflow_of v) (size_of v) (value_count v) none over in
     let names = names_few removals writes in
     omega (arith, most, names)
-
-pub returns-clause-short : goal.returns-clause-short
-returns-clause-short c = λ removals writes none.
-    let v = value_of_intent (intent_of_lists removals writes) in
-    fits_of (overflow_of v) (size_of v) (value_count v) none (c.a_value_overflows_exactly_past_a_limit.ensures v (value_normal removals writes))

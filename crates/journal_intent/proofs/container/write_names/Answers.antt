@@ -1,10 +1,16 @@
-use Rattle.journal_intent.proofs.Copies.{words_more}
-use Rattle.std.proofs.Common.{subst}
-use Rattle.adb_view.specs.Plain.{blob_value}
-use Rattle.adb_write.specs.DepthFirst.{WritesValue}
+use Rattle.std.proofs.Common.{List, ℕ, refl, ap, ◌∙◌, arith}
+use Rattle.adb_values.specs.Drafts.{draft_with}
+use Rattle.adb_values.proofs.Lists.{closed, left_more, list_given}
+use Rattle.adb_view.specs.Plain.{arr_value, blob_value}
+use Rattle.journal_intent.specs.IntentValue.{name_plains}
 use Rattle.journal_intent.proofs.container.write_names.Goals as goal
 
 pub loop-i-preserved : goal.loop-i-preserved
 loop-i-preserved c =
-    words_more c.values_are_written_depth_first.ensures.push c.args.names.now c.loop-i.i c.get.result.now _ _ _ _ _ _ c.get.ensures c.loop-i.invariant
-    (subst (λ b. WritesValue c.loop-i.writer (blob_value b) c.in_ok-blob.field-0 c.blob.new.self) c.as_bytes.ensures.value c.in_ok-blob.ensures.written) c.in_ok-push.ensures.items
+    left_more name_plains blob_value c.args.names.now _ (λ name names. refl) c.loop-i.i c.get.result.now _ _ c.get.ensures c.loop-i.invariant
+    (c.in_ok-blob.ensures.ok ∙ ap (λ (b : List ℕ). draft_with (blob_value b) c.loop-i.draft) c.as_bytes.ensures.value)
+
+pub returns : goal.returns
+returns c =
+    closed arr_value (name_plains c.args.names.now) c.args.draft.now _ _ c.close_array.result c.close_array.ensures.ok
+    (list_given name_plains c.args.names.now refl c.loop-i.i _ _ _ (omega arith) c.loop-i.invariant c.in_ok-open_list.ensures.ok)

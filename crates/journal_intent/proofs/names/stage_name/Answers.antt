@@ -4,7 +4,7 @@ use Rattle.journal_intent.specs.Intent.{stage_name}
 use Rattle.journal_intent.proofs.Digits.{stage_is_name}
 use Rattle.journal_intent.proofs.names.stage_name.Goals as goal
 
-pub name_of_bytes-requires : goal.name_of_bytes-requires
-name_of_bytes-requires c =
+pub of-requires : goal.of-requires
+of-requires c =
     let e : c.as_bytes.result.now ≡ stage_name c.args.k = search rules in
     ap is_name e ∙ stage_is_name c.args.k

@@ -1,4 +1,4 @@
-use Rattle.std.proofs.Common.{◌≡◌, ℕ, suc, ◌+◌, false, arith, subst, get_or}
+use Rattle.std.proofs.Common.{◌≡◌, suc, ◌+◌, false, arith, subst, get_or}
 use Rattle.std.specs.Ordering.{is_lt}
 use Rattle.make_index.specs.EntryOrder.{entry_cmp}
 use Rattle.list_order.specs.Sorted.{sorted_by}

@@ -1,9 +1,8 @@
-use Rattle.std.proofs.Common.{take, map}
-use Rattle.adb_write.specs.DepthFirst.{WritesValues}
-use Rattle.make_info.specs.Values.{plains_of_list}
+use Rattle.std.proofs.Common.{◌≡◌, drop, map}
+use Rattle.make_info.proofs.Mapped.{with_list}
 use Rattle.make_index.specs.Views.{entry_view}
 use Rattle.make_index.proofs.index.write_entries.Given as goal
 
--- those so far were written
+-- with those that are left it has all
 abbrev pub invariant-loop-entry : goal.invariant-loop-entry
-invariant-loop-entry l = WritesValues l.initial.writer (plains_of_list (map entry_view (take l.entry-index l.entries))) l.words.items l.writer
+invariant-loop-entry l = with_list (map entry_view (drop l.entry-index l.entries)) l.draft ≡ with_list (map entry_view l.entries) l.initial.draft

@@ -1,7 +1,15 @@
-use Rattle.std.proofs.lemmas.Result.{IfOk-weaker}
+use Rattle.std.proofs.Common.{ap, refl, ◌∙◌}
+use Rattle.adb_view.specs.Plain.{none, more, blob_value, obj_value}
+use Rattle.adb_values.specs.Drafts.{draft_with}
+use Rattle.adb_values.proofs.Lists.{closed}
+use Rattle.dep_core.specs.Meets.{dependency}
+use Rattle.dep_core.specs.Value.{dep_value}
+use Rattle.make_info.specs.Values.{number_value}
 use Rattle.make_info.proofs.writing.write_need.Goals as goal
 
 pub returns : goal.returns
 returns c =
-    let law = c.values_are_written_depth_first.ensures in
-    IfOk-weaker c.obj.result _ _ (λ word k. k _ _ (law.more _ _ _ _ _ _ _ c.in_ok-name.ensures.written (law.more _ _ _ _ _ _ _ c.in_ok-version.ensures (law.more _ _ _ _ _ _ _ c.in_ok-matching.ensures (law.none _))))) c.obj.ensures.written
+    let v = dep_value (dependency c.args.dep.now) in
+    let matching = c.in_ok-write_number.ensures ∙ ap (λ n. draft_with (number_value n) c.write_version.new.draft) c.matching_of.ensures in
+    closed obj_value (more (blob_value v.name) (more (blob_value v.version) (more (number_value v.matching) none))) c.args.draft.now _ _ c.close_object.result c.close_object.ensures.ok
+    (rw (matching, c.in_ok-write_version.ensures, c.in_ok-blob.ensures.ok, c.in_ok-open_list.ensures.ok) refl)

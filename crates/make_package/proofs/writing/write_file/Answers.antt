@@ -1,20 +1,15 @@
-use Rattle.std.proofs.Common.{ℕ, List, subst, sym}
-use Rattle.adb_view.specs.Plain.{null, blob_value}
-use Rattle.adb_write.specs.DepthFirst.{WritesValue}
+use Rattle.std.proofs.Common.{List, ℕ, ap, refl, ◌∙◌}
+use Rattle.adb_view.specs.Plain.{blob_value, obj_value}
+use Rattle.adb_values.specs.Drafts.{draft_with}
+use Rattle.adb_values.proofs.Lists.{closed}
 use Rattle.make_info.specs.Values.{size_value}
+use Rattle.make_package.specs.Package.{file_fields}
 use Rattle.make_package.proofs.writing.write_file.Goals as goal
 
 pub returns : goal.returns
 returns c =
-    let laws = c.values_are_written_depth_first.ensures in
-    let S : ℕ → Type 0 = λ n. WritesValue c.write_acl.new.writer (size_value n) c.in_ok-size.size c.write_size.new.writer in
-    let N : ℕ → Type 0 = λ w. WritesValue c.write_size.new.writer null w c.write_size.new.writer in
-    let H : List ℕ → Type 0 = λ b. WritesValue c.write_size.new.writer (blob_value b) c.in_ok-hash.hash c.blob-2.new.self in
-    let T : List ℕ → Type 0 = λ b. WritesValue c.blob-2.new.self (blob_value b) c.in_ok-target.target c.blob-3.new.self in
-    c.in_ok-word.ensures.written _ _
-    (laws.more _ _ _ _ _ _ _ c.in_ok-name.ensures.written
-    (laws.more _ _ _ _ _ _ _ c.in_ok-acl.ensures
-    (laws.more _ _ _ _ _ _ _ (subst S c.size.ensures c.in_ok-size.ensures)
-    (laws.more _ _ _ _ _ _ _ (subst N (sym c.of-time.ensures) (laws.null c.write_size.new.writer))
-    (laws.more _ _ _ _ _ _ _ (subst H c.hash.ensures c.in_ok-hash.ensures.written)
-    (laws.more _ _ _ _ _ _ _ (subst T c.target.ensures c.in_ok-target.ensures.written) (laws.none _)))))))
+    let size = c.in_ok-write_size.ensures ∙ ap (λ (n : ℕ). draft_with (size_value n) c.write_acl.new.draft) c.size.ensures in
+    let hash = c.in_ok-blob-2.ensures.ok ∙ ap (λ (b : List ℕ). draft_with (blob_value b) c.null.new.self) c.hash.ensures in
+    let target = c.in_ok-blob-3.ensures.ok ∙ ap (λ (b : List ℕ). draft_with (blob_value b) c.blob-2.new.self) c.target.ensures in
+    closed obj_value (file_fields c.args.file.now.name.now c.args.file.now.kind) c.args.draft.now _ _ c.close_object.result c.close_object.ensures.ok
+    (rw (target, hash, c.in_ok-null.ensures.ok, size, c.in_ok-write_acl.ensures, c.in_ok-blob.ensures.ok, c.in_ok-open_list.ensures.ok) refl)

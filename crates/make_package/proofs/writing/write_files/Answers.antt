@@ -1,8 +1,16 @@
+use Rattle.std.proofs.Common.{arith, map}
+use Rattle.adb_view.specs.Plain.{arr_value}
+use Rattle.adb_values.proofs.Lists.{closed}
+use Rattle.make_info.specs.Values.{plains_of_list}
+use Rattle.make_info.proofs.Mapped.{mapped_left, mapped_open}
 use Rattle.make_package.specs.Packed.{packed_file}
-use Rattle.make_package.proofs.WriteLemmas.{written_more}
 use Rattle.make_package.proofs.writing.write_files.Goals as goal
 
 pub loop-file-preserved : goal.loop-file-preserved
 loop-file-preserved c =
-    written_more packed_file c.args.files.now c.loop-file.file-index c.file-item.result c.file-item.result _ _ _ _ c.loop-file-test.true c.file-item.is c.in_ok-push.ensures.items
-    (c.values_are_written_depth_first.ensures.push _ _ _ _ _ _ _ c.loop-file.invariant c.in_ok-word.ensures)
+    mapped_left packed_file c.args.files.now c.loop-file.file-index _ _ _ _ _ c.loop-file-test.true c.file-item.is c.loop-file.invariant c.in_ok-write_file.ensures
+
+pub returns : goal.returns
+returns c =
+    closed arr_value (plains_of_list (map packed_file c.args.files.now)) c.args.draft.now _ _ c.close_array.result c.close_array.ensures.ok
+    (mapped_open packed_file c.args.files.now c.loop-file.file-index _ _ _ (omega arith) c.loop-file.invariant c.in_ok-open_list.ensures.ok)

@@ -1,8 +1,8 @@
-use Rattle.std.proofs.Common.{map, take}
-use Rattle.adb_write.specs.DepthFirst.{WritesValues}
-use Rattle.make_info.specs.Values.{plains_of_list}
+use Rattle.std.proofs.Common.{◌≡◌, drop, map}
+use Rattle.make_info.proofs.Mapped.{with_list}
 use Rattle.make_package.specs.Packed.{packed_file}
 use Rattle.make_package.proofs.writing.write_files.Given as goal
 
+-- with those that are left it has all
 abbrev pub invariant-loop-file : goal.invariant-loop-file
-invariant-loop-file l = WritesValues l.initial.writer (plains_of_list (map packed_file (take l.file-index l.files))) l.words.items l.writer
+invariant-loop-file l = with_list (map packed_file (drop l.file-index l.files)) l.draft ≡ with_list (map packed_file l.files) l.initial.draft

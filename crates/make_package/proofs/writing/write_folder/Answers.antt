@@ -1,16 +1,15 @@
-use Rattle.std.proofs.Common.{List, map, subst}
-use Rattle.adb_view.specs.Plain.{arr_value}
-use Rattle.adb_write.specs.DepthFirst.{WritesValue}
-use Rattle.make_package.specs.declared.file.File.{File}
+use Rattle.std.proofs.Common.{List, ap, map, refl, ◌∙◌}
+use Rattle.adb_view.specs.Plain.{arr_value, obj_value}
+use Rattle.adb_values.specs.Drafts.{draft_with}
+use Rattle.adb_values.proofs.Lists.{closed}
 use Rattle.make_info.specs.Values.{plains_of_list}
+use Rattle.make_package.specs.declared.file.File.{File}
+use Rattle.make_package.specs.Package.{folder_fields}
 use Rattle.make_package.specs.Packed.{packed_file}
 use Rattle.make_package.proofs.writing.write_folder.Goals as goal
 
 pub returns : goal.returns
 returns c =
-    let laws = c.values_are_written_depth_first.ensures in
-    let P : List File → Type 0 = λ files. WritesValue c.write_acl.new.writer (arr_value (plains_of_list (map packed_file files))) c.in_ok-files.files c.write_files.new.writer in
-    c.in_ok-word.ensures.written _ _
-    (laws.more _ _ _ _ _ _ _ c.in_ok-name.ensures.written
-    (laws.more _ _ _ _ _ _ _ c.in_ok-acl.ensures
-    (laws.more _ _ _ _ _ _ _ (subst P c.deref.ensures.value c.in_ok-files.ensures) (laws.none _))))
+    let files = c.in_ok-write_files.ensures ∙ ap (λ (fs : List File). draft_with (arr_value (plains_of_list (map packed_file fs))) c.write_acl.new.draft) c.deref.ensures.value in
+    closed obj_value (folder_fields c.args.folder.now.name.now (map packed_file c.args.folder.now.files.items)) c.args.draft.now _ _ c.close_object.result c.close_object.ensures.ok
+    (rw (files, c.in_ok-write_acl.ensures, c.in_ok-blob.ensures.ok, c.in_ok-open_list.ensures.ok) refl)

@@ -1,11 +1,20 @@
+use Rattle.command_core.specs.declared.values.TheConstants.{TRIGGER}
+use Rattle.std.proofs.Common.{ap, map, refl, ◌∙◌}
+use Rattle.adb_view.specs.Plain.{obj_value}
+use Rattle.adb_values.specs.Drafts.{draft_with}
+use Rattle.adb_values.proofs.Lists.{closed}
+use Rattle.make_info.specs.Information.{information_value, replaces_priority}
+use Rattle.make_info.specs.Values.{number_value}
+use Rattle.make_package.specs.Package.{package_fields}
+use Rattle.make_package.specs.Packed.{packed_folder}
+use Rattle.make_package.specs.Scripts.{scripts_view}
+use Rattle.make_package.specs.Sources.{texts_of, values_with}
 use Rattle.make_package.proofs.writing.write_package.Goals as goal
 
 pub returns : goal.returns
 returns c =
-    let laws = c.values_are_written_depth_first.ensures in
-    λ before about written. c.in_ok-word.ensures.written _ _
-    (laws.more _ _ _ _ _ _ _ written
-    (laws.more _ _ _ _ _ _ _ c.in_ok-paths.ensures
-    (laws.more _ _ _ _ _ _ _ c.in_ok-scripts.ensures
-    (laws.more _ _ _ _ _ _ _ c.in_ok-triggers.ensures
-    (laws.more _ _ _ _ _ _ _ c.in_ok-priority.ensures (laws.none _))))))
+    let priority = c.in_ok-write_number.ensures ∙ ap (λ n. draft_with (number_value n) c.write_triggers.new.draft) c.replaces_priority.ensures in
+    closed obj_value
+    (package_fields (information_value c.args.about.now c.args.size) (map packed_folder c.args.folders.now) (scripts_view c.args.scripts.now) (texts_of (values_with TRIGGER c.args.values.now)) (replaces_priority c.args.about.now))
+    c.args.draft.now _ _ c.close_object.result c.close_object.ensures.ok
+    (rw (priority, c.in_ok-write_triggers.ensures, c.in_ok-write_scripts.ensures, c.in_ok-write_paths.ensures, c.in_ok-write.ensures, c.in_ok-open_list.ensures.ok) refl)

@@ -1,8 +1,16 @@
+use Rattle.std.proofs.Common.{arith, map}
+use Rattle.adb_view.specs.Plain.{arr_value}
+use Rattle.adb_values.proofs.Lists.{closed}
+use Rattle.make_info.specs.Values.{plains_of_list}
+use Rattle.make_info.proofs.Mapped.{mapped_left, mapped_open}
 use Rattle.make_package.specs.Packed.{packed_folder}
-use Rattle.make_package.proofs.WriteLemmas.{written_more}
 use Rattle.make_package.proofs.writing.write_paths.Goals as goal
 
 pub loop-folder-preserved : goal.loop-folder-preserved
 loop-folder-preserved c =
-    written_more packed_folder c.args.folders.now c.loop-folder.folder-index c.folder-item.result c.folder-item.result _ _ _ _ c.loop-folder-test.true c.folder-item.is c.in_ok-push.ensures.items
-    (c.values_are_written_depth_first.ensures.push _ _ _ _ _ _ _ c.loop-folder.invariant c.in_ok-word.ensures)
+    mapped_left packed_folder c.args.folders.now c.loop-folder.folder-index _ _ _ _ _ c.loop-folder-test.true c.folder-item.is c.loop-folder.invariant c.in_ok-write_folder.ensures
+
+pub returns : goal.returns
+returns c =
+    closed arr_value (plains_of_list (map packed_folder c.args.folders.now)) c.args.draft.now _ _ c.close_array.result c.close_array.ensures.ok
+    (mapped_open packed_folder c.args.folders.now c.loop-folder.folder-index _ _ _ (omega arith) c.loop-folder.invariant c.in_ok-open_list.ensures.ok)

@@ -1,8 +1,8 @@
-use Rattle.std.proofs.Common.{map, take}
-use Rattle.adb_write.specs.DepthFirst.{WritesValues}
-use Rattle.make_info.specs.Values.{plains_of_list}
+use Rattle.std.proofs.Common.{◌≡◌, drop, map}
+use Rattle.make_info.proofs.Mapped.{with_list}
 use Rattle.make_package.specs.Packed.{packed_folder}
 use Rattle.make_package.proofs.writing.write_paths.Given as goal
 
+-- with those that are left it has all
 abbrev pub invariant-loop-folder : goal.invariant-loop-folder
-invariant-loop-folder l = WritesValues l.initial.writer (plains_of_list (map packed_folder (take l.folder-index l.folders))) l.words.items l.writer
+invariant-loop-folder l = with_list (map packed_folder (drop l.folder-index l.folders)) l.draft ≡ with_list (map packed_folder l.folders) l.initial.draft

@@ -1,21 +1,25 @@
-use Rattle.std.proofs.Common.{◌≡◌, List, ℕ, subst}
-use Rattle.adb_view.specs.Plain.{blob_value}
-use Rattle.adb_write.specs.DepthFirst.{WritesValue}
-use Rattle.adb_write.specs.Writing.{Writing}
+use Rattle.std.proofs.Common.{◌≡◌, List, ℕ, ap, refl, ◌∙◌}
+use Rattle.adb_view.specs.Plain.{blob_value, obj_value}
+use Rattle.adb_values.specs.Drafts.{DraftState, draft_with}
+use Rattle.adb_values.proofs.Lists.{closed}
+use Rattle.make_package.specs.Package.{script_fields}
+use Rattle.make_package.specs.Scripts.{scripts_view}
 use Rattle.make_package.proofs.writing.write_scripts.Goals as goal
 
--- a blob is written of what stands for it
-written_of_same : (a b : Writing) (word : ℕ) (found wanted : List ℕ) → found ≡ wanted → WritesValue a (blob_value found) word b → WritesValue a (blob_value wanted) word b
-written_of_same a b word found wanted e h = let P : List ℕ → Type 0 = λ bytes. WritesValue a (blob_value bytes) word b in subst P e h
+-- a blob of what is found is one of what is wanted
+found_as : (old new : DraftState) (found wanted : List ℕ) → new ≡ draft_with (blob_value found) old → found ≡ wanted → new ≡ draft_with (blob_value wanted) old
+found_as old new found wanted one e = one ∙ ap (λ (b : List ℕ). draft_with (blob_value b) old) e
 
 pub returns : goal.returns
 returns c =
-    let laws = c.values_are_written_depth_first.ensures in
-    c.in_ok-word.ensures.written _ _
-    (laws.more _ _ _ _ _ _ _ (written_of_same _ _ _ _ _ c.script_of.ensures c.in_ok-trigger.ensures.written)
-    (laws.more _ _ _ _ _ _ _ (written_of_same _ _ _ _ _ c.script_of-2.ensures c.in_ok-pre_install.ensures.written)
-    (laws.more _ _ _ _ _ _ _ (written_of_same _ _ _ _ _ c.script_of-3.ensures c.in_ok-post_install.ensures.written)
-    (laws.more _ _ _ _ _ _ _ (written_of_same _ _ _ _ _ c.script_of-4.ensures c.in_ok-pre_deinstall.ensures.written)
-    (laws.more _ _ _ _ _ _ _ (written_of_same _ _ _ _ _ c.script_of-5.ensures c.in_ok-post_deinstall.ensures.written)
-    (laws.more _ _ _ _ _ _ _ (written_of_same _ _ _ _ _ c.script_of-6.ensures c.in_ok-pre_upgrade.ensures.written)
-    (laws.more _ _ _ _ _ _ _ (written_of_same _ _ _ _ _ c.script_of-7.ensures c.in_ok-post_upgrade.ensures.written) (laws.none _))))))))
+    closed obj_value (script_fields (scripts_view c.args.scripts.now)) c.args.draft.now _ _ c.close_object.result c.close_object.ensures.ok
+    (rw (
+      found_as _ _ _ _ c.in_ok-blob-7.ensures.ok c.script_of-7.ensures,
+      found_as _ _ _ _ c.in_ok-blob-6.ensures.ok c.script_of-6.ensures,
+      found_as _ _ _ _ c.in_ok-blob-5.ensures.ok c.script_of-5.ensures,
+      found_as _ _ _ _ c.in_ok-blob-4.ensures.ok c.script_of-4.ensures,
+      found_as _ _ _ _ c.in_ok-blob-3.ensures.ok c.script_of-3.ensures,
+      found_as _ _ _ _ c.in_ok-blob-2.ensures.ok c.script_of-2.ensures,
+      found_as _ _ _ _ c.in_ok-blob.ensures.ok c.script_of.ensures,
+      c.in_ok-open_list.ensures.ok,
+    ) refl)

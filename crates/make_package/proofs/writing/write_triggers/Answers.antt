@@ -1,22 +1,24 @@
 use Rattle.command_core.specs.declared.values.TheConstants.{TRIGGER}
-use Rattle.std.proofs.Common.{◌∙◌, ap, List, ℕ, Vec, subst}
-use Rattle.std.specs.declared.alloc.Global.{Global}
-use Rattle.adb_view.specs.Plain.{blob_value}
-use Rattle.adb_write.specs.DepthFirst.{WritesValue}
-use Rattle.make_package.proofs.WriteLemmas.{blob_more, blob_same}
+use Rattle.std.proofs.Common.{◌∙◌, ap, List, ℕ, arith, refl}
+use Rattle.adb_view.specs.Plain.{arr_value, blob_value}
+use Rattle.adb_values.specs.Drafts.{draft_with}
+use Rattle.adb_values.proofs.Lists.{closed, list_given}
+use Rattle.make_package.specs.Sources.{values_with}
+use Rattle.make_package.proofs.WriteLemmas.{blob_given, blob_passed, blobs}
 use Rattle.make_package.proofs.writing.write_triggers.Goals as goal
-use Rattle.make_package.proofs.writing.write_triggers.Goals.{then-value-eq-TRIGGER+in_ok-word+in_ok-push, else-value-eq-TRIGGER}
+use Rattle.make_package.proofs.writing.write_triggers.Goals.{then-value-eq-TRIGGER+in_ok-blob, else-value-eq-TRIGGER}
 
 pub loop-i-preserved : goal.loop-i-preserved
 loop-i-preserved c =
-    let laws = c.values_are_written_depth_first.ensures in
     elim c.if-value-eq-TRIGGER.branch [
-      | then-value-eq-TRIGGER+in_ok-word+in_ok-push w ↦
-          let P : List ℕ → Type 0 = λ bytes. WritesValue c.loop-i.writer (blob_value bytes) w.in_ok-word.word w.blob.new.self in
-          blob_more TRIGGER c.args.values.now c.loop-i.i c.get-value.result.now _ _ _ _ _ c.get-value.ensures w.if-value-eq-TRIGGER.true w.writer-is
-          (ap (λ (v : Vec ℕ Global). v.items) w.words-is ∙ w.in_ok-push.ensures.items)
-          (laws.push _ _ _ _ _ _ _ c.loop-i.invariant (subst P w.as_bytes.ensures w.in_ok-word.ensures.written))
+      | then-value-eq-TRIGGER+in_ok-blob w ↦
+          blob_given TRIGGER c.args.values.now c.loop-i.i c.get-value.result.now c.loop-i.draft _ _ c.get-value.ensures c.loop-i.invariant w.if-value-eq-TRIGGER.true
+          (w.draft-is ∙ w.in_ok-blob.ensures.ok ∙ ap (λ (b : List ℕ). draft_with (blob_value b) c.loop-i.draft) w.as_bytes.ensures)
       | else-value-eq-TRIGGER w ↦
-          blob_same TRIGGER c.args.values.now c.loop-i.i c.get-value.result.now _ _ _ _ _ c.get-value.ensures w.if-value-eq-TRIGGER.false w.writer-is
-          (ap (λ (v : Vec ℕ Global). v.items) w.words-is) c.loop-i.invariant
+          blob_passed TRIGGER c.args.values.now c.loop-i.i c.get-value.result.now c.loop-i.draft _ _ c.get-value.ensures c.loop-i.invariant w.if-value-eq-TRIGGER.false w.draft-is
     ]
+
+pub returns : goal.returns
+returns c =
+    closed arr_value (blobs (values_with TRIGGER c.args.values.now)) c.args.draft.now _ _ c.close_array.result c.close_array.ensures.ok
+    (list_given (λ vs. blobs (values_with TRIGGER vs)) c.args.values.now refl c.loop-i.i _ _ _ (omega arith) c.loop-i.invariant c.in_ok-open_list.ensures.ok)

@@ -5,8 +5,8 @@ use Rattle.path_clashes.proofs.Observed.{observed_by, observed_by_two}
 use Rattle.path_clashes.proofs.Paths.{path_is_name}
 use Rattle.path_clashes.proofs.clash.clash_near.Goals as goal
 
-pub name_of_bytes-requires : goal.name_of_bytes-requires
-name_of_bytes-requires g c = path_is_name c.args.written.now c.args.bytes.now c.requires.names c.requires.written
+pub of-requires : goal.of-requires
+of-requires g c = path_is_name c.args.written.now c.args.bytes.now c.requires.names c.requires.written
 
 pub returns-in-Some-clause-near : goal.returns-in-Some-clause-near
 returns-in-Some-clause-near g c =

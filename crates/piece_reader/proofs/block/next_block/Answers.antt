@@ -1,8 +1,6 @@
 -- The contents of a file begin behind the header and the positions.
-use Rattle.std.proofs.Common.{◌≡◌, None, Ok, length, sym, ap, ◌∙◌, subst}
+use Rattle.std.proofs.Common.{◌≡◌, None, Ok, length, subst}
 use Rattle.std.specs.Prelude.{IfSome}
-use Rattle.pkg_core.specs.Contents.{Expected}
-use Rattle.pkg_core.specs.Opened.{expected_of, left_in}
 use Rattle.piece_core.specs.Places.{HasAllLeft, IsStepped, WalksOn}
 use Rattle.piece_core.specs.declared.place.Step.{Step}
 use Rattle.piece_core.specs.declared.place.Step.TheVariants.{End as EndStep}

@@ -1,5 +1,5 @@
 -- Block by block.
-use Rattle.std.proofs.Common.{◌≡◌, ◌≤◌, ◌+◌, ◌∙◌, sym, ap, subst, length, arith}
+use Rattle.std.proofs.Common.{◌∙◌, arith}
 use Rattle.piece_reader.specs.declared.fault.PieceFault.TheVariants.{Disk as DiskFault}
 use Rattle.pkg_pieces.proofs.SeenBytes.{reads_in_a_row, reads_ok}
 use Rattle.piece_reader.proofs.FilesFound.{found_end, found_err, found_file, one_passed}

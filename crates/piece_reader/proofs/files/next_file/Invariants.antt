@@ -1,5 +1,4 @@
 use Rattle.std.proofs.Common.{◌≡◌, ◌≤◌, ◌-◌, Ok}
-use Rattle.base_core.specs.Tree.{TreeState}
 use Rattle.pkg_pieces.specs.Seen.{ReadsFile}
 use Rattle.piece_reader.specs.declared.fault.PieceFault.{PieceFault}
 use Rattle.piece_reader.specs.declared.fault.PieceFault.TheVariants.{Disk as DiskFault}

@@ -8,7 +8,7 @@ pub loop-ruled_out-init : goal.loop-ruled_out-init
 loop-ruled_out-init c =
     let by : List ℕ = c.args.spent.now.2 in
     subst (λ (z : List ℕ). HasSameMembers c.add_all.new.self z)
-    (ap (λ (z : List ℕ). z ++ c.by.result.now) c.new-members.ensures ∙ (c.by.ensures ∙ sym (append-nil by))) c.in_ok-add_all.ensures
+    (ap (λ (z : List ℕ). z ++ c.by.result.now) c.clear.ensures ∙ (c.by.ensures ∙ sym (append-nil by))) c.in_ok-add_all.ensures
 
 pub loop-ruled_out-preserved : goal.loop-ruled_out-preserved
 loop-ruled_out-preserved c =

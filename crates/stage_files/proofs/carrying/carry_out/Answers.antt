@@ -1,10 +1,11 @@
-use Rattle.std.proofs.Common.{◌≡◌, Ok, Err, ap, refl, sym, subst, ◌∙◌}
+use Rattle.std.proofs.Common.{◌≡◌, ℕ, List, Ok, Err, ap, refl, sym, subst, ◌∙◌}
 use Rattle.base_core.specs.Tree.{files_of}
 use Rattle.journal_core.specs.Recovery.{after_actions}
 use Rattle.journal_core.specs.Staged.{HasRoomBeside, Staging, with_staged}
 use Rattle.stage_files.specs.Carried.{IsCarriedTo}
+use Rattle.stage_files.specs.Sources.{MayStandForEach}
 use Rattle.stage_files.specs.declared.fault.StageFault.TheVariants.{Disk}
-use Rattle.stage_files.proofs.Carried.{carried, where_seen}
+use Rattle.stage_files.proofs.Carried.{carried, carried_on, of_each, where_seen}
 use Rattle.stage_files.proofs.OneFile.{same_fault, if_disk, not_ok}
 use Rattle.stage_run.specs.StageRun.{IsStageRun, IsStageRunDone}
 use Rattle.stage_files.proofs.carrying.carry_out.Goals as goal
@@ -70,3 +71,23 @@ returns-clause-proper g c =
     c.in_ok-carry_through.ensures.proper contents v (g.T.Tree.history c.args.tree.now) (c.in_ok-stage_each.ensures.staging contents v (g.T.Tree.history c.args.tree.now) staging stand) room
     (subst (λ (s : Staging). HasRoomBeside (after_actions s.intent (with_staged 1 contents (files_of v)))) (sym c.in_ok-stage_each.ensures.view) more)
     ∙ (c.in_ok-stage_each.ensures.proper contents v (g.T.Tree.history c.args.tree.now) staging stand room ∙ where_seen (g.T.Tree.history c.args.tree.now) v _ staging.start c.look_at_each.ensures.proper))
+
+pub returns-in_err-stage_each-clause-listed : goal.returns-in_err-stage_each-clause-listed
+returns-in_err-stage_each-clause-listed g c = of_each (g.T.Tree.history c.args.tree.now) _ (λ v unread empty.
+    not_ok (λ e. e ≡ c.in_err-stage_each.field-0.0) c.from_residual-in_err-stage_each.result _ c.from_residual-in_err-stage_each.ensures.1)
+
+pub returns-in_err-carry_through-clause-listed : goal.returns-in_err-carry_through-clause-listed
+returns-in_err-carry_through-clause-listed g c = of_each (g.T.Tree.history c.args.tree.now) _ (λ v unread empty.
+    not_ok (λ e. e ≡ Disk) c.from_residual-in_err-carry_through.result _ c.from_residual-in_err-carry_through.ensures.1)
+
+pub returns-clause-listed : goal.returns-clause-listed
+returns-clause-listed g c =
+    carried_on c.a_new_stage_is_staging.ensures (g.T.Tree.history c.args.tree.now) (g.T.Tree.history c.look_at_each.new.tree) c.args.stage.now _ _ c.requires.new c.look_at_each.ensures.same
+    (λ v. (contents : List (List ℕ)) × MayStandForEach c.args.writes.now contents × IsStageRunDone (after_actions c.args.stage.now.intent (with_staged 1 contents (files_of v))) v (g.T.Tree.history c.carry_through.new.tree))
+    (λ v staging.
+    let found = c.in_ok-stage_each.ensures.listed v (g.T.Tree.history c.args.tree.now) staging in (
+      found.0,
+      found.1,
+      subst (λ (s : Staging). IsStageRunDone (after_actions s.intent (with_staged 1 found.0 (files_of v))) v (g.T.Tree.history c.carry_through.new.tree)) c.in_ok-stage_each.ensures.view
+          (c.in_ok-carry_through.ensures.done found.0 v (g.T.Tree.history c.args.tree.now) found.2),
+    ))

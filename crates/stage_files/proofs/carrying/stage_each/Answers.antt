@@ -1,6 +1,6 @@
 use Rattle.std.proofs.Common.{◌+◌, Err, ap, ◌∙◌, arith}
 use Rattle.journal_core.specs.Staged.{Staging}
-use Rattle.stage_files.proofs.Each.{all_staged, each_good, each_more, each_proper, each_run, item_at}
+use Rattle.stage_files.proofs.Each.{all_listed, all_staged, each_good, each_more, each_proper, each_run, item_at, listed_next}
 use Rattle.stage_files.proofs.OneFile.{same_fault, goes_through, if_disk, kept_through}
 use Rattle.stage_files.proofs.carrying.stage_each.Goals as goal
 
@@ -34,6 +34,10 @@ loop-write-preserved g c = record {
   staged =
       each_more c.args.stage.now c.loop-write.stage c.stage_write.new.stage c.args.writes.now c.loop-write.write-index c.write-item.result (item_at c.args.writes.now c.loop-write.write-index c.write-item.result (omega arith) c.write-item.is)
       (g.T.Tree.history c.args.tree.now) (g.T.Tree.history c.loop-write.tree) (g.T.Tree.history c.stage_write.new.tree) c.loop-write.invariant.staged c.in_ok-stage_write.ensures.staging;
+  listed =
+      listed_next c.args.stage.now c.loop-write.stage c.stage_write.new.stage c.args.writes.now c.loop-write.write-index c.write-item.result
+      (g.T.Tree.history c.args.tree.now) (g.T.Tree.history c.loop-write.tree) (g.T.Tree.history c.stage_write.new.tree) (item_at c.args.writes.now c.loop-write.write-index c.write-item.result (omega arith) c.write-item.is)
+      c.loop-write.invariant.listed c.in_ok-stage_write.ensures.listed;
   goes_on = goes_through _ _ _ c.loop-write.invariant.goes_on c.in_ok-stage_write.ensures.goes_on;
   kept = kept_through _ _ _ c.loop-write.invariant.kept c.in_ok-stage_write.ensures.kept;
   proper =
@@ -48,3 +52,7 @@ returns-clause-run g c = λ contents v first staging stand.
 pub returns-clause-staging : goal.returns-clause-staging
 returns-clause-staging g c =
     all_staged c.args.stage.now c.loop-write.stage c.args.writes.now c.loop-write.write-index (g.T.Tree.history c.args.tree.now) (g.T.Tree.history c.loop-write.tree) (omega arith) c.loop-write.invariant.staged
+
+pub returns-clause-listed : goal.returns-clause-listed
+returns-clause-listed g c =
+    all_listed c.args.stage.now c.loop-write.stage c.args.writes.now c.loop-write.write-index (g.T.Tree.history c.args.tree.now) (g.T.Tree.history c.loop-write.tree) (omega arith) c.loop-write.invariant.listed

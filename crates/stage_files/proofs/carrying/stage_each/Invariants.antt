@@ -1,12 +1,13 @@
 use Rattle.std.proofs.Common.{◌≡◌}
 use Rattle.base_core.specs.Faults.{GoesOn, IsNoFault}
-use Rattle.stage_files.proofs.Each.{AreProperOn, AreStagedOn}
+use Rattle.stage_files.proofs.Each.{AreListedOn, AreProperOn, AreStagedOn}
 use Rattle.stage_files.proofs.carrying.stage_each.Given as goal
 
 abbrev pub invariant-loop-write : goal.invariant-loop-write
 invariant-loop-write g l = record {
   view : l.stage ≡ record l.fn.stage { staged = l.write-index };
   staged : AreStagedOn l.fn.stage l.stage l.writes l.write-index (g.T.Tree.history l.fn.tree) (g.T.Tree.history l.tree);
+  listed : AreListedOn l.fn.stage l.stage l.writes l.write-index (g.T.Tree.history l.fn.tree) (g.T.Tree.history l.tree);
   goes_on : GoesOn (g.T.Tree.counts l.fn.tree) (g.T.Tree.counts l.tree);
   kept : IsNoFault (g.T.Tree.counts l.fn.tree) (g.T.Tree.counts l.tree);
   proper : AreProperOn l.fn.stage l.writes (g.T.Tree.history l.fn.tree) (g.T.Tree.counts l.fn.tree).misuses (g.T.Tree.counts l.tree).misuses;

@@ -1,5 +1,5 @@
-use Rattle.std.proofs.Common.{ap, sym, ◌∙◌, Ok}
-use Rattle.stage_files.proofs.OneFile.{begun_read, goes_through, half_proper, half_run, if_disk, kept_through, read_fails, read_more, read_proper, read_whole, same_bytes, same_history}
+use Rattle.std.proofs.Common.{ap, refl, sym, ◌∙◌, Ok}
+use Rattle.stage_files.proofs.OneFile.{begun_listed, begun_read, goes_through, half_proper, half_run, if_disk, kept_through, listed_more, listed_whole, read_fails, read_more, read_proper, read_whole, same_bytes, same_history}
 use Rattle.stage_files.proofs.file.stage_file.Goals as goal
 
 pub returns-in_err-begin_file-clause-run : goal.returns-in_err-begin_file-clause-run
@@ -9,6 +9,8 @@ pub pieces-init : goal.pieces-init
 pieces-init g c = record {
   view = c.in_ok-begin_file.ensures.view;
   read = begun_read _ _ _ _ _ c.in_ok-begin_file.ensures.staging;
+  listed = begun_listed _ _ c.args.file _ _ c.in_ok-begin_file.ensures.staging;
+  due = refl;
   goes_on = c.in_ok-begin_file.ensures.goes_on;
   kept = c.in_ok-begin_file.ensures.kept;
   proper = λ contents v first bytes staging reading room. c.in_ok-begin_file.ensures.proper contents v first staging room;
@@ -35,6 +37,11 @@ pieces-preserved g c = record {
       c.pieces.invariant.read c.next_piece.ensures.piece c.next_piece.ensures.name c.next_piece.ensures.len c.append_piece.new.stage (c.in_ok-next_piece.was ∙ ap Ok c.if-branch.true)
       (λ contents so_far v first staging. same_bytes _ contents so_far _ _ v first _ (sym c.bytes.ensures.bytes)
       (c.in_ok-append_piece.ensures.staging contents so_far v first (same_history _ _ _ _ _ _ _ c.in_ok-next_piece.ensures.tree.same staging)));
+  listed = listed_more c.args.stage.now c.pieces.stage c.args.file c.pieces.file c.next_piece.new.self c.next_piece.new.piece _ (g.T.Tree.history c.pieces.tree) (g.T.Tree.history c.append_piece.new.tree) c.next_piece.result
+      c.pieces.invariant.listed c.next_piece.ensures.tested c.append_piece.new.stage (c.in_ok-next_piece.was ∙ ap Ok c.if-branch.true)
+      (λ contents so_far v first staging. same_bytes _ contents so_far _ _ v first _ (sym c.bytes.ensures.bytes)
+      (c.in_ok-append_piece.ensures.staging contents so_far v first (same_history _ _ _ _ _ _ _ c.in_ok-next_piece.ensures.tree.same staging)));
+  due = c.next_piece.ensures.due ∙ c.pieces.invariant.due;
   goes_on = goes_through _ _ _ (goes_through _ _ _ c.pieces.invariant.goes_on c.in_ok-next_piece.ensures.tree.goes_on) c.in_ok-append_piece.ensures.goes_on;
   kept = kept_through _ _ _ (kept_through _ _ _ c.pieces.invariant.kept c.in_ok-next_piece.ensures.tree.kept) c.in_ok-append_piece.ensures.kept;
   proper = half_proper _ _ _ _ _ _ (g.T.Tree.history c.args.tree.now) c.pieces.invariant.read _ _ _
@@ -77,3 +84,9 @@ returns-clause-proper g c =
     half_proper _ _ _ _ _ _ (g.T.Tree.history c.args.tree.now) c.pieces.invariant.read _ _ _
     (read_proper _ _ _ _ _ _ (g.T.Tree.history c.args.tree.now) c.pieces.invariant.read _ _ _ c.pieces.invariant.proper c.in_ok-next_piece.ensures.tree.proper)
     (λ contents so_far v first staging. c.in_ok-end_file.ensures.proper contents so_far v first (same_history _ _ _ _ _ _ _ c.in_ok-next_piece.ensures.tree.same staging))
+
+pub returns-clause-listed : goal.returns-clause-listed
+returns-clause-listed g c = λ come contents v first staging.
+    let whole = listed_whole c.args.stage.now c.pieces.stage c.args.file c.pieces.file c.next_piece.new.self c.next_piece.new.piece (g.T.Tree.history c.args.tree.now) (g.T.Tree.history c.pieces.tree) (g.T.Tree.history c.pieces.tree) c.next_piece.result
+    c.pieces.invariant.listed c.next_piece.ensures.tested c.pieces.invariant.due (c.in_ok-next_piece.was ∙ ap Ok c.if-branch.false) come contents v first staging in
+    (whole.0, whole.1, c.in_ok-end_file.ensures.staging contents whole.0 v first (same_history _ _ _ _ _ _ _ c.in_ok-next_piece.ensures.tree.same whole.2))

@@ -1,3 +1,6 @@
+use Rattle.std.proofs.Common.{Option, subst}
+use Rattle.piece_reader.specs.FileReading.{AreAsDue}
+use Rattle.pkg_core.specs.Contents.{Expected}
 use Rattle.stage_files.proofs.Files.{source_reading}
 use Rattle.stage_files.proofs.writes.stage_packaged.Goals as goal
 
@@ -40,3 +43,8 @@ pub returns-in-Err-Disk-clause-proper : goal.returns-in-Err-Disk-clause-proper
 returns-in-Err-Disk-clause-proper g c = λ contents v first bytes staging source room.
     c.in-Err-Disk.ensures.proper contents v first bytes staging
     (source_reading _ _ _ _ c.file-file.ensures.name c.file-file.ensures.len c.file-file.ensures.reading source) room
+
+pub returns-in-Ok-clause-listed : goal.returns-in-Ok-clause-listed
+returns-in-Ok-clause-listed g c = λ contents v first staging.
+    let found = c.in-Ok.ensures.listed c.file-file.ensures.begun contents v first staging in
+    (found.0, subst (λ (d : Option Expected). AreAsDue d found.0) c.file-file.ensures.due found.1, found.2)

@@ -1,7 +1,7 @@
 use Rattle.std.proofs.Common.{◌++◌, ◌∷◌, [], ℕ, List, None, sym, subst}
 use Rattle.stage_run.specs.StageRun.{IsStaging}
 use Rattle.base_core.specs.Tree.{files_of}
-use Rattle.stage_files.proofs.Files.{file_stands, given_stands, link_stands}
+use Rattle.stage_files.proofs.Files.{file_listed, file_stands, given_listed, given_stands, link_listed, link_stands}
 use Rattle.stage_files.proofs.writes.stage_write.Goals as goal
 
 pub returns-in_err-stage_bytes-in-Bytes-clause-run : goal.returns-in_err-stage_bytes-in-Bytes-clause-run
@@ -33,3 +33,18 @@ returns-in_ok-stage_link-in-Link-clause-staging g c = λ contents v first bytes 
 pub returns-in-File-clause-run : goal.returns-in-File-clause-run
 returns-in-File-clause-run g c = λ contents v first bytes staging is.
     c.stage_packaged.ensures.run contents v first bytes staging (file_stands (files_of v) c.args.source.now _ bytes c.in-File.is is)
+
+pub returns-in_ok-stage_bytes-in-Bytes-clause-listed : goal.returns-in_ok-stage_bytes-in-Bytes-clause-listed
+returns-in_ok-stage_bytes-in-Bytes-clause-listed g c = λ contents v first staging.
+    given_listed c.args.source.now _ (λ b. IsStaging c.stage_bytes.new.stage (contents ++ b ∷ []) None v first (g.T.Tree.history c.stage_bytes.new.tree)) c.in-Bytes.is
+    (c.in_ok-stage_bytes-in-Bytes.ensures.staging contents v first staging)
+
+pub returns-in_ok-stage_link-in-Link-clause-listed : goal.returns-in_ok-stage_link-in-Link-clause-listed
+returns-in_ok-stage_link-in-Link-clause-listed g c = λ contents v first staging.
+    link_listed c.args.source.now _ (λ b. IsStaging c.stage_link.new.stage (contents ++ b ∷ []) None v first (g.T.Tree.history c.stage_link.new.tree)) c.in-Link.is
+    (c.in_ok-stage_link-in-Link.ensures.staging contents v first staging)
+
+pub returns-in-File-clause-listed : goal.returns-in-File-clause-listed
+returns-in-File-clause-listed g c = λ contents v first staging.
+    file_listed c.stage_packaged.result c.args.source.now _ (λ b. IsStaging c.stage_packaged.new.stage (contents ++ b ∷ []) None v first (g.T.Tree.history c.stage_packaged.new.tree)) c.in-File.is
+    (c.stage_packaged.ensures.listed contents v first staging)

@@ -8,7 +8,7 @@ returns-in_err-publish-clause-run g c contents v first s =
 pub returns-clause-run : goal.returns-clause-run
 returns-clause-run g c contents v first s =
     enact_run c.args.stage.now contents v first _ s c.requires.all c.names_are_free.ensures.free _ _ c.in_ok-publish.ensures.published c.in_ok-publish.ensures.settled c.in_ok-publish.ensures.acting _
-    c.publish.ensures.reads c.publish.ensures.others c.publish.ensures.maps c.enact.ensures.moments c.enact.ensures.reads c.enact.ensures.last
+    c.publish.ensures.reads c.publish.ensures.others c.publish.ensures.maps c.enact.ensures.moments c.enact.ensures.reads c.enact.ensures.bytes c.enact.ensures.last
 
 pub returns-clause-done : goal.returns-clause-done
 returns-clause-done g c contents v first s =

@@ -1,3 +1,4 @@
+use Rattle.journal_core.proofs.OldOrNew.{bytes_end}
 use Rattle.journal_core.proofs.Leaving.{end_lasts}
 use Rattle.journal_core.proofs.Rowing.{reads_called}
 use Rattle.stage_run.proofs.Ends.{end_files, end_moments, end_proper, end_settled}
@@ -20,3 +21,6 @@ returns-clause-files g c = end_files _ _ _ _ _ c.in_ok-apply_all.ensures.acting 
 
 pub returns-clause-proper : goal.returns-clause-proper
 returns-clause-proper g c = end_proper _ _ _ _ (g.T.Tree.history c.args.tree.now) c.in_ok-apply_all.ensures.acting _ _ _ c.in_ok-apply_all.ensures.proper c.finish.ensures.proper
+
+pub returns-clause-bytes : goal.returns-clause-bytes
+returns-clause-bytes g c = bytes_end _ _ _ _ c.apply_all.ensures.bytes c.finish.ensures.shown

@@ -1,12 +1,14 @@
-use Rattle.std.proofs.Common.{IfOk, subst}
-use Rattle.std.proofs.lemmas.Result.{IfOk-weaker}
-use Rattle.adb_write.specs.DepthFirst.{WritesValue}
-use Rattle.v2_core.specs.Database.{listed_file_value}
-use Rattle.v2_core.proofs.Lists.{null_as}
+use Rattle.std.proofs.Common.{OnOk, ◌≡◌, refl, subst}
+use Rattle.adb_view.specs.Plain.{null, none, more, blob_value, obj_value}
+use Rattle.adb_values.specs.Drafts.{draft_with}
+use Rattle.adb_values.proofs.Lists.{closed}
+use Rattle.v2_core.specs.Database.{listed_access_value, listed_file_value, listed_hash_value}
+use Rattle.v2_core.specs.Views.{access_views, hash_view}
 use Rattle.v2_core.proofs.writing.write_file.Goals as goal
 
 pub returns : goal.returns
 returns c =
-    let law = c.values_are_written_depth_first.ensures in
-    subst (λ f. IfOk c.obj.result (λ word. WritesValue c.args.writer.now (listed_file_value f) word c.obj.new.self)) c.file.view_is
-    (IfOk-weaker c.obj.result _ _ (λ word k. k _ _ (law.more _ _ _ _ _ _ _ c.in_ok-name.ensures.written (law.more _ _ _ _ _ _ _ c.in_ok-access.ensures (law.more _ _ _ _ _ _ _ (null_as law.null c.of.result _ c.of.ensures) (law.more _ _ _ _ _ _ _ (null_as law.null c.of-2.result _ c.of-2.ensures) (law.more _ _ _ _ _ _ _ c.in_ok-hash.ensures (law.none _))))))) c.obj.ensures.written)
+    let file = c.file.inside in
+    subst (λ f. OnOk c.close_object.result (c.close_object.new.self ≡ draft_with (listed_file_value f) c.args.draft.now)) c.file.view_is
+    (closed obj_value (more (blob_value file.name.now) (more (listed_access_value (access_views file.access)) (more null (more null (more (listed_hash_value (hash_view file.hash)) none))))) c.args.draft.now _ _ c.close_object.result c.close_object.ensures.ok
+    (rw (c.in_ok-write_hash.ensures, c.in_ok-null-2.ensures.ok, c.in_ok-null.ensures.ok, c.in_ok-write_access.ensures, c.in_ok-blob.ensures.ok, c.in_ok-open_list.ensures.ok) refl))

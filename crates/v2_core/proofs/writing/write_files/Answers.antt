@@ -1,11 +1,16 @@
-use Rattle.std.proofs.Common.{◌+◌, map, take}
+use Rattle.std.proofs.Common.{arith, map}
+use Rattle.adb_view.specs.Plain.{arr_value}
+use Rattle.adb_values.proofs.Lists.{closed}
+use Rattle.make_info.specs.Values.{plains_of_list}
 use Rattle.v2_core.specs.Database.{listed_file_value}
-use Rattle.v2_core.proofs.Lists.{map-take_more, one_more}
+use Rattle.make_info.proofs.Mapped.{mapped_left, mapped_open}
 use Rattle.v2_core.proofs.writing.write_files.Goals as goal
 
 pub loop-file-preserved : goal.loop-file-preserved
 loop-file-preserved c =
-    let law = c.values_are_written_depth_first.ensures in
-    let fs = c.args.files.now in
-    let i = c.loop-file.file-index in
-    one_more law.push _ (map listed_file_value (take i fs)) (map listed_file_value (take (i + 1) fs)) c.in_ok-word.word c.loop-file.words.items _ c.args.writer.now c.loop-file.writer _ (map-take_more listed_file_value fs i _ _ c.loop-file-test.true c.file-item.is) c.in_ok-push.ensures.items c.loop-file.invariant c.in_ok-word.ensures
+    mapped_left listed_file_value c.args.files.now c.loop-file.file-index _ _ _ _ _ c.loop-file-test.true c.file-item.is c.loop-file.invariant c.in_ok-write_file.ensures
+
+pub returns : goal.returns
+returns c =
+    closed arr_value (plains_of_list (map listed_file_value c.args.files.now)) c.args.draft.now _ _ c.close_array.result c.close_array.ensures.ok
+    (mapped_open listed_file_value c.args.files.now c.loop-file.file-index _ _ _ (omega arith) c.loop-file.invariant c.in_ok-open_list.ensures.ok)

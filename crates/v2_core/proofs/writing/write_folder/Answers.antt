@@ -1,13 +1,15 @@
-use Rattle.std.proofs.Common.{IfOk, ap, map, subst}
-use Rattle.std.proofs.lemmas.Result.{IfOk-weaker}
-use Rattle.adb_write.specs.DepthFirst.{WritesValue}
-use Rattle.v2_core.specs.Database.{array_of, listed_file_value, listed_folder_value}
-use Rattle.v2_core.proofs.Lists.{value_as}
+use Rattle.std.proofs.Common.{OnOk, ◌≡◌, ap, map, refl, subst, ◌∙◌}
+use Rattle.adb_view.specs.Plain.{none, more, blob_value, obj_value}
+use Rattle.adb_values.specs.Drafts.{draft_with}
+use Rattle.adb_values.proofs.Lists.{closed}
+use Rattle.v2_core.specs.Database.{array_of, listed_access_value, listed_file_value, listed_folder_value}
+use Rattle.v2_core.specs.Views.{access_views}
 use Rattle.v2_core.proofs.writing.write_folder.Goals as goal
 
 pub returns : goal.returns
 returns c =
-    let law = c.values_are_written_depth_first.ensures in
-    let files = value_as _ _ _ _ _ (ap (λ fs. array_of (map listed_file_value fs)) c.deref.ensures.value) c.in_ok-files.ensures in
-    subst (λ f. IfOk c.obj.result (λ word. WritesValue c.args.writer.now (listed_folder_value f) word c.obj.new.self)) c.folder.view_is
-    (IfOk-weaker c.obj.result _ _ (λ word k. k _ _ (law.more _ _ _ _ _ _ _ c.in_ok-name.ensures.written (law.more _ _ _ _ _ _ _ c.in_ok-access.ensures (law.more _ _ _ _ _ _ _ files (law.none _))))) c.obj.ensures.written)
+    let folder = c.folder.inside in
+    let files = c.in_ok-write_files.ensures ∙ ap (λ fs. draft_with (array_of (map listed_file_value fs)) c.write_access.new.draft) c.deref.ensures.value in
+    subst (λ f. OnOk c.close_object.result (c.close_object.new.self ≡ draft_with (listed_folder_value f) c.args.draft.now)) c.folder.view_is
+    (closed obj_value (more (blob_value folder.name.now) (more (listed_access_value (access_views folder.access)) (more (array_of (map listed_file_value folder.files.items)) none))) c.args.draft.now _ _ c.close_object.result c.close_object.ensures.ok
+    (rw (files, c.in_ok-write_access.ensures, c.in_ok-blob.ensures.ok, c.in_ok-open_list.ensures.ok) refl))

@@ -1,8 +1,8 @@
-use Rattle.std.proofs.Common.{map, take}
+use Rattle.std.proofs.Common.{◌≡◌, drop, map}
 use Rattle.v2_core.specs.Database.{listed_folder_value}
-use Rattle.v2_core.specs.Writing.{WritesList}
+use Rattle.make_info.proofs.Mapped.{with_list}
 use Rattle.v2_core.proofs.writing.write_folders.Given as goal
 
+-- with those that are left it has all
 abbrev pub invariant-loop-folder : goal.invariant-loop-folder
-invariant-loop-folder l =
-    WritesList l.initial.writer (map listed_folder_value (take l.folder-index l.folders)) l.words.items l.writer
+invariant-loop-folder l = with_list (map listed_folder_value (drop l.folder-index l.folders)) l.draft ≡ with_list (map listed_folder_value l.folders) l.initial.draft

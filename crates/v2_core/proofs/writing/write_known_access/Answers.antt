@@ -1,7 +1,11 @@
-use Rattle.std.proofs.lemmas.Result.{IfOk-weaker}
+use Rattle.std.proofs.Common.{refl}
+use Rattle.adb_view.specs.Plain.{none, more, int, blob_value, obj_value}
+use Rattle.adb_values.proofs.Lists.{closed}
+use Rattle.v2_lines.specs.Accesses.{access_view}
 use Rattle.v2_core.proofs.writing.write_known_access.Goals as goal
 
 pub returns : goal.returns
 returns c =
-    let law = c.values_are_written_depth_first.ensures in
-    IfOk-weaker c.obj.result _ _ (λ word k. k _ _ (law.more _ _ _ _ _ _ _ c.in_ok-mode.ensures.written (law.more _ _ _ _ _ _ _ c.in_ok-user.ensures.written (law.more _ _ _ _ _ _ _ c.in_ok-group.ensures.written (law.none _))))) c.obj.ensures.written
+    let a = access_view c.args.access.now in
+    closed obj_value (more (int a.mode) (more (blob_value a.user) (more (blob_value a.group) none))) c.args.draft.now _ _ c.close_object.result c.close_object.ensures.ok
+    (rw (c.in_ok-blob-2.ensures.ok, c.in_ok-blob.ensures.ok, c.in_ok-int.ensures.ok, c.in_ok-open_list.ensures.ok) refl)

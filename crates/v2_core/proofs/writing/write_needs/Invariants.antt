@@ -1,14 +1,11 @@
-use Rattle.std.proofs.Common.{List, ◌++◌, map, take}
-use Rattle.adb_view.specs.Plain.{Plain}
-use Rattle.adb_write.specs.Writing.{Writing}
+use Rattle.std.proofs.Common.{◌≡◌, drop, map}
 use Rattle.dep_core.specs.Meets.{dependency}
 use Rattle.make_info.specs.Fields.{need}
 use Rattle.make_info.specs.Information.{plain_value}
-use Rattle.v2_core.specs.Writing.{WritesList}
+use Rattle.make_info.proofs.Mapped.{with_list}
 use Rattle.v2_core.proofs.writing.write_needs.Given as goal
 
+-- with those that are left it has all
 abbrev pub invariant-loop-need : goal.invariant-loop-need
 invariant-loop-need l =
-    (vs : List Plain) (before : Writing)
-    → WritesList before vs l.initial.words.items l.initial.writer
-    → WritesList before (vs ++ map (λ d. plain_value (need (dependency d))) (take l.need-index l.needs)) l.words.items l.writer
+    with_list (map (λ d. plain_value (need (dependency d))) (drop l.need-index l.needs)) l.draft ≡ with_list (map (λ d. plain_value (need (dependency d))) l.needs) l.initial.draft

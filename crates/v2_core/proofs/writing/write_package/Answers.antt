@@ -1,16 +1,17 @@
-use Rattle.std.proofs.Common.{IfOk, ap, map, subst}
-use Rattle.std.proofs.lemmas.Result.{IfOk-weaker}
-use Rattle.adb_write.specs.DepthFirst.{WritesValue}
+use Rattle.std.proofs.Common.{OnOk, ◌≡◌, ap, map, refl, subst, ◌∙◌}
+use Rattle.adb_view.specs.Plain.{null, none, more, obj_value}
+use Rattle.adb_values.specs.Drafts.{draft_with}
+use Rattle.adb_values.proofs.Lists.{closed}
 use Rattle.v2_lines.specs.declared.field.InfoField.TheVariants as Fields
 use Rattle.v2_core.specs.Database.{array_of, listed_folder_value, record_info_value, record_value, single_value}
-use Rattle.v2_core.proofs.Lists.{null_as, value_as}
 use Rattle.v2_core.proofs.writing.write_package.Goals as goal
 
 pub returns : goal.returns
 returns c =
-    let law = c.values_are_written_depth_first.ensures in
-    let info = value_as _ _ _ _ _ (ap record_info_value c.deref.ensures.value) c.in_ok-info.ensures in
-    let paths = value_as _ _ _ _ _ (ap (λ fs. array_of (map listed_folder_value fs)) c.deref-2.ensures.value) c.in_ok-paths.ensures in
-    let priority = value_as _ _ _ _ _ (ap (single_value Fields.ReplacesPriority) c.deref-3.ensures.value) c.in_ok-priority.ensures in
-    subst (λ r. IfOk c.obj.result (λ word. WritesValue c.args.writer.now (record_value r) word c.obj.new.self)) c.record.view_is
-    (IfOk-weaker c.obj.result _ _ (λ word k. k _ _ (law.more _ _ _ _ _ _ _ info (law.more _ _ _ _ _ _ _ paths (law.more _ _ _ _ _ _ _ (null_as law.null c.of.result _ c.of.ensures) (law.more _ _ _ _ _ _ _ (null_as law.null c.of-2.result _ c.of-2.ensures) (law.more _ _ _ _ _ _ _ priority (law.none _))))))) c.obj.ensures.written)
+    let inside = c.record.inside in
+    let info = c.in_ok-write_info.ensures ∙ ap (λ ls. draft_with (record_info_value ls) c.open_list.new.self) c.deref.ensures.value in
+    let paths = c.in_ok-write_folders.ensures ∙ ap (λ fs. draft_with (array_of (map listed_folder_value fs)) c.write_info.new.draft) c.deref-2.ensures.value in
+    let priority = c.in_ok-write_once.ensures ∙ ap (λ ls. draft_with (single_value Fields.ReplacesPriority ls) c.null-2.new.self) c.deref-3.ensures.value in
+    subst (λ r. OnOk c.close_object.result (c.close_object.new.self ≡ draft_with (record_value r) c.args.draft.now)) c.record.view_is
+    (closed obj_value (more (record_info_value inside.info.items) (more (array_of (map listed_folder_value inside.folders.items)) (more null (more null (more (single_value Fields.ReplacesPriority inside.info.items) none))))) c.args.draft.now _ _ c.close_object.result c.close_object.ensures.ok
+    (rw (priority, c.in_ok-null-2.ensures.ok, c.in_ok-null.ensures.ok, paths, info, c.in_ok-open_list.ensures.ok) refl))

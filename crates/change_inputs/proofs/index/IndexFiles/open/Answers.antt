@@ -6,7 +6,7 @@ use Rattle.adb_tables.specs.declared.tables.Kind.TheVariants as Kinds
 use Rattle.adb_tables.specs.declared.tables.Which.TheVariants.{Index}
 use Rattle.adb_view.specs.Head.{head_fault, root_of}
 use Rattle.change_inputs.proofs.IndexSteps.{few_seen, in_list, passes_at, seen_at}
-use Rattle.db_core.proofs.Opened.{file_head, file_sound}
+use Rattle.adb_schema.proofs.SoundPayload.{file_head, file_sound}
 use Rattle.change_inputs.specs.IndexFiles.{bytes_of_each}
 use Rattle.change_inputs.proofs.index.IndexFiles.open.Goals as goal
 

@@ -7,7 +7,7 @@ use Rattle.adb_tables.specs.declared.tables.Which.TheVariants.{Idb}
 use Rattle.db_core.specs.Packages.{lists_names, lists_no_reserved}
 use Rattle.db_core.specs.SoundMembers.{IsSoundDatabaseIfAny}
 use Rattle.db_core.proofs.ListedNames.{packages_list_names, packages_list_no_reserved}
-use Rattle.db_core.proofs.Opened.{payload_rules}
+use Rattle.adb_schema.proofs.SoundPayload.{payload_rules}
 use Rattle.db_core.proofs.db.Db.open.Goals as goal
 
 pub invariant_of-result-clause-named : goal.invariant_of-result-clause-named

@@ -1,7 +1,7 @@
 use Rattle.std.proofs.Common.{refl, sym, ap}
 use Rattle.base_core.specs.Crash.{Since}
 use Rattle.journal_core.specs.Acting.{acting_stage}
-use Rattle.journal_core.specs.Kept.{RecoversTo}
+use Rattle.journal_core.specs.Kept.{KeepsOldOrNewBytes, RecoversTo}
 use Rattle.journal_core.specs.Staged.{Staging}
 use Rattle.journal_core.proofs.Again.{moments_as, behind_as, told_as}
 use Rattle.journal_core.proofs.Keeping.{action_keeps_as}
@@ -35,3 +35,13 @@ pub returns-clause-reads : goal.returns-clause-reads
 returns-clause-reads g c =
     told_as c.args.self.now (acting_stage c.self.inside.intent c.self.inside.acted) _ (λ files v. Since (RecoversTo files) (g.T.Tree.history c.args.tree.now) (g.T.Tree.history c.act.new.tree))
     (ap (λ (s : Staging). s.intent) (sym c.self.view_is)) (ap (λ (s : Staging). s.acted) (sym c.self.view_is)) c.act.ensures.reads
+
+pub returns-in_err-acted-clause-bytes : goal.returns-in_err-acted-clause-bytes
+returns-in_err-acted-clause-bytes g c =
+    told_as c.args.self.now (acting_stage c.self.inside.intent c.self.inside.acted) _ (λ files v. KeepsOldOrNewBytes files v (g.T.Tree.history c.args.tree.now) (g.T.Tree.history c.act.new.tree))
+    (ap (λ (s : Staging). s.intent) (sym c.self.view_is)) (ap (λ (s : Staging). s.acted) (sym c.self.view_is)) c.act.ensures.bytes
+
+pub returns-clause-bytes : goal.returns-clause-bytes
+returns-clause-bytes g c =
+    told_as c.args.self.now (acting_stage c.self.inside.intent c.self.inside.acted) _ (λ files v. KeepsOldOrNewBytes files v (g.T.Tree.history c.args.tree.now) (g.T.Tree.history c.act.new.tree))
+    (ap (λ (s : Staging). s.intent) (sym c.self.view_is)) (ap (λ (s : Staging). s.acted) (sym c.self.view_is)) c.act.ensures.bytes

@@ -1,3 +1,4 @@
+use Rattle.journal_core.proofs.OldOrNew.{remove_shown, shown_on, sync_shown}
 use Rattle.journal_core.proofs.Leaving.{remove_waiting, sync_waiting, waiting_on}
 use Rattle.std.proofs.Common.{◌∙◌, ◌≡◌, refl}
 use Rattle.journal_core.specs.Recovery.{intent_name}
@@ -128,3 +129,12 @@ returns-in_err-remove-clause-waiting g c = waiting_on _ _ _ (sync_waiting _ _ _ 
 
 pub returns-clause-waiting : goal.returns-clause-waiting
 returns-clause-waiting g c = waiting_on _ _ _ (waiting_on _ _ _ (sync_waiting (g.T.Tree.history c.args.tree.now) _ _ c.in_ok-sync_all_names.ensures.moves) (remove_waiting _ _ _ _ c.in_ok-remove.ensures.moves)) (sync_waiting _ _ c.sync_all_names-2.result c.sync_all_names-2.ensures.moves)
+
+pub returns-in_err-sync_all_names-clause-shown : goal.returns-in_err-sync_all_names-clause-shown
+returns-in_err-sync_all_names-clause-shown g c = sync_shown _ _ _ c.in_err-sync_all_names.ensures.moves
+
+pub returns-in_err-remove-clause-shown : goal.returns-in_err-remove-clause-shown
+returns-in_err-remove-clause-shown g c = shown_on _ _ _ (sync_shown _ _ _ c.in_ok-sync_all_names.ensures.moves) (remove_shown _ c.name.ensures _ _ _ c.in_err-remove.ensures.moves)
+
+pub returns-clause-shown : goal.returns-clause-shown
+returns-clause-shown g c = shown_on _ _ _ (shown_on _ _ _ (sync_shown (g.T.Tree.history c.args.tree.now) _ _ c.in_ok-sync_all_names.ensures.moves) (remove_shown _ c.name.ensures _ _ _ c.in_ok-remove.ensures.moves)) (sync_shown _ _ c.sync_all_names-2.result c.sync_all_names-2.ensures.moves)

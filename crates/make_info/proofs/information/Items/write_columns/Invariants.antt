@@ -1,8 +1,9 @@
-use Rattle.std.proofs.Common.{take}
-use Rattle.adb_write.specs.DepthFirst.{WritesValues}
+use Rattle.std.proofs.Common.{◌≡◌, drop}
+use Rattle.adb_values.specs.Drafts.{draft_with_all}
 use Rattle.make_info.specs.Columns.{column_values}
 use Rattle.make_info.proofs.information.Items.write_columns.Given as goal
 
+-- with the columns that are left it has all
 abbrev pub invariant-loop-column : goal.invariant-loop-column
 invariant-loop-column l =
-    WritesValues l.initial.writer (column_values l.self l.installed_size (take l.column-index l.columns)) l.words.items l.writer
+    draft_with_all (column_values l.self l.installed_size (drop l.column-index l.columns)) l.draft ≡ draft_with_all (column_values l.self l.installed_size l.columns) l.initial.draft

@@ -1,22 +1,15 @@
 -- At the place that was kept of it.
-use Rattle.std.proofs.Common.{◌≡◌, List, Some, None, sym, subst, ◌∙◌}
+use Rattle.std.proofs.Common.{◌≡◌, List, sym, subst, ◌∙◌}
 use Rattle.pkg_pieces.specs.Values.{value_of_contents}
-use Rattle.piece_reader.specs.FileReading.{IsFileReading}
+use Rattle.piece_reader.specs.FileReading.{IsFileReading, file_due}
 use Rattle.package_test.specs.Places.{AreInFileOrder, offset_of_file}
 use Rattle.package_test.specs.declared.places.FilePlace.{FilePlace}
-use Rattle.package_test.proofs.BytesFound.{gives_file, gives_none}
+use Rattle.package_test.proofs.BytesFound.{gives_bytes}
 use Rattle.package_test.proofs.package.TestedPackage.file.Goals as goal
 
-pub returns-in-Some-clause-reading : goal.returns-in-Some-clause-reading
-returns-in-Some-clause-reading c = λ name pkg is.
+pub returns-clause-reading : goal.returns-clause-reading
+returns-clause-reading c = λ name pkg is.
     let self = c.args.self.now in
-    gives_file (IsFileReading c.new.result) c.file_len-len.result c.args.folder c.args.file c.in-Some.at (value_of_contents c.contents-contents.result) pkg self.places.items is.sound (c.contents-contents.ensures.value ∙ is.value) (sym is.long ∙ sym c.file_len-len.ensures) is.places
-    (subst (λ (ps : List FilePlace). AreInFileOrder ps → Some c.in-Some.at ≡ offset_of_file c.args.folder c.args.file ps) c.deref.ensures.value c.in-Some.ensures)
-    c.new.ensures.reading
-
-pub returns-in-None-clause-reading : goal.returns-in-None-clause-reading
-returns-in-None-clause-reading c = λ name pkg is.
-    let self = c.args.self.now in
-    gives_none (IsFileReading c.none.result) c.args.folder c.args.file pkg self.places.items is.sound is.places
-    (subst (λ (ps : List FilePlace). AreInFileOrder ps → None ≡ offset_of_file c.args.folder c.args.file ps) c.deref.ensures.value c.in-None.ensures)
-    c.none.ensures.reading
+    gives_bytes (IsFileReading c.new.result) (file_due c.new.result) c.file_len-len.result c.args.folder c.args.file c.offset_of-at.result (value_of_contents c.contents.result) pkg self.places.items is.sound (c.contents.ensures.value ∙ is.value) (sym is.long ∙ sym c.file_len-len.ensures) is.places
+    (subst (λ (ps : List FilePlace). AreInFileOrder ps → c.offset_of-at.result ≡ offset_of_file c.args.folder c.args.file ps) c.deref.ensures.value c.offset_of-at.ensures)
+    c.new.ensures.due c.new.ensures.reading c.new.ensures.empty

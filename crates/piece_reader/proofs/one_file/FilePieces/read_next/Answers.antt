@@ -1,5 +1,5 @@
 -- The next bytes of the file that is open.
-use Rattle.std.proofs.Common.{◌≡◌, ◌+◌, None, sym, ◌∙◌, arith}
+use Rattle.std.proofs.Common.{◌≡◌, None, sym, ◌∙◌, arith}
 use Rattle.piece_reader.specs.Opened.{AreToCome}
 use Rattle.piece_reader.proofs.FileRead.{ends_within, gives_fault, gives_piece}
 use Rattle.piece_reader.proofs.one_file.FilePieces.read_next.Goals as goal

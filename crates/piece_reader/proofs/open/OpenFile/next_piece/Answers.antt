@@ -3,6 +3,7 @@ use Rattle.std.proofs.Common.{◌≡◌, ◌≤◌, ◌+◌, ◌-◌, ℕ, List,
 use Rattle.std.specs.Prelude.{IfSome}
 use Rattle.piece_core.specs.Pieces.{PiecesRead}
 use Rattle.piece_core.specs.Taking.{HasTaken, IsTaken, file_bytes_left}
+use Rattle.piece_reader.proofs.FileDue.{refused_whole}
 use Rattle.piece_reader.proofs.PieceRead.{all_long, before_is, behind_piece, disk_piece, next_further, not_disk}
 use Rattle.piece_reader.proofs.open.OpenFile.next_piece.Goals as goal
 
@@ -39,3 +40,9 @@ returns-in-Err-clause-piece g c = λ file so_far further before has room is.
     let few : length bytes ≤ file_bytes_left o.file = omega (arith, c.in_ok-read.ensures.len, c.next_len-len.ensures) in
     let taken = subst (λ (xs : List ℕ). (so_far left : List ℕ) (further : PiecesRead) → HasTaken o.file so_far → length (so_far ++ (xs ++ left)) ≡ o.file.wanted.size → IsTaken o.file so_far xs left further (Err c.in-Err.cause)) c.bytes.ensures.bytes c.in-Err.ensures.taken so_far (behind_piece o bytes file) further is.taken (all_long o so_far file bytes further before few has is) in
     before_is o so_far file bytes further before few has is ∙ taken
+
+pub returns-in-Err-clause-digest : goal.returns-in-Err-clause-digest
+returns-in-Err-clause-digest g c = λ so_far has some.
+    let o = c.args.self in
+    let taken = subst (λ (xs : List ℕ). (so_far left : List ℕ) (further : PiecesRead) → HasTaken o.file so_far → length (so_far ++ (xs ++ left)) ≡ o.file.wanted.size → IsTaken o.file so_far xs left further (Err c.in-Err.cause)) c.bytes.ensures.bytes c.in-Err.ensures.taken in
+    refused_whole o.file so_far c.read.new.self c.in-Err.cause has some (c.in_ok-read.ensures.len ∙ c.next_len-len.ensures) taken

@@ -5,7 +5,7 @@ use Rattle.adb_tables.specs.declared.tables.Kind.TheVariants.{Obj}
 use Rattle.adb_schema.specs.Soundness.{payload_fault}
 use Rattle.adb_tables.specs.declared.tables.Which.TheVariants.{Package}
 use Rattle.pkg_pieces.specs.Values.{payload_of_contents}
-use Rattle.pkg_pieces.proofs.Opened.{none_of, payload_sound}
+use Rattle.adb_schema.proofs.SoundPayload.{none_of, payload_sound}
 use Rattle.pkg_pieces.proofs.contents.Contents.view.Goals as goal
 
 pub of-requires : goal.of-requires

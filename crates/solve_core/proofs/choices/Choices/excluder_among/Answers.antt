@@ -4,13 +4,7 @@ use Rattle.pool_core.specs.Options.{IsMember}
 use Rattle.solve_core.specs.Selection.{exclude_each_other}
 use Rattle.solve_core.specs.Choices.{choices_of, pool_of}
 use Rattle.solve_core.proofs.Offered.{in_more}
-use Rattle.solve_core.proofs.Consistency.{item_in}
 use Rattle.solve_core.proofs.choices.Choices.excluder_among.Goals as goal
-
-pub is_excluding_choice-requires-clause-other : goal.is_excluding_choice-requires-clause-other
-is_excluding_choice-requires-clause-other c =
-    let items : List ℕ = c.args.ids.now in
-    c.requires.ids c.other-item.result (item_in items c.loop-other.other-index c.other-item.result (omega arith) c.other-item.is)
 
 pub loop-other-preserved : goal.loop-other-preserved
 loop-other-preserved c =

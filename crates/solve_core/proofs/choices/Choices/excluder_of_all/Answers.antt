@@ -3,9 +3,6 @@ use Rattle.pool_core.specs.Options.{IsMember}
 use Rattle.solve_core.proofs.Excluders.{match_none}
 use Rattle.solve_core.proofs.choices.Choices.excluder_of_all.Goals as goal
 
-pub excluder_among-requires-clause-ids : goal.excluder_among-requires-clause-ids
-excluder_among-requires-clause-ids c = λ k h. c.requires.consistent.within k (subst (λ (z : List ℕ). IsMember k z) c.as_slice.ensures h)
-
 pub returns : goal.returns
 returns c =
     match_none c.excluder_among.result _ _ _ (λ all k h. all k (subst (λ (z : List ℕ). IsMember k z) (sym c.as_slice.ensures) h) h)

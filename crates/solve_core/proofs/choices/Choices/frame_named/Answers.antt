@@ -8,7 +8,7 @@ use Rattle.solve_core.proofs.Asking.{asks_all, least_within, open_asked}
 use Rattle.solve_core.proofs.choices.Choices.frame_named.Goals as goal
 
 pub details-details-requires : goal.details-details-requires
-details-details-requires c = least_within (pool_of c.args.self.now) (choices_of c.args.self.now) c.args.id c.requires.least_name
+details-details-requires c = least_within (pool_of c.args.self.now) (choices_of c.args.self.now) c.args.id c.requires.least
 
 pub returns-clause-frame : goal.returns-clause-frame
 returns-clause-frame c =
@@ -18,8 +18,8 @@ returns-clause-frame c =
     let by : List ℕ = c.in_ok-by.by.items in
     let deps : map dependency c.as_slice.result.now ≡ details.install_if = c.as_slice.ensures ∙ c.install_if.ensures in
     let all : all_met pool by details.install_if ≡ true =
-    ap (all_met pool by) (sym deps) ∙ c.in_ok-by.ensures.met (ap (all_met pool t) deps ∙ asks_all pool t c.args.id details c.requires.least_name c.details-details.ensures) in
+    ap (all_met pool by) (sym deps) ∙ c.in_ok-by.ensures.met (ap (all_met pool t) deps ∙ asks_all pool t c.args.id details c.requires.least c.details-details.ensures) in
     let options : c.into_ids.result.items ≡ options_for pool (named details.name) =
     c.into_ids.ensures ∙ (c.in_ok-options.ensures ∙ ap (λ (n : List ℕ). options_for pool (named n)) c.name.ensures) in
-    open_asked pool t c.args.id details by c.new.result c.requires.met c.requires.least_name c.details-details.ensures c.in_ok-by.ensures.within all
+    open_asked pool t c.args.id details by c.new.result c.requires.met c.requires.least c.details-details.ensures c.in_ok-by.ensures.within all
     (c.new.ensures.value ∙ ap (λ (o : List ℕ). ([], o, by)) options)

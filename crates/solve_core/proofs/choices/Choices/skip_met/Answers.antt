@@ -4,7 +4,7 @@ use Rattle.solve_core.proofs.choices.Choices.skip_met.Goals as goal
 
 pub loop-self-preserved : goal.loop-self-preserved
 loop-self-preserved c = record {
-  consistent = consistent_on c.loop-self.self _ c.loop-self.invariant.consistent refl refl refl refl refl (rw c.loop-self-test.true at c.is_front_met.ensures);
+  consistent = consistent_on c.loop-self.self _ c.loop-self.invariant.consistent (record { pool = refl; choices = refl; install_ifs = refl }) refl refl refl (rw c.loop-self-test.true at c.is_front_met.ensures) c.loop-self.invariant.consistent.unasked;
   pool = c.loop-self.invariant.pool;
   choices = c.loop-self.invariant.choices;
 }

@@ -1,0 +1,19 @@
+-- The pairs that are kept of lists that many places may share.
+use Rattle.std.specs.Prelude.{◌≡◌, ℕ, List, map, Option, Some}
+use Rattle.std.specs.BTreeMap.{BTreeMap, get}
+use Rattle.std.specs.Ordering.{nat_cmp}
+use Rattle.adb_tables.specs.Values.{entries_in, value_at}
+use Rattle.adb_tables.specs.declared.tables.Which.{Which}
+use Rattle.adb_tables.specs.declared.tables.Kind.TheVariants.{ObjArr}
+use Rattle.adb_fields.specs.Repeated.{list_of, name_of, twice}
+use Rattle.adb_fields.specs.declared.pairs.Pair.{Pair}
+
+-- a name that stands twice in the list that a word means
+abbrev pub twice_at : List ℕ → Which → ℕ → Option Pair
+twice_at payload which word = twice (map name_of
+    (list_of (entries_in (value_at payload (ObjArr which) word))))
+
+-- each pair that is kept is that of its word's list
+abbrev pub ArePairsOf : List ℕ → Which → BTreeMap ℕ (Option Pair) → Type 0
+ArePairsOf payload which pairs = (word : ℕ) → (pair : Option Pair)
+    → get nat_cmp pairs word ≡ Some pair → pair ≡ twice_at payload which word

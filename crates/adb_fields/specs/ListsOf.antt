@@ -1,0 +1,8 @@
+-- Of which payload lists are known, and of which table's objects.
+use Rattle.std.specs.Prelude.{◌≡◌}
+use Rattle.adb_view.specs.declared.adb.Adb.{Adb}
+use Rattle.adb_tables.specs.declared.tables.Which.{Which}
+use Rattle.adb_fields.specs.declared.known_lists.KnownLists.{KnownLists}
+
+abbrev pub AreListsOf : Adb → Which → KnownLists → Type 0
+AreListsOf adb which lists = (lists.adb ≡ adb) × (lists.which ≡ which)

@@ -1,0 +1,95 @@
+//! The lists of a payload that were looked through for a name that stands twice. Many places may
+//! share a list, so what a long one has is kept.
+
+ghost use Rattle.std.specs.Prelude.{◌≡◌, true, Some, map, IfOk, IfSome};
+ghost use Rattle.adb_view.specs.Adb.{payload_of};
+ghost use Rattle.adb_view.specs.Entries.{array_entries};
+ghost use Rattle.adb_tables.specs.Values.{is_sound, kind_at};
+ghost use Rattle.adb_fields.specs.Fields.{are_all_sound};
+ghost use Rattle.adb_fields.specs.KnownLists.{ArePairsOf, twice_at};
+ghost use Rattle.adb_fields.specs.NamedTexts.{plains_at};
+ghost use Rattle.adb_fields.specs.Repeated.{name_of, twice};
+ghost use Rattle.adb_tables.specs.declared.tables.Kind.TheVariants as Kinds;
+
+use crate::name_lists::object_names;
+use crate::pairs::{Pair, first_pair};
+use crate::reads::objects_word;
+use adb_tables::Which;
+use adb_view::{Adb, Arr, Val};
+use std::alloc::{AllocError, Global};
+use std::collections::BTreeMap;
+
+/// How many entries a list has at most that is looked through at each place where it stands.
+const SHORT: usize = 16;
+
+/// A payload, a table whose objects have names, and for each long list of such objects that was
+/// looked through the first pair of its names, by the list's word.
+#[derive(Drop)]
+pub(crate) struct KnownLists<'a> {
+    adb: Adb<'a>,
+    which: Which,
+    pairs: BTreeMap<u32, Option<Pair>>,
+    ghost named: { kind_at which 0 ≡ Some Kinds.Text },
+    ghost exact: { ArePairsOf (payload_of adb) which pairs },
+}
+
+impl<'a> KnownLists<'a> {
+    ghost use Rattle.adb_fields.specs.ListsOf.{AreListsOf};
+
+    /// Nothing is known of the payload's lists.
+    pub(crate) fn new(alloc: Global, adb: Adb<'a>, which: Which) -> KnownLists<'a>
+        requires { kind_at which 0 ≡ Some Kinds.Text }
+        ensures { AreListsOf adb.entry which result }
+    {
+        KnownLists {
+            adb,
+            which,
+            pairs: BTreeMap::new(alloc),
+        }
+    }
+
+    /// A name that two objects of a list have. Only a long list takes memory, once.
+    pub(crate) fn twice(&mut self, alloc: Global, list: Val) -> Result<Option<Pair>, AllocError>
+        requires { is_sound (payload_of self.old.adb) (Kinds.ObjArr self.old.which) list ≡ true }
+        ensures value { IfOk result (λ pair. pair
+            ≡ twice_at (payload_of self.old.adb) self.old.which list) }
+        ensures lists { AreListsOf self.old.adb self.old.which self.new }
+    {
+        let objects = objects_word(self.adb, self.which, list);
+        if objects.len() <= SHORT {
+            return name_twice(alloc, self.adb, self.which, objects);
+        }
+        if let Some(pair) = self.kept_pair(list) {
+            return Ok(pair);
+        }
+        let pair = name_twice(alloc, self.adb, self.which, objects)?;
+        self.pairs.insert(list.word(), pair)?;
+        Ok(pair)
+    }
+
+    /// The pair that is kept of a list, if it is.
+    fn kept_pair(&self, list: Val) -> Option<Option<Pair>>
+        ensures { IfSome result (λ pair. pair
+            ≡ twice_at (payload_of self.now.adb) self.now.which list) }
+    {
+        self.pairs.get(&list.word()).copied()
+    }
+}
+
+/// A name that two of the objects have, whose first field it is.
+fn name_twice(
+    alloc: Global,
+    adb: Adb<'_>,
+    which: Which,
+    objects: Arr<'_>,
+) -> Result<Option<Pair>, AllocError>
+    requires sound { are_all_sound (payload_of adb) (Kinds.Obj which) (array_entries objects)
+        ≡ true }
+    requires kind { kind_at which 0 ≡ Some Kinds.Text }
+    ensures { IfOk result (λ pair. pair
+        ≡ twice (map name_of (plains_at (payload_of adb.entry) (Kinds.Obj which)
+        (array_entries objects.entry)))) }
+{
+    let mut names = object_names(alloc, adb, which, objects)?;
+    Ok(first_pair(&mut names))
+}

@@ -1,0 +1,59 @@
+-- A payload that passes all tests, or that of a container without fault, can be opened.
+use Rattle.std.proofs.Common.{◌≡◌, ◌↔◌, ◌≤◌, ℕ, true, List, length, Option, Some, None, refl, ap}
+use Rattle.std.specs.Prelude.{is_none, is_some}
+use Rattle.base_core.specs.declared.cause.Cause.{Cause}
+use Rattle.adb_view.specs.Head.{head_fault, root_of}
+use Rattle.adb_view.specs.Plain.{Plain, Shape, plain_of}
+use Rattle.adb_view.specs.Visits.{visits}
+use Rattle.adb_tables.specs.Schema.{shape_of}
+use Rattle.adb_tables.specs.Values.{is_sound}
+use Rattle.adb_tables.specs.Walk.{or_else, shape_fault, LIMIT}
+use Rattle.adb_tables.specs.declared.tables.Which.{Which}
+use Rattle.adb_tables.specs.declared.tables.Kind.TheVariants as Kinds
+use Rattle.adb_fields.specs.Repeated.{repeated_fault}
+use Rattle.adb_rules.specs.SoundValues.{KeepsRules}
+use Rattle.adb_rules.specs.Texts.{text_fault}
+use Rattle.adb_schema.specs.Soundness.{payload_fault, first_fault, payload_in, root_value}
+use Rattle.adb_schema.proofs.Sound.{sound_payload}
+
+-- what a law of `adb_tables` says
+abbrev pub Visited : Type 0
+Visited = (payload : List ℕ) (shape : Shape) (word : ℕ)
+    → (shape_fault payload shape word ≡ None) ↔ ((is_some (plain_of payload shape word) ≡ true) × (length (visits payload shape word) ≤ LIMIT))
+
+first_passed : (a b : Option Cause) → or_else a b ≡ None → a ≡ None
+first_passed None b h = refl
+first_passed (Some c) b h = h
+
+later_passed : (a b : Option Cause) → or_else a b ≡ None → b ≡ None
+later_passed None b h = h
+later_passed (Some c) b h = absurd (cc)
+
+pub none_of : {A : Type 0} (o : Option A) → is_none o ≡ true → o ≡ None
+none_of None h = refl
+none_of (Some a) h = absurd (cc)
+
+pub payload_head : (which : Which) (p : List ℕ) → payload_fault which p ≡ None → is_none (head_fault p) ≡ true
+payload_head which p h = ap is_none (first_passed (head_fault p) _ h)
+
+pub payload_sound : Visited → (which : Which) (p : List ℕ) → payload_fault which p ≡ None → is_sound p (Kinds.Obj which) (root_of p) ≡ true
+unfolding is_sound
+payload_sound visited which p h =
+    ((visited p (shape_of (Kinds.Obj which)) (root_of p)).0
+    (first_passed (shape_fault p (shape_of (Kinds.Obj which)) (root_of p)) _ (later_passed (head_fault p) _ h))).0
+
+-- what a law of `adb_rules` says
+abbrev pub Kept : Type 0
+Kept = (which : Which) (v : Plain) → (text_fault which v ≡ None) ↔ KeepsRules which v
+
+pub payload_rules : Kept → (which : Which) (p : List ℕ) → payload_fault which p ≡ None → KeepsRules which (root_value which p)
+payload_rules kept which p h =
+    (kept which (root_value which p)).0
+    (first_passed (text_fault which (root_value which p)) (repeated_fault which (root_value which p))
+    (later_passed (shape_fault p (shape_of (Kinds.Obj which)) (root_of p)) _ (later_passed (head_fault p) _ h)))
+
+pub file_head : (which : Which) (file : List ℕ) → first_fault which file ≡ None → is_none (head_fault (payload_in file)) ≡ true
+file_head which file h = payload_head which (payload_in file) (sound_payload which file h)
+
+pub file_sound : Visited → (which : Which) (file : List ℕ) → first_fault which file ≡ None → is_sound (payload_in file) (Kinds.Obj which) (root_of (payload_in file)) ≡ true
+file_sound visited which file h = payload_sound visited which (payload_in file) (sound_payload which file h)

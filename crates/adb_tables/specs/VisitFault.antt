@@ -1,0 +1,22 @@
+-- The fault of a visit, as the walk hands it on, and the cause that is reported of it.
+use Rattle.std.specs.Prelude.{Bool, true, false, Result, Ok, Err}
+use Rattle.base_core.specs.declared.cause.Cause.{Cause}
+use Rattle.base_core.specs.declared.cause.Cause.TheVariants as Causes
+use Rattle.adb_tables.specs.declared.visit_fault.VisitFault.{VisitFault}
+use Rattle.adb_tables.specs.declared.visit_fault.VisitFault.TheVariants.{TooLarge, WrongKind, Outside}
+
+abbrev pub cause_of_fault : VisitFault → Cause
+cause_of_fault (TooLarge count) = Causes.TooLarge count
+cause_of_fault (WrongKind word) = Causes.WrongKind word
+cause_of_fault (Outside word) = Causes.Outside word
+
+-- the answer of a walk, with the cause that is reported
+abbrev pub with_cause : {A : Type 0} → Result A VisitFault → Result A Cause
+with_cause (Ok x) = Ok x
+with_cause (Err fault) = Err (cause_of_fault fault)
+
+-- why a reader refuses a word
+abbrev pub is_reader_fault : Cause → Bool
+is_reader_fault (Causes.WrongKind word) = true
+is_reader_fault (Causes.Outside word) = true
+is_reader_fault cause = false

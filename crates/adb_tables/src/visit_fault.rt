@@ -1,0 +1,43 @@
+//! The fault of a visit, as the walk hands it from value to value.
+
+ghost use Rattle.std.specs.Prelude.{◌≡◌, true};
+ghost use Rattle.adb_tables.specs.VisitFault.{cause_of_fault, is_reader_fault};
+
+use base_core::Cause;
+
+/// Why a visit is faulty. A cause has 150 bytes, too many to be handed from value to value, so the
+/// walk hands this on, and its caller makes a cause of it.
+#[derive(Clone, Copy)]
+pub(crate) enum VisitFault {
+    /// The visit with this number is one too many.
+    TooLarge { count: u32 },
+    /// The word is of another kind.
+    WrongKind { word: u32 },
+    /// What the word points to leaves the payload.
+    Outside { word: u32 },
+}
+
+impl VisitFault {
+    /// Why a reader refused a word.
+    pub(crate) fn of_reader(cause: Cause) -> VisitFault
+        requires { is_reader_fault cause ≡ true }
+        ensures { cause_of_fault result ≡ cause }
+    {
+        match cause {
+            Cause::WrongKind { word } => VisitFault::WrongKind { word },
+            Cause::Outside { word } => VisitFault::Outside { word },
+            _ => unreachable!(),
+        }
+    }
+
+    /// The cause that is reported.
+    pub(crate) fn cause(self) -> Cause
+        ensures { result ≡ cause_of_fault self }
+    {
+        match self {
+            VisitFault::TooLarge { count } => Cause::TooLarge { count },
+            VisitFault::WrongKind { word } => Cause::WrongKind { word },
+            VisitFault::Outside { word } => Cause::Outside { word },
+        }
+    }
+}

@@ -1,0 +1,5 @@
+pub mod Taken
+pub mod Closed
+pub mod Finished
+-- For callers.
+pub mod Lists

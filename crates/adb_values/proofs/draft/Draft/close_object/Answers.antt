@@ -1,0 +1,17 @@
+use Rattle.std.proofs.Common.{◌≡◌, ℕ, ◌-◌, List, length, take, ap, ◌∙◌}
+use Rattle.adb_view.specs.Plain.{obj_value}
+use Rattle.adb_values.specs.Drafts.{DraftState, draft_by}
+use Rattle.adb_values.proofs.Closed.{closes, tail_is}
+use Rattle.adb_values.proofs.draft.Draft.close_object.Goals as goal
+
+pub returns-clause-ok : goal.returns-clause-ok
+returns-clause-ok c = λ vs before is.
+    let s = c.self.inside in
+    let ws : List ℕ = c.reserve.new.self.items in
+    let ss : List ℕ = s.starts.items in
+    let start : ℕ = c.last_start-start.result in
+    let old : DraftState = draft_by s.writer ws ss in
+    let same : old ≡ c.args.self.now = ap (λ (l : List ℕ). draft_by s.writer l ss) c.reserve.ensures.items ∙ c.self.view_is in
+    let lists : c.pop.new.self.items ≡ take (length ss - 1) ss = c.pop.ensures.rest ∙ ap (λ (k : ℕ). take (k - 1) ss) s.starts.ok.0 in
+    closes (obj_value vs) vs before old _ c.in_ok-word.word start c.obj.new.self c.replace_from.new.words.items c.pop.new.self.items
+    (same ∙ is) c.last_start-start.ensures.is (tail_is c.deref.result.now ws start c.deref.ensures.value) (c.in_ok-word.ensures.written vs before.writing) c.replace_from.ensures lists

@@ -1,0 +1,23 @@
+-- What stands last in a draft.
+use Rattle.std.specs.Prelude.{ℕ, ◌-◌, List, length, min, Option, Some, None, slice_get}
+use Rattle.adb_values.specs.Drafts.{DraftState}
+
+-- the last of some numbers
+abbrev pub last_of : List ℕ → Option ℕ
+last_of xs = slice_get xs (length xs - 1)
+
+abbrev pub start_within : Option ℕ → ℕ → ℕ
+start_within None len = 0
+start_within (Some start) len = min start len
+
+-- how many words stand before the list that was opened last: none where no list is open
+abbrev pub last_start : DraftState → ℕ
+last_start d = start_within (last_of d.starts) (length d.words)
+
+abbrev pub word_or_null : Option ℕ → ℕ
+word_or_null None = 0
+word_or_null (Some word) = word
+
+-- the last of some words
+abbrev pub last_word : List ℕ → ℕ
+last_word words = word_or_null (last_of words)

@@ -1,0 +1,164 @@
+//! A payload under construction.
+
+ghost use Rattle.std.specs.Prelude.{◌≡◌, ◌<◌, ◌≤◌, ◌∷◌, ◌++◌, [], length, take, IfOk, OnErr, OnOk, vec_capacity, vec_len};
+ghost use Rattle.adb_view.specs.Plain.{Plain, Plains, arr_value, blob_value, int, null, obj_value};
+ghost use Rattle.adb_values.specs.Drafts.{empty_draft, draft_with_open_list, draft_with, draft_with_all, DraftState};
+ghost use Rattle.adb_values.specs.LastList.{last_start, last_word};
+ghost use Rattle.adb_values.specs.Written.{IsWrittenAs};
+ghost use Rattle.adb_write.specs.Canonical.{written_of, MOST_BYTES};
+
+use adb_view::Val;
+use adb_write::{WriteFault, Writer};
+use std::alloc::{AllocError, Global};
+use std::marker::Model;
+
+/// Plain values under construction: those that were given, and lists of them that are still open.
+/// A call that is refused memory leaves the draft as it was.
+#[derive(Drop)]
+pub struct Draft {
+    writer: Writer,
+    /// The words of the values that are in no closed list.
+    words: Vec<Val>,
+    /// How many of them stand before each open list.
+    starts: Vec<usize>,
+}
+
+impl Model for Draft {
+    ghost use Rattle.adb_values.specs.Drafts.{draft_by, DraftState};
+
+    ghost Value = { DraftState };
+
+    ghost view = { λ d. draft_by d.writer d.words.items d.starts.items };
+}
+
+impl Draft {
+    /// A draft without a value.
+    pub fn new(alloc: Global) -> Draft
+        ensures { result ≡ empty_draft }
+    {
+        Draft {
+            writer: Writer::new(alloc),
+            words: Vec::new(alloc),
+            starts: Vec::new(alloc),
+        }
+    }
+
+    /// Adds Null.
+    pub fn null(&mut self) -> Result<(), AllocError>
+        ensures ok { OnOk result (self.new ≡ draft_with null self.old) }
+        ensures err { OnErr result (self.new ≡ self.old) }
+    {
+        self.words.push(Val::of(0))?;
+        Ok(())
+    }
+
+    /// Adds an integer.
+    pub fn int(&mut self, n: u64) -> Result<(), AllocError>
+        ensures ok { OnOk result (self.new ≡ draft_with (int n) self.old) }
+        ensures err { OnErr result (self.new ≡ self.old) }
+    {
+        self.words.reserve(1)?;
+        let word = self.writer.int(n)?;
+        self.words.push(word)?;
+        Ok(())
+    }
+
+    /// Adds a blob; an empty one is Null.
+    pub fn blob(&mut self, bytes: &[u8]) -> Result<(), AllocError>
+        ensures ok { OnOk result (self.new ≡ draft_with (blob_value bytes.now) self.old) }
+        ensures err { OnErr result (self.new ≡ self.old) }
+    {
+        self.words.reserve(1)?;
+        let word = self.writer.blob(bytes)?;
+        self.words.push(word)?;
+        Ok(())
+    }
+
+    /// Opens a list, which takes the values that come until it is closed.
+    pub fn open_list(&mut self) -> Result<(), AllocError>
+        ensures ok { OnOk result (self.new ≡ draft_with_open_list self.old) }
+        ensures err { OnErr result (self.new ≡ self.old) }
+    {
+        self.starts.push(self.words.len())?;
+        Ok(())
+    }
+
+    /// Closes the list that was opened last: an array of the values that came since. An empty one
+    /// is Null.
+    pub fn close_array(&mut self) -> Result<(), AllocError>
+        ensures ok { OnOk result ((vs : Plains) (before : DraftState)
+            → self.old ≡ draft_with_all vs (draft_with_open_list before)
+            → self.new ≡ draft_with (arr_value vs) before) }
+        ensures err { OnErr result (self.new ≡ self.old) }
+    {
+        self.words.reserve(1)?;
+        let start = self.last_start();
+        let word = self.writer.arr(&self.words[start..])?;
+        replace_from(&mut self.words, start, word);
+        self.starts.pop();
+        Ok(())
+    }
+
+    /// Closes the list that was opened last: an object with the values that came since, one for
+    /// each field from the first on. Nulls that stand last are dropped, and an object without a
+    /// value is Null.
+    pub fn close_object(&mut self) -> Result<(), AllocError>
+        ensures ok { OnOk result ((vs : Plains) (before : DraftState)
+            → self.old ≡ draft_with_all vs (draft_with_open_list before)
+            → self.new ≡ draft_with (obj_value vs) before) }
+        ensures err { OnErr result (self.new ≡ self.old) }
+    {
+        self.words.reserve(1)?;
+        let start = self.last_start();
+        let word = self.writer.obj(&self.words[start..])?;
+        replace_from(&mut self.words, start, word);
+        self.starts.pop();
+        Ok(())
+    }
+
+    /// How many words stand before the list that was opened last.
+    fn last_start(&self) -> usize
+        ensures is { result ≡ last_start self.now }
+        ensures within { result ≤ length self.now.words }
+    {
+        let len = self.words.len();
+        match self.starts.last() {
+            Some(start) => (*start).min(len),
+            None => 0,
+        }
+    }
+
+    /// The payload whose root is the only value of the draft, or the counts just behind the first
+    /// value at which one passes its limit.
+    pub fn finish(self) -> Result<Vec<u8>, WriteFault>
+        ensures written { (v : Plain) → self ≡ draft_with v empty_draft
+            → IsWrittenAs (λ payload. payload.items) result (written_of v) }
+        ensures short { (v : Plain) → self ≡ draft_with v empty_draft
+            → IfOk result (λ payload. length payload.items ≤ MOST_BYTES) }
+    {
+        let root = last_word(&self.words);
+        let writer = self.writer;
+        writer.finish(root)
+    }
+}
+
+/// Puts a word in the place of those from `start` on.
+fn replace_from(words: &mut Vec<Val>, start: usize, word: Val)
+    requires room { vec_len words.old < vec_capacity words.old }
+    ensures { words.new.items ≡ take start words.old.items ++ word ∷ [] }
+{
+    words.truncate(start);
+    if words.push(word).is_err() {
+        unreachable!();
+    }
+}
+
+/// The last of some words, or NULL where there is none.
+fn last_word(words: &[Val]) -> Val
+    ensures { result ≡ last_word words.now }
+{
+    match words.last() {
+        Some(word) => *word,
+        None => Val::of(0),
+    }
+}

@@ -1,0 +1,108 @@
+-- An index that is made tells of just the packages that operands name, in order.
+use Rattle.std.proofs.Common.{◌≡◌, ℕ, ◌+◌, List, [], ◌∷◌, map, Option, Some, None, Result, Ok, Err, refl, ap, sym, subst, ◌∙◌}
+use Rattle.std.specs.List.Sorted.{IsPermutation, IsSorted}
+use Rattle.base_core.specs.declared.cause.Cause.{Cause}
+use Rattle.adb_fields.specs.Repeated.{list_of}
+use Rattle.adb_schema.specs.Soundness.{payload_in, root_value}
+use Rattle.adb_tables.specs.Values.{entries_in}
+use Rattle.adb_tables.specs.declared.tables.Which.TheVariants.{Index}
+use Rattle.adb_tables.proofs.ValueEntries.{entries_arr, nth_obj}
+use Rattle.adb_view.specs.Plain.{Plain, none, more, arr_value, blob_value}
+use Rattle.command_core.specs.Command.{CommandLine}
+use Rattle.command_core.specs.Files.{without_dot}
+use Rattle.command_core.specs.declared.operands.Operand.{Operand}
+use Rattle.list_order.specs.Sorted.{sorted_by}
+use Rattle.make_index.specs.Entries.{entry_of_package}
+use Rattle.make_index.specs.EntryOrder.{entry_cmp}
+use Rattle.make_index.specs.Files.{AreFiles}
+use Rattle.make_index.specs.Index.{and_entries, description_in, entry_unless, found_entries, found_entry, made_index, value_of_index}
+use Rattle.make_info.specs.Reads.{Reads}
+use Rattle.make_info.specs.Values.{plains_of_list}
+use Rattle.make_info.specs.declared.fault.MakeFault.{MakeFault}
+use Rattle.pkg_core.specs.Whole.{package_fault}
+use Rattle.make_core.specs.IndexOrder.{AreSoundPackages, HasPackagesInOrder, packages_in}
+use Rattle.make_core.specs.ReadBack.{index_value_of}
+use Rattle.make_core.proofs.OpenedPackage.{Values}
+use Rattle.make_core.proofs.PackageFiles.{list-plains}
+use Rattle.make_core.proofs.Roots.{Exact}
+use Rattle.make_core.proofs.SoundIndex.{Back, made_back}
+
+-- ---- the packages
+
+-- what was found is a sound package, and this is its entry
+record IsSoundEntry (found : Option (List ℕ)) (entry : Plain) : Type 0 where
+  file : List ℕ
+  is : found ≡ Some file
+  sound : package_fault file ≡ None
+  same : entry_of_package file ≡ entry
+
+found_sound : (place : ℕ) (found : Option (List ℕ)) (entry : Plain) → found_entry place found ≡ Ok entry → IsSoundEntry found entry
+found_sound place None entry e = absurd (cc (e))
+found_sound place (Some file) entry e = by (package_fault file) refl e
+  where
+    by : (fault : Option Cause) → package_fault file ≡ fault → entry_unless place file fault ≡ Ok entry → IsSoundEntry (Some file) entry
+    by None is e = let same : entry_of_package file ≡ entry = cc (e) in record { file = file; is = refl; sound = is; same = same }
+    by (Some cause) is e = absurd (cc (e))
+
+record AreSoundEntries (read : Reads) (n : ℕ) (operands : List Operand) (entries : List Plain) : Type 0 where
+  files : List (List ℕ)
+  sound : AreSoundPackages read n operands files
+  same : map entry_of_package files ≡ entries
+
+one_more : (read : Reads) (n : ℕ) (o : Operand) (operands : List Operand) (entries : List Plain) (r : Result Plain MakeFault) (rs : Result (List Plain) MakeFault)
+    → ((entry : Plain) → r ≡ Ok entry → IsSoundEntry (read n (without_dot o.text)) entry) → ((others : List Plain) → rs ≡ Ok others → AreSoundEntries read (n + 1) operands others)
+    → and_entries r rs ≡ Ok entries → AreSoundEntries read n (o ∷ operands) entries
+one_more read n o operands entries (Err fault) rs one further e = absurd (cc (e))
+one_more read n o operands entries (Ok entry) (Err fault) one further e = absurd (cc (e))
+one_more read n o operands entries (Ok entry) (Ok others) one further e =
+    let whole : entry ∷ others ≡ entries = cc (e) in
+    let first = one entry refl in
+    let rest = further others refl in
+    record {
+      files = first.file ∷ rest.files;
+      sound = (first.is, first.sound, rest.sound);
+      same = (λ k. first.same k ∷ rest.same k) ∙ whole;
+    }
+
+entries_sound : (read : Reads) (n : ℕ) (operands : List Operand) (entries : List Plain) → found_entries read n operands ≡ Ok entries → AreSoundEntries read n operands entries
+entries_sound read n [] entries e =
+    let none_left : [] ≡ entries = cc (e) in
+    record { files = []; sound = tt; same = none_left }
+entries_sound read n (o ∷ operands) entries e =
+    one_more read n o operands entries (found_entry o.place (read n (without_dot o.text))) (found_entries read (n + 1) operands)
+    (found_sound o.place (read n (without_dot o.text))) (entries_sound read (n + 1) operands) e
+
+-- ---- in the index
+
+packages_stand : (description : List ℕ) (entries : List Plain) → packages_in (value_of_index description entries) ≡ entries
+unfolding value_of_index
+packages_stand description entries =
+    ap (λ (v : Plain). list_of (entries_in v)) (nth_obj (more (blob_value description) (more (arr_value (plains_of_list entries)) none)) 1)
+    ∙ (ap list_of (entries_arr (plains_of_list entries)) ∙ list-plains entries)
+
+-- entries that are put in order
+abbrev pub Same : Type 0
+Same = (entries : List Plain) → IsPermutation entries (sorted_by entry_cmp entries)
+
+abbrev pub Sorted : Type 0
+Sorted = (entries : List Plain) → IsSorted entry_cmp (sorted_by entry_cmp entries)
+
+in_order : Same → Sorted → (read : Reads) (operands : List Operand) (description : List ℕ) (index : Plain) (found : Result (List Plain) MakeFault) → found_entries read 0 operands ≡ found
+    → index_value_of description found ≡ Ok index → HasPackagesInOrder read operands index
+in_order same sorted read operands description index (Err fault) is e = absurd (cc (e))
+in_order same sorted read operands description index (Ok entries) is e =
+    let are = entries_sound read 0 operands entries is in
+    let value : value_of_index description (sorted_by entry_cmp entries) ≡ index = cc (e) in
+    let stand : sorted_by entry_cmp entries ≡ packages_in index = sym (packages_stand description (sorted_by entry_cmp entries)) ∙ ap packages_in value in
+    record {
+      files = are.files;
+      sound = are.sound;
+      same = subst (λ (l : List Plain). IsPermutation l (packages_in index)) (sym are.same) (subst (IsPermutation entries) stand (same entries));
+      sorted = subst (IsSorted entry_cmp) stand (sorted entries);
+    }
+
+pub made_in_order : Same → Sorted → Back → Exact → Values → (command : CommandLine) (read : Reads) (bytes : List ℕ) → AreFiles read 0 command.operands → made_index command read ≡ Ok bytes
+    → HasPackagesInOrder read command.operands (root_value Index (payload_in bytes))
+made_in_order same sorted back exact values command read bytes files e =
+    in_order same sorted read command.operands (description_in command.values) (root_value Index (payload_in bytes)) (found_entries read 0 command.operands) refl
+    (made_back back exact values command read bytes files e)

@@ -1,0 +1,181 @@
+-- The files that a package holds are those below its folder.
+use Rattle.command_core.specs.declared.values.TheConstants.{FILES, TRIGGER}
+use Rattle.std.proofs.Common.{◌≡◌, inl, inr, ℕ, ◌^◌, ◌<◌, List, [], ◌∷◌, ◌++◌, length, map, Option, Some, None, Ok, refl, ap, sym, subst, ◌∙◌}
+use Rattle.std.specs.Prelude.{All}
+use Rattle.std.specs.List.{flat_map}
+use Rattle.std.specs.List.Sorted.{IsPermutation}
+use Rattle.std.proofs.lemmas.List.{map-append}
+use Rattle.std.proofs.lemmas.List.Concat.{flat_map-cons}
+use Rattle.std.proofs.lemmas.List.Elements.{All-cons, All-nil}
+use Rattle.std.proofs.lemmas.List.Sorted.{IsPermutation-map}
+use Rattle.base_core.specs.Files.{Files}
+use Rattle.base_core.specs.Listed.{AreNamesBelow}
+use Rattle.adb_fields.specs.FirstPair.{IsIn}
+use Rattle.adb_fields.specs.Paths.{path_of}
+use Rattle.adb_fields.specs.Repeated.{files_in, folders_in, name_of, paths_under}
+use Rattle.adb_schema.specs.Soundness.{payload_in, root_value}
+use Rattle.adb_tables.specs.declared.tables.Which.TheVariants.{Package}
+use Rattle.adb_view.specs.Plain.{Plain}
+use Rattle.command_core.specs.Command.{CommandLine}
+use Rattle.command_core.specs.Files.{without_dot}
+use Rattle.command_core.specs.declared.values.OptionValue.{OptionValue}
+use Rattle.make_info.specs.Information.{replaces_priority}
+use Rattle.make_package.specs.Folders.{FolderListing, folder_names, folders_of, last_part_of, listing_of, names_in_folder, path_below}
+use Rattle.make_package.specs.Making.{made_package}
+use Rattle.make_package.specs.Package.{Source, SourceFolder, value_of_file, value_of_folder, kind_of_file}
+use Rattle.make_package.specs.Sources.{AreNamesFor, file_at, folder_at, folders_below, found_at, source_folders_from, sources_from, texts_of, values_with}
+use Rattle.pkg_core.specs.Whole.{Packed}
+use Rattle.make_core.specs.FilesBelow.{HasFilesBelow, IsFileBelow, name_below}
+use Rattle.make_core.proofs.Apart.{Tells}
+use Rattle.make_core.proofs.InformationGood.{Needs}
+use Rattle.make_core.proofs.ListedNames.{AllOf, AreListed, after_ok, below_is, each_read, filter_in, listed_in, recovered, stands_in}
+use Rattle.make_core.proofs.PackageFiles.{files_stand, folder_name_stands, folders_stand, name_stands}
+use Rattle.make_core.proofs.Roots.{Exact}
+use Rattle.make_core.proofs.SoundPackage.{Holds, IsReadBack, Sizes, are_listed, made_of}
+
+-- ---- what was read
+
+found_is : (place : ℕ) (o : Option (List ℕ)) (bytes : List ℕ) → found_at place o ≡ Ok bytes → o ≡ Some bytes
+found_is place None bytes e = absurd (cc (e))
+found_is place (Some b) bytes e = let same : b ≡ bytes = cc (e) in ap Some same
+
+module _ (files : Files) where
+  -- a file is that of a name, with the bytes that stand there
+  abbrev IsRead : List ℕ → Source → Type 0
+  IsRead name file = (file.name ≡ last_part_of name) × (files name ≡ Some file.bytes)
+
+  file_is_read : (place n : ℕ) (name : List ℕ) (file : Source) → file_at place (λ n name. files name) n name ≡ Ok file → IsRead name file
+  file_is_read place n name file e =
+      let one = after_ok (found_at place (files name)) (λ bytes. Ok (record { name = last_part_of name; bytes = bytes })) file e in
+      let gives = one.gives in
+      let same : record { name = last_part_of name; bytes = one.x } ≡ file = cc (gives) in
+      (ap (λ (f : Source). f.name) (sym same), found_is place (files name) one.x one.is ∙ ap (λ (f : Source). Some f.bytes) same)
+
+  abbrev IsFolderRead : FolderListing → SourceFolder → Type 0
+  IsFolderRead l s = (s.name ≡ l.name) × AllOf IsRead l.files s.files
+
+  folder_is_read : (place n : ℕ) (folder : FolderListing) (source : SourceFolder) → folder_at place (λ n name. files name) n folder ≡ Ok source → IsFolderRead folder source
+  folder_is_read place n folder source e =
+      let one = after_ok (sources_from place (λ n name. files name) n folder.files) (λ fs. Ok (record { name = folder.name; files = fs })) source e in
+      let gives = one.gives in
+      let same : record { name = folder.name; files = one.x } ≡ source = cc (gives) in
+      subst (IsFolderRead folder) same (refl, each_read IsRead (λ name. 1) (file_at place (λ n name. files name)) (file_is_read place) n folder.files one.x one.is)
+
+  -- ---- where they stand
+
+  abbrev AreFilesAt : List ℕ → List ℕ → List Source → Type 0
+  AreFilesAt dir folder [] = Unit {0}
+  AreFilesAt dir folder (s ∷ ss) = (files (name_below dir (path_of folder s.name)) ≡ Some s.bytes) × AreFilesAt dir folder ss
+
+  abbrev paths_of : SourceFolder → List (List ℕ)
+  paths_of s = map (λ (file : Source). path_of s.name file.name) s.files
+
+  abbrev AreAt : List ℕ → List ℕ → List (List ℕ) → List Source → Type 0
+  AreAt dir folder names sources =
+      (map (λ (file : Source). path_of folder file.name) sources ≡ map (path_below dir) names) × AreFilesAt dir folder sources
+
+  files_at : (dir folder : List ℕ) (names : List (List ℕ)) (sources : List Source) → ((name : List ℕ) → IsIn name names → name ≡ name_below dir (path_of folder (last_part_of name)))
+      → AllOf IsRead names sources → AreAt dir folder names sources
+  files_at dir folder [] [] all h = (refl, tt)
+  files_at dir folder [] (s ∷ ss) all h = absurd h
+  files_at dir folder (n ∷ ns) [] all h = absurd h
+  files_at dir folder (n ∷ ns) (s ∷ ss) all h =
+      let is : n ≡ name_below dir (path_of folder (last_part_of n)) = all n (inl refl) in
+      let whole : name_below dir (path_of folder s.name) ≡ n = ap (λ (part : List ℕ). name_below dir (path_of folder part)) h.0.0 ∙ sym is in
+      let path : path_of folder s.name ≡ path_below dir n = sym (below_is dir (path_of folder s.name)) ∙ ap (path_below dir) whole in
+      let further = files_at dir folder ns ss (λ m here. all m (inr here)) h.1 in
+      ((λ k. path k ∷ further.0 k), (ap files whole ∙ h.0.1, further.1))
+
+  abbrev AreFoldersAt : List ℕ → List SourceFolder → Type 0
+  AreFoldersAt dir [] = Unit {0}
+  AreFoldersAt dir (s ∷ ss) = AreFilesAt dir s.name s.files × AreFoldersAt dir ss
+
+  folders_at : (dir : List ℕ) (names fs : List (List ℕ)) (sources : List SourceFolder) → AreListed dir names → AllOf IsFolderRead (map (listing_of dir names) fs) sources
+      → (flat_map paths_of sources ≡ map (path_below dir) (flat_map (λ (l : FolderListing). l.files) (map (listing_of dir names) fs))) × AreFoldersAt dir sources
+  folders_at dir names [] [] all h = (refl, tt)
+  folders_at dir names [] (s ∷ ss) all h = absurd h
+  folders_at dir names (f ∷ fs) [] all h = absurd h
+  folders_at dir names (f ∷ fs) (s ∷ ss) all h =
+      let here : List (List ℕ) = names_in_folder dir names f in
+      let at = files_at dir f here s.files (λ name is. let both = filter_in (stands_in dir f) name names is in recovered dir f name (listed_in dir names name all both.0) both.1) h.0.1 in
+      let one = subst (λ (g : List ℕ). AreAt dir g here s.files) (sym h.0.0) at in
+      let further = folders_at dir names fs ss all h.1 in
+      let listings : List FolderListing = map (listing_of dir names) fs in
+      let l : FolderListing = listing_of dir names f in (
+        flat_map-cons paths_of s ss ∙ (λ k. one.0 k ++ further.0 k)
+            ∙ sym (map-append (path_below dir) here (flat_map (λ (m : FolderListing). m.files) listings))
+            ∙ ap (map (path_below dir)) (sym (flat_map-cons (λ (m : FolderListing). m.files) l listings)),
+        (one.1, further.1),
+      )
+
+  -- ---- what the package's value says of them
+
+  file_paths_stand : (folder : List ℕ) (sources : List Source) → map (λ (file : Plain). path_of folder (name_of file)) (map value_of_file sources) ≡ map (λ (file : Source). path_of folder file.name) sources
+  file_paths_stand folder [] = refl
+  file_paths_stand folder (s ∷ ss) = λ k. path_of folder (name_stands s.name (kind_of_file s.bytes) k) ∷ file_paths_stand folder ss k
+
+  paths_stand_under : (s : SourceFolder) → paths_under (value_of_folder s) ≡ paths_of s
+  paths_stand_under s =
+      (λ k. map (λ (file : Plain). path_of (folder_name_stands s k) (name_of file)) (files_stand s k)) ∙ file_paths_stand s.name s.files
+
+  paths_stand : (sources : List SourceFolder) → flat_map paths_under (map value_of_folder sources) ≡ flat_map paths_of sources
+  paths_stand [] = refl
+  paths_stand (s ∷ ss) =
+      flat_map-cons paths_under (value_of_folder s) (map value_of_folder ss) ∙ (λ k. paths_stand_under s k ++ paths_stand ss k) ∙ sym (flat_map-cons paths_of s ss)
+
+  file_stands : (dir folder : List ℕ) (s : Source) → files (name_below dir (path_of folder s.name)) ≡ Some s.bytes → IsFileBelow files dir folder (value_of_file s)
+  file_stands dir folder s e =
+      let name = name_stands s.name (kind_of_file s.bytes) in
+      record {
+        bytes = s.bytes;
+        stands = ap (λ (part : List ℕ). files (name_below dir (path_of folder part))) name ∙ e;
+        is = ap (λ (part : List ℕ). value_of_file (record { name = part; bytes = s.bytes })) (sym name);
+      }
+
+  files_stand_at : (dir folder : List ℕ) (sources : List Source) → AreFilesAt dir folder sources → All (IsFileBelow files dir folder) (map value_of_file sources)
+  files_stand_at dir folder [] h = All-nil (IsFileBelow files dir folder)
+  files_stand_at dir folder (s ∷ ss) h = All-cons (IsFileBelow files dir folder) (value_of_file s) (map value_of_file ss) (file_stands dir folder s h.0) (files_stand_at dir folder ss h.1)
+
+  abbrev AreFilesIn : List ℕ → Plain → Type 0
+  AreFilesIn dir folder = All (IsFileBelow files dir (name_of folder)) (files_in folder)
+
+  folder_stands_at : (dir : List ℕ) (s : SourceFolder) → AreFilesAt dir s.name s.files → AreFilesIn dir (value_of_folder s)
+  folder_stands_at dir s h =
+      let P : List ℕ → List Plain → Type 0 = λ name held. All (IsFileBelow files dir name) held in
+      subst (λ (name : List ℕ). P name (files_in (value_of_folder s))) (sym (folder_name_stands s))
+      (subst (P s.name) (sym (files_stand s)) (files_stand_at dir s.name s.files h))
+
+  folders_stand_at : (dir : List ℕ) (sources : List SourceFolder) → AreFoldersAt dir sources → All (AreFilesIn dir) (map value_of_folder sources)
+  folders_stand_at dir [] h = All-nil (AreFilesIn dir)
+  folders_stand_at dir (s ∷ ss) h = All-cons (AreFilesIn dir) (value_of_folder s) (map value_of_folder ss) (folder_stands_at dir s h.0) (folders_stand_at dir ss h.1)
+
+-- ---- of a package that is made
+
+-- each name stands in one folder
+abbrev pub OneFolder : Type 0
+OneFolder = (dir : List ℕ) (names : List (List ℕ)) → IsPermutation names (flat_map (λ (folder : FolderListing). folder.files) (folders_of dir names))
+
+read_below : OneFolder → (files : Files) (place n : ℕ) (dir : List ℕ) (names : List (List ℕ)) (sources : List SourceFolder) (pkg : Plain) → AreListed dir names
+    → source_folders_from place (λ n name. files name) n (folders_of dir names) ≡ Ok sources → folders_in pkg ≡ map value_of_folder sources → HasFilesBelow files dir names pkg
+unfolding folders_of
+read_below law files place n dir names sources pkg all e is =
+    let fs : List (List ℕ) = folder_names (map (path_below dir) names) in
+    let listings : List FolderListing = map (listing_of dir names) fs in
+    let are = each_read (IsFolderRead files) (λ (folder : FolderListing). length folder.files) (folder_at place (λ n name. files name)) (folder_is_read files place) n listings sources e in
+    let at = folders_at files dir names fs sources all are in
+    record {
+      paths = subst (IsPermutation (map (path_below dir) names)) (sym (ap (flat_map paths_under) is ∙ paths_stand files sources ∙ at.0)) (IsPermutation-map (path_below dir) names (flat_map (λ (folder : FolderListing). folder.files) listings) (law dir names));
+      each = subst (All (AreFilesIn files dir)) (sym is) (folders_stand_at files dir sources at.1);
+    }
+
+pub made_below : OneFolder → Holds IsReadBack → Sizes → Exact → Needs → Tells → (command : CommandLine) (names : List (List ℕ)) (files : Files) (bytes : List ℕ) (folder : OptionValue) (others : List OptionValue)
+    → values_with FILES command.values ≡ folder ∷ others → AreNamesBelow (without_dot folder.text) names → made_package command names (λ n name. files name) ≡ Ok bytes → length bytes < 2 ^ 64
+    → HasFilesBelow files (without_dot folder.text) names (root_value Package (payload_in bytes))
+made_below law holds sizes exact needs tells command names files bytes folder others given below e short =
+    let named : AreNamesFor (values_with FILES command.values) names = subst (λ (l : List OptionValue). AreNamesFor l names) (sym given) below in
+    let made = made_of IsReadBack holds sizes exact needs tells command names (λ n name. files name) bytes named e short in
+    let read : folders_below (λ n name. files name) (length made.scripts) (folder ∷ others) names ≡ Ok made.sources =
+    ap (λ (l : List OptionValue). folders_below (λ n name. files name) (length made.scripts) l names) (sym given) ∙ made.sources_read in
+    let value = ap (λ (p : Packed). p.value) made.holds in
+    read_below law files folder.place (length made.scripts) (without_dot folder.text) names made.sources (root_value Package (payload_in bytes)) (are_listed (without_dot folder.text) names below.each) read
+    (ap folders_in value ∙ folders_stand _ made.sources made.scripts (texts_of (values_with TRIGGER command.values)) (replaces_priority made.items))

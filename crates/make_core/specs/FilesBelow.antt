@@ -1,0 +1,27 @@
+-- Which files a package holds: those below a folder of a tree.
+use Rattle.std.specs.Prelude.{◌≡◌, ℕ, List, ◌∷◌, ◌++◌, map, Some, All}
+use Rattle.std.specs.List.Sorted.{IsPermutation}
+use Rattle.base_core.specs.Files.{Files}
+use Rattle.adb_view.specs.Plain.{Plain}
+use Rattle.adb_fields.specs.Paths.{path_of}
+use Rattle.adb_fields.specs.Repeated.{files_in, folders_in, name_of, paths_in}
+use Rattle.make_package.specs.Folders.{path_below}
+use Rattle.make_package.specs.Package.{value_of_file}
+
+-- the name in the tree of a path below a folder: behind a slash (47)
+abbrev pub name_below : List ℕ → List ℕ → List ℕ
+name_below dir path = dir ++ 47 ∷ path
+
+-- a file of a package, in a folder of it, is what the bytes under its path in the tree are
+pub record IsFileBelow (files : Files) (dir folder : List ℕ) (file : Plain) : Type 0 where
+  pub bytes : List ℕ
+  pub stands : files (name_below dir (path_of folder (name_of file))) ≡ Some bytes
+  pub is : file ≡ value_of_file (record { name = name_of file; bytes = bytes })
+
+-- the paths in a package are just those of some names below a folder of the tree, each once, and
+-- each of its files is the one that stands there
+pub record HasFilesBelow (files : Files) (dir : List ℕ) (names : List (List ℕ)) (pkg : Plain) :
+    Type 0 where
+  pub paths : IsPermutation (map (path_below dir) names) (paths_in pkg)
+  pub each : All (λ folder. All (IsFileBelow files dir (name_of folder)) (files_in folder))
+      (folders_in pkg)

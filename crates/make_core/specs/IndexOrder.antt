@@ -1,0 +1,33 @@
+-- Of which packages an index tells, and in which order.
+use Rattle.std.specs.Prelude.{◌≡◌, ℕ, ◌+◌, List, [], ◌∷◌, map, Some, None}
+use Rattle.std.specs.List.Sorted.{IsPermutation, IsSorted}
+use Rattle.adb_view.specs.Plain.{Plain}
+use Rattle.adb_fields.specs.Repeated.{entries_at}
+use Rattle.command_core.specs.Files.{without_dot}
+use Rattle.command_core.specs.declared.operands.Operand.{Operand}
+use Rattle.make_index.specs.Entries.{entry_of_package}
+use Rattle.make_index.specs.EntryOrder.{entry_cmp}
+use Rattle.make_info.specs.Reads.{Reads}
+use Rattle.pkg_core.specs.Whole.{package_fault}
+
+-- the entries of an index's packages
+abbrev pub packages_in : Plain → List Plain
+packages_in index = entries_at 1 index
+
+-- the read of each operand finds a file that passes all tests of a package; the read of the first
+-- operand has this number
+abbrev pub AreSoundPackages : Reads → ℕ → List Operand → List (List ℕ) → Type 0
+AreSoundPackages read n [] [] = Unit {0}
+AreSoundPackages read n [] (file ∷ files) = ⊥
+AreSoundPackages read n (o ∷ operands) [] = ⊥
+AreSoundPackages read n (o ∷ operands) (file ∷ files) =
+    (read n (without_dot o.text) ≡ Some file) × (package_fault file ≡ None)
+    × AreSoundPackages read (n + 1) operands files
+
+-- an index tells of just the packages that operands name, in order
+pub record HasPackagesInOrder (read : Reads) (operands : List Operand) (index : Plain) :
+    Type 0 where
+  pub files : List (List ℕ)
+  pub sound : AreSoundPackages read 0 operands files
+  pub same : IsPermutation (map entry_of_package files) (packages_in index)
+  pub sorted : IsSorted entry_cmp (packages_in index)

@@ -1,0 +1,28 @@
+-- At which option a file that is missing is reported.
+use Rattle.std.specs.Prelude.{◌≡◌, ℕ, List, ◌∷◌, None, Contains}
+use Rattle.command_core.specs.Files.{without_dot}
+use Rattle.command_core.specs.Values.{script_file}
+use Rattle.command_core.specs.declared.values.OptionValue.{OptionValue}
+use Rattle.make_info.specs.Reads.{Reads}
+
+-- a read finds nothing under the name
+abbrev pub IsAbsent : Reads → List ℕ → Type 0
+IsAbsent read name = (n : ℕ) × (read n name ≡ None)
+
+-- the place is that of a script whose file is absent
+pub record IsMissingScript (read : Reads) (scripts : List OptionValue) (place : ℕ) : Type 0 where
+  pub script : OptionValue
+  pub given : Contains scripts script
+  pub at : script.place ≡ place
+  pub absent : IsAbsent read (without_dot (script_file script.text))
+
+-- the place is that of the folder, and one of the names that were listed below it is absent
+pub record IsMissingFile (read : Reads) (folders : List OptionValue) (names : List (List ℕ))
+    (place : ℕ) : Type 0 where
+  pub folder : OptionValue
+  pub others : List OptionValue
+  pub given : folders ≡ folder ∷ others
+  pub at : folder.place ≡ place
+  pub name : List ℕ
+  pub listed : Contains names name
+  pub absent : IsAbsent read name

@@ -1,0 +1,95 @@
+//! Packages are added to the members of a change, where they are in order.
+
+ghost use Rattle.adb_fields.specs.Repeated.{package_name};
+ghost use Rattle.adb_view.specs.Plain.{Plain};
+ghost use Rattle.db_core.specs.Seen.{packages_of};
+ghost use Rattle.pkg_pieces.specs.Values.{value_of_contents};
+ghost use Rattle.std.specs.Prelude.{◌≡◌, ◌<◌, Some, length, slice_get};
+
+use adb_schema::{PACKAGE_WORD, PackageView};
+use base_core::Name;
+use db_core::{Db, MOST_MEMBERS, Members};
+use pkg_core::PackageFault;
+use pkg_pieces::{Contents, Front, FrontFault, read_front};
+use std::alloc::{AllocError, Global};
+use std::marker::PhantomData;
+use tree_memory::MemoryTree;
+
+/// The front of the package in a file, unless it is bad.
+pub fn front_of(alloc: Global, file: &[u8]) -> Result<Option<Front>, AllocError> {
+    let Some(name) = Name::read(alloc, b"p")? else {
+        return Ok(None);
+    };
+    let mut tree = MemoryTree::new(alloc);
+    if tree.can_put(&name) {
+        tree.put(&name, file)?;
+    }
+    match read_front(alloc, &mut tree, &name, PACKAGE_WORD) {
+        Ok(front) => Ok(front),
+        Err(FrontFault::Bad(_) | FrontFault::Disk) => Ok(None),
+        Err(FrontFault::Memory) => Err(AllocError),
+    }
+}
+
+/// The name of the package at a place of a database, counted from 0.
+pub fn name_at<'a>(db: &Db<'a>, i: usize, _mark: PhantomData<PackageView<'a>>) -> &'a [u8]
+    requires { i < length (packages_of db.now) }
+    ensures { (pkg : Plain) → slice_get (packages_of db.now) i ≡ Some pkg
+        → result.now ≡ package_name pkg }
+{
+    let package = db.package(i);
+    package.info().name()
+}
+
+/// Adds the package at a place of a database, and tells whether it is in order there.
+pub fn add_installed<'a>(
+    members: &mut Members<'a>,
+    db: &Db<'a>,
+    i: usize,
+) -> Result<bool, AllocError>
+    requires { i < length (packages_of db.now) }
+{
+    if members.len() >= MOST_MEMBERS {
+        return Ok(false);
+    }
+    if !members.comes_behind(name_at(db, i, PhantomData)) {
+        return Ok(false);
+    }
+    members.stays(db, i)?;
+    Ok(true)
+}
+
+/// Adds the package with this front, and tells whether it is good and in order.
+pub fn add_coming<'a>(
+    alloc: Global,
+    members: &mut Members<'a>,
+    front: &'a Front,
+) -> Result<bool, AllocError> {
+    match Contents::new(alloc, front) {
+        Ok(contents) => add_contents(members, &contents),
+        Err(PackageFault::Bad(_)) => Ok(false),
+        Err(PackageFault::Memory) => Err(AllocError),
+    }
+}
+
+fn add_contents<'a>(
+    members: &mut Members<'a>,
+    contents: &Contents<'a>,
+) -> Result<bool, AllocError> {
+    if members.len() >= MOST_MEMBERS {
+        return Ok(false);
+    }
+    if !members.comes_behind(name_of(contents, PhantomData)) {
+        return Ok(false);
+    }
+    members.comes_in_pieces(contents)?;
+    Ok(true)
+}
+
+/// The name of a package.
+fn name_of<'a>(contents: &Contents<'a>, _mark: PhantomData<PackageView<'a>>) -> &'a [u8]
+    ensures { result.now ≡ package_name (value_of_contents contents.now) }
+{
+    let info = contents.view().info();
+    info.name()
+}
