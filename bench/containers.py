@@ -1,5 +1,6 @@
 """Containers as apk-v3(5) lays them out, and the time that a command takes; for the scripts beside this file."""
 import hashlib
+import os
 import resource
 import struct
 import subprocess
@@ -89,6 +90,22 @@ def index(packages):
     return b"ADB.indx" + block(0, payload.done(payload.object([0, payload.array(infos)])))
 
 
+def database(packages, files):
+    """A database of so many packages, with so many files each."""
+    payload = Payload()
+    entries = []
+    for i in range(packages):
+        name = b"package-%05d" % i
+        info = payload.object([payload.blob(name), payload.blob(b"1"), payload.blob(hashlib.sha256(name).digest())])
+        listed = [
+            payload.object([payload.blob(b"file-%02d" % k), 0, payload.int(100), 0, payload.blob(hashlib.sha256(b"%d %d" % (i, k)).digest())])
+            for k in range(files)
+        ]
+        folder = payload.object([payload.blob(b"usr/share/" + name), 0, payload.array(listed)])
+        entries.append(payload.object([info, payload.array([folder])]))
+    return b"ADB.idb\0" + block(0, payload.done(payload.object([payload.array(entries)])))
+
+
 def index_of_one(payload, packages, provides):
     """An index in which one package, which provides all this, stands at so many places."""
     info = [payload.blob(b"a"), payload.blob(b"1"), payload.blob(bytes(32))] + [0] * 12 + [payload.array(provides)]
@@ -122,6 +139,19 @@ def overlapping_names(text, starts):
     entries = [payload.object([0x90000000 | at + start]) for start in starts]
     folder = payload.object([0, 0, payload.array(entries)])
     return b"ADB.pckg" + block(0, payload.done(payload.object([info, payload.array([folder])])))
+
+
+def write(path, *pieces):
+    """Writes a file of these pieces, and the folders above it."""
+    os.makedirs(os.path.dirname(path), exist_ok=True)
+    with open(path, "wb") as file:
+        for piece in pieces:
+            file.write(piece)
+
+
+def run(folder, *command):
+    """Runs a command in a folder; what it prints goes nowhere."""
+    subprocess.run(command, cwd=folder, check=True, stdout=subprocess.DEVNULL)
 
 
 def best_of(times, command, folder):
