@@ -56,7 +56,6 @@ pub struct Candidate<'a> {
 #[derive(Drop)]
 pub struct Details<'a> {
     info: PkgInfo<'a>,
-    name: &'a [u8],
     version: Option<Version<'a>>,
     lists: DependencyLists<'a>,
     repo: u64,
@@ -84,8 +83,7 @@ impl<'a> Model for Details<'a> {
     ghost view = { λ d. candidate_of (info_value d.info) (then_some d.has_repo d.repo)
         (then_some d.has_tag d.tag.now) d.installed };
 
-    ghost invariant = { λ d. (d.name.now ≡ text_in (entry_in (info_value d.info) 0))
-        × (d.version ≡ version_of_text (text_in (entry_in (info_value d.info) 1)))
+    ghost invariant = { λ d. (d.version ≡ version_of_text (text_in (entry_in (info_value d.info) 1)))
         × (d.lists.0 ≡ filter is_conflict (dependencies_in (entry_in (info_value d.info) 14)))
         × (d.lists.1.0 ≡ dependencies_in (entry_in (info_value d.info) 15))
         × (d.lists.1.1 ≡ dependencies_in (entry_in (info_value d.info) 17)) };
@@ -103,12 +101,10 @@ impl<'a> Details<'a> {
         ensures { IfOk result (λ details. details
             ≡ candidate_of (info_value info.entry) repo (option_copied tag.entry) installed) }
     {
-        let name = info.name();
         let version = Version::read(info.version());
         let lists = DependencyLists::read(alloc, info)?;
         Ok(Details {
             info,
-            name,
             version,
             lists,
             repo: repo.unwrap_or(0),
@@ -142,7 +138,7 @@ impl<'a> Details<'a> {
     pub fn name(&self) -> &'a [u8]
         ensures { result.now ≡ self.now.name }
     {
-        self.name
+        self.info.name()
     }
 
     /// Its version; none only where the text is no version, which no tested container has.
@@ -238,7 +234,7 @@ impl<'a> Details<'a> {
         if !self.has_repo {
             return false;
         }
-        if self.name != installed.name {
+        if self.name() != installed.name() {
             return false;
         }
         if !is_same_version(self.version(), installed.version()) {
@@ -268,7 +264,7 @@ impl<'a> Details<'a> {
     fn version_meeting(&self, dep: &Dep<'_>) -> Option<&Version<'a>>
         ensures { option_copied result ≡ version_under (entry (dependency dep.now)) self.now }
     {
-        if dep.met_by(self.name, self.version.as_ref()) {
+        if dep.met_by(self.name(), self.version.as_ref()) {
             return self.version.as_ref();
         }
         first_meeting(self.provides(), dep)
@@ -279,7 +275,7 @@ impl<'a> Details<'a> {
         ensures { result ≡ meets_need (need_by need.now) self.now }
     {
         match need {
-            NeedRef::Named(name) => *name == self.name,
+            NeedRef::Named(name) => *name == self.name(),
             NeedRef::Entry(dep) => self.meets(dep),
         }
     }
@@ -289,7 +285,7 @@ impl<'a> Details<'a> {
     pub fn meets(&self, dep: &Dep<'_>) -> bool
         ensures { result ≡ meets_dependency (dependency dep.now) self.now }
     {
-        if dep.met_by(self.name, self.version.as_ref()) {
+        if dep.met_by(self.name(), self.version.as_ref()) {
             return true;
         }
         any_meets(self.provides(), dep)
@@ -300,7 +296,7 @@ impl<'a> Details<'a> {
     pub fn occupies(&self, name: &[u8]) -> bool
         ensures { result ≡ occupies_name name.now self.now }
     {
-        if name == self.name {
+        if name == self.name() {
             return true;
         }
         any_occupies(self.provides(), name)
@@ -394,7 +390,7 @@ fn first_meeting<'p, 'a>(provides: &'p [Dep<'a>], dep: &Dep<'_>) -> Option<&'p V
 }
 
 // Whether one of the dependencies of a field is no conflict and is met by a candidate.
-fn any_met_by(list: List<'_, DepView<'_>>, candidate: &Details<'_>) -> bool
+fn any_met_by<'a>(list: List<'a, DepView<'a>>, candidate: &Details<'_>) -> bool
     ensures { result ≡ list_any (λ (d : Dependency). not d.conflict
         && meets_dependency d candidate.now) (dependencies_in (list_value list.entry)) }
 {
