@@ -21,7 +21,7 @@ const SHORT: usize = 64;
 
 /// A rule that looks at each byte of a text, and at nothing around it.
 #[derive(Clone, Copy, Debug, PartialEq, Eq, PartialOrd, Ord)]
-pub(crate) enum TextRule {
+pub enum TextRule {
     DependencyName,
     PackageName,
     Version,
@@ -52,7 +52,7 @@ impl TextRule {
 
 /// A payload, and the words of its long texts that were found to keep a rule, each with the rule.
 #[derive(Drop)]
-pub(crate) struct Judged<'a> {
+pub struct Judged<'a> {
     adb: Adb<'a>,
     good: BTreeSet<(TextRule, u32)>,
     versions: OverlappingVersions<'a>,
@@ -62,7 +62,7 @@ pub(crate) struct Judged<'a> {
 
 impl<'a> Judged<'a> {
     /// Nothing is known of a payload's texts.
-    pub(crate) fn new(alloc: Global, adb: Adb<'a>) -> Judged<'a>
+    pub fn new(alloc: Global, adb: Adb<'a>) -> Judged<'a>
         ensures { result.adb ≡ adb.entry }
     {
         Judged {
@@ -72,14 +72,16 @@ impl<'a> Judged<'a> {
         }
     }
 
+    /// The payload.
+    pub fn adb(&self) -> Adb<'a>
+        ensures { result ≡ self.now.adb }
+    {
+        self.adb
+    }
+
     /// Whether the text of a word keeps a rule. Only long texts take memory, each once for each
     /// rule that it keeps.
-    pub(crate) fn keeps(
-        &mut self,
-        rule: TextRule,
-        word: Val,
-        text: &[u8],
-    ) -> Result<bool, AllocError>
+    pub fn keeps(&mut self, rule: TextRule, word: Val, text: &[u8]) -> Result<bool, AllocError>
         requires { text.now ≡ text_at (payload_of self.old.adb) word }
         ensures value { IfOk result (λ kept. kept ≡ keeps_text_rule rule text.now) }
         ensures payload { self.new.adb ≡ self.old.adb }

@@ -11,6 +11,7 @@ mod judged;
 mod rules;
 mod text_walk;
 
+pub use judged::{Judged, TextRule};
 pub use rules::{is_intent_or_stage_name, is_reserved, is_reserved_file};
 pub use text_walk::{
     check_texts, entries_keep_the_rule_of_their_list, no_text_is_bad_where_each_keeps_its_rule,

@@ -86,6 +86,22 @@ impl<'a> PkgInfo<'a> {
     ghost use Rattle.adb_schema.specs.Views.{info_value};
     ghost use Rattle.adb_fields.specs.ListValue.{list_value};
 
+    /// The payload that it is read from.
+    pub fn adb(&self) -> Adb<'a>
+        ensures { result ≡ self.now.adb }
+    {
+        self.adb
+    }
+
+    /// Its word in the payload.
+    pub fn word(&self) -> Val
+        ensures is { result ≡ self.now.word }
+        ensures sound { is_sound (payload_of self.now.adb) (Kinds.Obj Tables.PkgInfo) result
+            ≡ true }
+    {
+        Val::of(self.word)
+    }
+
     /// The package's name.
     pub fn name(&self) -> &'a [u8]
         ensures { result.now ≡ text_in (entry_in (info_value self.now) 0) }

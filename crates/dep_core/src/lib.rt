@@ -23,5 +23,5 @@ pub use laws::{
     words_of_different_names_are_a_world, worlds_are_read_back, worlds_hold_their_words,
 };
 pub use repos::{Repos, ReposFault, without_slash};
-pub use text::{dep_of, dep_text, read_dep};
+pub use text::{dep_of, dep_of_parts, dep_text, read_dep};
 pub use world::{World, WorldFault};

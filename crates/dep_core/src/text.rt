@@ -1,11 +1,12 @@
 //! Dependencies as texts and as values of a package's information: how they are read and written.
 
-ghost use Rattle.std.specs.Prelude.{◌≡◌, IsTrue, is_some, IfSome, ◌++◌, IfOk, OnOk, ◌≤◌, length, not, position};
+ghost use Rattle.std.specs.Prelude.{◌≡◌, IsTrue, true, is_some, IfSome, ◌++◌, IfOk, OnOk, ◌≤◌, length, not, position};
 ghost use Rattle.std.specs.Option.{option_map};
-ghost use Rattle.dep_core.specs.Dependency.{is_name_byte, is_tag_byte};
+ghost use Rattle.dep_core.specs.Dependency.{is_dep_name, is_name_byte, is_tag_byte};
 ghost use Rattle.dep_core.specs.DependencyText.{operator_text, dep_text};
 ghost use Rattle.dep_core.specs.Reading.{at_tag, dependency_of, at_version_end, at_constraint, at_name, at_name_end, at_version, is_not_at, is_operator_byte};
 ghost use Rattle.dep_core.specs.Meets.{dependency};
+ghost use Rattle.dep_core.specs.Value.{is_version_or_empty};
 ghost use Rattle.dep_core.specs.ValueReading.{bits_of, dependency_of_value};
 ghost use Rattle.std.specs.List.{prefix_len};
 ghost use Rattle.dep_core.specs.World.{is_blank};
@@ -107,7 +108,21 @@ pub fn dep_of<'a>(name: &'a [u8], version: &'a [u8], matching: u64) -> Option<De
     ensures { option_map dependency result
         ≡ dependency_of_value name.entry.now version.entry.now matching }
 {
-    if !is_dep_name(name) || matching >= 2 * CONFLICT {
+    if !is_dep_name(name) || !is_version_or_empty(version) {
+        return None;
+    }
+    dep_of_parts(name, version, matching)
+}
+
+/// The same of a name and a version that are known to be good, so that neither is looked at.
+#[tactic(auto, unfolding(crate::specs::ValueReading::dependency_of_value))]
+pub fn dep_of_parts<'a>(name: &'a [u8], version: &'a [u8], matching: u64) -> Option<Dep<'a>>
+    requires name { is_dep_name name.now ≡ true }
+    requires version { is_version_or_empty version.now ≡ true }
+    ensures { option_map dependency result
+        ≡ dependency_of_value name.entry.now version.entry.now matching }
+{
+    if matching >= 2 * CONFLICT {
         return None;
     }
     let low = Op::of((matching % CONFLICT) as u8)?;
@@ -115,11 +130,17 @@ pub fn dep_of<'a>(name: &'a [u8], version: &'a [u8], matching: u64) -> Option<De
     if version.is_empty() {
         return Some(dep);
     }
-    let version = Version::read(version)?;
     match wanted_op(low) {
-        Some(op) => Some(dep.with_constraint(version, op)),
+        Some(op) => Some(dep.with_constraint(Version::of(version), op)),
         None => Some(dep),
     }
+}
+
+/// Whether a text is empty or a version.
+fn is_version_or_empty(text: &[u8]) -> bool
+    ensures { result ≡ is_version_or_empty text.now }
+{
+    text.is_empty() || Version::read(text).is_some()
 }
 
 /// The operator against the wanted version, if there is one.

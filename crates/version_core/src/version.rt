@@ -99,6 +99,14 @@ impl<'a> Version<'a> {
         }
     }
 
+    /// The version that a text is which is known to be one, so that it is not looked at.
+    pub fn of(text: &'a [u8]) -> Version<'a>
+        requires { IsTrue (is_version text.now) }
+        ensures { result ≡ text.entry.now }
+    {
+        Version { text }
+    }
+
     /// The text that it was read from.
     pub fn text(&self) -> &'a [u8]
         ensures value { result.now ≡ self.now }
