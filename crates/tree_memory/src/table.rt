@@ -12,7 +12,7 @@ use std::cmp::Ordering;
 
 /// A name, and the number of the file that it leads to.
 #[derive(Drop)]
-pub struct NamedFile {
+pub struct NameAndFile {
     pub name: Name,
     pub file: usize,
 }
@@ -20,7 +20,7 @@ pub struct NamedFile {
 /// The names, each with its number, in byte order.
 #[derive(Drop)]
 pub struct NameTable {
-    pub entries: Vec<NamedFile>,
+    pub entries: Vec<NameAndFile>,
     pub ghost rising: { IsTable entries.items },
 }
 
@@ -62,7 +62,7 @@ impl NameTable {
     {
         match self.place(name.as_bytes()) {
             Ok(i) => self.entries[i].file = file,
-            Err(i) => self.entries.insert(i, NamedFile { name, file })?,
+            Err(i) => self.entries.insert(i, NameAndFile { name, file })?,
         }
         Ok(())
     }
