@@ -2,7 +2,7 @@
 ghost use Rattle.std.specs.Prelude.{◌≡◌, ◌<◌, Some, IfOk, length, slice_get, [], List, ℕ, MatchOption};
 ghost use Rattle.pool_core.specs.Candidates.{Need};
 ghost use Rattle.pool_core.specs.Rank.{SealedPool};
-ghost use Rattle.solve_core.specs.Choices.{HasOptions};
+ghost use Rattle.solve_core.specs.Choices.{HasOptions, IsSearch, pool_of};
 ghost use Rattle.solve_core.specs.Selection.{IsFirstSelection, IsSatisfying};
 
 use crate::search::Search;
@@ -66,8 +66,19 @@ pub fn solve(alloc: Global, pool: &Sealed<'_>, world: &World) -> Result<Option<T
         ((selection : List ℕ) → IsSatisfying pool.now selection → ⊥)
         (λ trace. IsFirstSelection pool.now trace)) }
 {
-    options_are_as_promised();
     let mut search = Search::new(alloc, pool)?;
+    first_selection(alloc, &mut search)
+}
+
+// The first selection, by a search without choices. It borrows the search, so that it has nothing of
+// it to give back where it ends early.
+fn first_selection(alloc: Global, search: &mut Search<'_>) -> Result<Option<Trace>, AllocError>
+    requires { IsSearch search.old.chosen search.old.turns.items }
+    ensures { IfOk result (λ found. MatchOption found ((selection : List ℕ) →
+        IsSatisfying (pool_of search.old.chosen) selection → ⊥)
+        (λ trace. IsFirstSelection (pool_of search.old.chosen) trace)) }
+{
+    options_are_as_promised();
     let Some(frame) = search.next_frame()? else {
         return Ok(Some(search.trace(alloc)?));
     };

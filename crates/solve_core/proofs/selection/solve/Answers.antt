@@ -1,63 +1,9 @@
-use Rattle.std.proofs.Common.{◌≡◌, ◌<◌, ◌≤◌, ◌^◌, ◌∙◌, ◌∷◌, ◌++◌, [], ℕ, List, length, subst, sym, ap, arith}
+use Rattle.std.proofs.Common.{List, ℕ, subst}
+use Rattle.std.specs.Prelude.{IfOk, MatchOption}
 use Rattle.pool_core.specs.Rank.{SealedPool}
-use Rattle.solve_core.specs.Selection.{IsFirstSelection}
-use Rattle.solve_core.specs.Choices.{choices_of, pool_of}
-use Rattle.solve_core.specs.declared.choices.Choices.{Choices}
-use Rattle.solve_core.specs.Measure.{weight_of}
-use Rattle.solve_core.specs.Reasons.{FrameValue, IsReason, IsSpentFrame, IsFrameTaking}
-use Rattle.solve_core.proofs.FirstFound.{first_found, none_satisfies, none_of}
-use Rattle.solve_core.proofs.Weights.{opened_lighter, not_heavier, few_turns, few_options}
+use Rattle.solve_core.specs.Selection.{IsFirstSelection, IsSatisfying}
 use Rattle.solve_core.proofs.selection.solve.Goals as goal
 
-pub returns-in_default : goal.returns-in_default
-returns-in_default c =
-    let now = c.next_frame.new.self in
-    let pool = c.next_frame.ensures.pool ∙ c.in_ok-search.ensures.pool in
-    let end = none_of c.in_ok-frame.field-0 _ _ c.in_default.not-Some c.in_ok-frame.ensures.frame in
-    subst (λ (z : List ℕ). IsFirstSelection c.args.pool.now z) (sym c.in_ok-trace.ensures)
-    (first_found c.args.pool.now (λ need. c.options_are_as_promised.ensures c.args.pool.now need) now.chosen now.turns.items c.next_frame.ensures.search pool end)
-
-pub choose-requires-clause-taken : goal.choose-requires-clause-taken
-choose-requires-clause-taken c =
-    let found = rw c.in-Some-2.is at c.in_ok-id.ensures.found in
-    subst (λ (z : Choices). IsFrameTaking (pool_of z) (choices_of z) c.next_option.new.top c.in-Some-2.id) (sym c.next_option.ensures.chosen) found.0
-
-pub returns-in_default-2 : goal.returns-in_default-2
-returns-in_default-2 c =
-    let now = c.next_frame-in-Some-2.new.self in
-    let pool = c.next_frame-in-Some-2.ensures.pool ∙ (c.choose.ensures.pool ∙ (ap pool_of c.next_option.ensures.chosen ∙ c.loop-top.invariant.pool)) in
-    let end = none_of c.in_ok-frame-in-Some-2.field-0 _ _ c.in_default-2.not-Some c.in_ok-frame-in-Some-2.ensures.frame in
-    subst (λ (z : List ℕ). IsFirstSelection c.args.pool.now z) (sym c.in_ok-trace-in-Some-2.ensures)
-    (first_found c.args.pool.now (λ need. c.options_are_as_promised.ensures c.args.pool.now need) now.chosen now.turns.items c.next_frame-in-Some-2.ensures.search pool end)
-
-pub loop-top-smaller-in-Some-2 : goal.loop-top-smaller-in-Some-2
-loop-top-smaller-in-Some-2 c =
-    let turns : List (FrameValue × ℕ) = c.loop-top.search.turns.items in
-    let fewer = rw c.in-Some-2.is at c.in_ok-id.ensures.fewer in
-    let small = rw c.in-Some-3.is at c.in_ok-frame-in-Some-2.ensures.few in
-    let all : c.next_frame-in-Some-2.new.self.turns.items ≡ turns ++ (c.next_option.new.top, c.in-Some-2.id) ∷ [] =
-    c.next_frame-in-Some-2.ensures.turns ∙ (c.in_ok-choose-in-Some-2.ensures.turns ∙ ap (λ (z : List (FrameValue × ℕ)). z ++ (c.next_option.new.top, c.in-Some-2.id) ∷ []) c.next_option.ensures.turns) in
-    let few : length turns < 2 ^ 63 = omega (arith, c.loop-top.search.turns.small, c.loop-top.search.turns.ok) in
-    subst (λ (z : List (FrameValue × ℕ)). weight_of z c.in-Some-3.frame < weight_of turns c.loop-top.top) (sym all)
-    (opened_lighter turns c.loop-top.top c.next_option.new.top c.in-Some-3.frame c.in-Some-2.id (few_turns (length turns) few) fewer (few_options c.in-Some-3.frame small))
-
-pub step_back-requires-clause-spent : goal.step_back-requires-clause-spent
-step_back-requires-clause-spent c =
-    let found = rw c.in-None.is at c.in_ok-id.ensures.found in
-    subst (λ (z : Choices). IsSpentFrame (pool_of z) (choices_of z) c.next_option.new.top) (sym c.next_option.ensures.chosen) found
-
-pub returns-in_default-3 : goal.returns-in_default-3
-returns-in_default-3 c =
-    let dead = none_of c.in_ok-frame-in-None.field-0 _ _ c.in_default-3.not-Some c.in_ok-frame-in-None.ensures.found in
-    none_satisfies c.args.pool.now (subst (λ (p : SealedPool). IsReason p []) (ap pool_of c.next_option.ensures.chosen ∙ c.loop-top.invariant.pool) dead)
-
-pub loop-top-smaller : goal.loop-top-smaller
-loop-top-smaller c =
-    let turns : List (FrameValue × ℕ) = c.loop-top.search.turns.items in
-    let few : length turns < 2 ^ 63 = omega (arith, c.loop-top.search.turns.small, c.loop-top.search.turns.ok) in
-    let fewer = rw c.in-None.is at c.in_ok-id.ensures.fewer in
-    let back = rw c.in-Some-4.is at c.in_ok-frame-in-None.ensures.lighter in
-    let lighter : weight_of c.step_back.new.self.turns.items c.in-Some-4.frame < weight_of turns c.next_option.new.top =
-    subst (λ (z : List (FrameValue × ℕ)). weight_of c.step_back.new.self.turns.items c.in-Some-4.frame < weight_of z c.next_option.new.top) c.next_option.ensures.turns back in
-    let top : weight_of turns c.next_option.new.top ≤ weight_of turns c.loop-top.top = not_heavier turns c.next_option.new.top c.loop-top.top (few_turns (length turns) few) fewer in
-    omega (arith, lighter, top)
+pub returns : goal.returns
+returns c =
+    subst (λ (p : SealedPool). IfOk c.first_selection.result (λ found. MatchOption found ((selection : List ℕ) → IsSatisfying p selection → ⊥) (λ trace. IsFirstSelection p trace))) c.in_ok-search.ensures.pool c.first_selection.ensures

@@ -2,11 +2,11 @@ use Rattle.std.proofs.Common.{◌≡◌}
 use Rattle.solve_core.specs.Choices.{IsSearch, choices_of, pool_of}
 use Rattle.solve_core.specs.Reasons.{IsFrameOf}
 use Rattle.solve_core.specs.Measure.{weight_of}
-use Rattle.solve_core.proofs.selection.solve.Given as goal
+use Rattle.solve_core.proofs.selection.first_selection.Given as goal
 
 abbrev pub invariant-loop-top : goal.invariant-loop-top
 invariant-loop-top l = record {
-  pool : pool_of l.search.chosen ≡ l.pool;
+  pool : pool_of l.search.chosen ≡ pool_of l.initial.search.chosen;
   search : IsSearch l.search.chosen l.search.turns.items;
   open_now : IsFrameOf (pool_of l.search.chosen) (choices_of l.search.chosen) l.top;
 }
