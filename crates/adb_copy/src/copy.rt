@@ -4,7 +4,8 @@ ghost use Rattle.adb_schema.specs.Views.{dependency_value, info_value};
 ghost use Rattle.adb_fields.specs.ListValue.{list_value};
 ghost use Rattle.adb_values.specs.Drafts.{draft_with, draft_with_all};
 ghost use Rattle.adb_copy.specs.Zeros.{int_value, without_zeros, info_with};
-ghost use Rattle.adb_copy.specs.Fields.{text_plains, int_plains};
+ghost use Rattle.adb_copy.specs.Fields.{int_plains};
+ghost use Rattle.adb_view.specs.Plain.{text_plains};
 
 use adb_schema::{DepView, List, PkgInfo};
 use adb_values::Draft;

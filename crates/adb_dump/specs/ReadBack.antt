@@ -8,15 +8,16 @@ use Rattle.adb_tables.specs.declared.tables.Which.{Which}
 use Rattle.adb_tables.specs.declared.tables.Kind.TheVariants.{Obj}
 use Rattle.adb_dump.specs.Dump.{Line, begins_with_byte, int_line, text_line, hash_line}
 
-abbrev pub Read : Type 0 → Type 0
-Read A = Result A ℕ
+-- what lines are read as, or the number of the first line that cannot stand there
+abbrev pub LinesRead : Type 0 → Type 0
+LinesRead A = Result A ℕ
 
 -- behind so many lines
-abbrev pub after_lines : {A B : Type 0} → ℕ → (A → B) → Read A → Read B
+abbrev pub after_lines : {A B : Type 0} → ℕ → (A → B) → LinesRead A → LinesRead B
 after_lines n f (Ok x) = Ok (f x)
 after_lines n f (Err k) = Err (n + k)
 
-abbrev pub bind : {A B : Type 0} → Read A → (A → Read B) → Read B
+abbrev pub bind : {A B : Type 0} → LinesRead A → (A → LinesRead B) → LinesRead B
 bind (Ok x) f = f x
 bind (Err k) f = Err k
 
@@ -91,69 +92,69 @@ abbrev pub hash_read : Line → Option Plain
 hash_read l = blob_read (unhex l)
 
 -- the line must be the one form of its value
-abbrev pub if_form : (Plain → Line) → Line → Option Plain → Read Plain
+abbrev pub if_form : (Plain → Line) → Line → Option Plain → LinesRead Plain
 if_form form l None = Err 0
 if_form form l (Some v) = if bytes_eq (form v) l then Ok v else Err 0
 
-abbrev pub only_line : (Line → Read Plain) → List Line → Read Plain
+abbrev pub only_line : (Line → LinesRead Plain) → List Line → LinesRead Plain
 only_line f [] = Err 0
 only_line f (l ∷ []) = f l
 only_line f (l ∷ m ∷ ls) = bind (f l) (λ v. Err 1)
 
 -- ---- lists
 
-abbrev pub entry_read : (List Line → Read Plain) → Line → List Line → Read Plain
+abbrev pub entry_read : (List Line → LinesRead Plain) → Line → List Line → LinesRead Plain
 entry_read f l ls =
     if bytes_eq l (codes "null") then only_line (λ x. Ok null) (l ∷ ls) else f (l ∷ ls)
 
-abbrev pub after_dash : (List Line → Read Plain) → (List Line → Read Plains) → List Line × List Line
-    → Option Line → Read Plains
+abbrev pub after_dash : (List Line → LinesRead Plain) → (List Line → LinesRead Plains) → List Line × List Line
+    → Option Line → LinesRead Plains
 after_dash f g r None = Err 0
 after_dash f g r (Some l) =
     bind (entry_read f l r.0) (λ v. after_lines (1 + length r.0) (more v) (g r.1))
 
 -- The number bounds the turns; the length is enough.
-abbrev pub entries_read : (List Line → Read Plain) → ℕ → List Line → Read Plains
+abbrev pub entries_read : (List Line → LinesRead Plain) → ℕ → List Line → LinesRead Plains
 entries_read f zero ls = Ok none
 entries_read f (suc n) [] = Ok none
 entries_read f (suc n) (l ∷ ls) =
     after_dash f (entries_read f n) (split_block ls) (strip_prefix (codes "- ") l)
 
 -- a list without an entry has no lines
-abbrev pub arr_read : Plains → Read Plain
+abbrev pub arr_read : Plains → LinesRead Plain
 arr_read none = Err 0
 arr_read (more v vs) = Ok (arr (more v vs))
 
-abbrev pub obj_read : Plains → Read Plain
+abbrev pub obj_read : Plains → LinesRead Plain
 obj_read none = Err 0
 obj_read (more v vs) = Ok (obj (more v vs))
 
 -- what stands behind `name:`, on its line or below it, and then the other fields
-abbrev pub field_on_line : (Line → Read Plain) → (List Line → Read Plains) → List Line → Option Line
-    → Read Plains
+abbrev pub field_on_line : (Line → LinesRead Plain) → (List Line → LinesRead Plains) → List Line → Option Line
+    → LinesRead Plains
 field_on_line f g ls None = Err 0
 field_on_line f g ls (Some l) = bind (f l) (λ v. after_lines 1 (more v) (g ls))
 
-abbrev pub field_below : (List Line → Read Plain) → (List Line → Read Plains)
-    → List Line × List Line → Line → Read Plains
+abbrev pub field_below : (List Line → LinesRead Plain) → (List Line → LinesRead Plains)
+    → List Line × List Line → Line → LinesRead Plains
 field_below f g r [] =
     bind (after_lines 1 (λ v. v) (f r.0)) (λ v. after_lines (1 + length r.0) (more v) (g r.1))
 field_below f g r (c ∷ cs) = Err 0
 
 -- the line begins another field, or what is behind `name:`
-abbrev pub if_named : Read Plains → (Line → Read Plains) → Option Line → Read Plains
+abbrev pub if_named : LinesRead Plains → (Line → LinesRead Plains) → Option Line → LinesRead Plains
 if_named other this None = other
 if_named other this (Some rest) = this rest
 
 unfoldable mutual
-  pub block_read : Shape → List Line → Read Plain
+  pub block_read : Shape → List Line → LinesRead Plain
   block_read number ls = only_line (λ l. if_form int_line l (int_read l)) ls
   block_read text ls = only_line (λ l. if_form text_line l (text_read l)) ls
   block_read hash ls = only_line (λ l. if_form hash_line l (hash_read l)) ls
   block_read (array s) ls = bind (entries_read (block_read s) (length ls) ls) arr_read
   block_read (object schema fs) ls = bind (fields_read fs ls) obj_read
 
-  pub named_read : Shape → (List Line → Read Plains) → List Line → Line → Read Plains
+  pub named_read : Shape → (List Line → LinesRead Plains) → List Line → Line → LinesRead Plains
   named_read number g ls l = field_on_line (λ l. if_form int_line l (int_read l)) g ls
       (strip_prefix (codes " ") l)
   named_read text g ls l = field_on_line (λ l. if_form text_line l (text_read l)) g ls
@@ -165,7 +166,7 @@ unfoldable mutual
   named_read (object schema fs) g ls l = field_below (λ ls. bind (fields_read fs ls) obj_read) g
       (split_block ls) l
 
-  pub fields_read : Fields → List Line → Read Plains
+  pub fields_read : Fields → List Line → LinesRead Plains
   fields_read no_fields [] = Ok none
   fields_read no_fields (l ∷ ls) = Err 0
   fields_read (field name s fs) [] = Ok none
@@ -174,7 +175,7 @@ unfoldable mutual
       (strip_prefix (name ++ codes ":") l)
 
 -- the value of the lines behind the first; Null has none
-abbrev pub value_read : Which → List Line → Read Plain
+abbrev pub value_read : Which → List Line → LinesRead Plain
 value_read which [] = Ok null
 value_read which (l ∷ ls) = block_read (shape_of (Obj which)) (l ∷ ls)
 

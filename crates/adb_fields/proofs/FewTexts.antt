@@ -4,9 +4,9 @@ use Rattle.std.specs.Prelude.{is_none, is_some, ◌↔◌}
 use Rattle.base_core.specs.declared.cause.Cause.{Cause}
 use Rattle.adb_view.specs.Plain.{Plain, Shape, text, array, plain_of}
 use Rattle.adb_view.specs.Readers.{run_of, ARRAY, OBJECT}
-use Rattle.adb_view.specs.Visits.{visits, field_visits, each_visit, or_empty}
+use Rattle.adb_view.specs.Visits.{visits, field_visits, each_visit, or_empty, MOST_VALUES}
 use Rattle.adb_tables.specs.Schema.{shape_of, shapes_of, table}
-use Rattle.adb_tables.specs.Walk.{shape_fault, LIMIT}
+use Rattle.adb_tables.specs.Walk.{shape_fault}
 use Rattle.adb_tables.specs.Values.{is_sound, value_at, entry_in, entries_in, count_of}
 use Rattle.adb_tables.specs.declared.tables.Kind.TheVariants.{Obj, TextArr, Text}
 use Rattle.adb_tables.specs.declared.tables.Which.{Which}
@@ -63,9 +63,9 @@ field-count p w v ws h e r =
 
 -- `values_of_few_visits_have_no_fault` says so
 abbrev pub FewVisits : Type 0
-FewVisits = (p : List ℕ) (s : Shape) (w : ℕ) → (shape_fault p s w ≡ None) ↔ ((is_some (plain_of p s w) ≡ true) × (length (visits p s w) ≤ LIMIT))
+FewVisits = (p : List ℕ) (s : Shape) (w : ℕ) → (shape_fault p s w ≡ None) ↔ ((is_some (plain_of p s w) ≡ true) × (length (visits p s w) ≤ MOST_VALUES))
 
-pub intent_few : FewVisits → (p : List ℕ) (w : ℕ) → is_sound p (Obj Intent) w ≡ true → is_none (shape_fault p (shape_of (Obj Intent)) w) ≡ true → count_of (entries_in (entry_in (value_at p (Obj Intent) w) 0)) + count_of (entries_in (entry_in (value_at p (Obj Intent) w) 1)) ≤ LIMIT
+pub intent_few : FewVisits → (p : List ℕ) (w : ℕ) → is_sound p (Obj Intent) w ≡ true → is_none (shape_fault p (shape_of (Obj Intent)) w) ≡ true → count_of (entries_in (entry_in (value_at p (Obj Intent) w) 0)) + count_of (entries_in (entry_in (value_at p (Obj Intent) w) 1)) ≤ MOST_VALUES
 intent_few visited p w h few =
     let (ws, read) = object_read_of p Intent w h in
     let one = field_read p Intent w ws 0 TextArr h read.run refl in

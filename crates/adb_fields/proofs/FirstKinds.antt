@@ -5,7 +5,7 @@ use Rattle.adb_view.specs.Plain.{Plain, null}
 use Rattle.adb_tables.specs.Values.{value_at}
 use Rattle.adb_fields.specs.Fields.{are_all_sound}
 use Rattle.adb_fields.specs.declared.pairs.Pair.{Pair}
-use Rattle.adb_fields.specs.Pairs.{Named, earlier, earliest}
+use Rattle.adb_fields.specs.Pairs.{NameWithPosition, earlier, earliest}
 use Rattle.adb_fields.specs.FirstPair.{IsFirstOf}
 use Rattle.adb_fields.specs.FirstPair.{IsPair}
 use Rattle.adb_fields.specs.FirstPair.{IsIn}
@@ -80,7 +80,7 @@ numbered-append n (x ∷ xs) ys =
     let e : n + 1 + length xs ≡ n + suc (length xs) = omega arith in
     ap (λ rest. record { name = x; position = n } ∷ rest) (numbered-append (n + 1) xs ys ∙ ap (λ k. numbered_from (n + 1) xs ++ numbered_from k ys) e)
 
-pub texts_behind : (a b : List (List ℕ)) (one two : List Named) (m : ℕ) → one ≡ numbered_from 1 a → m ≡ length a → two ≡ one ++ numbered_from (m + 1) b → two ≡ numbered_from 1 (a ++ b)
+pub texts_behind : (a b : List (List ℕ)) (one two : List NameWithPosition) (m : ℕ) → one ≡ numbered_from 1 a → m ≡ length a → two ≡ one ++ numbered_from (m + 1) b → two ≡ numbered_from 1 (a ++ b)
 texts_behind a b one two m e l h =
     let f : m + 1 ≡ 1 + length a = omega arith in
     h ∙ ((λ i. e i ++ numbered_from (f i) b) ∙ sym (numbered-append 1 a b))

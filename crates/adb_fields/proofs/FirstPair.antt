@@ -4,7 +4,7 @@ use Rattle.std.specs.Prelude.{bytes_eq, ◌&&◌, nat_lt}
 use Rattle.std.specs.List.{flat_map}
 use Rattle.std.specs.List.Sorted.{IsPermutation, IsSortedBy}
 use Rattle.adb_fields.specs.declared.pairs.Pair.{Pair}
-use Rattle.adb_fields.specs.Pairs.{Named, is_before, earlier, earliest, pair_of, first_pair}
+use Rattle.adb_fields.specs.Pairs.{NameWithPosition, is_before, earlier, earliest, pair_of, first_pair}
 use Rattle.adb_fields.specs.FirstPair.{IsFirstOf}
 use Rattle.adb_fields.specs.FirstPair.{IsFirst}
 use Rattle.adb_fields.specs.FirstPair.{IsPair}
@@ -131,38 +131,38 @@ earlier-assoc a b c =
 
 -- ---- a pair of two names
 
-abbrev pub AreAlike : Named → Named → Pair → Type 0
+abbrev pub AreAlike : NameWithPosition → NameWithPosition → Pair → Type 0
 AreAlike x y p = (x.name ≡ y.name) × (x.position < y.position) × (p.first ≡ x.position) × (p.second ≡ y.position)
 
-alike-by : (x y : Named) (p : Pair) (s t : Bool) → bytes_eq x.name y.name ≡ s → nat_lt x.position y.position ≡ t → Some p ≡ cond (s && t) (Some (record { first = x.position; second = y.position })) None → AreAlike x y p
+alike-by : (x y : NameWithPosition) (p : Pair) (s t : Bool) → bytes_eq x.name y.name ≡ s → nat_lt x.position y.position ≡ t → Some p ≡ cond (s && t) (Some (record { first = x.position; second = y.position })) None → AreAlike x y p
 alike-by x y p true true e l h =
     let q : Pair = record { first = x.position; second = y.position } in
     let f : p ≡ q = (cc) in ((bytes_decides x.name y.name).0 e, ltb-true x.position y.position l, ap (λ r. r.first) f, ap (λ r. r.second) f)
 alike-by x y p true false e l h = absurd (let b : None ≡ Some p = (cc) in (cc))
 alike-by x y p false t e l h = absurd (let b : None ≡ Some p = (cc) in (cc))
 
-pub are-alike : (x y : Named) (p : Pair) → Some p ≡ pair_of x y → AreAlike x y p
+pub are-alike : (x y : NameWithPosition) (p : Pair) → Some p ≡ pair_of x y → AreAlike x y p
 are-alike x y p h = alike-by x y p (bytes_eq x.name y.name) (nat_lt x.position y.position) refl refl h
 
 made-by : (q : Pair) (s t : Bool) → s ≡ true → t ≡ true → cond (s && t) (Some q) None ≡ Some q
 made-by q s t e l = λ i. cond (e i && l i) (Some q) None
 
-pub pair-made : (x y : Named) → x.name ≡ y.name → x.position < y.position → pair_of x y ≡ Some (record { first = x.position; second = y.position })
+pub pair-made : (x y : NameWithPosition) → x.name ≡ y.name → x.position < y.position → pair_of x y ≡ Some (record { first = x.position; second = y.position })
 pair-made x y e l = made-by (record { first = x.position; second = y.position }) (bytes_eq x.name y.name) (nat_lt x.position y.position) ((bytes_decides x.name y.name).1 e) (lt-ltb x.position y.position l)
 
 -- ---- all pairs of a list
 
-abbrev all_pairs : List Named → List (Option Pair)
+abbrev all_pairs : List NameWithPosition → List (Option Pair)
 all_pairs names = flat_map (λ x. map (pair_of x) names) names
 
-is-pair : (names : List Named) (p : Pair) → IsIn (Some p) (all_pairs names) → IsPair names p
+is-pair : (names : List NameWithPosition) (p : Pair) → IsIn (Some p) (all_pairs names) → IsPair names p
 is-pair names p h =
     let r = from-flat_map (λ x. map (pair_of x) names) (Some p) names h in
     let s = from-map (pair_of r.0) (Some p) names r.2 in
     let t : AreAlike r.0 s.0 p = are-alike r.0 s.0 p s.2 in
     record { one = r.0; other = s.0; one_in = r.1; other_in = s.1; alike = t.0; first = t.2; second = t.3; rises = (let l : r.0.position < s.0.position = t.1 in let e = t.2 in let f = t.3 in omega arith) }
 
-has-pair : (names : List Named) (p : Pair) → IsPair names p → IsIn (Some p) (all_pairs names)
+has-pair : (names : List NameWithPosition) (p : Pair) → IsPair names p → IsIn (Some p) (all_pairs names)
 has-pair names p k =
     let l : k.one.position < k.other.position = (let e = k.first in let f = k.second in let g = k.rises in omega arith) in
     let made = pair-made k.one k.other k.alike l in
@@ -171,28 +171,28 @@ has-pair names p k =
     let P : Option Pair → Type 0 = λ o. IsIn o (all_pairs names) in
     subst P (made ∙ ap Some (sym same)) (in-flat_map (λ x. map (pair_of x) names) (pair_of k.one k.other) k.one names k.one_in (in-map (pair_of k.one) k.other names k.other_in))
 
-pub first_pair-first : (names : List Named) → IsFirstOf (IsPair names) (first_pair names)
+pub first_pair-first : (names : List NameWithPosition) → IsFirstOf (IsPair names) (first_pair names)
 unfolding first_pair
 first_pair-first names = alike (λ p. IsIn (Some p) (all_pairs names)) (IsPair names) (earliest (all_pairs names)) (is-pair names) (has-pair names) (earliest-first (all_pairs names))
 
 -- ---- neighbours in a sorted list
 
-abbrev pub Rises : Named → List Named → Type 0
+abbrev pub Rises : NameWithPosition → List NameWithPosition → Type 0
 Rises x [] = Unit {0}
 Rises x (y ∷ ys) = (is_gt (named_cmp x y) ≡ false) × Rises y ys
 
 named_total : IsTotalOrder named_cmp
-named_total = then_total (on_total (λ (x : Named). x.name) nat_list_cmp_total) (on_total (λ (x : Named). x.position) nat_cmp_total)
+named_total = then_total (on_total (λ (x : NameWithPosition). x.name) nat_list_cmp_total) (on_total (λ (x : NameWithPosition). x.position) nat_cmp_total)
 
 gt-back : (o : Ordering) → is_lt o ≡ false → is_gt (ordering_reverse o) ≡ false
 gt-back Less h = (cc)
 gt-back Equal h = refl
 gt-back Greater h = refl
 
-not-gt : (x y : Named) → is_lt (named_cmp y x) ≡ false → is_gt (named_cmp x y) ≡ false
+not-gt : (x y : NameWithPosition) → is_lt (named_cmp y x) ≡ false → is_gt (named_cmp x y) ≡ false
 not-gt x y h = ap is_gt (named_total.antisymm x y) ∙ gt-back (named_cmp y x) h
 
-pub rises-from : {X : Type 0} (f : X → Named) (x : X) (xs : List X) → IsSortedBy (λ a b. is_lt (named_cmp (f a) (f b))) (x ∷ xs) → Rises (f x) (map f xs)
+pub rises-from : {X : Type 0} (f : X → NameWithPosition) (x : X) (xs : List X) → IsSortedBy (λ a b. is_lt (named_cmp (f a) (f b))) (x ∷ xs) → Rises (f x) (map f xs)
 rises-from f x [] h = tt
 rises-from {X} f x (y ∷ ys) h = (
   not-gt (f x) (f y) (h 0 x (omega arith) (omega arith)),
@@ -202,9 +202,9 @@ rises-from {X} f x (y ∷ ys) h = (
       subst P e (h (suc k) d (omega arith) (omega arith))),
 )
 
-rises-in : (x : Named) (xs : List Named) (y : Named) → Rises x xs → IsIn y xs → is_gt (named_cmp x y) ≡ false
+rises-in : (x : NameWithPosition) (xs : List NameWithPosition) (y : NameWithPosition) → Rises x xs → IsIn y xs → is_gt (named_cmp x y) ≡ false
 rises-in x [] y h k = absurd k
-rises-in x (z ∷ zs) y h (inl e) = ap (λ (w : Named). is_gt (named_cmp x w)) e ∙ h.0
+rises-in x (z ∷ zs) y h (inl e) = ap (λ (w : NameWithPosition). is_gt (named_cmp x w)) e ∙ h.0
 rises-in x (z ∷ zs) y h (inr k) = upto named_total x z y h.0 (rises-in z zs y h.1 k)
 
 then-gt : (a b : Ordering) → is_gt (ordering_then a b) ≡ false → is_gt a ≡ false
@@ -221,7 +221,7 @@ both-equal a Equal e h g = e
 both-equal a Greater e h g = (cc)
 
 -- a name between two equal ones is equal to them
-between : (x z y : Named) → is_gt (named_cmp x z) ≡ false → is_gt (named_cmp z y) ≡ false → x.name ≡ y.name → slice_cmp nat_cmp x.name z.name ≡ Equal
+between : (x z y : NameWithPosition) → is_gt (named_cmp x z) ≡ false → is_gt (named_cmp z y) ≡ false → x.name ≡ y.name → slice_cmp nat_cmp x.name z.name ≡ Equal
 between x z y h g e =
     let to : is_gt (slice_cmp nat_cmp x.name z.name) ≡ false = then-gt _ _ h in
     let back : is_gt (slice_cmp nat_cmp z.name y.name) ≡ false = then-gt _ _ g in
@@ -231,14 +231,14 @@ between x z y h g e =
 cmp-equal : (a b : List ℕ) → slice_cmp nat_cmp a b ≡ Equal → a ≡ b
 cmp-equal a b h = (bytes_decides a b).0 (texts_ties a b ∙ ap is_eq h)
 
-positions-rise : (x y : Named) → slice_cmp nat_cmp x.name y.name ≡ Equal → is_gt (named_cmp x y) ≡ false → x.position ≤ y.position
+positions-rise : (x y : NameWithPosition) → slice_cmp nat_cmp x.name y.name ≡ Equal → is_gt (named_cmp x y) ≡ false → x.position ≤ y.position
 positions-rise x y e h = le_from_not_gt x.position y.position (then-second (slice_cmp nat_cmp x.name y.name) (nat_cmp x.position y.position) e h)
 
 -- of a name that stands twice, two neighbours are no later pair
-abbrev Covers : Named → List Named → Named → Type 0
+abbrev Covers : NameWithPosition → List NameWithPosition → NameWithPosition → Type 0
 Covers x xs y = (p : Pair) × IsIn (Some p) (neighbours_from x xs) × NotAfter p (record { first = x.position; second = y.position })
 
-cover-by : (x z : Named) (zs : List Named) (y : Named) (t : Bool) → nat_lt x.position z.position ≡ t → x.name ≡ z.name → x.position ≤ z.position → z.position ≤ y.position → (z.position < y.position → Covers z zs y) → x.position < y.position → Covers x (z ∷ zs) y
+cover-by : (x z : NameWithPosition) (zs : List NameWithPosition) (y : NameWithPosition) (t : Bool) → nat_lt x.position z.position ≡ t → x.name ≡ z.name → x.position ≤ z.position → z.position ≤ y.position → (z.position < y.position → Covers z zs y) → x.position < y.position → Covers x (z ∷ zs) y
 cover-by x z zs y true l e r s f m =
     let q : Pair = record { first = x.position; second = z.position } in
     (q, inl (sym (pair-made x z e (ltb-true x.position z.position l))), record { second = s; first = λ k. omega arith })
@@ -248,13 +248,13 @@ cover-by x z zs y false l e r s f m =
     let more = f (omega arith) in
     (more.0, inr more.1, record { second = more.2.second; first = λ k. let u = more.2.first k in omega arith })
 
-covers : (x : Named) (xs : List Named) (y : Named) → Rises x xs → IsIn y xs → x.name ≡ y.name → x.position < y.position → Covers x xs y
+covers : (x : NameWithPosition) (xs : List NameWithPosition) (y : NameWithPosition) → Rises x xs → IsIn y xs → x.name ≡ y.name → x.position < y.position → Covers x xs y
 covers x [] y h k e l = absurd k
 covers x (z ∷ zs) y h (inl k) e l =
-    let P : Named → Type 0 = λ w. w.position ≤ y.position in
-    let Q : Named → Type 0 = λ w. x.name ≡ w.name in
+    let P : NameWithPosition → Type 0 = λ w. w.position ≤ y.position in
+    let Q : NameWithPosition → Type 0 = λ w. x.name ≡ w.name in
     let s : z.position ≤ y.position = subst P k (omega arith) in
-    let p : y.position ≡ z.position = ap (λ (w : Named). w.position) k in
+    let p : y.position ≡ z.position = ap (λ (w : NameWithPosition). w.position) k in
     cover-by x z zs y (nat_lt x.position z.position) refl (subst Q k e) (omega arith) s (λ m. absurd (omega arith)) l
 covers x (z ∷ zs) y h (inr k) e l =
     let up : is_gt (named_cmp z y) ≡ false = rises-in z zs y h.1 k in
@@ -264,7 +264,7 @@ covers x (z ∷ zs) y h (inr k) e l =
     let tied : slice_cmp nat_cmp z.name y.name ≡ Equal = (let P : List ℕ → Type 0 = λ n. slice_cmp nat_cmp z.name n ≡ Equal in subst P on (tied_itself nat_list_cmp_total z.name)) in
     cover-by x z zs y (nat_lt x.position z.position) refl names (positions-rise x z same h.0) (positions-rise z y tied up) (λ m. covers z zs y h.1 k on m) l
 
-neighbour-is : (x : Named) (xs : List Named) (p : Pair) → IsIn (Some p) (neighbours_from x xs) → IsPair (x ∷ xs) p
+neighbour-is : (x : NameWithPosition) (xs : List NameWithPosition) (p : Pair) → IsIn (Some p) (neighbours_from x xs) → IsPair (x ∷ xs) p
 neighbour-is x [] p h = absurd h
 neighbour-is x (y ∷ ys) p (inl e) =
     let t : AreAlike x y p = are-alike x y p e in
@@ -273,33 +273,33 @@ neighbour-is x (y ∷ ys) p (inr h) =
     let k = neighbour-is y ys p h in
     record { one = k.one; other = k.other; one_in = inr k.one_in; other_in = inr k.other_in; alike = k.alike; first = k.first; second = k.second; rises = k.rises }
 
-abbrev CoversAny : Named → List Named → Named → Named → Type 0
+abbrev CoversAny : NameWithPosition → List NameWithPosition → NameWithPosition → NameWithPosition → Type 0
 CoversAny x xs one other = (p : Pair) × IsIn (Some p) (neighbours_from x xs) × NotAfter p (record { first = one.position; second = other.position })
 
-further : (x y : Named) (ys : List Named) (one other : Named) → CoversAny y ys one other → CoversAny x (y ∷ ys) one other
+further : (x y : NameWithPosition) (ys : List NameWithPosition) (one other : NameWithPosition) → CoversAny y ys one other → CoversAny x (y ∷ ys) one other
 further x y ys one other h = (h.0, inr h.1, h.2)
 
-covers-any : (x : Named) (xs : List Named) (one other : Named) → Rises x xs → IsIn one (x ∷ xs) → IsIn other (x ∷ xs) → one.name ≡ other.name → one.position < other.position → CoversAny x xs one other
+covers-any : (x : NameWithPosition) (xs : List NameWithPosition) (one other : NameWithPosition) → Rises x xs → IsIn one (x ∷ xs) → IsIn other (x ∷ xs) → one.name ≡ other.name → one.position < other.position → CoversAny x xs one other
 covers-any x xs one other h (inl a) (inl b) e l =
-    let p : one.position ≡ x.position = ap (λ (w : Named). w.position) a in
-    let q : other.position ≡ x.position = ap (λ (w : Named). w.position) b in
+    let p : one.position ≡ x.position = ap (λ (w : NameWithPosition). w.position) a in
+    let q : other.position ≡ x.position = ap (λ (w : NameWithPosition). w.position) b in
     absurd (omega arith)
 covers-any x xs one other h (inl a) (inr b) e l =
-    let P : Named → Type 0 = λ w. w.name ≡ other.name in
-    let Q : Named → Type 0 = λ w. w.position < other.position in
-    let R : Named → Type 0 = λ w. CoversAny x xs w other in
+    let P : NameWithPosition → Type 0 = λ w. w.name ≡ other.name in
+    let Q : NameWithPosition → Type 0 = λ w. w.position < other.position in
+    let R : NameWithPosition → Type 0 = λ w. CoversAny x xs w other in
     subst R (sym a) (covers x xs other h b (subst P a e) (subst Q a l))
 covers-any x xs one other h (inr a) (inl b) e l =
-    let P : Named → Type 0 = λ w. one.name ≡ w.name in
+    let P : NameWithPosition → Type 0 = λ w. one.name ≡ w.name in
     let names : one.name ≡ x.name = subst P b e in
     let tied : slice_cmp nat_cmp x.name one.name ≡ Equal = (let S : List ℕ → Type 0 = λ n. slice_cmp nat_cmp x.name n ≡ Equal in subst S (sym names) (tied_itself nat_list_cmp_total x.name)) in
     let up : x.position ≤ one.position = positions-rise x one tied (rises-in x xs one h a) in
-    let q : other.position ≡ x.position = ap (λ (w : Named). w.position) b in
+    let q : other.position ≡ x.position = ap (λ (w : NameWithPosition). w.position) b in
     absurd (omega arith)
 covers-any x [] one other h (inr a) (inr b) e l = absurd a
 covers-any x (y ∷ ys) one other h (inr a) (inr b) e l = further x y ys one other (covers-any y ys one other h.1 a b e l)
 
-covers-pair : (x : Named) (xs : List Named) (q : Pair) → Rises x xs → IsPair (x ∷ xs) q → (p : Pair) × IsIn (Some p) (neighbours_from x xs) × NotAfter p q
+covers-pair : (x : NameWithPosition) (xs : List NameWithPosition) (q : Pair) → Rises x xs → IsPair (x ∷ xs) q → (p : Pair) × IsIn (Some p) (neighbours_from x xs) × NotAfter p q
 covers-pair x xs q h k =
     let l : k.one.position < k.other.position = (let e = k.first in let f = k.second in let g = k.rises in omega arith) in
     let r = covers-any x xs k.one k.other h k.one_in k.other_in k.alike l in
@@ -307,30 +307,30 @@ covers-pair x xs q h k =
     let f = k.second in
     (r.0, r.1, record { second = (let u = r.2.second in omega arith); first = λ s. (let u = r.2.first (omega arith) in omega arith) })
 
-neighbours-first : (x : Named) (xs : List Named) → Rises x xs → IsFirstOf (IsPair (x ∷ xs)) (earliest (neighbours_from x xs))
+neighbours-first : (x : NameWithPosition) (xs : List NameWithPosition) → Rises x xs → IsFirstOf (IsPair (x ∷ xs)) (earliest (neighbours_from x xs))
 neighbours-first x xs h = covered (λ p. IsIn (Some p) (neighbours_from x xs)) (IsPair (x ∷ xs)) (earliest (neighbours_from x xs)) (neighbour-is x xs) (λ q k. covers-pair x xs q h k) (earliest-first (neighbours_from x xs))
 
-sorted-first : {X : Type 0} (f : X → Named) (xs : List X) → IsSortedBy (λ a b. is_lt (named_cmp (f a) (f b))) xs → IsFirstOf (IsPair (map f xs)) (earliest (neighbours (map f xs)))
+sorted-first : {X : Type 0} (f : X → NameWithPosition) (xs : List X) → IsSortedBy (λ a b. is_lt (named_cmp (f a) (f b))) xs → IsFirstOf (IsPair (map f xs)) (earliest (neighbours (map f xs)))
 sorted-first f [] h = λ q k. k.one_in
 sorted-first f (x ∷ xs) h = neighbours-first (f x) (map f xs) (rises-from f x xs h)
 
-pair-permuted : (xs ys : List Named) (p : Pair) → IsPermutation xs ys → IsPair xs p → IsPair ys p
+pair-permuted : (xs ys : List NameWithPosition) (p : Pair) → IsPermutation xs ys → IsPair xs p → IsPair ys p
 pair-permuted xs ys p m k = record { one = k.one; other = k.other; one_in = in-permuted k.one xs ys m k.one_in; other_in = in-permuted k.other xs ys m k.other_in; alike = k.alike; first = k.first; second = k.second; rises = k.rises }
 
 -- the names in any order, and the same names sorted
-pub first_in_sorted : {X : Type 0} (f : X → Named) (xs ys : List X) → IsPermutation xs ys → IsSortedBy (λ a b. is_lt (named_cmp (f a) (f b))) ys → earliest (neighbours (map f ys)) ≡ first_pair (map f xs)
+pub first_in_sorted : {X : Type 0} (f : X → NameWithPosition) (xs ys : List X) → IsPermutation xs ys → IsSortedBy (λ a b. is_lt (named_cmp (f a) (f b))) ys → earliest (neighbours (map f ys)) ≡ first_pair (map f xs)
 first_in_sorted f xs ys m h =
     let moved = IsPermutation-map f xs ys m in
     unique (IsPair (map f xs)) (earliest (neighbours (map f ys))) (first_pair (map f xs))
     (alike (IsPair (map f ys)) (IsPair (map f xs)) (earliest (neighbours (map f ys))) (λ p k. pair-permuted (map f ys) (map f xs) p (IsPermutation-sym (map f xs) (map f ys) moved) k) (λ p k. pair-permuted (map f xs) (map f ys) p moved k) (sorted-first f ys h))
     (first_pair-first (map f xs))
 
-pub named_order : {X : Type 0} (f : X → Named) → IsStrictWeakOrder (λ a b. is_lt (named_cmp (f a) (f b)))
+pub named_order : {X : Type 0} (f : X → NameWithPosition) → IsStrictWeakOrder (λ a b. is_lt (named_cmp (f a) (f b)))
 named_order f = ranks_by named_total f
 
 -- ---- going over the neighbours
 
-pub turn : {X : Type 0} (f : X → Named) (xs : List X) (j : ℕ) (d : X) → j + 1 < length xs → earliest (neighbours (map f (drop j xs))) ≡ earlier (pair_of (f (get_or xs j d)) (f (get_or xs (j + 1) d))) (earliest (neighbours (map f (drop (j + 1) xs))))
+pub turn : {X : Type 0} (f : X → NameWithPosition) (xs : List X) (j : ℕ) (d : X) → j + 1 < length xs → earliest (neighbours (map f (drop j xs))) ≡ earlier (pair_of (f (get_or xs j d)) (f (get_or xs (j + 1) d))) (earliest (neighbours (map f (drop (j + 1) xs))))
 turn f [] j d h = absurd (omega arith)
 turn f (x ∷ []) j d h = absurd (omega arith)
 turn f (x ∷ y ∷ xs) zero d h = refl
@@ -339,7 +339,7 @@ turn {X} f (x ∷ y ∷ xs) (suc j) d h =
     let P : ℕ → Type 0 = λ n. earliest (neighbours (map f (drop j (y ∷ xs)))) ≡ earlier (pair_of (f (get_or (y ∷ xs) j d)) (f (get_or (x ∷ y ∷ xs) n d))) (earliest (neighbours (map f (drop n (x ∷ y ∷ xs))))) in
     subst P (sym e) (turn f (y ∷ xs) j d (omega arith))
 
-last_alone : {X : Type 0} (f : X → Named) (xs : List X) (j : ℕ) → length xs ≤ j + 1 → earliest (neighbours (map f (drop j xs))) ≡ None
+last_alone : {X : Type 0} (f : X → NameWithPosition) (xs : List X) (j : ℕ) → length xs ≤ j + 1 → earliest (neighbours (map f (drop j xs))) ≡ None
 last_alone f [] zero h = refl
 last_alone f [] (suc j) h = refl
 last_alone f (x ∷ []) zero h = refl
@@ -350,14 +350,14 @@ pub earlier-none : (a : Option Pair) → earlier a None ≡ a
 earlier-none None = refl
 earlier-none (Some p) = refl
 
-pub next_pair : {X : Type 0} (f : X → Named) (xs : List X) (j : ℕ) (d : X) (best : Option Pair) (o : Option Pair) → j + 1 < length xs → earlier best (earliest (neighbours (map f (drop j xs)))) ≡ o → earlier (earlier best (pair_of (f (get_or xs j d)) (f (get_or xs (j + 1) d)))) (earliest (neighbours (map f (drop (j + 1) xs)))) ≡ o
+pub next_pair : {X : Type 0} (f : X → NameWithPosition) (xs : List X) (j : ℕ) (d : X) (best : Option Pair) (o : Option Pair) → j + 1 < length xs → earlier best (earliest (neighbours (map f (drop j xs)))) ≡ o → earlier (earlier best (pair_of (f (get_or xs j d)) (f (get_or xs (j + 1) d)))) (earliest (neighbours (map f (drop (j + 1) xs)))) ≡ o
 next_pair f xs j d best o h e = earlier-assoc best (pair_of (f (get_or xs j d)) (f (get_or xs (j + 1) d))) _ ∙ (ap (earlier best) (sym (turn f xs j d h)) ∙ e)
 
-pub no_next_pair : {X : Type 0} (f : X → Named) (xs : List X) (j : ℕ) (best o : Option Pair) → length xs ≤ j + 1 → earlier best (earliest (neighbours (map f (drop j xs)))) ≡ o → best ≡ o
+pub no_next_pair : {X : Type 0} (f : X → NameWithPosition) (xs : List X) (j : ℕ) (best o : Option Pair) → length xs ≤ j + 1 → earlier best (earliest (neighbours (map f (drop j xs)))) ≡ o → best ≡ o
 no_next_pair f xs j best o h e = sym (earlier-none best) ∙ (ap (earlier best) (sym (last_alone f xs j h)) ∙ e)
 
 -- the same by the index of the later name
-pub step_pair : {X : Type 0} (f : X → Named) (xs : List X) (i : ℕ) (d : X) (best next o p : Option Pair) → 1 ≤ i → i < length xs → p ≡ pair_of (f (get_or xs (i - 1) d)) (f (get_or xs i d)) → next ≡ earlier best p → earlier best (earliest (neighbours (map f (drop (i - 1) xs)))) ≡ o → earlier next (earliest (neighbours (map f (drop (i + 1 - 1) xs)))) ≡ o
+pub step_pair : {X : Type 0} (f : X → NameWithPosition) (xs : List X) (i : ℕ) (d : X) (best next o p : Option Pair) → 1 ≤ i → i < length xs → p ≡ pair_of (f (get_or xs (i - 1) d)) (f (get_or xs i d)) → next ≡ earlier best p → earlier best (earliest (neighbours (map f (drop (i - 1) xs)))) ≡ o → earlier next (earliest (neighbours (map f (drop (i + 1 - 1) xs)))) ≡ o
 step_pair f xs i d best next o p one lt e n h =
     let a : i + 1 - 1 ≡ i - 1 + 1 = omega arith in
     let b : i ≡ i - 1 + 1 = omega arith in

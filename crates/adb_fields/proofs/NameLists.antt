@@ -3,7 +3,7 @@ use Rattle.std.proofs.Common.{◌≡◌, ℕ, suc, zero, ◌+◌, ◌<◌, ◌�
 use Rattle.adb_view.specs.Plain.{Plain, null, Plains, none, more}
 use Rattle.adb_tables.specs.Values.{value_at, entry_in, entries_in, count_of, nth}
 use Rattle.adb_fields.specs.Fields.{are_all_sound, array_at}
-use Rattle.adb_fields.specs.Pairs.{Named}
+use Rattle.adb_fields.specs.Pairs.{NameWithPosition}
 use Rattle.adb_fields.specs.Repeated.{list_of, numbered_from, all_at, by_list_from, name_of, paths_under, paths_in}
 use Rattle.adb_fields.specs.Paths.{path_of}
 use Rattle.std.specs.List.{flat_map}
@@ -43,26 +43,26 @@ no_names f (v ∷ vs) zero m h = absurd (omega arith)
 no_names f (v ∷ vs) (suc i) m h = no_names f vs i m (omega arith)
 
 -- behind m names, the next one
-pub one_more : (f : Plain → List ℕ) (values : List Plain) (i m k : ℕ) (x : List ℕ) (done next all : List Named) → i < length values → x ≡ f (get_or values i null) → next ≡ done ++ (named_at x (m + 1) ∷ []) → k ≡ m + 1 → done ++ numbered_from (m + 1) (map f (drop i values)) ≡ all → next ++ numbered_from (k + 1) (map f (drop (i + 1) values)) ≡ all
+pub one_more : (f : Plain → List ℕ) (values : List Plain) (i m k : ℕ) (x : List ℕ) (done next all : List NameWithPosition) → i < length values → x ≡ f (get_or values i null) → next ≡ done ++ (named_at x (m + 1) ∷ []) → k ≡ m + 1 → done ++ numbered_from (m + 1) (map f (drop i values)) ≡ all → next ++ numbered_from (k + 1) (map f (drop (i + 1) values)) ≡ all
 one_more f values i m k x done next all h e n l so =
-    let left : List Named = numbered_from (m + 1 + 1) (map f (drop (i + 1) values)) in
+    let left : List NameWithPosition = numbered_from (m + 1 + 1) (map f (drop (i + 1) values)) in
     (λ j. n j ++ numbered_from (l j + 1) (map f (drop (i + 1) values)))
     ∙ (append_assoc done (named_at x (m + 1) ∷ []) left
     ∙ (ap (λ y. done ++ (named_at y (m + 1) ∷ left)) e
     ∙ (ap (λ rest. done ++ rest) (sym (more_names f values i (m + 1) h)) ∙ so)))
 
 -- and none behind the last
-pub no_more : (f : Plain → List ℕ) (values : List Plain) (i m : ℕ) (done all : List Named) → length values ≤ i → done ++ numbered_from m (map f (drop i values)) ≡ all → done ≡ all
+pub no_more : (f : Plain → List ℕ) (values : List Plain) (i m : ℕ) (done all : List NameWithPosition) → length values ≤ i → done ++ numbered_from m (map f (drop i values)) ≡ all → done ≡ all
 no_more f values i m done all h so = sym (append-nil done) ∙ (ap (λ rest. done ++ rest) (sym (no_names f values i m h)) ∙ so)
 
 -- the same by the words of an array
-pub one_word : (p : List ℕ) (kind : Kind) (f : Plain → List ℕ) (ws : List ℕ) (i m k w : ℕ) (x : List ℕ) (done next all : List Named) → are_all_sound p kind ws ≡ true → i < length ws → w ≡ get_or ws i 0 → x ≡ f (value_at p kind w) → next ≡ done ++ (named_at x (m + 1) ∷ []) → k ≡ m + 1 → done ++ numbered_from (m + 1) (map f (drop i (plains_at p kind ws))) ≡ all → next ++ numbered_from (k + 1) (map f (drop (i + 1) (plains_at p kind ws))) ≡ all
+pub one_word : (p : List ℕ) (kind : Kind) (f : Plain → List ℕ) (ws : List ℕ) (i m k w : ℕ) (x : List ℕ) (done next all : List NameWithPosition) → are_all_sound p kind ws ≡ true → i < length ws → w ≡ get_or ws i 0 → x ≡ f (value_at p kind w) → next ≡ done ++ (named_at x (m + 1) ∷ []) → k ≡ m + 1 → done ++ numbered_from (m + 1) (map f (drop i (plains_at p kind ws))) ≡ all → next ++ numbered_from (k + 1) (map f (drop (i + 1) (plains_at p kind ws))) ≡ all
 one_word p kind f ws i m k w x done next all sound lt word e n l so =
     let c : length (plains_at p kind ws) ≡ length ws = plain_count p kind ws sound in
     let here : value_at p kind w ≡ get_or (plains_at p kind ws) i null = ap (value_at p kind) word ∙ plain_is p kind ws i sound lt in
     one_more f (plains_at p kind ws) i m k x done next all (omega arith) (e ∙ ap f here) n l so
 
-pub no_word : (p : List ℕ) (kind : Kind) (f : Plain → List ℕ) (ws : List ℕ) (i m : ℕ) (done all : List Named) → are_all_sound p kind ws ≡ true → length ws ≤ i → done ++ numbered_from m (map f (drop i (plains_at p kind ws))) ≡ all → done ≡ all
+pub no_word : (p : List ℕ) (kind : Kind) (f : Plain → List ℕ) (ws : List ℕ) (i m : ℕ) (done all : List NameWithPosition) → are_all_sound p kind ws ≡ true → length ws ≤ i → done ++ numbered_from m (map f (drop i (plains_at p kind ws))) ≡ all → done ≡ all
 no_word p kind f ws i m done all sound past so =
     let c : length (plains_at p kind ws) ≡ length ws = plain_count p kind ws sound in
     no_more f (plains_at p kind ws) i m done all (omega arith) so
@@ -131,16 +131,16 @@ no_lists f [] (suc i) m h = refl
 no_lists f (v ∷ vs) zero m h = absurd (omega arith)
 no_lists f (v ∷ vs) (suc i) m h = no_lists f vs i m (omega arith)
 
-pub one_list : (p : List ℕ) (kind : Kind) (f : Plain → List (List ℕ)) (ws : List ℕ) (i w : ℕ) (done next all : List Named) → are_all_sound p kind ws ≡ true → i < length ws → w ≡ get_or ws i 0 → next ≡ done ++ all_at (i + 1) (f (value_at p kind w)) → done ++ by_list_from (i + 1) (map f (drop i (plains_at p kind ws))) ≡ all → next ++ by_list_from (i + 1 + 1) (map f (drop (i + 1) (plains_at p kind ws))) ≡ all
+pub one_list : (p : List ℕ) (kind : Kind) (f : Plain → List (List ℕ)) (ws : List ℕ) (i w : ℕ) (done next all : List NameWithPosition) → are_all_sound p kind ws ≡ true → i < length ws → w ≡ get_or ws i 0 → next ≡ done ++ all_at (i + 1) (f (value_at p kind w)) → done ++ by_list_from (i + 1) (map f (drop i (plains_at p kind ws))) ≡ all → next ++ by_list_from (i + 1 + 1) (map f (drop (i + 1) (plains_at p kind ws))) ≡ all
 one_list p kind f ws i w done next all sound lt word n so =
     let c : length (plains_at p kind ws) ≡ length ws = plain_count p kind ws sound in
     let here : value_at p kind w ≡ get_or (plains_at p kind ws) i null = ap (value_at p kind) word ∙ plain_is p kind ws i sound lt in
-    let left : List Named = by_list_from (i + 1 + 1) (map f (drop (i + 1) (plains_at p kind ws))) in
+    let left : List NameWithPosition = by_list_from (i + 1 + 1) (map f (drop (i + 1) (plains_at p kind ws))) in
     ap (λ front. front ++ left) (n ∙ ap (λ v. done ++ all_at (i + 1) (f v)) here)
     ∙ (append_assoc done (all_at (i + 1) (f (get_or (plains_at p kind ws) i null))) left
     ∙ (ap (λ rest. done ++ rest) (sym (more_lists f (plains_at p kind ws) i (i + 1) (omega arith))) ∙ so))
 
-pub no_list : (p : List ℕ) (kind : Kind) (f : Plain → List (List ℕ)) (ws : List ℕ) (i m : ℕ) (done all : List Named) → are_all_sound p kind ws ≡ true → length ws ≤ i → done ++ by_list_from m (map f (drop i (plains_at p kind ws))) ≡ all → done ≡ all
+pub no_list : (p : List ℕ) (kind : Kind) (f : Plain → List (List ℕ)) (ws : List ℕ) (i m : ℕ) (done all : List NameWithPosition) → are_all_sound p kind ws ≡ true → length ws ≤ i → done ++ by_list_from m (map f (drop i (plains_at p kind ws))) ≡ all → done ≡ all
 no_list p kind f ws i m done all sound past so =
     let c : length (plains_at p kind ws) ≡ length ws = plain_count p kind ws sound in
     sym (append-nil done) ∙ (ap (λ rest. done ++ rest) (sym (no_lists f (plains_at p kind ws) i m (omega arith))) ∙ so)

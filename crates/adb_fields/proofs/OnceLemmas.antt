@@ -8,7 +8,7 @@ use Rattle.adb_tables.specs.Values.{text_in}
 use Rattle.adb_tables.specs.declared.tables.Which.{Which}
 use Rattle.adb_tables.specs.declared.tables.Which.TheVariants.{Dep, Acl, PkgInfo, File, Dir, Scripts, Package, Index, Idb, Intent}
 use Rattle.adb_fields.specs.declared.pairs.Pair.{Pair}
-use Rattle.adb_fields.specs.Pairs.{Named, is_before, earlier, earliest, first_pair}
+use Rattle.adb_fields.specs.Pairs.{NameWithPosition, is_before, earlier, earliest, first_pair}
 use Rattle.adb_fields.specs.FirstPair.{IsFirstOf}
 use Rattle.adb_fields.specs.FirstPair.{IsFirst}
 use Rattle.adb_fields.specs.FirstPair.{IsPair}
@@ -20,12 +20,12 @@ use Rattle.adb_fields.proofs.FirstPair.{first_pair-first}
 
 -- ---- one list
 
-abbrev NoPair : List Named → Type 0
+abbrev NoPair : List NameWithPosition → Type 0
 NoPair names = (q : Pair) → ¬ IsPair names q
 
 -- a name behind stands at a later position
-pub record StandsAt (name : List ℕ) (n : ℕ) (names : List Named) : Type 0 where
-  pub one : Named
+pub record StandsAt (name : List ℕ) (n : ℕ) (names : List NameWithPosition) : Type 0 where
+  pub one : NameWithPosition
   pub inside : IsIn one names
   pub alike : name ≡ one.name
   pub later : n ≤ one.position
@@ -39,11 +39,11 @@ stands name n (x ∷ xs) (inr h) =
     record { one = r.one; inside = inr r.inside; alike = r.alike; later = omega arith }
 
 -- and each numbered name is one of the list, at a position from the first on
-pub record IsOf (one : Named) (n : ℕ) (names : List (List ℕ)) : Type 0 where
+pub record IsOf (one : NameWithPosition) (n : ℕ) (names : List (List ℕ)) : Type 0 where
   pub inside : IsIn one.name names
   pub later : n ≤ one.position
 
-of_numbered : (one : Named) (n : ℕ) (names : List (List ℕ)) → IsIn one (numbered_from n names) → IsOf one n names
+of_numbered : (one : NameWithPosition) (n : ℕ) (names : List (List ℕ)) → IsIn one (numbered_from n names) → IsOf one n names
 of_numbered one n [] h = absurd h
 of_numbered one n (x ∷ xs) (inl e) =
     let p : one.position ≡ n = ap (λ m. m.position) e in
@@ -53,10 +53,10 @@ of_numbered one n (x ∷ xs) (inr h) =
     let l : n + 1 ≤ one.position = r.later in
     record { inside = inr r.inside; later = omega arith }
 
-pair_of_two : (names : List Named) (a b : Named) → IsIn a names → IsIn b names → a.name ≡ b.name → a.position < b.position → IsPair names (record { first = a.position; second = b.position })
+pair_of_two : (names : List NameWithPosition) (a b : NameWithPosition) → IsIn a names → IsIn b names → a.name ≡ b.name → a.position < b.position → IsPair names (record { first = a.position; second = b.position })
 pair_of_two names a b h k e l = record { one = a; other = b; one_in = h; other_in = k; alike = e; first = refl; second = refl; rises = l }
 
-wider : (x : Named) (xs : List Named) (q : Pair) → IsPair xs q → IsPair (x ∷ xs) q
+wider : (x : NameWithPosition) (xs : List NameWithPosition) (q : Pair) → IsPair xs q → IsPair (x ∷ xs) q
 wider x xs q k = record { one = k.one; other = k.other; one_in = inr k.one_in; other_in = inr k.other_in; alike = k.alike; first = k.first; second = k.second; rises = k.rises }
 
 distinct : (n : ℕ) (names : List (List ℕ)) → NoPair (numbered_from n names) → AreDistinctNames names
@@ -69,7 +69,7 @@ distinct n (x ∷ xs) h = (
   distinct (n + 1) xs (λ q k. h q (wider (record { name = x; position = n }) (numbered_from (n + 1) xs) q k)),
 )
 
-no_pair_by : (n : ℕ) (x : List ℕ) (xs : List (List ℕ)) (a b : Named) → ¬ IsIn x xs → NoPair (numbered_from (n + 1) xs) → IsIn a (numbered_from n (x ∷ xs)) → IsIn b (numbered_from n (x ∷ xs)) → a.name ≡ b.name → a.position < b.position → ⊥
+no_pair_by : (n : ℕ) (x : List ℕ) (xs : List (List ℕ)) (a b : NameWithPosition) → ¬ IsIn x xs → NoPair (numbered_from (n + 1) xs) → IsIn a (numbered_from n (x ∷ xs)) → IsIn b (numbered_from n (x ∷ xs)) → a.name ≡ b.name → a.position < b.position → ⊥
 no_pair_by n x xs a b once none (inl e) (inl f) same less =
     let p : a.position ≡ n = ap (λ m. m.position) e in
     let q : b.position ≡ n = ap (λ m. m.position) f in
@@ -143,22 +143,22 @@ stands_in_one name n (names ∷ lists) (inr h) =
     let l : n + 1 ≤ r.one.position = r.later in
     record { one = r.one; inside = in-behind r.one (all_at n names) (by_list_from (n + 1) lists) r.inside; alike = r.alike; later = omega arith }
 
-pub record IsOfOne (one : Named) (n : ℕ) (lists : List (List (List ℕ))) : Type 0 where
+pub record IsOfOne (one : NameWithPosition) (n : ℕ) (lists : List (List (List ℕ))) : Type 0 where
   pub inside : IsInOneOf one.name lists
   pub later : n ≤ one.position
 
 -- of the first list, or of one behind it
-pub record IsHere (one : Named) (n : ℕ) (names : List (List ℕ)) : Type 0 where
+pub record IsHere (one : NameWithPosition) (n : ℕ) (names : List (List ℕ)) : Type 0 where
   pub inside : IsIn one.name names
   pub at : one.position ≡ n
 
-here : (one : Named) (n : ℕ) (names : List (List ℕ)) → IsIn one (all_at n names) → IsHere one n names
+here : (one : NameWithPosition) (n : ℕ) (names : List (List ℕ)) → IsIn one (all_at n names) → IsHere one n names
 here one n names h =
     let r = from-map (λ m. record { name = m; position = n }) one names h in
     let P : List ℕ → Type 0 = λ m. IsIn m names in
     record { inside = subst P (sym (ap (λ m. m.name) r.2)) r.1; at = ap (λ m. m.position) r.2 }
 
-of_lists : (one : Named) (n : ℕ) (lists : List (List (List ℕ))) → IsIn one (by_list_from n lists) → IsOfOne one n lists
+of_lists : (one : NameWithPosition) (n : ℕ) (lists : List (List (List ℕ))) → IsIn one (by_list_from n lists) → IsOfOne one n lists
 of_lists one n [] h = absurd h
 of_lists one n (names ∷ lists) h =
     elim (in-either one (all_at n names) (by_list_from (n + 1) lists) h) [
@@ -189,7 +189,7 @@ apart n (names ∷ lists) h = (
       })),
 )
 
-no_pair_between : (n : ℕ) (names : List (List ℕ)) (lists : List (List (List ℕ))) (a b : Named) → ((name : List ℕ) → IsIn name names → ¬ IsInOneOf name lists) → NoPair (by_list_from (n + 1) lists)
+no_pair_between : (n : ℕ) (names : List (List ℕ)) (lists : List (List (List ℕ))) (a b : NameWithPosition) → ((name : List ℕ) → IsIn name names → ¬ IsInOneOf name lists) → NoPair (by_list_from (n + 1) lists)
     → IsIn a (all_at n names) ⊎ IsIn a (by_list_from (n + 1) lists) → IsIn b (all_at n names) ⊎ IsIn b (by_list_from (n + 1) lists) → a.name ≡ b.name → a.position < b.position → ⊥
 no_pair_between n names lists a b once none (inl h) (inl k) same less =
     let e = (here a n names h).at in let f = (here b n names k).at in omega arith

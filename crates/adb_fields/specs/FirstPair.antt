@@ -1,6 +1,6 @@
 -- In the words of the format: which pair of positions is the first at which one name stands.
 use Rattle.std.specs.Prelude.{◌≡◌, ℕ, ◌<◌, ◌≤◌, ◌⊎◌, List, [], ◌∷◌, Option, Some, None}
-use Rattle.adb_fields.specs.Pairs.{Named}
+use Rattle.adb_fields.specs.Pairs.{NameWithPosition}
 use Rattle.adb_fields.specs.Repeated.{numbered_from}
 use Rattle.adb_fields.specs.declared.pairs.Pair.{Pair}
 
@@ -10,9 +10,9 @@ IsIn x [] = ⊥
 IsIn x (y ∷ ys) = (x ≡ y) ⊎ IsIn x ys
 
 -- one name stands at both positions
-pub record IsPair (names : List Named) (p : Pair) : Type 0 where
-  pub one : Named
-  pub other : Named
+pub record IsPair (names : List NameWithPosition) (p : Pair) : Type 0 where
+  pub one : NameWithPosition
+  pub other : NameWithPosition
   pub one_in : IsIn one names
   pub other_in : IsIn other names
   pub alike : one.name ≡ other.name

@@ -5,32 +5,32 @@ use Rattle.adb_fields.specs.JoinedPath.{joined_path}
 use Rattle.std.specs.Ordering.{nat_cmp, ordering_then}
 use Rattle.std.specs.declared.cmp.Ordering.{Ordering}
 use Rattle.std.specs.Cmp.Lexicographic.{slice_cmp}
-use Rattle.adb_fields.specs.Pairs.{Named, pair_of}
+use Rattle.adb_fields.specs.Pairs.{NameWithPosition, pair_of}
 use Rattle.adb_fields.specs.declared.pairs.Pair.{Pair}
 use Rattle.adb_view.specs.Plain.{Plain}
 use Rattle.adb_tables.specs.Values.{entries_in}
 use Rattle.adb_fields.specs.Fields.{array_at}
 use Rattle.adb_tables.specs.declared.tables.Kind.{Kind}
-use Rattle.adb_fields.specs.declared.pairs.Entry.{Entry}
+use Rattle.adb_fields.specs.declared.pairs.PathWithPosition.{PathWithPosition}
 
 -- the name that an entry stands for: where there is a folder, a path
-abbrev pub named_by : Entry → Named
+abbrev pub named_by : PathWithPosition → NameWithPosition
 named_by e = record { name = joined_path e.path; position = e.position }
 
 -- by name, and equal names by position
-abbrev pub named_cmp : Named → Named → Ordering
+abbrev pub named_cmp : NameWithPosition → NameWithPosition → Ordering
 named_cmp x y = ordering_then (slice_cmp nat_cmp x.name y.name) (nat_cmp x.position y.position)
 
 -- the pairs of names that stand next to each other
-abbrev pub neighbours_from : Named → List Named → List (Option Pair)
+abbrev pub neighbours_from : NameWithPosition → List NameWithPosition → List (Option Pair)
 neighbours_from x [] = []
 neighbours_from x (y ∷ ys) = pair_of x y ∷ neighbours_from y ys
 
-abbrev pub neighbours : List Named → List (Option Pair)
+abbrev pub neighbours : List NameWithPosition → List (Option Pair)
 neighbours [] = []
 neighbours (x ∷ xs) = neighbours_from x xs
 
-abbrev pub named_at : List ℕ → ℕ → Named
+abbrev pub named_at : List ℕ → ℕ → NameWithPosition
 named_at name position = record { name = name; position = position }
 
 -- the values of an array's words

@@ -4,7 +4,7 @@ use Rattle.std.specs.List.{flat_map}
 use Rattle.adb_fields.specs.declared.pairs.Pair.{Pair}
 
 -- a name, and its position, which counts from 1
-pub record Named : Type 0 where
+pub record NameWithPosition : Type 0 where
   pub name : List ℕ
   pub position : ℕ
 
@@ -20,10 +20,10 @@ abbrev pub earliest : List (Option Pair) → Option Pair
 earliest [] = None
 earliest (p ∷ ps) = earlier p (earliest ps)
 
-abbrev pub pair_of : Named → Named → Option Pair
+abbrev pub pair_of : NameWithPosition → NameWithPosition → Option Pair
 pair_of x y = if bytes_eq x.name y.name && nat_lt x.position y.position
     then Some (record { first = x.position; second = y.position }) else None
 
 -- of all pairs of equal names the first
-unfoldable pub first_pair : List Named → Option Pair
+unfoldable pub first_pair : List NameWithPosition → Option Pair
 first_pair names = earliest (flat_map (λ x. map (pair_of x) names) names)

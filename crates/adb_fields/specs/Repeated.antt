@@ -8,14 +8,14 @@ use Rattle.adb_tables.specs.Schema.{schema_number}
 use Rattle.adb_tables.specs.Values.{entries_in, entry_in, text_in}
 use Rattle.adb_tables.specs.Walk.{or_else}
 use Rattle.adb_fields.specs.Paths.{path_of}
-use Rattle.adb_fields.specs.Pairs.{Named, first_pair, earliest}
+use Rattle.adb_fields.specs.Pairs.{NameWithPosition, first_pair, earliest}
 use Rattle.adb_fields.specs.declared.pairs.Pair.{Pair}
 use Rattle.adb_tables.specs.declared.tables.Which.{Which}
 use Rattle.adb_tables.specs.declared.tables.Which.TheVariants.{File, Dir, Package, Idb, Intent}
 
 -- ---- lists of names
 
-abbrev pub numbered_from : ℕ → List (List ℕ) → List Named
+abbrev pub numbered_from : ℕ → List (List ℕ) → List NameWithPosition
 numbered_from n [] = []
 numbered_from n (name ∷ names) = record { name = name; position = n } ∷ numbered_from (n + 1) names
 
@@ -27,11 +27,11 @@ twice names = first_pair (numbered_from 1 names)
 abbrev pub twice_in_one : List (List (List ℕ)) → Option Pair
 twice_in_one lists = earliest (map twice lists)
 
-abbrev pub all_at : ℕ → List (List ℕ) → List Named
+abbrev pub all_at : ℕ → List (List ℕ) → List NameWithPosition
 all_at n names = map (λ name. record { name = name; position = n }) names
 
 -- each list's names stand at the position of the list
-abbrev pub by_list_from : ℕ → List (List (List ℕ)) → List Named
+abbrev pub by_list_from : ℕ → List (List (List ℕ)) → List NameWithPosition
 by_list_from n [] = []
 by_list_from n (names ∷ lists) = all_at n names ++ by_list_from (n + 1) lists
 

@@ -13,14 +13,14 @@ ghost use Rattle.adb_tables.specs.declared.tables.Kind.TheVariants as Kinds;
 ghost use Rattle.adb_tables.specs.declared.tables.Which.TheVariants as Tables;
 
 use crate::file_path::FilePath;
-use crate::pairs::Entry;
+use crate::pairs::PathWithPosition;
 use crate::reads::{field_word, objects_field, text_field, text_word};
 use adb_tables::{Which, entry_word};
 use adb_view::{Adb, Arr, Val};
 use std::alloc::{AllocError, Global};
 
 /// Adds a name at the next position.
-fn add<'a>(names: &mut Vec<Entry<'a>>, name: &'a [u8]) -> Result<(), AllocError>
+fn add<'a>(names: &mut Vec<PathWithPosition<'a>>, name: &'a [u8]) -> Result<(), AllocError>
     requires { vec_len names.old + 1 < 2 ^ 32 }
     ensures added { IfOk result (λ _. map named_by names.new.items ≡ map named_by names.old.items
         ++ (named_at name.now (vec_len names.old + 1) ∷ [])) }
@@ -28,7 +28,7 @@ fn add<'a>(names: &mut Vec<Entry<'a>>, name: &'a [u8]) -> Result<(), AllocError>
 {
     let position = names.len() as u32 + 1;
     let path = FilePath { folder: &[], name };
-    names.push(Entry { path, position })?;
+    names.push(PathWithPosition { path, position })?;
     Ok(())
 }
 
@@ -39,7 +39,7 @@ pub(crate) fn object_names<'a>(
     adb: Adb<'a>,
     which: Which,
     objects: Arr<'a>,
-) -> Result<Vec<Entry<'a>>, AllocError>
+) -> Result<Vec<PathWithPosition<'a>>, AllocError>
     requires sound { are_all_sound (payload_of adb) (Kinds.Obj which) (array_entries objects)
         ≡ true }
     requires kind { kind_at which 0 ≡ Some Kinds.Text }
@@ -64,7 +64,7 @@ pub(crate) fn package_names<'a>(
     alloc: Global,
     adb: Adb<'a>,
     packages: Arr<'a>,
-) -> Result<Vec<Entry<'a>>, AllocError>
+) -> Result<Vec<PathWithPosition<'a>>, AllocError>
     requires { are_all_sound (payload_of adb) (Kinds.Obj Tables.Package) (array_entries packages)
         ≡ true }
     ensures { IfOk result (λ names. map named_by names.items
@@ -92,7 +92,7 @@ fn package_name<'a>(adb: Adb<'a>, pkg: Val) -> &'a [u8]
 /// Adds texts behind the names.
 #[tactic(auto, using(crate::proofs::FieldReads::entry_sound))]
 pub(crate) fn add_texts<'a>(
-    names: &mut Vec<Entry<'a>>,
+    names: &mut Vec<PathWithPosition<'a>>,
     adb: Adb<'a>,
     texts: Arr<'a>,
 ) -> Result<(), AllocError>
@@ -112,7 +112,7 @@ pub(crate) fn add_texts<'a>(
 
 /// Adds the path of a file in a folder.
 fn add_path<'a>(
-    paths: &mut Vec<Entry<'a>>,
+    paths: &mut Vec<PathWithPosition<'a>>,
     folder: &'a [u8],
     name: &'a [u8],
     position: u32,
@@ -121,14 +121,14 @@ fn add_path<'a>(
         ++ (named_at (path_of folder.now name.now) position ∷ [])) }
 {
     let path = FilePath { folder, name };
-    paths.push(Entry { path, position })?;
+    paths.push(PathWithPosition { path, position })?;
     Ok(())
 }
 
 /// Adds the paths of a folder's files, all at one position.
 #[tactic(auto, using(crate::proofs::FieldReads::entry_sound))]
 fn add_paths_under<'a>(
-    paths: &mut Vec<Entry<'a>>,
+    paths: &mut Vec<PathWithPosition<'a>>,
     adb: Adb<'a>,
     folder: Val,
     position: u32,
@@ -150,7 +150,7 @@ fn add_paths_under<'a>(
 /// Adds the paths of a package, all at one position.
 #[tactic(auto, using(crate::proofs::FieldReads::entry_sound))]
 fn add_paths<'a>(
-    paths: &mut Vec<Entry<'a>>,
+    paths: &mut Vec<PathWithPosition<'a>>,
     adb: Adb<'a>,
     pkg: Val,
     position: u32,
@@ -173,7 +173,7 @@ pub(crate) fn all_paths<'a>(
     alloc: Global,
     adb: Adb<'a>,
     packages: Arr<'a>,
-) -> Result<Vec<Entry<'a>>, AllocError>
+) -> Result<Vec<PathWithPosition<'a>>, AllocError>
     requires { are_all_sound (payload_of adb) (Kinds.Obj Tables.Package) (array_entries packages)
         ≡ true }
     ensures { IfOk result (λ paths. map named_by paths.items

@@ -22,7 +22,7 @@ pub(crate) struct Pair {
 
 /// A name and its position, which counts from 1. Where there is a folder, the name is a path.
 #[derive(Clone, Copy)]
-pub(crate) struct Entry<'a> {
+pub(crate) struct PathWithPosition<'a> {
     pub path: FilePath<'a>,
     pub position: u32,
 }
@@ -54,7 +54,7 @@ pub(crate) fn earlier(one: Option<Pair>, other: Option<Pair>) -> Option<Pair>
 /// Of all pairs of positions at which one name stands, the first: the one with the smallest second
 /// position, and of several such the one with the smallest first position. It leaves the names
 /// sorted.
-pub(crate) fn first_pair(entries: &mut [Entry<'_>]) -> Option<Pair>
+pub(crate) fn first_pair(entries: &mut [PathWithPosition<'_>]) -> Option<Pair>
     ensures { result ≡ first_pair (map named_by entries.old) }
 {
     entries.sort_unstable_by(|one, other| compared(one, other));
@@ -62,7 +62,7 @@ pub(crate) fn first_pair(entries: &mut [Entry<'_>]) -> Option<Pair>
 }
 
 /// The first pair of neighbours.
-fn first_of_neighbours(entries: &[Entry<'_>]) -> Option<Pair>
+fn first_of_neighbours(entries: &[PathWithPosition<'_>]) -> Option<Pair>
     ensures { result ≡ earliest (neighbours (map named_by entries.now)) }
 {
     let mut first = None;
@@ -74,7 +74,7 @@ fn first_of_neighbours(entries: &[Entry<'_>]) -> Option<Pair>
 
 /// The pair that an entry and a later one are, if they have one name.
 #[tactic(auto, using(crate::proofs::Compared::same_names))]
-fn pair_of(one: &Entry<'_>, other: &Entry<'_>) -> Option<Pair>
+fn pair_of(one: &PathWithPosition<'_>, other: &PathWithPosition<'_>) -> Option<Pair>
     ensures { result ≡ pair_of (named_by one.now) (named_by other.now) }
 {
     if !one.path.compare(&other.path).is_eq() {
@@ -90,7 +90,7 @@ fn pair_of(one: &Entry<'_>, other: &Entry<'_>) -> Option<Pair>
 }
 
 /// By name, and equal names by position.
-fn compared(one: &Entry<'_>, other: &Entry<'_>) -> Ordering
+fn compared(one: &PathWithPosition<'_>, other: &PathWithPosition<'_>) -> Ordering
     ensures { result ≡ named_cmp (named_by one.now) (named_by other.now) }
 {
     let names = one.path.compare(&other.path);

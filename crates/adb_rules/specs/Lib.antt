@@ -2,6 +2,7 @@
 pub mod Reserved
 pub mod Rules
 pub mod Texts
+pub mod Dependencies
 -- what only inner contracts and proofs use
 pub mod SoundValues
 pub mod FirstBad

@@ -11,9 +11,9 @@ use Rattle.adb_block.specs.Reading.{Reading, done, fault, more as further, readi
 use Rattle.adb_view.specs.Head.{head_fault, root_of}
 use Rattle.adb_view.specs.Plain.{Plain, null, Shape, plain_of, IsNormal}
 use Rattle.adb_view.specs.Shaped.{HasShape}
-use Rattle.adb_view.specs.Visits.{visits}
+use Rattle.adb_view.specs.Visits.{visits, MOST_VALUES}
 use Rattle.adb_tables.specs.Schema.{shape_of}
-use Rattle.adb_tables.specs.Walk.{or_else, shape_fault, LIMIT}
+use Rattle.adb_tables.specs.Walk.{or_else, shape_fault}
 use Rattle.adb_tables.specs.Values.{value_at}
 use Rattle.adb_tables.specs.declared.tables.Which.{Which}
 use Rattle.adb_tables.specs.declared.tables.Kind.TheVariants as Kinds
@@ -92,7 +92,7 @@ sound_payload which file h = file_payload (λ v r. rest_fault which r) which fil
 
 -- what the laws of the crates below say
 pub record Laws : Type 1 where
-  pub visited : (p : List ℕ) (s : Shape) (w : ℕ) → (shape_fault p s w ≡ None) ↔ ((is_some (plain_of p s w) ≡ true) × (length (visits p s w) ≤ LIMIT))
+  pub visited : (p : List ℕ) (s : Shape) (w : ℕ) → (shape_fault p s w ≡ None) ↔ ((is_some (plain_of p s w) ≡ true) × (length (visits p s w) ≤ MOST_VALUES))
   pub shaped : (p : List ℕ) (s : Shape) (w : ℕ) → IfSome (plain_of p s w) (HasShape s)
   pub kept : (which : Which) (v : Plain) → (text_fault which v ≡ None) ↔ KeepsRules which v
   pub once : (which : Which) (v : Plain) → (repeated_fault which v ≡ None) ↔ NamesStandOnce which v

@@ -4,10 +4,10 @@ use Rattle.std.specs.Prelude.{is_none, is_some}
 use Rattle.base_core.specs.declared.cause.Cause.{Cause}
 use Rattle.adb_view.specs.Head.{head_fault, root_of}
 use Rattle.adb_view.specs.Plain.{Plain, Shape, plain_of}
-use Rattle.adb_view.specs.Visits.{visits}
+use Rattle.adb_view.specs.Visits.{visits, MOST_VALUES}
 use Rattle.adb_tables.specs.Schema.{shape_of}
 use Rattle.adb_tables.specs.Values.{is_sound}
-use Rattle.adb_tables.specs.Walk.{or_else, shape_fault, LIMIT}
+use Rattle.adb_tables.specs.Walk.{or_else, shape_fault}
 use Rattle.adb_tables.specs.declared.tables.Which.{Which}
 use Rattle.adb_tables.specs.declared.tables.Kind.TheVariants as Kinds
 use Rattle.adb_fields.specs.Repeated.{repeated_fault}
@@ -19,7 +19,7 @@ use Rattle.adb_schema.proofs.Sound.{sound_payload}
 -- what a law of `adb_tables` says
 abbrev pub Visited : Type 0
 Visited = (payload : List ℕ) (shape : Shape) (word : ℕ)
-    → (shape_fault payload shape word ≡ None) ↔ ((is_some (plain_of payload shape word) ≡ true) × (length (visits payload shape word) ≤ LIMIT))
+    → (shape_fault payload shape word ≡ None) ↔ ((is_some (plain_of payload shape word) ≡ true) × (length (visits payload shape word) ≤ MOST_VALUES))
 
 first_passed : (a b : Option Cause) → or_else a b ≡ None → a ≡ None
 first_passed None b h = refl

@@ -179,7 +179,7 @@ fn check_payload<'a>(
     }
 }
 
-/// Reads the blocks behind the first, but for a package.
+/// Reads the blocks behind the first; those of a package `pkg_core` reads.
 fn check_rest(blocks: &mut Blocks<'_>, which: Which) -> Result<(), Cause>
     ensures { cause_of result ≡ rest_fault which (reading_of blocks.old) }
 {

@@ -1,10 +1,10 @@
 -- The positions of folders and files are no larger than the number of values.
 use Rattle.std.proofs.Common.{ℕ, zero, suc, ◌+◌, ◌<◌, ◌≤◌, Bool, true, false, if◌then◌else◌, List, [], ◌∷◌, ◌++◌, arith}
-use Rattle.adb_view.specs.Plain.{Plain, null, int, blob, arr, obj, Plains, none, more}
+use Rattle.adb_view.specs.Plain.{Plain, null, int, blob, arr, obj, Plains, none, more, count_of}
 use Rattle.adb_tables.specs.Values.{nth, entries_in, entry_in, int_in, text_in}
 use Rattle.adb_fields.specs.Repeated.{list_of, files_in}
 use Rattle.adb_rules.specs.Texts.{is_with_contents}
-use Rattle.adb_write.specs.Size.{entry_count, entries_of, entries_of_all}
+use Rattle.adb_write.specs.Size.{entries_of, entries_of_all}
 use Rattle.pkg_core.specs.Contents.{Expected, expected_at, expected_files, expected_folders, expected_contents}
 
 -- both positions of each are below n
@@ -18,7 +18,7 @@ below-append n (e ∷ es) fs a b = (a.0, a.1, below-append n es fs a.2 b)
 
 -- ---- what is held in a value counts there
 
-held : (v : Plain) → entry_count (entries_in v) + entries_of_all (entries_in v) ≤ entries_of v
+held : (v : Plain) → count_of (entries_in v) + entries_of_all (entries_in v) ≤ entries_of v
 unfolding entries_of entries_of_all
 held null = omega arith
 held (int n) = omega arith
@@ -44,12 +44,12 @@ at_below n d i f a b = by_contents (is_with_contents f)
     by_contents true = (a, b, tt)
     by_contents false = tt
 
-files_below : (n d i : ℕ) (vs : Plains) → d < n → i + entry_count vs ≤ n → AreBelow n (expected_files d i (list_of vs))
+files_below : (n d i : ℕ) (vs : Plains) → d < n → i + count_of vs ≤ n → AreBelow n (expected_files d i (list_of vs))
 files_below n d i none a b = tt
 files_below n d i (more f vs) a b =
     below-append n (expected_at d i f) (expected_files d (i + 1) (list_of vs)) (at_below n d i f a (omega arith)) (files_below n d (i + 1) vs a (omega arith))
 
-folders_below : (n d : ℕ) (vs : Plains) → d + entry_count vs ≤ n → 1 + entries_of_all vs ≤ n → AreBelow n (expected_folders d (list_of vs))
+folders_below : (n d : ℕ) (vs : Plains) → d + count_of vs ≤ n → 1 + entries_of_all vs ≤ n → AreBelow n (expected_folders d (list_of vs))
 unfolding entries_of entries_of_all
 folders_below n d none a b = tt
 folders_below n d (more folder vs) a b =

@@ -4,12 +4,12 @@ use Rattle.std.proofs.lemmas.Bool.{ltb-false, le-ltb}
 use Rattle.std.specs.Prelude.{is_some, is_none, slice_get}
 use Rattle.adb_view.specs.Plain.{Shape, number, text, hash, array, object, Fields, no_fields, field, plain_of, plains_of}
 use Rattle.adb_view.specs.Readers.{run_of, ARRAY, OBJECT}
-use Rattle.adb_view.specs.Visits.{Visit, or_empty, each_visit, visits, field_visits, fault_at, is_sound_visit}
+use Rattle.adb_view.specs.Visits.{Visit, or_empty, each_visit, visits, field_visits, fault_at, is_sound_visit, MOST_VALUES}
 use Rattle.adb_view.specs.Gives.{cause_of}
 use Rattle.adb_tables.specs.Schema.{shape_of}
 use Rattle.adb_tables.specs.Values.{is_sound}
 use Rattle.adb_tables.specs.declared.tables.Kind.{Kind}
-use Rattle.adb_tables.specs.Walk.{visit_fault, or_else, first_fault_from, shape_fault, LIMIT}
+use Rattle.adb_tables.specs.Walk.{visit_fault, or_else, first_fault_from, shape_fault}
 use Rattle.adb_tables.specs.CountedWalk.{fields_walk}
 use Rattle.adb_tables.specs.CountedWalk.{walk}
 use Rattle.adb_tables.specs.CountedWalk.{each_walk}
@@ -158,7 +158,7 @@ walk-count p s n m w e = counted-length p n m (visits p s w) (sym (walk-counted 
 -- and then each visit's reader succeeds, so the plain value is found
 fault_free : (p : List ℕ) (n : ℕ) (v : Visit) → visit_fault p n v ≡ None → is_none (fault_at p v.shape v.word) ≡ true
 fault_free p n v e =
-    elim (chosen (ltb LIMIT n) _ _ _ e) [ inl x ↦ absurd (let y = x.1 in cc) | inr x ↦ rw x.1 refl ]
+    elim (chosen (ltb MOST_VALUES n) _ _ _ e) [ inl x ↦ absurd (let y = x.1 in cc) | inr x ↦ rw x.1 refl ]
 
 counted-sound : (p : List ℕ) (n m : ℕ) (vs : List Visit) → counted p n vs ≡ Ok m → list_all (is_sound_visit p) vs ≡ true
 counted-sound p n m [] e = refl
@@ -210,11 +210,11 @@ or_else_none : (a b : Option Cause) → or_else a b ≡ None → (a ≡ None) ×
 or_else_none None b e = (refl, e)
 or_else_none (Some c) b e = absurd cc
 
-visit_counted : (p : List ℕ) (n : ℕ) (v : Visit) → visit_fault p n v ≡ None → n ≤ LIMIT
+visit_counted : (p : List ℕ) (n : ℕ) (v : Visit) → visit_fault p n v ≡ None → n ≤ MOST_VALUES
 visit_counted p n v e =
-    elim (chosen (ltb LIMIT n) _ _ _ e) [ inl x ↦ absurd (let y = x.1 in cc) | inr x ↦ ltb-false _ _ x.0 ]
+    elim (chosen (ltb MOST_VALUES n) _ _ _ e) [ inl x ↦ absurd (let y = x.1 in cc) | inr x ↦ ltb-false _ _ x.0 ]
 
-none_few : (p : List ℕ) (n : ℕ) (vs : List Visit) → first_fault_from p n vs ≡ None → n ≤ LIMIT + 1 → n + length vs ≤ LIMIT + 1
+none_few : (p : List ℕ) (n : ℕ) (vs : List Visit) → first_fault_from p n vs ≡ None → n ≤ MOST_VALUES + 1 → n + length vs ≤ MOST_VALUES + 1
 none_few p n [] e le = omega arith
 none_few p n (v ∷ vs) e le =
     let (here, later) = or_else_none _ _ e in
@@ -236,15 +236,15 @@ none_of : (o : Option Cause) → is_none o ≡ true → o ≡ None
 none_of None e = refl
 none_of (Some c) e = absurd cc
 
-few_none : (p : List ℕ) (n : ℕ) (vs : List Visit) → list_all (is_sound_visit p) vs ≡ true → n + length vs ≤ LIMIT + 1 → first_fault_from p n vs ≡ None
+few_none : (p : List ℕ) (n : ℕ) (vs : List Visit) → list_all (is_sound_visit p) vs ≡ true → n + length vs ≤ MOST_VALUES + 1 → first_fault_from p n vs ≡ None
 few_none p n [] e le = refl
 few_none p n (v ∷ vs) e le =
     let parts = and_parts (is_sound_visit p v) (list_all (is_sound_visit p) vs) e in
-    let t : ltb LIMIT n ≡ false = le-ltb _ _ (omega (arith, le)) in
+    let t : ltb MOST_VALUES n ≡ false = le-ltb _ _ (omega (arith, le)) in
     let none_here = none_of (fault_at p v.shape v.word) parts.0 in
     rw (t, none_here) (few_none p (n + 1) vs parts.1 (omega (arith, le)))
 
-pub none_reported : WordsFound → (p : List ℕ) (s : Shape) (w : ℕ) → (shape_fault p s w ≡ None) ↔ ((is_some (plain_of p s w) ≡ true) × (length (visits p s w) ≤ LIMIT))
+pub none_reported : WordsFound → (p : List ℕ) (s : Shape) (w : ℕ) → (shape_fault p s w ≡ None) ↔ ((is_some (plain_of p s w) ≡ true) × (length (visits p s w) ≤ MOST_VALUES))
 none_reported found p s w = (
   λ e. let few = none_few p 1 (visits p s w) e (lit≤ tt) in (found p s w ∙ none_sound p 1 (visits p s w) e, omega arith),
   λ h. let (some, few) = h in few_none p 1 (visits p s w) (sym (found p s w) ∙ some) (omega arith),

@@ -4,13 +4,12 @@ use Rattle.std.proofs.lemmas.Bool.{lt-ltb, le-ltb}
 use Rattle.std.proofs.lemmas.List.{drop_more, drop_all}
 use Rattle.adb_view.specs.Plain.{Shape, number, text, hash, array, object}
 use Rattle.adb_view.specs.Readers.{int_of, blob_of, run_of, ARRAY, OBJECT}
-use Rattle.adb_tables.specs.Walk.{LIMIT}
 use Rattle.adb_tables.specs.CountedWalk.{fields_walk}
 use Rattle.adb_tables.specs.CountedWalk.{walk}
 use Rattle.adb_tables.specs.CountedWalk.{each_walk}
 use Rattle.adb_tables.specs.CountedWalk.{walk_visit}
 use Rattle.adb_tables.specs.CountedWalk.{◌>>=◌}
-use Rattle.adb_view.specs.Visits.{or_empty, fault_at}
+use Rattle.adb_view.specs.Visits.{or_empty, fault_at, MOST_VALUES}
 use Rattle.adb_view.specs.Gives.{cause_of}
 use Rattle.adb_tables.specs.Schema.{schema_number, table, shape_of, shapes_of}
 use Rattle.adb_tables.specs.Rank.{rank, rank_of_all}
@@ -57,18 +56,18 @@ fields_past p fs n ws i le = rw (drop_all i fs le) refl
 
 -- ---- one word
 
-ok_step : {A : Type 0} (n : ℕ) (s : Shape) (w : ℕ) (p : List ℕ) (r : Result A Cause) → fault_at p s w ≡ cause_of r → n < LIMIT → walk_visit p n s w ≡ (r >>= λ x. Ok (n + 1))
-ok_step n s w p (Ok x) e lt = let t : ltb LIMIT (n + 1) ≡ false = le-ltb _ _ (omega arith) in rw (t, e) refl
-ok_step n s w p (Err c) e lt = let t : ltb LIMIT (n + 1) ≡ false = le-ltb _ _ (omega arith) in rw (t, e) refl
+ok_step : {A : Type 0} (n : ℕ) (s : Shape) (w : ℕ) (p : List ℕ) (r : Result A Cause) → fault_at p s w ≡ cause_of r → n < MOST_VALUES → walk_visit p n s w ≡ (r >>= λ x. Ok (n + 1))
+ok_step n s w p (Ok x) e lt = let t : ltb MOST_VALUES (n + 1) ≡ false = le-ltb _ _ (omega arith) in rw (t, e) refl
+ok_step n s w p (Err c) e lt = let t : ltb MOST_VALUES (n + 1) ≡ false = le-ltb _ _ (omega arith) in rw (t, e) refl
 
 bind_run : (r : Result (List ℕ) Cause) (n : ℕ) (f : ℕ → List ℕ → Result ℕ Cause) → ((r >>= λ x. Ok (n + 1)) >>= λ m. f m (or_empty r)) ≡ (r >>= λ ws. f (n + 1) ws)
 bind_run (Ok ws) n f = refl
 bind_run (Err c) n f = refl
 
-full_step : (p : List ℕ) (n : ℕ) (s : Shape) (w : ℕ) → LIMIT ≤ n → walk_visit p n s w ≡ Err (TooLarge (n + 1))
-full_step p n s w le = let t : ltb LIMIT (n + 1) ≡ true = lt-ltb _ _ (omega arith) in rw t refl
+full_step : (p : List ℕ) (n : ℕ) (s : Shape) (w : ℕ) → MOST_VALUES ≤ n → walk_visit p n s w ≡ Err (TooLarge (n + 1))
+full_step p n s w le = let t : ltb MOST_VALUES (n + 1) ≡ true = lt-ltb _ _ (omega arith) in rw t refl
 
-pub walk_full : (p : List ℕ) (s : Shape) (n w : ℕ) → LIMIT ≤ n → walk p s n w ≡ Err (TooLarge (n + 1))
+pub walk_full : (p : List ℕ) (s : Shape) (n w : ℕ) → MOST_VALUES ≤ n → walk p s n w ≡ Err (TooLarge (n + 1))
 unfolding walk
 walk_full p number n w le = full_step p n number w le
 walk_full p text n w le = full_step p n text w le
@@ -76,29 +75,29 @@ walk_full p hash n w le = full_step p n hash w le
 walk_full p (array s) n w le = ap (λ r. r >>= λ m. each_walk (walk p s) m (or_empty (run_of ARRAY p w))) (full_step p n (array s) w le)
 walk_full p (object which fs) n w le = ap (λ r. r >>= λ m. fields_walk p fs m (or_empty (run_of OBJECT p w))) (full_step p n (object which fs) w le)
 
-pub walk_int : (p : List ℕ) (n w : ℕ) → n < LIMIT → walk p (shape_of Int) n w ≡ (int_of p w >>= λ x. Ok (n + 1))
+pub walk_int : (p : List ℕ) (n w : ℕ) → n < MOST_VALUES → walk p (shape_of Int) n w ≡ (int_of p w >>= λ x. Ok (n + 1))
 unfolding walk
 walk_int p n w lt = ap (λ s. walk p s n w) int_shape ∙ ok_step n number w p (int_of p w) refl lt
 
-pub walk_text : (p : List ℕ) (n w : ℕ) → n < LIMIT → walk p (shape_of Text) n w ≡ (blob_of p w >>= λ x. Ok (n + 1))
+pub walk_text : (p : List ℕ) (n w : ℕ) → n < MOST_VALUES → walk p (shape_of Text) n w ≡ (blob_of p w >>= λ x. Ok (n + 1))
 unfolding walk
 walk_text p n w lt = ap (λ s. walk p s n w) text_shape ∙ ok_step n text w p (blob_of p w) refl lt
 
-pub walk_hash : (p : List ℕ) (n w : ℕ) → n < LIMIT → walk p (shape_of Hash) n w ≡ (blob_of p w >>= λ x. Ok (n + 1))
+pub walk_hash : (p : List ℕ) (n w : ℕ) → n < MOST_VALUES → walk p (shape_of Hash) n w ≡ (blob_of p w >>= λ x. Ok (n + 1))
 unfolding walk
 walk_hash p n w lt = ap (λ s. walk p s n w) hash_shape ∙ ok_step n hash w p (blob_of p w) refl lt
 
-array_step : (p : List ℕ) (s : Shape) (n w : ℕ) → n < LIMIT → walk p (array s) n w ≡ (run_of ARRAY p w >>= λ ws. each_walk (walk p s) (n + 1) ws)
+array_step : (p : List ℕ) (s : Shape) (n w : ℕ) → n < MOST_VALUES → walk p (array s) n w ≡ (run_of ARRAY p w >>= λ ws. each_walk (walk p s) (n + 1) ws)
 unfolding walk
 array_step p s n w lt = ap (λ r. r >>= λ m. each_walk (walk p s) m (or_empty (run_of ARRAY p w))) (ok_step n (array s) w p (run_of ARRAY p w) refl lt) ∙ bind_run (run_of ARRAY p w) n (λ m ws. each_walk (walk p s) m ws)
 
-pub walk_texts : (p : List ℕ) (n w : ℕ) → n < LIMIT → walk p (shape_of TextArr) n w ≡ (run_of ARRAY p w >>= λ ws. each_walk (walk p (shape_of Text)) (n + 1) ws)
+pub walk_texts : (p : List ℕ) (n w : ℕ) → n < MOST_VALUES → walk p (shape_of TextArr) n w ≡ (run_of ARRAY p w >>= λ ws. each_walk (walk p (shape_of Text)) (n + 1) ws)
 walk_texts p n w lt = ap (λ s. walk p s n w) texts_shape ∙ array_step p (shape_of Text) n w lt
 
-pub walk_objects : (p : List ℕ) (which : Which) (n w : ℕ) → n < LIMIT → walk p (shape_of (ObjArr which)) n w ≡ (run_of ARRAY p w >>= λ ws. each_walk (walk p (shape_of (Obj which))) (n + 1) ws)
+pub walk_objects : (p : List ℕ) (which : Which) (n w : ℕ) → n < MOST_VALUES → walk p (shape_of (ObjArr which)) n w ≡ (run_of ARRAY p w >>= λ ws. each_walk (walk p (shape_of (Obj which))) (n + 1) ws)
 walk_objects p which n w lt = ap (λ s. walk p s n w) (objects_shape which) ∙ array_step p (shape_of (Obj which)) n w lt
 
-pub walk_object : (p : List ℕ) (which : Which) (n w : ℕ) → n < LIMIT → walk p (shape_of (Obj which)) n w ≡ (run_of OBJECT p w >>= λ ws. fields_walk p (shapes_of (table which)) (n + 1) ws)
+pub walk_object : (p : List ℕ) (which : Which) (n w : ℕ) → n < MOST_VALUES → walk p (shape_of (Obj which)) n w ≡ (run_of OBJECT p w >>= λ ws. fields_walk p (shapes_of (table which)) (n + 1) ws)
 unfolding walk
 walk_object p which n w lt =
     ap (λ s. walk p s n w) (object_shape which)
@@ -132,38 +131,38 @@ bound_ok r f x e = ap (λ r. r >>= f) e
 bound_err : {A B : Type 0} (r : Result A Cause) (f : A → Result B Cause) (c : Cause) → r ≡ Err c → (r >>= f) ≡ Err c
 bound_err r f c e = ap (λ r. r >>= f) e
 
-pub int_ok : (p : List ℕ) (n w x : ℕ) → n < LIMIT → int_of p w ≡ Ok x → walk p (shape_of Int) n w ≡ Ok (n + 1)
+pub int_ok : (p : List ℕ) (n w x : ℕ) → n < MOST_VALUES → int_of p w ≡ Ok x → walk p (shape_of Int) n w ≡ Ok (n + 1)
 int_ok p n w x lt e = walk_int p n w lt ∙ bound_ok (int_of p w) _ x e
 
-pub int_err : (p : List ℕ) (n w : ℕ) (c : Cause) → n < LIMIT → int_of p w ≡ Err c → walk p (shape_of Int) n w ≡ Err c
+pub int_err : (p : List ℕ) (n w : ℕ) (c : Cause) → n < MOST_VALUES → int_of p w ≡ Err c → walk p (shape_of Int) n w ≡ Err c
 int_err p n w c lt e = walk_int p n w lt ∙ bound_err (int_of p w) _ c e
 
-pub text_ok : (p : List ℕ) (n w : ℕ) (x : List ℕ) → n < LIMIT → blob_of p w ≡ Ok x → walk p (shape_of Text) n w ≡ Ok (n + 1)
+pub text_ok : (p : List ℕ) (n w : ℕ) (x : List ℕ) → n < MOST_VALUES → blob_of p w ≡ Ok x → walk p (shape_of Text) n w ≡ Ok (n + 1)
 text_ok p n w x lt e = walk_text p n w lt ∙ bound_ok (blob_of p w) _ x e
 
-pub text_err : (p : List ℕ) (n w : ℕ) (c : Cause) → n < LIMIT → blob_of p w ≡ Err c → walk p (shape_of Text) n w ≡ Err c
+pub text_err : (p : List ℕ) (n w : ℕ) (c : Cause) → n < MOST_VALUES → blob_of p w ≡ Err c → walk p (shape_of Text) n w ≡ Err c
 text_err p n w c lt e = walk_text p n w lt ∙ bound_err (blob_of p w) _ c e
 
-pub hash_ok : (p : List ℕ) (n w : ℕ) (x : List ℕ) → n < LIMIT → blob_of p w ≡ Ok x → walk p (shape_of Hash) n w ≡ Ok (n + 1)
+pub hash_ok : (p : List ℕ) (n w : ℕ) (x : List ℕ) → n < MOST_VALUES → blob_of p w ≡ Ok x → walk p (shape_of Hash) n w ≡ Ok (n + 1)
 hash_ok p n w x lt e = walk_hash p n w lt ∙ bound_ok (blob_of p w) _ x e
 
-pub hash_err : (p : List ℕ) (n w : ℕ) (c : Cause) → n < LIMIT → blob_of p w ≡ Err c → walk p (shape_of Hash) n w ≡ Err c
+pub hash_err : (p : List ℕ) (n w : ℕ) (c : Cause) → n < MOST_VALUES → blob_of p w ≡ Err c → walk p (shape_of Hash) n w ≡ Err c
 hash_err p n w c lt e = walk_hash p n w lt ∙ bound_err (blob_of p w) _ c e
 
-pub texts_ok : (p : List ℕ) (n w : ℕ) (ws : List ℕ) → n < LIMIT → run_of ARRAY p w ≡ Ok ws → walk p (shape_of TextArr) n w ≡ each_walk (walk p (shape_of Text)) (n + 1) ws
+pub texts_ok : (p : List ℕ) (n w : ℕ) (ws : List ℕ) → n < MOST_VALUES → run_of ARRAY p w ≡ Ok ws → walk p (shape_of TextArr) n w ≡ each_walk (walk p (shape_of Text)) (n + 1) ws
 texts_ok p n w ws lt e = walk_texts p n w lt ∙ bound_ok (run_of ARRAY p w) _ ws e
 
-pub texts_err : (p : List ℕ) (n w : ℕ) (c : Cause) → n < LIMIT → run_of ARRAY p w ≡ Err c → walk p (shape_of TextArr) n w ≡ Err c
+pub texts_err : (p : List ℕ) (n w : ℕ) (c : Cause) → n < MOST_VALUES → run_of ARRAY p w ≡ Err c → walk p (shape_of TextArr) n w ≡ Err c
 texts_err p n w c lt e = walk_texts p n w lt ∙ bound_err (run_of ARRAY p w) _ c e
 
-pub objects_ok : (p : List ℕ) (which : Which) (n w : ℕ) (ws : List ℕ) → n < LIMIT → run_of ARRAY p w ≡ Ok ws → walk p (shape_of (ObjArr which)) n w ≡ each_walk (walk p (shape_of (Obj which))) (n + 1) ws
+pub objects_ok : (p : List ℕ) (which : Which) (n w : ℕ) (ws : List ℕ) → n < MOST_VALUES → run_of ARRAY p w ≡ Ok ws → walk p (shape_of (ObjArr which)) n w ≡ each_walk (walk p (shape_of (Obj which))) (n + 1) ws
 objects_ok p which n w ws lt e = walk_objects p which n w lt ∙ bound_ok (run_of ARRAY p w) _ ws e
 
-pub objects_err : (p : List ℕ) (which : Which) (n w : ℕ) (c : Cause) → n < LIMIT → run_of ARRAY p w ≡ Err c → walk p (shape_of (ObjArr which)) n w ≡ Err c
+pub objects_err : (p : List ℕ) (which : Which) (n w : ℕ) (c : Cause) → n < MOST_VALUES → run_of ARRAY p w ≡ Err c → walk p (shape_of (ObjArr which)) n w ≡ Err c
 objects_err p which n w c lt e = walk_objects p which n w lt ∙ bound_err (run_of ARRAY p w) _ c e
 
-pub object_ok : (p : List ℕ) (which : Which) (n w : ℕ) (ws : List ℕ) → n < LIMIT → run_of OBJECT p w ≡ Ok ws → walk p (shape_of (Obj which)) n w ≡ fields_walk p (shapes_of (table which)) (n + 1) ws
+pub object_ok : (p : List ℕ) (which : Which) (n w : ℕ) (ws : List ℕ) → n < MOST_VALUES → run_of OBJECT p w ≡ Ok ws → walk p (shape_of (Obj which)) n w ≡ fields_walk p (shapes_of (table which)) (n + 1) ws
 object_ok p which n w ws lt e = walk_object p which n w lt ∙ bound_ok (run_of OBJECT p w) _ ws e
 
-pub object_err : (p : List ℕ) (which : Which) (n w : ℕ) (c : Cause) → n < LIMIT → run_of OBJECT p w ≡ Err c → walk p (shape_of (Obj which)) n w ≡ Err c
+pub object_err : (p : List ℕ) (which : Which) (n w : ℕ) (c : Cause) → n < MOST_VALUES → run_of OBJECT p w ≡ Err c → walk p (shape_of (Obj which)) n w ≡ Err c
 object_err p which n w c lt e = walk_object p which n w lt ∙ bound_err (run_of OBJECT p w) _ c e

@@ -1,6 +1,7 @@
 -- What views answer: the plain value of a word that is known to have one, and its fields.
 use Rattle.std.specs.Prelude.{ℕ, zero, suc, Bool, List, [], is_some, Option, unwrap_or, option_map, slice_get}
 use Rattle.adb_view.specs.Plain.{Plain, null, int, blob, arr, obj, Plains, none, more, plain_of}
+pub use Rattle.adb_view.specs.Plain.{count_of}
 use Rattle.adb_tables.specs.Schema.{table, shape_of}
 use Rattle.adb_tables.specs.declared.tables.Which.{Which}
 use Rattle.adb_tables.specs.declared.tables.Kind.{Kind}
@@ -18,10 +19,6 @@ abbrev pub nth : Plains → ℕ → Plain
 nth none i = null
 nth (more v vs) zero = v
 nth (more v vs) (suc i) = nth vs i
-
-abbrev pub count_of : Plains → ℕ
-count_of none = 0
-count_of (more v vs) = suc (count_of vs)
 
 -- the entries of an array or of an object; Null has none, so that each field of it is Null
 abbrev pub entries_in : Plain → Plains

@@ -2,17 +2,13 @@
 -- without a list.
 use Rattle.std.specs.Prelude.{ℕ, ◌+◌, List, [], ◌∷◌, Option, Some, None, nat_lt, if◌then◌else◌}
 use Rattle.adb_view.specs.Plain.{Shape}
-use Rattle.adb_view.specs.Visits.{Visit, visits, fault_at}
+use Rattle.adb_view.specs.Visits.{MOST_VALUES, Visit, visits, fault_at}
 use Rattle.base_core.specs.declared.cause.Cause.{Cause}
 use Rattle.base_core.specs.declared.cause.Cause.TheVariants.{TooLarge}
 
--- how many visits a payload may have
-abbrev pub LIMIT : ℕ
-LIMIT = 4194304
-
 -- the test of the visit with this number, counted from 1: first the count, then the word
 abbrev pub visit_fault : List ℕ → ℕ → Visit → Option Cause
-visit_fault p i v = if nat_lt LIMIT i then Some (TooLarge i) else fault_at p v.shape v.word
+visit_fault p i v = if nat_lt MOST_VALUES i then Some (TooLarge i) else fault_at p v.shape v.word
 
 abbrev pub or_else : Option Cause → Option Cause → Option Cause
 or_else (Some c) later = Some c

@@ -2,14 +2,14 @@
 
 ghost use Rattle.std.specs.Prelude.{◌<◌, slice_index, ◌≡◌, ◌≤◌, ◌+◌, IfOk, true, is_some, length, is_none, ◌↔◌, ℕ, List, Some, None};
 ghost use Rattle.adb_view.specs.Plain.{Fields, plains_of, Shape, object, plain_of};
-ghost use Rattle.adb_view.specs.Visits.{field_visits, visits};
+ghost use Rattle.adb_view.specs.Visits.{field_visits, visits, MOST_VALUES};
 ghost use Rattle.adb_view.specs.Adb.{payload_of};
 ghost use Rattle.adb_view.specs.Entries.{array_entries};
 ghost use Rattle.adb_view.specs.Gives.{Gives, cause_of};
 ghost use Rattle.adb_view.specs.Readers.{run_of, OBJECT};
 ghost use Rattle.adb_view.specs.Head.{root_of};
 ghost use Rattle.adb_tables.specs.Schema.{table, shape_of, shapes_of, schema_number};
-ghost use Rattle.adb_tables.specs.Walk.{first_fault_from, shape_fault, LIMIT};
+ghost use Rattle.adb_tables.specs.Walk.{first_fault_from, shape_fault};
 ghost use Rattle.adb_tables.specs.CountedWalk.{fields_walk};
 ghost use Rattle.adb_tables.specs.CountedWalk.{walk};
 ghost use Rattle.adb_tables.specs.CountedWalk.{each_walk};
@@ -75,9 +75,9 @@ pub fn shape(adb: Adb<'_>, which: Which) -> Result<Shaped<'_>, Cause>
 #[cycle(walk)]
 #[tactic(auto, using(crate::proofs::WalkSteps::walk_full, crate::proofs::WalkSteps::int_ok, crate::proofs::WalkSteps::int_err, crate::proofs::WalkSteps::text_ok, crate::proofs::WalkSteps::text_err, crate::proofs::WalkSteps::hash_ok, crate::proofs::WalkSteps::hash_err, crate::proofs::WalkSteps::texts_ok, crate::proofs::WalkSteps::texts_err, crate::proofs::WalkSteps::objects_ok, crate::proofs::WalkSteps::objects_err, crate::proofs::WalkSteps::object_ok, crate::proofs::WalkSteps::object_err, crate::proofs::ReaderFaults::int_fault, crate::proofs::ReaderFaults::blob_fault, crate::proofs::ReaderFaults::run_fault))]
 fn walk_value(adb: Adb<'_>, kind: Kind, before: u32, word: Val) -> Result<u32, VisitFault>
-    requires { before ≤ LIMIT }
+    requires { before ≤ MOST_VALUES }
     ensures exact { with_cause result ≡ walk (payload_of adb.entry) (shape_of kind) before word }
-    ensures bound { IfOk result (λ n. n ≤ LIMIT) }
+    ensures bound { IfOk result (λ n. n ≤ MOST_VALUES) }
 {
     let count = before + 1;
     if count > MOST_VISITS {
@@ -110,11 +110,11 @@ fn walk_value(adb: Adb<'_>, kind: Kind, before: u32, word: Val) -> Result<u32, V
 /// Visits the entries of an array.
 #[cycle(walk)]
 fn walk_entries(adb: Adb<'_>, kind: Kind, before: u32, entries: Arr<'_>) -> Result<u32, VisitFault>
-    requires { before ≤ LIMIT }
+    requires { before ≤ MOST_VALUES }
     ensures exact { with_cause result
         ≡ each_walk (walk (payload_of adb.entry) (shape_of kind)) before
         (array_entries entries.entry) }
-    ensures bound { IfOk result (λ n. n ≤ LIMIT) }
+    ensures bound { IfOk result (λ n. n ≤ MOST_VALUES) }
 {
     let mut count = before;
     for i in 0..entries.len() {
@@ -132,11 +132,11 @@ fn walk_each_field(
     before: u32,
     entries: Arr<'_>,
 ) -> Result<u32, VisitFault>
-    requires { before ≤ LIMIT }
+    requires { before ≤ MOST_VALUES }
     ensures exact { with_cause result
         ≡ fields_walk (payload_of adb.entry) (shapes_of fields.now) before
         (array_entries entries.entry) }
-    ensures bound { IfOk result (λ n. n ≤ LIMIT) }
+    ensures bound { IfOk result (λ n. n ≤ MOST_VALUES) }
 {
     let mut count = before;
     for (i, field) in fields.iter().enumerate() {
@@ -160,11 +160,11 @@ pub fn walk_fields(
     before: u32,
     entries: Arr<'_>,
 ) -> Result<u32, Cause>
-    requires { before ≤ LIMIT }
+    requires { before ≤ MOST_VALUES }
     ensures exact { result
         ≡ fields_walk (payload_of adb.entry) (shapes_of fields.now) before
         (array_entries entries.entry) }
-    ensures bound { IfOk result (λ n. n ≤ LIMIT) }
+    ensures bound { IfOk result (λ n. n ≤ MOST_VALUES) }
 {
     match walk_each_field(adb, fields, before, entries) {
         Ok(count) => Ok(count),
@@ -201,7 +201,7 @@ pub fn the_first_faulty_visit_is_reported()
 pub fn values_of_few_visits_have_no_fault()
     ensures { (payload : List ℕ) (shape : Shape) (word : ℕ)
         → (shape_fault payload shape word ≡ None) ↔ ((is_some (plain_of payload shape word) ≡ true)
-        × (length (visits payload shape word) ≤ LIMIT)) }
+        × (length (visits payload shape word) ≤ MOST_VALUES)) }
 {
     value_is_found_where_visits_are_sound();
 }

@@ -1,5 +1,5 @@
--- What the contracts cite, to be read in this order.
+-- what the contracts of this crate's calls say, in the order in which it is best read
 pub mod Drafts
 pub mod Written
--- What serves the functions of this crate.
+-- what only inner contracts and proofs use
 pub mod LastList

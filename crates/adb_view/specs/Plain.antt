@@ -1,5 +1,5 @@
 -- Plain values, the shapes that tables of fields give them, and the plain value of a word.
-use Rattle.std.specs.Prelude.{◌≡◌, ◌≢◌, ℕ, ◌<◌, ◌^◌, List, [], ◌∷◌, Option, Some, None, option_map, option_and_then, Result, Ok, Err, ◌==◌, if◌then◌else◌}
+use Rattle.std.specs.Prelude.{◌≡◌, ◌≢◌, ℕ, suc, ◌<◌, ◌^◌, List, [], ◌∷◌, Option, Some, None, option_map, option_and_then, Result, Ok, Err, ◌==◌, if◌then◌else◌}
 use Rattle.adb_view.specs.Readers.{int_of, blob_of, run_of, ARRAY, OBJECT}
 use Rattle.adb_view.specs.Head.{root_of}
 use Rattle.base_core.specs.declared.cause.Cause.{Cause}
@@ -59,6 +59,15 @@ without_last_nulls (more v vs) = keep v (without_last_nulls vs)
 
 abbrev pub obj_value : Plains → Plain
 obj_value vs = obj_of (without_last_nulls vs)
+
+abbrev pub count_of : Plains → ℕ
+count_of none = 0
+count_of (more v vs) = suc (count_of vs)
+
+-- a blob for each text
+abbrev pub text_plains : List (List ℕ) → Plains
+text_plains [] = none
+text_plains (text ∷ texts) = more (blob_value text) (text_plains texts)
 
 -- ---- the plain value of a word under a shape
 

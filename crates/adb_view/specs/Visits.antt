@@ -34,6 +34,10 @@ unfoldable mutual
   field_visits p (field name s fs) [] = []
   field_visits p (field name s fs) (w ∷ ws) = visits p s w ++ field_visits p fs ws
 
+-- how many values a payload may have, each counted wherever it stands
+abbrev pub MOST_VALUES : ℕ
+MOST_VALUES = 4194304
+
 -- why the reader of this shape refuses the word, if it does
 abbrev pub fault_at : List ℕ → Shape → ℕ → Option Cause
 fault_at p number w = cause_of (int_of p w)

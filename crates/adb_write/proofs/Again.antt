@@ -6,10 +6,10 @@ use Rattle.std.specs.Int.{w8, w16, w32, w64, from_le_bytes, to_le_bytes}
 use Rattle.std.proofs.lemmas.Bool.{cases_lt, lt-ltb, le-ltb}
 use Rattle.std.proofs.lemmas.List.{take_at, drop_at, length-append, length-drop, length-replicate, take-append-le, drop-append-le, take-take, take_all}
 use Rattle.std.proofs.lemmas.Slice.Eq.{bytes_eq-Decides}
-use Rattle.adb_view.specs.Plain.{Plain, null, int, blob, arr, obj, Plains, none, more, IsNormal, AreNormal}
+use Rattle.adb_view.specs.Plain.{Plain, null, int, blob, arr, obj, Plains, none, more, IsNormal, AreNormal, count_of}
 use Rattle.adb_view.specs.Readers.{ARRAY, OBJECT}
 use Rattle.adb_write.specs.Canonical.{gap, Item, WrittenItem, Cell, in_place, apart, int_item, int_cell, blob_item, blob_cell, run_bytes, run_item, run_cell, trimmed_words, Layout, empty_layout, end_offset, is_equal_item, word_of_item, put_new, put_unless, put_item, put_cell, put_run, write, write_all, payload_with_root, MOST_BYTES}
-use Rattle.adb_write.specs.Size.{entry_count, entries_of, entries_of_all, with_entries}
+use Rattle.adb_write.specs.Size.{entries_of, entries_of_all, with_entries}
 use Rattle.adb_write.proofs.Found.{equal_kind, equal_bytes, equal_within}
 use Rattle.adb_write.proofs.Placed.{wide8, wide16, wide32, wide64}
 use Rattle.adb_write.proofs.RoundTrip.{Grows-here, put_run-grows, write-grows, write_all-grows, write_all-made, words_stay, item_within}
@@ -316,8 +316,8 @@ mutual
       let all = write_all_again vs out later n.1 w within (keeps_then r.1 (put_run ARRAY r.0 r.1).1 later t.keeps k) in
       let further : Layout = with_entries (entries_of_all vs) later in
       ap (λ (q : List ℕ × Layout). put_run ARRAY q.0 q.1) all
-      ∙ cell_counts (run_cell ARRAY r.0) r.1 further (entry_count vs) (run_entries ARRAY r.0 ∙ words_count vs out) f (record { found = k.found })
-      ∙ ap (λ (l : Layout). ((put_run ARRAY r.0 r.1).0, l)) (with_both (entries_of_all vs) (entry_count vs) later)
+      ∙ cell_counts (run_cell ARRAY r.0) r.1 further (count_of vs) (run_entries ARRAY r.0 ∙ words_count vs out) f (record { found = k.found })
+      ∙ ap (λ (l : Layout). ((put_run ARRAY r.0 r.1).0, l)) (with_both (entries_of_all vs) (count_of vs) later)
   write_again (obj vs) out later n w fits k =
       let r = write_all vs out in
       let within = le_trans (Grows-here _ _ (put_run-grows OBJECT (trimmed_words r.0) r.1)) fits in
@@ -329,8 +329,8 @@ mutual
       let all = write_all_again vs out later n.2 w within (keeps_then r.1 (put_run OBJECT (trimmed_words r.0) r.1).1 later t.keeps k) in
       let further : Layout = with_entries (entries_of_all vs) later in
       ap (λ (q : List ℕ × Layout). put_run OBJECT (trimmed_words q.0) q.1) all
-      ∙ cell_counts (run_cell OBJECT (trimmed_words r.0)) r.1 further (entry_count vs) (run_entries OBJECT (trimmed_words r.0) ∙ ap length stay ∙ words_count vs out) f (record { found = k.found })
-      ∙ ap (λ (l : Layout). ((put_run OBJECT (trimmed_words r.0) r.1).0, l)) (with_both (entries_of_all vs) (entry_count vs) later)
+      ∙ cell_counts (run_cell OBJECT (trimmed_words r.0)) r.1 further (count_of vs) (run_entries OBJECT (trimmed_words r.0) ∙ ap length stay ∙ words_count vs out) f (record { found = k.found })
+      ∙ ap (λ (l : Layout). ((put_run OBJECT (trimmed_words r.0) r.1).0, l)) (with_both (entries_of_all vs) (count_of vs) later)
 
   write_all_again : (vs : Plains) (out later : Layout) → AreNormal vs → IsWhole out → end_offset (write_all vs out).1 ≤ MOST_BYTES → Keeps (write_all vs out).1 later → write_all vs later ≡ ((write_all vs out).0, with_entries (entries_of_all vs) later)
   write_all_again none out later n w fits k = ap (λ (l : Layout). ([], l)) (with_none later)

@@ -3,10 +3,10 @@ use Rattle.std.proofs.Common.{◌≡◌, ℕ, suc, ◌+◌, ◌^◌, ◌≤◌, 
 use Rattle.std.specs.Prelude.{find, is_some, ◌||◌}
 use Rattle.std.specs.Int.{w8, w16, w32, w64, to_le_bytes}
 use Rattle.std.proofs.lemmas.Bool.{cases_lt, lt-ltb, le-ltb, ltb-true}
-use Rattle.adb_view.specs.Plain.{Plain, null, int, blob, arr, obj, Plains, none, more, IsNormal, AreNormal}
+use Rattle.adb_view.specs.Plain.{Plain, null, int, blob, arr, obj, Plains, none, more, IsNormal, AreNormal, count_of}
 use Rattle.adb_view.specs.Readers.{ARRAY, OBJECT}
 use Rattle.adb_write.specs.Canonical.{Item, WrittenItem, Cell, in_place, apart, int_cell, blob_cell, run_cell, trimmed_words, Layout, empty_layout, end_offset, is_equal_item, put_unless, put_cell, write, write_all, payload_with_root, PayloadCounts, layout_counts, passes, trace, trace_all, overflow_of, canonical, or_overflow, written_of, MOST_BYTES, MOST_VALUES}
-use Rattle.adb_write.specs.Size.{size_of, entry_count, entries_of, entries_of_all, value_count}
+use Rattle.adb_write.specs.Size.{size_of, entries_of, entries_of_all, value_count}
 use Rattle.adb_write.specs.Writing.{empty_writing, calls}
 use Rattle.adb_write.proofs.RoundTrip.{Grows-here, stored-grows, put_run-grows, write_all-grows, write_all-made, words_stay}
 use Rattle.adb_write.proofs.Limits.{Ends, calls-end, start_fine}
@@ -46,7 +46,7 @@ pub run_entries : (kind : ℕ) (ws : List ℕ) → entries_in (run_cell kind ws)
 run_entries kind [] = refl
 run_entries kind (w ∷ ws) = refl
 
-pub words_count : (vs : Plains) (out : Layout) → length (write_all vs out).0 ≡ entry_count vs
+pub words_count : (vs : Plains) (out : Layout) → length (write_all vs out).0 ≡ count_of vs
 unfolding write
 words_count none out = refl
 words_count (more v vs) out = ap suc (words_count vs (write v out).1)

@@ -1,12 +1,12 @@
 -- A walk over a payload that was written visits its root and every entry of its lists.
 use Rattle.std.proofs.Common.{◌≡◌, ℕ, suc, ◌+◌, ◌≤◌, List, [], ◌∷◌, length, Result, refl, ap, ◌∙◌, arith}
 use Rattle.std.proofs.lemmas.List.{length-append}
-use Rattle.adb_view.specs.Plain.{Plain, null, int, blob, arr, obj, Plains, none, more, Shape, number, text, hash, array, object, Fields, no_fields, field, IsNormal}
+use Rattle.adb_view.specs.Plain.{Plain, null, int, blob, arr, obj, Plains, none, more, Shape, number, text, hash, array, object, Fields, no_fields, field, IsNormal, count_of}
 use Rattle.adb_view.specs.Readers.{run_of, ARRAY, OBJECT}
 use Rattle.adb_view.specs.Head.{root_of}
 use Rattle.adb_view.specs.Visits.{Visit, visits, field_visits, each_visit, or_empty}
 use Rattle.adb_write.specs.Canonical.{empty_layout, write, canonical, MOST_BYTES}
-use Rattle.adb_write.specs.Size.{size_of, entry_count, entries_of, entries_of_all, value_count}
+use Rattle.adb_write.specs.Size.{size_of, entries_of, entries_of_all, value_count}
 use Rattle.base_core.specs.declared.cause.Cause.{Cause}
 use Rattle.adb_view.specs.Shaped.{Each, HasShape, HaveShapes}
 use Rattle.adb_write.specs.StandsFor.{Holds, HoldAll}
@@ -16,7 +16,7 @@ null_run : (kind : ℕ) (p : List ℕ) (w : ℕ) → w ≡ 0 → or_empty (run_o
 unfolding run_of
 null_run kind p w e = rw e refl
 
-each_visited : (p : List ℕ) (f : ℕ → List Visit) (P : Plain → Type 0) → ((v : Plain) (w : ℕ) → P v → Holds p v w → length (f w) ≡ suc (entries_of v)) → (vs : Plains) (ws : List ℕ) → Each P vs → HoldAll p vs ws → length (each_visit f ws) ≡ entry_count vs + entries_of_all vs
+each_visited : (p : List ℕ) (f : ℕ → List Visit) (P : Plain → Type 0) → ((v : Plain) (w : ℕ) → P v → Holds p v w → length (f w) ≡ suc (entries_of v)) → (vs : Plains) (ws : List ℕ) → Each P vs → HoldAll p vs ws → length (each_visit f ws) ≡ count_of vs + entries_of_all vs
 unfolding entries_of Holds
 each_visited p f P h none [] s a = refl
 each_visited p f P h none (w ∷ ws) s a = absurd a
@@ -59,7 +59,7 @@ mutual
   visited p (object schema fs) (obj vs) w s (ne, ws, is, all) =
       ap (λ (r : Result (List ℕ) Cause). suc (length (field_visits p fs (or_empty r)))) is ∙ ap suc (fields_visited p fs vs ws s all)
 
-  fields_visited : (p : List ℕ) (fs : Fields) (vs : Plains) (ws : List ℕ) → HaveShapes fs vs → HoldAll p vs ws → length (field_visits p fs ws) ≡ entry_count vs + entries_of_all vs
+  fields_visited : (p : List ℕ) (fs : Fields) (vs : Plains) (ws : List ℕ) → HaveShapes fs vs → HoldAll p vs ws → length (field_visits p fs ws) ≡ count_of vs + entries_of_all vs
   fields_visited p no_fields none [] s a = refl
   fields_visited p no_fields none (w ∷ ws) s a = absurd a
   fields_visited p no_fields (more v vs) ws s a = absurd s

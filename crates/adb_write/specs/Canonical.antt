@@ -4,6 +4,7 @@ use Rattle.std.specs.List.{flat_map}
 use Rattle.std.specs.Int.{w8, w16, w32, w64, to_le_bytes}
 use Rattle.adb_view.specs.Plain.{Plain, null, int, blob, arr, obj, Plains, none, more}
 use Rattle.adb_view.specs.Readers.{ARRAY, OBJECT}
+pub use Rattle.adb_view.specs.Visits.{MOST_VALUES}
 
 -- how many bytes lead from n up to the next multiple of align
 abbrev pub gap : ℕ → ℕ → ℕ
@@ -156,9 +157,6 @@ canonical v = payload_with_root (write v empty_layout).0 (write v empty_layout).
 
 abbrev pub MOST_BYTES : ℕ
 MOST_BYTES = 268435455
-
-abbrev pub MOST_VALUES : ℕ
-MOST_VALUES = 4194304
 
 -- the payload's bytes and its values
 abbrev pub PayloadCounts : Type 0

@@ -1,23 +1,19 @@
 -- The size of a value's payload, and the number of its values: the root, and every entry of the
 -- lists.
-use Rattle.std.specs.Prelude.{ℕ, suc, ◌+◌, length}
-use Rattle.adb_view.specs.Plain.{Plain, null, int, blob, arr, obj, Plains, none, more}
+use Rattle.std.specs.Prelude.{ℕ, ◌+◌, length}
+use Rattle.adb_view.specs.Plain.{Plain, null, int, blob, arr, obj, Plains, none, more, count_of}
 use Rattle.adb_write.specs.Canonical.{Layout, canonical}
 
 abbrev pub size_of : Plain → ℕ
 size_of v = length (canonical v)
-
-abbrev pub entry_count : Plains → ℕ
-entry_count none = 0
-entry_count (more v vs) = suc (entry_count vs)
 
 unfoldable mutual
   pub entries_of : Plain → ℕ
   entries_of null = 0
   entries_of (int n) = 0
   entries_of (blob b) = 0
-  entries_of (arr vs) = entry_count vs + entries_of_all vs
-  entries_of (obj vs) = entry_count vs + entries_of_all vs
+  entries_of (arr vs) = count_of vs + entries_of_all vs
+  entries_of (obj vs) = count_of vs + entries_of_all vs
 
   pub entries_of_all : Plains → ℕ
   entries_of_all none = 0

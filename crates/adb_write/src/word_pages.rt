@@ -1,10 +1,14 @@
 //! The locators of what was written, in the order of their keys, so that each is found again.
 //!
-//! They stand in pages of at most 512, so that a new one moves few others. One takes eight bytes,
-//! and a page that was split is at least half full. A page, and the index in it, are guessed first,
-//! and found by halving where the guess fails.
+//! They stand in pages of at most 512, so that a new one moves few others. A page, and the index in
+//! it, are guessed first, and found by halving where the guess fails.
+//!
+//! One takes eight bytes. A page has room for at most 128 more than it holds, and with the others it
+//! holds at least 256; the lists of pages take at most 64 bytes a page, since a list that grows
+//! doubles. So a page takes at most 8 * 128 + 64 bytes beside its locators, which is 4.25 bytes for
+//! each of 256: at most 12.25 bytes a locator, and 1.2 kB where there is one page.
 
-ghost use Rattle.std.specs.Prelude.{◌≡◌, ◌≤◌, ◌<◌, ℕ, List, [], ◌∷◌, ◌++◌, length, take, drop, IfOk, OnOk, OnErr};
+ghost use Rattle.std.specs.Prelude.{◌≡◌, ◌≤◌, ◌<◌, ℕ, List, [], ◌∷◌, ◌++◌, length, take, drop, insert, IfOk, OnOk, OnErr};
 ghost use Rattle.std.specs.List.{concat};
 ghost use Rattle.adb_view.specs.Adb.{payload_of};
 ghost use Rattle.adb_write.specs.Keys.{key_at, key_with, HaveRisingKeys};
@@ -26,6 +30,9 @@ const FULL: usize = 512;
 
 /// How many locators stay in a page that is split.
 const HALF: usize = FULL / 2;
+
+/// How many locators more a page gets room for at a time.
+const ROOM: usize = 128;
 
 /// How far from its likely index in a page an item is looked for first.
 const NEARBY: usize = 12;
@@ -127,7 +134,7 @@ impl WordPages {
             return self.begin(locator);
         }
         let slot = self.make_room(slot)?;
-        self.pages[slot.page].insert(slot.index, locator)?;
+        insert_in_page(&mut self.pages[slot.page], slot.index, locator)?;
         self.firsts.enter(slot.page, slot.index, locator);
         Ok(())
     }
@@ -138,7 +145,7 @@ impl WordPages {
         ensures ok { OnOk result (pages_of self.new ≡ (locator ∷ []) ∷ []) }
         ensures err { OnErr result (pages_of self.new ≡ []) }
     {
-        let mut page = Vec::new(self.alloc);
+        let mut page = Vec::with_capacity(self.alloc, ROOM)?;
         page.push(locator)?;
         self.firsts.add(0, &page)?;
         self.pages.push(page)?;
@@ -176,13 +183,28 @@ impl WordPages {
         ensures ok { OnOk result (pages_of self.new ≡ with_split (pages_of self.old) page) }
         ensures err { OnErr result (pages_of self.new ≡ pages_of self.old) }
     {
-        let mut upper = Vec::with_capacity(self.alloc, FULL)?;
+        let mut upper = Vec::with_capacity(self.alloc, HALF + ROOM)?;
         upper.extend_from_slice(&self.pages[page][HALF..])?;
         self.firsts.add(page + 1, &upper)?;
         self.pages.insert(page + 1, upper)?;
-        self.pages[page].truncate(HALF);
+        let lower = &mut self.pages[page];
+        lower.truncate(HALF);
+        lower.shrink_to(HALF + ROOM);
         Ok(())
     }
+}
+
+/// Lets a locator stand at an index of a page, which grows by little where it has no room.
+fn insert_in_page(page: &mut Vec<u64>, index: usize, locator: u64) -> Result<(), AllocError>
+    requires { index ≤ length page.old.items }
+    ensures ok { OnOk result (page.new.items ≡ insert page.old.items index locator) }
+    ensures err { OnErr result (page.new.items ≡ page.old.items) }
+{
+    if page.len() == page.capacity() {
+        page.reserve_exact(ROOM)?;
+    }
+    page.insert(index, locator)?;
+    Ok(())
 }
 
 /// Whether a locator stands behind the item.

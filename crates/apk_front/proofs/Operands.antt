@@ -1,7 +1,7 @@
 -- Operands one by one.
 use Rattle.std.proofs.Common.{◌≡◌, ℕ, zero, suc, ◌+◌, ◌<◌, ◌≤◌, ◌==◌, Bool, true, false, ◌&&◌, if◌then◌else◌, List, [], ◌∷◌, ◌++◌, length, drop, codes, Option, Some, None, is_some, Result, Ok, refl, sym, ◌∙◌, ap, subst, arith, append_assoc}
 use Rattle.std.specs.List.{list_all, slice_get}
-use Rattle.std.specs.Option.{option_map}
+use Rattle.std.specs.Option.{option_map, option_or}
 use Rattle.std.specs.Prelude.{not, nat_le}
 use Rattle.std.proofs.lemmas.Bool.{and_parts, eq-eqb, leb-true, ne_eqb}
 use Rattle.std.proofs.lemmas.Option.{same_Some}
@@ -25,7 +25,7 @@ use Rattle.command_core.specs.declared.operands.OperandKind.TheVariants.{Any, Nu
 use Rattle.make_info.specs.Reads.{Reads}
 use Rattle.outcome.specs.Commands.{reads_in}
 use Rattle.outcome.specs.Outcome.{just_refusal, just_report, report_unless}
-use Rattle.outcome.specs.Verify.{file_refusal, or_later, sound_lines, verify, verify_refusal}
+use Rattle.outcome.specs.Verify.{file_refusal, sound_lines, verify, verify_refusal}
 use Rattle.outcome.specs.Version.{invalid_line, invalid_lines, order_line, order_report, version_refusal}
 use Rattle.report_core.specs.declared.refusal.Refusal.{Refusal}
 use Rattle.report_core.specs.declared.refusal.Refusal.TheVariants.{VersionBad}
@@ -115,11 +115,11 @@ sound_more os i report file is h =
 
 -- ---- the refusal of verify
 
-or_here : (r later : Option Refusal) → true ≡ is_some r → or_later r later ≡ r
+or_here : (r later : Option Refusal) → true ≡ is_some r → option_or r later ≡ r
 or_here (Some x) later e = refl
 or_here None later e = cc
 
-or_next : (r later : Option Refusal) → false ≡ is_some r → or_later r later ≡ later
+or_next : (r later : Option Refusal) → false ≡ is_some r → option_or r later ≡ later
 or_next (Some x) later e = cc
 or_next None later e = refl
 
@@ -149,11 +149,11 @@ read_none os = record { read = λ k name. None; rest = λ later agree. refl }
 
 -- the operands that are left, where one was read
 read_one : (os : List Operand) (i : ℕ) (o : Operand) (r : Option Refusal) (f : Option (List ℕ)) (later : Reads) → slice_get os i ≡ Some o → r ≡ file_refusal o.place f → later i (without_dot o.text) ≡ f
-    → verify_refusal later i (drop i os) ≡ or_later r (verify_refusal later (i + 1) (drop (i + 1) os))
+    → verify_refusal later i (drop i os) ≡ option_or r (verify_refusal later (i + 1) (drop (i + 1) os))
 read_one os i o r f later at is here =
     ap (verify_refusal later i) (left_at os i o at)
-    ∙ ap (λ (x : Option (List ℕ)). or_later (file_refusal o.place x) (verify_refusal later (i + 1) (drop (i + 1) os))) here
-    ∙ ap (λ (x : Option Refusal). or_later x (verify_refusal later (i + 1) (drop (i + 1) os))) (sym is)
+    ∙ ap (λ (x : Option (List ℕ)). option_or (file_refusal o.place x) (verify_refusal later (i + 1) (drop (i + 1) os))) here
+    ∙ ap (λ (x : Option Refusal). option_or x (verify_refusal later (i + 1) (drop (i + 1) os))) (sym is)
 
 pub read_more : (os : List Operand) (i : ℕ) (o : Operand) (r : Option Refusal) → slice_get os i ≡ Some o → IsReadTo os i → (found : Option (List ℕ)) × (r ≡ file_refusal o.place found) → false ≡ is_some r → IsReadTo os (i + 1)
 read_more os i o r at so (f, is) none = record {
@@ -187,7 +187,7 @@ fine_none [] os = tt
 fine_none (v ∷ old) os = refl
 
 test_one : (v : TreeState) (os : List Operand) (i : ℕ) (o : Operand) (name : List ℕ) (r : Option Refusal) → slice_get os i ≡ Some o → name ≡ without_dot o.text → IsTestOf o name r v
-    → verify_refusal (reads_in (files_of v)) i (drop i os) ≡ or_later r (verify_refusal (reads_in (files_of v)) (i + 1) (drop (i + 1) os))
+    → verify_refusal (reads_in (files_of v)) i (drop i os) ≡ option_or r (verify_refusal (reads_in (files_of v)) (i + 1) (drop (i + 1) os))
 test_one v os i o name r at named is = read_one os i o r (files_of v name) (reads_in (files_of v)) at is (ap (files_of v) (sym named))
 
 pub found_here : (old now : List TreeState) (os : List Operand) (i : ℕ) (o : Operand) (name : List ℕ) (r : Option Refusal) → now ≡ old → slice_get os i ≡ Some o → option_map operand_file (slice_get os i) ≡ Some name

@@ -6,7 +6,7 @@ use Rattle.base_core.specs.Files.{Files}
 use Rattle.base_core.specs.Tree.{TreeState, files_of}
 use Rattle.apk_front.specs.Answers.{IsAnswerTo, LeavesFiles, FailedAt, IsUnplanned, IsOutcomeUnlessMemory}
 use Rattle.outcome.specs.Outcome.{Outcome}
-use Rattle.base_core.specs.Sink.{SinkChange, KeepsCount}
+use Rattle.base_core.specs.Sink.{SinkChange, IsProperUse}
 use Rattle.apk_front.proofs.Printing.{either_failed}
 use Rattle.apk_front.specs.declared.answer.Answer.{Answer}
 use Rattle.apk_front.specs.declared.answer.Answer.TheVariants.{Ok as Good, Refused, TreeFault, OutFault, Memory}
@@ -21,13 +21,13 @@ wanted before after unplanned same cause = elim cause.reason [
   | inr (inr want) ↦ want
 ]
 
-sink_wanted : (o : Outcome) (out err : SinkChange) → IsUnplanned out.before → IsUnplanned err.before → KeepsCount out → KeepsCount err → FailedAt out o.out ⊎ FailedAt err o.err
+sink_wanted : (o : Outcome) (out err : SinkChange) → IsUnplanned out.before → IsUnplanned err.before → IsProperUse out → IsProperUse err → FailedAt out o.out ⊎ FailedAt err o.err
     → Rose out.before.wants out.after.wants ⊎ Rose err.before.wants err.after.wants
 sink_wanted o out err calm_out calm_err keeps_out keeps_err (inl failed) = inl (wanted out.before out.after calm_out keeps_out.proper failed.failed)
 sink_wanted o out err calm_out calm_err keeps_out keeps_err (inr failed) = inr (wanted err.before err.after calm_err keeps_err.proper failed.failed)
 
 ends_as_stated : (words : List (List ℕ)) (files : Files) (Leaves : Outcome → Type 0) (before after : Counts) (answer : Answer) (out err : SinkChange)
-    → IsAnswerTo words files Leaves (HasCause before after) answer out err → after.misuses ≡ before.misuses → KeepsCount out → KeepsCount err
+    → IsAnswerTo words files Leaves (HasCause before after) answer out err → after.misuses ≡ before.misuses → IsProperUse out → IsProperUse err
     → IsUnplanned before → IsUnplanned out.before → IsUnplanned err.before
     → IsOutcomeUnlessMemory words files Leaves answer before after out err
 ends_as_stated words files Leaves before after Good out err stated same keeps_out keeps_err calm calm_out calm_err = stated
@@ -39,7 +39,7 @@ ends_as_stated words files Leaves before after Memory out err fault same keeps_o
 pub ends_unless_memory : (Room : TreeState → Type 0) (words : List (List ℕ)) (old now : List TreeState) (before after : Counts) (answer : Answer) (out err : SinkChange)
     → IfObservable old (λ v. IsAnswerTo words (files_of v) (LeavesFiles now) (HasCause before after) answer out err)
     → IfObservable old (λ v. Room v → after.misuses ≡ before.misuses)
-    → KeepsCount out → KeepsCount err
+    → IsProperUse out → IsProperUse err
     → IfObservable old (λ v. Room v → IsUnplanned before → IsUnplanned out.before → IsUnplanned err.before
     → IsOutcomeUnlessMemory words (files_of v) (LeavesFiles now) answer before after out err)
 ends_unless_memory Room words [] now before after answer out err stated proper keeps_out keeps_err = tt

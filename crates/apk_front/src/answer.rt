@@ -4,7 +4,7 @@ ghost use Rattle.apk_front.specs.Answers.{GetsLine};
 ghost use Rattle.apk_front.specs.Status.{status_of};
 ghost use Rattle.apk_front.specs.Verdicts.{IsPrinted, IsRefusalPrinted, IsShown, as_outcome};
 ghost use Rattle.base_core.specs.Files.{Files};
-ghost use Rattle.base_core.specs.Sink.{sink_change, KeepsCount};
+ghost use Rattle.base_core.specs.Sink.{sink_change, IsProperUse};
 ghost use Rattle.base_core.specs.Write.{Writes};
 ghost use Rattle.outcome.specs.Outcome.{just_refusal, just_report};
 
@@ -86,8 +86,8 @@ pub(crate) fn show<O: Sink, E: Sink>(
     ensures shown { IsShown judged result
         (sink_change O.bytes O.counts out.old out.new)
         (sink_change E.bytes E.counts err.old err.new) }
-    ensures out_counts { KeepsCount (sink_change O.bytes O.counts out.old out.new) }
-    ensures err_counts { KeepsCount (sink_change E.bytes E.counts err.old err.new) }
+    ensures out_counts { IsProperUse (sink_change O.bytes O.counts out.old out.new) }
+    ensures err_counts { IsProperUse (sink_change E.bytes E.counts err.old err.new) }
 {
     match judged {
         Ok(verdict) => print_verdict(verdict, out, err),
@@ -100,8 +100,8 @@ fn print_fault<O: Sink, E: Sink>(fault: TreeFault, _out: &mut O, err: &mut E) ->
     ensures shown { IsShown (Err fault) result
         (sink_change O.bytes O.counts _out.old _out.new)
         (sink_change E.bytes E.counts err.old err.new) }
-    ensures out_counts { KeepsCount (sink_change O.bytes O.counts _out.old _out.new) }
-    ensures err_counts { KeepsCount (sink_change E.bytes E.counts err.old err.new) }
+    ensures out_counts { IsProperUse (sink_change O.bytes O.counts _out.old _out.new) }
+    ensures err_counts { IsProperUse (sink_change E.bytes E.counts err.old err.new) }
 {
     match fault {
         TreeFault::Disk => {
@@ -120,8 +120,8 @@ fn print_verdict<O: Sink, E: Sink>(verdict: Verdict, out: &mut O, err: &mut E) -
     ensures printed { (files : Files) → IsPrinted (as_outcome files verdict) result
         (sink_change O.bytes O.counts out.old out.new)
         (sink_change E.bytes E.counts err.old err.new) }
-    ensures out_counts { KeepsCount (sink_change O.bytes O.counts out.old out.new) }
-    ensures err_counts { KeepsCount (sink_change E.bytes E.counts err.old err.new) }
+    ensures out_counts { IsProperUse (sink_change O.bytes O.counts out.old out.new) }
+    ensures err_counts { IsProperUse (sink_change E.bytes E.counts err.old err.new) }
 {
     counts_of_calls_in_a_row_join();
     match print_report(verdict.report.as_bytes(), out) {
@@ -145,7 +145,7 @@ fn print_report<O: Sink>(bytes: &[u8], out: &mut O) -> Result<(), SinkFault>
 fn print_refusal<E: Sink>(refusal: Option<Refusal>, err: &mut E) -> Answer
     ensures printed { IsRefusalPrinted refusal result
         (sink_change E.bytes E.counts err.old err.new) }
-    ensures counts { KeepsCount (sink_change E.bytes E.counts err.old err.new) }
+    ensures counts { IsProperUse (sink_change E.bytes E.counts err.old err.new) }
 {
     let Some(refusal) = refusal else {
         return Answer::Ok;
@@ -159,7 +159,7 @@ fn print_refusal<E: Sink>(refusal: Option<Refusal>, err: &mut E) -> Answer
 // Prints a fault's line; a fault of the sink changes nothing in the answer.
 fn print_line<E: Sink>(line: &[u8], err: &mut E)
     ensures line { GetsLine (sink_change E.bytes E.counts err.old err.new) line.now }
-    ensures counts { KeepsCount (sink_change E.bytes E.counts err.old err.new) }
+    ensures counts { IsProperUse (sink_change E.bytes E.counts err.old err.new) }
 {
     let _ = write_all(err, line);
 }

@@ -6,7 +6,7 @@ ghost use Rattle.base_core.specs.Calls.{HasNow, IfObservable};
 ghost use Rattle.base_core.specs.Crash.{IsOrderly, Since};
 ghost use Rattle.base_core.specs.Faults.{GoesOn, HasCause};
 ghost use Rattle.base_core.specs.Files.{no_names};
-ghost use Rattle.base_core.specs.Sink.{sink_change, KeepsCount};
+ghost use Rattle.base_core.specs.Sink.{sink_change, IsProperUse};
 ghost use Rattle.base_core.specs.Tree.{files_of};
 ghost use Rattle.journal_core.specs.Quiet.{IsStill};
 ghost use Rattle.journal_core.specs.Recovery.{RestsOn, intent_name};
@@ -81,8 +81,8 @@ pub fn apk<T: Tree, O: Sink, E: Sink>(
 
     // No count falls, and no sink is misused.
     ensures tree_counts { GoesOn (T.counts tree.old) (T.counts tree.new) }
-    ensures out_counts { KeepsCount (sink_change O.bytes O.counts out.old out.new) }
-    ensures err_counts { KeepsCount (sink_change E.bytes E.counts err.old err.new) }
+    ensures out_counts { IsProperUse (sink_change O.bytes O.counts out.old out.new) }
+    ensures err_counts { IsProperUse (sink_change E.bytes E.counts err.old err.new) }
 
     // Want of memory is answered only where the words name an applet.
     ensures memory { result ≡ Answer.Memory → IsTrue (name_an_applet words.now) }

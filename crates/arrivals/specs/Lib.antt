@@ -1,4 +1,4 @@
--- what the contract of a change will say
+-- what the contracts of this crate's calls say
 pub mod Answered
 pub mod Arrivals
 -- what only inner contracts and proofs use

@@ -22,6 +22,7 @@ pub record OnlyReads {A E : Type 0} (disk_fault : E) (old new : List TreeState)
   pub disk : IsErrOf result disk_fault → HasCause before now
   -- an answer that is no fault of the tree raised neither faults nor wants
   pub kept : OnOk result (IsNoFault before now)
+  -- nor did another error
   pub others : IfErr result (λ fault. (fault ≡ disk_fault → ⊥) → IsNoFault before now)
   -- where the history is observable, no call was a misuse
   pub proper : IfObservable old (λ v. now.misuses ≡ before.misuses)

@@ -11,7 +11,8 @@ use Rattle.db_core.specs.Members.{Listing}
 use Rattle.file_guard.specs.AsListed.{do_entries_agree, is_as_listed}
 use Rattle.change_files.specs.Fate.{Fate, agrees_with_old, aside_name, fate_beside, fate_by, fate_of, gives_way, goes_aside, goes_in, is_as_old, is_guarded}
 use Rattle.change_files.specs.FileChange.{FileChange, coming_owner, is_claimed, old_entry}
-use Rattle.change_files.specs.FilesAfter.{if_aside, if_in, laid_beside, or_beside, path_beside, written_as}
+use Rattle.change_files.specs.FilesAfter.{if_aside, if_in, laid_beside, path_beside, written_as}
+use Rattle.std.specs.Option.{option_or}
 use Rattle.change_files.specs.Touched.{IsNewEntry, IsUsersFile}
 use Rattle.change_files.proofs.Owned.{aside_found, coming_is, nobody_beside}
 use Rattle.change_files.proofs.Untouched.{users_fate}
@@ -56,8 +57,8 @@ pub takes_path : (change : FileChange) (files : Files) (path : List ℕ) (l : Li
 unfolding written_as
 takes_path change files path l comes nobodys =
     let beside : Option Listing = option_and_then (laid_beside change files) (path_beside path) in
-    ap (λ (o : Option Listing). or_beside (option_and_then (λ l. if_in l (fate_of change files l)) o) beside) comes
-    ∙ ap (λ (f : Fate). or_beside (if_in l f) beside) (nobodys_fate change files path l comes nobodys)
+    ap (λ (o : Option Listing). option_or (option_and_then (λ l. if_in l (fate_of change files l)) o) beside) comes
+    ∙ ap (λ (f : Fate). option_or (if_in l f) beside) (nobodys_fate change files path l comes nobodys)
 
 -- ---- it lies beside another
 

@@ -14,7 +14,8 @@ use Rattle.file_owners.specs.Owners.{owner_of_path}
 use Rattle.file_guard.specs.AsListed.{is_as_listed}
 use Rattle.change_files.specs.Fate.{Fate, agrees_with_old, aside_name, fate_beside, fate_by, fate_of, gives_way, goes_aside, goes_in, is_as_old, is_guarded}
 use Rattle.change_files.specs.FileChange.{FileChange, coming_owner, if_it_comes, is_claimed, old_entry, old_listings, owner_listing}
-use Rattle.change_files.specs.FilesAfter.{if_aside, if_in, laid_beside, or_beside, path_beside, written_as, written_in}
+use Rattle.change_files.specs.FilesAfter.{if_aside, if_in, laid_beside, path_beside, written_as, written_in}
+use Rattle.std.specs.Option.{option_or}
 use Rattle.change_files.specs.NamesAfter.{coming_paths}
 use Rattle.change_files.proofs.Lists.{IsOneOf, any_passes, contains_from_one, found_passes, kept_passes, passing_kept, seen_in}
 
@@ -166,7 +167,7 @@ pub record IsWritten (change : FileChange) (files : Files) (name : List ℕ) (l 
   pub comes : coming_owner change l.path ≡ Some l
   pub under : ((name ≡ l.path) × (written_in change files name ≡ Some l)) ⊎ ((name ≡ aside_name l.path) × (laid_beside change files l.path ≡ Some l))
 
-either : (inside beside : Option Listing) (l : Listing) → or_beside inside beside ≡ Some l → (inside ≡ Some l) ⊎ ((inside ≡ None) × (beside ≡ Some l))
+either : (inside beside : Option Listing) (l : Listing) → option_or inside beside ≡ Some l → (inside ≡ Some l) ⊎ ((inside ≡ None) × (beside ≡ Some l))
 either None beside l e = inr (refl, e)
 either (Some m) beside l e = inl e
 
@@ -199,7 +200,7 @@ written_is change files name l e =
 -- nothing goes in, and nothing is laid beside another file under this name
 pub not_written : (change : FileChange) (files : Files) (name : List ℕ) → written_in change files name ≡ None → is_some (option_and_then (laid_beside change files) (path_beside name)) ≡ false → written_as change files name ≡ None
 unfolding written_as
-not_written change files name none beside = ap (λ (o : Option Listing). or_beside o (option_and_then (laid_beside change files) (path_beside name))) none ∙ no_value (option_and_then (laid_beside change files) (path_beside name)) beside
+not_written change files name none beside = ap (λ (o : Option Listing). option_or o (option_and_then (laid_beside change files) (path_beside name))) none ∙ no_value (option_and_then (laid_beside change files) (path_beside name)) beside
   where
     no_value : (o : Option Listing) → is_some o ≡ false → o ≡ None
     no_value None e = refl

@@ -14,11 +14,11 @@ pub record FileChange : Type 0 where
 
 -- ---- before
 
--- the files that the packages before list
+-- the files that the old packages list
 unfoldable pub old_listings : FileChange → List Listing
 old_listings change = member_listings (map staying_member change.old)
 
--- what the packages before say of a path; no two of them list it
+-- what the old packages say of a path; no two of them list it
 unfoldable pub old_entry : FileChange → List ℕ → Option Plain
 old_entry change path =
     option_map (λ l. l.entry) (find (λ l. bytes_eq l.path path) (old_listings change))

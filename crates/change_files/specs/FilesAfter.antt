@@ -1,6 +1,7 @@
 -- The files after a change, name by name.
 use Rattle.std.specs.Prelude.{ℕ, ◌==◌, ◌-◌, Bool, true, false, not, ◌&&◌, if◌then◌else◌, List, [], ◌∷◌, length, take, codes, Option, Some, None, is_some, option_and_then, bytes_eq, nat_eq}
 use Rattle.std.specs.List.{ends_with}
+use Rattle.std.specs.Option.{option_or}
 use Rattle.adb_view.specs.Plain.{Plain}
 use Rattle.base_core.specs.Files.{Files}
 use Rattle.db_core.specs.Members.{Listing}
@@ -37,14 +38,10 @@ abbrev pub path_beside : List ℕ → Option (List ℕ)
 path_beside name =
     if ends_with nat_eq name (codes ".apk-new") then Some (take (length name - 8) name) else None
 
-abbrev pub or_beside : Option Listing → Option Listing → Option Listing
-or_beside None beside = beside
-or_beside (Some l) beside = Some l
-
 -- the file whose contents this name gets
 unfoldable pub written_as : FileChange → Files → List ℕ → Option Listing
 written_as change files name =
-    or_beside (written_in change files name)
+    option_or (written_in change files name)
     (option_and_then (laid_beside change files) (path_beside name))
 
 abbrev pub is_written : FileChange → Files → List ℕ → Bool

@@ -1,4 +1,4 @@
--- what the contract of a change will say
+-- what the contract of `apk` says
 pub mod Chains
 pub mod Database
 pub mod World
@@ -6,9 +6,9 @@ pub mod Repositories
 pub mod Indexes
 pub mod Inputs
 pub mod Candidates
+pub mod Answers
 -- what only inner contracts and proofs use
 pub mod Faults
-pub mod Answers
 pub mod IndexFiles
 pub mod RootFiles
 pub mod Seen

@@ -10,7 +10,8 @@ use Rattle.adb_rules.specs.Reserved.{is_at_or_below, is_reserved}
 use Rattle.base_core.specs.Files.{Files, IsFolderOf}
 use Rattle.base_core.proofs.Rising.{IsIn}
 use Rattle.change_files.specs.FileChange.{FileChange}
-use Rattle.change_files.specs.FilesAfter.{Records, bytes_after, changed_files, database_name, is_removed, laid_beside, or_beside, path_beside, text_database_name, world_name, written_as, written_in}
+use Rattle.change_files.specs.FilesAfter.{Records, bytes_after, changed_files, database_name, is_removed, laid_beside, path_beside, text_database_name, world_name, written_as, written_in}
+use Rattle.std.specs.Option.{option_or}
 use Rattle.change_files.specs.NamesAfter.{coming_paths, counts_as_written, name_change}
 use Rattle.change_files.specs.PlanLists.{first_reserved}
 use Rattle.change_files.specs.Touched.{is_record_name}
@@ -83,7 +84,7 @@ beside_written : (change : FileChange) (files : Files) (name : List ℕ) → is_
 unfolding written_as
 beside_written change files name there = by_both (written_in change files name) (option_and_then (laid_beside change files) (path_beside name)) there
   where
-    by_both : (a b : Option Listing) → is_some b ≡ true → (l : Listing) × (or_beside a b ≡ Some l)
+    by_both : (a b : Option Listing) → is_some b ≡ true → (l : Listing) × (option_or a b ≡ Some l)
     by_both None None e = absurd (true≢false (sym e))
     by_both None (Some l) e = (l, refl)
     by_both (Some l) b e = (l, refl)

@@ -1,3 +1,4 @@
+-- what its laws say
 pub mod Premises
 pub mod Made
 pub mod Leading

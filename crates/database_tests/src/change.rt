@@ -29,7 +29,8 @@ pub fn changed_database(
     changed_over(alloc, file, &fronts, words)
 }
 
-/// The same over the fronts of the packages that come.
+/// The change of the database that these bytes are, or of an empty one, with the fronts of the
+/// packages that come.
 fn changed_over<'a>(
     alloc: Global,
     file: &'a [u8],
@@ -43,6 +44,7 @@ fn changed_over<'a>(
     }
 }
 
+/// The change of a database that was read.
 fn change_of<'a>(
     alloc: Global,
     db: &Db<'a>,

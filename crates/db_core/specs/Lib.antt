@@ -1,8 +1,8 @@
 -- what the contract of `apk` says
 pub mod Members
-pub mod OwnedListings
 pub mod Packages
 -- what only inner contracts and proofs use
+pub mod OwnedListings
 pub mod EntrySeen
 pub mod ListedAt
 pub mod NamePlaces

@@ -13,17 +13,17 @@ pub record NameWithPlace : Type 0 where
   pub name : List ℕ
   pub place : ℕ
 
--- of packages, the first of which has this place
+-- the names of packages, the first of which has this place
 abbrev pub placed_names_from : ℕ → List Plain → List NameWithPlace
 placed_names_from place [] = []
 placed_names_from place (pkg ∷ packages) =
     record { name = package_name pkg; place = place } ∷ placed_names_from (place + 1) packages
 
--- by name
+-- which comes first by its name
 unfoldable pub placed_name_cmp : NameWithPlace → NameWithPlace → Ordering
 placed_name_cmp = on (λ n. n.name) bytes_cmp
 
--- those of packages, in byte order
+-- the names of packages with their places, in byte order of the names
 abbrev pub placed_names_in_order : List Plain → List NameWithPlace
 placed_names_in_order packages = sorted_by placed_name_cmp (placed_names_from 0 packages)
 

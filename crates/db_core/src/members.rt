@@ -26,12 +26,12 @@ pub const MOST_MEMBERS: usize = 65536;
 
 /// A package after the change, and the id of one that comes.
 #[derive(Drop)]
-pub(crate) struct Entry<'a> {
+pub(crate) struct PackageWithId<'a> {
     pub(crate) view: PackageView<'a>,
     pub(crate) id: Option<[u8; 32]>,
 }
 
-impl<'a> Model for Entry<'a> {
+impl<'a> Model for PackageWithId<'a> {
     ghost use Rattle.std.specs.Prelude.{ℕ, List, Option};
     ghost use Rattle.std.specs.Prelude.{◌≡◌, true};
     ghost use Rattle.adb_view.specs.Adb.{payload_of};
@@ -50,7 +50,7 @@ impl<'a> Model for Entry<'a> {
 /// The packages after a change, in byte order of names: those that stay and those that come.
 #[derive(Drop)]
 pub struct Members<'a> {
-    pub(crate) entries: Vec<Entry<'a>>,
+    pub(crate) entries: Vec<PackageWithId<'a>>,
     ghost in_order: { IsRising (map (λ e. member_name (member_by e)) entries.items) },
     ghost few: { length entries.items ≤ MOST_MEMBERS },
     ghost named: { list_all (λ e. lists_names (member_by e).pkg) entries.items ≡ true },
@@ -59,7 +59,7 @@ pub struct Members<'a> {
 }
 
 /// Whether the name of a package comes before another one.
-fn is_before(entry: &Entry<'_>, name: &[u8]) -> bool
+fn is_before(entry: &PackageWithId<'_>, name: &[u8]) -> bool
     ensures { result ≡ precedes (member_name (member_by entry.now)) name.now }
 {
     let order = entry.view.info().name().cmp(&name);
@@ -97,7 +97,7 @@ impl<'a> Members<'a> {
         ensures err { OnErr result (members_of self.new ≡ members_of self.old) }
     {
         let view = db.package(i);
-        self.entries.push(Entry { view, id: None })?;
+        self.entries.push(PackageWithId { view, id: None })?;
         Ok(())
     }
 
@@ -119,7 +119,7 @@ impl<'a> Members<'a> {
         contents.values_are_sound();
         let view = contents.view();
         let id = contents.id();
-        self.entries.push(Entry { view, id: Some(id) })?;
+        self.entries.push(PackageWithId { view, id: Some(id) })?;
         Ok(())
     }
 

@@ -10,7 +10,8 @@ use Rattle.std.specs.Cmp.Lexicographic.{slice_cmp, texts_ties, nat_list_eq_equiv
 use Rattle.std.specs.declared.cmp.Ordering.TheVariants.{Less, Equal, Greater}
 use Rattle.dep_core.specs.Dependency.{Dependency}
 use Rattle.dep_core.specs.Found.{IsByName}
-use Rattle.dep_core.specs.World.{has_name, name_cmp, with_entry}
+use Rattle.dep_core.specs.World.{has_name, with_entry}
+use Rattle.list_order.specs.ByteOrder.{bytes_cmp}
 use Rattle.dep_core.proofs.Worlds.{cmp-equal}
 
 abbrev key_cmp : Bor (List ℕ) → Bor (List ℕ) → Ordering
@@ -25,9 +26,9 @@ pub values-insert : (es : List (Bor (List ℕ) × Dependency)) (k : Bor (List �
 values-insert [] k v n h = refl
 values-insert (e ∷ rest) k v n h =
     values-by k v e rest (insert_entry key_cmp rest k v) (with_entry v (values_of rest)) (key_cmp k e.0) (values-insert rest k v n h.1)
-    ∙ ap (λ o. match_ordering o (v ∷ (e.1 ∷ values_of rest)) (v ∷ values_of rest) (e.1 ∷ with_entry v (values_of rest))) ((λ i. name_cmp (n i) (h.0 i)))
+    ∙ ap (λ o. match_ordering o (v ∷ (e.1 ∷ values_of rest)) (v ∷ values_of rest) (e.1 ∷ with_entry v (values_of rest))) ((λ i. bytes_cmp (n i) (h.0 i)))
 
-by_name-by : (k : Bor (List ℕ)) (v : Dependency) (e : Bor (List ℕ) × Dependency) (rest more : List (Bor (List ℕ) × Dependency)) (o : Ordering) → k.now ≡ v.name → name_cmp k.now e.0.now ≡ o → IsByName (e ∷ rest) → IsByName more → IsByName (match_ordering o ((k, v) ∷ (e ∷ rest)) ((e.0, v) ∷ rest) (e ∷ more))
+by_name-by : (k : Bor (List ℕ)) (v : Dependency) (e : Bor (List ℕ) × Dependency) (rest more : List (Bor (List ℕ) × Dependency)) (o : Ordering) → k.now ≡ v.name → bytes_cmp k.now e.0.now ≡ o → IsByName (e ∷ rest) → IsByName more → IsByName (match_ordering o ((k, v) ∷ (e ∷ rest)) ((e.0, v) ∷ rest) (e ∷ more))
 by_name-by k v e rest more Less n c h m = (n, h)
 by_name-by k v e rest more Equal n c h m = (sym (cmp-equal k.now e.0.now c) ∙ n, h.1)
 by_name-by k v e rest more Greater n c h m = (h.0, m)

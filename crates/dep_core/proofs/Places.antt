@@ -13,11 +13,12 @@ use Rattle.std.proofs.lemmas.List.Sums.{AllPass-from_list_all, list_all-from_All
 use Rattle.std.proofs.lemmas.List.Sorted.{searchable_from_sorted}
 use Rattle.dep_core.specs.Dependency.{Dependency}
 use Rattle.dep_core.specs.DependencyText.{is_dependency}
-use Rattle.dep_core.specs.World.{IsWorld, has_name, is_in_order, name_cmp, with_entry, without_name}
+use Rattle.dep_core.specs.World.{IsWorld, has_name, is_in_order, with_entry, without_name}
+use Rattle.list_order.specs.ByteOrder.{bytes_cmp}
 use Rattle.dep_core.proofs.Worlds.{names_total, is_behind, lt-less, cmp-equal, cmp-back, filter-same}
 
 -- two entries are in order
-pub in_order_at : (w : List Dependency) (i j : ℕ) (d : Dependency) → is_in_order w ≡ true → i < j → j < length w → is_lt (name_cmp (get_or w i d).name (get_or w j d).name) ≡ true
+pub in_order_at : (w : List Dependency) (i j : ℕ) (d : Dependency) → is_in_order w ≡ true → i < j → j < length w → is_lt (bytes_cmp (get_or w i d).name (get_or w j d).name) ≡ true
 in_order_at [] i j d h l m = absurd (omega arith)
 in_order_at (e ∷ rest) i zero d h l m = absurd (omega arith)
 in_order_at (e ∷ rest) zero (suc j) d h l m =
@@ -31,19 +32,19 @@ not_before Equal h = (cc)
 not_before Greater h = (cc)
 
 -- the premise of a binary search
-pub searchable : (w : List Dependency) (name : List ℕ) → is_in_order w ≡ true → IsNonDecreasingBy (λ (e : Dependency). ordering_index (name_cmp e.name name)) w
+pub searchable : (w : List Dependency) (name : List ℕ) → is_in_order w ≡ true → IsNonDecreasingBy (λ (e : Dependency). ordering_index (bytes_cmp e.name name)) w
 searchable w name h =
     searchable_from_sorted names_total (λ (e : Dependency). e.name) w name
-    (λ k d l m. ap is_lt (names_total.antisymm (get_or w (k + 1) d).name (get_or w k d).name) ∙ not_before (name_cmp (get_or w k d).name (get_or w (k + 1) d).name) (in_order_at w k (k + 1) d h (omega arith) m))
+    (λ k d l m. ap is_lt (names_total.antisymm (get_or w (k + 1) d).name (get_or w k d).name) ∙ not_before (bytes_cmp (get_or w k d).name (get_or w (k + 1) d).name) (in_order_at w k (k + 1) d h (omega arith) m))
 
 -- ---- at an entry of the name
 
-before_at : (e : Dependency) (rest : List Dependency) (name : List ℕ) (i : ℕ) (d : Dependency) → is_in_order (e ∷ rest) ≡ true → i < length rest → name_cmp (get_or rest i d).name name ≡ Equal → name_cmp e.name name ≡ Less
+before_at : (e : Dependency) (rest : List Dependency) (name : List ℕ) (i : ℕ) (d : Dependency) → is_in_order (e ∷ rest) ≡ true → i < length rest → bytes_cmp (get_or rest i d).name name ≡ Equal → bytes_cmp e.name name ≡ Less
 before_at e rest name i d h l t =
-    let P : List ℕ → Type 0 = λ n. name_cmp e.name n ≡ Less in
-    subst P (cmp-equal (get_or rest i d).name name t) (lt-less (name_cmp e.name (get_or rest i d).name) (AllPass-from_list_all (is_behind e.name) rest (and_parts (list_all (is_behind e.name) rest) (is_in_order rest) h).0 i d l))
+    let P : List ℕ → Type 0 = λ n. bytes_cmp e.name n ≡ Less in
+    subst P (cmp-equal (get_or rest i d).name name t) (lt-less (bytes_cmp e.name (get_or rest i d).name) (AllPass-from_list_all (is_behind e.name) rest (and_parts (list_all (is_behind e.name) rest) (is_in_order rest) h).0 i d l))
 
-pub with_entry-set : (d : Dependency) (w : List Dependency) (i : ℕ) → is_in_order w ≡ true → i < length w → HoldsAt (λ (e : Dependency). name_cmp e.name d.name ≡ Equal) w i → with_entry d w ≡ set w i d
+pub with_entry-set : (d : Dependency) (w : List Dependency) (i : ℕ) → is_in_order w ≡ true → i < length w → HoldsAt (λ (e : Dependency). bytes_cmp e.name d.name ≡ Equal) w i → with_entry d w ≡ set w i d
 with_entry-set d [] i h l t = absurd (omega arith)
 with_entry-set d (e ∷ rest) zero h l t =
     ap (λ o. match_ordering o (d ∷ (e ∷ rest)) (d ∷ rest) (e ∷ with_entry d rest)) (cmp-back e.name d.name Equal (t d))
@@ -55,29 +56,29 @@ with_entry-set d (e ∷ rest) (suc i) h l t =
 abbrev other : List ℕ → Dependency → Bool
 other name e = not (bytes_eq e.name name)
 
-other-by : (e : Dependency) (name : List ℕ) (o : Ordering) → name_cmp e.name name ≡ o → other name e ≡ not (is_eq o)
+other-by : (e : Dependency) (name : List ℕ) (o : Ordering) → bytes_cmp e.name name ≡ o → other name e ≡ not (is_eq o)
 other-by e name o h = ap not (texts_ties e.name name ∙ ap is_eq h)
 
-pub without-remove : (name : List ℕ) (w : List Dependency) (i : ℕ) → is_in_order w ≡ true → i < length w → HoldsAt (λ (e : Dependency). name_cmp e.name name ≡ Equal) w i → without_name name w ≡ remove w i
+pub without-remove : (name : List ℕ) (w : List Dependency) (i : ℕ) → is_in_order w ≡ true → i < length w → HoldsAt (λ (e : Dependency). bytes_cmp e.name name ≡ Equal) w i → without_name name w ≡ remove w i
 without-remove name [] i h l t = absurd (omega arith)
 without-remove name (e ∷ rest) zero h l t =
     let P : List ℕ → Type 0 = λ n. list_all (is_behind n) rest ≡ true in
     let behind : list_all (is_behind name) rest ≡ true =
     subst P (cmp-equal e.name name (t e)) (and_parts (list_all (is_behind e.name) rest) (is_in_order rest) h).0 in
     ap (λ b. cond b (e ∷ without_name name rest) (without_name name rest)) (other-by e name Equal (t e))
-    ∙ filter-same (other name) rest (list_all-from_AllPass (other name) rest (λ k f m. other-by (get_or rest k f) name Greater (cmp-back name (get_or rest k f).name Less (lt-less (name_cmp name (get_or rest k f).name) (AllPass-from_list_all (is_behind name) rest behind k f m)))))
+    ∙ filter-same (other name) rest (list_all-from_AllPass (other name) rest (λ k f m. other-by (get_or rest k f) name Greater (cmp-back name (get_or rest k f).name Less (lt-less (bytes_cmp name (get_or rest k f).name) (AllPass-from_list_all (is_behind name) rest behind k f m)))))
 without-remove name (e ∷ rest) (suc i) h l t =
     ap (λ b. cond b (e ∷ without_name name rest) (without_name name rest)) (other-by e name Less (before_at e rest name i e h (omega arith) (t e)))
     ∙ ap (λ more. e ∷ more) (without-remove name rest i (and_parts (list_all (is_behind e.name) rest) (is_in_order rest) h).1 (omega arith) t)
 
-pub has_name-at : (name : List ℕ) (w : List Dependency) (i : ℕ) → i < length w → HoldsAt (λ (e : Dependency). name_cmp e.name name ≡ Equal) w i → has_name name w ≡ true
+pub has_name-at : (name : List ℕ) (w : List Dependency) (i : ℕ) → i < length w → HoldsAt (λ (e : Dependency). bytes_cmp e.name name ≡ Equal) w i → has_name name w ≡ true
 has_name-at name [] i l t = absurd (omega arith)
 has_name-at name (e ∷ rest) i l t =
     list_any_at (λ (e' : Dependency). bytes_eq e'.name name) (e ∷ rest) i e l (texts_ties (get_or (e ∷ rest) i e).name name ∙ ap is_eq (t e))
 
 -- ---- between the entries before the name and those behind it
 
-pub with_entry-insert : (d : Dependency) (w : List Dependency) (i : ℕ) → i ≤ length w → IsPartitionPoint (λ (e : Dependency). name_cmp e.name d.name ≡ Less) (λ (e : Dependency). name_cmp e.name d.name ≡ Greater) w i → with_entry d w ≡ insert w i d
+pub with_entry-insert : (d : Dependency) (w : List Dependency) (i : ℕ) → i ≤ length w → IsPartitionPoint (λ (e : Dependency). bytes_cmp e.name d.name ≡ Less) (λ (e : Dependency). bytes_cmp e.name d.name ≡ Greater) w i → with_entry d w ≡ insert w i d
 with_entry-insert d [] zero l p = refl
 with_entry-insert d [] (suc i) l p = absurd (omega arith)
 with_entry-insert d (e ∷ rest) zero l p =
@@ -86,12 +87,12 @@ with_entry-insert d (e ∷ rest) (suc i) l p =
     ap (λ o. match_ordering o (d ∷ (e ∷ rest)) (d ∷ rest) (e ∷ with_entry d rest)) (cmp-back e.name d.name Less (p.0 0 d (omega arith) (omega arith)))
     ∙ ap (λ more. e ∷ more) (with_entry-insert d rest i (omega arith) ((λ k f m n. p.0 (suc k) f (omega arith) (omega arith)), (λ k f m n. p.1 (suc k) f (omega arith) (omega arith))))
 
-others : (name : List ℕ) (w : List Dependency) (i : ℕ) → IsPartitionPoint (λ (e : Dependency). name_cmp e.name name ≡ Less) (λ (e : Dependency). name_cmp e.name name ≡ Greater) w i → list_all (other name) w ≡ true
+others : (name : List ℕ) (w : List Dependency) (i : ℕ) → IsPartitionPoint (λ (e : Dependency). bytes_cmp e.name name ≡ Less) (λ (e : Dependency). bytes_cmp e.name name ≡ Greater) w i → list_all (other name) w ≡ true
 others name w i p =
     list_all-from_AllPass (other name) w
     (λ k f m. ⊎_elim (λ (below : k < i). other-by (get_or w k f) name Less (p.0 k f (omega arith) below)) (λ (above : i ≤ k). other-by (get_or w k f) name Greater (p.1 k f above m)) (cases_lt k i))
 
-pub without-same : (name : List ℕ) (w : List Dependency) (i : ℕ) → IsPartitionPoint (λ (e : Dependency). name_cmp e.name name ≡ Less) (λ (e : Dependency). name_cmp e.name name ≡ Greater) w i → without_name name w ≡ w
+pub without-same : (name : List ℕ) (w : List Dependency) (i : ℕ) → IsPartitionPoint (λ (e : Dependency). bytes_cmp e.name name ≡ Less) (λ (e : Dependency). bytes_cmp e.name name ≡ Greater) w i → without_name name w ≡ w
 without-same name w i p = filter-same (other name) w (others name w i p)
 
 none_by : (name : List ℕ) (w : List Dependency) → list_all (other name) w ≡ true → has_name name w ≡ false
@@ -104,7 +105,7 @@ none_by name (e ∷ rest) h =
     by true n more = (cc)
     by false n more = more
 
-pub has_name-none : (name : List ℕ) (w : List Dependency) (i : ℕ) → IsPartitionPoint (λ (e : Dependency). name_cmp e.name name ≡ Less) (λ (e : Dependency). name_cmp e.name name ≡ Greater) w i → has_name name w ≡ false
+pub has_name-none : (name : List ℕ) (w : List Dependency) (i : ℕ) → IsPartitionPoint (λ (e : Dependency). bytes_cmp e.name name ≡ Less) (λ (e : Dependency). bytes_cmp e.name name ≡ Greater) w i → has_name name w ≡ false
 has_name-none name w i p = none_by name w (others name w i p)
 
 -- ---- what a search of the entries says, where v is the slice of them
@@ -113,11 +114,11 @@ in_order : (w : List Dependency) → IsWorld w → is_in_order w ≡ true
 in_order w h = (and_parts (list_all is_dependency w) (is_in_order w) h).1
 
 abbrev IsPlace : List ℕ → List Dependency → ℕ → Type 0
-IsPlace name w i = (i < length w) × HoldsAt (λ (e : Dependency). name_cmp e.name name ≡ Equal) w i
+IsPlace name w i = (i < length w) × HoldsAt (λ (e : Dependency). bytes_cmp e.name name ≡ Equal) w i
 
 abbrev IsGap : List ℕ → List Dependency → ℕ → Type 0
 IsGap name w i =
-    (i ≤ length w) × (IsNonDecreasingBy (λ (e : Dependency). ordering_index (name_cmp e.name name)) w → IsPartitionPoint (λ (e : Dependency). name_cmp e.name name ≡ Less) (λ (e : Dependency). name_cmp e.name name ≡ Greater) w i)
+    (i ≤ length w) × (IsNonDecreasingBy (λ (e : Dependency). ordering_index (bytes_cmp e.name name)) w → IsPartitionPoint (λ (e : Dependency). bytes_cmp e.name name ≡ Less) (λ (e : Dependency). bytes_cmp e.name name ≡ Greater) w i)
 
 pub del-found : (name : List ℕ) (w v more : List Dependency) (i : ℕ) → v ≡ w → IsWorld w → IsPlace name v i → more ≡ remove w i → (more ≡ without_name name w) × (has_name name w ≡ true)
 del-found name w v more i e h p r =

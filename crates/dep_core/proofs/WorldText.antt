@@ -13,7 +13,8 @@ use Rattle.std.proofs.lemmas.List.Splits.{slice_split_none, slice_split_at}
 use Rattle.version_core.specs.Order.{is_version}
 use Rattle.dep_core.specs.Dependency.{Dependency, is_dep_name, is_name_byte, is_tag_byte}
 use Rattle.dep_core.specs.DependencyText.{IsDependency, dep_text, is_dependency, is_constraint, is_tag_or_none, constraint_text, mark_text, operator_text, tag_text}
-use Rattle.dep_core.specs.World.{IsWorld, has_name, is_blank, is_in_order, is_line_end, lines_of, name_cmp, or_bad_line, with_entry, with_lines, with_new_entry, with_words, words_of, world_of, world_text}
+use Rattle.dep_core.specs.World.{IsWorld, has_name, is_blank, is_in_order, is_line_end, lines_of, or_bad_line, with_entry, with_lines, with_new_entry, with_words, words_of, world_of, world_text}
+use Rattle.list_order.specs.ByteOrder.{bytes_cmp}
 use Rattle.dep_core.proofs.Lines.{is_word}
 use Rattle.dep_core.proofs.Operators.{text-visible}
 use Rattle.dep_core.proofs.Spelled.{read-written}
@@ -98,7 +99,7 @@ last-new (e ∷ w) d rest h =
     let parts : (list_all (is_behind e.name) (w ++ (d ∷ rest)) ≡ true) × (is_in_order (w ++ (d ∷ rest)) ≡ true) =
     and_parts (list_all (is_behind e.name) (w ++ (d ∷ rest))) (is_in_order (w ++ (d ∷ rest))) h in
     let more : (has_name d.name w ≡ false) × (with_entry d w ≡ w ++ (d ∷ [])) = last-new w d rest parts.1 in
-    let before : name_cmp e.name d.name ≡ Less = lt-less (name_cmp e.name d.name) (behind-at (is_behind e.name) w d rest parts.0) in (
+    let before : bytes_cmp e.name d.name ≡ Less = lt-less (bytes_cmp e.name d.name) (behind-at (is_behind e.name) w d rest parts.0) in (
       (ap (λ b. b || has_name d.name w) (texts_ties e.name d.name ∙ ap is_eq before) ∙ more.0),
       (ap (λ o. match_ordering o (d ∷ (e ∷ w)) (d ∷ w) (e ∷ with_entry d w)) (cmp-back e.name d.name Less before) ∙ ap (λ ds. e ∷ ds) more.1),
     )

@@ -13,7 +13,8 @@ use Rattle.std.proofs.lemmas.Bool.{and_parts, and_from, or_parts, not-true, not_
 use Rattle.std.proofs.lemmas.List.Sorted.{IsPermutation-refl, IsPermutation-sym, IsPermutation-trans, IsPermutation-cons, IsPermutation-middle, IsPermutation-append_right}
 use Rattle.dep_core.specs.Dependency.{Dependency}
 use Rattle.dep_core.specs.Reading.{dependency_of}
-use Rattle.dep_core.specs.World.{IsWorld, has_name, lines_of, name_cmp, or_bad_line, with_entry, with_lines, with_new_entry, with_words, words_of, world_of}
+use Rattle.dep_core.specs.World.{IsWorld, has_name, lines_of, or_bad_line, with_entry, with_lines, with_new_entry, with_words, words_of, world_of}
+use Rattle.list_order.specs.ByteOrder.{bytes_cmp}
 use Rattle.dep_core.specs.Entries.{IsFirstBadLine, IsWorldOf, have_different_names, words_in}
 use Rattle.dep_core.proofs.Operators.{some-inj}
 use Rattle.dep_core.proofs.ReadOut.{read-out}
@@ -43,7 +44,7 @@ lines-words (line ∷ lines) k w =
 
 -- ---- an entry of a new name
 
-not-tied : (d e : Dependency) → bytes_eq e.name d.name ≡ false → name_cmp d.name e.name ≡ Equal → false ≡ true
+not-tied : (d e : Dependency) → bytes_eq e.name d.name ≡ false → bytes_cmp d.name e.name ≡ Equal → false ≡ true
 not-tied d e h t = sym h ∙ (texts_ties e.name d.name ∙ ap is_eq (cmp-back d.name e.name Equal t))
 
 or-swap : (a b c : Bool) → (a || (b || c)) ≡ (b || (a || c))
@@ -55,7 +56,7 @@ or-swap false false c = refl
 no_truth : {A : Type 0} → false ≡ true → A
 no_truth h = (cc)
 
-name-by : (d e : Dependency) (rest more : List Dependency) (n : List ℕ) (o : Ordering) → name_cmp d.name e.name ≡ o → bytes_eq e.name d.name ≡ false → has_name n more ≡ (bytes_eq d.name n || has_name n rest) → has_name n (match_ordering o (d ∷ (e ∷ rest)) (d ∷ rest) (e ∷ more)) ≡ (bytes_eq d.name n || has_name n (e ∷ rest))
+name-by : (d e : Dependency) (rest more : List Dependency) (n : List ℕ) (o : Ordering) → bytes_cmp d.name e.name ≡ o → bytes_eq e.name d.name ≡ false → has_name n more ≡ (bytes_eq d.name n || has_name n rest) → has_name n (match_ordering o (d ∷ (e ∷ rest)) (d ∷ rest) (e ∷ more)) ≡ (bytes_eq d.name n || has_name n (e ∷ rest))
 name-by d e rest more n Less t h m = refl
 name-by d e rest more n Equal t h m = no_truth (not-tied d e h t)
 name-by d e rest more n Greater t h m = ap (λ b. bytes_eq e.name n || b) m ∙ or-swap (bytes_eq e.name n) (bytes_eq d.name n) (has_name n rest)
@@ -64,9 +65,9 @@ has_name-with_entry : (d : Dependency) (w : List Dependency) (n : List ℕ) → 
 has_name-with_entry d [] n h = refl
 has_name-with_entry d (e ∷ rest) n h =
     let parts : (bytes_eq e.name d.name ≡ false) × (has_name d.name rest ≡ false) = or_parts (bytes_eq e.name d.name) (has_name d.name rest) h in
-    name-by d e rest (with_entry d rest) n (name_cmp d.name e.name) refl parts.0 (has_name-with_entry d rest n parts.1)
+    name-by d e rest (with_entry d rest) n (bytes_cmp d.name e.name) refl parts.0 (has_name-with_entry d rest n parts.1)
 
-moved-by : (d e : Dependency) (rest more : List Dependency) (o : Ordering) → name_cmp d.name e.name ≡ o → bytes_eq e.name d.name ≡ false → IsPermutation (d ∷ rest) more → IsPermutation (d ∷ (e ∷ rest)) (match_ordering o (d ∷ (e ∷ rest)) (d ∷ rest) (e ∷ more))
+moved-by : (d e : Dependency) (rest more : List Dependency) (o : Ordering) → bytes_cmp d.name e.name ≡ o → bytes_eq e.name d.name ≡ false → IsPermutation (d ∷ rest) more → IsPermutation (d ∷ (e ∷ rest)) (match_ordering o (d ∷ (e ∷ rest)) (d ∷ rest) (e ∷ more))
 moved-by d e rest more Less t h m = IsPermutation-refl (d ∷ (e ∷ rest))
 moved-by d e rest more Equal t h m = no_truth (not-tied d e h t)
 moved-by d e rest more Greater t h m =
@@ -76,7 +77,7 @@ moved : (d : Dependency) (w : List Dependency) → has_name d.name w ≡ false �
 moved d [] h = IsPermutation-refl (d ∷ [])
 moved d (e ∷ rest) h =
     let parts : (bytes_eq e.name d.name ≡ false) × (has_name d.name rest ≡ false) = or_parts (bytes_eq e.name d.name) (has_name d.name rest) h in
-    moved-by d e rest (with_entry d rest) (name_cmp d.name e.name) refl parts.0 (moved d rest parts.1)
+    moved-by d e rest (with_entry d rest) (bytes_cmp d.name e.name) refl parts.0 (moved d rest parts.1)
 
 -- whether each name is new to a world
 abbrev are_new : List Dependency → List Dependency → Bool

@@ -9,11 +9,12 @@ use Rattle.std.specs.declared.cmp.Ordering.TheVariants.{Less, Equal, Greater}
 use Rattle.std.proofs.lemmas.Bool.{and_parts, and_from}
 use Rattle.dep_core.specs.Dependency.{Dependency}
 use Rattle.dep_core.specs.DependencyText.{is_dependency}
-use Rattle.dep_core.specs.World.{IsWorld, is_in_order, name_cmp, with_entry, without_name}
+use Rattle.dep_core.specs.World.{IsWorld, is_in_order, with_entry, without_name}
+use Rattle.list_order.specs.ByteOrder.{bytes_cmp}
 
 -- ---- names
 
-pub names_total : IsTotalOrder name_cmp
+pub names_total : IsTotalOrder bytes_cmp
 names_total = nat_list_cmp_total
 
 pub lt-less : (o : Ordering) → is_lt o ≡ true → o ≡ Less
@@ -21,16 +22,16 @@ lt-less Less h = refl
 lt-less Equal h = (cc)
 lt-less Greater h = (cc)
 
-pub cmp-equal : (a b : List ℕ) → name_cmp a b ≡ Equal → a ≡ b
+pub cmp-equal : (a b : List ℕ) → bytes_cmp a b ≡ Equal → a ≡ b
 cmp-equal a b h = (bytes_decides a b).0 (texts_ties a b ∙ ap is_eq h)
 
-pub cmp-back : (a b : List ℕ) (o : Ordering) → name_cmp a b ≡ o → name_cmp b a ≡ ordering_reverse o
+pub cmp-back : (a b : List ℕ) (o : Ordering) → bytes_cmp a b ≡ o → bytes_cmp b a ≡ ordering_reverse o
 cmp-back a b o h = names_total.antisymm b a ∙ ap ordering_reverse h
 
 -- ---- tests of each entry
 
 abbrev pub is_behind : List ℕ → Dependency → Bool
-is_behind name e = is_lt (name_cmp name e.name)
+is_behind name e = is_lt (bytes_cmp name e.name)
 
 all-by : (P : Dependency → Bool) (d e : Dependency) (rest more : List Dependency) (o : Ordering) → P d ≡ true → list_all P (e ∷ rest) ≡ true → list_all P more ≡ true → list_all P (match_ordering o (d ∷ (e ∷ rest)) (d ∷ rest) (e ∷ more)) ≡ true
 all-by P d e rest more Less pd pw pm = and_from (P d) (list_all P (e ∷ rest)) pd pw
@@ -40,7 +41,7 @@ all-by P d e rest more Greater pd pw pm = and_from (P e) (list_all P more) (and_
 pub all-with_entry : (P : Dependency → Bool) (d : Dependency) (w : List Dependency) → P d ≡ true → list_all P w ≡ true → list_all P (with_entry d w) ≡ true
 all-with_entry P d [] pd pw = and_from (P d) true pd refl
 all-with_entry P d (e ∷ rest) pd pw =
-    all-by P d e rest (with_entry d rest) (name_cmp d.name e.name) pd pw (all-with_entry P d rest pd (and_parts (P e) (list_all P rest) pw).1)
+    all-by P d e rest (with_entry d rest) (bytes_cmp d.name e.name) pd pw (all-with_entry P d rest pd (and_parts (P e) (list_all P rest) pw).1)
 
 all-filter : (P q : Dependency → Bool) (w : List Dependency) → list_all P w ≡ true → list_all P (filter q w) ≡ true
 all-filter P q [] pw = refl
@@ -60,13 +61,13 @@ filter-same q (e ∷ rest) h =
 
 -- ---- order
 
-behind-trans : (a b : List ℕ) (w : List Dependency) → name_cmp a b ≡ Less → list_all (is_behind b) w ≡ true → list_all (is_behind a) w ≡ true
+behind-trans : (a b : List ℕ) (w : List Dependency) → bytes_cmp a b ≡ Less → list_all (is_behind b) w ≡ true → list_all (is_behind a) w ≡ true
 behind-trans a b [] h p = refl
 behind-trans a b (e ∷ rest) h p =
     let parts : (is_behind b e ≡ true) × (list_all (is_behind b) rest ≡ true) = and_parts (is_behind b e) (list_all (is_behind b) rest) p in
-    and_from (is_behind a e) (list_all (is_behind a) rest) (ap is_lt (names_total.trans a b e.name h (lt-less (name_cmp b e.name) parts.0))) (behind-trans a b rest h parts.1)
+    and_from (is_behind a e) (list_all (is_behind a) rest) (ap is_lt (names_total.trans a b e.name h (lt-less (bytes_cmp b e.name) parts.0))) (behind-trans a b rest h parts.1)
 
-order-by : (d e : Dependency) (rest more : List Dependency) (o : Ordering) → name_cmp d.name e.name ≡ o → is_in_order (e ∷ rest) ≡ true → is_in_order more ≡ true → (o ≡ Greater → list_all (is_behind e.name) more ≡ true) → is_in_order (match_ordering o (d ∷ (e ∷ rest)) (d ∷ rest) (e ∷ more)) ≡ true
+order-by : (d e : Dependency) (rest more : List Dependency) (o : Ordering) → bytes_cmp d.name e.name ≡ o → is_in_order (e ∷ rest) ≡ true → is_in_order more ≡ true → (o ≡ Greater → list_all (is_behind e.name) more ≡ true) → is_in_order (match_ordering o (d ∷ (e ∷ rest)) (d ∷ rest) (e ∷ more)) ≡ true
 order-by d e rest more Less h w m b =
     let parts : (list_all (is_behind e.name) rest ≡ true) × (is_in_order rest ≡ true) = and_parts (list_all (is_behind e.name) rest) (is_in_order rest) w in
     and_from (list_all (is_behind d.name) (e ∷ rest)) (is_in_order (e ∷ rest)) (and_from (is_behind d.name e) (list_all (is_behind d.name) rest) (ap is_lt h) (behind-trans d.name e.name rest h parts.0)) w
@@ -80,7 +81,7 @@ order-with_entry : (d : Dependency) (w : List Dependency) → is_in_order w ≡ 
 order-with_entry d [] h = refl
 order-with_entry d (e ∷ rest) h =
     let parts : (list_all (is_behind e.name) rest ≡ true) × (is_in_order rest ≡ true) = and_parts (list_all (is_behind e.name) rest) (is_in_order rest) h in
-    order-by d e rest (with_entry d rest) (name_cmp d.name e.name) refl h (order-with_entry d rest parts.1) (λ g. all-with_entry (is_behind e.name) d rest (ap is_lt (cmp-back d.name e.name Greater g)) parts.0)
+    order-by d e rest (with_entry d rest) (bytes_cmp d.name e.name) refl h (order-with_entry d rest parts.1) (λ g. all-with_entry (is_behind e.name) d rest (ap is_lt (cmp-back d.name e.name Greater g)) parts.0)
 
 order-filter : (q : Dependency → Bool) (w : List Dependency) → is_in_order w ≡ true → is_in_order (filter q w) ≡ true
 order-filter q [] h = refl

@@ -2,22 +2,18 @@
 -- in byte order of the names.
 use Rattle.std.specs.Prelude.{ℕ, ◌+◌, ◌==◌, Bool, true, not, ◌&&◌, ◌||◌, if◌then◌else◌, List, [], ◌∷◌, ◌++◌, length, Option, Some, None, option_and_then, Result, Ok, Err, IsTrue}
 use Rattle.std.specs.List.{filter, list_all, list_any, slice_split}
-use Rattle.std.specs.Ordering.{nat_cmp, is_lt, match_ordering}
-use Rattle.std.specs.Cmp.Lexicographic.{slice_cmp}
+use Rattle.std.specs.Ordering.{is_lt, match_ordering}
 use Rattle.std.specs.Str.{bytes_eq}
-use Rattle.std.specs.declared.cmp.Ordering.{Ordering}
+use Rattle.list_order.specs.ByteOrder.{bytes_cmp}
 use Rattle.dep_core.specs.Dependency.{Dependency}
 use Rattle.dep_core.specs.DependencyText.{dep_text, is_dependency}
 use Rattle.dep_core.specs.Reading.{dependency_of}
-
-abbrev pub name_cmp : List ℕ → List ℕ → Ordering
-name_cmp = slice_cmp nat_cmp
 
 -- whether each name comes before those behind it
 abbrev pub is_in_order : List Dependency → Bool
 is_in_order [] = true
 is_in_order (d ∷ rest) =
-    list_all (λ (e : Dependency). is_lt (name_cmp d.name e.name)) rest && is_in_order rest
+    list_all (λ (e : Dependency). is_lt (bytes_cmp d.name e.name)) rest && is_in_order rest
 
 abbrev pub IsWorld : List Dependency → Type 0
 IsWorld world = IsTrue (list_all is_dependency world && is_in_order world)
@@ -29,7 +25,7 @@ has_name name world = list_any (λ (d : Dependency). bytes_eq d.name name) world
 abbrev pub with_entry : Dependency → List Dependency → List Dependency
 with_entry d [] = d ∷ []
 with_entry d (e ∷ rest) =
-    match_ordering (name_cmp d.name e.name) (d ∷ (e ∷ rest)) (d ∷ rest) (e ∷ with_entry d rest)
+    match_ordering (bytes_cmp d.name e.name) (d ∷ (e ∷ rest)) (d ∷ rest) (e ∷ with_entry d rest)
 
 -- world without the entry of a name
 abbrev pub without_name : List ℕ → List Dependency → List Dependency

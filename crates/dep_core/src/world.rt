@@ -2,7 +2,8 @@
 
 ghost use Rattle.std.specs.Prelude.{◌≡◌, ◌<◌, ◌==◌, Some, length, slice_get, IfOk, IfErr, OnOk, OnErr, IsTrue, [], None, not, if◌then◌else◌};
 ghost use Rattle.dep_core.specs.Meets.{dependency};
-ghost use Rattle.dep_core.specs.World.{IsWorld, has_name, with_entry, without_name, world_of, world_text, name_cmp, with_new_entry, with_words, words_of};
+ghost use Rattle.dep_core.specs.World.{IsWorld, has_name, with_entry, without_name, world_of, world_text, with_new_entry, with_words, words_of};
+ghost use Rattle.list_order.specs.ByteOrder.{bytes_cmp};
 ghost use Rattle.dep_core.specs.Faults.{IsWorldFault};
 ghost use Rattle.dep_core.specs.DependencyText.{is_dependency, IsDependency};
 ghost use Rattle.std.specs.List.Sorted.{IsBinarySearchResult, IsSearchInRange};
@@ -241,7 +242,7 @@ pub fn take_out(entries: &mut Vec<Entry>, name: &[u8]) -> bool
 fn index_of(entries: &[Entry], name: &[u8]) -> Result<usize, usize>
     ensures within { IsSearchInRange result (length entries.now) }
     ensures index { IsBinarySearchResult
-        (λ entry. name_cmp entry.name name.now) entries.now result }
+        (λ entry. bytes_cmp entry.name name.now) entries.now result }
 {
     entries.binary_search_by(|entry| entry.name().cmp(name))
 }

@@ -25,7 +25,8 @@ use Rattle.db_core.specs.Members.{Member, is_place, member_name}
 use Rattle.db_core.proofs.AnyOf.{any_step, past_end}
 use Rattle.file_owners.specs.NamedPlaces.{ArePlacesNamed, ArePlacesOfEach}
 use Rattle.file_owners.specs.Owners.{member_beats, takes_over_if_any}
-use Rattle.file_owners.specs.Replaces.{is_named_by, is_preferred_to, is_replaced_by, names_package, replaced_dependency, takes_over, version_text}
+use Rattle.file_owners.specs.Replaces.{is_named_by, is_preferred_to, is_replaced_by, names_package, takes_over, version_text}
+use Rattle.adb_rules.specs.Dependencies.{dependency_in}
 
 abbrev is_one : {X : Type 0} → Option X → Bool
 is_one None = false
@@ -71,7 +72,7 @@ other_name : (entry y : Plain) → bytes_eq (package_name y) (text_in (entry_in 
 other_name entry y h =
     let name : List ℕ = text_in (entry_in entry 0) in
     ap (λ t. is_version (version_text y) && t)
-    (not_met (replaced_dependency entry) (package_name y) (version_text y)
+    (not_met (dependency_in entry) (package_name y) (version_text y)
     (λ d e. ap (λ n. bytes_eq n (package_name y)) (value_named name (text_in (entry_in entry 1)) (int_in (entry_in entry 2)) d e) ∙ turned (package_name y) name h))
     ∙ none_and (is_version (version_text y))
   where

@@ -7,7 +7,7 @@ use Rattle.adb_fields.specs.Repeated.{entries_at, package_name}
 use Rattle.version_core.specs.Order.{is_version}
 use Rattle.dep_core.specs.Dependency.{Dependency}
 use Rattle.dep_core.specs.Meets.{meets}
-use Rattle.dep_core.specs.ValueReading.{dependency_of_value}
+use Rattle.adb_rules.specs.Dependencies.{dependency_in}
 use Rattle.list_order.specs.ByteOrder.{precedes}
 
 abbrev pub version_text : Plain → List ℕ
@@ -18,15 +18,11 @@ abbrev pub is_replaced_by : Option Dependency → List ℕ → List ℕ → Bool
 is_replaced_by None name version = false
 is_replaced_by (Some d) name version = not d.conflict && meets d name (Some version)
 
-abbrev pub replaced_dependency : Plain → Option Dependency
-replaced_dependency v =
-    dependency_of_value (text_in (entry_in v 0)) (text_in (entry_in v 1)) (int_in (entry_in v 2))
-
 -- an entry of what a package replaces names y: it is positive, and met by y's own name and version
 abbrev pub is_named_by : Plain → Plain → Bool
 is_named_by entry y =
     is_version (version_text y)
-    && is_replaced_by (replaced_dependency entry) (package_name y) (version_text y)
+    && is_replaced_by (dependency_in entry) (package_name y) (version_text y)
 
 -- x names y: an entry of what x replaces does
 unfoldable pub names_package : Plain → Plain → Bool

@@ -2,7 +2,8 @@
 
 ghost use Rattle.std.specs.Prelude.{◌≡◌};
 ghost use Rattle.adb_schema.specs.Views.{dependency_value, package_value};
-ghost use Rattle.file_owners.specs.Replaces.{is_named_by, is_preferred_to, is_replaced_by, replaced_dependency};
+ghost use Rattle.file_owners.specs.Replaces.{is_named_by, is_preferred_to, is_replaced_by};
+ghost use Rattle.adb_rules.specs.Dependencies.{dependency_in};
 
 use adb_schema::{DepView, PackageView};
 use dep_core::dep_of;
@@ -11,7 +12,7 @@ use version_core::Version;
 /// Whether a dependency is positive, and met by a name and a version.
 fn is_replaced(dep: &DepView<'_>, name: &[u8], version: &Version<'_>) -> bool
     ensures { result
-        ≡ is_replaced_by (replaced_dependency (dependency_value dep.now)) name.now version.now }
+        ≡ is_replaced_by (dependency_in (dependency_value dep.now)) name.now version.now }
 {
     match dep_of(dep.name(), dep.version(), dep.matching()) {
         Some(dep) => !dep.conflict && dep.met_by(name, Some(version)),

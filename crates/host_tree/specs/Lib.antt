@@ -1,1 +1,2 @@
+-- what the contracts of this crate's calls say
 pub mod Host

@@ -22,17 +22,24 @@ pub record IsWritten (place : List ℕ) (file : File) (start v : TreeState) : Ty
 -- all waits: the intent as number 0, beside these files, which have neither it nor one under its
 -- name; and the files of its writes
 pub record IsReady (intent : Intent) (base : Files) (made : ℕ) (v : TreeState) : Type 0 where
+  -- no intent stands under its name
   pub absent : v.names intent_name ≡ None
+  -- the files beside it have none under the name where it waits
   pub none_waits : base (stage_name 0) ≡ None
+  -- under all other names they are what is read
   pub reads : (q : List ℕ) → q ≢ stage_name 0 → files_of v q ≡ base q
+  -- these bytes are the intent
   pub bytes : List ℕ
   pub spells : read_intent bytes ≡ Some intent
+  -- the file that waits under its name holds it, is synced, and was made since then
   pub number : ℕ
   pub later : made ≤ number
   pub there : v.names (stage_name 0) ≡ Some number
   pub holds : v.files number ≡ synced_file bytes
+  -- each file that waits for a write is synced; the writes are numbered from 1
   pub synced : (k n : ℕ) → 1 ≤ k → k < 1 + length intent.writes → v.names (stage_name k) ≡ Some n
       → (v.files n).synced ≡ true
+  -- its writes can be numbered, and its actions leave the intent and the stage alone
   pub few : length intent.writes < 2 ^ 63
   pub free : HasFreeNames intent
 

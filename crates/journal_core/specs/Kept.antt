@@ -12,8 +12,8 @@ use Rattle.journal_intent.specs.FreeNames.{IsNoneOf}
 abbrev pub KeepsFilesBut : (List ℕ → Type 0) → TreeState → TreeState → Type 0
 KeepsFilesBut these start v = (q : List ℕ) → (these q → ⊥) → files_of v q ≡ files_of start q
 
--- the names of the action behind so many: the name that is removed, or the name that is written and
--- the one under which its file waits
+-- the names of the next action, where so many are done: the name that is removed, or the name that
+-- is written and the one under which its file waits
 abbrev pub IsOfAction : Intent → ℕ → List ℕ → Type 0
 IsOfAction intent acted q =
     (slice_get intent.removals acted ≡ Some q)

@@ -4,7 +4,7 @@ use Rattle.std.specs.Prelude.{AllPairs, get_or}
 use Rattle.std.specs.List.{All}
 use Rattle.std.specs.Str.{bytes_eq}
 use Rattle.std.proofs.lemmas.List.Elements.{All-head, All-tail}
-use Rattle.adb_view.specs.Plain.{Plain, Plains, none, more, text, blob_value, IsNormal, AreNormal}
+use Rattle.adb_view.specs.Plain.{Plain, Plains, none, more, text, blob_value, IsNormal, AreNormal, count_of, text_plains}
 use Rattle.adb_view.specs.Shaped.{Each, IsBlob, HasShape}
 use Rattle.adb_fields.specs.FirstPair.{IsIn}
 use Rattle.adb_fields.specs.Once.{AreDistinctNames, NamesStandOnce}
@@ -15,9 +15,9 @@ use Rattle.adb_tables.specs.Schema.{shape_of}
 use Rattle.adb_tables.specs.Values.{text_in}
 use Rattle.adb_tables.specs.declared.tables.Which.TheVariants as Tables
 use Rattle.adb_tables.specs.declared.tables.Kind.TheVariants as Kinds
-use Rattle.adb_write.specs.Size.{entries_of, entry_count, value_count}
+use Rattle.adb_write.specs.Size.{entries_of, value_count}
 use Rattle.journal_intent.specs.Intent.{AreChangeNames, Intent, intent_in}
-use Rattle.journal_intent.specs.IntentValue.{intent_of_lists, name_plains, value_of_intent}
+use Rattle.journal_intent.specs.IntentValue.{intent_of_lists, value_of_intent}
 use Rattle.journal_intent.proofs.AtName.{same_name}
 
 -- ---- it is read back
@@ -26,9 +26,9 @@ text_of : (bytes : List ℕ) → text_in (blob_value bytes) ≡ bytes
 text_of [] = refl
 text_of (b ∷ bytes) = refl
 
-texts_back : (names : List (List ℕ)) → map text_in (list_of (name_plains names)) ≡ names
+texts_back : (names : List (List ℕ)) → map text_in (list_of (text_plains names)) ≡ names
 texts_back [] = refl
-texts_back (n ∷ ns) = (λ i. text_of n i ∷ map text_in (list_of (name_plains ns))) ∙ ap (λ (l : List (List ℕ)). n ∷ l) (texts_back ns)
+texts_back (n ∷ ns) = (λ i. text_of n i ∷ map text_in (list_of (text_plains ns))) ∙ ap (λ (l : List (List ℕ)). n ∷ l) (texts_back ns)
 
 pub value_back : (removals writes : List (List ℕ)) → intent_in (value_of_intent (intent_of_lists removals writes)) ≡ intent_of_lists removals writes
 value_back [] [] = refl
@@ -43,7 +43,7 @@ unfolding IsNormal
 normal_blob [] = tt
 normal_blob (b ∷ bytes) = λ e. cc
 
-normal_texts : (names : List (List ℕ)) → AreNormal (name_plains names)
+normal_texts : (names : List (List ℕ)) → AreNormal (text_plains names)
 unfolding IsNormal
 normal_texts [] = tt
 normal_texts (n ∷ ns) = (normal_blob n, normal_texts ns)
@@ -68,7 +68,7 @@ blob_shape : (bytes : List ℕ) → IsBlob (blob_value bytes)
 blob_shape [] = tt
 blob_shape (b ∷ bytes) = tt
 
-texts_shape : (names : List (List ℕ)) → Each (HasShape text) (name_plains names)
+texts_shape : (names : List (List ℕ)) → Each (HasShape text) (text_plains names)
 unfolding HasShape
 texts_shape [] = tt
 texts_shape (n ∷ ns) = (blob_shape n, texts_shape ns)
@@ -82,15 +82,15 @@ value_shape (r ∷ rs) (w ∷ ws) = (texts_shape (r ∷ rs), (texts_shape (w ∷
 
 -- ---- its texts keep their rules
 
-each_change : (names : List (List ℕ)) → All (λ name. is_change_name name ≡ true) names → Each IsChangeName (name_plains names)
+each_change : (names : List (List ℕ)) → All (λ name. is_change_name name ≡ true) names → Each IsChangeName (text_plains names)
 each_change [] all = tt
 each_change (n ∷ ns) all = (ap is_change_name (text_of n) ∙ All-head (λ name. is_change_name name ≡ true) n ns all, each_change ns (All-tail (λ name. is_change_name name ≡ true) n ns all))
 
-each_left : (xs ys : List (List ℕ)) → All (λ name. is_change_name name ≡ true) (xs ++ ys) → Each IsChangeName (name_plains xs)
+each_left : (xs ys : List (List ℕ)) → All (λ name. is_change_name name ≡ true) (xs ++ ys) → Each IsChangeName (text_plains xs)
 each_left [] ys all = tt
 each_left (x ∷ xs) ys all = (ap is_change_name (text_of x) ∙ All-head (λ name. is_change_name name ≡ true) x (xs ++ ys) all, each_left xs ys (All-tail (λ name. is_change_name name ≡ true) x (xs ++ ys) all))
 
-each_right : (xs ys : List (List ℕ)) → All (λ name. is_change_name name ≡ true) (xs ++ ys) → Each IsChangeName (name_plains ys)
+each_right : (xs ys : List (List ℕ)) → All (λ name. is_change_name name ≡ true) (xs ++ ys) → Each IsChangeName (text_plains ys)
 each_right [] ys all = each_change ys all
 each_right (x ∷ xs) ys all = each_right xs ys (All-tail (λ name. is_change_name name ≡ true) x (xs ++ ys) all)
 
@@ -120,7 +120,7 @@ value_once removals writes once =
 
 -- ---- how many names it has at most
 
-count_names : (names : List (List ℕ)) → entry_count (name_plains names) ≡ length names
+count_names : (names : List (List ℕ)) → count_of (text_plains names) ≡ length names
 count_names [] = refl
 count_names (n ∷ ns) = ap suc (count_names ns)
 

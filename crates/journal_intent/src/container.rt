@@ -2,11 +2,11 @@
 ghost use Rattle.std.specs.Prelude.{◌≡◌, ◌++◌, ◌<◌, ◌+◌, ◌^◌, ℕ, List, Some, None, length, IfOk, OnOk, IsErrOf};
 ghost use Rattle.adb_schema.specs.declared.read.TheConstants.{INTENT_WORD};
 ghost use Rattle.adb_values.specs.Drafts.{draft_with};
-ghost use Rattle.adb_view.specs.Plain.{arr_value};
+ghost use Rattle.adb_view.specs.Plain.{arr_value, text_plains};
 ghost use Rattle.adb_write.specs.Canonical.{canonical, overflow_of};
 ghost use Rattle.adb_write.specs.File.{file_of};
 ghost use Rattle.journal_intent.specs.Intent.{AreChangeNames, read_intent};
-ghost use Rattle.journal_intent.specs.IntentValue.{intent_of_lists, name_plains, value_of_intent};
+ghost use Rattle.journal_intent.specs.IntentValue.{intent_of_lists, value_of_intent};
 
 use adb_block::what_is_spelled_is_read;
 use adb_fields::no_name_is_repeated_where_each_stands_once;
@@ -73,7 +73,7 @@ fn an_intent_is_read_back()
 /// Writes an array of names.
 fn write_names(draft: &mut Draft, names: &Names) -> Result<(), AllocError>
     ensures { OnOk result
-        (draft.new ≡ draft_with (arr_value (name_plains names.now)) draft.old) }
+        (draft.new ≡ draft_with (arr_value (text_plains names.now)) draft.old) }
 {
     draft.open_list()?;
     for i in 0..names.len() {

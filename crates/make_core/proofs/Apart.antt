@@ -9,7 +9,7 @@ use Rattle.std.proofs.lemmas.Cmp.{nat_list_cmp_total}
 use Rattle.std.proofs.lemmas.List.Concat.{flat_map-cons}
 use Rattle.std.proofs.lemmas.List.{append-nil}
 use Rattle.adb_view.specs.Plain.{Plain}
-use Rattle.adb_fields.specs.Pairs.{Named}
+use Rattle.adb_fields.specs.Pairs.{NameWithPosition}
 use Rattle.adb_fields.specs.FirstPair.{IsFirstOf}
 use Rattle.adb_fields.specs.FirstPair.{IsPair}
 use Rattle.adb_fields.specs.FirstPair.{IsIn}
@@ -119,16 +119,16 @@ in_order_in q names h = right_in q names (all_placed_in q [] names h)
 
 -- ---- nothing stands twice
 
-numbered_in : (n : ℕ) (names : List (List ℕ)) (m : Named) → IsIn m (numbered_from n names) → IsIn m.name names
+numbered_in : (n : ℕ) (names : List (List ℕ)) (m : NameWithPosition) → IsIn m (numbered_from n names) → IsIn m.name names
 numbered_in n [] m h = absurd h
-numbered_in n (x ∷ xs) m (inl is) = inl (ap (λ (k : Named). k.name) is)
+numbered_in n (x ∷ xs) m (inl is) = inl (ap (λ (k : NameWithPosition). k.name) is)
 numbered_in n (x ∷ xs) m (inr h) = inr (numbered_in (n + 1) xs m h)
 
-one_position : (n : ℕ) (names : List (List ℕ)) (a b : Named) → IsApart names → IsIn a (numbered_from n names) → IsIn b (numbered_from n names) → a.name ≡ b.name → a.position ≡ b.position
+one_position : (n : ℕ) (names : List (List ℕ)) (a b : NameWithPosition) → IsApart names → IsIn a (numbered_from n names) → IsIn b (numbered_from n names) → a.name ≡ b.name → a.position ≡ b.position
 one_position n [] a b apart h k e = absurd h
-one_position n (x ∷ xs) a b apart (inl h) (inl k) e = ap (λ (m : Named). m.position) (h ∙ sym k)
-one_position n (x ∷ xs) a b apart (inl h) (inr k) e = absurd (apart.0 b.name (numbered_in (n + 1) xs b k) (sym (ap (λ (m : Named). m.name) h) ∙ e))
-one_position n (x ∷ xs) a b apart (inr h) (inl k) e = absurd (apart.0 a.name (numbered_in (n + 1) xs a h) (sym (ap (λ (m : Named). m.name) k) ∙ sym e))
+one_position n (x ∷ xs) a b apart (inl h) (inl k) e = ap (λ (m : NameWithPosition). m.position) (h ∙ sym k)
+one_position n (x ∷ xs) a b apart (inl h) (inr k) e = absurd (apart.0 b.name (numbered_in (n + 1) xs b k) (sym (ap (λ (m : NameWithPosition). m.name) h) ∙ e))
+one_position n (x ∷ xs) a b apart (inr h) (inl k) e = absurd (apart.0 a.name (numbered_in (n + 1) xs a h) (sym (ap (λ (m : NameWithPosition). m.name) k) ∙ sym e))
 one_position n (x ∷ xs) a b apart (inr h) (inr k) e = one_position (n + 1) xs a b apart.1 h k e
 
 no_pair : (names : List (List ℕ)) (p : _) → IsApart names → IsPair (numbered_from 1 names) p → ⊥

@@ -11,11 +11,11 @@ use Rattle.adb_block.specs.Reading.{Reading, reading_from, reading_of, reading_b
 use Rattle.adb_block.specs.declared.block.BlockKind.{BlockKind}
 use Rattle.adb_view.specs.Head.{head_fault, root_of}
 use Rattle.adb_view.specs.Plain.{Plain, null, IsNormal, Shape, plain_of}
-use Rattle.adb_view.specs.Visits.{visits}
+use Rattle.adb_view.specs.Visits.{visits, MOST_VALUES}
 use Rattle.adb_view.specs.Shaped.{HasShape}
 use Rattle.adb_tables.specs.Schema.{shape_of}
 use Rattle.adb_tables.specs.Values.{value_at}
-use Rattle.adb_tables.specs.Walk.{LIMIT, or_else, shape_fault}
+use Rattle.adb_tables.specs.Walk.{or_else, shape_fault}
 use Rattle.adb_rules.specs.Texts.{text_fault}
 use Rattle.adb_schema.specs.Soundness.{blocks_fault, file_fault, first_payload, payload_behind, payload_fault, payload_in, root_value, schema_fault}
 use Rattle.adb_tables.specs.declared.tables.Which.TheVariants.{Package}
@@ -26,7 +26,7 @@ use Rattle.pkg_core.specs.Whole.{behind_fault, package_fault, package_with_conte
 pub record Values : Type 0 where
   pub normal : (payload : List ℕ) → All (λ b. b < 256) payload → (shape : Shape) (word : ℕ) → IfSome (plain_of payload shape word) IsNormal
   pub shapes : (payload : List ℕ) (shape : Shape) (word : ℕ) → IfSome (plain_of payload shape word) (HasShape shape)
-  pub faultless : (payload : List ℕ) (shape : Shape) (word : ℕ) → (shape_fault payload shape word ≡ None) ↔ ((is_some (plain_of payload shape word) ≡ true) × (length (visits payload shape word) ≤ LIMIT))
+  pub faultless : (payload : List ℕ) (shape : Shape) (word : ℕ) → (shape_fault payload shape word ≡ None) ↔ ((is_some (plain_of payload shape word) ≡ true) × (length (visits payload shape word) ≤ MOST_VALUES))
 
 abbrev AreBytes : List ℕ → Type 0
 AreBytes bytes = All (λ b. b < 256) bytes

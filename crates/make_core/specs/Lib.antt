@@ -1,4 +1,4 @@
--- what the contract of `apk` says
+-- what its laws say
 pub mod FilesBelow
 pub mod IndexOrder
 pub mod Missing

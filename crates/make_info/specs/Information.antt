@@ -66,6 +66,7 @@ lacks_name_or_version values =
 abbrev pub all_items : List OptionValue → List InfoItem
 all_items values = flat_map (λ v. unwrap_or (items_of_option v) []) values
 
+-- the place that offends, or else the rest
 abbrev pub unless_offence :
     Option ℕ → Result (List InfoItem) ℕ → Result (List InfoItem) ℕ
 unless_offence None otherwise = otherwise

@@ -1,4 +1,5 @@
--- Which commands first finish what an earlier change left undone.
+-- Which commands first finish what an earlier change left undone: a list by itself, beside which a law
+-- sets what `Effect` says.
 use Rattle.std.specs.Prelude.{Bool, true, false}
 use Rattle.command_core.specs.declared.command.Applet.{Applet}
 use Rattle.command_core.specs.declared.command.Applet.TheVariants.{Adbdump, Add, Del, Demo, Fix, Info, Mkndx, Mkpkg, Upgrade, Verify, Version}

@@ -1,5 +1,6 @@
 -- `verify`: containers are tested.
 use Rattle.std.specs.Prelude.{ℕ, ◌+◌, List, [], ◌∷◌, ◌++◌, codes, Option, Some, None}
+use Rattle.std.specs.Option.{option_or}
 use Rattle.base_core.specs.Files.{Files}
 use Rattle.base_core.specs.declared.cause.Cause.{Cause}
 use Rattle.make_info.specs.Reads.{Reads}
@@ -20,15 +21,11 @@ abbrev pub file_refusal : ℕ → Option (List ℕ) → Option Refusal
 file_refusal place None = Some (FileMissing place)
 file_refusal place (Some bytes) = test_refusal place (container_fault bytes)
 
-abbrev pub or_later : Option Refusal → Option Refusal → Option Refusal
-or_later (Some refusal) later = Some refusal
-or_later None later = later
-
 -- the first refusal, operand by operand; the first of these operands is the read with this number
 abbrev pub verify_refusal : Reads → ℕ → List Operand → Option Refusal
 verify_refusal read n [] = None
 verify_refusal read n (o ∷ operands) =
-    or_later (file_refusal o.place (read n (without_dot o.text)))
+    option_or (file_refusal o.place (read n (without_dot o.text)))
     (verify_refusal read (n + 1) operands)
 
 -- what is printed for a sound file

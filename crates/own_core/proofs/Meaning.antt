@@ -16,7 +16,8 @@ use Rattle.file_owners.specs.Owners.{claims_in, member_beats, owner_of_path}
 use Rattle.change_files.specs.Fate as Fates
 use Rattle.change_files.specs.Fate.{fate_by, fate_of, goes_aside, goes_in, gives_way, is_guarded}
 use Rattle.change_files.specs.FileChange.{FileChange, coming_owner, if_it_comes, is_claimed, old_entry, old_listings, owner_listing, was_listed}
-use Rattle.change_files.specs.FilesAfter.{if_aside, if_in, is_changed, is_kept, is_left_over, is_removed, is_written, laid_beside, may_stay, or_beside, path_beside, written_as, written_in}
+use Rattle.change_files.specs.FilesAfter.{if_aside, if_in, is_changed, is_kept, is_left_over, is_removed, is_written, laid_beside, may_stay, path_beside, written_as, written_in}
+use Rattle.std.specs.Option.{option_or}
 use Rattle.change_files.specs.NamesAfter.{coming_paths}
 use Rattle.change_files.specs.PlanLists.{aside_of, kept_of, old_paths, removals_of}
 use Rattle.own_core.specs.ClaimEntries.{claim_entry, is_of_coming_owner, old_members}
@@ -190,10 +191,10 @@ pub left_is : (change : FileChange) (files : Files) (q : List ℕ) (b : Bool) �
 unfolding written_as
 left_is change files q b e = go (is_claimed change q) refl
   where
-    go : (c : Bool) → is_claimed change q ≡ c → (not c && not (is_some (or_beside (written_in change files q) (option_and_then (laid_beside change files) (path_beside q))))) ≡ (not c && not b)
+    go : (c : Bool) → is_claimed change q ≡ c → (not c && not (is_some (option_or (written_in change files q) (option_and_then (laid_beside change files) (path_beside q))))) ≡ (not c && not b)
     go true h = refl
     go false h =
-        ap (λ o. not (is_some (or_beside (option_and_then (λ l. if_in l (fate_of change files l)) o) (option_and_then (laid_beside change files) (path_beside q))))) (no_owner change q h)
+        ap (λ o. not (is_some (option_or (option_and_then (λ l. if_in l (fate_of change files l)) o) (option_and_then (laid_beside change files) (path_beside q))))) (no_owner change q h)
         ∙ ap not (sym e)
 
 module _ (change : FileChange) (files : Files) (before : List PathClaim) (up : Names.Rises (paths before))

@@ -1,4 +1,4 @@
--- what the contract of `apk` says
+-- what the contracts of this crate's calls say
 pub mod WritesSeen
 pub mod Planned
 -- what only inner contracts and proofs use

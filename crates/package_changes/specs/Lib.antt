@@ -1,7 +1,7 @@
 -- what the contract of `apk` says
 pub mod Changes
+pub mod Placed
 pub mod Report
 -- what only inner contracts and proofs use
-pub mod Placed
 pub mod Seen
 pub mod SelectedNames

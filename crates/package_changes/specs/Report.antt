@@ -16,7 +16,7 @@ candidate_size c = int_in (entry_in c.info 11)
 
 -- ---- packages that were to go and stay
 
--- a positive dependency of one is met by the other
+-- the first has a positive dependency that the second meets
 abbrev pub needs_candidate : Candidate → Candidate → Bool
 needs_candidate c needed =
     list_any (λ (d : Dependency). not d.conflict && meets_dependency d needed) c.depends

@@ -21,8 +21,3 @@ abbrev pub placed_name_at :
 placed_name_at before pool again selected name =
     placed_name_with before pool again name (position_from (is_package_named name) 0 before)
     (place_beside name selected)
-
--- what was there, or else another one
-abbrev pub or_place : Option ℕ → Option ℕ → Option ℕ
-or_place None other = other
-or_place (Some place) other = Some place

@@ -1,7 +1,8 @@
 //! The selected candidates: each by its place, and all of them by their names.
 ghost use Rattle.package_changes.specs.Changes.{is_selected_named};
 ghost use Rattle.package_changes.specs.Placed.{selected_place};
-ghost use Rattle.package_changes.specs.SelectedNames.{or_place, place_beside};
+ghost use Rattle.package_changes.specs.SelectedNames.{place_beside};
+ghost use Rattle.std.specs.Option.{option_or};
 ghost use Rattle.pool_core.specs.Rank.{candidate_at, is_at};
 ghost use Rattle.pool_core.specs.Values.{candidate_value};
 ghost use Rattle.std.specs.Prelude.{◌≡◌, ℕ, List, [], Some, None, if◌then◌else◌, bytes_eq, option_map, IfOk, OnOk};
@@ -76,7 +77,7 @@ impl<'a> SelectedNames<'a> {
     // Adds the candidate at a place, if there is one and no other has its name.
     fn add(&mut self, pool: &Sealed<'a>, id: CandId) -> Result<(), AllocError>
         ensures { OnOk result ((name : List ℕ) → place_beside name self.new
-            ≡ or_place (place_beside name self.old)
+            ≡ option_or (place_beside name self.old)
             (if is_at pool.now (is_selected_named name) id then Some id else None)) }
     {
         match pool.at(id) {
@@ -91,7 +92,7 @@ impl<'a> SelectedNames<'a> {
     // Adds a name with a place, unless it is there.
     fn add_name(&mut self, name: &'a [u8], place: u32) -> Result<(), AllocError>
         ensures { OnOk result ((other : List ℕ) → place_beside other self.new
-            ≡ or_place (place_beside other self.old)
+            ≡ option_or (place_beside other self.old)
             (if bytes_eq name.entry.now other then Some place else None)) }
     {
         match self.by_name.get(name) {

@@ -37,7 +37,8 @@ pub(crate) fn read_files<T: Tree>(
 ) -> Result<FilesTest, TreeFault>
     // Of each package that is so long and has the bytes that were seen.
     ensures files { IfOk result (λ test. (seen : List ℕ)
-        × IsSeenIn (T.history tree.old) name.now (front_file_len front.now) (front_end front.now) seen
+        × IsSeenIn (T.history tree.old) name.now (front_file_len front.now) (front_end front.now)
+        seen
         × ((pkg : List ℕ) → length pkg ≡ front_file_len front.now
         → HasAt pkg (front_end front.now) seen → AreFilesTested (files_by_blocks
         (expected_contents (value_of_contents contents.now))

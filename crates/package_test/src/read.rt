@@ -105,7 +105,8 @@ fn read_behind<T: Tree>(
 ) -> Result<FilesTest, TreeFault>
     // Of each package with this front that has the bytes that were seen behind it.
     ensures whole { IfOk result (λ test. (seen : List ℕ)
-        × IsSeenIn (T.history tree.old) name.now (front_file_len front.now) (front_end front.now) seen
+        × IsSeenIn (T.history tree.old) name.now (front_file_len front.now) (front_end front.now)
+        seen
         × ((pkg : List ℕ) → IsFrontOf PACKAGE_WORD pkg front.now
         → HasAt pkg (front_end front.now) seen → IsWholeTested pkg test)) }
     ensures payload { IfOk result (HasSoundPayload front.now) }

@@ -1,7 +1,7 @@
 -- what the contract of `apk` says
 pub mod Clash
--- what only inner contracts and proofs use
 pub mod FirstClash
+-- what only inner contracts and proofs use
 pub mod WrittenPaths
 pub mod ClashSeen
 pub mod NearName

@@ -60,7 +60,8 @@ impl<'a> OpenFile<'a> {
             → 0 < file_bytes_left self.entry.file
             → AreTestedSoFar self.entry (so_far ++ piece.new) result }
         ensures room { IfOk result (λ read. IfSome read.1 (λ further.
-            further.at + file_bytes_left further.file ≡ self.entry.at + file_bytes_left self.entry.file)) }
+            further.at + file_bytes_left further.file
+            ≡ self.entry.at + file_bytes_left self.entry.file)) }
         ensures tree { (file_len : ℕ) → self.entry.at + file_bytes_left self.entry.file ≤ file_len
             → ReadsFile name.now file_len DiskFault (T.history tree.old) (T.history tree.new)
             (T.counts tree.old) (T.counts tree.new) result }

@@ -61,7 +61,8 @@ impl<'a> PieceReader<'a> {
         ensures name { name_in_tree result ≡ name.entry.now }
         ensures len { package_len result ≡ front_file_len front.now }
         ensures offset { offset_of result ≡ front_end front.now }
-        ensures files { due_files result ≡ expected_contents (value_of_contents contents.entry.now) }
+        ensures files { due_files result
+            ≡ expected_contents (value_of_contents contents.entry.now) }
         ensures start { StandsBetween result }
         // What is to come are the pieces of the blocks behind the front.
         ensures pieces { (pkg : List ℕ) → IsReading result pkg

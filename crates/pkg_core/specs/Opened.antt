@@ -1,4 +1,5 @@
--- What a package that is read shows, and what a call for its next file answers.
+-- What a package that is read shows, and what a call for its next file answers. `opened_` is said of a
+-- package that is held whole.
 use Rattle.std.specs.Prelude.{◌≡◌, ℕ, ◌+◌, ◌==◌, ◌&&◌, Bool, List, [], ◌∷◌, ◌++◌, drop, Option, Some, None, Result, Ok, Err}
 use Rattle.std.specs.List.{find}
 use Rattle.base_core.specs.declared.cause.Cause.{Cause}

@@ -1,2 +1,2 @@
--- what the contract of a change will say
+-- what the contract of `apk` says
 pub mod RootNames

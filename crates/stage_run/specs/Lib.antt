@@ -1,2 +1,2 @@
--- what the contract of `apk` says, and what the calls of a change say
+-- what the contract of `apk` says
 pub mod StageRun

@@ -18,7 +18,7 @@ use Rattle.tree_memory.proofs.Keeping.{length-contents, kept_set, named_drop, na
 use Rattle.tree_memory.specs.declared.changes.Change.{Change}
 use Rattle.tree_memory.specs.declared.changes.Change.TheVariants.{Append, Sync, Rename, Remove, SyncNames, Stay}
 use Rattle.tree_memory.specs.declared.changes.Stored.{Stored}
-use Rattle.tree_memory.specs.declared.table.Entry.{Entry}
+use Rattle.tree_memory.specs.declared.table.NameAndFile.{NameAndFile}
 
 -- a store's newest state, and the states that it shows
 abbrev pub newest_of : List Change → List Stored → TreeState
@@ -30,11 +30,11 @@ states_of cs files = newest_of cs files ∷ earlier_on (contents_of files) empty
 -- ---- another file under a number
 
 -- a file is now another one
-pub record IsOther (name : List ℕ) (n : ℕ) (es : List Entry) (files more : List Stored) (s : Stored) : Type 0 where
+pub record IsOther (name : List ℕ) (n : ℕ) (es : List NameAndFile) (files more : List Stored) (s : Stored) : Type 0 where
   pub named : lookup es name ≡ Some n
   pub stored : more ≡ set files n s
 
-module _ (name : List ℕ) (n : ℕ) (cs ds : List Change) (es : List Entry) (files more : List Stored) (s : Stored) (store : IsStore cs es files) (m : IsOther name n es files more s) where
+module _ (name : List ℕ) (n : ℕ) (cs ds : List Change) (es : List NameAndFile) (files more : List Stored) (s : Stored) (store : IsStore cs es files) (m : IsOther name n es files more s) where
   abbrev was : TreeState
   was = newest_of cs files
 
@@ -120,7 +120,7 @@ module _ (name : List ℕ) (n : ℕ) (cs ds : List Change) (es : List Entry) (fi
     history_sync is = history_pushed (Sync n) cs ds (contents_of files) (contents_of more) (after_sync name was) (sync_pushed is) sync_step
 
 -- a file that is as it was
-pub store_same : (n : ℕ) (cs : List Change) (es : List Entry) (files more : List Stored) (s d : Stored) → IsStore cs es files → more ≡ set files n s → n < length files → s.bytes.items ≡ d.bytes.items → s.synced ≡ d.synced → d ≡ get_or files n d → IsStore cs es more
+pub store_same : (n : ℕ) (cs : List Change) (es : List NameAndFile) (files more : List Stored) (s d : Stored) → IsStore cs es files → more ≡ set files n s → n < length files → s.bytes.items ≡ d.bytes.items → s.synced ≡ d.synced → d ≡ get_or files n d → IsStore cs es more
 store_same n cs es files more s d store is inside bytes synced at =
     let same_bytes : contents_of more ≡ contents_of files = ap contents_of is ∙ map-set_same (λ (f : Stored). f.bytes.items) files n s d (bytes ∙ ap (λ (f : Stored). f.bytes.items) at) in
     let same_flags = ap (λ (l : List Stored). map (λ (f : Stored). f.synced) l) is ∙ map-set_same (λ (f : Stored). f.synced) files n s d (synced ∙ ap (λ (f : Stored). f.synced) at) in record {
@@ -140,7 +140,7 @@ states_same n cs files more s d is bytes at =
 
 -- ---- names
 
-module _ (cs ds : List Change) (es fs : List Entry) (files : List Stored) (store : IsStore cs es files) where
+module _ (cs ds : List Change) (es fs : List NameAndFile) (files : List Stored) (store : IsStore cs es files) where
   abbrev now : TreeState
   now = newest_of cs files
 
@@ -155,7 +155,7 @@ module _ (cs ds : List Change) (es fs : List Entry) (files : List Stored) (store
     rename_can : can_step (contents_of files) (Rename from to) now ≡ true
     rename_can = ap is_some (store.kept.names from ∙ there)
 
-    moved : from ≢ to → (es₁ : List Entry) → ((q : List ℕ) → lookup es₁ q ≡ put_name (lookup es) to n q) → ((q : List ℕ) → lookup fs q ≡ drop_name (lookup es₁) from q) → (q : List ℕ) → move_name now.names from to n q ≡ lookup fs q
+    moved : from ≢ to → (es₁ : List NameAndFile) → ((q : List ℕ) → lookup es₁ q ≡ put_name (lookup es) to n q) → ((q : List ℕ) → lookup fs q ≡ drop_name (lookup es₁) from q) → (q : List ℕ) → move_name now.names from to n q ≡ lookup fs q
     moved apart es₁ first second q =
         ⊎_elim (λ at_to. put-at (drop_name now.names from) to n q at_to
         ∙ sym (second q ∙ drop_name-off (lookup es₁) from q (λ at_from. apart (sym at_from ∙ at_to)) ∙ first q ∙ put-at (lookup es) to n q at_to))
@@ -174,7 +174,7 @@ module _ (cs ds : List Change) (es fs : List Entry) (files : List Stored) (store
         subst (λ (o : Option ℕ). IsSoundState (move_at from to now o)) (sym (store.kept.names from ∙ there)) (sound_with now (move_name now.names from to n) now_sound (folder_like_number (drop_name now.names from) to 0 n can.folders)
         (named_put (drop_name now.names from) to n (named_drop now.names from (now_sound.named now.names (inl refl))) named))
 
-    pub store_rename : ds ≡ cs ++ Rename from to ∷ [] → IsName to → CanRename from to now → (es₁ : List Entry) → ((q : List ℕ) → lookup es₁ q ≡ put_name (lookup es) to n q) → ((q : List ℕ) → lookup fs q ≡ drop_name (lookup es₁) from q) → IsStore ds fs files
+    pub store_rename : ds ≡ cs ++ Rename from to ∷ [] → IsName to → CanRename from to now → (es₁ : List NameAndFile) → ((q : List ℕ) → lookup es₁ q ≡ put_name (lookup es) to n q) → ((q : List ℕ) → lookup fs q ≡ drop_name (lookup es₁) from q) → IsStore ds fs files
     store_rename is named can es₁ first second =
         store_pushed (Rename from to) cs ds fs (contents_of files) files (after_rename from to now) (pushed_names (Rename from to) is rename_can) refl (renamed_kept (moved can.apart es₁ first second)) (renamed_sound named can) store.sound
 

@@ -18,7 +18,7 @@ use Rattle.base_core.specs.Files.{IsFolderOf, IsFolderLike, NameMap, put_name, d
 use Rattle.tree_memory.specs.Table.{IsTable, lookup, IsStart, IsFit, IsBelow, HasBelowBut}
 use Rattle.tree_memory.proofs.AtName.{name_cases, other_name, off_name, put-at, put-off, drop_name-at, drop_name-off}
 use Rattle.tree_memory.proofs.Placed.{searchable, stands, looked_up}
-use Rattle.tree_memory.specs.declared.table.Entry.{Entry}
+use Rattle.tree_memory.specs.declared.table.NameAndFile.{NameAndFile}
 
 abbrev cmp : List ℕ → List ℕ → Ordering
 cmp = slice_cmp nat_cmp
@@ -77,9 +77,9 @@ less_index Equal = refl
 less_index Greater = refl
 
 -- the names before the folder's name and a slash come first
-pub parted : (es : List Entry) (folder : List ℕ) → IsTable es → IsPartitionedBy (λ (e : Entry). is_lt (cmp e.name (folder ++ 47 ∷ []))) es
+pub parted : (es : List NameAndFile) (folder : List ℕ) → IsTable es → IsPartitionedBy (λ (e : NameAndFile). is_lt (cmp e.name (folder ++ 47 ∷ []))) es
 parted es folder table i j d upto within at =
-    let by = IsPartitionedBy-leb (λ (e : Entry). ordering_index (cmp e.name (slashed folder))) es 0 (searchable es (slashed folder) table) i j d upto within in
+    let by = IsPartitionedBy-leb (λ (e : NameAndFile). ordering_index (cmp e.name (slashed folder))) es 0 (searchable es (slashed folder) table) i j d upto within in
     less_index (cmp (get_or es i d).name (slashed folder)) ∙ by (sym (less_index (cmp (get_or es j d).name (slashed folder))) ∙ at)
 
 is_less : (o : Ordering) → is_lt o ≡ true → o ≡ Less
@@ -92,8 +92,8 @@ not_less Less is = absurd (cc)
 not_less Equal is = λ less. cc
 not_less Greater is = λ less. cc
 
-pub start_from : (es : List Entry) (i : ℕ) (folder : List ℕ) → i ≤ length es
-    → IsPartitionPoint (λ (e : Entry). is_lt (cmp e.name (folder ++ 47 ∷ [])) ≡ true) (λ (e : Entry). is_lt (cmp e.name (folder ++ 47 ∷ [])) ≡ false) es i → IsStart es i folder
+pub start_from : (es : List NameAndFile) (i : ℕ) (folder : List ℕ) → i ≤ length es
+    → IsPartitionPoint (λ (e : NameAndFile). is_lt (cmp e.name (folder ++ 47 ∷ [])) ≡ true) (λ (e : NameAndFile). is_lt (cmp e.name (folder ++ 47 ∷ [])) ≡ false) es i → IsStart es i folder
 start_from es i folder within point = record {
   within = within;
   before = λ k d low high. is_less (cmp (get_or es k d).name (slashed folder)) (point.0 k d low high);
@@ -101,7 +101,7 @@ start_from es i folder within point = record {
 }
 
 -- a name below a folder stands behind the start
-pub behind_start : (es : List Entry) (start k : ℕ) (d : Entry) (folder : List ℕ) → IsStart es start folder → k < length es → IsFolderOf folder (get_or es k d).name → start ≤ k
+pub behind_start : (es : List NameAndFile) (start k : ℕ) (d : NameAndFile) (folder : List ℕ) → IsStart es start folder → k < length es → IsFolderOf folder (get_or es k d).name → start ≤ k
 behind_start es start k d folder is within below =
     ⊎_elim (λ early. absurd (below_from folder (get_or es k d).name below (is.before k d (omega arith) early))) (λ late. late) (cases_lt k start)
 
@@ -111,7 +111,7 @@ greater Equal = λ less equal. absurd (equal refl)
 greater Greater = λ less equal. refl
 
 -- behind an entry that is not below the folder, from the start on, none is
-pub none_behind : (es : List Entry) (start i k : ℕ) (d : Entry) (folder : List ℕ) → IsTable es → IsStart es start folder → start ≤ i → i ≤ k → k < length es → (IsFolderOf folder (get_or es i d).name → ⊥) → IsFolderOf folder (get_or es k d).name → ⊥
+pub none_behind : (es : List NameAndFile) (start i k : ℕ) (d : NameAndFile) (folder : List ℕ) → IsTable es → IsStart es start folder → start ≤ i → i ≤ k → k < length es → (IsFolderOf folder (get_or es i d).name → ⊥) → IsFolderOf folder (get_or es k d).name → ⊥
 none_behind es start i k d folder table is from upto within off below =
     ⊎_elim (λ same. off (subst (λ (n : ℕ). IsFolderOf folder (get_or es n d).name) (sym same) below))
     (λ apart. between below.0 (get_or es k d).name below.1 (table i k d (omega (arith, upto, apart)) within)) (cases_eq i k)
@@ -126,32 +126,32 @@ none_behind es start i k d folder table is from upto within off below =
         let begun = begins_between (slashed folder) rest (get_or es i d).name here (λ g. cc (g, less_whole)) in
         off (begun.0, begun.1 ∙ append_assoc folder (47 ∷ []) begun.0)
 
-pub entry_at : (es : List Entry) (i : ℕ) (e d : Entry) → i < length es → e ≡ get_or es i e → get_or es i d ≡ e
+pub entry_at : (es : List NameAndFile) (i : ℕ) (e d : NameAndFile) → i < length es → e ≡ get_or es i e → get_or es i d ≡ e
 entry_at es i e d within is = get_or_default es i d e within ∙ sym is
 
 -- what is said of the name of an entry, at its place
-pub at_entry : (es : List Entry) (i : ℕ) (e d : Entry) (name : List ℕ) → i < length es → e ≡ get_or es i e → name ≡ e.name → name ≡ (get_or es i d).name
-at_entry es i e d name within is spelt = spelt ∙ ap (λ (x : Entry). x.name) (sym (entry_at es i e d within is))
+pub at_entry : (es : List NameAndFile) (i : ℕ) (e d : NameAndFile) (name : List ℕ) → i < length es → e ≡ get_or es i e → name ≡ e.name → name ≡ (get_or es i d).name
+at_entry es i e d name within is spelt = spelt ∙ ap (λ (x : NameAndFile). x.name) (sym (entry_at es i e d within is))
 
 -- and of those behind it
-pub none_from : (es : List Entry) (start i : ℕ) (folder name : List ℕ) (e : Entry) → IsTable es → IsStart es start folder → start ≤ i → i < length es → e ≡ get_or es i e → name ≡ e.name → (IsFolderOf folder name → ⊥)
-    → (k : ℕ) (d : Entry) → i ≤ k → k < length es → IsFolderOf folder (get_or es k d).name → ⊥
+pub none_from : (es : List NameAndFile) (start i : ℕ) (folder name : List ℕ) (e : NameAndFile) → IsTable es → IsStart es start folder → start ≤ i → i < length es → e ≡ get_or es i e → name ≡ e.name → (IsFolderOf folder name → ⊥)
+    → (k : ℕ) (d : NameAndFile) → i ≤ k → k < length es → IsFolderOf folder (get_or es k d).name → ⊥
 none_from es start i folder name e table is from inside here spelt off k d upto within =
     none_behind es start i k d folder table is from upto within (λ below. off (subst (IsFolderOf folder) (sym (at_entry es i e d name inside here spelt)) below))
 
 -- ---- whether a table has a name below a folder, but one that is left out
 
-pub has_at : (es : List Entry) (i : ℕ) (d : Entry) (folder but : List ℕ) → i < length es → IsFolderOf folder (get_or es i d).name → bytes_eq (get_or es i d).name but ≡ false → HasBelowBut es folder but
+pub has_at : (es : List NameAndFile) (i : ℕ) (d : NameAndFile) (folder but : List ℕ) → i < length es → IsFolderOf folder (get_or es i d).name → bytes_eq (get_or es i d).name but ≡ false → HasBelowBut es folder but
 has_at es i d folder but within below off = ((get_or es i d).name, below, (looked_up es i d within, off))
 
 -- from the start on each entry so far is the one left out
-pub record IsOut (es : List Entry) (start i : ℕ) (but : List ℕ) : Type 0 where
-  pub each : (k : ℕ) (d : Entry) → start ≤ k → k < i → (get_or es k d).name ≡ but
+pub record IsOut (es : List NameAndFile) (start i : ℕ) (but : List ℕ) : Type 0 where
+  pub each : (k : ℕ) (d : NameAndFile) → start ≤ k → k < i → (get_or es k d).name ≡ but
 
-pub has_none : (es : List Entry) (start i : ℕ) (folder but : List ℕ) → IsTable es → IsStart es start folder → start ≤ i → IsOut es start i but
-    → ((k : ℕ) (d : Entry) → i ≤ k → k < length es → IsFolderOf folder (get_or es k d).name → ⊥) → HasBelowBut es folder but → ⊥
+pub has_none : (es : List NameAndFile) (start i : ℕ) (folder but : List ℕ) → IsTable es → IsStart es start folder → start ≤ i → IsOut es start i but
+    → ((k : ℕ) (d : NameAndFile) → i ≤ k → k < length es → IsFolderOf folder (get_or es k d).name → ⊥) → HasBelowBut es folder but → ⊥
 has_none es start i folder but table is from out behind (name, below, (some, off)) =
-    let d : Entry = record { name = name; file = 0 } in
+    let d : NameAndFile = record { name = name; file = 0 } in
     let at = stands es name d some in
     let here : IsFolderOf folder (get_or es at.0 d).name = subst (IsFolderOf folder) (sym at.2) below in
     let later = behind_start es start at.0 d folder is at.1 here in
@@ -160,33 +160,33 @@ has_none es start i folder but table is from out behind (name, below, (some, off
 -- ---- the listing of a folder
 
 -- the names of the entries from one place to another, which are all below the folder
-pub record IsListing (es : List Entry) (start i : ℕ) (folder : List ℕ) (names : List (List ℕ)) : Type 0 where
+pub record IsListing (es : List NameAndFile) (start i : ℕ) (folder : List ℕ) (names : List (List ℕ)) : Type 0 where
   pub long : start + length names ≡ i
-  pub each : (k : ℕ) (d : Entry) → k < length names → get_or names k d.name ≡ (get_or es (start + k) d).name
-  pub below : (k : ℕ) (d : Entry) → k < length names → IsFolderOf folder (get_or es (start + k) d).name
+  pub each : (k : ℕ) (d : NameAndFile) → k < length names → get_or names k d.name ≡ (get_or es (start + k) d).name
+  pub below : (k : ℕ) (d : NameAndFile) → k < length names → IsFolderOf folder (get_or es (start + k) d).name
 
-pub listing_none : (es : List Entry) (start : ℕ) (folder : List ℕ) → IsListing es start start folder []
+pub listing_none : (es : List NameAndFile) (start : ℕ) (folder : List ℕ) → IsListing es start start folder []
 listing_none es start folder = record { long = omega arith; each = λ k d within. absurd (omega arith); below = λ k d within. absurd (omega arith) }
 
-pub listing_more : (es : List Entry) (start i : ℕ) (folder name : List ℕ) (names : List (List ℕ)) (e : Entry) → IsListing es start i folder names → i < length es → e ≡ get_or es i e → name ≡ e.name → IsFolderOf folder e.name
+pub listing_more : (es : List NameAndFile) (start i : ℕ) (folder name : List ℕ) (names : List (List ℕ)) (e : NameAndFile) → IsListing es start i folder names → i < length es → e ≡ get_or es i e → name ≡ e.name → IsFolderOf folder e.name
     → IsListing es start (i + 1) folder (names ++ name ∷ [])
 listing_more es start i folder name names e so_far within is spelt below = record {
   long = omega (arith, so_far.long, length-append names (name ∷ []));
   each = λ k d inside. ⊎_elim (λ lower. get_or-append names (name ∷ []) d.name k lower ∙ so_far.each k d lower)
       (λ upper. let last : k ≡ length names = omega (arith, upper, inside, length-append names (name ∷ [])) in
-      ap (λ n. get_or (names ++ name ∷ []) n d.name) last ∙ get_or-append_seam names name [] d.name ∙ spelt ∙ sym (ap (λ (x : Entry). x.name) (here k d last)))
+      ap (λ n. get_or (names ++ name ∷ []) n d.name) last ∙ get_or-append_seam names name [] d.name ∙ spelt ∙ sym (ap (λ (x : NameAndFile). x.name) (here k d last)))
       (cases_lt k (length names));
   below = λ k d inside. ⊎_elim (λ lower. so_far.below k d lower)
       (λ upper. let last : k ≡ length names = omega (arith, upper, inside, length-append names (name ∷ [])) in
-      subst (λ (x : Entry). IsFolderOf folder x.name) (sym (here k d last)) below)
+      subst (λ (x : NameAndFile). IsFolderOf folder x.name) (sym (here k d last)) below)
       (cases_lt k (length names));
 }
   where
-    here : (k : ℕ) (d : Entry) → k ≡ length names → get_or es (start + k) d ≡ e
+    here : (k : ℕ) (d : NameAndFile) → k ≡ length names → get_or es (start + k) d ≡ e
     here k d last = let same : start + k ≡ i = omega (arith, last, so_far.long) in ap (λ n. get_or es n d) same ∙ entry_at es i e d within is
 
-pub listed_below : (es : List Entry) (start i : ℕ) (folder : List ℕ) (names : List (List ℕ)) → IsTable es → IsStart es start folder → i ≤ length es → IsListing es start i folder names
-    → ((k : ℕ) (d : Entry) → i ≤ k → k < length es → IsFolderOf folder (get_or es k d).name → ⊥) → IsBelow es folder names
+pub listed_below : (es : List NameAndFile) (start i : ℕ) (folder : List ℕ) (names : List (List ℕ)) → IsTable es → IsStart es start folder → i ≤ length es → IsListing es start i folder names
+    → ((k : ℕ) (d : NameAndFile) → i ≤ k → k < length es → IsFolderOf folder (get_or es k d).name → ⊥) → IsBelow es folder names
 listed_below es start i folder names table is upto so_far behind = record { rising = rising; each = λ q. (there q, back q) }
   where
     inside : (k : ℕ) → k < length names → start + k < length es
@@ -194,18 +194,18 @@ listed_below es start i folder names table is upto so_far behind = record { risi
 
     rising : AllPairs (λ a b. slice_cmp nat_cmp a b ≡ Less) names
     rising j k d below within =
-        let e : Entry = record { name = d; file = 0 } in
+        let e : NameAndFile = record { name = d; file = 0 } in
         (λ n. slice_cmp nat_cmp (so_far.each j e (omega (arith, below, within)) n) (so_far.each k e within n)) ∙ table (start + j) (start + k) e (omega (arith, below)) (inside k within)
 
     there : (q : List ℕ) → Contains names q → IsSome (lookup es q) × IsFolderOf folder q
     there q (k, within, at) =
-        let e : Entry = record { name = q; file = 0 } in
+        let e : NameAndFile = record { name = q; file = 0 } in
         let same : (get_or es (start + k) e).name ≡ q = sym (so_far.each k e within) ∙ at in
         (subst (λ (n : List ℕ). IsSome (lookup es n)) same (looked_up es (start + k) e (inside k within)), subst (IsFolderOf folder) same (so_far.below k e within))
 
     back : (q : List ℕ) → IsSome (lookup es q) × IsFolderOf folder q → Contains names q
     back q (some, below) =
-        let e : Entry = record { name = q; file = 0 } in
+        let e : NameAndFile = record { name = q; file = 0 } in
         let at = stands es q e some in
         let here : IsFolderOf folder (get_or es at.0 e).name = subst (IsFolderOf folder) (sym at.2) below in
         let from = behind_start es start at.0 e folder is at.1 here in
@@ -271,7 +271,7 @@ put_anyway names name n q = by (bytes_eq q name) (names q)
     by true r = refl
     by false r = refl
 
-module _ (names : NameMap) (es : List Entry) (same : (q : List ℕ) → names q ≡ lookup es q) where
+module _ (names : NameMap) (es : List NameAndFile) (same : (q : List ℕ) → names q ≡ lookup es q) where
   pub fits_moved : (from to : List ℕ) (n : ℕ) → IsFolderLike names → IsFit es to from → IsFolderLike (put_name (drop_name names from) to n)
   fits_moved from to n folders fit =
       folder_like_put (drop_name names from) to n (folder_like_fewer names (drop_name names from) (fewer_dropped names from) folders)

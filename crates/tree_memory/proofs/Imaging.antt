@@ -21,26 +21,26 @@ use Rattle.tree_memory.proofs.Placed.{apart, lookup_named, lookup_off, lookup_in
 use Rattle.tree_memory.proofs.Folders.{entry_at}
 use Rattle.tree_memory.specs.declared.changes.Change.{Change}
 use Rattle.tree_memory.specs.declared.changes.Stored.{Stored}
-use Rattle.tree_memory.specs.declared.table.Entry.{Entry}
+use Rattle.tree_memory.specs.declared.table.NameAndFile.{NameAndFile}
 
 -- ---- the names so far, and the next one
 
-absent_so_far : (es : List Entry) (i : ℕ) (e : Entry) → IsTable es → i < length es → e ≡ get_or es i e → lookup (take i es) e.name ≡ None
+absent_so_far : (es : List NameAndFile) (i : ℕ) (e : NameAndFile) → IsTable es → i < length es → e ≡ get_or es i e → lookup (take i es) e.name ≡ None
 absent_so_far es i e table within is = lookup_off (take i es) e.name e (λ j below same.
     let lower : j < i = omega (arith, below, length-take i es) in
-    apart es table j i e lower within (ap (λ (x : Entry). x.name) (sym (get_or-take i es j e lower)) ∙ same ∙ ap (λ (x : Entry). x.name) is))
+    apart es table j i e lower within (ap (λ (x : NameAndFile). x.name) (sym (get_or-take i es j e lower)) ∙ same ∙ ap (λ (x : NameAndFile). x.name) is))
 
-lookup_push : (es : List Entry) (e : Entry) → lookup es e.name ≡ None → (q : List ℕ) → lookup (es ++ e ∷ []) q ≡ put_name (lookup es) e.name e.file q
+lookup_push : (es : List NameAndFile) (e : NameAndFile) → lookup es e.name ≡ None → (q : List ℕ) → lookup (es ++ e ∷ []) q ≡ put_name (lookup es) e.name e.file q
 lookup_push es e none q =
-    ap (λ (l : List Entry). lookup l q) (sym (ap (λ (l : List Entry). l ++ e ∷ drop (length es) es) (take_all (length es) es (omega arith)) ∙ ap (λ (l : List Entry). es ++ e ∷ l) (drop_all (length es) es (omega arith))))
+    ap (λ (l : List NameAndFile). lookup l q) (sym (ap (λ (l : List NameAndFile). l ++ e ∷ drop (length es) es) (take_all (length es) es (omega arith)) ∙ ap (λ (l : List NameAndFile). es ++ e ∷ l) (drop_all (length es) es (omega arith))))
     ∙ lookup_insert es (length es) e none q
 
-next_name : (es : List Entry) (i : ℕ) (e : Entry) → IsTable es → i < length es → e ≡ get_or es i e → (q : List ℕ) → lookup (take (i + 1) es) q ≡ put_name (lookup (take i es)) e.name e.file q
+next_name : (es : List NameAndFile) (i : ℕ) (e : NameAndFile) → IsTable es → i < length es → e ≡ get_or es i e → (q : List ℕ) → lookup (take (i + 1) es) q ≡ put_name (lookup (take i es)) e.name e.file q
 next_name es i e table within is q =
-    ap (λ (l : List Entry). lookup l q) (take_more es i e within ∙ ap (λ (x : Entry). take i es ++ x ∷ []) (sym is))
+    ap (λ (l : List NameAndFile). lookup l q) (take_more es i e within ∙ ap (λ (x : NameAndFile). take i es ++ x ∷ []) (sym is))
     ∙ lookup_push (take i es) e (absent_so_far es i e table within is) q
 
-lookup_take : (es : List Entry) (i : ℕ) (q : List ℕ) → IsSome (lookup (take i es) q) → IsSome (lookup es q)
+lookup_take : (es : List NameAndFile) (i : ℕ) (q : List ℕ) → IsSome (lookup (take i es) q) → IsSome (lookup es q)
 lookup_take [] zero q some = some
 lookup_take [] (suc i) q some = some
 lookup_take (e ∷ es) zero q some = absurd (cc (some))
@@ -53,15 +53,15 @@ lookup_take (e ∷ es) (suc i) q some = by (bytes_eq q e.name) (lookup_take es i
 -- ---- the tree so far
 
 -- it has the files of the first names, as the crash leaves them, all synced under one map
-pub record IsSoFar (v : TreeState) (way : ℕ) (es : List Entry) (i : ℕ) (w : TreeState) : Type 0 where
+pub record IsSoFar (v : TreeState) (way : ℕ) (es : List NameAndFile) (i : ℕ) (w : TreeState) : Type 0 where
   pub files : (q : List ℕ) → files_of w q ≡ option_map (λ n. crash_bytes way (v.files n)) (lookup (take i es) q)
   pub one_map : w.older ≡ []
   pub synced : (q : List ℕ) (n : ℕ) → w.names q ≡ Some n → (w.files n).synced ≡ true
 
-pub so_far_none : (v : TreeState) (way : ℕ) (es : List Entry) (w : TreeState) → w ≡ empty_state → IsSoFar v way es 0 w
+pub so_far_none : (v : TreeState) (way : ℕ) (es : List NameAndFile) (w : TreeState) → w ≡ empty_state → IsSoFar v way es 0 w
 so_far_none v way es w is = subst (IsSoFar v way es 0) (sym is) (record { files = λ q. refl; one_map = refl; synced = λ q n at. absurd (cc (at)) })
 
-module _ (v : TreeState) (way : ℕ) (es : List Entry) (table : IsTable es) (i : ℕ) (w : TreeState) (so_far : IsSoFar v way es i w) where
+module _ (v : TreeState) (way : ℕ) (es : List NameAndFile) (table : IsTable es) (i : ℕ) (w : TreeState) (so_far : IsSoFar v way es i w) where
   present : (q : List ℕ) → IsSome (w.names q) → IsSome (lookup (take i es) q)
   present q = by (w.names q) (lookup (take i es) q) (so_far.files q)
     where
@@ -70,14 +70,14 @@ module _ (v : TreeState) (way : ℕ) (es : List Entry) (table : IsTable es) (i :
       by (Some n) None is some = absurd (cc (is))
       by (Some n) (Some m) is some = refl
 
-  module _ (e : Entry) (within : i < length es) (here : e ≡ get_or es i e) where
+  module _ (e : NameAndFile) (within : i < length es) (here : e ≡ get_or es i e) where
     -- the next name fits
     pub can_next : (map : NameMap) → IsFolderLike map → ((q : List ℕ) → map q ≡ lookup es q) → CanPut e.name w
     can_next map folders same = record { folders = λ p q folder has_p has_q. folders p q folder (there p has_p) (there q has_q) }
       where
         there : (q : List ℕ) → IsSome (put_name w.names e.name w.made q) → IsSome (map q)
         there q some = ⊎_elim
-            (λ is. subst IsSome (sym (same q)) (subst (λ (n : List ℕ). IsSome (lookup es n)) (ap (λ (x : Entry). x.name) (sym here) ∙ sym is) (looked_up es i e within)))
+            (λ is. subst IsSome (sym (same q)) (subst (λ (n : List ℕ). IsSome (lookup es n)) (ap (λ (x : NameAndFile). x.name) (sym here) ∙ sym is) (looked_up es i e within)))
             (λ off. subst IsSome (sym (same q)) (lookup_take es i q (present q (subst IsSome (put-off w.names e.name w.made q (off_name q e.name off)) some))))
             (name_cases q e.name)
 
@@ -109,13 +109,13 @@ module _ (v : TreeState) (way : ℕ) (es : List Entry) (table : IsTable es) (i :
     -- it leads to a file that was made
     pub number_made : (map : NameMap) → IsMapOf v map → AreBounded v → ((q : List ℕ) → map q ≡ lookup es q) → e.file < v.made
     number_made map is whole same =
-        (whole.each map is).below e.name e.file (same e.name ∙ lookup_named es i e.name e table (record { within = within; here = λ d. ap (λ (x : Entry). x.name) (entry_at es i e d within here) }) ∙ ap (λ (x : Entry). Some x.file) (sym here))
+        (whole.each map is).below e.name e.file (same e.name ∙ lookup_named es i e.name e table (record { within = within; here = λ d. ap (λ (x : NameAndFile). x.name) (entry_at es i e d within here) }) ∙ ap (λ (x : NameAndFile). Some x.file) (sym here))
 
 -- ---- the tree that is done
 
-module _ (v : TreeState) (way : ℕ) (es : List Entry) (map : NameMap) (same : (q : List ℕ) → map q ≡ lookup es q) (i : ℕ) (all : length es ≤ i) (w : TreeState) (so_far : IsSoFar v way es i w) where
+module _ (v : TreeState) (way : ℕ) (es : List NameAndFile) (map : NameMap) (same : (q : List ℕ) → map q ≡ lookup es q) (i : ℕ) (all : length es ≤ i) (w : TreeState) (so_far : IsSoFar v way es i w) where
   pub image_files : (q : List ℕ) → files_of w q ≡ option_map (λ n. crash_bytes way (v.files n)) (map q)
-  image_files q = so_far.files q ∙ ap (λ (l : List Entry). option_map (λ n. crash_bytes way (v.files n)) (lookup l q)) (take_all i es all) ∙ sym (ap (option_map (λ n. crash_bytes way (v.files n))) (same q))
+  image_files q = so_far.files q ∙ ap (λ (l : List NameAndFile). option_map (λ n. crash_bytes way (v.files n)) (lookup l q)) (take_all i es all) ∙ sym (ap (option_map (λ n. crash_bytes way (v.files n))) (same q))
 
   may : (o : Option ℕ) → MayLeave v.files o (option_map (λ n. crash_bytes way (v.files n)) o)
   may None = refl
@@ -143,18 +143,18 @@ pub picked_files : (choice : ℕ) (v : TreeState) (way maps : ℕ) (files : File
 picked_files choice v way maps files count is each = λ i q. (each q ∙ ap (λ k. option_map (λ n. crash_bytes k (v.files n)) (picked_map choice v q)) (is ∙ ap (λ m. (choice / m) % 3) count)) i
 
 -- a file as it is stored
-pub file_at : (v : TreeState) (es : List Entry) (files : List Stored) (n : ℕ) (s : Stored) → IsKept v es files → n < length files → s ≡ get_or files n s → stored_file s ≡ v.files n
+pub file_at : (v : TreeState) (es : List NameAndFile) (files : List Stored) (n : ℕ) (s : Stored) → IsKept v es files → n < length files → s ≡ get_or files n s → stored_file s ≡ v.files n
 file_at v es files n s kept within is =
     let bytes = sym (kept.bytes n ∙ stored_bytes files n s within is) in
     let synced = sym (kept.synced n ∙ get_or-map (λ (f : Stored). f.synced) files n s false within ∙ ap (λ (f : Stored). f.synced) (sym is)) in
     λ i. record { bytes = bytes i; synced = synced i }
 
 -- a table has the map that is image_of, which is one that a crash may leave
-pub record IsPickedMap (v : TreeState) (choice : ℕ) (es : List Entry) : Type 0 where
+pub record IsPickedMap (v : TreeState) (choice : ℕ) (es : List NameAndFile) : Type 0 where
   pub same : (q : List ℕ) → picked_map choice v q ≡ lookup es q
   pub is_map : IsMapOf v (picked_map choice v)
 
-pub picked_from : (contents : List (List ℕ)) (cs ds ds' : List Change) (choice maps n : ℕ) (es fs : List Entry) → is_record contents empty_state cs ≡ true → ds ≡ cs → ds' ≡ cs → maps ≡ length (maps_of (state_on contents empty_state cs)) → 0 < maps
+pub picked_from : (contents : List (List ℕ)) (cs ds ds' : List Change) (choice maps n : ℕ) (es fs : List NameAndFile) → is_record contents empty_state cs ≡ true → ds ≡ cs → ds' ≡ cs → maps ≡ length (maps_of (state_on contents empty_state cs)) → 0 < maps
     → ((contents : List (List ℕ)) → is_record contents empty_state ds ≡ true → maps - 1 - choice % maps < length (newest_first (state_on contents empty_state ds))
     → (q : List ℕ) → (state_on contents empty_state (take n ds)).names q ≡ get_or (newest_first (state_on contents empty_state ds)) (maps - 1 - choice % maps) no_names q)
     → ((contents : List (List ℕ)) (q : List ℕ) → (state_on contents empty_state (take n ds')).names q ≡ lookup es q) → fs ≡ es → IsPickedMap (state_on contents empty_state cs) choice fs
@@ -169,6 +169,6 @@ picked_from contents cs ds ds' choice maps n es fs recorded is is' count some mo
           ∙ sym (moment contents recorded_ds within q)
           ∙ ap (λ (l : List Change). (state_on contents empty_state (take n l)).names q) (is ∙ sym is')
           ∙ names contents q
-          ∙ sym (ap (λ (l : List Entry). lookup l q) same_es);
+          ∙ sym (ap (λ (l : List NameAndFile). lookup l q) same_es);
       is_map = subst (IsMapOf v) (sym back.1) (among_at (newest_first v) (maps - 1 - choice % maps) back.0);
     }

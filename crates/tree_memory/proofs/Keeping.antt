@@ -24,7 +24,7 @@ use Rattle.tree_memory.proofs.Placed.{stands, looked_up}
 use Rattle.tree_memory.specs.declared.changes.Change.{Change}
 use Rattle.tree_memory.specs.declared.changes.Change.TheVariants.{Put, Create}
 use Rattle.tree_memory.specs.declared.changes.Stored.{Stored}
-use Rattle.tree_memory.specs.declared.table.Entry.{Entry}
+use Rattle.tree_memory.specs.declared.table.NameAndFile.{NameAndFile}
 
 -- ---- the bytes and the flags, one file more or another one
 
@@ -63,7 +63,7 @@ part_set part files n f xs x d within is was k =
 -- ---- what is kept
 
 -- one file more
-pub kept_push : (v w : TreeState) (es fs : List Entry) (files : List Stored) (f : File) (s : Stored) → IsKept v es files → f.bytes ≡ s.bytes.items → f.synced ≡ s.synced
+pub kept_push : (v w : TreeState) (es fs : List NameAndFile) (files : List Stored) (f : File) (s : Stored) → IsKept v es files → f.bytes ≡ s.bytes.items → f.synced ≡ s.synced
     → w.files ≡ set_file v.files v.made f → w.made ≡ v.made + 1 → ((q : List ℕ) → w.names q ≡ lookup fs q) → IsKept w fs (files ++ s ∷ [])
 kept_push v w es fs files f s kept bytes synced files_are made names = record {
   names = names;
@@ -75,7 +75,7 @@ kept_push v w es fs files f s kept bytes synced files_are made names = record {
 }
 
 -- another one
-pub kept_set : (v : TreeState) (es : List Entry) (files : List Stored) (n : ℕ) (change : File → File) (s : Stored) → IsKept v es files → n < length files → (change (v.files n)).bytes ≡ s.bytes.items → (change (v.files n)).synced ≡ s.synced
+pub kept_set : (v : TreeState) (es : List NameAndFile) (files : List Stored) (n : ℕ) (change : File → File) (s : Stored) → IsKept v es files → n < length files → (change (v.files n)).bytes ≡ s.bytes.items → (change (v.files n)).synced ≡ s.synced
     → IsKept (change_at change v (Some n)) es (set files n s)
 kept_set v es files n change s kept within bytes synced = record {
   names = kept.names;
@@ -150,7 +150,7 @@ pub sound_changed : (change : File → File) (v : TreeState) (n : ℕ) → IsSou
 sound_changed change v n old new = record { folders = old.folders; named = old.named; bytes = set_bytes v.files n (change (v.files n)) old.bytes new }
 
 -- the newest state of a store is sound
-pub store_sound : (cs : List Change) (es : List Entry) (files : List Stored) → IsStore cs es files → IsSoundState (state_on (contents_of files) empty_state cs)
+pub store_sound : (cs : List Change) (es : List NameAndFile) (files : List Stored) → IsStore cs es files → IsSoundState (state_on (contents_of files) empty_state cs)
 store_sound cs es files store = All-head IsSoundState (state_on (contents_of files) empty_state cs) (earlier_on (contents_of files) empty_state [] cs) store.sound
 
 -- ---- the changes
@@ -161,7 +161,7 @@ pub history_pushed : (c : Change) (cs ds : List Change) (contents more : List (L
 history_pushed c cs ds contents more w p is = pushed_history c cs ds contents more p ∙ ap (λ (v : TreeState). v ∷ (state_on contents empty_state cs ∷ earlier_on contents empty_state [] cs)) is
 
 -- and such a store
-pub store_pushed : (c : Change) (cs ds : List Change) (es : List Entry) (contents : List (List ℕ)) (files : List Stored) (w : TreeState) → IsPushed c cs ds contents (contents_of files) → step (contents_of files) c (state_on contents empty_state cs) ≡ w
+pub store_pushed : (c : Change) (cs ds : List Change) (es : List NameAndFile) (contents : List (List ℕ)) (files : List Stored) (w : TreeState) → IsPushed c cs ds contents (contents_of files) → step (contents_of files) c (state_on contents empty_state cs) ≡ w
     → IsKept w es files → IsSoundState w → All IsSoundState (state_on contents empty_state cs ∷ earlier_on contents empty_state [] cs) → IsStore ds es files
 store_pushed c cs ds es contents files w p is kept sound earlier =
     let same = sym (pushed_state c cs ds contents (contents_of files) p ∙ is) in record {
@@ -171,20 +171,20 @@ store_pushed c cs ds es contents files w p is kept sound earlier =
     }
 
 -- one file more
-pub record IsMore (name : List ℕ) (es fs : List Entry) (files more : List Stored) (s : Stored) : Type 0 where
+pub record IsMore (name : List ℕ) (es fs : List NameAndFile) (files more : List Stored) (s : Stored) : Type 0 where
   pub named : (q : List ℕ) → lookup fs q ≡ put_name (lookup es) name (length files) q
   pub stored : more ≡ files ++ s ∷ []
 
-more_contents : (name : List ℕ) (es fs : List Entry) (files more : List Stored) (s : Stored) → IsMore name es fs files more s → contents_of more ≡ contents_of files ++ s.bytes.items ∷ []
+more_contents : (name : List ℕ) (es fs : List NameAndFile) (files more : List Stored) (s : Stored) → IsMore name es fs files more s → contents_of more ≡ contents_of files ++ s.bytes.items ∷ []
 more_contents name es fs files more s m = ap contents_of m.stored ∙ contents-push files s
 
-more_grows : (name : List ℕ) (es fs : List Entry) (files more : List Stored) (s : Stored) → IsMore name es fs files more s → Grows (contents_of files) (contents_of more)
+more_grows : (name : List ℕ) (es fs : List NameAndFile) (files more : List Stored) (s : Stored) → IsMore name es fs files more s → Grows (contents_of files) (contents_of more)
 more_grows name es fs files more s m = subst (Grows (contents_of files)) (sym (more_contents name es fs files more s m)) (grows_push (contents_of files) s.bytes.items)
 
-more_names : (v : TreeState) (name : List ℕ) (es fs : List Entry) (files more : List Stored) (s : Stored) → IsMore name es fs files more s → IsKept v es files → (q : List ℕ) → put_name v.names name v.made q ≡ lookup fs q
+more_names : (v : TreeState) (name : List ℕ) (es fs : List NameAndFile) (files more : List Stored) (s : Stored) → IsMore name es fs files more s → IsKept v es files → (q : List ℕ) → put_name v.names name v.made q ≡ lookup fs q
 more_names v name es fs files more s m kept q = ap (λ (n : ℕ). cond (bytes_eq q name) (Some n) (v.names q)) kept.made ∙ ap (cond (bytes_eq q name) (Some (length files))) (kept.names q) ∙ sym (m.named q)
 
-module _ (name : List ℕ) (cs ds : List Change) (es fs : List Entry) (files more : List Stored) (s : Stored) (store : IsStore cs es files) (m : IsMore name es fs files more s) where
+module _ (name : List ℕ) (cs ds : List Change) (es fs : List NameAndFile) (files more : List Stored) (s : Stored) (store : IsStore cs es files) (m : IsMore name es fs files more s) where
   abbrev was : TreeState
   was = state_on (contents_of files) empty_state cs
 
@@ -256,14 +256,14 @@ module _ (name : List ℕ) (cs ds : List Change) (es fs : List Entry) (files mor
 
 -- ---- what is read
 
-pub read_absent : (v : TreeState) (es : List Entry) (files : List Stored) (name : List ℕ) → IsKept v es files → lookup es name ≡ None → files_of v name ≡ None
+pub read_absent : (v : TreeState) (es : List NameAndFile) (files : List Stored) (name : List ℕ) → IsKept v es files → lookup es name ≡ None → files_of v name ≡ None
 read_absent v es files name kept absent = ap (bytes_at v.files) (kept.names name ∙ absent)
 
-pub read_present : (v : TreeState) (es : List Entry) (files : List Stored) (name : List ℕ) (n : ℕ) → IsKept v es files → lookup es name ≡ Some n → files_of v name ≡ Some (get_or (contents_of files) n [])
+pub read_present : (v : TreeState) (es : List NameAndFile) (files : List Stored) (name : List ℕ) (n : ℕ) → IsKept v es files → lookup es name ≡ Some n → files_of v name ≡ Some (get_or (contents_of files) n [])
 read_present v es files name n kept present = ap (bytes_at v.files) (kept.names name ∙ present) ∙ ap Some (kept.bytes n)
 
 -- a name leads to a file that is stored
-pub leads_within : (cs : List Change) (es : List Entry) (files : List Stored) (name : List ℕ) (n : ℕ) → IsStore cs es files → lookup es name ≡ Some n → n < length files
+pub leads_within : (cs : List Change) (es : List NameAndFile) (files : List Stored) (name : List ℕ) (n : ℕ) → IsStore cs es files → lookup es name ≡ Some n → n < length files
 leads_within cs es files name n store present =
     let v = state_on (contents_of files) empty_state cs in
     let below = ((bounded_state (contents_of files) cs).each v.names (inl refl)).below name n (store.kept.names name ∙ present) in
@@ -294,29 +294,29 @@ read-after_put name bytes v bounded = λ i q. read q i
 
 -- ---- the list of names
 
-pub names_listed : (names : List ℕ → Option ℕ) (es : List Entry) → ((q : List ℕ) → names q ≡ lookup es q) → IsTable es → IsNamesOf names (names_of es)
+pub names_listed : (names : List ℕ → Option ℕ) (es : List NameAndFile) → ((q : List ℕ) → names q ≡ lookup es q) → IsTable es → IsNamesOf names (names_of es)
 names_listed names es same table = record { rising = rising; each = λ q. (there q, back q) }
   where
     rising : AllPairs (λ a b. slice_cmp nat_cmp a b ≡ Less) (names_of es)
     rising i j d below within =
-        let e : Entry = record { name = d; file = 0 } in
-        let inside : j < length es = omega (arith, length-map es (λ (f : Entry). f.name), within) in
-        let at_i = get_or-map (λ (f : Entry). f.name) es i e d (omega (arith, below, inside)) in
-        let at_j = get_or-map (λ (f : Entry). f.name) es j e d inside in
+        let e : NameAndFile = record { name = d; file = 0 } in
+        let inside : j < length es = omega (arith, length-map es (λ (f : NameAndFile). f.name), within) in
+        let at_i = get_or-map (λ (f : NameAndFile). f.name) es i e d (omega (arith, below, inside)) in
+        let at_j = get_or-map (λ (f : NameAndFile). f.name) es j e d inside in
         (λ k. slice_cmp nat_cmp (at_i k) (at_j k)) ∙ table i j e below inside
 
     there : (q : List ℕ) → Contains (names_of es) q → IsSome (names q)
     there q (k, within, is) =
-        let e : Entry = record { name = q; file = 0 } in
-        let inside : k < length es = omega (arith, length-map es (λ (f : Entry). f.name), within) in
-        let at = sym (get_or-map (λ (f : Entry). f.name) es k e q inside) ∙ is in
+        let e : NameAndFile = record { name = q; file = 0 } in
+        let inside : k < length es = omega (arith, length-map es (λ (f : NameAndFile). f.name), within) in
+        let at = sym (get_or-map (λ (f : NameAndFile). f.name) es k e q inside) ∙ is in
         subst IsSome (sym (same q)) (subst (λ (n : List ℕ). IsSome (lookup es n)) at (looked_up es k e inside))
 
     back : (q : List ℕ) → IsSome (names q) → Contains (names_of es) q
     back q some =
-        let e : Entry = record { name = q; file = 0 } in
+        let e : NameAndFile = record { name = q; file = 0 } in
         let at = stands es q e (subst IsSome (same q) some) in
-        (at.0, omega (arith, length-map es (λ (f : Entry). f.name), at.1), get_or-map (λ (f : Entry). f.name) es at.0 e q at.1 ∙ at.2)
+        (at.0, omega (arith, length-map es (λ (f : NameAndFile). f.name), at.1), get_or-map (λ (f : NameAndFile). f.name) es at.0 e q at.1 ∙ at.2)
 
 -- the newest of some states
 abbrev pub newest : List TreeState → TreeState

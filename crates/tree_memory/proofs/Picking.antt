@@ -11,7 +11,7 @@ use Rattle.tree_memory.proofs.AtName.{is_name}
 use Rattle.tree_memory.proofs.Growing.{state_on-push, record_front}
 use Rattle.tree_memory.specs.declared.changes.Change.{Change}
 use Rattle.tree_memory.specs.declared.changes.Change.TheVariants.{Put, Create, Append, Sync, Rename, Remove, SyncNames, Stay}
-use Rattle.tree_memory.specs.declared.table.Entry.{Entry}
+use Rattle.tree_memory.specs.declared.table.NameAndFile.{NameAndFile}
 
 -- ---- a front of a record
 
@@ -161,20 +161,20 @@ moment_start cs back n left found start contents recorded within =
 
 -- ---- the names behind a front
 
-pub names_none : (contents : List (List ℕ)) (es : List Entry) → es ≡ [] → HasNames (state_on contents empty_state []) es 0
-names_none contents es none = record { names = λ q. sym (ap (λ (l : List Entry). lookup l q) none); made = refl }
+pub names_none : (contents : List (List ℕ)) (es : List NameAndFile) → es ≡ [] → HasNames (state_on contents empty_state []) es 0
+names_none contents es none = record { names = λ q. sym (ap (λ (l : List NameAndFile). lookup l q) none); made = refl }
 
-pub names_more : (contents : List (List ℕ)) (cs : List Change) (i : ℕ) (c : Change) (es : List Entry) (made : ℕ) → i < length cs → c ≡ get_or cs i c → HasNames (step contents c (state_on contents empty_state (take i cs))) es made → HasNames (state_on contents empty_state (take (i + 1) cs)) es made
+pub names_more : (contents : List (List ℕ)) (cs : List Change) (i : ℕ) (c : Change) (es : List NameAndFile) (made : ℕ) → i < length cs → c ≡ get_or cs i c → HasNames (step contents c (state_on contents empty_state (take i cs))) es made → HasNames (state_on contents empty_state (take (i + 1) cs)) es made
 names_more contents cs i c es made within is here = subst (λ (v : TreeState). HasNames v es made) (sym (state_at contents cs i c within is)) here
 
 -- one name more
-pub named : (name : List ℕ) (v w : TreeState) (es fs : List Entry) (made : ℕ) → HasNames v es made → w.made ≡ v.made + 1 → ((q : List ℕ) → w.names q ≡ put_name v.names name v.made q) → ((q : List ℕ) → lookup fs q ≡ put_name (lookup es) name made q) → HasNames w fs (made + 1)
+pub named : (name : List ℕ) (v w : TreeState) (es fs : List NameAndFile) (made : ℕ) → HasNames v es made → w.made ≡ v.made + 1 → ((q : List ℕ) → w.names q ≡ put_name v.names name v.made q) → ((q : List ℕ) → lookup fs q ≡ put_name (lookup es) name made q) → HasNames w fs (made + 1)
 named name v w es fs made was more names set = record {
   names = λ q. names q ∙ ap (λ (n : ℕ). cond (bytes_eq q name) (Some n) (v.names q)) was.made ∙ ap (cond (bytes_eq q name) (Some made)) (was.names q) ∙ sym (set q);
   made = more ∙ ap (λ (n : ℕ). n + 1) was.made;
 }
 
-pub names_moved : (from to : List ℕ) (v : TreeState) (es es₁ fs : List Entry) (made n : ℕ) → HasNames v es made → lookup es from ≡ Some n → ((q : List ℕ) → lookup es₁ q ≡ drop_name (lookup es) from q) → ((q : List ℕ) → lookup fs q ≡ put_name (lookup es₁) to n q)
+pub names_moved : (from to : List ℕ) (v : TreeState) (es es₁ fs : List NameAndFile) (made n : ℕ) → HasNames v es made → lookup es from ≡ Some n → ((q : List ℕ) → lookup es₁ q ≡ drop_name (lookup es) from q) → ((q : List ℕ) → lookup fs q ≡ put_name (lookup es₁) to n q)
     → HasNames (after_rename from to v) fs made
 names_moved from to v es es₁ fs made n was there gone set =
     subst (λ (o : Option ℕ). HasNames (move_at from to v o) fs made) (sym (was.names from ∙ there)) (record {
@@ -182,10 +182,10 @@ names_moved from to v es es₁ fs made n was there gone set =
       made = was.made;
     })
 
-pub names_unmoved : (from to : List ℕ) (v : TreeState) (es : List Entry) (made : ℕ) → HasNames v es made → lookup es from ≡ None → HasNames (after_rename from to v) es made
+pub names_unmoved : (from to : List ℕ) (v : TreeState) (es : List NameAndFile) (made : ℕ) → HasNames v es made → lookup es from ≡ None → HasNames (after_rename from to v) es made
 names_unmoved from to v es made was none = subst (λ (o : Option ℕ). HasNames (move_at from to v o) es made) (sym (was.names from ∙ none)) was
 
-pub names_removed : (name : List ℕ) (v : TreeState) (es fs : List Entry) (made : ℕ) → HasNames v es made → ((q : List ℕ) → lookup fs q ≡ drop_name (lookup es) name q) → HasNames (after_remove name v) fs made
+pub names_removed : (name : List ℕ) (v : TreeState) (es fs : List NameAndFile) (made : ℕ) → HasNames v es made → ((q : List ℕ) → lookup fs q ≡ drop_name (lookup es) name q) → HasNames (after_remove name v) fs made
 names_removed name v es fs made was gone = by (v.names name) refl
   where
     absent : (b : Bool) (r : Option ℕ) → (b ≡ true → r ≡ None) → r ≡ cond b None r

@@ -57,7 +57,7 @@ earlier_on contents v earlier (c ∷ cs) = earlier_on contents (step contents c 
 
 -- ---- what a record is
 
--- the file was made, and got at least so many bytes
+-- the file was made, and holds at least so many bytes; a record keeps a length, and the bytes once
 abbrev pub is_front : List (List ℕ) → ℕ → ℕ → Bool
 is_front contents file len =
     nat_lt file (length contents) && nat_le len (length (slice_index_or contents file []))

@@ -7,7 +7,7 @@ use Rattle.tree_memory.specs.Table.{lookup}
 use Rattle.tree_memory.specs.declared.changes.Change.{Change}
 use Rattle.tree_memory.specs.declared.changes.Change.TheVariants.{Put, Create, Append, Sync, Rename, Remove, SyncNames, Stay}
 use Rattle.tree_memory.specs.declared.changes.Stored.{Stored}
-use Rattle.tree_memory.specs.declared.table.Entry.{Entry}
+use Rattle.tree_memory.specs.declared.table.NameAndFile.{NameAndFile}
 
 -- ---- by a number
 
@@ -57,7 +57,7 @@ maps_on SyncNames maps = 1
 maps_on Stay maps = maps
 
 -- a table has the names of a state, of which so many files were made
-pub record HasNames (v : TreeState) (entries : List Entry) (count : ℕ) : Type 0 where
+pub record HasNames (v : TreeState) (entries : List NameAndFile) (count : ℕ) : Type 0 where
   pub names : (q : List ℕ) → v.names q ≡ lookup entries q
   pub made : v.made ≡ count
 

@@ -7,10 +7,10 @@ use Rattle.tree_memory.specs.Changes.{contents_of, synced_flags, empty_state, st
 use Rattle.tree_memory.specs.Table.{lookup}
 use Rattle.tree_memory.specs.declared.changes.Change.{Change}
 use Rattle.tree_memory.specs.declared.changes.Stored.{Stored}
-use Rattle.tree_memory.specs.declared.table.Entry.{Entry}
+use Rattle.tree_memory.specs.declared.table.NameAndFile.{NameAndFile}
 
 -- a table and the files by number are those of a state
-pub record IsKept (v : TreeState) (entries : List Entry) (files : List Stored) : Type 0 where
+pub record IsKept (v : TreeState) (entries : List NameAndFile) (files : List Stored) : Type 0 where
   pub names : (q : List ℕ) → v.names q ≡ lookup entries q
   pub made : v.made ≡ length files
   pub bytes : (n : ℕ) → (v.files n).bytes ≡ slice_index_or (contents_of files) n []
@@ -25,7 +25,7 @@ pub record IsSoundState (v : TreeState) : Type 0 where
 
 -- changes are a record, a table and the files are those of its newest state, and each state so far
 -- is sound
-pub record IsStore (changes : List Change) (entries : List Entry)
+pub record IsStore (changes : List Change) (entries : List NameAndFile)
     (files : List Stored) : Type 0 where
   pub recorded : is_record (contents_of files) empty_state changes ≡ true
   pub kept : IsKept (state_on (contents_of files) empty_state changes) entries files

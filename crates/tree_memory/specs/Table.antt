@@ -7,58 +7,58 @@ use Rattle.std.specs.Str.{bytes_eq}
 use Rattle.std.specs.Cmp.Lexicographic.{slice_cmp}
 use Rattle.std.specs.declared.cmp.Ordering.TheVariants.{Less, Greater}
 use Rattle.base_core.specs.Files.{IsFolderOf}
-use Rattle.tree_memory.specs.declared.table.Entry.{Entry}
+use Rattle.tree_memory.specs.declared.table.NameAndFile.{NameAndFile}
 
 -- each name is before the next ones
-abbrev pub IsTable : List Entry → Type 0
+abbrev pub IsTable : List NameAndFile → Type 0
 IsTable entries = AllPairs (λ a b. slice_cmp nat_cmp a.name b.name ≡ Less) entries
 
-abbrev pub names_of : List Entry → List (List ℕ)
+abbrev pub names_of : List NameAndFile → List (List ℕ)
 names_of entries = map (λ e. e.name) entries
 
 -- the number that a name leads to
-abbrev pub lookup : List Entry → List ℕ → Option ℕ
+abbrev pub lookup : List NameAndFile → List ℕ → Option ℕ
 lookup [] q = None
 lookup (e ∷ es) q = if bytes_eq q e.name then Some e.file else lookup es q
 
 -- the name stands at this place
-pub record IsNamed (entries : List Entry) (i : ℕ) (name : List ℕ) : Type 0 where
+pub record IsNamed (entries : List NameAndFile) (i : ℕ) (name : List ℕ) : Type 0 where
   pub within : i < length entries
   pub here : HoldsAt (λ e. e.name ≡ name) entries i
 
 -- a name that is absent would stand at this place
-pub record IsPlace (entries : List Entry) (i : ℕ) (name : List ℕ) : Type 0 where
+pub record IsPlace (entries : List NameAndFile) (i : ℕ) (name : List ℕ) : Type 0 where
   pub within : i ≤ length entries
   pub before : AllWithin (λ e. slice_cmp nat_cmp e.name name ≡ Less) entries 0 i
   pub behind : AllWithin (λ e. slice_cmp nat_cmp e.name name ≡ Greater) entries i (length entries)
 
 -- the names below a folder would begin at this place
-pub record IsStart (entries : List Entry) (i : ℕ) (folder : List ℕ) : Type 0 where
+pub record IsStart (entries : List NameAndFile) (i : ℕ) (folder : List ℕ) : Type 0 where
   pub within : i ≤ length entries
   pub before : AllWithin (λ e. slice_cmp nat_cmp e.name (folder ++ 47 ∷ []) ≡ Less) entries 0 i
   pub behind : AllWithin (λ e. slice_cmp nat_cmp e.name (folder ++ 47 ∷ []) ≢ Less) entries i
       (length entries)
 
 -- just the names below a folder, in byte order
-pub record IsBelow (entries : List Entry) (folder : List ℕ) (names : List (List ℕ)) : Type 0 where
+pub record IsBelow (entries : List NameAndFile) (folder : List ℕ) (names : List (List ℕ)) : Type 0 where
   pub rising : AllPairs (λ a b. slice_cmp nat_cmp a b ≡ Less) names
   pub each : (q : List ℕ) → Contains names q ↔ (IsSome (lookup entries q) × IsFolderOf folder q)
 
 -- ---- where a name fits, if one name is left out
 
 -- a folder of the name is a name of the table, and not the one left out
-abbrev pub HasFolderBut : List Entry → List ℕ → List ℕ → Type 0
+abbrev pub HasFolderBut : List NameAndFile → List ℕ → List ℕ → Type 0
 HasFolderBut entries name but =
     (folder : List ℕ) × IsFolderOf folder name
     × (IsSome (lookup entries folder) × (bytes_eq folder but ≡ false))
 
 -- the folder has a name of the table below it, and not just the one left out
-abbrev pub HasBelowBut : List Entry → List ℕ → List ℕ → Type 0
+abbrev pub HasBelowBut : List NameAndFile → List ℕ → List ℕ → Type 0
 HasBelowBut entries folder but =
     (name : List ℕ) × IsFolderOf folder name
     × (IsSome (lookup entries name) × (bytes_eq name but ≡ false))
 
 -- no name of the table is a folder of this one or lies below it, but the one left out
-pub record IsFit (entries : List Entry) (name but : List ℕ) : Type 0 where
+pub record IsFit (entries : List NameAndFile) (name but : List ℕ) : Type 0 where
   pub above : HasFolderBut entries name but → ⊥
   pub below : HasBelowBut entries name but → ⊥

@@ -12,7 +12,7 @@ use std::cmp::Ordering;
 
 /// A name, and the number of the file that it leads to.
 #[derive(Drop)]
-pub struct Entry {
+pub struct NameAndFile {
     pub name: Name,
     pub file: usize,
 }
@@ -20,7 +20,7 @@ pub struct Entry {
 /// The names, each with its number, in byte order.
 #[derive(Drop)]
 pub struct NameTable {
-    pub entries: Vec<Entry>,
+    pub entries: Vec<NameAndFile>,
     pub ghost rising: { IsTable entries.items },
 }
 
@@ -62,7 +62,7 @@ impl NameTable {
     {
         match self.place(name.as_bytes()) {
             Ok(i) => self.entries[i].file = file,
-            Err(i) => self.entries.insert(i, Entry { name, file })?,
+            Err(i) => self.entries.insert(i, NameAndFile { name, file })?,
         }
         Ok(())
     }

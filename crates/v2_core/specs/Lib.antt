@@ -1,4 +1,4 @@
--- what the contract of `read_v2` says
+-- what the contract of `apk` says
 pub mod Records
 pub mod Reading
 pub mod Database

@@ -1,7 +1,7 @@
 -- Whose a file or a folder is, and its mode: `uid:gid:mode`.
-use Rattle.std.specs.Prelude.{ℕ, ◌+◌, ◌^◌, ◌==◌, nat_lt, nat_le, Bool, not, ◌&&◌, if◌then◌else◌, List, [], length, take, drop, position, Option, Some, None, option_map}
+use Rattle.std.specs.Prelude.{ℕ, ◌^◌, ◌==◌, nat_lt, nat_le, Bool, not, ◌&&◌, if◌then◌else◌, List, length, Option, Some, None, option_map}
 use Rattle.std.specs.Char.{is_ascii_digit}
-use Rattle.std.specs.List.{list_all}
+use Rattle.std.specs.List.{after_first, before_first, list_all}
 use Rattle.std.specs.Str.Parse.{digits_value}
 use Rattle.v2_lines.specs.declared.access.Access.{Access as AccessSlices}
 use Rattle.v2_lines.specs.declared.access.TheConstants.{COLON}
@@ -18,21 +18,13 @@ access_by user group mode = record { user = user; group = group; mode = mode }
 abbrev pub access_view : AccessSlices → Access
 access_view a = access_by a.user.now a.group.now a.mode
 
-abbrev pub front_up_to : List ℕ → Option ℕ → List ℕ
-front_up_to text None = text
-front_up_to text (Some at) = take at text
-
-abbrev pub rest_past : List ℕ → Option ℕ → List ℕ
-rest_past text None = []
-rest_past text (Some at) = drop (at + 1) text
-
 -- what stands before the first colon; all where there is none
 abbrev pub before_colon : List ℕ → List ℕ
-before_colon text = front_up_to text (position (λ b. b == COLON) text)
+before_colon text = before_first (λ b. b == COLON) text
 
 -- what stands behind the first colon; nothing where there is none
 abbrev pub behind_colon : List ℕ → List ℕ
-behind_colon text = rest_past text (position (λ b. b == COLON) text)
+behind_colon text = after_first (λ b. b == COLON) text
 
 -- one or more decimal digits
 abbrev pub is_id : List ℕ → Bool

@@ -1,4 +1,4 @@
--- what the contract of `read_v2` says
+-- what the contract of `apk` says
 pub mod InfoFields
 pub mod InfoValues
 pub mod Accesses

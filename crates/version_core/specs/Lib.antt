@@ -2,8 +2,8 @@
 pub mod Token
 pub mod Order
 pub mod Op
--- what only inner contracts and proofs use
 pub mod Matching
+-- what only inner contracts and proofs use
 pub mod Grammar
 pub mod Reading
 pub mod Overlapping

@@ -1,6 +1,6 @@
 use Rattle.std.proofs.Common.{◌≡◌, drop, map}
 use Rattle.adb_values.specs.Drafts.{draft_with_all}
-use Rattle.adb_copy.specs.Fields.{text_plains}
+use Rattle.adb_view.specs.Plain.{text_plains}
 use Rattle.adb_copy.proofs.copy.write_texts.Given as goal
 
 -- with those that are left it has all

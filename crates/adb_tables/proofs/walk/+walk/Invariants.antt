@@ -3,7 +3,7 @@ use Rattle.adb_view.specs.Adb.{payload_of}
 use Rattle.adb_view.specs.Entries.{array_entries}
 use Rattle.adb_tables.specs.Schema.{shape_of, shapes_of}
 use Rattle.adb_tables.specs.Rank.{rank, rank_of_all}
-use Rattle.adb_tables.specs.Walk.{LIMIT}
+use Rattle.adb_view.specs.Visits.{MOST_VALUES}
 use Rattle.adb_tables.specs.CountedWalk.{fields_walk}
 use Rattle.adb_tables.specs.CountedWalk.{walk}
 use Rattle.adb_tables.specs.CountedWalk.{each_walk}
@@ -21,11 +21,11 @@ decreases-walk_value l = rank l.kind
 abbrev pub invariant-walk_entries-loop-i : goal.invariant-walk_entries-loop-i
 invariant-walk_entries-loop-i l = record {
   so_far : each_walk (walk (payload_of l.adb) (shape_of l.kind)) l.count (drop l.i (array_entries l.entries)) ≡ each_walk (walk (payload_of l.adb) (shape_of l.kind)) l.fn.before (array_entries l.entries);
-  bound : l.count ≤ LIMIT;
+  bound : l.count ≤ MOST_VALUES;
 }
 
 abbrev pub invariant-walk_each_field-loop-i : goal.invariant-walk_each_field-loop-i
 invariant-walk_each_field-loop-i l = record {
   so_far : fields_walk (payload_of l.adb) (shapes_of (drop l.i l.fields)) l.count (drop l.i (array_entries l.entries)) ≡ fields_walk (payload_of l.adb) (shapes_of l.fields) l.fn.before (array_entries l.entries);
-  bound : l.count ≤ LIMIT;
+  bound : l.count ≤ MOST_VALUES;
 }

@@ -12,37 +12,37 @@ index_mut-requires c =
     let page = slot_page (pages_of c.make_room.new.self) c.in_ok-slot.slot.page c.in_ok-slot.slot.index c.make_room.ensures.some same.inside in
     omega (arith, page, length-map c.make_room.new.self.pages.items (λ page. page.items), c.make_room.new.self.pages.ok.0)
 
-pub insert-requires : goal.insert-requires
-insert-requires c =
+pub insert_in_page-requires : goal.insert_in_page-requires
+insert_in_page-requires c =
     let same = c.in_ok-slot.ensures.ok in
     let page = slot_page (pages_of c.make_room.new.self) c.in_ok-slot.slot.page c.in_ok-slot.slot.index c.make_room.ensures.some same.inside in
     let within : c.in_ok-slot.slot.page < length c.make_room.new.self.pages.items = omega (arith, page, length-map c.make_room.new.self.pages.items (λ page. page.items)) in
     omega (arith, slot_long (λ page. page.items) c.make_room.new.self.pages.items c.in_ok-slot.slot.page c.in_ok-slot.slot.index c.index_mut.result.now within c.index_mut.ensures.value same.inside, c.index_mut.result.now.ok.0)
 
-pub returns-in_err-insert-clause-filled : goal.returns-in_err-insert-clause-filled
-returns-in_err-insert-clause-filled c =
+pub returns-in_err-insert_in_page-clause-filled : goal.returns-in_err-insert_in_page-clause-filled
+returns-in_err-insert_in_page-clause-filled c =
     let same = c.in_ok-slot.ensures.ok in
     let page = slot_page (pages_of c.make_room.new.self) c.in_ok-slot.slot.page c.in_ok-slot.slot.index c.make_room.ensures.some same.inside in
     let within : c.in_ok-slot.slot.page < length c.make_room.new.self.pages.items = omega (arith, page, length-map c.make_room.new.self.pages.items (λ page. page.items)) in
-    subst AreFilled (sym (same_vectors (λ page. page.items) c.make_room.new.self.pages.items c.in_ok-slot.slot.page c.insert.new.self c.index_mut.result.now within c.index_mut.ensures.value c.in_err-insert.ensures.items)) c.make_room.ensures.filled
+    subst AreFilled (sym (same_vectors (λ page. page.items) c.make_room.new.self.pages.items c.in_ok-slot.slot.page c.insert_in_page.new.page c.index_mut.result.now within c.index_mut.ensures.value c.in_err-insert_in_page.ensures.err)) c.make_room.ensures.filled
 
-pub returns-in_err-insert-clause-err : goal.returns-in_err-insert-clause-err
-returns-in_err-insert-clause-err c =
+pub returns-in_err-insert_in_page-clause-err : goal.returns-in_err-insert_in_page-clause-err
+returns-in_err-insert_in_page-clause-err c =
     let same = c.in_ok-slot.ensures.ok in
     let page = slot_page (pages_of c.make_room.new.self) c.in_ok-slot.slot.page c.in_ok-slot.slot.index c.make_room.ensures.some same.inside in
     let within : c.in_ok-slot.slot.page < length c.make_room.new.self.pages.items = omega (arith, page, length-map c.make_room.new.self.pages.items (λ page. page.items)) in
-    on_err c.from_residual-in_err-insert.result _
-    (ap concat (same_vectors (λ page. page.items) c.make_room.new.self.pages.items c.in_ok-slot.slot.page c.insert.new.self c.index_mut.result.now within c.index_mut.ensures.value c.in_err-insert.ensures.items) ∙ same_words (pages_of c.args.self.now) (pages_of c.make_room.new.self) c.args.slot c.in_ok-slot.slot same)
+    on_err c.from_residual-in_err-insert_in_page.result _
+    (ap concat (same_vectors (λ page. page.items) c.make_room.new.self.pages.items c.in_ok-slot.slot.page c.insert_in_page.new.page c.index_mut.result.now within c.index_mut.ensures.value c.in_err-insert_in_page.ensures.err) ∙ same_words (pages_of c.args.self.now) (pages_of c.make_room.new.self) c.args.slot c.in_ok-slot.slot same)
 
 pub returns-clause-filled : goal.returns-clause-filled
 returns-clause-filled c =
-    filled_vectors (λ page. page.items) c.make_room.new.self.pages.items c.in_ok-slot.slot.page c.in_ok-slot.slot.index c.args.locator c.insert.new.self c.index_mut.result.now c.make_room.ensures.filled c.in_ok-insert.ensures.items
+    filled_vectors (λ page. page.items) c.make_room.new.self.pages.items c.in_ok-slot.slot.page c.in_ok-slot.slot.index c.args.locator c.insert_in_page.new.page c.index_mut.result.now c.make_room.ensures.filled c.in_ok-insert_in_page.ensures.ok
 
 pub returns-clause-ok : goal.returns-clause-ok
 returns-clause-ok c =
     let same = c.in_ok-slot.ensures.ok in
     let page = slot_page (pages_of c.make_room.new.self) c.in_ok-slot.slot.page c.in_ok-slot.slot.index c.make_room.ensures.some same.inside in
     let within : c.in_ok-slot.slot.page < length c.make_room.new.self.pages.items = omega (arith, page, length-map c.make_room.new.self.pages.items (λ page. page.items)) in
-    insert_vectors (λ page. page.items) c.make_room.new.self.pages.items c.in_ok-slot.slot.page c.in_ok-slot.slot.index c.args.locator c.insert.new.self c.index_mut.result.now within c.index_mut.ensures.value c.in_ok-insert.ensures.items
+    insert_vectors (λ page. page.items) c.make_room.new.self.pages.items c.in_ok-slot.slot.page c.in_ok-slot.slot.index c.args.locator c.insert_in_page.new.page c.index_mut.result.now within c.index_mut.ensures.value c.in_ok-insert_in_page.ensures.ok
     ∙ ap (λ (x : List ℕ). x ++ c.args.locator ∷ words_behind (pages_of c.make_room.new.self) c.in_ok-slot.slot.page c.in_ok-slot.slot.index) same.before
     ∙ ap (λ (x : List ℕ). words_before (pages_of c.args.self.now) c.args.slot.page c.args.slot.index ++ c.args.locator ∷ x) same.behind

@@ -10,4 +10,4 @@ returns-clause-ok c =
     let within : c.args.page < length old = omega (arith, c.requires.inside, length-map old (λ page. page.items)) in
     let upper : c.extend_from_slice.new.self.items ≡ drop HALF (page_at (pages_of c.args.self.now) c.args.page) =
     c.in_ok-extend_from_slice.ensures.items ∙ upper_copy (λ page. page.items) old c.args.page c.in_ok-upper.upper.items c.deref.result.now c.index.result.now within c.in_ok-upper.ensures.items c.deref.ensures.value c.index.ensures in
-    split_vectors (λ page. page.items) old c.insert.new.self.items c.args.page c.extend_from_slice.new.self c.truncate.new.self c.index_mut.result.now within c.in_ok-insert.ensures.items c.index_mut.ensures.value c.truncate.ensures.items upper
+    split_vectors (λ page. page.items) old c.insert.new.self.items c.args.page c.extend_from_slice.new.self c.shrink_to.new.self c.index_mut-lower.result.now within c.in_ok-insert.ensures.items c.index_mut-lower.ensures.value (c.shrink_to.ensures.items ∙ c.truncate.ensures.items) upper

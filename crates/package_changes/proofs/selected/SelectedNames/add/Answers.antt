@@ -1,6 +1,7 @@
 use Rattle.std.proofs.Common.{◌∙◌, ap}
 use Rattle.std.specs.Prelude.{Some, None, bytes_eq, if◌then◌else◌}
-use Rattle.package_changes.specs.SelectedNames.{or_place, place_beside}
+use Rattle.package_changes.specs.SelectedNames.{place_beside}
+use Rattle.std.specs.Option.{option_or}
 use Rattle.package_changes.specs.Changes.{is_selected_named}
 use Rattle.package_changes.proofs.NameTable.{not_there, one_there}
 use Rattle.package_changes.proofs.selected.SelectedNames.add.Goals as goal
@@ -12,4 +13,4 @@ pub returns-in_ok-add_name-in-Some : goal.returns-in_ok-add_name-in-Some
 returns-in_ok-add_name-in-Some c = λ name.
     one_there _ (place_beside name c.args.self.now) name _ _ _ c.args.id c.in-Some.ensures c.name.ensures
     (c.in_ok-add_name-in-Some.ensures name
-    ∙ ap (λ z. or_place (place_beside name c.args.self.now) (if bytes_eq c.name.result.now name then Some z else None)) c.id.view_is)
+    ∙ ap (λ z. option_or (place_beside name c.args.self.now) (if bytes_eq c.name.result.now name then Some z else None)) c.id.view_is)

@@ -1,6 +1,7 @@
 use Rattle.std.proofs.Common.{◌∙◌, ap}
 use Rattle.std.specs.Prelude.{Some, None, bytes_eq, if◌then◌else◌}
-use Rattle.package_changes.specs.SelectedNames.{names_and_places, or_place, place_beside}
+use Rattle.package_changes.specs.SelectedNames.{names_and_places, place_beside}
+use Rattle.std.specs.Option.{option_or}
 use Rattle.package_changes.proofs.NameTable.{looked_up, one_more_name, there_already}
 use Rattle.package_changes.proofs.selected.SelectedNames.add_name.Goals as goal
 
@@ -13,4 +14,4 @@ pub returns-in_ok-insert-in-None : goal.returns-in_ok-insert-in-None
 returns-in_ok-insert-in-None c = λ other.
     ap (λ z. place_beside other (names_and_places z)) c.in_ok-insert-in-None.ensures.entries
     ∙ (one_more_name c.args.name other c.args.place c.self.inside.by_name.entries c.in-None.ensures.value
-    ∙ ap (λ z. or_place (place_beside other z) (if bytes_eq c.args.name.now other then Some c.args.place else None)) c.self.view_is)
+    ∙ ap (λ z. option_or (place_beside other z) (if bytes_eq c.args.name.now other then Some c.args.place else None)) c.self.view_is)

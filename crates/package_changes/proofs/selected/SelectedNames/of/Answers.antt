@@ -2,13 +2,14 @@ use Rattle.std.proofs.Common.{ap, arith}
 use Rattle.std.specs.List.{find}
 use Rattle.pool_core.specs.Rank.{is_at}
 use Rattle.package_changes.specs.Changes.{is_selected_named}
-use Rattle.package_changes.specs.SelectedNames.{or_place, place_beside}
+use Rattle.package_changes.specs.SelectedNames.{place_beside}
+use Rattle.std.specs.Option.{option_or}
 use Rattle.package_changes.proofs.NameTable.{found_all, found_further}
 use Rattle.package_changes.proofs.selected.SelectedNames.of.Goals as goal
 
 pub loop-i-init : goal.loop-i-init
 loop-i-init c = λ name.
-    ap (λ z. or_place (place_beside name z) (find (is_at c.args.pool.now (is_selected_named name)) c.args.trace.now)) c.new-names.ensures
+    ap (λ z. option_or (place_beside name z) (find (is_at c.args.pool.now (is_selected_named name)) c.args.trace.now)) c.new-names.ensures
 
 pub loop-i-preserved : goal.loop-i-preserved
 loop-i-preserved c = λ name.

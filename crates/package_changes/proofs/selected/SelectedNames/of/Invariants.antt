@@ -3,9 +3,10 @@ use Rattle.std.proofs.Common.{◌≡◌, List, ℕ, drop}
 use Rattle.std.specs.List.{find}
 use Rattle.pool_core.specs.Rank.{is_at}
 use Rattle.package_changes.specs.Changes.{is_selected_named}
-use Rattle.package_changes.specs.SelectedNames.{or_place, place_beside}
+use Rattle.package_changes.specs.SelectedNames.{place_beside}
+use Rattle.std.specs.Option.{option_or}
 use Rattle.package_changes.proofs.selected.SelectedNames.of.Given as goal
 
 abbrev pub invariant-loop-i : goal.invariant-loop-i
 invariant-loop-i l =
-    (name : List ℕ) → or_place (place_beside name l.names) (find (is_at l.pool (is_selected_named name)) (drop l.i l.trace)) ≡ find (is_at l.pool (is_selected_named name)) l.trace
+    (name : List ℕ) → option_or (place_beside name l.names) (find (is_at l.pool (is_selected_named name)) (drop l.i l.trace)) ≡ find (is_at l.pool (is_selected_named name)) l.trace
