@@ -4,10 +4,9 @@ use Rattle.std.specs.List.{filter, list_all}
 use Rattle.dep_core.specs.Dependency.{Dependency}
 use Rattle.pool_core.specs.Candidates.{Candidate}
 use Rattle.pool_core.specs.declared.sealed.EntryKind.{EntryKind}
-use Rattle.pool_core.specs.declared.sealed.EntryKind.TheVariants.{Positive, Conflict, Tagged}
+use Rattle.pool_core.specs.declared.sealed.EntryKind.TheVariants.{Conflict, Tagged}
 
 abbrev pub is_entry_of_kind : EntryKind → Dependency → Bool
-is_entry_of_kind Positive d = not d.conflict
 is_entry_of_kind Conflict d = d.conflict
 is_entry_of_kind Tagged d = is_some d.tag
 

@@ -8,7 +8,7 @@ ghost use Rattle.adb_view.specs.Adb.{payload_of};
 ghost use Rattle.adb_view.specs.Entries.{array_entries};
 ghost use Rattle.adb_schema.specs.Views.{dependency_value};
 ghost use Rattle.adb_fields.specs.Fields.{are_all_sound, array_at};
-ghost use Rattle.adb_tables.specs.Values.{entry_in, is_sound, value_at};
+ghost use Rattle.adb_tables.specs.Values.{entry_in, is_sound, kind_at, value_at};
 ghost use Rattle.adb_tables.specs.declared.tables.Kind.TheVariants as Kinds;
 ghost use Rattle.adb_tables.specs.declared.tables.Which.TheVariants as Tables;
 ghost use Rattle.dep_core.specs.Meets.{dependency};
@@ -24,6 +24,24 @@ use adb_view::{Arr, Val};
 use dep_core::{Dep, dep_of, dep_of_parts};
 use std::alloc::{AllocError, Global};
 use std::marker::Model;
+
+/// The field of a package's information with its dependencies.
+const DEPENDS: usize = 14;
+
+/// That with its provides.
+const PROVIDES: usize = 15;
+
+/// That with its install-if.
+const INSTALL_IF: usize = 17;
+
+/// The field of a dependency with its name.
+const NAME: usize = 0;
+
+/// That with its version.
+const VERSION: usize = 1;
+
+/// That with its match number.
+const MATCHING: usize = 2;
 
 /// What a match number says of a conflict, above the bits of the operator.
 const CONFLICT: u64 = 16;
@@ -78,16 +96,10 @@ impl<'a> DependencyLists<'a> {
             (entry_in (value_at (payload_of judged.old.adb) (Kinds.Obj Tables.PkgInfo) word) 17)) }
         ensures payload { judged.new.adb ≡ judged.old.adb }
     {
-        let adb = judged.adb();
-        let depends = objects_field(adb, Which::PkgInfo, word, 14, Which::Dep);
-        let provides = objects_field(adb, Which::PkgInfo, word, 15, Which::Dep);
-        let install_if = objects_field(adb, Which::PkgInfo, word, 17, Which::Dep);
         let mut deps = Vec::new(alloc);
-        push_wanted(&mut deps, judged, depends, Wanted::Conflicts)?;
-        let provides_at = len_of(&deps)?;
-        push_wanted(&mut deps, judged, provides, Wanted::All)?;
-        let install_if_at = len_of(&deps)?;
-        push_wanted(&mut deps, judged, install_if, Wanted::All)?;
+        let provides_at = push_field(&mut deps, judged, word, DEPENDS, Wanted::Conflicts)?;
+        let install_if_at = push_field(&mut deps, judged, word, PROVIDES, Wanted::All)?;
+        push_field(&mut deps, judged, word, INSTALL_IF, Wanted::All)?;
         deps.shrink_to_fit();
         Ok(DependencyLists {
             deps,
@@ -118,6 +130,27 @@ impl<'a> DependencyLists<'a> {
     }
 }
 
+// Adds those dependencies of a field that are wanted, and answers how many there are then.
+fn push_field<'a>(
+    deps: &mut Vec<Dep<'a>>,
+    judged: &mut Judged<'a>,
+    word: Val,
+    field: usize,
+    wanted: Wanted,
+) -> Result<u32, AllocError>
+    requires sound { is_sound (payload_of judged.old.adb) (Kinds.Obj Tables.PkgInfo) word ≡ true }
+    requires kind { kind_at Tables.PkgInfo field ≡ Some (Kinds.ObjArr Tables.Dep) }
+    ensures deps { OnOk result (map dependency deps.new.items ≡ map dependency deps.old.items
+        ++ wanted_among wanted (dependencies_in (entry_in
+        (value_at (payload_of judged.old.adb) (Kinds.Obj Tables.PkgInfo) word) field))) }
+    ensures len { IfOk result (λ len. len ≡ length deps.new.items) }
+    ensures payload { judged.new.adb ≡ judged.old.adb }
+{
+    let words = objects_field(judged.adb(), Which::PkgInfo, word, field, Which::Dep);
+    push_wanted(deps, judged, words, wanted)?;
+    len_of(deps)
+}
+
 // How many dependencies there are. More than 32 bits count would have no memory.
 fn len_of(deps: &[Dep<'_>]) -> Result<u32, AllocError>
     ensures { IfOk result (λ len. len ≡ length deps.now) }
@@ -138,7 +171,7 @@ pub(crate) fn read_depends<'a>(
     ensures { IfOk result (λ deps. map dependency deps.items ≡ dependencies_in
         (entry_in (value_at (payload_of judged.old.adb) (Kinds.Obj Tables.PkgInfo) word) 14)) }
 {
-    let words = objects_field(judged.adb(), Which::PkgInfo, word, 14, Which::Dep);
+    let words = objects_field(judged.adb(), Which::PkgInfo, word, DEPENDS, Which::Dep);
     let mut deps = Vec::with_capacity(alloc, words.len())?;
     push_wanted(&mut deps, judged, words, Wanted::All)?;
     Ok(deps)
@@ -178,7 +211,7 @@ fn push_one<'a>(
         (value_at (payload_of judged.old.adb) (Kinds.Obj Tables.Dep) word)))) }
     ensures payload { judged.new.adb ≡ judged.old.adb }
 {
-    let matching = int_field(judged.adb(), Which::Dep, word, 2);
+    let matching = int_field(judged.adb(), Which::Dep, word, MATCHING);
     if !is_wanted(wanted, matching) {
         return Ok(());
     }
@@ -194,13 +227,14 @@ fn read_judged<'a>(judged: &mut Judged<'a>, word: Val) -> Result<Option<Dep<'a>>
         (value_at (payload_of judged.old.adb) (Kinds.Obj Tables.Dep) word)) }
     ensures payload { judged.new.adb ≡ judged.old.adb }
 {
-    let Some(name) = text_if_kept(judged, Which::Dep, word, 0, TextRule::DependencyName)? else {
+    let Some(name) = text_if_kept(judged, Which::Dep, word, NAME, TextRule::DependencyName)? else {
         return Ok(None);
     };
-    let Some(version) = text_if_kept(judged, Which::Dep, word, 1, TextRule::VersionOrEmpty)? else {
+    let Some(version) = text_if_kept(judged, Which::Dep, word, VERSION, TextRule::VersionOrEmpty)?
+    else {
         return Ok(None);
     };
-    let matching = int_field(judged.adb(), Which::Dep, word, 2);
+    let matching = int_field(judged.adb(), Which::Dep, word, MATCHING);
     Ok(dep_of_parts(name, version, matching))
 }
 

@@ -7,7 +7,7 @@ ghost use Rattle.std.specs.Ordering.{bool_cmp, flip_args};
 ghost use Rattle.std.specs.Str.{bytes_eq};
 ghost use Rattle.dep_core.specs.Dependency.{Dependency};
 ghost use Rattle.dep_core.specs.Meets.{dependency};
-ghost use Rattle.pool_core.specs.Candidates.{Candidate as CandidateValue, has_usable_install_if, is_allowed, is_eligible, is_barred_by, meets_dependency, positive_entries_of, uses_tag};
+ghost use Rattle.pool_core.specs.Candidates.{Candidate as CandidateValue, has_usable_install_if, is_allowed, is_eligible, is_barred_by, meets_dependency, uses_tag};
 ghost use Rattle.pool_core.specs.CandidateList.{IsCandidateList};
 ghost use Rattle.pool_core.specs.Options.{may_meet, places_offering, options_for, places_from};
 ghost use Rattle.pool_core.specs.Rank.{candidate_at, candidate_cmp, is_at, is_eligible_at, is_kept_installed, is_pinned, is_pinned_at, is_pinned_to, rank_cmp, sealed_pool_by};
@@ -34,7 +34,6 @@ pub struct Sealed<'a> {
     table: Table<'a>,
     world: &'a World,
     upgrade: Upgrade<'a>,
-    positive_entries: Vec<Dep<'a>>,
     eligible: Vec<bool>,
     pinned: Vec<bool>,
     kept: Vec<bool>,
@@ -45,8 +44,7 @@ impl<'a> Model for Sealed<'a> {
     ghost use Rattle.std.specs.Coded.{codes};
     ghost use Rattle.pool_core.specs.PlainCode.{plain_code};
     ghost use Rattle.std.specs.Prelude.{◌≡◌, map};
-    ghost use Rattle.dep_core.specs.Meets.{dependency};
-    ghost use Rattle.pool_core.specs.Candidates.{has_usable_install_if, is_eligible, positive_entries_of};
+    ghost use Rattle.pool_core.specs.Candidates.{has_usable_install_if, is_eligible};
     ghost use Rattle.pool_core.specs.Options.{places_from};
     ghost use Rattle.pool_core.specs.Rank.{SealedPool, is_kept_installed, is_pinned, sealed_pool_by};
     ghost use Rattle.pool_core.specs.Table.{LeadsToOffers};
@@ -60,7 +58,6 @@ impl<'a> Model for Sealed<'a> {
         sealed_pool_by s.details.items s.world.now (names_upgraded_by s.upgrade) };
 
     ghost invariant = { λ s. LeadsToOffers s.table s.details.items
-        × (map dependency s.positive_entries.items ≡ positive_entries_of s.world.now)
         × (s.eligible.items ≡ map (is_eligible s.world.now) s.details.items)
         × (s.pinned.items ≡ map (is_pinned s.world.now) s.details.items)
         × (s.kept.items ≡ map (is_kept_installed (names_upgraded_by s.upgrade)) s.details.items)
@@ -112,13 +109,6 @@ impl<'a> Sealed<'a> {
         ensures { result.now ≡ places_offering name.now self.now.candidates }
     {
         self.table.get(name)
-    }
-
-    /// What world asks for: its entries that are no conflicts, in their order.
-    pub fn positive_entries(&self) -> &[Dep<'a>]
-        ensures { map dependency result.now ≡ positive_entries_of self.now.world }
-    {
-        self.positive_entries.as_slice()
     }
 
     /// The places of the candidates whose install-if can come to apply, in rising order.
@@ -258,8 +248,6 @@ impl<'a> Sealed<'a> {
 /// What an entry of world does.
 #[derive(Clone, Copy)]
 enum EntryKind {
-    /// It asks for a candidate.
-    Positive,
     /// It excludes what meets it.
     Conflict,
     /// It has a tag.
@@ -278,23 +266,50 @@ pub(crate) fn seal_list<'a>(
         ≡ sealed_pool_by list.entry.details.items world.entry.now
         (names_upgraded_by upgrade.entry)) }
 {
-    let CandidateList { details, table } = list;
-    let positive_entries = entries_of_kind(alloc, world, EntryKind::Positive)?;
-    let conflicts = entries_of_kind(alloc, world, EntryKind::Conflict)?;
-    let tagged = entries_of_kind(alloc, world, EntryKind::Tagged)?;
-    let eligible = eligible_marks(alloc, &details, &table, &tagged, &conflicts)?;
-    let pinned = pinned_marks(alloc, &details, &table, &tagged)?;
-    let install_ifs = install_ifs_among(alloc, &details, &eligible)?;
-    let kept = kept_marks(alloc, &details, upgrade)?;
+    let marks = marks_by_world(alloc, &list, world)?;
+    let kept = kept_marks(alloc, &list.details, upgrade)?;
     Ok(Sealed {
-        details,
-        table,
+        details: list.details,
+        table: list.table,
         world,
         upgrade,
-        positive_entries,
+        eligible: marks.eligible,
+        pinned: marks.pinned,
+        kept,
+        install_ifs: marks.install_ifs,
+    })
+}
+
+/// What world says of each candidate: whether it may be selected, whether it is pinned, and the
+/// places of those whose install-if can come to apply.
+#[derive(Drop)]
+struct WorldMarks {
+    eligible: Vec<bool>,
+    pinned: Vec<bool>,
+    install_ifs: Vec<CandId>,
+}
+
+fn marks_by_world(
+    alloc: Global,
+    list: &CandidateList<'_>,
+    world: &World,
+) -> Result<WorldMarks, AllocError>
+    requires { IsCandidateList list.now }
+    ensures eligible { IfOk result (λ marks. marks.eligible.items
+        ≡ map (is_eligible world.now) list.now.details.items) }
+    ensures pinned { IfOk result (λ marks. marks.pinned.items
+        ≡ map (is_pinned world.now) list.now.details.items) }
+    ensures install_ifs { IfOk result (λ marks. marks.install_ifs.items
+        ≡ places_from 0 (has_usable_install_if world.now) list.now.details.items) }
+{
+    let conflicts = entries_of_kind(alloc, world, EntryKind::Conflict)?;
+    let tagged = entries_of_kind(alloc, world, EntryKind::Tagged)?;
+    let eligible = eligible_marks(alloc, &list.details, &list.table, &tagged, &conflicts)?;
+    let pinned = pinned_marks(alloc, &list.details, &list.table, &tagged)?;
+    let install_ifs = install_ifs_among(alloc, &list.details, &eligible)?;
+    Ok(WorldMarks {
         eligible,
         pinned,
-        kept,
         install_ifs,
     })
 }
@@ -331,7 +346,6 @@ fn is_entry_of_kind(kind: EntryKind, dep: &Dep<'_>) -> bool
     ensures { result ≡ is_entry_of_kind kind (dependency dep.now) }
 {
     match kind {
-        EntryKind::Positive => !dep.conflict,
         EntryKind::Conflict => dep.conflict,
         EntryKind::Tagged => dep.tag.is_some(),
     }

@@ -15,6 +15,9 @@ use adb_view::Val;
 use std::alloc::AllocError;
 use version_core::Version;
 
+/// The field of a package's information with its version.
+const VERSION: usize = 1;
+
 /// The text of an object's field, if it keeps a rule.
 pub(crate) fn text_if_kept<'a>(
     judged: &mut Judged<'a>,
@@ -50,7 +53,7 @@ pub(crate) fn read_version<'a>(
         (value_at (payload_of judged.old.adb) (Kinds.Obj Tables.PkgInfo) word) 1))) }
     ensures payload { judged.new.adb ≡ judged.old.adb }
 {
-    match text_if_kept(judged, Which::PkgInfo, word, 1, TextRule::Version)? {
+    match text_if_kept(judged, Which::PkgInfo, word, VERSION, TextRule::Version)? {
         None => Ok(None),
         Some(text) => Ok(Some(Version::of(text))),
     }
