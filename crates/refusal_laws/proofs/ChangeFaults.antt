@@ -1,0 +1,190 @@
+-- A change that is refused for what it would leave is refused for its fault.
+use Rattle.std.proofs.Common.{◌≡◌, inl, inr, ◌∙◌, ℕ, Bool, true, false, List, [], ◌∷◌, map, Option, Some, None, Result, Ok, Err, refl, ap, sym, subst}
+use Rattle.std.specs.Prelude.{if◌then◌else◌}
+use Rattle.std.proofs.lemmas.Bool.{and_parts}
+use Rattle.adb_fields.specs.FirstPair.{IsIn}
+use Rattle.adb_view.specs.Plain.{Plain}
+use Rattle.adb_write.specs.Canonical.{PayloadCounts, canonical, empty_layout, or_overflow, overflow_of, passes, trace, written_of}
+use Rattle.base_core.specs.Files.{Files}
+use Rattle.change_files.specs.FileChange.{FileChange}
+use Rattle.change_files.specs.PlanLists.{first_reserved}
+use Rattle.change_files.proofs.InOrder.{from_order}
+use Rattle.change_inputs.specs.Chains.{and_then}
+use Rattle.change_inputs.specs.Inputs.{Inputs}
+use Rattle.change_outcome.specs.ChangeOutcome.{ChangeDone, ChangeWishes, IsClashFound, IsClashOfChange, actions_of, change_done, change_members, change_or_refusal, change_with_members, file_change, name_at_place, new_records, touched_paths, unless_clash, unless_contested, unless_large, unless_overflow, unless_reserved_path, unless_too_large}
+use Rattle.change_outcome.specs.MembersAfter.{MemberFound}
+use Rattle.change_outcome.specs.PackageFiles.{has_script_of, trigger_script}
+use Rattle.change_outcome.specs.Triggers.{folders_of_paths, has_due_trigger, is_due, is_folder_matched, is_watched, patterns_of, unless_trigger}
+use Rattle.db_core.specs.Members.{Member, member_name}
+use Rattle.db_write.specs.NewDatabase.{database_container, database_of, database_value}
+use Rattle.file_owners.specs.Owners.{contested_of, owned_of}
+use Rattle.journal_intent.specs.IntentValue.{intent_of_lists, value_of_intent}
+use Rattle.make_info.specs.Reads.{Reads}
+use Rattle.make_package.specs.Folders.{folder_of}
+use Rattle.package_changes.specs.Changes.{Replacement}
+use Rattle.path_claims.specs.Claims.{ContestedPath}
+use Rattle.path_clashes.specs.Clash.{NamePair}
+use Rattle.report_core.specs.declared.refusal.Refusal.{Refusal}
+use Rattle.report_core.specs.declared.refusal.Refusal.TheVariants.{Owned, PathClash, Reserved, ResultTooLarge, TriggerNeeded}
+use Rattle.refusal_laws.specs.ChangeFaults.{IsFaultOfChange, IsFaultOfFiles, IsResultTooLarge, IsTooLarge, IsTriggerNeeded, IsWatchedFor}
+use Rattle.refusal_laws.proofs.Lists.{and_then_err, any_in, found_in, in_names, mapped_in}
+use Rattle.refusal_laws.proofs.PackageFaults.{members_fault}
+use Rattle.refusal_laws.proofs.Paths.{contested_is, first_reserved_is}
+
+-- ---- limits
+
+pub too_large : (v : Plain) (counts : PayloadCounts) → overflow_of v ≡ Some counts → IsTooLarge v counts.0 counts.1
+too_large v counts e = (e, (found_in passes (trace v empty_layout) counts e).1)
+
+written_err : (v : Plain) (counts : PayloadCounts) → written_of v ≡ Err counts → overflow_of v ≡ Some counts
+unfolding written_of
+written_err v counts e = by_overflow (overflow_of v) refl e
+  where
+    by_overflow : (o : Option PayloadCounts) → overflow_of v ≡ o → or_overflow (canonical v) o ≡ Err counts → overflow_of v ≡ Some counts
+    by_overflow None is e = absurd (cc (e))
+    by_overflow (Some first) is e = let same : first ≡ counts = cc in is ∙ ap (λ (c : PayloadCounts). Some c) same
+
+database_err : (members : List Member) (flags : List Bool) (counts : PayloadCounts) → database_of members flags ≡ Err counts → written_of (database_value members flags) ≡ Err counts
+unfolding database_of
+database_err members flags counts e = by_written (written_of (database_value members flags)) refl e
+  where
+    by_written : (w : Result (List ℕ) PayloadCounts) → written_of (database_value members flags) ≡ w → database_container w ≡ Err counts → written_of (database_value members flags) ≡ Err counts
+    by_written (Ok payload) is e = absurd (cc (e))
+    by_written (Err first) is e = let same : first ≡ counts = cc in is ∙ ap (λ (c : PayloadCounts). Err c) same
+
+large_err : {A : Type 0} (w : Result A PayloadCounts) (refusal : Refusal) → unless_large w ≡ Err refusal → (counts : PayloadCounts) × (w ≡ Err counts) × (ResultTooLarge counts.0 counts.1 ≡ refusal)
+large_err (Ok a) refusal e = absurd (cc (e))
+large_err (Err counts) refusal e = (counts, refl, (let same : ResultTooLarge counts.0 counts.1 ≡ refusal = cc in same))
+
+large_ok : {A : Type 0} (w : Result A PayloadCounts) (a : A) → unless_large w ≡ Ok a → w ≡ Ok a
+large_ok (Ok x) a e = let same : x ≡ a = cc in ap (λ y. Ok y) same
+large_ok (Err counts) a e = absurd (cc (e))
+
+overflow_err : {A : Type 0} (o : Option PayloadCounts) (a : A) (refusal : Refusal) → unless_overflow o a ≡ Err refusal → (counts : PayloadCounts) × (o ≡ Some counts) × (ResultTooLarge counts.0 counts.1 ≡ refusal)
+overflow_err None a refusal e = absurd (cc (e))
+overflow_err (Some counts) a refusal e = (counts, refl, (let same : ResultTooLarge counts.0 counts.1 ≡ refusal = cc in same))
+
+-- ---- triggers
+
+abbrev pub kept_test : Result Bool Refusal → Result Bool Refusal
+kept_test r = r
+
+pub trigger_of : (paths : List (List ℕ)) (members : List Member) (refusal : Refusal) → unless_trigger false paths members ≡ Err refusal
+    → (m : Member) × IsIn m members × (has_due_trigger (folders_of_paths paths) m.pkg ≡ true) × (TriggerNeeded (member_name m) ≡ refusal)
+trigger_of paths [] refusal e = absurd (cc (e))
+trigger_of paths (m ∷ members) refusal e = by_test (has_due_trigger (folders_of_paths paths) m.pkg) refl e (trigger_of paths members refusal)
+  where
+    by_test : (b : Bool) → has_due_trigger (folders_of_paths paths) m.pkg ≡ b → kept_test (if b then Err (TriggerNeeded (member_name m)) else unless_trigger false paths members) ≡ Err refusal
+        → (unless_trigger false paths members ≡ Err refusal → (n : Member) × IsIn n members × (has_due_trigger (folders_of_paths paths) n.pkg ≡ true) × (TriggerNeeded (member_name n) ≡ refusal))
+        → (n : Member) × IsIn n (m ∷ members) × (has_due_trigger (folders_of_paths paths) n.pkg ≡ true) × (TriggerNeeded (member_name n) ≡ refusal)
+    by_test true due e more = (m, inl refl, due, (let same : TriggerNeeded (member_name m) ≡ refusal = cc in same))
+    by_test false due e more = let other = more e in (other.0, inr other.1, other.2, other.3)
+
+watches : (change : FileChange) (files : Files) (pkg : Plain) → has_due_trigger (folders_of_paths (touched_paths change files)) pkg ≡ true → (has_script_of pkg trigger_script ≡ true) × IsWatchedFor change files pkg
+watches change files pkg due =
+    let folder = any_in (is_due pkg) (folders_of_paths (touched_paths change files)) due in
+    let both = and_parts (has_script_of pkg trigger_script) (is_watched pkg folder.0) folder.2 in
+    let pattern = any_in (is_folder_matched folder.0) (patterns_of pkg) both.1 in
+    let path = mapped_in folder_of (touched_paths change files) folder.0 (from_order folder.0 (map folder_of (touched_paths change files)) (in_names folder.0 (folders_of_paths (touched_paths change files)) folder.1)) in (
+      both.0,
+      record {
+        path = path.0;
+        touched = path.1;
+        pattern = pattern.0;
+        is_pattern = pattern.1;
+        matched = ap (λ f. is_folder_matched f pattern.0) (sym path.2) ∙ pattern.2;
+      },
+    )
+
+trigger_err : (wishes : ChangeWishes) (change : FileChange) (files : Files) (no_scripts : Bool) (refusal : Refusal) → wishes.no_scripts ≡ no_scripts → unless_trigger no_scripts (touched_paths change files) change.members ≡ Err refusal
+    → (name : List ℕ) × IsTriggerNeeded wishes change files name × (TriggerNeeded name ≡ refusal)
+trigger_err wishes change files true refusal asked e = absurd (true_err change.members e)
+  where
+    true_err : (members : List Member) → unless_trigger true (touched_paths change files) members ≡ Err refusal → ⊥
+    true_err [] e = cc (e)
+    true_err (m ∷ members) e = cc (e)
+trigger_err wishes change files false refusal asked e =
+    let due = trigger_of (touched_paths change files) change.members refusal e in
+    let is = watches change files due.0.pkg due.2 in
+    (member_name due.0, record { asked = asked; member = due.0; stands = due.1; named = refl; has = is.0; watches = is.1 }, due.3)
+
+-- ---- what it would leave
+
+module _ (inputs : Inputs) (r : Replacement) (wishes : ChangeWishes) (files : Files) (found : List MemberFound) where
+  abbrev pub IsSo : Refusal → Type 0
+  IsSo refusal = IsFaultOfFiles inputs wishes files found refusal
+
+  abbrev change : FileChange
+  change = file_change inputs wishes found
+
+  -- it tells of counts
+  pub large_told : (refusal : Refusal) → unless_too_large inputs r wishes found files ≡ Err refusal → (bytes : ℕ) × (values : ℕ) × (ResultTooLarge bytes values ≡ refusal)
+  large_told refusal e =
+      elim (and_then_err (unless_large (database_of change.members (owned_of change.members))) (λ database.
+      unless_overflow (overflow_of (value_of_intent (intent_of_lists (actions_of inputs change files (new_records inputs database)).removals (actions_of inputs change files (new_records inputs database)).writes)))
+      (change_done inputs r wishes found files (new_records inputs database))) refusal e) [
+        | inl first ↦ (let large = large_err (database_of change.members (owned_of change.members)) refusal first in (large.0.0, large.0.1, large.2))
+        | inr next ↦ (let intent : Plain = value_of_intent (intent_of_lists (actions_of inputs change files (new_records inputs next.0)).removals (actions_of inputs change files (new_records inputs next.0)).writes) in
+            let over = overflow_err (overflow_of intent) (change_done inputs r wishes found files (new_records inputs next.0)) refusal next.2 in
+            (over.0.0, over.0.1, over.2))
+      ]
+
+  result_fault : (bytes values : ℕ) (refusal : Refusal) → IsResultTooLarge inputs change files bytes values → ResultTooLarge bytes values ≡ refusal → IsSo refusal
+  result_fault bytes values refusal is same = subst IsSo same is
+
+  large_fault : (refusal : Refusal) → unless_too_large inputs r wishes found files ≡ Err refusal → IsSo refusal
+  large_fault refusal e =
+      elim (and_then_err (unless_large (database_of change.members (owned_of change.members))) (λ database.
+      unless_overflow (overflow_of (value_of_intent (intent_of_lists (actions_of inputs change files (new_records inputs database)).removals (actions_of inputs change files (new_records inputs database)).writes)))
+      (change_done inputs r wishes found files (new_records inputs database))) refusal e) [
+        | inl first ↦ (let large = large_err (database_of change.members (owned_of change.members)) refusal first in
+            result_fault large.0.0 large.0.1 refusal
+            (inl (too_large (database_value change.members (owned_of change.members)) large.0
+            (written_err (database_value change.members (owned_of change.members)) large.0 (database_err change.members (owned_of change.members) large.0 large.1)))) large.2)
+        | inr next ↦ (let intent : Plain = value_of_intent (intent_of_lists (actions_of inputs change files (new_records inputs next.0)).removals (actions_of inputs change files (new_records inputs next.0)).writes) in
+            let over = overflow_err (overflow_of intent) (change_done inputs r wishes found files (new_records inputs next.0)) refusal next.2 in
+            result_fault over.0.0 over.0.1 refusal
+            (inr (record { database = next.0; fits = large_ok (database_of change.members (owned_of change.members)) next.0 next.1; passes = too_large intent over.0 over.1 })) over.2)
+      ]
+
+  trigger_fault : (refusal : Refusal) → and_then (unless_trigger wishes.no_scripts (touched_paths change files) change.members) (λ is_allowed. unless_too_large inputs r wishes found files) ≡ Err refusal → IsSo refusal
+  trigger_fault refusal e =
+      elim (and_then_err (unless_trigger wishes.no_scripts (touched_paths change files) change.members) (λ is_allowed. unless_too_large inputs r wishes found files) refusal e) [
+        | inl first ↦ (let needed = trigger_err wishes change files wishes.no_scripts refusal refl first in subst IsSo needed.2 needed.1)
+        | inr next ↦ large_fault refusal next.2
+      ]
+
+  abbrev behind_owners : Result ChangeDone Refusal
+  behind_owners = and_then (unless_trigger wishes.no_scripts (touched_paths change files) change.members) (λ is_allowed. unless_too_large inputs r wishes found files)
+
+  owned_fault : (o : Option ContestedPath) (refusal : Refusal) → contested_of change.members ≡ o → unless_contested change.members o behind_owners ≡ Err refusal → IsSo refusal
+  owned_fault None refusal is e = trigger_fault refusal e
+  owned_fault (Some c) refusal is e =
+      let same : Owned c.path (name_at_place change.members c.rivals.first) (name_at_place change.members c.rivals.second) ≡ refusal = cc in
+      subst IsSo same (contested_is change.members c is)
+
+  clash_fault : (o : Option NamePair) (refusal : Refusal) → IsClashFound inputs wishes files (Ok found) o → unless_clash o (unless_contested change.members (contested_of change.members) behind_owners) ≡ Err refusal → IsSo refusal
+  clash_fault None refusal is e = owned_fault (contested_of change.members) refusal refl e
+  clash_fault (Some pair) refusal is e =
+      let same : PathClash pair.path pair.other ≡ refusal = cc in
+      subst IsSo same is
+
+  pub files_fault : (clash : Option NamePair) (refusal : Refusal) → IsClashFound inputs wishes files (Ok found) clash → change_with_members inputs r wishes clash files found ≡ Err refusal → IsFaultOfFiles inputs wishes files found refusal
+  files_fault clash refusal is e = by_path (first_reserved change.members) refl e
+    where
+      by_path : (o : Option (List ℕ)) → first_reserved change.members ≡ o → unless_reserved_path o (unless_clash clash (unless_contested change.members (contested_of change.members) behind_owners)) ≡ Err refusal → IsSo refusal
+      by_path None none e = clash_fault clash refusal is e
+      by_path (Some path) first e =
+          let same : Reserved path ≡ refusal = cc in
+          subst IsSo same (first_reserved_is change.members path first)
+
+-- ---- a change
+
+pub change_fault : (inputs : Inputs) (r : Replacement) (wishes : ChangeWishes) (read : Reads) (clash : Option NamePair) (files : Files) (refusal : Refusal)
+    → change_or_refusal inputs r wishes read clash files ≡ Err refusal → IsClashOfChange inputs r wishes read files clash → IsFaultOfChange inputs r wishes read files refusal
+unfolding change_or_refusal
+change_fault inputs r wishes read clash files refusal e is =
+    elim (and_then_err (change_members inputs r wishes read) (change_with_members inputs r wishes clash files) refusal e) [
+      | inl first ↦ inl (members_fault inputs r wishes read refusal first)
+      | inr next ↦ inr (next.0, next.1, files_fault inputs r wishes files next.0 clash refusal (subst (λ (m : Result (List MemberFound) Refusal). IsClashFound inputs wishes files m clash) next.1 is) next.2)
+    ]

@@ -1,0 +1,193 @@
+-- A package that comes is found in its file, or its refusal tells why not.
+use Rattle.std.proofs.Common.{◌≡◌, inl, inr, ◌∙◌, ℕ, ◌+◌, Bool, true, false, List, [], ◌∷◌, length, Option, Some, None, Result, Ok, Err, refl, ap, sym, subst, true≢false}
+use Rattle.std.specs.Prelude.{not, bytes_eq, if◌then◌else◌, option_and_then, slice_get}
+use Rattle.std.proofs.lemmas.Slice.Eq.{bytes_eq-Decides}
+use Rattle.adb_fields.specs.FirstPair.{IsIn}
+use Rattle.adb_fields.specs.Repeated.{package_name}
+use Rattle.adb_view.specs.Plain.{Plain}
+use Rattle.base_core.specs.declared.cause.Cause.{Cause}
+use Rattle.change_inputs.specs.Inputs.{Inputs, first_index_read}
+use Rattle.change_outcome.specs.ChangeOutcome.{ChangeWishes}
+use Rattle.change_outcome.specs.MembersAfter.{coming_by_path}
+use Rattle.change_outcome.specs.PackageFiles.{ComingPackage, first_script_of, has_script_of, id_field, name_field, package_file_of, package_found, package_in_file, scripts_of_change, unless_different, unless_number, unless_package_bad, unless_script, version_field}
+use Rattle.file_owners.specs.Replaces.{version_text}
+use Rattle.make_info.specs.Reads.{Reads}
+use Rattle.package_changes.specs.Changes.{Replacement, change_of_name, is_selected_named, names_on_both_sides, selected_version}
+use Rattle.pkg_core.specs.Whole.{package_fault}
+use Rattle.pool_core.specs.Candidates.{Candidate, is_same_id}
+use Rattle.report_core.specs.Reports.{Change}
+use Rattle.report_core.specs.declared.refusal.Refusal.{Refusal}
+use Rattle.report_core.specs.declared.refusal.Refusal.TheVariants.{PackageBad, PackageDiffers, PackageMissing, ScriptNeeded}
+use Rattle.refusal_laws.specs.ComingPackages.{IsAsSelected, IsBrought, IsReadFor, package_file_read, selected_of_name}
+use Rattle.refusal_laws.specs.PackageFaults.{IsComingOrGoing, IsOtherPackage}
+use Rattle.refusal_laws.specs.ChangeFaults.{IsFaultOfPackage}
+use Rattle.refusal_laws.proofs.Lists.{found_in}
+
+-- ---- what its file says
+
+abbrev differs : Candidate → ℕ → List ℕ → List ℕ → Refusal
+differs c field wanted found = PackageDiffers c.name (selected_version c) field wanted found
+
+abbrev IsTold : Candidate → ComingPackage → Refusal → Type 0
+IsTold c pkg refusal = (field : ℕ) × (wanted : List ℕ) × (found : List ℕ) × IsOtherPackage c pkg field wanted found × (differs c field wanted found ≡ refusal)
+
+abbrev kept_package : Result ComingPackage Refusal → Result ComingPackage Refusal
+kept_package r = r
+
+not_same : (a b : List ℕ) → bytes_eq a b ≡ false → a ≡ b → ⊥
+not_same a b apart is = true≢false (sym ((bytes_eq-Decides a b).1 is) ∙ apart)
+
+module _ (c : Candidate) (pkg : ComingPackage) where
+  abbrev by_fields : Bool → Bool → Bool → Result ComingPackage Refusal
+  by_fields a b v =
+      if not a then Err (differs c id_field c.id pkg.id) else if not b then Err (differs c name_field c.name (package_name pkg.value))
+      else if not v then Err (differs c version_field (selected_version c) (version_text pkg.value)) else Ok pkg
+
+  different_err : (refusal : Refusal) → unless_different c pkg ≡ Err refusal → IsTold c pkg refusal
+  different_err refusal e = by_tests (is_same_id c.id pkg.id) refl (bytes_eq c.name (package_name pkg.value)) refl (bytes_eq (selected_version c) (version_text pkg.value)) refl e
+    where
+      by_tests : (a : Bool) → is_same_id c.id pkg.id ≡ a → (b : Bool) → bytes_eq c.name (package_name pkg.value) ≡ b → (v : Bool) → bytes_eq (selected_version c) (version_text pkg.value) ≡ v
+          → by_fields a b v ≡ Err refusal → IsTold c pkg refusal
+      by_tests false i b n v w e = (id_field, c.id, pkg.id, inl (refl, (refl, refl, i)), (let same : differs c id_field c.id pkg.id ≡ refusal = cc in same))
+      by_tests true i false n v w e = (
+        name_field,
+        c.name,
+        package_name pkg.value,
+        inr (inl (refl, i, (refl, refl, not_same c.name (package_name pkg.value) n))),
+        (let same : differs c name_field c.name (package_name pkg.value) ≡ refusal = cc in same),
+      )
+      by_tests true i true n false w e = (
+        version_field,
+        selected_version c,
+        version_text pkg.value,
+        inr (inr (refl, i, (bytes_eq-Decides c.name (package_name pkg.value)).0 n, (refl, refl, not_same (selected_version c) (version_text pkg.value) w))),
+        (let same : differs c version_field (selected_version c) (version_text pkg.value) ≡ refusal = cc in same),
+      )
+      by_tests true i true n true w e = absurd (cc (e))
+
+  different_ok : (p : ComingPackage) → unless_different c pkg ≡ Ok p → (p ≡ pkg) × (is_same_id c.id pkg.id ≡ true) × (package_name pkg.value ≡ c.name) × (version_text pkg.value ≡ selected_version c)
+  different_ok p e = by_tests (is_same_id c.id pkg.id) refl (bytes_eq c.name (package_name pkg.value)) refl (bytes_eq (selected_version c) (version_text pkg.value)) refl e
+    where
+      by_tests : (a : Bool) → is_same_id c.id pkg.id ≡ a → (b : Bool) → bytes_eq c.name (package_name pkg.value) ≡ b → (v : Bool) → bytes_eq (selected_version c) (version_text pkg.value) ≡ v
+          → by_fields a b v ≡ Ok p → (p ≡ pkg) × (is_same_id c.id pkg.id ≡ true) × (package_name pkg.value ≡ c.name) × (version_text pkg.value ≡ selected_version c)
+      by_tests false i b n v w e = absurd (cc (e))
+      by_tests true i false n v w e = absurd (cc (e))
+      by_tests true i true n false w e = absurd (cc (e))
+      by_tests true i true n true w e = (
+        (let same : pkg ≡ p = cc in sym same),
+        i,
+        sym ((bytes_eq-Decides c.name (package_name pkg.value)).0 n),
+        sym ((bytes_eq-Decides (selected_version c) (version_text pkg.value)).0 w),
+      )
+
+pub found_ok : (c : Candidate) (file : List ℕ) (pkg : ComingPackage) → package_found c (Some file) ≡ Ok pkg → IsAsSelected c file × (pkg ≡ package_in_file file)
+found_ok c file pkg e = by_fault (package_fault file) refl e
+  where
+    by_fault : (fault : Option Cause) → package_fault file ≡ fault → unless_package_bad c fault (package_in_file file) ≡ Ok pkg → IsAsSelected c file × (pkg ≡ package_in_file file)
+    by_fault None sound e =
+        let ok = different_ok c (package_in_file file) pkg e in
+        (record { sound = sound; id = ok.1; name = ok.2; version = ok.3 }, ok.0)
+    by_fault (Some cause) sound e = absurd (cc (e))
+
+pub path_is : (read : Reads) (n : ℕ) (c : Candidate) (path : Option (List ℕ)) → coming_by_path read n c path ≡ package_found c (option_and_then (read n) path)
+path_is read n c None = refl
+path_is read n c (Some path) = refl
+
+-- ---- scripts
+
+pub script_ok : {A : Type 0} (no_scripts : Bool) (name : List ℕ) (pkg : Plain) (numbers : List ℕ) (a b : A) → unless_script no_scripts name pkg numbers a ≡ Ok b → a ≡ b
+script_ok true name pkg numbers a b e = (cc (e))
+script_ok false name pkg numbers a b e = by_number (first_script_of pkg numbers) e
+  where
+    by_number : (o : Option ℕ) → unless_number name o a ≡ Ok b → a ≡ b
+    by_number None e = (cc (e))
+    by_number (Some number) e = absurd (cc (e))
+
+abbrev IsScriptTold : Bool → List ℕ → Plain → List ℕ → Refusal → Type 0
+IsScriptTold no_scripts name pkg numbers refusal = (script : ℕ) × (no_scripts ≡ false) × (first_script_of pkg numbers ≡ Some script) × (ScriptNeeded name script ≡ refusal)
+
+script_err : {A : Type 0} (no_scripts : Bool) (name : List ℕ) (pkg : Plain) (numbers : List ℕ) (a : A) (refusal : Refusal) → unless_script no_scripts name pkg numbers a ≡ Err refusal
+    → IsScriptTold no_scripts name pkg numbers refusal
+script_err true name pkg numbers a refusal e = absurd (cc (e))
+script_err false name pkg numbers a refusal e = by_number (first_script_of pkg numbers) refl e
+  where
+    by_number : (o : Option ℕ) → first_script_of pkg numbers ≡ o → unless_number name o a ≡ Err refusal → IsScriptTold false name pkg numbers refusal
+    by_number None is e = absurd (cc (e))
+    by_number (Some number) is e = (number, refl, is, (let same : ScriptNeeded name number ≡ refusal = cc in same))
+
+first_has : (pkg : Plain) (numbers : List ℕ) (script : ℕ) → first_script_of pkg numbers ≡ Some script → IsIn script numbers × (has_script_of pkg script ≡ true)
+first_has pkg [] script e = absurd (cc (e))
+first_has pkg (number ∷ numbers) script e = by_test (has_script_of pkg number) refl e (first_has pkg numbers script)
+  where
+    by_test : (b : Bool) → has_script_of pkg number ≡ b → (if b then Some number else first_script_of pkg numbers) ≡ Some script
+        → (first_script_of pkg numbers ≡ Some script → IsIn script numbers × (has_script_of pkg script ≡ true)) → IsIn script (number ∷ numbers) × (has_script_of pkg script ≡ true)
+    by_test true has e more = let same : script ≡ number = cc in (inl same, ap (has_script_of pkg) same ∙ has)
+    by_test false has e more = let behind = more e in (inr behind.0, behind.1)
+
+-- ---- of a change
+
+-- a name of both sides, for which this is the number of the read
+pub record IsNameAt (inputs : Inputs) (r : Replacement) (n : ℕ) (name : List ℕ) : Type 0 where
+  pub place : ℕ
+  pub is_place : slice_get (names_on_both_sides r) place ≡ Some name
+  pub is_number : first_index_read + length inputs.root.repositories + place ≡ n
+
+module _ (inputs : Inputs) (r : Replacement) (wishes : ChangeWishes) (read : Reads) where
+  abbrev pub IsTrue : Refusal → Type 0
+  IsTrue refusal = IsFaultOfPackage inputs r wishes read refusal
+
+  pub script_fault : {A : Type 0} (name : List ℕ) (pkg : Plain) (change : Change) (a : A) (refusal : Refusal) → IsComingOrGoing inputs r read name pkg → change_of_name r name ≡ Some change
+      → unless_script wishes.no_scripts name pkg (scripts_of_change change) a ≡ Err refusal → IsTrue refusal
+  script_fault name pkg change a refusal is becomes e =
+      let told = script_err wishes.no_scripts name pkg (scripts_of_change change) a refusal e in
+      let has = first_has pkg (scripts_of_change change) told.0 told.2 in
+      subst IsTrue told.3 (record { asked = told.1; pkg = pkg; is_package = is; change = change; becomes = becomes; runs = has.0; has = has.1; first = told.2 })
+
+  module _ (n : ℕ) (name : List ℕ) (at : IsNameAt inputs r n name) (change : Change) (becomes : change_of_name r name ≡ Some change) (c : Candidate) (selected : selected_of_name r name ≡ Some c) where
+    named : c.name ≡ name
+    named = (bytes_eq-Decides c.name name).0 (found_in (is_selected_named name) r.selected c selected).1
+
+    abbrev read_for : (file : Option (List ℕ)) → package_file_read read n inputs.root.repositories c ≡ file → IsReadFor inputs r read name (selected_version c) file
+    read_for file is = record {
+      candidate = c;
+      selected = selected;
+      has_version = refl;
+      change = change;
+      becomes = becomes;
+      place = at.place;
+      is_place = at.is_place;
+      is_file = ap (λ k. package_file_read read k inputs.root.repositories c) at.is_number ∙ is;
+    }
+
+    different_fault : (file : List ℕ) (refusal : Refusal) → package_file_read read n inputs.root.repositories c ≡ Some file → package_fault file ≡ None → unless_different c (package_in_file file) ≡ Err refusal → IsTrue refusal
+    different_fault file refusal is sound e =
+        let why = different_err c (package_in_file file) refusal e in
+        let same : PackageDiffers name (selected_version c) why.0 why.1 why.2 ≡ refusal = ap (λ q. PackageDiffers q (selected_version c) why.0 why.1 why.2) (sym named) ∙ why.4 in
+        subst IsTrue same (record { file = file; is_read = read_for (Some file) is; sound = sound; other = why.3 })
+
+    file_fault : (file : Option (List ℕ)) (refusal : Refusal) → package_file_read read n inputs.root.repositories c ≡ file → package_found c file ≡ Err refusal → IsTrue refusal
+    file_fault None refusal is e =
+        let told : PackageMissing c.name (selected_version c) ≡ refusal = cc in
+        let same : PackageMissing name (selected_version c) ≡ refusal = ap (λ q. PackageMissing q (selected_version c)) (sym named) ∙ told in
+        subst IsTrue same (read_for None is)
+    file_fault (Some file) refusal is e = by_fault (package_fault file) refl e
+      where
+        by_fault : (fault : Option Cause) → package_fault file ≡ fault → unless_package_bad c fault (package_in_file file) ≡ Err refusal → IsTrue refusal
+        by_fault None sound e = different_fault file refusal is sound e
+        by_fault (Some cause) fault e =
+            let told : PackageBad c.name (selected_version c) cause ≡ refusal = cc in
+            let same : PackageBad name (selected_version c) cause ≡ refusal = ap (λ q. PackageBad q (selected_version c) cause) (sym named) ∙ told in
+            subst IsTrue same (record { file = file; is_read = read_for (Some file) is; fault = fault })
+
+    pub coming_fault : (refusal : Refusal) → coming_by_path read n c (package_file_of inputs.root.repositories c) ≡ Err refusal → IsTrue refusal
+    coming_fault refusal e =
+        file_fault (package_file_read read n inputs.root.repositories c) refusal refl (sym (path_is read n c (package_file_of inputs.root.repositories c)) ∙ e)
+
+    pub brought : (pkg : ComingPackage) → coming_by_path read n c (package_file_of inputs.root.repositories c) ≡ Ok pkg → IsBrought inputs r read name pkg
+    brought pkg e = by_file (package_file_read read n inputs.root.repositories c) refl (sym (path_is read n c (package_file_of inputs.root.repositories c)) ∙ e)
+      where
+        by_file : (file : Option (List ℕ)) → package_file_read read n inputs.root.repositories c ≡ file → package_found c file ≡ Ok pkg → IsBrought inputs r read name pkg
+        by_file None is e = absurd (cc (e))
+        by_file (Some file) is e =
+            let ok = found_ok c file pkg e in
+            record { version = selected_version c; file = file; is_read = read_for (Some file) is; as_selected = ok.0; is_package = ok.1 }

@@ -1,0 +1,128 @@
+-- A command that is refused has its fault.
+use Rattle.std.proofs.Common.{◌≡◌, inl, inr, ◌∙◌, ℕ, ◌+◌, Bool, true, false, List, [], ◌∷◌, length, Option, Some, None, Result, Ok, Err, refl, ap, subst, true≢false}
+use Rattle.std.specs.Prelude.{◌||◌, nat_lt, if◌then◌else◌}
+use Rattle.std.proofs.lemmas.Bool.{ltb-true}
+use Rattle.adb_fields.specs.FirstPair.{IsIn}
+use Rattle.base_core.specs.Files.{Files}
+use Rattle.change_inputs.specs.Candidates.{candidates_of, root_pool}
+use Rattle.change_inputs.specs.Chains.{and_then}
+use Rattle.change_inputs.specs.Inputs.{Inputs, inputs_of}
+use Rattle.change_outcome.specs.ChangeOutcome.{ChangeDone, change_or_refusal}
+use Rattle.command_core.specs.Command.{CommandLine}
+use Rattle.command_core.specs.declared.command.Applet.{Applet}
+use Rattle.command_core.specs.declared.command.Applet.TheVariants.{Del, Fix, Upgrade}
+use Rattle.command_core.specs.declared.operands.Operand.{Operand}
+use Rattle.dep_core.specs.World.{has_name}
+use Rattle.engine_core.specs.Changed.{IsClashFor, IsClashOfSelected, IsClashUnlessSimulated, Selected, change_of_selected, changed, selected_by, selected_for, selected_of_inputs, simulated_change}
+use Rattle.engine_core.specs.Choice.{IsChoiceFrom}
+use Rattle.engine_core.specs.Selecting.{pool_by, pool_for}
+use Rattle.engine_core.specs.Wishes.{first_unknown, is_installed_name, is_known_name, names_to_upgrade, unknown_place, unless_place, wishes_of}
+use Rattle.make_info.specs.Reads.{Reads}
+use Rattle.path_clashes.specs.Clash.{NamePair}
+use Rattle.pool_core.specs.Rank.{SealedPool, UpgradedNames, sealed_pool_by}
+use Rattle.pool_core.specs.declared.pool.TheConstants.{MOST_CANDIDATES}
+use Rattle.report_core.specs.declared.refusal.Refusal.{Refusal}
+use Rattle.report_core.specs.declared.refusal.Refusal.TheVariants.{NotInstalled, TooMany, Unsatisfied}
+use Rattle.refusal_laws.specs.CommandFaults.{IsChangeRefused, IsFaultOfCommand, IsFaultOfSelection, IsUnknownTo}
+use Rattle.refusal_laws.specs.InputFaults.{AreTooMany}
+use Rattle.refusal_laws.proofs.ChangeFaults.{change_fault}
+use Rattle.refusal_laws.proofs.InputFaults.{input_fault}
+use Rattle.refusal_laws.proofs.Lists.{and_then_err}
+
+-- ---- the candidates
+
+abbrev pub kept_done : Result ChangeDone Refusal → Result ChangeDone Refusal
+kept_done r = r
+
+abbrev kept_pool : Result SealedPool Refusal → Result SealedPool Refusal
+kept_pool r = r
+
+pool_fault : (inputs : Inputs) (upgraded : UpgradedNames) (refusal : Refusal) → root_pool inputs upgraded ≡ Err refusal → (count : ℕ) × AreTooMany inputs count × (TooMany count ≡ refusal)
+unfolding root_pool
+pool_fault inputs upgraded refusal e = by_count (nat_lt MOST_CANDIDATES (length (candidates_of inputs))) refl e
+  where
+    by_count : (b : Bool) → nat_lt MOST_CANDIDATES (length (candidates_of inputs)) ≡ b
+        → kept_pool (if b then Err (TooMany (MOST_CANDIDATES + 1)) else Ok (sealed_pool_by (candidates_of inputs) inputs.root.new_world upgraded)) ≡ Err refusal
+        → (count : ℕ) × AreTooMany inputs count × (TooMany count ≡ refusal)
+    by_count true more e = (MOST_CANDIDATES + 1, record { more = ltb-true MOST_CANDIDATES (length (candidates_of inputs)) more; told = refl }, (let same : TooMany (MOST_CANDIDATES + 1) ≡ refusal = cc in same))
+    by_count false more e = absurd (cc (e))
+
+-- ---- operands
+
+unknown_in : (is_known : List ℕ → Bool) (operands : List Operand) (place : ℕ) → first_unknown is_known operands ≡ Some place → (o : Operand) × IsIn o operands × (o.place ≡ place) × (is_known o.text ≡ false)
+unknown_in is_known [] place e = absurd (cc (e))
+unknown_in is_known (o ∷ operands) place e = by_test (is_known o.text) refl e (unknown_in is_known operands place)
+  where
+    by_test : (b : Bool) → is_known o.text ≡ b → (if b then first_unknown is_known operands else Some o.place) ≡ Some place
+        → (first_unknown is_known operands ≡ Some place → (p : Operand) × IsIn p operands × (p.place ≡ place) × (is_known p.text ≡ false)) → (p : Operand) × IsIn p (o ∷ operands) × (p.place ≡ place) × (is_known p.text ≡ false)
+    by_test true k e more = let other = more e in (other.0, inr other.1, other.2, other.3)
+    by_test false k e more = (o, inl refl, (let same : o.place ≡ place = cc in same), k)
+
+neither : (a b : Bool) → (a || b) ≡ false → (a ≡ false) × (b ≡ false)
+neither true b e = absurd (true≢false e)
+neither false b e = (refl, e)
+
+unknown_fault : (applet : Applet) (inputs : Inputs) (operands : List Operand) (place : ℕ) → unknown_place applet inputs operands ≡ Some place
+    → (o : Operand) × IsIn o operands × (o.place ≡ place) × IsUnknownTo applet inputs o.text
+unknown_fault Del inputs operands place e =
+    let found = unknown_in (is_known_name inputs) operands place e in
+    (found.0, found.1, found.2, neither (has_name found.0.text inputs.root.world) (is_installed_name inputs found.0.text) found.3)
+unknown_fault Upgrade inputs operands place e = unknown_in (is_installed_name inputs) operands place e
+unknown_fault Fix inputs operands place e = unknown_in (is_installed_name inputs) operands place e
+unknown_fault applet inputs operands place e = absurd (cc (e))
+
+-- ---- the selection
+
+module _ (command : CommandLine) (read : Reads) (chosen : Option (List ℕ)) (choice : IsChoiceFrom (pool_for command read) chosen) where
+  abbrev IsSo : Inputs → Refusal → Type 0
+  IsSo inputs refusal = IsFaultOfSelection command inputs refusal
+
+  none_chosen : (inputs : Inputs) (pool : SealedPool) (o : Option (List ℕ)) (refusal : Refusal) → pool_by command inputs ≡ Ok pool → IsChoiceFrom (Ok pool) o → selected_by command inputs pool o ≡ Err refusal → IsSo inputs refusal
+  none_chosen inputs pool None refusal is none e =
+      let same : Unsatisfied ≡ refusal = cc in
+      subst (IsSo inputs) same (record { pool = pool; is_pool = is; none = none })
+  none_chosen inputs pool (Some trace) refusal is none e = absurd (cc (e))
+
+  place_fault : (inputs : Inputs) (pool : SealedPool) (o : Option ℕ) (refusal : Refusal) → pool_by command inputs ≡ Ok pool → IsChoiceFrom (Ok pool) chosen → unknown_place command.applet inputs command.operands ≡ o
+      → unless_place o (selected_by command inputs pool chosen) ≡ Err refusal → IsSo inputs refusal
+  place_fault inputs pool None refusal is from known e = none_chosen inputs pool chosen refusal is from e
+  place_fault inputs pool (Some place) refusal is from unknown e =
+      let found = unknown_fault command.applet inputs command.operands place unknown in
+      let same : NotInstalled place ≡ refusal = cc in
+      subst (IsSo inputs) same (record { operand = found.0; given = found.1; at = found.2; unknown = found.3 })
+
+  choice_of : (inputs : Inputs) (pool : SealedPool) → inputs_of command read ≡ Ok inputs → pool_by command inputs ≡ Ok pool → IsChoiceFrom (Ok pool) chosen
+  choice_of inputs pool is has =
+      let same : pool_for command read ≡ Ok pool = ap (λ (x : Result Inputs Refusal). and_then x (pool_by command)) is ∙ has in
+      subst (λ (x : Result SealedPool Refusal). IsChoiceFrom x chosen) same choice
+
+  selection_fault : (inputs : Inputs) (refusal : Refusal) → inputs_of command read ≡ Ok inputs → selected_of_inputs command chosen inputs ≡ Err refusal → IsSo inputs refusal
+  selection_fault inputs refusal is e =
+      elim (and_then_err (pool_by command inputs) (λ pool. unless_place (unknown_place command.applet inputs command.operands) (selected_by command inputs pool chosen)) refusal e) [
+        | inl first ↦ (let many = pool_fault inputs (names_to_upgrade command.applet command.operands) refusal first in subst (IsSo inputs) many.2 many.1)
+        | inr next ↦ place_fault inputs next.0 (unknown_place command.applet inputs command.operands) refusal next.1 (choice_of inputs next.0 is next.1) refl next.2
+      ]
+
+  -- ---- the change
+
+  done_or_refused : (files : Files) (clash : Option NamePair) (s : Selected) (refusal : Refusal) → selected_for command read chosen ≡ Ok s → IsClashOfSelected command read files (Ok s) clash
+      → change_of_selected command read files clash s ≡ Err refusal → IsChangeRefused command read files chosen refusal
+  done_or_refused files clash s refusal is clashes e = by_flag command.flags.simulate refl e
+    where
+      by_flag : (b : Bool) → command.flags.simulate ≡ b
+          → kept_done (if b then Ok (simulated_change s.replacement (wishes_of command) files) else change_or_refusal s.inputs s.replacement (wishes_of command) read clash files) ≡ Err refusal → IsChangeRefused command read files chosen refusal
+      by_flag true on e = absurd (cc (e))
+      by_flag false off e =
+          (s, is, off, change_fault s.inputs s.replacement (wishes_of command) read clash files refusal e (subst (λ b. IsClashUnlessSimulated b (wishes_of command) read files s clash) off clashes))
+
+  pub command_fault : (files : Files) (clash : Option NamePair) (refusal : Refusal) → IsClashFor command read files chosen clash → changed command read files chosen clash ≡ Err refusal → IsFaultOfCommand command read files chosen refusal
+  unfolding changed
+  command_fault files clash refusal clashes e =
+      elim (and_then_err (selected_for command read chosen) (change_of_selected command read files clash) refusal e) [
+        | inl first ↦ elim (and_then_err (inputs_of command read) (selected_of_inputs command chosen) refusal first) [
+          | inl input ↦ inl (input_fault command read refusal input)
+          | inr next ↦ inr (inl (next.0, next.1, selection_fault next.0 refusal next.1 next.2))
+        ]
+        | inr next ↦ inr (inr (done_or_refused files clash next.0 refusal next.1
+            (subst (λ (x : Result Selected Refusal). IsClashOfSelected command read files x clash) next.1 clashes) next.2))
+      ]

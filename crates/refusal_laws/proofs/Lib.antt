@@ -1,0 +1,15 @@
+pub mod ChangeFaults
+pub mod Coming
+pub mod CommandFaults
+pub mod FoundPackages
+pub mod InputFaults
+pub mod Lists
+pub mod MadeTooLarge
+pub mod PackageFaults
+pub mod PackagesAfter
+pub mod Paths
+pub mod ReadBefore
+pub mod RunFaults
+pub mod RunMade
+pub mod TestsPassed
+mod Worked

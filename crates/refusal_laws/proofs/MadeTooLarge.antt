@@ -1,0 +1,130 @@
+-- A package that is too large is refused with its counts.
+use Rattle.command_core.specs.declared.values.TheConstants.{FILES, SCRIPT, TRIGGER}
+use Rattle.std.proofs.Common.{◌≡◌, ◌⊎◌, inl, inr, ◌∙◌, ℕ, ◌+◌, List, [], ◌∷◌, length, Option, Some, None, Result, Ok, Err, refl, ap}
+use Rattle.adb_sound.specs.Container.{package_by}
+use Rattle.adb_view.specs.Plain.{Plain}
+use Rattle.adb_write.specs.Canonical.{PayloadCounts, overflow_of}
+use Rattle.command_core.specs.Command.{CommandLine}
+use Rattle.command_core.specs.Files.{without_dot}
+use Rattle.command_core.specs.Values.{script_file, script_type}
+use Rattle.command_core.specs.declared.values.OptionValue.{OptionValue}
+use Rattle.make_core.specs.ReadBack.{packed_of_parts, packed_package}
+use Rattle.make_info.specs.Information.{InfoItem, information, information_value, replaces_priority}
+use Rattle.make_info.specs.Reads.{Reads}
+use Rattle.make_info.specs.declared.fault.MakeFault.{MakeFault}
+use Rattle.make_info.specs.declared.fault.MakeFault.TheVariants.{TooLarge}
+use Rattle.make_package.specs.Folders.{FolderListing, folders_of}
+use Rattle.make_package.specs.Making.{container_unless, made_package, or_info_bad, package_container, package_of_parts}
+use Rattle.make_package.specs.Package.{Script, Source, SourceFolder, contents_of_folders, installed_size, value_of_package}
+use Rattle.make_package.specs.Sources.{each_from, file_at, folder_at, folders_below, found_at, on_success, script_at, script_with, scripts_from, source_with, sources_from, texts_of, values_with}
+use Rattle.pkg_core.specs.Contents.{Contents}
+use Rattle.refusal_laws.specs.MadeTooLarge.{IsPackageTooLarge}
+use Rattle.refusal_laws.proofs.ChangeFaults.{too_large}
+
+-- ---- nothing that is read is too large
+
+success_err : {A B : Type 0} (a : Result A MakeFault) (next : A → Result B MakeFault) (fault : MakeFault) → on_success a next ≡ Err fault → (a ≡ Err fault) ⊎ ((x : A) × (a ≡ Ok x) × (next x ≡ Err fault))
+success_err (Ok x) next fault e = inr (x, refl, e)
+success_err (Err first) next fault e = inl (let same : first ≡ fault = cc in ap (λ (f : MakeFault). Err f) same)
+
+no_fault : {A : Type 0} (a : A) (fault : MakeFault) → Ok a ≡ Err fault → ⊥
+no_fault a fault e = cc (e)
+
+module _ (bytes values : ℕ) where
+  abbrev IsNever : {A : Type 0} → Result A MakeFault → Type 0
+  IsNever r = r ≡ Err (TooLarge bytes values) → ⊥
+
+  each_never : {X Y : Type 0} (count : X → ℕ) (of : ℕ → X → Result Y MakeFault) → ((n : ℕ) (x : X) → IsNever (of n x)) → (n : ℕ) (xs : List X) → IsNever (each_from count of n xs)
+  each_never count of never n [] e = cc (e)
+  each_never count of never n (x ∷ xs) e =
+      elim (success_err (of n x) (λ y. on_success (each_from count of (n + count x) xs) (λ ys. Ok (y ∷ ys))) (TooLarge bytes values) e) [
+        | inl first ↦ never n x first
+        | inr next ↦ elim (success_err (each_from count of (n + count x) xs) (λ ys. Ok (next.0 ∷ ys)) (TooLarge bytes values) next.2) [
+          | inl others ↦ each_never count of never (n + count x) xs others
+          | inr last ↦ no_fault (next.0 ∷ last.0) (TooLarge bytes values) last.2
+        ]
+      ]
+
+  found_never : {A : Type 0} (place : ℕ) (found : Option (List ℕ)) (next : List ℕ → A) → IsNever (on_success (found_at place found) (λ b. Ok (next b)))
+  found_never place None next e = cc (e)
+  found_never place (Some b) next e = cc (e)
+
+  script_never : (read : Reads) (n : ℕ) (v : OptionValue) → IsNever (script_at read n v)
+  script_never read n v e = found_never v.place (read n (without_dot (script_file v.text))) (λ b. script_with (script_type v.text) b) e
+
+  folder_never : (place : ℕ) (read : Reads) (n : ℕ) (folder : FolderListing) → IsNever (folder_at place read n folder)
+  folder_never place read n folder e =
+      elim (success_err (sources_from place read n folder.files) (λ files. with_files files) (TooLarge bytes values) e) [
+        | inl first ↦ each_never (λ name. 1) (file_at place read) (λ m name f. found_never place (read m name) (λ b. source_with name b) f) n folder.files first
+        | inr last ↦ no_fault (source_folder last.0) (TooLarge bytes values) last.2
+      ]
+    where
+      source_folder : List Source → SourceFolder
+      source_folder files = record { name = folder.name; files = files }
+
+      with_files : List Source → Result SourceFolder MakeFault
+      with_files files = Ok (source_folder files)
+
+  folders_never : (read : Reads) (n : ℕ) (vs : List OptionValue) (names : List (List ℕ)) → IsNever (folders_below read n vs names)
+  folders_never read n [] names e = cc (e)
+  folders_never read n (v ∷ vs) names e =
+      each_never (λ (folder : FolderListing). length folder.files) (folder_at v.place read) (folder_never v.place read) n (folders_of (without_dot v.text) names) e
+
+  info_never : (r : Result (List InfoItem) ℕ) → IsNever (or_info_bad r)
+  info_never (Ok items) e = cc (e)
+  info_never (Err place) e = cc (e)
+
+  -- ---- what is written
+
+  counts_of : (o : Option PayloadCounts) (v : Plain) (contents : List Contents) → container_unless o v contents ≡ Err (TooLarge bytes values) → o ≡ Some (bytes, values)
+  counts_of None v contents e = absurd (cc (e))
+  counts_of (Some counts) v contents e =
+      let same : TooLarge counts.0 counts.1 ≡ TooLarge bytes values = cc in
+      let first : counts.0 ≡ bytes = cc in
+      let second : counts.1 ≡ values = cc in
+      λ j. Some (first j, second j)
+
+  container_counts : (v : Plain) (contents : List Contents) → package_container v contents ≡ Err (TooLarge bytes values) → overflow_of v ≡ Some (bytes, values)
+  unfolding package_container
+  container_counts v contents e = counts_of (overflow_of v) v contents e
+
+  pub made_too_large : (command : CommandLine) (names : List (List ℕ)) (read : Reads) → made_package command names read ≡ Err (TooLarge bytes values) → IsPackageTooLarge command names read bytes values
+  unfolding made_package
+  made_too_large command names read e =
+      elim (success_err scripts then_scripts (TooLarge bytes values) e) [
+        | inl first ↦ absurd (each_never (λ v. 1) (script_at read) (script_never read) 0 (values_with SCRIPT command.values) first)
+        | inr one ↦ elim (success_err (or_info_bad (information command)) (then_about one.0) (TooLarge bytes values) one.2) [
+          | inl second ↦ absurd (info_never (information command) second)
+          | inr two ↦ elim (success_err (folders_below read (length one.0) (values_with FILES command.values) names) (package_of_parts command one.0 two.0) (TooLarge bytes values) two.2) [
+            | inl third ↦ absurd (folders_never read (length one.0) (values_with FILES command.values) names third)
+            | inr three ↦ record {
+              packed = package_by (value_of one.0 two.0 three.0) (contents_of_folders 1 three.0);
+              is_packed = packed_is one.0 two.0 three.0 one.1 two.1 three.1;
+              passes = too_large (value_of one.0 two.0 three.0) (bytes, values) (container_counts (value_of one.0 two.0 three.0) (contents_of_folders 1 three.0) three.2);
+            }
+          ]
+        ]
+      ]
+    where
+      scripts : Result (List Script) MakeFault
+      scripts = scripts_from read 0 (values_with SCRIPT command.values)
+
+      then_about : List Script → List InfoItem → Result (List ℕ) MakeFault
+      then_about found about = on_success (folders_below read (length found) (values_with FILES command.values) names) (package_of_parts command found about)
+
+      then_scripts : List Script → Result (List ℕ) MakeFault
+      then_scripts found = on_success (or_info_bad (information command)) (then_about found)
+
+      value_of : List Script → List InfoItem → List SourceFolder → Plain
+      value_of found about folders =
+          value_of_package (information_value about (installed_size folders)) folders found (texts_of (values_with TRIGGER command.values)) (replaces_priority about)
+
+      packed_is : (found : List Script) (about : List InfoItem) (folders : List SourceFolder) → scripts ≡ Ok found → or_info_bad (information command) ≡ Ok about
+          → folders_below read (length found) (values_with FILES command.values) names ≡ Ok folders → packed_package command names read ≡ Ok (package_by (value_of found about folders) (contents_of_folders 1 folders))
+      packed_is found about folders s a f =
+          ap (λ (x : Result (List Script) MakeFault). on_success x (λ scripts.
+          on_success (or_info_bad (information command)) (λ about.
+          on_success (folders_below read (length scripts) (values_with FILES command.values) names) (packed_of_parts command scripts about)))) s
+          ∙ (ap (λ (x : Result (List InfoItem) MakeFault). on_success x (λ about.
+          on_success (folders_below read (length found) (values_with FILES command.values) names) (packed_of_parts command found about))) a
+          ∙ ap (λ (x : Result (List SourceFolder) MakeFault). on_success x (packed_of_parts command found about)) f)

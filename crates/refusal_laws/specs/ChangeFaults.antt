@@ -1,0 +1,141 @@
+-- Why a change is refused whose selection was found.
+use Rattle.std.specs.Prelude.{◌≡◌, ◌⊎◌, ℕ, true, false, List, Some, None, Ok, is_some}
+use Rattle.adb_fields.specs.FirstPair.{IsIn}
+use Rattle.adb_rules.specs.Reserved.{is_reserved}
+use Rattle.adb_view.specs.Plain.{Plain}
+use Rattle.adb_write.specs.Canonical.{overflow_of, passes}
+use Rattle.base_core.specs.Files.{Files}
+use Rattle.change_files.specs.FileChange.{FileChange}
+use Rattle.change_files.specs.NamesAfter.{coming_paths, name_change}
+use Rattle.change_inputs.specs.Inputs.{Inputs}
+use Rattle.change_outcome.specs.ChangeOutcome.{ChangeWishes, actions_of, change_members, file_change, new_records, touched_paths}
+use Rattle.change_outcome.specs.MembersAfter.{MemberFound, members_found}
+use Rattle.change_outcome.specs.PackageFiles.{has_script_of, trigger_script}
+use Rattle.change_outcome.specs.Triggers.{is_folder_matched, patterns_of}
+use Rattle.db_core.specs.Members.{Listing, Member, member_listings, member_name}
+use Rattle.db_write.specs.NewDatabase.{database_of, database_value}
+use Rattle.file_owners.specs.Owners.{owned_of, owner_of_path}
+use Rattle.file_owners.specs.Replaces.{takes_over}
+use Rattle.journal_intent.specs.IntentValue.{intent_of_lists, value_of_intent}
+use Rattle.list_order.specs.ByteOrder.{precedes}
+use Rattle.make_info.specs.Reads.{Reads}
+use Rattle.make_package.specs.Folders.{folder_of}
+use Rattle.package_changes.specs.Changes.{Replacement}
+use Rattle.path_clashes.specs.Clash.{IsFirstClash}
+use Rattle.report_core.specs.declared.refusal.Refusal.{Refusal}
+use Rattle.report_core.specs.declared.refusal.Refusal.TheVariants.{Owned, PackageBad, PackageDiffers, PackageMissing, PathClash, Reserved, ResultTooLarge, ScriptNeeded, TriggerNeeded}
+use Rattle.refusal_laws.specs.PackageFaults.{IsFileBad, IsPackageMissing, IsPackageOther, IsScriptNeeded}
+
+-- ---- paths
+
+-- of the paths that packages which come list, this is the first that apk keeps for itself
+pub record IsFirstReserved (members : List Member) (path : List ℕ) : Type 0 where
+  pub comes : IsIn path (coming_paths members)
+  pub reserved : is_reserved path ≡ true
+  pub first : (other : List ℕ) → IsIn other (coming_paths members) → is_reserved other ≡ true
+      → precedes other path ≡ false
+
+-- a package of this name lists the path
+pub record IsListedBy (members : List Member) (path name : List ℕ) (l : Listing) : Type 0 where
+  pub listed : IsIn l (member_listings members)
+  pub of_path : l.path ≡ path
+  pub by : member_name l.member ≡ name
+
+-- No package takes the path over from all others that list it, and it is the first such path. These
+-- two list it, and the one does not take over the files of the other; nor the other those of the
+-- one, where no third package lists it.
+pub record IsContested (members : List Member) (path one other : List ℕ) : Type 0 where
+  pub unowned : owner_of_path members path ≡ None
+  pub first : (l : Listing) → IsIn l (member_listings members) → precedes l.path path ≡ true
+      → is_some (owner_of_path members l.path) ≡ true
+  pub by_one : Listing
+  pub lists_one : IsListedBy members path one by_one
+  pub by_other : Listing
+  pub lists_other : IsListedBy members path other by_other
+  pub apart : by_one.place ≡ by_other.place → ⊥
+  pub stands : takes_over by_one.member.pkg by_other.member.pkg ≡ false
+  pub neither : ((l : Listing) → IsIn l (member_listings members) → l.path ≡ path
+      → (l.place ≡ by_one.place) ⊎ (l.place ≡ by_other.place))
+      → takes_over by_other.member.pkg by_one.member.pkg ≡ false
+
+-- ---- triggers
+
+-- a pattern of the package matches the folder of a file that the change writes or removes
+pub record IsWatchedFor (change : FileChange) (files : Files) (pkg : Plain) : Type 0 where
+  pub path : List ℕ
+  pub touched : IsIn path (touched_paths change files)
+  pub pattern : List ℕ
+  pub is_pattern : IsIn pattern (patterns_of pkg)
+  pub matched : is_folder_matched (folder_of path) pattern ≡ true
+
+-- a package of this name has a trigger for it, and scripts are not left out
+pub record IsTriggerNeeded (wishes : ChangeWishes) (change : FileChange) (files : Files)
+    (name : List ℕ) : Type 0 where
+  pub asked : wishes.no_scripts ≡ false
+  pub member : Member
+  pub stands : IsIn member change.members
+  pub named : member_name member ≡ name
+  pub has : has_script_of member.pkg trigger_script ≡ true
+  pub watches : IsWatchedFor change files member.pkg
+
+-- ---- limits
+
+-- what is written of a value passes a limit, first with so many bytes and values
+abbrev pub IsTooLarge : Plain → ℕ → ℕ → Type 0
+IsTooLarge v bytes values =
+    (overflow_of v ≡ Some (bytes, values)) × (passes (bytes, values) ≡ true)
+
+abbrev pub IsDatabaseTooLarge : List Member → ℕ → ℕ → Type 0
+IsDatabaseTooLarge members bytes values =
+    IsTooLarge (database_value members (owned_of members)) bytes values
+
+-- the database does not, and the intent of the change does
+pub record IsIntentTooLarge (inputs : Inputs) (change : FileChange) (files : Files)
+    (bytes values : ℕ) : Type 0 where
+  pub database : List ℕ
+  pub fits : database_of change.members (owned_of change.members) ≡ Ok database
+  pub passes : (let actions = actions_of inputs change files (new_records inputs database) in
+      IsTooLarge (value_of_intent (intent_of_lists actions.removals actions.writes)) bytes values)
+
+abbrev pub IsResultTooLarge : Inputs → FileChange → Files → ℕ → ℕ → Type 0
+IsResultTooLarge inputs change files bytes values =
+    IsDatabaseTooLarge change.members bytes values
+    ⊎ IsIntentTooLarge inputs change files bytes values
+
+-- ---- each refusal
+
+-- of the files that the packages after a change would leave
+abbrev pub IsFaultOfFiles : Inputs → ChangeWishes → Files → List MemberFound → Refusal → Type 0
+IsFaultOfFiles inputs wishes files found (Reserved path) =
+    IsFirstReserved (members_found found) path
+IsFaultOfFiles inputs wishes files found (PathClash path other) =
+    IsFirstClash (name_change (file_change inputs wishes found) files) files
+    (record { path = path; other = other })
+IsFaultOfFiles inputs wishes files found (Owned path first second) =
+    IsContested (members_found found) path first second
+IsFaultOfFiles inputs wishes files found (TriggerNeeded name) =
+    IsTriggerNeeded wishes (file_change inputs wishes found) files name
+IsFaultOfFiles inputs wishes files found (ResultTooLarge bytes values) =
+    IsResultTooLarge inputs (file_change inputs wishes found) files bytes values
+IsFaultOfFiles inputs wishes files found other = ⊥
+
+-- of the packages that come and go
+abbrev pub IsFaultOfPackage : Inputs → Replacement → ChangeWishes → Reads → Refusal → Type 0
+IsFaultOfPackage inputs r wishes read (PackageMissing name version) =
+    IsPackageMissing inputs r read name version
+IsFaultOfPackage inputs r wishes read (PackageBad name version cause) =
+    IsFileBad inputs r read name version cause
+IsFaultOfPackage inputs r wishes read (PackageDiffers name version field wanted found) =
+    IsPackageOther inputs r read name version field wanted found
+IsFaultOfPackage inputs r wishes read (ScriptNeeded name script) =
+    IsScriptNeeded inputs r wishes read name script
+IsFaultOfPackage inputs r wishes read other = ⊥
+
+-- a package that comes or goes has this fault; or the packages after the change are found, and what
+-- they would leave has it
+abbrev pub IsFaultOfChange :
+    Inputs → Replacement → ChangeWishes → Reads → Files → Refusal → Type 0
+IsFaultOfChange inputs r wishes read files refusal =
+    IsFaultOfPackage inputs r wishes read refusal
+    ⊎ ((found : List MemberFound) × (change_members inputs r wishes read ≡ Ok found)
+    × IsFaultOfFiles inputs wishes files found refusal)

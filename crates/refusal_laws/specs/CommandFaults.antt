@@ -1,0 +1,70 @@
+-- Why a command is refused that changes the installed packages.
+use Rattle.std.specs.Prelude.{◌≡◌, ◌⊎◌, ℕ, false, List, Option, Ok}
+use Rattle.adb_fields.specs.FirstPair.{IsIn}
+use Rattle.base_core.specs.Files.{Files}
+use Rattle.change_inputs.specs.Inputs.{Inputs, inputs_of}
+use Rattle.command_core.specs.Command.{CommandLine}
+use Rattle.command_core.specs.declared.command.Applet.{Applet}
+use Rattle.command_core.specs.declared.command.Applet.TheVariants.{Del, Fix, Upgrade}
+use Rattle.command_core.specs.declared.operands.Operand.{Operand}
+use Rattle.dep_core.specs.World.{has_name}
+use Rattle.engine_core.specs.Changed.{Selected, selected_for}
+use Rattle.engine_core.specs.Selecting.{pool_by}
+use Rattle.engine_core.specs.Wishes.{is_installed_name, wishes_of}
+use Rattle.make_info.specs.Reads.{Reads}
+use Rattle.pool_core.specs.Rank.{SealedPool}
+use Rattle.report_core.specs.declared.refusal.Refusal.{Refusal}
+use Rattle.report_core.specs.declared.refusal.Refusal.TheVariants.{NotInstalled, TooMany, Unsatisfied}
+use Rattle.solve_core.specs.Selection.{IsSatisfying}
+use Rattle.refusal_laws.specs.ChangeFaults.{IsFaultOfChange}
+use Rattle.refusal_laws.specs.InputFaults.{AreTooMany, IsFaultOfInput}
+
+-- ---- a selection
+
+-- `del` needs a name that is in world or installed, `upgrade` and `fix` one that is installed
+abbrev pub IsUnknownTo : Applet → Inputs → List ℕ → Type 0
+IsUnknownTo Del inputs name =
+    (has_name name inputs.root.world ≡ false) × (is_installed_name inputs name ≡ false)
+IsUnknownTo Upgrade inputs name = is_installed_name inputs name ≡ false
+IsUnknownTo Fix inputs name = is_installed_name inputs name ≡ false
+IsUnknownTo applet inputs name = ⊥
+
+-- the operand at this place of the command line is such a name
+pub record IsUnknownOperand (command : CommandLine) (inputs : Inputs) (place : ℕ) : Type 0 where
+  pub operand : Operand
+  pub given : IsIn operand command.operands
+  pub at : operand.place ≡ place
+  pub unknown : IsUnknownTo command.applet inputs operand.text
+
+-- no selection of the candidates satisfies the new world
+pub record IsUnsatisfied (command : CommandLine) (inputs : Inputs) : Type 0 where
+  pub pool : SealedPool
+  pub is_pool : pool_by command inputs ≡ Ok pool
+  pub none : (selection : List ℕ) → IsSatisfying pool selection → ⊥
+
+abbrev pub IsFaultOfSelection : CommandLine → Inputs → Refusal → Type 0
+IsFaultOfSelection command inputs (TooMany count) = AreTooMany inputs count
+IsFaultOfSelection command inputs (NotInstalled place) = IsUnknownOperand command inputs place
+IsFaultOfSelection command inputs Unsatisfied = IsUnsatisfied command inputs
+IsFaultOfSelection command inputs other = ⊥
+
+-- ---- a command
+
+-- what it reads is there, and the candidates, an operand or the new world have this fault
+abbrev pub IsSelectionRefused : CommandLine → Reads → Refusal → Type 0
+IsSelectionRefused command read refusal =
+    (inputs : Inputs) × (inputs_of command read ≡ Ok inputs)
+    × IsFaultOfSelection command inputs refusal
+
+-- these candidates are selected, and the change that is to be made has this fault
+abbrev pub IsChangeRefused :
+    CommandLine → Reads → Files → Option (List ℕ) → Refusal → Type 0
+IsChangeRefused command read files chosen refusal =
+    (s : Selected) × (selected_for command read chosen ≡ Ok s) × (command.flags.simulate ≡ false)
+    × IsFaultOfChange s.inputs s.replacement (wishes_of command) read files refusal
+
+abbrev pub IsFaultOfCommand : CommandLine → Reads → Files → Option (List ℕ) → Refusal → Type 0
+IsFaultOfCommand command read files chosen refusal =
+    IsFaultOfInput command read refusal
+    ⊎ (IsSelectionRefused command read refusal
+    ⊎ IsChangeRefused command read files chosen refusal)

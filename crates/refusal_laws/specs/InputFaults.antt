@@ -1,0 +1,93 @@
+-- Why what a change reads of a root is refused.
+use Rattle.std.specs.Prelude.{◌≡◌, ◌⊎◌, ◌+◌, ◌<◌, ℕ, suc, false, List, ◌∷◌, length, Option, Some, None, Ok, Err, slice_get}
+use Rattle.adb_schema.specs.Soundness.{first_fault}
+use Rattle.adb_tables.specs.declared.tables.Which.TheVariants.{Idb, Index}
+use Rattle.base_core.specs.declared.cause.Cause.{Cause}
+use Rattle.change_inputs.specs.Candidates.{candidates_of}
+use Rattle.change_inputs.specs.Inputs.{Inputs, database_read, first_index_read, repositories_read, text_database_read, world_read}
+use Rattle.change_inputs.specs.World.{text_found}
+use Rattle.command_core.specs.Command.{CommandLine}
+use Rattle.dep_core.specs.Repositories.{Repository, repositories_of}
+use Rattle.dep_core.specs.World.{world_of}
+use Rattle.make_info.specs.Reads.{Reads}
+use Rattle.pool_core.specs.declared.pool.TheConstants.{MOST_CANDIDATES}
+use Rattle.report_core.specs.declared.refusal.Refusal.{Refusal}
+use Rattle.report_core.specs.declared.refusal.Refusal.TheVariants.{DatabaseBad, IndexBad, IndexMissing, NoDatabase, RepositoriesBad, ResultTooLarge, Untrusted, WorldBad}
+use Rattle.root_names.specs.RootNames.{database_name, repositories_name, text_database_name, world_name}
+use Rattle.v2_core.specs.Payload.{payload_of_text}
+use Rattle.v2_core.specs.declared.fault.V2Fault.{V2Fault}
+use Rattle.v2_core.specs.declared.fault.V2Fault.TheVariants.{Bad, TooLarge}
+
+-- ---- the database
+
+-- neither file of one is there, and the command may not begin one
+pub record HasNoDatabase (command : CommandLine) (read : Reads) : Type 0 where
+  pub container : read database_read database_name ≡ None
+  pub text : read text_database_read text_database_name ≡ None
+  pub not_begun : command.flags.initdb ≡ false
+
+-- its container fails this test first
+pub record IsContainerBad (read : Reads) (cause : Cause) : Type 0 where
+  pub file : List ℕ
+  pub is_file : read database_read database_name ≡ Some file
+  pub fault : first_fault Idb file ≡ Some cause
+
+-- there is no container, and the text database comes to this fault
+pub record IsTextRefused (read : Reads) (fault : V2Fault) : Type 0 where
+  pub container : read database_read database_name ≡ None
+  pub text : List ℕ
+  pub is_text : read text_database_read text_database_name ≡ Some text
+  pub refused : payload_of_text text ≡ Err fault
+
+-- ---- repositories
+
+abbrev pub repositories_found : Reads → List ℕ
+repositories_found read = text_found (read repositories_read repositories_name)
+
+-- the list names a repository, and there is no leave to read one that nobody checked
+pub record IsUntrusted (command : CommandLine) (read : Reads) : Type 0 where
+  pub no_leave : command.flags.allow_untrusted ≡ false
+  pub repository : Repository
+  pub others : List Repository
+  pub listed : repositories_of (repositories_found read) ≡ Ok (repository ∷ others)
+
+-- the repository with this number, counted from 1, is listed, and this is found under its path
+pub record IsIndexRead (read : Reads) (number : ℕ) (file : Option (List ℕ)) : Type 0 where
+  pub repositories : List Repository
+  pub listed : repositories_of (repositories_found read) ≡ Ok repositories
+  pub place : ℕ
+  pub is_number : number ≡ suc place
+  pub repository : Repository
+  pub is_repository : slice_get repositories place ≡ Some repository
+  pub is_file : read (first_index_read + place) repository.path ≡ file
+
+-- its index fails this test first
+pub record IsIndexBad (read : Reads) (number : ℕ) (cause : Cause) : Type 0 where
+  pub file : List ℕ
+  pub is_read : IsIndexRead read number (Some file)
+  pub fault : first_fault Index file ≡ Some cause
+
+-- ---- each refusal
+
+abbrev pub IsFaultOfInput : CommandLine → Reads → Refusal → Type 0
+IsFaultOfInput command read NoDatabase = HasNoDatabase command read
+IsFaultOfInput command read (DatabaseBad cause) =
+    IsContainerBad read cause ⊎ IsTextRefused read (Bad cause)
+-- a text database that says more than a container may have
+IsFaultOfInput command read (ResultTooLarge bytes values) =
+    IsTextRefused read (TooLarge bytes values)
+IsFaultOfInput command read (WorldBad line) =
+    world_of (text_found (read world_read world_name)) ≡ Err line
+IsFaultOfInput command read (RepositoriesBad line) =
+    repositories_of (repositories_found read) ≡ Err line
+IsFaultOfInput command read Untrusted = IsUntrusted command read
+IsFaultOfInput command read (IndexMissing number) = IsIndexRead read number None
+IsFaultOfInput command read (IndexBad number cause) = IsIndexBad read number cause
+IsFaultOfInput command read other = ⊥
+
+-- ---- too many
+
+-- there are more packages to choose from than may be, and it tells of one too many
+pub record AreTooMany (inputs : Inputs) (count : ℕ) : Type 0 where
+  pub more : MOST_CANDIDATES < length (candidates_of inputs)
+  pub told : count ≡ MOST_CANDIDATES + 1

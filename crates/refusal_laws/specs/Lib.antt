@@ -1,0 +1,12 @@
+-- what laws of changes say
+pub mod InputFaults
+pub mod ReadBefore
+pub mod ComingPackages
+pub mod PackageFaults
+pub mod ChangeFaults
+pub mod TestsPassed
+pub mod PackagesAfter
+pub mod CommandFaults
+pub mod RunFaults
+pub mod RunMade
+pub mod MadeTooLarge

@@ -1,0 +1,15 @@
+-- Why a package that is to be made is too large.
+use Rattle.std.specs.Prelude.{◌≡◌, ℕ, List, Ok}
+use Rattle.command_core.specs.Command.{CommandLine}
+use Rattle.make_core.specs.ReadBack.{packed_package}
+use Rattle.make_info.specs.Reads.{Reads}
+use Rattle.pkg_core.specs.Whole.{Packed}
+use Rattle.refusal_laws.specs.ChangeFaults.{IsTooLarge}
+
+-- what is written of the value of the package that a command asks for passes a limit, first with so
+-- many bytes and values
+pub record IsPackageTooLarge (command : CommandLine) (names : List (List ℕ)) (read : Reads)
+    (bytes values : ℕ) : Type 0 where
+  pub packed : Packed
+  pub is_packed : packed_package command names read ≡ Ok packed
+  pub passes : IsTooLarge packed.value bytes values

@@ -1,0 +1,89 @@
+-- Why one of the packages that come or go with a change is refused.
+use Rattle.std.specs.Prelude.{◌≡◌, ◌⊎◌, ℕ, true, false, List, Some, None}
+use Rattle.std.specs.List.{find}
+use Rattle.adb_fields.specs.FirstPair.{IsIn}
+use Rattle.adb_fields.specs.Repeated.{package_name}
+use Rattle.adb_view.specs.Plain.{Plain}
+use Rattle.base_core.specs.declared.cause.Cause.{Cause}
+use Rattle.change_inputs.specs.Inputs.{Inputs}
+use Rattle.change_outcome.specs.ChangeOutcome.{ChangeWishes}
+use Rattle.change_outcome.specs.PackageFiles.{ComingPackage, first_script_of, has_script_of, id_field, name_field, package_in_file, scripts_of_change, version_field}
+use Rattle.db_core.specs.Packages.{is_package_named}
+use Rattle.file_owners.specs.Replaces.{version_text}
+use Rattle.make_info.specs.Reads.{Reads}
+use Rattle.package_changes.specs.Changes.{Replacement, change_of_name, selected_version}
+use Rattle.pkg_core.specs.Whole.{package_fault}
+use Rattle.pool_core.specs.Candidates.{Candidate, is_same_id}
+use Rattle.report_core.specs.Reports.{Change}
+use Rattle.refusal_laws.specs.ComingPackages.{IsBrought, IsReadFor, selected_of_name}
+
+-- ---- its file
+
+-- a candidate of this name and version comes, and no file of it is found
+abbrev pub IsPackageMissing : Inputs → Replacement → Reads → List ℕ → List ℕ → Type 0
+IsPackageMissing inputs r read name version = IsReadFor inputs r read name version None
+
+-- its file is there, and this is the first test that it fails
+pub record IsFileBad (inputs : Inputs) (r : Replacement) (read : Reads) (name version : List ℕ)
+    (cause : Cause) : Type 0 where
+  pub file : List ℕ
+  pub is_read : IsReadFor inputs r read name version (Some file)
+  pub fault : package_fault file ≡ Some cause
+
+-- ---- another package
+
+-- what the index says of the candidate, and what the package in its file says
+abbrev pub HasOtherId : Candidate → ComingPackage → List ℕ → List ℕ → Type 0
+HasOtherId c pkg wanted found =
+    (wanted ≡ c.id) × (found ≡ pkg.id) × (is_same_id wanted found ≡ false)
+
+abbrev pub HasOtherName : Candidate → ComingPackage → List ℕ → List ℕ → Type 0
+HasOtherName c pkg wanted found =
+    (wanted ≡ c.name) × (found ≡ package_name pkg.value) × (wanted ≡ found → ⊥)
+
+abbrev pub HasOtherVersion : Candidate → ComingPackage → List ℕ → List ℕ → Type 0
+HasOtherVersion c pkg wanted found =
+    (wanted ≡ selected_version c) × (found ≡ version_text pkg.value) × (wanted ≡ found → ⊥)
+
+-- the id is another; or it is the same, and the name is another; or both are the same, and the
+-- version is another
+abbrev pub IsOtherPackage : Candidate → ComingPackage → ℕ → List ℕ → List ℕ → Type 0
+IsOtherPackage c pkg field wanted found =
+    ((field ≡ id_field) × HasOtherId c pkg wanted found)
+    ⊎ (((field ≡ name_field) × (is_same_id c.id pkg.id ≡ true) × HasOtherName c pkg wanted found)
+    ⊎ ((field ≡ version_field) × (is_same_id c.id pkg.id ≡ true) × (c.name ≡ package_name pkg.value)
+    × HasOtherVersion c pkg wanted found))
+
+-- its file passes all tests, and the package in it is another one than the index says
+pub record IsPackageOther (inputs : Inputs) (r : Replacement) (read : Reads)
+    (name version : List ℕ) (field : ℕ) (wanted found : List ℕ) : Type 0 where
+  pub file : List ℕ
+  pub is_read : IsReadFor inputs r read name version (Some file)
+  pub sound : package_fault file ≡ None
+  pub other : IsOtherPackage is_read.candidate (package_in_file file) field wanted found
+
+-- ---- scripts
+
+-- a package before that goes: none of its name is selected
+pub record IsGoing (r : Replacement) (name : List ℕ) (pkg : Plain) : Type 0 where
+  pub before : find (is_package_named name) r.before ≡ Some pkg
+  pub unselected : selected_of_name r name ≡ None
+
+-- a package of this name that comes or goes
+abbrev pub IsComingOrGoing : Inputs → Replacement → Reads → List ℕ → Plain → Type 0
+IsComingOrGoing inputs r read name pkg =
+    ((coming : ComingPackage) × IsBrought inputs r read name coming × (pkg ≡ coming.value))
+    ⊎ IsGoing r name pkg
+
+-- What becomes of the package of this name would run this script of it, the first that it has of
+-- those that would run; and scripts are not left out.
+pub record IsScriptNeeded (inputs : Inputs) (r : Replacement) (wishes : ChangeWishes)
+    (read : Reads) (name : List ℕ) (script : ℕ) : Type 0 where
+  pub asked : wishes.no_scripts ≡ false
+  pub pkg : Plain
+  pub is_package : IsComingOrGoing inputs r read name pkg
+  pub change : Change
+  pub becomes : change_of_name r name ≡ Some change
+  pub runs : IsIn script (scripts_of_change change)
+  pub has : has_script_of pkg script ≡ true
+  pub first : first_script_of pkg (scripts_of_change change) ≡ Some script

@@ -1,0 +1,48 @@
+-- Which packages there are after a change.
+use Rattle.std.specs.Prelude.{◌≡◌, ◌⊎◌, ℕ, true, List, Some, None}
+use Rattle.std.specs.List.{find}
+use Rattle.adb_fields.specs.FirstPair.{IsIn}
+use Rattle.adb_view.specs.Plain.{Plain}
+use Rattle.change_inputs.specs.Inputs.{Inputs}
+use Rattle.change_outcome.specs.MembersAfter.{MemberFound, coming_found, members_found, staying_found}
+use Rattle.change_outcome.specs.PackageFiles.{ComingPackage}
+use Rattle.db_core.specs.Members.{AreInOrder, member_name}
+use Rattle.db_core.specs.Packages.{is_package_named}
+use Rattle.make_info.specs.Reads.{Reads}
+use Rattle.package_changes.specs.Changes.{Replacement, change_of_name, is_same_selected}
+use Rattle.pool_core.specs.Candidates.{Candidate}
+use Rattle.refusal_laws.specs.ComingPackages.{IsBrought, selected_of_name}
+
+-- it is the package of the name before, to the letter, which is the selected candidate; and nothing
+-- becomes of it
+pub record IsUnchanged (r : Replacement) (name : List ℕ) (c : Candidate) (f : MemberFound) :
+    Type 0 where
+  pub pkg : Plain
+  pub before : find (is_package_named name) r.before ≡ Some pkg
+  pub same : is_same_selected pkg c ≡ true
+  pub becomes : change_of_name r name ≡ None
+  pub is : f ≡ staying_found pkg
+
+-- it comes, as the selected candidate says, with the contents of its files
+pub record HasCome (inputs : Inputs) (r : Replacement) (read : Reads) (name : List ℕ)
+    (f : MemberFound) : Type 0 where
+  pub pkg : ComingPackage
+  pub brought : IsBrought inputs r read name pkg
+  pub is : f ≡ coming_found pkg
+
+-- the selected candidate of its name is the package before, or comes
+pub record IsSelectedMember (inputs : Inputs) (r : Replacement) (read : Reads) (f : MemberFound) :
+    Type 0 where
+  pub candidate : Candidate
+  pub selected : selected_of_name r (member_name f.member) ≡ Some candidate
+  pub is : IsUnchanged r (member_name f.member) candidate f
+      ⊎ HasCome inputs r read (member_name f.member) f
+
+-- The packages after a change are the selected ones: in byte order of names, each once, and one for
+-- each selected candidate.
+pub record AreSelectedOnes (inputs : Inputs) (r : Replacement) (read : Reads)
+    (found : List MemberFound) : Type 0 where
+  pub in_order : AreInOrder (members_found found)
+  pub each : (f : MemberFound) → IsIn f found → IsSelectedMember inputs r read f
+  pub all : (c : Candidate) → IsIn c r.selected
+      → (f : MemberFound) × IsIn f found × (member_name f.member ≡ c.name)

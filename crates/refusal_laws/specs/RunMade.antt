@@ -1,0 +1,34 @@
+-- Which packages there are after a run that is not refused.
+use Rattle.std.specs.Prelude.{◌≡◌, ℕ, List, Some, Ok}
+use Rattle.base_core.specs.Files.{Files}
+use Rattle.change_outcome.specs.ChangeOutcome.{change_members, file_change}
+use Rattle.change_outcome.specs.MembersAfter.{MemberFound}
+use Rattle.command_core.specs.Command.{CommandLine}
+use Rattle.engine_core.specs.Changed.{Selected, selected_for}
+use Rattle.engine_core.specs.Selecting.{pool_for}
+use Rattle.engine_core.specs.Wishes.{wishes_of}
+use Rattle.outcome.specs.Commands.{reads_in}
+use Rattle.package_changes.specs.Placed.{candidates_at}
+use Rattle.pool_core.specs.Rank.{SealedPool}
+use Rattle.solve_core.specs.Selection.{IsFirstSelection}
+use Rattle.refusal_laws.specs.PackagesAfter.{AreSelectedOnes}
+use Rattle.refusal_laws.specs.TestsPassed.{HasNoFault}
+
+-- the first preferred selection of the candidates is found, the packages after the change are just
+-- those, and the files that they leave have no fault
+pub record HasFirstSelection (command : CommandLine) (files : Files) : Type 0 where
+  pub pool : SealedPool
+  pub is_pool : pool_for command (reads_in files) ≡ Ok pool
+  pub trace : List ℕ
+  pub first : IsFirstSelection pool trace
+  pub selected : Selected
+  pub selects : selected_for command (reads_in files) (Some trace) ≡ Ok selected
+  pub candidates : selected.replacement.selected ≡ candidates_at pool trace
+  pub found : List MemberFound
+  pub members :
+      change_members selected.inputs selected.replacement (wishes_of command) (reads_in files)
+      ≡ Ok found
+  pub are_selected :
+      AreSelectedOnes selected.inputs selected.replacement (reads_in files) found
+  pub no_fault :
+      HasNoFault (wishes_of command) (file_change selected.inputs (wishes_of command) found) files

@@ -1,0 +1,51 @@
+-- What holds of the packages after a change that has passed some of its tests.
+use Rattle.std.specs.Prelude.{◌≡◌, ℕ, true, false, List, is_some}
+use Rattle.adb_fields.specs.FirstPair.{IsIn}
+use Rattle.adb_rules.specs.Reserved.{is_reserved}
+use Rattle.base_core.specs.Files.{Files}
+use Rattle.change_files.specs.FileChange.{FileChange}
+use Rattle.change_files.specs.NamesAfter.{coming_paths, name_change}
+use Rattle.change_outcome.specs.ChangeOutcome.{ChangeWishes}
+use Rattle.change_outcome.specs.PackageFiles.{has_script_of, trigger_script}
+use Rattle.db_core.specs.Members.{Listing, Member, member_listings}
+use Rattle.file_owners.specs.Owners.{owner_of_path}
+use Rattle.path_clashes.specs.Clash.{HasNoClash}
+use Rattle.report_core.specs.declared.refusal.Refusal.{Refusal}
+use Rattle.report_core.specs.declared.refusal.Refusal.TheVariants.{Owned, PathClash, ResultTooLarge, TriggerNeeded}
+use Rattle.refusal_laws.specs.ChangeFaults.{IsWatchedFor}
+
+-- no package that comes lists a path that apk keeps for itself
+abbrev pub AreUnreserved : List Member → Type 0
+AreUnreserved members =
+    (path : List ℕ) → IsIn path (coming_paths members) → is_reserved path ≡ false
+
+-- each path that a package lists has an owner
+abbrev pub HaveOwners : List Member → Type 0
+HaveOwners members =
+    (l : Listing) → IsIn l (member_listings members)
+    → is_some (owner_of_path members l.path) ≡ true
+
+-- no trigger of a package is due, or scripts are left out
+abbrev pub HasNoTrigger : ChangeWishes → FileChange → Files → Type 0
+HasNoTrigger wishes change files =
+    wishes.no_scripts ≡ false → (m : Member) → IsIn m change.members
+    → has_script_of m.pkg trigger_script ≡ true → IsWatchedFor change files m.pkg → ⊥
+
+abbrev pub HasNamesOfItsOwn : FileChange → Files → Type 0
+HasNamesOfItsOwn change files =
+    AreUnreserved change.members × HasNoClash (name_change change files) files
+
+abbrev pub HasOwners : FileChange → Files → Type 0
+HasOwners change files = HasNamesOfItsOwn change files × HaveOwners change.members
+
+-- none of what would refuse the files of a change, but for the limits of what is written
+abbrev pub HasNoFault : ChangeWishes → FileChange → Files → Type 0
+HasNoFault wishes change files = HasOwners change files × HasNoTrigger wishes change files
+
+-- what is tested before this refusal
+abbrev pub HasPassedBefore : ChangeWishes → FileChange → Files → Refusal → Type 0
+HasPassedBefore wishes change files (PathClash path other) = AreUnreserved change.members
+HasPassedBefore wishes change files (Owned path first second) = HasNamesOfItsOwn change files
+HasPassedBefore wishes change files (TriggerNeeded name) = HasOwners change files
+HasPassedBefore wishes change files (ResultTooLarge bytes values) = HasNoFault wishes change files
+HasPassedBefore wishes change files other = Unit {0}
