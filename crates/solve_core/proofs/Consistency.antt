@@ -173,18 +173,13 @@ get_within [] (suc i) x h = absurd (cc)
 get_within (y ∷ xs) zero x h = omega arith
 get_within (y ∷ xs) (suc i) x h = let r = get_within xs i x h in omega arith
 
-pub met_by : (pool : SealedPool) (t : List ℕ) (queue : List RaisedDepValue) (at : ℕ) (r : RaisedDepValue) (o : Option ℕ) → queue ≡ queue_of pool t → AreMet pool t at → slice_get queue at ≡ Some r → MatchOption o (is_met pool t (entry r.0) ≡ false) (λ id. IsMember id t × (meets_at pool id (entry r.0) ≡ true)) → MatchBool (is_some o) (AreMet pool t (at + 1)) (slice_get queue at ≡ find (is_unmet_dep pool t) (queue_of pool t))
-met_by pool t queue at r None is met here m =
+pub met_by : (pool : SealedPool) (t : List ℕ) (queue : List RaisedDepValue) (at : ℕ) (r : RaisedDepValue) (b : Bool) → queue ≡ queue_of pool t → AreMet pool t at → slice_get queue at ≡ Some r → b ≡ is_met pool t (entry r.0) → MatchBool b (AreMet pool t (at + 1)) (slice_get queue at ≡ find (is_unmet_dep pool t) (queue_of pool t))
+met_by pool t queue at r false is met here m =
     subst (λ (z : List RaisedDepValue). slice_get z at ≡ find (is_unmet_dep pool t) (queue_of pool t)) (sym is)
-    (find_here (is_unmet_dep pool t) (queue_of pool t) at r met.1 (subst (λ (z : List RaisedDepValue). slice_get z at ≡ Some r) is here) (ap not m))
-met_by pool t queue at r (Some id) is met here m =
+    (find_here (is_unmet_dep pool t) (queue_of pool t) at r met.1 (subst (λ (z : List RaisedDepValue). slice_get z at ≡ Some r) is here) (ap not (sym m)))
+met_by pool t queue at r true is met here m =
     let g : slice_get (queue_of pool t) at ≡ Some r = subst (λ (z : List RaisedDepValue). slice_get z at ≡ Some r) is here in
-    met_next pool t at r met (get_within (queue_of pool t) at r g) g (ap not (any_one_of (λ c. meets_at pool c (entry r.0)) t id m.0 m.1))
-  where
-    any_one_of : (p : ℕ → Bool) (xs : List ℕ) (x : ℕ) → IsMember x xs → p x ≡ true → list_any p xs ≡ true
-    any_one_of p [] x h e = absurd h
-    any_one_of p (y ∷ xs) x (inl s) e = rw (subst (λ (z : ℕ). p z ≡ true) s e) refl
-    any_one_of p (y ∷ xs) x (inr h) e = elim (bool_cases (p y)) [ inl k ↦ rw k refl | inr k ↦ rw k (any_one_of p xs x h e) ]
+    met_next pool t at r met (get_within (queue_of pool t) at r g) g (ap not (sym m))
 
 get_none : {X : Type 0} (xs : List X) (i : ℕ) → slice_get xs i ≡ None → length xs ≤ i
 get_none [] i h = omega arith

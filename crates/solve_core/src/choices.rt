@@ -18,7 +18,7 @@ use crate::conflicts::Conflicts;
 use crate::exclusion::keeps_out;
 use crate::frame::Frame;
 use crate::install_ifs::InstallIfs;
-use crate::needs::{asks_for_name, choice_meeting, raisers};
+use crate::needs::{asks_for_name, is_met_by_latest_or_other, raisers};
 use crate::queue::{Checkpoint, RaisedDep, queue_all, queue_world};
 use crate::selection::Trace;
 use dep_core::Dep;
@@ -154,7 +154,10 @@ impl<'p> Choices<'p> {
             (pool_of self.now) (choices_of self.now))) }
     {
         match self.front() {
-            Some(raised) => choice_meeting(self.pool, &self.choices, raised.dep()).is_some(),
+            Some(raised) => {
+                let need = NeedRef::Entry(raised.dep());
+                is_met_by_latest_or_other(self.pool, &self.choices, &need)
+            }
             None => false,
         }
     }
