@@ -5,7 +5,7 @@ use Rattle.std.specs.Bool.{MatchBool}
 use Rattle.dep_core.specs.Dependency.{Dependency}
 use Rattle.std.specs.Option.{option_map_or}
 use Rattle.std.specs.List.{filter, find, flat_map, list_any}
-use Rattle.pool_core.specs.Candidates.{Candidate, Need, entry, named, positive_entries_of}
+use Rattle.pool_core.specs.Candidates.{Candidate, Need, entry, named}
 use Rattle.pool_core.specs.Rank.{SealedPool, is_at, meets_at}
 use Rattle.pool_core.specs.Candidates.{is_eligible}
 use Rattle.solve_core.specs.Reasons.{IsFrameTaking, options_in}
@@ -22,7 +22,7 @@ use Rattle.solve_core.specs.declared.choices.Choices.{Choices}
 use Rattle.solve_core.specs.declared.queue.Checkpoint.{Checkpoint}
 use Rattle.solve_core.proofs.Theory.{in_left, in_right, in_append}
 use Rattle.solve_core.proofs.PoolFacts.{bool_cases, find_in, map_in, in_map}
-use Rattle.solve_core.proofs.Queued.{filter_twice, find_here, past_end, met_more, met_next, queue_more}
+use Rattle.solve_core.proofs.Queued.{find_here, past_end, met_more, met_next, queue_more}
 
 module _ (pool : SealedPool) (install_ifs : List ℕ) where
   abbrev pub IsBefore : List ℕ → Checkpoint → Type 0
@@ -136,17 +136,13 @@ met_start pool t = (omega arith, ap (find (is_unmet_dep pool t)) (take_none (que
 
 -- ---- no choices
 
-abbrev of_world : Dependency → RaisedDepValue
-of_world d = (d, None)
-
 none_below : (k : ℕ) → k < 0 → ⊥
 none_below k h = absurd (omega (arith, h))
 
-pub consistent_start : (chosen : Choices) → choices_of chosen ≡ [] → chosen.queue.items ≡ [] ++ raised_deps None (positive_entries_of (pool_of chosen).world) → chosen.cursor ≡ 0 → chosen.asking_cursor ≡ 0 → AreInstallIfs (pool_of chosen) (install_ifs_of chosen) chosen.install_ifs.waiting → chosen.conflicts.added ≡ [] → chosen.checkpoints.items ≡ [] → IsConsistent chosen
+pub consistent_start : (chosen : Choices) → choices_of chosen ≡ [] → chosen.queue.items ≡ [] ++ raised_deps None (pool_of chosen).world → chosen.cursor ≡ 0 → chosen.asking_cursor ≡ 0 → AreInstallIfs (pool_of chosen) (install_ifs_of chosen) chosen.install_ifs.waiting → chosen.conflicts.added ≡ [] → chosen.checkpoints.items ≡ [] → IsConsistent chosen
 consistent_start chosen none queue at asking are added checkpoints =
     let p = pool_of chosen in
-    let all : raised_deps None (positive_entries_of p.world) ≡ queue_of p [] =
-    ap (map of_world) (filter_twice (λ (d : Dependency). not d.conflict) p.world) ∙ sym (append-nil (raised_deps None p.world)) in
+    let all : raised_deps None p.world ≡ queue_of p [] = sym (append-nil (raised_deps None p.world)) in
     record {
       within = λ k h. absurd (subst (λ (z : List ℕ). IsMember k z) none h);
       queue = queue ∙ (all ∙ ap (queue_of p) (sym none));

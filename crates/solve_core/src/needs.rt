@@ -145,7 +145,7 @@ pub(crate) fn asks_for_name(
 fn wants(pool: &Sealed<'_>, choices: &CandidateSet, details: &Details<'_>) -> bool
     ensures { result ≡ asks_for_name pool.now choices.now details.now }
 {
-    if !all_met(pool, choices, details.install_if().as_slice()) {
+    if !all_met(pool, choices, details.install_if()) {
         return false;
     }
     !is_met(pool, choices, &NeedRef::Named(details.name()))

@@ -9,5 +9,5 @@ use Rattle.solve_core.proofs.choices.Choices.new.Goals as goal
 pub returns-clause-consistent : goal.returns-clause-consistent
 returns-clause-consistent c =
     consistent_start _ c.new-2.ensures
-    (c.in_ok-queue_world.ensures ∙ (ap (λ (z : List RaisedDepValue). z ++ raised_deps None (map dependency c.positive_entries.result.now)) c.new-queue.ensures.items ∙ ap (λ (d : List Dependency). [] ++ raised_deps None d) c.positive_entries.ensures))
+    (c.in_ok-queue_world.ensures ∙ (ap (λ (z : List RaisedDepValue). z ++ raised_deps None c.args.world.now) c.new-queue.ensures.items ∙ ap (λ (d : List Dependency). [] ++ raised_deps None d) c.requires))
     refl refl c.in_ok-install_ifs.ensures c.new-3.ensures.none c.new-4.ensures.items
