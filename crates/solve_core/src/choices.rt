@@ -311,45 +311,10 @@ impl<'p> Choices<'p> {
         least
     }
 
-    /// A choice that no satisfying selection holds beside the candidate. It is looked for among all
-    /// choices where these are fewer than the offers of the candidate's name.
+    /// A choice that no satisfying selection holds beside the candidate. It is looked for among those
+    /// that have a conflict of a name which the candidate offers, that offer a name which it occupies,
+    /// or that offer the name of one of its conflicts.
     pub(crate) fn excluder(&self, id: CandId) -> Option<CandId>
-        requires consistent { IsConsistent self.now }
-        requires within { id < length (pool_of self.now).candidates }
-        ensures { MatchOption result ((other : ℕ) → IsMember other (choices_of self.now) →
-            exclude_each_other (pool_of self.now) other id
-            ≡ false) (λ other. IsMember other (choices_of self.now)
-            × (exclude_each_other (pool_of self.now) other id ≡ true)) }
-    {
-        if self.are_choices_few(id) {
-            return self.excluder_of_all(id);
-        }
-        self.excluder_by_names(id)
-    }
-
-    // Whether there are fewer choices than offers of a candidate's name.
-    fn are_choices_few(&self, id: CandId) -> bool
-        requires { id < length (pool_of self.now).candidates }
-    {
-        let offers = self.pool.offers(self.pool.details(id).name());
-        self.choices.as_slice().len() < offers.len()
-    }
-
-    // The excluder among all choices.
-    fn excluder_of_all(&self, id: CandId) -> Option<CandId>
-        requires consistent { IsConsistent self.now }
-        requires within { id < length (pool_of self.now).candidates }
-        ensures { MatchOption result ((other : ℕ) → IsMember other (choices_of self.now) →
-            exclude_each_other (pool_of self.now) other id
-            ≡ false) (λ other. IsMember other (choices_of self.now)
-            × (exclude_each_other (pool_of self.now) other id ≡ true)) }
-    {
-        self.excluder_among(self.choices.as_slice(), id)
-    }
-
-    // The excluder among the choices that have a conflict of a name which the candidate offers, that
-    // offer a name which it occupies, or that offer the name of one of its conflicts.
-    fn excluder_by_names(&self, id: CandId) -> Option<CandId>
         requires consistent { IsConsistent self.now }
         requires within { id < length (pool_of self.now).candidates }
         ensures { MatchOption result ((other : ℕ) → IsMember other (choices_of self.now) →
@@ -367,8 +332,24 @@ impl<'p> Choices<'p> {
         self.excluder_offering(details.conflicts(), id)
     }
 
-    // The first of some candidates that is a choice and excludes another, or is excluded by it.
+    // One of some candidates that is a choice and excludes another, or is excluded by it. It is looked
+    // for among all choices where these are fewer.
     fn excluder_among(&self, ids: &[CandId], id: CandId) -> Option<CandId>
+        requires consistent { IsConsistent self.now }
+        requires within { id < length (pool_of self.now).candidates }
+        ensures { MatchOption result ((k : ℕ) → IsMember k ids.now →
+            IsMember k (choices_of self.now) → exclude_each_other (pool_of self.now) k id
+            ≡ false) (λ other. IsMember other (choices_of self.now)
+            × (exclude_each_other (pool_of self.now) other id ≡ true)) }
+    {
+        let choices = self.choices.as_slice();
+        if choices.len() < ids.len() {
+            return self.first_excluder(choices, id);
+        }
+        self.first_excluder(ids, id)
+    }
+
+    fn first_excluder(&self, ids: &[CandId], id: CandId) -> Option<CandId>
         requires consistent { IsConsistent self.now }
         requires within { id < length (pool_of self.now).candidates }
         ensures { MatchOption result ((k : ℕ) → IsMember k ids.now →

@@ -5,7 +5,7 @@ use Rattle.pool_core.specs.Options.{IsMember}
 use Rattle.solve_core.specs.Choices.{IsAtHand}
 use Rattle.solve_core.proofs.FirstFound.{none_of}
 use Rattle.solve_core.proofs.Excluders.{match_none, no_excluder}
-use Rattle.solve_core.proofs.choices.Choices.excluder_by_names.Goals as goal
+use Rattle.solve_core.proofs.choices.Choices.excluder.Goals as goal
 
 pub returns : goal.returns
 returns c =
