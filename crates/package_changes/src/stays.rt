@@ -1,23 +1,20 @@
 //! Packages that were to go and stay, since others need them.
 ghost use Rattle.change_files.specs.PlanLists.{names_in_order};
 ghost use Rattle.db_core.specs.Seen.{packages_of};
-ghost use Rattle.dep_core.specs.Dependency.{Dependency};
-ghost use Rattle.dep_core.specs.Meets.{dependency};
 ghost use Rattle.package_changes.specs.Changes.{is_selected_named};
 ghost use Rattle.package_changes.specs.Placed.{candidates_at};
 ghost use Rattle.package_changes.specs.SelectedNames.{place_beside};
-ghost use Rattle.package_changes.specs.Report.{is_in_need, names_in_need, needs_candidate, selected_stay_lines, stay_lines, was_installed};
-ghost use Rattle.pool_core.specs.Candidates.{Candidate, meets_dependency};
+ghost use Rattle.package_changes.specs.Report.{is_in_need, names_in_need, selected_stay_lines, stay_lines, was_installed};
+ghost use Rattle.pool_core.specs.Candidates.{Candidate};
 ghost use Rattle.pool_core.specs.Rank.{candidate_at};
 ghost use Rattle.report_core.specs.Reports.{report_line, spaced_behind, stays_text};
-ghost use Rattle.std.specs.List.{filter, flat_map, list_any};
-ghost use Rattle.std.specs.Prelude.{◌≡◌, ◌++◌, ◌&&◌, not, if◌then◌else◌, [], ◌∷◌, map, option_to_list, is_some, IfOk, OnOk};
+ghost use Rattle.std.specs.List.{filter, flat_map};
+ghost use Rattle.std.specs.Prelude.{◌≡◌, ◌++◌, if◌then◌else◌, [], ◌∷◌, map, option_to_list, is_some, IfOk, OnOk};
 
 use crate::names::{names_in_order, names_of_words};
 use crate::selected::SelectedNames;
 use base_core::Words;
 use db_core::Db;
-use dep_core::Dep;
 use pool_core::{CandId, Details, Sealed};
 use report_core::Report;
 use solve_core::Trace;
@@ -241,34 +238,7 @@ fn is_in_need(needed: &Details<'_>, details: &Details<'_>) -> bool
     if details.name() == needed.name() {
         return false;
     }
-    needs_candidate(details, needed)
-}
-
-/// Whether a positive dependency of one candidate is met by another one.
-#[tactic(auto, using(pool_core::proofs::Anyone::any_map))]
-fn needs_candidate(details: &Details<'_>, needed: &Details<'_>) -> bool
-    ensures { result ≡ needs_candidate details.now needed.now }
-{
-    any_met(details.depends().as_slice(), needed)
-}
-
-/// Whether one of some dependencies is positive and met by a candidate.
-fn any_met(deps: &[Dep<'_>], needed: &Details<'_>) -> bool
-    ensures { result ≡ list_any (λ dep. not (dependency dep).conflict
-        && meets_dependency (dependency dep) needed.now) deps.now }
-{
-    deps.iter().any(|dep| is_met(dep, needed))
-}
-
-/// Whether a dependency is positive and met by a candidate.
-fn is_met(dep: &Dep<'_>, needed: &Details<'_>) -> bool
-    ensures { result ≡ (not (dependency dep.now).conflict
-        && meets_dependency (dependency dep.now) needed.now) }
-{
-    if dep.conflict {
-        return false;
-    }
-    needed.meets(dep)
+    details.needs(needed)
 }
 
 /// Adds that a package stays, and the names of those that need it.

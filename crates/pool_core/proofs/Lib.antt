@@ -17,3 +17,4 @@ pub mod TableAdding
 pub mod CandidateLists
 pub mod MarksThroughTable
 pub mod SearchedWords
+pub mod WantedLists

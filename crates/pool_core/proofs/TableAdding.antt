@@ -1,7 +1,6 @@
 -- What it takes for the table of names to lead to the offers of one more candidate.
 use Rattle.std.proofs.Common.{◌≡◌, inl, inr, ℕ, suc, ◌-◌, ◌<◌, Bool, true, false, List, [], ◌∷◌, ◌++◌, length, refl, sym, subst, ap, ◌∙◌, arith}
-use Rattle.std.specs.Prelude.{Option, Some, None, Vec, slice_get, if◌then◌else◌, ◌==◌, ◌||◌}
-use Rattle.std.specs.Global.{Global}
+use Rattle.std.specs.Prelude.{Option, Some, None, slice_get, if◌then◌else◌, ◌==◌, ◌||◌}
 use Rattle.std.specs.Borrow.{Bor}
 use Rattle.std.specs.Map.{lookup}
 use Rattle.indexmap.specs.IndexMap.{insert_entry}
@@ -94,7 +93,7 @@ last_is (x ∷ ids) = from None x ids
 -- ---- the table after one write
 
 abbrev pub Entries : Type 0
-Entries = List (Bor (List ℕ) × Vec ℕ Global)
+Entries = List (Bor (List ℕ) × List ℕ)
 
 abbrev pub is_key : List ℕ → Bor (List ℕ) → Bool
 is_key name k = bytes_eq name k.now
@@ -109,7 +108,7 @@ other_name a b c h e = elim (bool_cases (bytes_eq c a)) [
 ]
 
 -- where the ids of a name are replaced
-pub ids_of-set_value : (name other : List ℕ) (v old : Vec ℕ Global) (es : Entries) → lookup (is_key name) es ≡ Some old → ids_of (names_and_ids (set_value (is_key name) es v)) other ≡ (if bytes_eq other name then v.items else ids_of (names_and_ids es) other)
+pub ids_of-set_value : (name other : List ℕ) (v old : List ℕ) (es : Entries) → lookup (is_key name) es ≡ Some old → ids_of (names_and_ids (set_value (is_key name) es v)) other ≡ (if bytes_eq other name then v else ids_of (names_and_ids es) other)
 ids_of-set_value name other v old [] h = absurd (cc)
 ids_of-set_value name other v old (e ∷ es) h = elim (bool_cases (bytes_eq name e.0.now)) [
   | inl t ↦ elim (bool_cases (bytes_eq other e.0.now)) [
@@ -125,7 +124,7 @@ ids_of-set_value name other v old (e ∷ es) h = elim (bool_cases (bytes_eq name
 ]
 
 -- where a name is new
-pub ids_of-insert_entry : (key : Bor (List ℕ)) (other : List ℕ) (v : Vec ℕ Global) (es : Entries) → lookup (is_key key.now) es ≡ None → ids_of (names_and_ids (insert_entry (λ (a b : Bor (List ℕ)). bytes_eq a.now b.now) es key v)) other ≡ (if bytes_eq other key.now then v.items else ids_of (names_and_ids es) other)
+pub ids_of-insert_entry : (key : Bor (List ℕ)) (other : List ℕ) (v : List ℕ) (es : Entries) → lookup (is_key key.now) es ≡ None → ids_of (names_and_ids (insert_entry (λ (a b : Bor (List ℕ)). bytes_eq a.now b.now) es key v)) other ≡ (if bytes_eq other key.now then v else ids_of (names_and_ids es) other)
 ids_of-insert_entry key other v [] h = refl
 ids_of-insert_entry key other v (e ∷ es) h = elim (bool_cases (bytes_eq key.now e.0.now)) [
   | inl t ↦ let bad : Some e.1 ≡ None = rw t at h in absurd (cc)

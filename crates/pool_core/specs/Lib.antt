@@ -8,6 +8,7 @@ pub mod PlainCode
 pub mod FieldNames
 pub mod Table
 pub mod World
+pub mod Wanted
 pub mod CandidateList
 pub mod Marks
 pub mod RankWith

@@ -1,6 +1,5 @@
 -- The table of names: the candidates that offer each.
-use Rattle.std.specs.Prelude.{◌≡◌, ℕ, ◌==◌, Bool, List, [], ◌∷◌, ◌++◌, map, None, if◌then◌else◌, Vec, false}
-use Rattle.std.specs.Global.{Global}
+use Rattle.std.specs.Prelude.{◌≡◌, ℕ, ◌==◌, Bool, List, [], ◌∷◌, ◌++◌, map, None, if◌then◌else◌, false}
 use Rattle.std.specs.Borrow.{Bor}
 use Rattle.std.specs.List.{last_or}
 use Rattle.std.specs.Option.{option_map_or}
@@ -8,8 +7,13 @@ use Rattle.std.specs.Str.{bytes_eq}
 use Rattle.pool_core.specs.Candidates.{Candidate}
 use Rattle.pool_core.specs.Options.{places_offering}
 
-abbrev pub names_and_ids : List (Bor (List ℕ) × Vec ℕ Global) → List (List ℕ × List ℕ)
-names_and_ids entries = map (λ (e : Bor (List ℕ) × Vec ℕ Global). (e.0.now, e.1.items)) entries
+-- one that stands alone, or all of them where there are more
+abbrev pub one_or_all : ℕ → List ℕ → List ℕ
+one_or_all one [] = one ∷ []
+one_or_all one (id ∷ ids) = id ∷ ids
+
+abbrev pub names_and_ids : List (Bor (List ℕ) × List ℕ) → List (List ℕ × List ℕ)
+names_and_ids entries = map (λ (e : Bor (List ℕ) × List ℕ). (e.0.now, e.1)) entries
 
 abbrev pub ids_of : List (List ℕ × List ℕ) → List ℕ → List ℕ
 ids_of [] name = []

@@ -2,20 +2,22 @@
 //! `Details` what the pool and the search compare.
 ghost use Rattle.std.specs.Prelude.{◌≡◌, ◌++◌, map, IfOk, OnOk, option_copied, option_to_list};
 ghost use Rattle.std.specs.Option.{option_and_then, option_map};
-ghost use Rattle.std.specs.List.{find, list_all, list_any};
+ghost use Rattle.std.specs.List.{filter, find, list_all, list_any};
 ghost use Rattle.std.specs.Prelude.{◌&&◌, ◌==◌, length, not};
-ghost use Rattle.adb_schema.specs.Views.{info_value};
+ghost use Rattle.adb_schema.specs.Views.{dependency_value, info_value};
 ghost use Rattle.adb_fields.specs.ListValue.{list_value};
 ghost use Rattle.dep_core.specs.Dependency.{Dependency};
 ghost use Rattle.dep_core.specs.Meets.{dependency};
-ghost use Rattle.pool_core.specs.Candidates.{as_installed, candidate_of, entry, dependencies_in, entry_occupies, is_met_by_entry, is_same_id, is_same_package, is_same_version, meets_dependency, meets_need, occupies_name, version_under};
+ghost use Rattle.pool_core.specs.Candidates.{as_installed, candidate_of, entry, dependencies_in, dependency_in, entry_occupies, is_met_by_entry, is_same_id, is_same_package, is_same_version, meets_dependency, meets_need, occupies_name, version_under};
 ghost use Rattle.pool_core.specs.Rank.{is_untagged};
 ghost use Rattle.pool_core.specs.Values.{candidate_value, need_by};
+ghost use Rattle.pool_core.specs.Wanted.{is_conflict};
 ghost use Rattle.pool_core.specs.World.{has_positive_install_if};
 
+use crate::dependencies::{DependencyLists, read_all, read_one};
 use crate::need::NeedRef;
 use adb_schema::{DepView, List, PkgInfo};
-use dep_core::{Dep, dep_of};
+use dep_core::Dep;
 use std::alloc::{AllocError, Global};
 use std::marker::Model;
 use version_core::Version;
@@ -49,93 +51,42 @@ pub struct Candidate<'a> {
     pub installed: bool,
 }
 
-/// The dependencies of a field, read once.
-#[derive(Drop)]
-pub struct Deps<'a> {
-    deps: Vec<Dep<'a>>,
-}
-
-impl<'a> Model for Deps<'a> {
-    ghost use Rattle.std.specs.Prelude.{map, List as Items};
-    ghost use Rattle.dep_core.specs.Dependency.{Dependency};
-    ghost use Rattle.dep_core.specs.Meets.{dependency};
-
-    ghost Value = { Items Dependency };
-
-    ghost view = { λ deps. map dependency deps.deps.items };
-}
-
-impl<'a> Deps<'a> {
-    /// The dependencies of a field.
-    pub(crate) fn read(alloc: Global, list: List<'a, DepView<'a>>) -> Result<Deps<'a>, AllocError>
-        ensures { IfOk result (λ deps. deps ≡ dependencies_in (list_value list.entry)) }
-    {
-        let mut deps = Vec::with_capacity(alloc, list.len())?;
-        for i in 0..list.len() {
-            let view = list.get(i + 1);
-            let found = dep_of(view.name(), view.version(), view.matching());
-            push_found(&mut deps, found)?;
-        }
-        Ok(Deps { deps })
-    }
-
-    /// The dependencies, in the order of the field.
-    pub fn as_slice(&self) -> &[Dep<'a>]
-        ensures { map dependency result.now ≡ self.now }
-    {
-        self.deps.as_slice()
-    }
-}
-
-// Adds a dependency, if there is one.
-fn push_found<'a>(deps: &mut Vec<Dep<'a>>, found: Option<Dep<'a>>) -> Result<(), AllocError>
-    ensures { OnOk result (map dependency deps.new.items
-        ≡ map dependency deps.old.items ++ option_to_list (option_map dependency found.entry)) }
-{
-    match found {
-        None => Ok(()),
-        Some(dep) => {
-            deps.push(dep)?;
-            Ok(())
-        }
-    }
-}
-
-/// What the pool and the search compare of a candidate, read once. It borrows all texts.
+/// What the pool and the search compare of a candidate, read once. It borrows all texts. A flag
+/// beside a value takes less memory than an option.
 #[derive(Drop)]
 pub struct Details<'a> {
     info: PkgInfo<'a>,
-    name: &'a [u8],
     version: Option<Version<'a>>,
-    depends: Deps<'a>,
-    provides: Deps<'a>,
-    install_if: Deps<'a>,
-    priority: u64,
-    repo: Option<u64>,
-    tag: Option<&'a [u8]>,
+    lists: DependencyLists<'a>,
+    repo: u64,
+    tag: &'a [u8],
+    has_repo: bool,
+    has_tag: bool,
     installed: bool,
 }
 
 impl<'a> Model for Details<'a> {
     ghost use Rattle.std.specs.Coded.{codes};
     ghost use Rattle.pool_core.specs.PlainCode.{plain_code};
-    ghost use Rattle.std.specs.Prelude.{◌≡◌, option_copied};
-    ghost use Rattle.adb_schema.specs.Views.{info_value};
+    ghost use Rattle.std.specs.Prelude.{◌≡◌};
+    ghost use Rattle.std.specs.Bool.{then_some};
+    ghost use Rattle.std.specs.List.{filter};
+    ghost use Rattle.adb_schema.specs.Views.{dependency_value, info_value};
     ghost use Rattle.adb_tables.specs.Values.{entry_in, text_in};
-    ghost use Rattle.pool_core.specs.Candidates.{Candidate as CandidateValue, candidate_by, candidate_of};
+    ghost use Rattle.pool_core.specs.Candidates.{Candidate as CandidateValue, candidate_of, dependencies_in, version_of_text};
+    ghost use Rattle.pool_core.specs.Wanted.{is_conflict};
 
     ghost Value = { CandidateValue };
 
     ghost coded = { Prim.hlevel (codes, plain_code) };
 
-    ghost view = { λ d. candidate_by (info_value d.info) d.name.now d.version
-        (text_in (entry_in (info_value d.info) 2)) d.depends d.provides d.install_if d.priority
-        d.repo (option_copied d.tag) d.installed };
+    ghost view = { λ d. candidate_of (info_value d.info) (then_some d.has_repo d.repo)
+        (then_some d.has_tag d.tag.now) d.installed };
 
-    ghost invariant = { λ d. candidate_by (info_value d.info) d.name.now d.version
-        (text_in (entry_in (info_value d.info) 2)) d.depends d.provides d.install_if d.priority
-        d.repo (option_copied d.tag) d.installed
-        ≡ candidate_of (info_value d.info) d.repo (option_copied d.tag) d.installed };
+    ghost invariant = { λ d. (d.version ≡ version_of_text (text_in (entry_in (info_value d.info) 1)))
+        × (d.lists.0 ≡ filter is_conflict (dependencies_in (entry_in (info_value d.info) 14)))
+        × (d.lists.1.0 ≡ dependencies_in (entry_in (info_value d.info) 15))
+        × (d.lists.1.1 ≡ dependencies_in (entry_in (info_value d.info) 17)) };
 }
 
 impl<'a> Details<'a> {
@@ -150,22 +101,16 @@ impl<'a> Details<'a> {
         ensures { IfOk result (λ details. details
             ≡ candidate_of (info_value info.entry) repo (option_copied tag.entry) installed) }
     {
-        let name = info.name();
         let version = Version::read(info.version());
-        let depends = Deps::read(alloc, info.depends())?;
-        let provides = Deps::read(alloc, info.provides())?;
-        let install_if = Deps::read(alloc, info.install_if())?;
-        let priority = info.provider_priority();
+        let lists = DependencyLists::read(alloc, info)?;
         Ok(Details {
             info,
-            name,
             version,
-            depends,
-            provides,
-            install_if,
-            priority,
-            repo,
-            tag,
+            lists,
+            repo: repo.unwrap_or(0),
+            tag: tag.unwrap_or(&[]),
+            has_repo: repo.is_some(),
+            has_tag: tag.is_some(),
             installed,
         })
     }
@@ -176,8 +121,8 @@ impl<'a> Details<'a> {
     {
         Candidate {
             info: self.info,
-            repo: self.repo,
-            tag: self.tag,
+            repo: self.repo(),
+            tag: self.tag(),
             installed: self.installed,
         }
     }
@@ -193,7 +138,7 @@ impl<'a> Details<'a> {
     pub fn name(&self) -> &'a [u8]
         ensures { result.now ≡ self.now.name }
     {
-        self.name
+        self.info.name()
     }
 
     /// Its version; none only where the text is no version, which no tested container has.
@@ -210,53 +155,69 @@ impl<'a> Details<'a> {
         self.info.hashes()
     }
 
-    /// What it needs, and what it excludes.
-    pub fn depends(&self) -> &Deps<'a>
-        ensures { result.now ≡ self.now.depends }
+    /// What it needs, and what it excludes, read anew at each call.
+    pub fn depends(&self, alloc: Global) -> Result<Vec<Dep<'a>>, AllocError>
+        ensures { IfOk result (λ deps. map dependency deps.items ≡ self.now.depends) }
     {
-        &self.depends
+        read_all(alloc, self.info.depends())
+    }
+
+    /// What it excludes: the conflicts among its dependencies.
+    pub fn conflicts(&self) -> &[Dep<'a>]
+        ensures { map dependency result.now ≡ filter is_conflict self.now.depends }
+    {
+        self.lists.conflicts()
     }
 
     /// What it provides.
-    pub fn provides(&self) -> &Deps<'a>
-        ensures { result.now ≡ self.now.provides }
+    pub fn provides(&self) -> &[Dep<'a>]
+        ensures { map dependency result.now ≡ self.now.provides }
     {
-        &self.provides
+        self.lists.provides()
     }
 
     /// Where each of these is met, its name is needed.
-    pub fn install_if(&self) -> &Deps<'a>
-        ensures { result.now ≡ self.now.install_if }
+    pub fn install_if(&self) -> &[Dep<'a>]
+        ensures { map dependency result.now ≡ self.now.install_if }
     {
-        &self.install_if
+        self.lists.install_if()
+    }
+
+    /// Whether one of its dependencies is no conflict and is met by another candidate. Its
+    /// dependencies are read anew at each call.
+    pub fn needs(&self, other: &Details<'_>) -> bool
+        ensures { result ≡ list_any (λ (d : Dependency). not d.conflict
+            && meets_dependency d other.now) self.now.depends }
+    {
+        any_met_by(self.info.depends(), other)
     }
 
     /// How much it is preferred among providers of one name.
     pub fn priority(&self) -> u64
         ensures { result ≡ self.now.priority }
     {
-        self.priority
+        self.info.provider_priority()
     }
 
     /// Its repository, counted from 1.
     pub fn repo(&self) -> Option<u64>
         ensures { result ≡ self.now.repository }
     {
-        self.repo
+        self.has_repo.then_some(self.repo)
     }
 
     /// The tag of its repository.
     pub fn tag(&self) -> Option<&'a [u8]>
         ensures { option_copied result ≡ self.now.tag }
     {
-        self.tag
+        self.has_tag.then_some(self.tag)
     }
 
     /// Whether its repository has no tag, or it is of none.
     pub fn is_untagged(&self) -> bool
         ensures { result ≡ is_untagged self.now }
     {
-        self.tag.is_none()
+        !self.has_tag
     }
 
     /// Whether it is installed.
@@ -270,10 +231,10 @@ impl<'a> Details<'a> {
     pub(crate) fn is_same_package(&self, installed: &Details<'_>) -> bool
         ensures { result ≡ is_same_package installed.now self.now }
     {
-        if self.repo.is_none() {
+        if !self.has_repo {
             return false;
         }
-        if self.name != installed.name {
+        if self.name() != installed.name() {
             return false;
         }
         if !is_same_version(self.version(), installed.version()) {
@@ -286,7 +247,7 @@ impl<'a> Details<'a> {
     pub(crate) fn has_positive_install_if(&self) -> bool
         ensures { result ≡ has_positive_install_if self.now }
     {
-        are_some_and_positive(self.install_if.as_slice())
+        are_some_and_positive(self.install_if())
     }
 
     /// The version under which it meets a need: its own, else that of the first entry of provides
@@ -303,10 +264,10 @@ impl<'a> Details<'a> {
     fn version_meeting(&self, dep: &Dep<'_>) -> Option<&Version<'a>>
         ensures { option_copied result ≡ version_under (entry (dependency dep.now)) self.now }
     {
-        if dep.met_by(self.name, self.version.as_ref()) {
+        if dep.met_by(self.name(), self.version.as_ref()) {
             return self.version.as_ref();
         }
-        first_meeting(self.provides.as_slice(), dep)
+        first_meeting(self.provides(), dep)
     }
 
     /// Whether it meets a need.
@@ -314,7 +275,7 @@ impl<'a> Details<'a> {
         ensures { result ≡ meets_need (need_by need.now) self.now }
     {
         match need {
-            NeedRef::Named(name) => *name == self.name,
+            NeedRef::Named(name) => *name == self.name(),
             NeedRef::Entry(dep) => self.meets(dep),
         }
     }
@@ -324,10 +285,10 @@ impl<'a> Details<'a> {
     pub fn meets(&self, dep: &Dep<'_>) -> bool
         ensures { result ≡ meets_dependency (dependency dep.now) self.now }
     {
-        if dep.met_by(self.name, self.version.as_ref()) {
+        if dep.met_by(self.name(), self.version.as_ref()) {
             return true;
         }
-        any_meets(self.provides.as_slice(), dep)
+        any_meets(self.provides(), dep)
     }
 
     /// Whether it occupies a name, which one member of a selection may do.
@@ -335,10 +296,10 @@ impl<'a> Details<'a> {
     pub fn occupies(&self, name: &[u8]) -> bool
         ensures { result ≡ occupies_name name.now self.now }
     {
-        if name == self.name {
+        if name == self.name() {
             return true;
         }
-        any_occupies(self.provides.as_slice(), name)
+        any_occupies(self.provides(), name)
     }
 }
 
@@ -426,4 +387,29 @@ fn first_meeting<'p, 'a>(provides: &'p [Dep<'a>], dep: &Dep<'_>) -> Option<&'p V
         }
     }
     None
+}
+
+// Whether one of the dependencies of a field is no conflict and is met by a candidate.
+fn any_met_by<'a>(list: List<'a, DepView<'a>>, candidate: &Details<'_>) -> bool
+    ensures { result ≡ list_any (λ (d : Dependency). not d.conflict
+        && meets_dependency d candidate.now) (dependencies_in (list_value list.entry)) }
+{
+    for i in 0..list.len() {
+        let view = list.get(i + 1);
+        if is_met_by(&view, candidate) {
+            return true;
+        }
+    }
+    false
+}
+
+fn is_met_by(view: &DepView<'_>, candidate: &Details<'_>) -> bool
+    ensures { result ≡ list_any (λ (d : Dependency). not d.conflict
+        && meets_dependency d candidate.now)
+        (option_to_list (dependency_in (dependency_value view.now))) }
+{
+    match read_one(view) {
+        None => false,
+        Some(dep) => !dep.conflict && candidate.meets(&dep),
+    }
 }

@@ -6,6 +6,7 @@
 #![tactic(auto)]
 
 mod candidate;
+mod dependencies;
 mod keeping;
 mod laws;
 mod marks;
@@ -16,7 +17,7 @@ mod sealed;
 mod sorted;
 mod table;
 
-pub use candidate::{CandId, Candidate, Deps, Details};
+pub use candidate::{CandId, Candidate, Details};
 pub use laws::{
     a_candidate_is_read_by_field_names, an_installed_package_is_known_by_text_and_id,
     installed_candidates_count_once, offers_are_the_places, offers_hold_what_meets,

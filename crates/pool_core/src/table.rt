@@ -13,12 +13,74 @@ use dep_core::Dep;
 use indexmap::IndexMap;
 use std::alloc::{AllocError, Global};
 use std::marker::Model;
+use std::slice;
+
+/// The candidates that offer a name. Most names have one, which takes no memory of its own.
+#[derive(Drop)]
+struct Offers {
+    first: CandId,
+    // All of them, where there are more than one.
+    all: Vec<CandId>,
+}
+
+impl Model for Offers {
+    ghost use Rattle.std.specs.Prelude.{ℕ, List};
+    ghost use Rattle.pool_core.specs.Table.{one_or_all};
+
+    ghost Value = { List ℕ };
+
+    ghost view = { λ offers. one_or_all offers.first offers.all.items };
+}
+
+impl Offers {
+    // One candidate.
+    fn of(alloc: Global, first: CandId) -> Offers
+        ensures { result ≡ first ∷ [] }
+    {
+        Offers {
+            first,
+            all: Vec::new(alloc),
+        }
+    }
+
+    // The candidates, in rising order.
+    fn as_slice(&self) -> &[CandId]
+        ensures { result.now ≡ self.now }
+    {
+        if self.all.is_empty() {
+            slice::from_ref(&self.first)
+        } else {
+            self.all.as_slice()
+        }
+    }
+
+    // Puts a candidate behind the others, unless it is the last of them.
+    fn push_once(&mut self, id: CandId) -> Result<(), AllocError>
+        ensures { OnOk result (self.new ≡ with_last self.old id) }
+    {
+        if is_last_id(self.as_slice(), id) {
+            return Ok(());
+        }
+        self.push(id)
+    }
+
+    // Puts a candidate behind the others.
+    fn push(&mut self, id: CandId) -> Result<(), AllocError>
+        ensures { OnOk result (self.new ≡ self.old ++ id ∷ []) }
+    {
+        if self.all.is_empty() {
+            self.all.push(self.first)?;
+        }
+        self.all.push(id)?;
+        Ok(())
+    }
+}
 
 /// The candidates that offer each name.
 #[derive(Drop)]
 pub(crate) struct Table<'a> {
     alloc: Global,
-    by_name: IndexMap<&'a [u8], Vec<CandId>>,
+    by_name: IndexMap<&'a [u8], Offers>,
 }
 
 impl<'a> Model for Table<'a> {
@@ -57,7 +119,7 @@ impl<'a> Table<'a> {
             ≡ with_last_where (offers_name name details.now) (ids_of self.old name) id) }
     {
         self.add(details.name(), id)?;
-        self.add_provided(details.provides().as_slice(), id)?;
+        self.add_provided(details.provides(), id)?;
         Ok(())
     }
 
@@ -94,28 +156,15 @@ impl<'a> Table<'a> {
     {
         match self.by_name.get_mut(name) {
             Some(ids) => {
-                push_once(ids, id)?;
+                ids.push_once(id)?;
                 Ok(())
             }
             None => {
-                let mut ids = Vec::new(self.alloc);
-                ids.push(id)?;
-                self.by_name.insert(name, ids)?;
+                self.by_name.insert(name, Offers::of(self.alloc, id))?;
                 Ok(())
             }
         }
     }
-}
-
-// Puts a candidate behind the others, unless it is the last of them.
-fn push_once(ids: &mut Vec<CandId>, id: CandId) -> Result<(), AllocError>
-    ensures { OnOk result (ids.new.items ≡ with_last ids.old.items id) }
-{
-    if is_last_id(ids, id) {
-        return Ok(());
-    }
-    ids.push(id)?;
-    Ok(())
 }
 
 fn is_last_id(ids: &[CandId], id: CandId) -> bool

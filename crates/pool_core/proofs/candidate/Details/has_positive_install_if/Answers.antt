@@ -7,4 +7,4 @@ use Rattle.pool_core.proofs.Steps.{some_and_all}
 use Rattle.pool_core.proofs.candidate.Details.has_positive_install_if.Goals as goal
 
 pub returns : goal.returns
-returns c = c.are_some_and_positive.ensures ∙ some_and_all (λ (d : Dependency). not d.conflict) dependency c.as_slice.result.now c.args.self.now.install_if (c.as_slice.ensures ∙ ap (λ (k : Candidate). k.install_if) c.self.view_is)
+returns c = c.are_some_and_positive.ensures ∙ some_and_all (λ (d : Dependency). not d.conflict) dependency c.install_if.result.now c.args.self.now.install_if c.install_if.ensures

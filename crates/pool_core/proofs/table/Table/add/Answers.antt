@@ -1,6 +1,5 @@
-use Rattle.std.proofs.Common.{◌≡◌, ◌∙◌, List, ℕ, Vec, [], ◌∷◌, ◌++◌, ap, sym, None}
+use Rattle.std.proofs.Common.{◌≡◌, ◌∙◌, List, ℕ, [], ◌∷◌, ap, sym, None}
 use Rattle.std.specs.Prelude.{if◌then◌else◌}
-use Rattle.std.specs.Global.{Global}
 use Rattle.std.specs.Map.{lookup}
 use Rattle.std.specs.Str.{bytes_eq}
 use Rattle.std.specs.Borrow.{Bor}
@@ -16,15 +15,15 @@ returns-in_ok-push_once-in-Some c = λ other.
     let es : Entries = c.self.inside.by_name.entries in
     let table : List (List ℕ × List ℕ) = c.args.self.now in
     let seen : names_and_ids es ≡ table = c.self.view_is in
-    let old : Vec ℕ Global = c.in-Some.ids.now in
-    let new : Vec ℕ Global = c.push_once.new.ids in
+    let old : List ℕ = c.in-Some.ids.now in
+    let new : List ℕ = c.push_once.new.self in
     let written = (c.get_mut.follows.holds new).0 in
-    one_more_id name other c.args.id table old.items new.items _
+    one_more_id name other c.args.id table old new _
     (sym (ap items_or_none c.in-Some.ensures.value ∙ (looked_up name es ∙ ap (λ (z : List (List ℕ × List ℕ)). ids_of z name) seen)))
     c.in_ok-push_once-in-Some.ensures
     (ap (λ (z : Entries). ids_of (names_and_ids z) other) written
     ∙ (ids_of-set_value name other new old es (sym c.in-Some.ensures.value)
-    ∙ ap (λ (z : List (List ℕ × List ℕ)). if bytes_eq other name then new.items else ids_of z other) seen))
+    ∙ ap (λ (z : List (List ℕ × List ℕ)). if bytes_eq other name then new else ids_of z other) seen))
 
 pub returns-in_ok-insert-in-None : goal.returns-in_ok-insert-in-None
 returns-in_ok-insert-in-None c = λ other.
@@ -32,14 +31,13 @@ returns-in_ok-insert-in-None c = λ other.
     let es : Entries = c.self.inside.by_name.entries in
     let table : List (List ℕ × List ℕ) = c.args.self.now in
     let seen : names_and_ids es ≡ table = c.self.view_is in
-    let new : Vec ℕ Global = c.push.new.self in
+    let new : List ℕ = c.of.result in
     let held = c.get_mut.follows.holds-at-none in
     let same : c.get_mut.follows.lender-at-none.entries ≡ es = cc in
     let none : lookup (is_key name) es ≡ None = sym c.in-None.ensures.value in
-    let one : new.items ≡ c.args.id ∷ [] = c.in_ok-push-in-None.ensures.items ∙ ap (λ (z : List ℕ). z ++ c.args.id ∷ []) c.new-ids.ensures.items in
-    one_more_id name other c.args.id table [] new.items _
+    one_more_id name other c.args.id table [] new _
     (sym (ap items_or_none c.in-None.ensures.value ∙ (looked_up name es ∙ ap (λ (z : List (List ℕ × List ℕ)). ids_of z name) seen)))
-    one
+    c.of.ensures
     (ap (λ (z : Entries). ids_of (names_and_ids z) other) (c.in_ok-insert-in-None.ensures.entries ∙ ap (λ (z : Entries). insert_entry (λ (a b : Bor (List ℕ)). bytes_eq a.now b.now) z c.args.name new) same)
     ∙ (ids_of-insert_entry c.args.name other new es none
-    ∙ ap (λ (z : List (List ℕ × List ℕ)). if bytes_eq other name then new.items else ids_of z other) seen))
+    ∙ ap (λ (z : List (List ℕ × List ℕ)). if bytes_eq other name then new else ids_of z other) seen))

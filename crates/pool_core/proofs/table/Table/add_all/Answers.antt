@@ -14,5 +14,5 @@ returns c = λ name.
     let start : List ℕ = ids_of c.args.self.now name in
     let first : ids_of c.add.new.self name ≡ with_last_where own start c.args.id = c.in_ok-add.ensures name ∙ ap (λ (n : List ℕ). with_last_where (bytes_eq name n) start c.args.id) c.name.ensures in
     let second : ids_of c.add_provided.new.self name ≡ with_last_where (list_any test c.args.details.now.provides) (ids_of c.add.new.self name) c.args.id =
-    c.in_ok-add_provided.ensures name ∙ ap (λ (ds : List Dependency). with_last_where (list_any test ds) (ids_of c.add.new.self name) c.args.id) (c.as_slice.ensures ∙ c.provides.ensures) in
+    c.in_ok-add_provided.ensures name ∙ ap (λ (ds : List Dependency). with_last_where (list_any test ds) (ids_of c.add.new.self name) c.args.id) c.provides.ensures in
     second ∙ (ap (λ (z : List ℕ). with_last_where (list_any test c.args.details.now.provides) z c.args.id) first ∙ add_both own (list_any test c.args.details.now.provides) start c.args.id)
