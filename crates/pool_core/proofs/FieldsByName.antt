@@ -1,8 +1,8 @@
 -- The field of a name is that at the first place where the table has the name.
-use Rattle.std.proofs.Common.{◌≡◌, ℕ, zero, suc, Bool, true, false, List, [], ◌∷◌, refl, subst, sym, inl, inr}
-use Rattle.std.specs.Prelude.{not, ◌&&◌, if◌then◌else◌}
+use Rattle.std.proofs.Common.{◌≡◌, ℕ, zero, suc, Bool, true, false, List, [], ◌∷◌, refl, inl, inr}
+use Rattle.std.specs.Prelude.{if◌then◌else◌}
 use Rattle.std.specs.Str.{bytes_eq}
-use Rattle.adb_view.specs.Plain.{Plain, Plains, none, more}
+use Rattle.adb_view.specs.Plain.{Plains, none, more}
 use Rattle.adb_tables.specs.Values.{nth}
 use Rattle.adb_tables.specs.declared.tables.Kind.{Kind}
 use Rattle.pool_core.specs.FieldNames.{value_under_name}

@@ -1,10 +1,10 @@
-use Rattle.std.proofs.Common.{◌≡◌, ◌∙◌, ◌++◌, [], List, ℕ, Bool, false, true, map, sym, ap}
-use Rattle.std.specs.Prelude.{OnOk, option_to_list}
+use Rattle.std.proofs.Common.{◌≡◌, ◌∙◌, ◌++◌, List, false, true, map, sym, ap}
+use Rattle.std.specs.Prelude.{option_to_list}
 use Rattle.adb_schema.specs.Views.{dependency_value}
 use Rattle.adb_tables.specs.Values.{entry_in, int_in, text_in}
 use Rattle.dep_core.specs.Dependency.{Dependency}
 use Rattle.dep_core.specs.Meets.{dependency}
-use Rattle.pool_core.specs.Wanted.{is_wanted, wanted_among}
+use Rattle.pool_core.specs.Wanted.{is_wanted}
 use Rattle.pool_core.proofs.Steps.{on_ok}
 use Rattle.pool_core.proofs.WantedLists.{append_nothing, not_wanted, wanted_itself}
 use Rattle.pool_core.proofs.dependencies.push_one.Goals as goal

@@ -1,8 +1,7 @@
-use Rattle.std.proofs.Common.{◌∙◌, ap}
+use Rattle.std.proofs.Common.{◌∙◌}
 use Rattle.std.specs.Prelude.{not}
 use Rattle.dep_core.specs.Dependency.{Dependency}
 use Rattle.dep_core.specs.Meets.{dependency}
-use Rattle.pool_core.specs.Candidates.{Candidate}
 use Rattle.pool_core.proofs.Steps.{some_and_all}
 use Rattle.pool_core.proofs.candidate.Details.has_positive_install_if.Goals as goal
 

@@ -1,4 +1,4 @@
-use Rattle.std.proofs.Common.{◌≡◌, ◌∙◌, ◌-◌, List, ℕ, map, take, drop, sym, ap}
+use Rattle.std.proofs.Common.{◌∙◌, ◌-◌, List, ℕ, map, take, drop, sym, ap}
 use Rattle.std.proofs.lemmas.List.{take-map, drop-map}
 use Rattle.dep_core.specs.Dependency.{Dependency}
 use Rattle.dep_core.specs.Meets.{dependency}
