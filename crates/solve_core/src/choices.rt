@@ -311,9 +311,9 @@ impl<'p> Choices<'p> {
         least
     }
 
-    /// A choice that no satisfying selection holds beside the candidate. It is looked for among those
-    /// that have a conflict of a name which the candidate offers, that offer a name which it occupies,
-    /// or that offer the name of one of its conflicts.
+    /// A choice that no satisfying selection holds beside the candidate. It is looked for among
+    /// those that have a conflict of a name which the candidate offers, that offer a name which it
+    /// occupies, or that offer the name of one of its conflicts.
     pub(crate) fn excluder(&self, id: CandId) -> Option<CandId>
         requires consistent { IsConsistent self.now }
         requires within { id < length (pool_of self.now).candidates }
@@ -332,8 +332,8 @@ impl<'p> Choices<'p> {
         self.excluder_offering(details.conflicts(), id)
     }
 
-    // One of some candidates that is a choice and excludes another, or is excluded by it. It is looked
-    // for among all choices where these are fewer.
+    // One of some candidates that is a choice and excludes another, or is excluded by it. It is
+    // looked for among all choices where these are fewer.
     fn excluder_among(&self, ids: &[CandId], id: CandId) -> Option<CandId>
         requires consistent { IsConsistent self.now }
         requires within { id < length (pool_of self.now).candidates }
@@ -365,8 +365,8 @@ impl<'p> Choices<'p> {
         None
     }
 
-    // The same among the candidates that have a conflict of a name, and, where it is occupied, those
-    // that offer it.
+    // The same among the candidates that have a conflict of a name, and, where it is occupied,
+    // those that offer it.
     fn excluder_named(&self, name: &[u8], is_occupied: bool, id: CandId) -> Option<CandId>
         requires consistent { IsConsistent self.now }
         requires within { id < length (pool_of self.now).candidates }
@@ -384,7 +384,7 @@ impl<'p> Choices<'p> {
         None
     }
 
-    // The same at the names of some entries of provides, of which those with a version are occupied.
+    // The same at the names of some entries of provides: those with a version are occupied.
     fn excluder_provided(&self, provides: &[Dep<'_>], id: CandId) -> Option<CandId>
         requires consistent { IsConsistent self.now }
         requires within { id < length (pool_of self.now).candidates }

@@ -70,8 +70,8 @@ pub fn solve(alloc: Global, pool: &Sealed<'_>, world: &World) -> Result<Option<T
     first_selection(alloc, &mut search)
 }
 
-// The first selection, by a search without choices. It borrows the search, so that it has nothing of
-// it to give back where it ends early.
+// The first selection, by a search without choices. It borrows the search, so that it has nothing
+// of it to give back where it ends early.
 fn first_selection(alloc: Global, search: &mut Search<'_>) -> Result<Option<Trace>, AllocError>
     requires { IsSearch search.old.chosen search.old.turns.items }
     ensures { IfOk result (λ found. MatchOption found ((selection : List ℕ) →
