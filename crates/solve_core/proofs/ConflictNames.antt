@@ -1,5 +1,5 @@
 -- One more candidate whose conflicts are listed by name.
-use Rattle.std.proofs.Common.{◌≡◌, inl, inr, ℕ, true, List, [], ◌∷◌, ◌++◌, sym, subst}
+use Rattle.std.proofs.Common.{◌≡◌, inl, inr, ℕ, List, [], ◌∷◌, ◌++◌, sym, subst}
 use Rattle.dep_core.specs.Dependency.{Dependency}
 use Rattle.std.specs.List.{filter}
 use Rattle.pool_core.specs.Options.{AreMembers, IsMember}

@@ -1,12 +1,12 @@
 -- Choices stay consistent when one is made and when one is taken back.
 use Rattle.std.proofs.Common.{◌≡◌, inl, inr, ℕ, zero, suc, ◌+◌, ◌≤◌, ◌<◌, Bool, true, false, List, [], ◌∷◌, ◌++◌, length, take, refl, sym, subst, ap, ◌∙◌, arith, append_assoc, append-nil}
-use Rattle.std.specs.Prelude.{Option, Some, None, slice_get, option_to_list, map, is_some, MatchOption, not}
+use Rattle.std.specs.Prelude.{Option, Some, None, slice_get, option_to_list, map, MatchOption, not}
 use Rattle.std.specs.Bool.{MatchBool}
 use Rattle.dep_core.specs.Dependency.{Dependency}
 use Rattle.std.specs.Option.{option_map_or}
-use Rattle.std.specs.List.{filter, find, flat_map, list_any}
+use Rattle.std.specs.List.{filter, find, flat_map}
 use Rattle.pool_core.specs.Candidates.{Candidate, Need, entry, named}
-use Rattle.pool_core.specs.Rank.{SealedPool, is_at, meets_at}
+use Rattle.pool_core.specs.Rank.{SealedPool, is_at}
 use Rattle.pool_core.specs.Candidates.{is_eligible}
 use Rattle.solve_core.specs.Reasons.{IsFrameTaking, options_in}
 use Rattle.std.proofs.Common.{get_or}

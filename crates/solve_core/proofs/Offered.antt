@@ -1,5 +1,5 @@
 -- What meets a need offers its name.
-use Rattle.std.proofs.Common.{◌≡◌, inl, inr, ℕ, zero, suc, ◌+◌, ◌<◌, Bool, true, false, List, [], ◌∷◌, ◌++◌, length, get_or, sym, subst, ap, arith}
+use Rattle.std.proofs.Common.{◌≡◌, inl, inr, ℕ, ◌+◌, Bool, true, false, List, [], ◌∷◌, ◌++◌, sym, subst, arith}
 use Rattle.std.specs.Prelude.{Option, Some, None, slice_get, not, ◌&&◌}
 use Rattle.std.specs.Option.{option_map_or}
 use Rattle.std.specs.List.{list_any}
@@ -8,7 +8,7 @@ use Rattle.dep_core.specs.Dependency.{Dependency}
 use Rattle.dep_core.specs.Meets.{is_wanted}
 use Rattle.pool_core.specs.Candidates.{Candidate, Need, entry, is_met_by_entry, named, need_name, meets_dependency, meets_by_own_name, offers_name}
 use Rattle.pool_core.specs.Rank.{SealedPool, meets_at}
-use Rattle.pool_core.specs.Options.{IsMember, places_offering, places_from}
+use Rattle.pool_core.specs.Options.{IsMember, places_offering}
 use Rattle.solve_core.specs.Selection.{is_met}
 use Rattle.pool_core.proofs.OptionLists.{in_places}
 use Rattle.solve_core.proofs.PoolFacts.{bool_cases, any_in}

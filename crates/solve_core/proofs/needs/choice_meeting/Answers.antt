@@ -5,14 +5,14 @@ use Rattle.solve_core.proofs.Excluders.{match_none}
 use Rattle.solve_core.proofs.Offered.{unmet_among_all, unmet_among_offers}
 use Rattle.solve_core.proofs.needs.choice_meeting.Goals as goal
 
-pub returns-then : goal.returns-then
-returns-then c =
+pub returns-then-as_slice-offers : goal.returns-then-as_slice-offers
+returns-then-as_slice-offers c =
     match_none c.choice_among.result _ _ _ (λ none. unmet_among_all c.args.pool.now c.args.choices.now (need_by c.args.need.now)
-    (λ k h. none k (subst (λ (z : List ℕ). IsMember k z) (sym c.as_slice-2.ensures) h) h))
+    (λ k h. none k (subst (λ (z : List ℕ). IsMember k z) (sym c.as_slice-then-as_slice-offers.ensures) h) h))
     c.choice_among.ensures
 
 pub returns : goal.returns
 returns c =
-    match_none c.choice_among.result _ _ _ (λ none. unmet_among_offers c.args.pool.now c.args.choices.now (need_by c.args.need.now)
+    match_none c.choice_among-2.result _ _ _ (λ none. unmet_among_offers c.args.pool.now c.args.choices.now (need_by c.args.need.now)
     (λ k h there. none k (subst (λ (z : List ℕ). IsMember k z) (sym c.offers_for-offers.ensures) h) there))
-    c.choice_among.ensures
+    c.choice_among-2.ensures

@@ -1,4 +1,4 @@
-use Rattle.std.proofs.Common.{◌≡◌, ◌∙◌, sym}
+use Rattle.std.proofs.Common.{◌∙◌, sym}
 use Rattle.pool_core.specs.Rank.{meets_at}
 use Rattle.pool_core.specs.Values.{need_by}
 use Rattle.solve_core.proofs.Asking.{there_is}

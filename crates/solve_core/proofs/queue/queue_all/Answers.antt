@@ -1,8 +1,6 @@
-use Rattle.std.proofs.Common.{◌≡◌, ◌∙◌, ◌++◌, ◌∷◌, [], List, map, subst, sym, append-nil, refl}
+use Rattle.std.proofs.Common.{◌∷◌, [], sym, append-nil}
 use Rattle.std.specs.Prelude.{Some}
 use Rattle.dep_core.specs.Meets.{dependency}
-use Rattle.dep_core.specs.declared.dep.Dep.{Dep}
-use Rattle.solve_core.specs.Queue.{raised_deps}
 use Rattle.solve_core.proofs.Queued.{mapped, queued_more}
 use Rattle.solve_core.proofs.queue.queue_all.Goals as goal
 

@@ -1,4 +1,4 @@
-use Rattle.std.proofs.Common.{◌≡◌, ℕ, take, map, true, false}
+use Rattle.std.proofs.Common.{◌≡◌, ℕ, take, map, false}
 use Rattle.dep_core.specs.Dependency.{Dependency}
 use Rattle.dep_core.specs.Meets.{dependency}
 use Rattle.pool_core.specs.Options.{IsMember, places_offering}

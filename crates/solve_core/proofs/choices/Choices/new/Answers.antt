@@ -1,7 +1,6 @@
-use Rattle.std.proofs.Common.{◌∙◌, ◌++◌, [], List, ap, refl, map}
+use Rattle.std.proofs.Common.{◌∙◌, ◌++◌, [], List, ap, refl}
 use Rattle.std.specs.Prelude.{None}
 use Rattle.dep_core.specs.Dependency.{Dependency}
-use Rattle.dep_core.specs.Meets.{dependency}
 use Rattle.solve_core.specs.Queue.{RaisedDepValue, raised_deps}
 use Rattle.solve_core.proofs.Consistency.{consistent_start}
 use Rattle.solve_core.proofs.choices.Choices.new.Goals as goal
