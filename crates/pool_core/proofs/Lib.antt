@@ -18,3 +18,4 @@ pub mod CandidateLists
 pub mod MarksThroughTable
 pub mod SearchedWords
 pub mod WantedLists
+pub mod ReadWords

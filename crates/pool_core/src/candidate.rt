@@ -1,10 +1,14 @@
 //! The packages to choose from, and what is read of each once: `Candidate` is what a caller sees,
 //! `Details` what the pool and the search compare.
-ghost use Rattle.std.specs.Prelude.{◌≡◌, ◌++◌, map, IfOk, OnOk, option_copied, option_to_list};
+ghost use Rattle.std.specs.Prelude.{◌≡◌, ◌++◌, true, map, IfOk, OnOk, option_copied, option_to_list};
 ghost use Rattle.std.specs.Option.{option_and_then, option_map};
 ghost use Rattle.std.specs.List.{filter, find, list_all, list_any};
 ghost use Rattle.std.specs.Prelude.{◌&&◌, ◌==◌, length, not};
-ghost use Rattle.adb_schema.specs.Views.{dependency_value, info_value};
+ghost use Rattle.adb_schema.specs.Views.{dependency_value};
+ghost use Rattle.adb_view.specs.Adb.{payload_of};
+ghost use Rattle.adb_tables.specs.Values.{is_sound, value_at};
+ghost use Rattle.adb_tables.specs.declared.tables.Kind.TheVariants as Kinds;
+ghost use Rattle.adb_tables.specs.declared.tables.Which.TheVariants as Tables;
 ghost use Rattle.adb_fields.specs.ListValue.{list_value};
 ghost use Rattle.dep_core.specs.Dependency.{Dependency};
 ghost use Rattle.dep_core.specs.Meets.{dependency};
@@ -14,9 +18,13 @@ ghost use Rattle.pool_core.specs.Values.{candidate_value, need_by};
 ghost use Rattle.pool_core.specs.Wanted.{is_conflict};
 ghost use Rattle.pool_core.specs.World.{has_positive_install_if};
 
-use crate::dependencies::{DependencyLists, read_all, read_one};
+use crate::dependencies::{DependencyLists, read_depends, read_one};
 use crate::need::NeedRef;
+use crate::texts::read_version;
+use adb_fields::View;
+use adb_rules::Judged;
 use adb_schema::{DepView, List, PkgInfo};
+use adb_view::Val;
 use dep_core::Dep;
 use std::alloc::{AllocError, Global};
 use std::marker::Model;
@@ -90,19 +98,25 @@ impl<'a> Model for Details<'a> {
 }
 
 impl<'a> Details<'a> {
-    /// What is read of a package's information.
+    /// What is read of the package whose information has this word. A long text is judged once,
+    /// however many places share it.
     pub(crate) fn read(
         alloc: Global,
-        info: PkgInfo<'a>,
+        judged: &mut Judged<'a>,
+        word: Val,
         repo: Option<u64>,
         tag: Option<&'a [u8]>,
         installed: bool,
     ) -> Result<Details<'a>, AllocError>
-        ensures { IfOk result (λ details. details
-            ≡ candidate_of (info_value info.entry) repo (option_copied tag.entry) installed) }
+        requires { is_sound (payload_of judged.old.adb) (Kinds.Obj Tables.PkgInfo) word ≡ true }
+        ensures details { IfOk result (λ details. details ≡ candidate_of
+            (value_at (payload_of judged.old.adb) (Kinds.Obj Tables.PkgInfo) word) repo
+            (option_copied tag.entry) installed) }
+        ensures payload { judged.new.adb ≡ judged.old.adb }
     {
-        let version = Version::read(info.version());
-        let lists = DependencyLists::read(alloc, info)?;
+        let info = PkgInfo::of(judged.adb(), word);
+        let version = read_version(judged, word)?;
+        let lists = DependencyLists::read(alloc, judged, word)?;
         Ok(Details {
             info,
             version,
@@ -159,7 +173,8 @@ impl<'a> Details<'a> {
     pub fn depends(&self, alloc: Global) -> Result<Vec<Dep<'a>>, AllocError>
         ensures { IfOk result (λ deps. map dependency deps.items ≡ self.now.depends) }
     {
-        read_all(alloc, self.info.depends())
+        let mut judged = Judged::new(alloc, self.info.adb());
+        read_depends(alloc, &mut judged, self.info.word())
     }
 
     /// What it excludes: the conflicts among its dependencies.

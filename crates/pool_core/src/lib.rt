@@ -16,6 +16,7 @@ mod rank;
 mod sealed;
 mod sorted;
 mod table;
+mod texts;
 
 pub use candidate::{CandId, Candidate, Details};
 pub use laws::{

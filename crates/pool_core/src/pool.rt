@@ -3,7 +3,11 @@
 ghost use Rattle.std.specs.Prelude.{◌≡◌, ◌≤◌, ◌<◌, ◌+◌, ℕ, [], ◌∷◌, ◌++◌, length, false, true, None, Some, IfOk, OnOk, OnErr, IfErr, option_copied};
 ghost use Rattle.std.specs.List.{list_any};
 ghost use Rattle.adb_schema.specs.Views.{index_value, info_value};
-ghost use Rattle.adb_fields.specs.ListValue.{list_value};
+ghost use Rattle.adb_fields.specs.Fields.{are_all_sound, array_at};
+ghost use Rattle.adb_tables.specs.declared.tables.Kind.TheVariants as Kinds;
+ghost use Rattle.adb_tables.specs.declared.tables.Which.TheVariants as Tables;
+ghost use Rattle.adb_view.specs.Adb.{payload_of};
+ghost use Rattle.adb_view.specs.Entries.{array_entries};
 ghost use Rattle.adb_tables.specs.Values.{count_of, entries_in, entry_in};
 ghost use Rattle.pool_core.specs.Candidates.{as_installed_where_same, candidate_of, candidates_of_index, is_same_package, with_installed};
 ghost use Rattle.pool_core.specs.Options.{IsMember, places_offering};
@@ -16,7 +20,11 @@ use crate::candidate::{CandId, Details};
 use crate::need::Upgrade;
 use crate::sealed::{Sealed, seal_list};
 use crate::table::Table;
-use adb_schema::{IndexView, List, PkgInfo};
+use adb_fields::objects_field;
+use adb_rules::Judged;
+use adb_schema::{IndexView, PkgInfo};
+use adb_tables::{Which, entry_word};
+use adb_view::{Adb, Arr};
 use dep_core::World;
 use std::alloc::{AllocError, Global};
 use std::marker::Model;
@@ -86,24 +94,34 @@ impl<'a> CandidateList<'a> {
         Ok(())
     }
 
-    // Puts the packages of an index behind the others.
+    // Puts the packages of an index, whose words these are, behind the others. A long text is
+    // judged once, however many of them share it.
+    #[tactic(auto, using(adb_fields::proofs::FieldReads::entry_sound))]
     fn push_all(
         &mut self,
         alloc: Global,
-        packages: List<'a, PkgInfo<'a>>,
+        adb: Adb<'a>,
+        packages: Arr<'a>,
         repo: u64,
         tag: Option<&'a [u8]>,
     ) -> Result<(), PoolFault>
-        requires { IsCandidateList self.old }
+        requires list { IsCandidateList self.old }
+        requires sound { are_all_sound (payload_of adb) (Kinds.Obj Tables.PkgInfo)
+            (array_entries packages) ≡ true }
         ensures list { OnOk result (IsCandidateList self.new) }
         ensures pushed { OnOk result (self.new.details.items ≡ self.old.details.items
-            ++ candidates_of_index repo (option_copied tag.entry)
-            (entries_in (list_value packages.entry))) }
+            ++ candidates_of_index repo (option_copied tag.entry) (entries_in
+            (array_at (payload_of adb.entry) (Kinds.Obj Tables.PkgInfo)
+            (array_entries packages.entry)))) }
         ensures fault { IfErr result (λ fault. IsPoolFault fault
-            (length self.old.details.items + count_of (entries_in (list_value packages.entry)))) }
+            (length self.old.details.items + count_of (entries_in
+            (array_at (payload_of adb.entry) (Kinds.Obj Tables.PkgInfo)
+            (array_entries packages.entry))))) }
     {
+        let mut judged = Judged::new(alloc, adb);
         for i in 0..packages.len() {
-            let details = Details::read(alloc, packages.get(i + 1), Some(repo), tag, false)?;
+            let word = entry_word(packages, i);
+            let details = Details::read(alloc, &mut judged, word, Some(repo), tag, false)?;
             match self.push(details) {
                 Ok(()) => {}
                 Err(fault) => return Err(fault),
@@ -122,7 +140,8 @@ impl<'a> CandidateList<'a> {
         ensures fault { IfErr result (λ fault. IsPoolFault fault (length (with_installed
             self.old.details.items (candidate_of (info_value info.entry) None None true)))) }
     {
-        let installed = Details::read(alloc, info, None, None, true)?;
+        let mut judged = Judged::new(alloc, info.adb());
+        let installed = Details::read(alloc, &mut judged, info.word(), None, None, true)?;
         self.push_or_mark(installed)
     }
 
@@ -279,7 +298,8 @@ impl<'a> Pool<'a> {
         ensures err { OnErr result (self.new ≡ []) }
     {
         let mut list = self.take_list();
-        let added = list.push_all(self.alloc, index.packages(), repo, tag);
+        let packages = objects_field(index.adb(), Which::Index, index.word(), 1, Which::PkgInfo);
+        let added = list.push_all(self.alloc, index.adb(), packages, repo, tag);
         self.keep(list, added)
     }
 
