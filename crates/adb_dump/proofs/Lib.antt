@@ -2,6 +2,7 @@ pub mod Worked
 pub mod WordReads
 pub mod Pieces
 pub mod Puts
+pub mod Lengths
 pub mod Left
 pub mod Nulls
 pub mod BlockLines

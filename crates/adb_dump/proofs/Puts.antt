@@ -1,7 +1,9 @@
 -- What is put in piece by piece.
 use Rattle.std.proofs.Common.{◌≡◌, ℕ, List, [], ◌++◌, refl, sym, ap, ◌∙◌, append_assoc, append-nil, subst}
 use Rattle.std.specs.Prelude.{Result, Ok, Err, OnOk}
-use Rattle.adb_dump.specs.Out.{Puts}
+use Rattle.adb_view.specs.Adb.{payload_of}
+use Rattle.adb_view.specs.declared.adb.Adb.{Adb}
+use Rattle.adb_dump.specs.Out.{Puts, PutsForAny}
 
 -- the same bytes, told otherwise
 told : {O : Type 0} (holds : O → List ℕ → Type 0) (out : O) (xs ys : List ℕ) → xs ≡ ys → holds out xs → holds out ys
@@ -16,6 +18,10 @@ puts_none holds out before h = told holds out before (before ++ []) (sym (append
 -- one piece behind another
 pub puts_on : {O : Type 0} (holds : O → List ℕ → Type 0) (old mid new : O) (xs ys : List ℕ) → Puts holds old mid xs → Puts holds mid new ys → Puts holds old new (xs ++ ys)
 puts_on holds old mid new xs ys p q before h = told holds new ((before ++ xs) ++ ys) (before ++ (xs ++ ys)) (append_assoc before xs ys) (q (before ++ xs) (p before h))
+
+-- of one payload and of an equal one
+pub puts_of : {O : Type 0} (holds : List ℕ → O → List ℕ → Type 0) (adb other : Adb) (old new : O) (bytes : List ℕ) → adb ≡ other → Puts (holds (payload_of adb)) old new bytes → Puts (holds (payload_of other)) old new bytes
+puts_of holds adb other old new bytes e put = subst (λ (a : Adb). Puts (holds (payload_of a)) old new bytes) e put
 
 -- where the last piece is a call's answer
 pub on_ok_then : {T E : Type 0} (r : Result T E) (P Q : Type 0) → (P → Q) → OnOk r P → OnOk r Q
@@ -48,3 +54,26 @@ so_far_told holds old new left left' all e s = record { bytes = s.bytes; put = s
 -- nothing is left
 pub so_far_all : {O : Type 0} (holds : O → List ℕ → Type 0) (old new : O) (left all : List ℕ) → left ≡ [] → IsSoFar holds old new left all → Puts holds old new all
 so_far_all holds old new left all e s = puts_told holds old new s.bytes all (sym (append-nil s.bytes) ∙ ap (λ (x : List ℕ). s.bytes ++ x) (sym e) ∙ s.rest) s.put
+
+-- ---- the same, whatever payload it is of
+
+pub any_told : {O : Type 0} (holds : List ℕ → O → List ℕ → Type 0) (old new : O) (xs ys : List ℕ) → xs ≡ ys → PutsForAny holds old new xs → PutsForAny holds old new ys
+any_told holds old new xs ys e put p = puts_told (holds p) old new xs ys e (put p)
+
+pub any_on : {O : Type 0} (holds : List ℕ → O → List ℕ → Type 0) (old mid new : O) (xs ys : List ℕ) → PutsForAny holds old mid xs → PutsForAny holds mid new ys → PutsForAny holds old new (xs ++ ys)
+any_on holds old mid new xs ys put then p = puts_on (holds p) old mid new xs ys (put p) (then p)
+
+abbrev pub IsSoFarForAny : {O : Type 0} → (List ℕ → O → List ℕ → Type 0) → O → O → List ℕ → List ℕ → Type 0
+IsSoFarForAny holds old new left all = (p : List ℕ) → IsSoFar (holds p) old new left all
+
+pub any_so_far_none : {O : Type 0} (holds : List ℕ → O → List ℕ → Type 0) (out : O) (all : List ℕ) → IsSoFarForAny holds out out all all
+any_so_far_none holds out all p = so_far_none (holds p) out all
+
+pub any_so_far_more : {O : Type 0} (holds : List ℕ → O → List ℕ → Type 0) (old mid new : O) (piece left left' all : List ℕ) → left ≡ piece ++ left' → PutsForAny holds mid new piece → IsSoFarForAny holds old mid left all → IsSoFarForAny holds old new left' all
+any_so_far_more holds old mid new piece left left' all e put s p = so_far_more (holds p) old mid new piece left left' all e (put p) (s p)
+
+pub any_so_far_told : {O : Type 0} (holds : List ℕ → O → List ℕ → Type 0) (old new : O) (left left' all : List ℕ) → left ≡ left' → IsSoFarForAny holds old new left all → IsSoFarForAny holds old new left' all
+any_so_far_told holds old new left left' all e s p = so_far_told (holds p) old new left left' all e (s p)
+
+pub any_so_far_all : {O : Type 0} (holds : List ℕ → O → List ℕ → Type 0) (old new : O) (left all : List ℕ) → left ≡ [] → IsSoFarForAny holds old new left all → PutsForAny holds old new all
+any_so_far_all holds old new left all e s p = so_far_all (holds p) old new left all e (s p)

@@ -1,7 +1,7 @@
 //! The text of a container: the lines of its values, written from the words of its payload.
 
-ghost use Rattle.std.specs.Prelude.{◌≡◌, ◌++◌, true, codes, is_some, IfOk, OnOk, ◌<◌, ◌≤◌, ◌+◌, false};
-ghost use Rattle.adb_tables.specs.Shaped.{shaped_value, table_of};
+ghost use Rattle.std.specs.Prelude.{◌≡◌, ◌++◌, true, codes, is_some, length, IfOk, OnOk, ◌<◌, ◌≤◌, ◌+◌, false};
+ghost use Rattle.adb_tables.specs.Shaped.{adb_of, shaped_value, table_of};
 ghost use Rattle.adb_schema.specs.Soundness.{schema_word};
 ghost use Rattle.adb_dump.specs.Dump.{dump_text, schema_line, block_lines, array_lines, fields_lines, named_lines, or_null};
 ghost use Rattle.adb_view.specs.Adb.{payload_of};
@@ -11,14 +11,14 @@ ghost use Rattle.adb_tables.specs.Rank.{rank, rank_of_all};
 ghost use Rattle.adb_tables.specs.Schema.{field_name_text, shape_of, shapes_of};
 ghost use Rattle.adb_tables.specs.Values.{is_sound, value_at};
 ghost use Rattle.adb_dump.specs.Margin.{lines_at, DEPTH_LIMIT};
-ghost use Rattle.adb_dump.specs.Out.{Puts};
+ghost use Rattle.adb_dump.specs.Out.{Puts, PutsForAny};
 ghost use Rattle.adb_dump.specs.Words.{is_null, fields_sound, fields_at, has_one_line};
 
 use crate::line::{
     LineStart, write_dash, write_hash_line, write_hex, write_name, write_number_line,
     write_text_line,
 };
-use crate::out::{Count, Out};
+use crate::out::{BlobOut, Count, Out};
 use crate::words::{is_null, object_words};
 use adb_fields::{hash_word, int_word, objects_word, text_word, texts_word};
 use adb_schema::{Field, Kind, Shaped, Which, fields_of, schema_word};
@@ -35,19 +35,29 @@ pub fn dump(alloc: Global, shaped: &Shaped<'_>) -> Result<Text, AllocError>
     ensures { IfOk result
         (λ text. text ≡ dump_text (table_of shaped.now) (shaped_value shaped.now)) }
 {
-    let mut count = Count { len: 0 };
-    write_dump(&mut count, shaped)?;
-    let mut out = Vec::with_capacity(alloc, count.len)?;
+    let len = dump_len(alloc, shaped)?;
+    let mut out = Vec::with_capacity(alloc, len)?;
     write_dump(&mut out, shaped)?;
-    let is_exact = out.len() == count.len;
+    let is_exact = out.len() == len;
     prove!(is_exact);
     Ok(Text::from_vec(out))
 }
 
-/// Puts the text of a payload.
-fn write_dump<O: Out>(out: &mut O, shaped: &Shaped<'_>) -> Result<(), AllocError>
+/// How many bytes the text of a payload has.
+fn dump_len(alloc: Global, shaped: &Shaped<'_>) -> Result<usize, AllocError>
     requires { is_some (schema_word (table_of shaped.now)) ≡ true }
-    ensures { OnOk result (Puts O.holds out.old out.new
+    ensures { IfOk result
+        (λ len. len ≡ length (dump_text (table_of shaped.now) (shaped_value shaped.now))) }
+{
+    let mut count = Count::new(alloc);
+    write_dump(&mut count, shaped)?;
+    Ok(count.len.bytes)
+}
+
+/// Puts the text of a payload.
+fn write_dump<O: BlobOut>(out: &mut O, shaped: &Shaped<'_>) -> Result<(), AllocError>
+    requires { is_some (schema_word (table_of shaped.now)) ≡ true }
+    ensures { OnOk result (Puts (O.holds (payload_of (adb_of shaped.now))) out.old out.new
         (dump_text (table_of shaped.now) (shaped_value shaped.now))) }
 {
     let adb = shaped.adb();
@@ -65,7 +75,7 @@ fn write_dump<O: Out>(out: &mut O, shaped: &Shaped<'_>) -> Result<(), AllocError
 /// Puts the line of a schema.
 fn write_schema<O: Out>(out: &mut O, which: Which) -> Result<(), AllocError>
     requires { is_some (schema_word which) ≡ true }
-    ensures { OnOk result (Puts O.holds out.old out.new
+    ensures { OnOk result (PutsForAny O.holds out.old out.new
         (schema_line (schema_word which) ++ codes "\n")) }
 {
     match schema_word(which) {
@@ -82,7 +92,7 @@ fn write_schema<O: Out>(out: &mut O, which: Which) -> Result<(), AllocError>
 /// Puts the lines of a word that does not mean Null.
 #[cycle(block)]
 #[tactic(auto, using(adb_tables::proofs::WalkSteps::table_rank, crate::proofs::BlockLines::int_lines, crate::proofs::BlockLines::text_lines, crate::proofs::BlockLines::hash_lines, crate::proofs::BlockLines::texts_lines, crate::proofs::BlockLines::objects_lines, crate::proofs::BlockLines::object_lines))]
-fn write_block<O: Out>(
+fn write_block<O: BlobOut>(
     out: &mut O,
     adb: Adb<'_>,
     kind: Kind,
@@ -92,13 +102,13 @@ fn write_block<O: Out>(
     requires sound { is_sound (payload_of adb) kind word ≡ true }
     requires some { is_null (value_at (payload_of adb) kind word) ≡ false }
     requires deep { start.depth + rank kind ≤ DEPTH_LIMIT }
-    ensures { OnOk result (Puts O.holds out.old out.new
+    ensures { OnOk result (Puts (O.holds (payload_of adb.entry)) out.old out.new
         (lines_at start.depth start.begun
         (block_lines (shape_of kind) (value_at (payload_of adb.entry) kind word)))) }
 {
     match kind {
         Kind::Int => write_number_line(out, start, int_word(adb, word)),
-        Kind::Text => write_text_line(out, start, text_word(adb, word)),
+        Kind::Text => write_text_line(out, start, adb, word, text_word(adb, word)),
         Kind::Hash => write_hash_line(out, start, hash_word(adb, word)),
         Kind::TextArr => write_entries(out, adb, Kind::Text, texts_word(adb, word), start),
         Kind::ObjArr(which) => {
@@ -115,7 +125,7 @@ fn write_block<O: Out>(
 /// Puts the entries of an array, each behind a dash.
 #[cycle(block)]
 #[tactic(auto, using(crate::proofs::Turns::entry_here, crate::proofs::Turns::entries_later, crate::proofs::Turns::entry_turn, crate::proofs::Turns::entries_end))]
-fn write_entries<O: Out>(
+fn write_entries<O: BlobOut>(
     out: &mut O,
     adb: Adb<'_>,
     kind: Kind,
@@ -124,7 +134,7 @@ fn write_entries<O: Out>(
 ) -> Result<(), AllocError>
     requires sound { are_all_sound (payload_of adb) kind (array_entries words) ≡ true }
     requires deep { start.depth + rank kind < DEPTH_LIMIT }
-    ensures { OnOk result (Puts O.holds out.old out.new
+    ensures { OnOk result (Puts (O.holds (payload_of adb.entry)) out.old out.new
         (lines_at start.depth start.begun
         (array_lines (block_lines (shape_of kind))
         (values_at (payload_of adb.entry) kind (array_entries words.entry))))) }
@@ -141,7 +151,7 @@ fn write_entries<O: Out>(
 /// Puts the lines of an entry, the first of which its dash has begun.
 #[cycle(block)]
 #[tactic(auto, using(crate::proofs::Turns::null_entry, crate::proofs::Turns::some_entry))]
-fn write_entry<O: Out>(
+fn write_entry<O: BlobOut>(
     out: &mut O,
     adb: Adb<'_>,
     kind: Kind,
@@ -150,7 +160,7 @@ fn write_entry<O: Out>(
 ) -> Result<(), AllocError>
     requires sound { is_sound (payload_of adb) kind word ≡ true }
     requires deep { depth + rank kind ≤ DEPTH_LIMIT }
-    ensures { OnOk result (Puts O.holds out.old out.new
+    ensures { OnOk result (Puts (O.holds (payload_of adb.entry)) out.old out.new
         (lines_at depth true
         (or_null (value_at (payload_of adb.entry) kind word)
         (block_lines (shape_of kind) (value_at (payload_of adb.entry) kind word))))) }
@@ -164,7 +174,7 @@ fn write_entry<O: Out>(
 /// Puts the fields of an object that do not mean Null.
 #[cycle(block)]
 #[tactic(auto, using(adb_tables::proofs::WalkSteps::field_rank, crate::proofs::Left::field_here, crate::proofs::Left::fields_later, crate::proofs::Turns::field_turn, crate::proofs::Turns::null_turn, crate::proofs::Turns::words_end, crate::proofs::Turns::fields_end))]
-pub(crate) fn write_fields<O: Out>(
+pub(crate) fn write_fields<O: BlobOut>(
     out: &mut O,
     adb: Adb<'_>,
     fields: &[Field],
@@ -173,7 +183,7 @@ pub(crate) fn write_fields<O: Out>(
 ) -> Result<(), AllocError>
     requires sound { fields_sound (payload_of adb) fields.now (array_entries words) ≡ true }
     requires deep { start.depth + rank_of_all fields.now < DEPTH_LIMIT }
-    ensures { OnOk result (Puts O.holds out.old out.new
+    ensures { OnOk result (Puts (O.holds (payload_of adb.entry)) out.old out.new
         (lines_at start.depth start.begun
         (fields_lines (shapes_of fields.now)
         (fields_at (payload_of adb.entry) fields.now (array_entries words.entry))))) }
@@ -197,7 +207,7 @@ pub(crate) fn write_fields<O: Out>(
 /// Puts the lines of a field that does not mean Null.
 #[cycle(block)]
 #[tactic(auto, using(crate::proofs::Turns::field_behind, crate::proofs::Turns::field_below))]
-fn write_field<O: Out>(
+fn write_field<O: BlobOut>(
     out: &mut O,
     adb: Adb<'_>,
     field: Field,
@@ -207,7 +217,7 @@ fn write_field<O: Out>(
     requires sound { is_sound (payload_of adb) field.kind word ≡ true }
     requires some { is_null (value_at (payload_of adb) field.kind word) ≡ false }
     requires deep { start.depth + rank field.kind < DEPTH_LIMIT }
-    ensures { OnOk result (Puts O.holds out.old out.new
+    ensures { OnOk result (Puts (O.holds (payload_of adb.entry)) out.old out.new
         (lines_at start.depth start.begun
         (named_lines (shape_of field.kind) (field_name_text field.name)
         (value_at (payload_of adb.entry) field.kind word)))) }

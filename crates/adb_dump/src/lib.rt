@@ -9,9 +9,10 @@
 //! and no other.
 //!
 //! The values are read where they stand, and the text is written from front to end: once into a
-//! count of its bytes, and once into memory for so many. The contracts cite `Dump` (the lines of a
-//! value, and the text), `Values` (what a text can stand for) and `ReadBack` (the value of lines)
-//! of `specs/`; `Words`, `Margin` and `Out` are what the code in between speaks of.
+//! count of its bytes, for which each long text is looked at once, and once into memory for so
+//! many. The contracts cite `Dump` (the lines of a value, and the text), `Values` (what a text can
+//! stand for) and `ReadBack` (the value of lines) of `specs/`; `Words`, `Margin` and `Out` are what
+//! the code in between speaks of.
 #![tactic(auto)]
 
 mod block;

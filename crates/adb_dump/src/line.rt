@@ -6,11 +6,15 @@ ghost use Rattle.std.specs.List.{flat_map, list_all};
 ghost use Rattle.hex.specs.Hex.{encode_lower};
 ghost use Rattle.adb_dump.specs.Dump.{begins_with_byte, ends_with_byte, escape_of, is_bare, is_printable, quoted_text, text_form};
 ghost use Rattle.adb_dump.specs.Margin.{lines_at, lead};
-ghost use Rattle.adb_dump.specs.Out.{Puts};
+ghost use Rattle.adb_dump.specs.Out.{Puts, PutsForAny};
+ghost use Rattle.adb_tables.specs.Values.{text_in, value_at};
+ghost use Rattle.adb_tables.specs.declared.tables.Kind.TheVariants as Kinds;
+ghost use Rattle.adb_view.specs.Adb.{payload_of};
 ghost use Rattle.adb_tables.specs.Schema.{field_name_text};
 
-use crate::out::Out;
+use crate::out::{BlobOut, Out};
 use adb_schema::FieldName;
+use adb_view::{Adb, Val};
 use itoa::Buffer;
 use std::alloc::AllocError;
 
@@ -20,7 +24,7 @@ pub(crate) fn write_number_line<O: Out>(
     start: LineStart,
     number: u64,
 ) -> Result<(), AllocError>
-    ensures { OnOk result (Puts O.holds out.old out.new
+    ensures { OnOk result (PutsForAny O.holds out.old out.new
         (lines_at start.depth start.begun (decimal number ∷ []))) }
 {
     write_lead(out, start)?;
@@ -29,39 +33,42 @@ pub(crate) fn write_number_line<O: Out>(
     Ok(())
 }
 
-/// Puts a line of a text.
-pub(crate) fn write_text_line<O: Out>(
+/// Puts a line of the text of a word.
+pub(crate) fn write_text_line<O: BlobOut>(
     out: &mut O,
     start: LineStart,
+    adb: Adb<'_>,
+    word: Val,
     text: &[u8],
 ) -> Result<(), AllocError>
-    ensures { OnOk result (Puts O.holds out.old out.new
+    requires { text.now ≡ text_in (value_at (payload_of adb) Kinds.Text word) }
+    ensures { OnOk result (Puts (O.holds (payload_of adb.entry)) out.old out.new
         (lines_at start.depth start.begun (text_form text.now ∷ []))) }
 {
     write_lead(out, start)?;
-    write_text(out, text)?;
+    out.put_text(adb, word, text)?;
     out.put(b"\n")?;
     Ok(())
 }
 
 /// Puts a line of a hash.
-pub(crate) fn write_hash_line<O: Out>(
+pub(crate) fn write_hash_line<O: BlobOut>(
     out: &mut O,
     start: LineStart,
     hash: &[u8],
 ) -> Result<(), AllocError>
-    ensures { OnOk result (Puts O.holds out.old out.new
+    ensures { OnOk result (PutsForAny O.holds out.old out.new
         (lines_at start.depth start.begun (encode_lower hash.now ∷ []))) }
 {
     write_lead(out, start)?;
-    write_hex(out, hash)?;
+    out.put_hash(hash)?;
     out.put(b"\n")?;
     Ok(())
 }
 
 /// Puts a number in decimal digits.
 fn write_number<O: Out>(out: &mut O, number: u64) -> Result<(), AllocError>
-    ensures { OnOk result (Puts O.holds out.old out.new (decimal number)) }
+    ensures { OnOk result (PutsForAny O.holds out.old out.new (decimal number)) }
 {
     let mut digits = Buffer::new();
     out.put(digits.format(number).as_bytes())
@@ -69,7 +76,7 @@ fn write_number<O: Out>(out: &mut O, number: u64) -> Result<(), AllocError>
 
 /// Puts bytes in two lower-case hexadecimal digits each.
 pub(crate) fn write_hex<O: Out>(out: &mut O, bytes: &[u8]) -> Result<(), AllocError>
-    ensures { OnOk result (Puts O.holds out.old out.new (encode_lower bytes.now)) }
+    ensures { OnOk result (PutsForAny O.holds out.old out.new (encode_lower bytes.now)) }
 {
     for byte in bytes {
         out.put(&hex_digits(*byte))?;
@@ -86,8 +93,8 @@ fn hex_digits(byte: u8) -> [u8; 2]
 }
 
 /// Puts a text as it is, or between quotes where it cannot stand so.
-fn write_text<O: Out>(out: &mut O, text: &[u8]) -> Result<(), AllocError>
-    ensures { OnOk result (Puts O.holds out.old out.new (text_form text.now)) }
+pub(crate) fn write_text<O: Out>(out: &mut O, text: &[u8]) -> Result<(), AllocError>
+    ensures { OnOk result (PutsForAny O.holds out.old out.new (text_form text.now)) }
 {
     if is_bare(text) {
         out.put(text)
@@ -98,7 +105,7 @@ fn write_text<O: Out>(out: &mut O, text: &[u8]) -> Result<(), AllocError>
 
 /// Puts a text between quotes.
 fn write_quoted<O: Out>(out: &mut O, text: &[u8]) -> Result<(), AllocError>
-    ensures { OnOk result (Puts O.holds out.old out.new (quoted_text text.now)) }
+    ensures { OnOk result (PutsForAny O.holds out.old out.new (quoted_text text.now)) }
 {
     out.put(b"\"")?;
     for byte in text {
@@ -110,7 +117,7 @@ fn write_quoted<O: Out>(out: &mut O, text: &[u8]) -> Result<(), AllocError>
 
 /// Puts a byte of a text that stands between quotes.
 fn write_escaped<O: Out>(out: &mut O, byte: u8) -> Result<(), AllocError>
-    ensures { OnOk result (Puts O.holds out.old out.new (escape_of byte)) }
+    ensures { OnOk result (PutsForAny O.holds out.old out.new (escape_of byte)) }
 {
     match byte {
         b'\n' => out.put(b"\\n"),
@@ -188,7 +195,7 @@ pub(crate) struct LineStart {
 
 /// Puts what is still to stand in front of the next line.
 pub(crate) fn write_lead<O: Out>(out: &mut O, start: LineStart) -> Result<(), AllocError>
-    ensures { OnOk result (Puts O.holds out.old out.new (lead start.depth start.begun)) }
+    ensures { OnOk result (PutsForAny O.holds out.old out.new (lead start.depth start.begun)) }
 {
     if start.begun {
         return Ok(());
@@ -198,7 +205,7 @@ pub(crate) fn write_lead<O: Out>(out: &mut O, start: LineStart) -> Result<(), Al
 
 /// Puts two spaces for each level.
 fn write_margin<O: Out>(out: &mut O, depth: u32) -> Result<(), AllocError>
-    ensures { OnOk result (Puts O.holds out.old out.new (lead depth false)) }
+    ensures { OnOk result (PutsForAny O.holds out.old out.new (lead depth false)) }
 {
     for _level in 0..depth {
         out.put(b"  ")?;
@@ -208,7 +215,7 @@ fn write_margin<O: Out>(out: &mut O, depth: u32) -> Result<(), AllocError>
 
 /// Puts the dash of an entry.
 pub(crate) fn write_dash<O: Out>(out: &mut O, depth: u32, begun: bool) -> Result<(), AllocError>
-    ensures { OnOk result (Puts O.holds out.old out.new (lead depth begun ++ codes "- ")) }
+    ensures { OnOk result (PutsForAny O.holds out.old out.new (lead depth begun ++ codes "- ")) }
 {
     write_lead(out, LineStart { depth, begun })?;
     out.put(b"- ")?;
@@ -221,7 +228,7 @@ pub(crate) fn write_name<O: Out>(
     start: LineStart,
     name: FieldName,
 ) -> Result<(), AllocError>
-    ensures { OnOk result (Puts O.holds out.old out.new
+    ensures { OnOk result (PutsForAny O.holds out.old out.new
         (lead start.depth start.begun ++ field_name_text name ++ codes ":")) }
 {
     write_lead(out, start)?;

@@ -67,7 +67,7 @@ count_of (more v vs) = suc (count_of vs)
 -- a blob for each text
 abbrev pub text_plains : List (List ℕ) → Plains
 text_plains [] = none
-text_plains (text ∷ texts) = more (blob_value text) (text_plains texts)
+text_plains (t ∷ ts) = more (blob_value t) (text_plains ts)
 
 -- ---- the plain value of a word under a shape
 

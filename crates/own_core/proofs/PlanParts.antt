@@ -22,7 +22,7 @@ use Rattle.path_claims.proofs.ClaimOrder.{paths_total}
 use Rattle.path_claims.proofs.Places.{map_len}
 use Rattle.path_clashes.specs.Clash.{NameChange}
 use Rattle.path_clashes.specs.ClashSeen.{clash_seen}
-use Rattle.path_clashes.specs.FirstClash.{IsClashOf}
+use Rattle.path_clashes.specs.FirstClash.{IsClashOf, MayBeClashOf}
 use Rattle.path_clashes.specs.declared.clash.Clash.{Clash}
 use Rattle.claim_lists.specs.Once.{HasFirsts}
 use Rattle.claim_lists.proofs.Firsts.{paths}
@@ -34,7 +34,7 @@ use Rattle.own_core.specs.ClaimEntries.{AreClaimsOf, comes_at, is_of_coming_owne
 use Rattle.own_core.specs.Fates.{claim_fate, marked_claims}
 use Rattle.own_core.specs.Found.{AreByFiles}
 use Rattle.own_core.specs.Going.{does_stay}
-use Rattle.own_core.specs.Parts.{AreParts, asides_of, kept_of_parts, left_claims_by}
+use Rattle.own_core.specs.Parts.{AreParts, asides_of, is_let_go_by, kept_of_parts, left_claims_by, names_changed_by, names_written_by}
 use Rattle.own_core.specs.Sides.{HasClaims, claims_after, claims_before, file_change_of}
 use Rattle.own_core.specs.WritesSeen.{HaveNamesBeside}
 use Rattle.own_core.specs.declared.change.Change.{Change}
@@ -121,6 +121,13 @@ clash_is change claims coming firsts parts (v ∷ earlier) are counts lets c l (
     subst (λ (n : NameChange). IsClashOf n (files_of v) (option_map clash_seen found))
     (same_names change claims coming firsts parts (v ∷ earlier) are (files_of v) (by_tree (claim_fate (file_change_of change)) v earlier coming are.fates are.fates_found)
     (by_tree (does_stay (file_change_of change)) v earlier (left_claims_by change (asides_of parts)) are.stays are.stays_found) counts lets c l) told
+
+pub clash_may : (change : Change) (parts : Parts) (counts lets : List ℕ → Bool)
+    → ((name : List ℕ) → counts name ≡ list_any (bytes_eq name) (sorted_by bytes_cmp (names_written_by change parts))) → ((name : List ℕ) → lets name ≡ is_let_go_by change parts name)
+    → (r : Result (Option Clash) TreeFault) → IfOk r (λ found. MayBeClashOf (record { counts_as_written = counts; lets_go = lets }) (option_map clash_seen found))
+    → IfOk r (λ found. MayBeClashOf (names_changed_by change parts) (option_map clash_seen found))
+clash_may change parts counts lets c l r =
+    subst (λ (n : NameChange). IfOk r (λ found. MayBeClashOf n (option_map clash_seen found))) (λ i. record { counts_as_written = λ name. c name i; lets_go = λ name. l name i })
 
 -- ---- the claims of a change
 

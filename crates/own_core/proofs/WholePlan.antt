@@ -1,5 +1,5 @@
 -- The plan as a whole.
-use Rattle.std.proofs.Common.{◌≡◌, inl, inr, ℕ, Bool, true, false, cond, List, [], ◌∷◌, map, Option, None, Ok, refl, ap, sym, ◌∙◌, subst, true≢false}
+use Rattle.std.proofs.Common.{◌≡◌, inl, inr, ℕ, Bool, true, false, cond, List, [], ◌∷◌, map, Option, Some, None, Ok, refl, ap, sym, ◌∙◌, subst, true≢false}
 use Rattle.std.specs.Prelude.{not, is_some, option_map}
 use Rattle.std.specs.List.{filter}
 use Rattle.std.proofs.lemmas.Bool.{and_parts}
@@ -15,9 +15,9 @@ use Rattle.db_core.specs.Seen.{members_of}
 use Rattle.path_claims.specs.Claims.{PathClaim, is_of_path}
 use Rattle.path_claims.specs.Seen.{claim_seen}
 use Rattle.path_claims.specs.declared.claim.Claim.{Claim}
-use Rattle.path_clashes.specs.Clash.{HasNoClash}
+use Rattle.path_clashes.specs.Clash.{HasNoClash, NameChange, NamePair}
 use Rattle.path_clashes.specs.ClashSeen.{clash_seen}
-use Rattle.path_clashes.specs.FirstClash.{IsClashOf}
+use Rattle.path_clashes.specs.FirstClash.{IsClashOf, MayBeClashOf}
 use Rattle.path_clashes.specs.declared.clash.Clash.{Clash}
 use Rattle.claim_lists.specs.Once.{HasFirsts}
 use Rattle.claim_lists.proofs.Firsts.{found_in, paths}
@@ -28,13 +28,16 @@ use Rattle.own_core.specs.ClaimEntries.{AreClaimsOf, is_of_coming_owner}
 use Rattle.own_core.specs.Fates.{claim_fate}
 use Rattle.own_core.specs.Going.{does_stay, is_beside, is_left}
 use Rattle.own_core.specs.ListsSeen.{AreListsOfParts}
-use Rattle.own_core.specs.Parts.{AreParts, asides_of, left_claims_by}
-use Rattle.own_core.specs.Planned.{IsPlanOf}
+use Rattle.own_core.specs.Parts.{AreParts, asides_of, left_claims_by, names_changed_by}
+use Rattle.own_core.specs.Planned.{IsClashBySome, IsOwnedBy, IsPlanOf, MayBeRefusalOf}
 use Rattle.own_core.specs.Sides.{HasClaims, claims_after, claims_before, file_change_of}
 use Rattle.own_core.specs.declared.change.Change.{Change}
+use Rattle.own_core.specs.declared.fault.PlanFault.{PlanFault}
+use Rattle.own_core.specs.declared.fault.PlanFault.TheVariants.{Disk, Memory, Owned, PathClash, Reserved}
 use Rattle.own_core.specs.declared.planning.FilePlan.{FilePlan}
 use Rattle.own_core.specs.declared.planning.Parts.{Parts}
 use Rattle.own_core.proofs.ChangeClaims.{claimed_after}
+use Rattle.own_core.proofs.NameChanges.{same_names}
 use Rattle.own_core.proofs.FoundFiles.{AreFilesFound, files_found}
 use Rattle.own_core.proofs.PartsMeaning.{filter_from, filtered_rises, found_from, planned}
 use Rattle.own_core.proofs.PlanParts.{files_first, files_kept}
@@ -96,14 +99,40 @@ module _ (change : Change) (claims : HasClaims change) (coming : List PathClaim)
       subst (λ (g : Files). HasNoClash (name_change (file_change_of change) g) g) (sym is)
       (subst (λ (o : Option Clash). IsClashOf (name_change (file_change_of change) (files_of v)) (files_of v) (option_map clash_seen o)) none told)
 
+  -- the names that the change writes and lets go of, by the files that were found
+  names_are : (clash : Option NamePair) → MayBeClashOf (names_changed_by change parts) clash → MayBeClashOf (name_change (file_change_of change) over_files.files) clash
+  names_are clash =
+      subst (λ (n : NameChange). MayBeClashOf n clash) (same_names change claims coming firsts parts h are over_files.files over_files.one over_files.other _ _ (λ name. refl) (λ name. refl))
+
+  clash_by_some : (clash : Option NamePair) → MayBeClashOf (names_changed_by change parts) clash → IsClashBySome (file_change_of change) h clash
+  clash_by_some clash may = record {
+    files = over_files.files;
+    told = over_files.told;
+    may = names_are clash may;
+  }
+
+  pub clash_may_be : (found : Option Clash) (clash : Clash) → found ≡ Some clash → MayBeClashOf (names_changed_by change parts) (option_map clash_seen found)
+      → IsClashBySome (file_change_of change) h (Some (clash_seen clash))
+  clash_may_be found clash is may = subst (λ (o : Option Clash). IsClashBySome (file_change_of change) h (option_map clash_seen o)) is (clash_by_some (option_map clash_seen found) may)
+
+  pub contest_may_be : (fault : PlanFault) → IsOwnedBy (members_of change.members.now) fault → (found : Option Clash) → found ≡ None → MayBeClashOf (names_changed_by change parts) (option_map clash_seen found)
+      → MayBeRefusalOf (file_change_of change) h fault
+  contest_may_be (Reserved path) owned found none may = tt
+  contest_may_be (PathClash path other) owned found none may = absurd owned
+  contest_may_be (Owned path first second) owned found none may =
+      subst (λ (o : Option Clash). IsClashBySome (file_change_of change) h (option_map clash_seen o)) none (clash_by_some (option_map clash_seen found) may)
+  contest_may_be Disk owned found none may = tt
+  contest_may_be Memory owned found none may = tt
+
   pub plan_is : (flags : List Bool) (plan : FilePlan) → AreListsOfParts parts flags plan → (h1 : List TreeState) → h1 ≡ h → (found : Option Clash) → found ≡ None
-      → IfObservable h1 (λ v. IsClashOf (name_change (file_change_of change) (files_of v)) (files_of v) (option_map clash_seen found)) → IsPlanOf (file_change_of change) h plan
-  plan_is flags plan lists h1 same found none told = record {
+      → IfObservable h1 (λ v. IsClashOf (name_change (file_change_of change) (files_of v)) (files_of v) (option_map clash_seen found)) → MayBeClashOf (names_changed_by change parts) (option_map clash_seen found) → IsPlanOf (file_change_of change) h plan
+  plan_is flags plan lists h1 same found none told may = record {
     files = over_files.files;
     told = over_files.told;
     lists = planned change claims coming firsts parts h are over_files.files over_files.one over_files.other flags plan lists;
     no_clash = no_clash_over h over_files.files over_files.told found none
         (subst (λ (k : List TreeState). IfObservable k (λ v. IsClashOf (name_change (file_change_of change) (files_of v)) (files_of v) (option_map clash_seen found))) same told);
+    may_have_none = names_are None (subst (λ (o : Option Clash). MayBeClashOf (names_changed_by change parts) (option_map clash_seen o)) none may);
   }
 
 pub both_read : {A B C D E : Type 0} (disk : D) (fault : E) (h0 h1 h2 : List TreeState) (a b c : Counts) (x : A) (y : B) (z : C)

@@ -12,7 +12,8 @@ use Rattle.db_core.specs.Seen.{members_of, packages_of}
 use Rattle.db_core.specs.declared.db.Db.{Db}
 use Rattle.db_core.specs.declared.members.Members.{Members}
 use Rattle.path_claims.specs.Claims.{ContestedPath}
-use Rattle.path_clashes.specs.Clash.{HasNoClash, IsFirstClash}
+use Rattle.path_clashes.specs.Clash.{HasNoClash, IsFirstClash, NamePair}
+use Rattle.path_clashes.specs.FirstClash.{MayBeClashOf}
 use Rattle.file_owners.specs.Owners.{contested_of, owned_of}
 use Rattle.change_files.specs.FileChange.{FileChange}
 use Rattle.change_files.specs.NamesAfter.{name_change}
@@ -36,13 +37,14 @@ pub record ArePlanLists (change : FileChange) (files : Files) (plan : FilePlan) 
   pub aside : plan.aside ≡ aside_of change files
   pub kept : plan.kept ≡ kept_of change files
 
--- The lists are the change's over some files. Where the tree tells its files it is over these, and
--- no name is a folder of another.
+-- The lists are the change's over some files, and over some no name is a folder of another. Where
+-- the tree tells its files both are these.
 pub record IsPlanOf (change : FileChange) (history : List TreeState) (plan : FilePlan) : Type 0 where
   pub files : Files
   pub told : IfObservable history (λ v. files ≡ files_of v)
   pub lists : ArePlanLists change files plan
   pub no_clash : IfObservable history (λ v. HasNoClash (name_change change files) files)
+  pub may_have_none : MayBeClashOf (name_change change files) None
 
 -- each file has its owner, no package that comes lists a reserved path, and no path is contested
 pub record IsPlanFor (members : List Member) (plan : FilePlan) : Type 0 where
@@ -104,6 +106,24 @@ IsRefusalOf change files (PathClash path other) =
 IsRefusalOf change files (Owned path first second) = HasNoClash (name_change change files) files
 IsRefusalOf change files Disk = Unit {0}
 IsRefusalOf change files Memory = Unit {0}
+
+-- by some files, and over some, this is the first clash of the names after the change, or there is
+-- none; where the tree tells its files the first are these
+pub record IsClashBySome (change : FileChange) (history : List TreeState)
+    (clash : Option NamePair) : Type 0 where
+  pub files : Files
+  pub told : IfObservable history (λ v. files ≡ files_of v)
+  pub may : MayBeClashOf (name_change change files) clash
+
+-- over any tree: a clash of names is told where there may be one, and a contested path where there
+-- may be none
+abbrev pub MayBeRefusalOf : FileChange → List TreeState → PlanFault → Type 0
+MayBeRefusalOf change history (Reserved path) = Unit {0}
+MayBeRefusalOf change history (PathClash path other) =
+    IsClashBySome change history (Some (record { path = path; other = other }))
+MayBeRefusalOf change history (Owned path first second) = IsClashBySome change history None
+MayBeRefusalOf change history Disk = Unit {0}
+MayBeRefusalOf change history Memory = Unit {0}
 
 -- over any tree: a reserved path comes before all but want of memory, and a contested path has its
 -- names

@@ -20,11 +20,11 @@ ghost use Rattle.path_claims.specs.Claims.{claim_cmp};
 ghost use Rattle.path_claims.specs.ContestedSeen.{contested_seen};
 ghost use Rattle.path_claims.specs.Seen.{claim_seen};
 ghost use Rattle.path_clashes.specs.ClashSeen.{clash_seen};
-ghost use Rattle.path_clashes.specs.FirstClash.{IsClashOf};
+ghost use Rattle.path_clashes.specs.FirstClash.{IsClashOf, MayBeClashOf};
 ghost use Rattle.own_core.specs.ClaimEntries.{AreClaimsOf, IsClaimOf, is_of_coming_owner, is_reserved_coming};
 ghost use Rattle.own_core.specs.ListsSeen.{AreListsOfParts};
-ghost use Rattle.own_core.specs.Parts.{AreParts, asides_of, ins_of, kept_of_parts, removed_of};
-ghost use Rattle.own_core.specs.Planned.{HasOwnNames, HasSources, IsOwnedBy, IsPlanFor, IsPlanOf, IsRefusalFor, IsRefusalOf, change_by, member_name_at};
+ghost use Rattle.own_core.specs.Parts.{AreParts, asides_of, ins_of, kept_of_parts, names_changed_by, removed_of};
+ghost use Rattle.own_core.specs.Planned.{HasOwnNames, HasSources, IsOwnedBy, IsPlanFor, IsPlanOf, IsRefusalFor, IsRefusalOf, MayBeRefusalOf, change_by, member_name_at};
 ghost use Rattle.own_core.specs.Sides.{HasClaims, claims_after, file_change_of};
 ghost use Rattle.own_core.specs.WritesSeen.{HaveNamesBeside};
 
@@ -148,6 +148,8 @@ fn clash_of<T: Tree>(
     ensures clash { IfOk result (λ found. IfObservable (T.history tree.old) (λ v. IsClashOf
         (name_change (file_change_of change.now) (files_of v)) (files_of v)
         (option_map clash_seen found))) }
+    ensures may { IfOk result (λ found.
+        MayBeClashOf (names_changed_by change.now parts.now) (option_map clash_seen found)) }
     ensures tree { OnlyReads TreeFault.Disk (T.history tree.old) (T.history tree.new)
         (T.counts tree.old) (T.counts tree.new) result }
 {
@@ -264,6 +266,8 @@ fn plan_of_claims<T: Tree>(
     ensures lists { IfOk result (IsPlanFor (members_of change.now.members.now)) }
     ensures refusal { IfErr result (λ fault. IfObservable (T.history tree.old) (λ v.
         IsRefusalOf (file_change_of change.now) (files_of v) fault)) }
+    ensures may { IfErr result
+        (MayBeRefusalOf (file_change_of change.now) (T.history tree.old)) }
     ensures cause { IfErr result (IsRefusalFor (members_of change.now.members.now)) }
     ensures tree { OnlyReads PlanFault.Disk (T.history tree.old) (T.history tree.new)
         (T.counts tree.old) (T.counts tree.new) result }
@@ -305,6 +309,8 @@ pub fn plan<'c, T: Tree>(
     ensures lists { IfOk result (IsPlanFor (members_of after.now)) }
     ensures refusal { IfErr result (λ fault. IfObservable (T.history tree.old) (λ v.
         IsRefusalOf (change_by old.now after.now purge) (files_of v) fault)) }
+    ensures may { IfErr result
+        (MayBeRefusalOf (change_by old.now after.now purge) (T.history tree.old)) }
     ensures cause { IfErr result (IsRefusalFor (members_of after.now)) }
     ensures tree { OnlyReads PlanFault.Disk (T.history tree.old) (T.history tree.new)
         (T.counts tree.old) (T.counts tree.new) result }

@@ -72,19 +72,20 @@ abbrev pub IsNoneUpto : NameChange → Files → List ℕ → ℕ → ℕ → Ty
 IsNoneUpto change files name len i =
     (other : List ℕ) → IsFolderOf other name → len ≤ length other → length other < i → is_name_after change files other ≡ true → ⊥
 
-pub found_at_slash : (change : NameChange) (files : Files) (name : List ℕ) (len i : ℕ) → i < length name → get_or name i 0 ≡ 47 → is_name_after change files (take i name) ≡ true → IsNoneUpto change files name len i → IsFolderFound change files name len (Some (take i name))
-found_at_slash change files name len i within slash there none = record {
+pub found_at_slash : (change : NameChange) (files : Files) (name : List ℕ) (len i : ℕ) → len ≤ i → i < length name → get_or name i 0 ≡ 47 → is_name_after change files (take i name) ≡ true → IsNoneUpto change files name len i → IsFolderFound change files name len (Some (take i name))
+found_at_slash change files name len i long within slash there none = record {
   above = folder_at name i within slash;
+  long = let is : length (take i name) ≡ i = length-take-le i name (omega arith) in omega (arith, is, long);
   after = there;
   shortest = λ other above long after. let is : length (take i name) ≡ i = length-take-le i name (omega arith) in
       ⊎_elim (λ short. absurd (none other above long short after)) (λ upto. omega (arith, is, upto)) (cases_lt (length other) i);
 }
 
 -- the same, as the code tells it
-pub found_told : (change : NameChange) (files : Files) (name : List ℕ) (len i : ℕ) (found : Option (List ℕ)) (folder : List ℕ) → i < length name → get_or name i 0 ≡ 47 → found ≡ Some folder
+pub found_told : (change : NameChange) (files : Files) (name : List ℕ) (len i : ℕ) (found : Option (List ℕ)) (folder : List ℕ) → len ≤ i → i < length name → get_or name i 0 ≡ 47 → found ≡ Some folder
     → IsNoneUpto change files name len i → found ≡ name_if (is_name_after change files (take i name)) (take i name) → IsFolderFound change files name len (Some folder)
-found_told change files name len i found folder within slash is none told = by (is_name_after change files (take i name)) refl (sym is ∙ told)
+found_told change files name len i found folder long within slash is none told = by (is_name_after change files (take i name)) refl (sym is ∙ told)
   where
     by : (b : Bool) → is_name_after change files (take i name) ≡ b → Some folder ≡ name_if b (take i name) → IsFolderFound change files name len (Some folder)
-    by true after e = let same : take i name ≡ folder = cc in subst (λ (l : List ℕ). IsFolderFound change files name len (Some l)) same (found_at_slash change files name len i within slash after none)
+    by true after e = let same : take i name ≡ folder = cc in subst (λ (l : List ℕ). IsFolderFound change files name len (Some l)) same (found_at_slash change files name len i long within slash after none)
     by false off e = absurd (cc)

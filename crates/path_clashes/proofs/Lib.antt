@@ -8,3 +8,8 @@ pub mod SoFar
 pub mod Observed
 pub mod NoName
 pub mod OneFirst
+pub mod OneName
+pub mod Between
+pub mod MayBeNear
+pub mod SomeFiles
+pub mod MaySoFar

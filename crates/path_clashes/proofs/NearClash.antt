@@ -23,7 +23,7 @@ module _ (change : NameChange) (files : Files) where
     written = or_right (change.counts_as_written folder) (change.counts_as_written name) counts;
   }
 
-  clash_below : (name other : List ℕ) → IsFolderOf name other → is_standing change.lets_go files other ≡ true → change.counts_as_written name ≡ true → IsClash change files (record { path = name; other = other })
+  pub clash_below : (name other : List ℕ) → IsFolderOf name other → is_standing change.lets_go files other ≡ true → change.counts_as_written name ≡ true → IsClash change files (record { path = name; other = other })
   clash_below name other below standing counts = record {
     folder = below;
     path_after = counts_is_after name counts;

@@ -17,7 +17,7 @@ absent : (v : TreeState) (name : List ℕ) → IsWhole v → is_name name ≡ fa
 absent v name whole off =
     false_from_ne_true (is_some (files_of v name)) (λ some. true≢false (sym (whole.named v.names (inl refl) name (is_present v.files (v.names name) some)) ∙ off))
 
-not_a_path : (paths : List FilePath) (name : List ℕ) → All IsName (map joined_path paths) → is_name name ≡ false → is_path_of paths name ≡ false
+pub not_a_path : (paths : List FilePath) (name : List ℕ) → All IsName (map joined_path paths) → is_name name ≡ false → is_path_of paths name ≡ false
 not_a_path paths name names off = false_from_ne_true (is_path_of paths name) (λ any. true≢false (sym (path_is_name paths name names any) ∙ off))
 
 pub no_name_after : (paths : List FilePath) (lets_go : List ℕ → Bool) (v : TreeState) (name : List ℕ) → All IsName (map joined_path paths) → IsWhole v → is_name name ≡ false

@@ -13,7 +13,7 @@ use Rattle.list_order.specs.ByteOrder.{bytes_cmp, precedes}
 use Rattle.path_clashes.specs.Clash.{NameChange, NamePair, precedes_pair}
 use Rattle.path_clashes.specs.FirstClash.{IsClashOf}
 
-one_name : (a b : List ℕ) → precedes a b ≡ false → precedes b a ≡ false → a ≡ b
+pub one_name : (a b : List ℕ) → precedes a b ≡ false → precedes b a ≡ false → a ≡ b
 one_name a b first second = by (bytes_cmp a b) refl
   where
     by : (o : Ordering) → bytes_cmp a b ≡ o → a ≡ b

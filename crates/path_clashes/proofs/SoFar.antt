@@ -1,5 +1,5 @@
 -- The first clash of the names so far.
-use Rattle.std.proofs.Common.{◌≡◌, ⊎_elim, ℕ, zero, suc, ◌+◌, ◌<◌, Bool, true, false, List, [], ◌∷◌, length, get_or, Option, Some, None, refl, sym, ap, subst, ◌∙◌, arith, true≢false}
+use Rattle.std.proofs.Common.{◌≡◌, ◌⊎◌, ⊎_elim, ℕ, zero, suc, ◌+◌, ◌<◌, Bool, true, false, List, [], ◌∷◌, length, get_or, Option, Some, None, refl, sym, ap, subst, ◌∙◌, arith, true≢false}
 use Rattle.std.specs.Prelude.{◌||◌, if◌then◌else◌, bytes_eq}
 use Rattle.std.specs.List.{All, list_any}
 use Rattle.std.specs.List.Sorted.{IsSorted}
@@ -59,13 +59,19 @@ module _ (change : NameChange) (files : Files) where
       by false = h
 
   -- of the clashes with the names so far none comes before the one that was found
-  pub record IsFirstSoFar (names : List (List ℕ)) (i : ℕ) (found : Option NamePair) : Type 0 where
-    pub is_one : IsClashIfSome change files found
+  pub record IsNoneEarlier (names : List (List ℕ)) (i : ℕ) (found : Option NamePair) : Type 0 where
     pub above : (k : ℕ) (d : List ℕ) → k < i → (folder : List ℕ) → IsFolderOf folder (get_or names k d) → IsNoEarlierClash change files found (record { path = folder; other = get_or names k d })
     pub below : (k : ℕ) (d : List ℕ) → k < i → (other : List ℕ) → is_standing change.lets_go files other ≡ true → IsNoEarlierClash change files found (record { path = get_or names k d; other = other })
 
+  pub record IsFirstSoFar (names : List (List ℕ)) (i : ℕ) (found : Option NamePair) : Type 0 where
+    pub is_one : IsClashIfSome change files found
+    pub none : IsNoneEarlier names i found
+
+  pub none_of_none : (names : List (List ℕ)) → IsNoneEarlier names 0 None
+  none_of_none names = record { above = λ k d l. absurd (omega arith); below = λ k d l. absurd (omega arith) }
+
   pub first_of_none : (names : List (List ℕ)) → IsFirstSoFar names 0 None
-  first_of_none names = record { is_one = tt; above = λ k d l. absurd (omega arith); below = λ k d l. absurd (omega arith) }
+  first_of_none names = record { is_one = tt; none = none_of_none names }
 
   -- with a folder that is also above the name before
   passed_on : (found : Option NamePair) (folder before name : List ℕ) → IsFolderOf folder before → change.counts_as_written before ≡ true → precedes name before ≡ false
@@ -75,7 +81,7 @@ module _ (change : NameChange) (files : Files) where
       (none (clash_above change files folder before above clash.path_after counts))
 
   module _ (names : List (List ℕ)) (are_names : All IsName names) (up : IsSorted bytes_cmp names) (counted : (name : List ℕ) → list_any (bytes_eq name) names ≡ true → change.counts_as_written name ≡ true) where
-    above_before : (i : ℕ) (name folder : List ℕ) (found : Option NamePair) → i < length names → ((d : List ℕ) → get_or names i d ≡ name) → IsFirstSoFar names i found → IsFolderOf folder (name_before names i)
+    above_before : (i : ℕ) (name folder : List ℕ) (found : Option NamePair) → i < length names → ((d : List ℕ) → get_or names i d ≡ name) → IsNoneEarlier names i found → IsFolderOf folder (name_before names i)
         → IsNoEarlierClash change files found (record { path = folder; other = name })
     above_before zero name folder found within here so_far above = absurd (nothing_above folder above)
     above_before (suc i) name folder found within here so_far above =
@@ -87,26 +93,28 @@ module _ (change : NameChange) (files : Files) where
             ap (λ (l : List ℕ). precedes l (get_or names i [])) (sym (here []))
             ∙ (ap (λ n. precedes (get_or names n []) (get_or names i [])) e ∙ up i [] (omega arith) (omega arith))
 
-    below_before : (i : ℕ) (name other : List ℕ) (found : Option NamePair) → i < length names → ((d : List ℕ) → get_or names i d ≡ name) → IsFirstSoFar names i found → name_before names i ≡ name → is_standing change.lets_go files other ≡ true
+    below_before : (i : ℕ) (name other : List ℕ) (found : Option NamePair) → i < length names → ((d : List ℕ) → get_or names i d ≡ name) → IsNoneEarlier names i found → name_before names i ≡ name → is_standing change.lets_go files other ≡ true
         → IsNoEarlierClash change files found (record { path = name; other = other })
     below_before zero name other found within here so_far same standing =
         absurd (no_empty_name (subst IsName (here [] ∙ sym same) (are_names 0 [] within)))
     below_before (suc i) name other found within here so_far same standing =
         subst (λ (l : List ℕ). IsNoEarlierClash change files found (record { path = l; other = other })) same (so_far.below i [] (omega arith) other standing)
 
-    pub first_of_more : (i : ℕ) (name : List ℕ) (best found : Option NamePair) → i < length names → ((d : List ℕ) → get_or names i d ≡ name)
-        → IsFirstSoFar names i best → IsClashNear change files (name_before names i) name found → IsFirstSoFar names (i + 1) (earlier_pair best found)
-    first_of_more i name best found within here so_far near = record { is_one = one_of best found so_far.is_one near.is_one; above = above; below = below }
+    pub none_of_more : (i : ℕ) (name : List ℕ) (best found : Option NamePair) → i < length names → ((d : List ℕ) → get_or names i d ≡ name) → IsNoneEarlier names i best
+        → ((folder : List ℕ) → IsFolderOf folder name → IsFolderOf folder (name_before names i) ⊎ IsNoEarlierClash change files found (record { path = folder; other = name }))
+        → ((other : List ℕ) → is_standing change.lets_go files other ≡ true → (name_before names i ≡ name) ⊎ IsNoEarlierClash change files found (record { path = name; other = other }))
+        → IsNoneEarlier names (i + 1) (earlier_pair best found)
+    none_of_more i name best found within here so_far near_above near_below = record { above = above; below = below }
       where
         above_here : (folder : List ℕ) → IsFolderOf folder name → IsNoEarlierClash change files (earlier_pair best found) (record { path = folder; other = name })
         above_here folder over clash =
             ⊎_elim (λ before. not_before_first (record { path = folder; other = name }) best found (above_before i name folder best within here so_far before clash))
-            (λ none. not_before_second (record { path = folder; other = name }) best found (none clash)) (near.above folder over)
+            (λ none. not_before_second (record { path = folder; other = name }) best found (none clash)) (near_above folder over)
 
         below_here : (other : List ℕ) → is_standing change.lets_go files other ≡ true → IsNoEarlierClash change files (earlier_pair best found) (record { path = name; other = other })
         below_here other standing clash =
             ⊎_elim (λ same. not_before_first (record { path = name; other = other }) best found (below_before i name other best within here so_far same standing clash))
-            (λ none. not_before_second (record { path = name; other = other }) best found (none clash)) (near.below other standing)
+            (λ none. not_before_second (record { path = name; other = other }) best found (none clash)) (near_below other standing)
 
         at_here : (k : ℕ) (d : List ℕ) → k ≡ i → name ≡ get_or names k d
         at_here k d is = sym (here d) ∙ ap (λ n. get_or names n d) (sym is)
@@ -121,6 +129,13 @@ module _ (change : NameChange) (files : Files) where
             ⊎_elim (λ is. subst (λ (l : List ℕ). IsNoEarlierClash change files (earlier_pair best found) (record { path = l; other = other })) (at_here k d is) (below_here other standing))
             (λ apart clash. not_before_first (record { path = get_or names k d; other = other }) best found (so_far.below k d (omega (arith, upto, apart)) other standing clash)) (cases_eq k i)
 
+    pub first_of_more : (i : ℕ) (name : List ℕ) (best found : Option NamePair) → i < length names → ((d : List ℕ) → get_or names i d ≡ name)
+        → IsFirstSoFar names i best → IsClashNear change files (name_before names i) name found → IsFirstSoFar names (i + 1) (earlier_pair best found)
+    first_of_more i name best found within here so_far near = record {
+      is_one = one_of best found so_far.is_one near.is_one;
+      none = none_of_more i name best found within here so_far.none near.above near.below;
+    }
+
     -- the same, as the code tells it
     pub more_told : (i : ℕ) (before name : List ℕ) (best found new : Option NamePair) → i < length names → ((d : List ℕ) → get_or names i d ≡ name) → before ≡ name_before names i → new ≡ earlier_pair best found
         → IsFirstSoFar names i best → IsClashNear change files before name found → IsFirstSoFar names (i + 1) new
@@ -130,7 +145,7 @@ module _ (change : NameChange) (files : Files) where
   -- ---- of all names
 
   module _ (names : List (List ℕ)) (counting : (name : List ℕ) → change.counts_as_written name ≡ list_any (bytes_eq name) names) where
-    in_all : (found : Option NamePair) → IsFirstSoFar names (length names) found → (path other : List ℕ) → IsNoEarlierClash change files found (record { path = path; other = other })
+    pub in_all : (found : Option NamePair) → IsNoneEarlier names (length names) found → (path other : List ℕ) → IsNoEarlierClash change files found (record { path = path; other = other })
     in_all found so_far path other clash =
         ⊎_elim (λ counts. let at = place_of names other (sym (counting other) ∙ counts) in
         subst (λ (l : List ℕ). IsNoEarlierClash change files found (record { path = path; other = l })) at.2 (so_far.above at.0 other at.1 path (subst (IsFolderOf path) (sym at.2) clash.folder)) clash)
@@ -143,10 +158,10 @@ module _ (change : NameChange) (files : Files) where
         standing off after = ⊎_elim (λ s. s) (λ counts. absurd (true≢false (sym counts ∙ off))) (or_cases (is_standing change.lets_go files other) (change.counts_as_written other) after)
 
     pub first_of_all : (found : Option NamePair) → IsFirstSoFar names (length names) found → IsClashOf change files found
-    first_of_all None so_far = λ pair clash. in_all None so_far pair.path pair.other clash
+    first_of_all None so_far = λ pair clash. in_all None so_far.none pair.path pair.other clash
     first_of_all (Some pair) so_far = record {
       is_one = so_far.is_one;
-      first = λ other clash earlier. true≢false (sym earlier ∙ in_all (Some pair) so_far other.path other.other clash);
+      first = λ other clash earlier. true≢false (sym earlier ∙ in_all (Some pair) so_far.none other.path other.other clash);
     }
 
     pub all_told : (i : ℕ) (found : Option NamePair) → i ≡ length names → IsFirstSoFar names i found → IsClashOf change files found

@@ -1,6 +1,6 @@
 -- What is looked for near one name that counts as written: folders above it, names below it.
-use Rattle.std.specs.Prelude.{◌≡◌, ◌⊎◌, ◌≤◌, ℕ, Bool, true, false, not, ◌&&◌, if◌then◌else◌, List, Option, Some, None, is_some, length}
-use Rattle.base_core.specs.Files.{Files, IsFolderOf}
+use Rattle.std.specs.Prelude.{◌≡◌, ◌⊎◌, ◌≤◌, ℕ, Bool, true, false, not, ◌&&◌, if◌then◌else◌, List, [], Option, Some, None, IfSome, bytes_eq, is_some, length}
+use Rattle.base_core.specs.Files.{Files, IsFolderOf, no_names}
 use Rattle.list_order.specs.ByteOrder.{precedes}
 use Rattle.path_clashes.specs.Clash.{IsClash, NameChange, NamePair, is_name_after, precedes_pair}
 
@@ -11,12 +11,18 @@ is_standing lets_go files name = is_some (files name) && not (lets_go name)
 abbrev pub name_if : Bool → List ℕ → Option (List ℕ)
 name_if b name = if b then Some name else None
 
+-- the files of which just this name, if there is one, is present
+abbrev pub files_with : Option (List ℕ) → Files
+files_with None q = None
+files_with (Some name) q = if bytes_eq q name then Some [] else None
+
 -- ---- above
 
 -- a folder above the name that is there after the change; of those that are so long the shortest
 pub record IsShortestFolder (change : NameChange) (files : Files) (name : List ℕ) (len : ℕ)
     (folder : List ℕ) : Type 0 where
   pub above : IsFolderOf folder name
+  pub long : len ≤ length folder
   pub after : is_name_after change files folder ≡ true
   pub shortest : (other : List ℕ) → IsFolderOf other name → len ≤ length other
       → is_name_after change files other ≡ true → length folder ≤ length other
@@ -75,3 +81,20 @@ pub record IsClashNear (change : NameChange) (files : Files) (before name : List
   pub below : (other : List ℕ) → is_standing change.lets_go files other ≡ true
       → (before ≡ name)
       ⊎ IsNoEarlierClash change files found (record { path = name; other = other })
+
+-- ---- over a tree whose files no contract knows
+
+-- over some files it is a clash; a folder that is not written is not above the name before
+pub record IsFreshClash (change : NameChange) (before name : List ℕ) (pair : NamePair) : Type 0 where
+  pub files : Files
+  pub is : IsClash change files pair
+  pub fresh : (change.counts_as_written pair.path ≡ true)
+      ⊎ ((IsFolderOf pair.path before → ⊥) × (pair.other ≡ name))
+
+-- A clash with a name may have been found. Of the clashes that written names make by themselves no
+-- one with a folder above it comes before, but for folders that are also above the name before it.
+pub record MayBeClashNear (change : NameChange) (before name : List ℕ)
+    (found : Option NamePair) : Type 0 where
+  pub one : IfSome found (IsFreshClash change before name)
+  pub above : (folder : List ℕ) → IsFolderOf folder name → IsFolderOf folder before
+      ⊎ IsNoEarlierClash change no_names found (record { path = folder; other = name })

@@ -1,17 +1,18 @@
 //! The first clash of a change.
 
-ghost use Rattle.std.specs.Prelude.{◌≡◌, ◌≤◌, true, IfOk, All, length, map, option_map, take};
+ghost use Rattle.std.specs.Prelude.{◌≡◌, ◌<◌, ◌≤◌, ℕ, List, true, IfOk, All, length, map, option_map, take};
 ghost use Rattle.std.specs.List.Sorted.{IsSorted};
 ghost use Rattle.adb_fields.specs.JoinedPath.{joined_path};
 ghost use Rattle.base_core.specs.Calls.{IfObservable};
+ghost use Rattle.base_core.specs.Files.{IsFolderOf};
 ghost use Rattle.base_core.specs.Name.{IsName};
 ghost use Rattle.base_core.specs.Read.{OnlyReads};
 ghost use Rattle.base_core.specs.Tree.{files_of};
 ghost use Rattle.list_order.specs.ByteOrder.{bytes_cmp};
 ghost use Rattle.path_clashes.specs.Clash.{precedes_pair};
 ghost use Rattle.path_clashes.specs.ClashSeen.{clash_seen};
-ghost use Rattle.path_clashes.specs.FirstClash.{IsClashOf};
-ghost use Rattle.path_clashes.specs.NearName.{IsClashNear, earlier_pair};
+ghost use Rattle.path_clashes.specs.FirstClash.{IsClashOf, MayBeClashOf};
+ghost use Rattle.path_clashes.specs.NearName.{IsClashNear, MayBeClashNear, earlier_pair};
 ghost use Rattle.path_clashes.specs.WrittenPaths.{change_by_paths, is_path_of};
 
 use crate::let_go::LetGo;
@@ -72,6 +73,8 @@ fn common_len(one: &[u8], other: &[u8]) -> usize
     ensures one { result ≤ length one.now }
     ensures other { result ≤ length other.now }
     ensures same { take result one.now ≡ take result other.now }
+    ensures folders { (folder : List ℕ) → IsFolderOf folder one.now
+        → IsFolderOf folder other.now → length folder < result }
 {
     let mut len = 0;
     while len < one.len() && len < other.len() && one[len] == other[len] {
@@ -97,6 +100,9 @@ fn clash_near<T: Tree, G: LetGo>(
     ensures near { IfOk result (λ found. IfObservable (T.history tree.old) (λ v.
         IsClashNear (change_by_paths written.now (G.lets_go let_go.now)) (files_of v)
         before.now bytes.now (option_map clash_seen found))) }
+    ensures may { IfOk result (λ found. MayBeClashNear
+        (change_by_paths written.now (G.lets_go let_go.now))
+        before.now bytes.now (option_map clash_seen found)) }
     ensures tree { OnlyReads TreeFault.Disk (T.history tree.old) (T.history tree.new)
         (T.counts tree.old) (T.counts tree.new) result }
 {
@@ -134,6 +140,8 @@ pub fn first_clash<T: Tree, G: LetGo>(
     ensures first { IfOk result (λ found. IfObservable (T.history tree.old) (λ v.
         IsClashOf (change_by_paths written.now (G.lets_go let_go.now)) (files_of v)
         (option_map clash_seen found))) }
+    ensures may { IfOk result (λ found. MayBeClashOf
+        (change_by_paths written.now (G.lets_go let_go.now)) (option_map clash_seen found)) }
     ensures tree { OnlyReads TreeFault.Disk (T.history tree.old) (T.history tree.new)
         (T.counts tree.old) (T.counts tree.new) result }
 {

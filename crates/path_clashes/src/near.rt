@@ -1,6 +1,6 @@
 //! The names above and below one name that are there after a change.
 
-ghost use Rattle.std.specs.Prelude.{◌≡◌, not, IfOk, List, All, map};
+ghost use Rattle.std.specs.Prelude.{◌≡◌, true, false, not, IfOk, List, All, map};
 ghost use Rattle.std.specs.List.{find};
 ghost use Rattle.std.specs.List.Sorted.{IsSorted};
 ghost use Rattle.adb_fields.specs.JoinedPath.{joined_path};
@@ -10,7 +10,7 @@ ghost use Rattle.base_core.specs.Read.{OnlyReads};
 ghost use Rattle.base_core.specs.Tree.{files_of};
 ghost use Rattle.list_order.specs.ByteOrder.{bytes_cmp};
 ghost use Rattle.path_clashes.specs.Clash.{is_name_after};
-ghost use Rattle.path_clashes.specs.NearName.{IsFolderFound, IsNameFound, is_standing, name_if};
+ghost use Rattle.path_clashes.specs.NearName.{IsFolderFound, IsNameFound, files_with, is_standing, name_if};
 ghost use Rattle.path_clashes.specs.WrittenPaths.{change_by_paths, is_path_of};
 
 use crate::let_go::LetGo;
@@ -31,6 +31,8 @@ fn is_path_of(paths: &[FilePath<'_>], name: &[u8]) -> bool
 fn is_standing<T: Tree, G: LetGo>(tree: &mut T, let_go: &G, name: &Name) -> Result<bool, TreeFault>
     ensures answer { IfOk result (λ standing. IfObservable (T.history tree.old) (λ v.
         standing ≡ is_standing (G.lets_go let_go.now) (files_of v) name.now)) }
+    ensures stays { IfOk result (λ standing.
+        standing ≡ true → G.lets_go let_go.now name.now ≡ false) }
     ensures tree { OnlyReads TreeFault.Disk (T.history tree.old) (T.history tree.new)
         (T.counts tree.old) (T.counts tree.new) result }
 {
@@ -54,6 +56,9 @@ fn folder_after<T: Tree, G: LetGo>(
     ensures found { IfOk result (λ found. IfObservable (T.history tree.old) (λ v.
         found ≡ name_if (is_name_after (change_by_paths written.now (G.lets_go let_go.now))
         (files_of v) folder.now) folder.now)) }
+    ensures may { IfOk result (λ found.
+        found ≡ name_if (is_name_after (change_by_paths written.now (G.lets_go let_go.now))
+        (files_with found) folder.now) folder.now) }
     ensures tree { OnlyReads TreeFault.Disk (T.history tree.old) (T.history tree.new)
         (T.counts tree.old) (T.counts tree.new) result }
 {
@@ -81,6 +86,9 @@ pub(crate) fn first_folder<T: Tree, G: LetGo>(
     ensures found { IfOk result (λ found. IfObservable (T.history tree.old) (λ v.
         IsFolderFound (change_by_paths written.now (G.lets_go let_go.now)) (files_of v)
         name.now len found)) }
+    ensures may { IfOk result (λ found.
+        IsFolderFound (change_by_paths written.now (G.lets_go let_go.now)) (files_with found)
+        name.now len found) }
     ensures tree { OnlyReads TreeFault.Disk (T.history tree.old) (T.history tree.new)
         (T.counts tree.old) (T.counts tree.new) result }
 {
@@ -121,6 +129,8 @@ pub(crate) fn first_below<T: Tree, G: LetGo>(
 ) -> Result<Option<Name>, TreeFault>
     ensures found { IfOk result (λ found. IfObservable (T.history tree.old) (λ v.
         IsNameFound (G.lets_go let_go.now) (files_of v) folder.now found)) }
+    ensures may { IfOk result (λ found.
+        IsNameFound (G.lets_go let_go.now) (files_with found) folder.now found) }
     ensures tree { OnlyReads TreeFault.Disk (T.history tree.old) (T.history tree.new)
         (T.counts tree.old) (T.counts tree.new) result }
 {

@@ -1,12 +1,12 @@
 -- Choices stay consistent when one is made and when one is taken back.
 use Rattle.std.proofs.Common.{◌≡◌, inl, inr, ℕ, zero, suc, ◌+◌, ◌≤◌, ◌<◌, Bool, true, false, List, [], ◌∷◌, ◌++◌, length, take, refl, sym, subst, ap, ◌∙◌, arith, append_assoc, append-nil}
-use Rattle.std.specs.Prelude.{Option, Some, None, slice_get, option_to_list, map, is_some, MatchOption, not}
+use Rattle.std.specs.Prelude.{Option, Some, None, slice_get, option_to_list, map, MatchOption, not}
 use Rattle.std.specs.Bool.{MatchBool}
 use Rattle.dep_core.specs.Dependency.{Dependency}
 use Rattle.std.specs.Option.{option_map_or}
-use Rattle.std.specs.List.{filter, find, flat_map, list_any}
-use Rattle.pool_core.specs.Candidates.{Candidate, Need, entry, named, positive_entries_of}
-use Rattle.pool_core.specs.Rank.{SealedPool, is_at, meets_at}
+use Rattle.std.specs.List.{filter, find, flat_map}
+use Rattle.pool_core.specs.Candidates.{Candidate, Need, entry, named}
+use Rattle.pool_core.specs.Rank.{SealedPool, is_at}
 use Rattle.pool_core.specs.Candidates.{is_eligible}
 use Rattle.solve_core.specs.Reasons.{IsFrameTaking, options_in}
 use Rattle.std.proofs.Common.{get_or}
@@ -22,7 +22,7 @@ use Rattle.solve_core.specs.declared.choices.Choices.{Choices}
 use Rattle.solve_core.specs.declared.queue.Checkpoint.{Checkpoint}
 use Rattle.solve_core.proofs.Theory.{in_left, in_right, in_append}
 use Rattle.solve_core.proofs.PoolFacts.{bool_cases, find_in, map_in, in_map}
-use Rattle.solve_core.proofs.Queued.{filter_twice, find_here, past_end, met_more, met_next, queue_more}
+use Rattle.solve_core.proofs.Queued.{find_here, past_end, met_more, met_next, queue_more}
 
 module _ (pool : SealedPool) (install_ifs : List ℕ) where
   abbrev pub IsBefore : List ℕ → Checkpoint → Type 0
@@ -136,17 +136,13 @@ met_start pool t = (omega arith, ap (find (is_unmet_dep pool t)) (take_none (que
 
 -- ---- no choices
 
-abbrev of_world : Dependency → RaisedDepValue
-of_world d = (d, None)
-
 none_below : (k : ℕ) → k < 0 → ⊥
 none_below k h = absurd (omega (arith, h))
 
-pub consistent_start : (chosen : Choices) → choices_of chosen ≡ [] → chosen.queue.items ≡ [] ++ raised_deps None (positive_entries_of (pool_of chosen).world) → chosen.cursor ≡ 0 → chosen.asking_cursor ≡ 0 → AreInstallIfs (pool_of chosen) (install_ifs_of chosen) chosen.install_ifs.waiting → chosen.conflicts.added ≡ [] → chosen.checkpoints.items ≡ [] → IsConsistent chosen
+pub consistent_start : (chosen : Choices) → choices_of chosen ≡ [] → chosen.queue.items ≡ [] ++ raised_deps None (pool_of chosen).world → chosen.cursor ≡ 0 → chosen.asking_cursor ≡ 0 → AreInstallIfs (pool_of chosen) (install_ifs_of chosen) chosen.install_ifs.waiting → chosen.conflicts.added ≡ [] → chosen.checkpoints.items ≡ [] → IsConsistent chosen
 consistent_start chosen none queue at asking are added checkpoints =
     let p = pool_of chosen in
-    let all : raised_deps None (positive_entries_of p.world) ≡ queue_of p [] =
-    ap (map of_world) (filter_twice (λ (d : Dependency). not d.conflict) p.world) ∙ sym (append-nil (raised_deps None p.world)) in
+    let all : raised_deps None p.world ≡ queue_of p [] = sym (append-nil (raised_deps None p.world)) in
     record {
       within = λ k h. absurd (subst (λ (z : List ℕ). IsMember k z) none h);
       queue = queue ∙ (all ∙ ap (queue_of p) (sym none));
@@ -173,18 +169,13 @@ get_within [] (suc i) x h = absurd (cc)
 get_within (y ∷ xs) zero x h = omega arith
 get_within (y ∷ xs) (suc i) x h = let r = get_within xs i x h in omega arith
 
-pub met_by : (pool : SealedPool) (t : List ℕ) (queue : List RaisedDepValue) (at : ℕ) (r : RaisedDepValue) (o : Option ℕ) → queue ≡ queue_of pool t → AreMet pool t at → slice_get queue at ≡ Some r → MatchOption o (is_met pool t (entry r.0) ≡ false) (λ id. IsMember id t × (meets_at pool id (entry r.0) ≡ true)) → MatchBool (is_some o) (AreMet pool t (at + 1)) (slice_get queue at ≡ find (is_unmet_dep pool t) (queue_of pool t))
-met_by pool t queue at r None is met here m =
+pub met_by : (pool : SealedPool) (t : List ℕ) (queue : List RaisedDepValue) (at : ℕ) (r : RaisedDepValue) (b : Bool) → queue ≡ queue_of pool t → AreMet pool t at → slice_get queue at ≡ Some r → b ≡ is_met pool t (entry r.0) → MatchBool b (AreMet pool t (at + 1)) (slice_get queue at ≡ find (is_unmet_dep pool t) (queue_of pool t))
+met_by pool t queue at r false is met here m =
     subst (λ (z : List RaisedDepValue). slice_get z at ≡ find (is_unmet_dep pool t) (queue_of pool t)) (sym is)
-    (find_here (is_unmet_dep pool t) (queue_of pool t) at r met.1 (subst (λ (z : List RaisedDepValue). slice_get z at ≡ Some r) is here) (ap not m))
-met_by pool t queue at r (Some id) is met here m =
+    (find_here (is_unmet_dep pool t) (queue_of pool t) at r met.1 (subst (λ (z : List RaisedDepValue). slice_get z at ≡ Some r) is here) (ap not (sym m)))
+met_by pool t queue at r true is met here m =
     let g : slice_get (queue_of pool t) at ≡ Some r = subst (λ (z : List RaisedDepValue). slice_get z at ≡ Some r) is here in
-    met_next pool t at r met (get_within (queue_of pool t) at r g) g (ap not (any_one_of (λ c. meets_at pool c (entry r.0)) t id m.0 m.1))
-  where
-    any_one_of : (p : ℕ → Bool) (xs : List ℕ) (x : ℕ) → IsMember x xs → p x ≡ true → list_any p xs ≡ true
-    any_one_of p [] x h e = absurd h
-    any_one_of p (y ∷ xs) x (inl s) e = rw (subst (λ (z : ℕ). p z ≡ true) s e) refl
-    any_one_of p (y ∷ xs) x (inr h) e = elim (bool_cases (p y)) [ inl k ↦ rw k refl | inr k ↦ rw k (any_one_of p xs x h e) ]
+    met_next pool t at r met (get_within (queue_of pool t) at r g) g (ap not (sym m))
 
 get_none : {X : Type 0} (xs : List X) (i : ℕ) → slice_get xs i ≡ None → length xs ≤ i
 get_none [] i h = omega arith

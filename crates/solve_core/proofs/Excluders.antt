@@ -8,12 +8,13 @@ use Rattle.dep_core.specs.Dependency.{Dependency}
 use Rattle.pool_core.specs.Candidates.{Candidate, occupies_name, entry_occupies, meets_dependency, offers_name}
 use Rattle.pool_core.specs.Rank.{SealedPool, candidate_at, is_at}
 use Rattle.pool_core.specs.Options.{IsMember, places_offering}
+use Rattle.pool_core.specs.Wanted.{is_conflict}
 use Rattle.solve_core.specs.Selection.{exclude_each_other, depends_at, conflicts_with, occupied_names_at, occupied_names, keeps_out, share_a_name}
 use Rattle.solve_core.specs.Choices.{IsAtHand, IsConsistent, choices_of, pool_of}
 use Rattle.solve_core.specs.NameTable.{items_of}
 use Rattle.solve_core.specs.declared.choices.Choices.{Choices}
 use Rattle.solve_core.proofs.Theory.{in_append}
-use Rattle.solve_core.proofs.PoolFacts.{bool_cases, filter_in, map_in}
+use Rattle.solve_core.proofs.PoolFacts.{bool_cases, filter_in, in_filter, map_in}
 use Rattle.solve_core.proofs.Satisfying.{and_true, any_one, listed_is_occupied_at, occupied_is_listed_at, one_any, or_true, true_or}
 use Rattle.solve_core.proofs.Offered.{meets_offered, meets_offers, mono_at}
 use Rattle.pool_core.proofs.OptionLists.{in_places}
@@ -43,9 +44,9 @@ no_way false e h = cc
 pub no_excluder : (chosen : Choices) (id : ℕ) (details : Candidate) → IsConsistent chosen → candidate_at (pool_of chosen) id ≡ Some details
     → ((k : ℕ) → IsAtHand chosen details.name true k → IsMember k (choices_of chosen) → exclude_each_other (pool_of chosen) k id ≡ false)
     → ((p : Dependency) (k : ℕ) → IsMember p details.provides → IsAtHand chosen p.name (is_some p.version) k → IsMember k (choices_of chosen) → exclude_each_other (pool_of chosen) k id ≡ false)
-    → ((d : Dependency) (k : ℕ) → IsMember d details.depends → d.conflict ≡ true → IsMember k (places_offering d.name (pool_of chosen).candidates) → IsMember k (choices_of chosen) → exclude_each_other (pool_of chosen) k id ≡ false)
+    → ((d : Dependency) (k : ℕ) → IsMember d (filter is_conflict details.depends) → IsMember k (places_offering d.name (pool_of chosen).candidates) → IsMember k (choices_of chosen) → exclude_each_other (pool_of chosen) k id ≡ false)
     → (k : ℕ) → IsMember k (choices_of chosen) → exclude_each_other (pool_of chosen) k id ≡ false
-no_excluder chosen id details consistent here named provides depends k there = elim (bool_cases (exclude_each_other (pool_of chosen) k id)) [
+no_excluder chosen id details consistent here named provides conflicts k there = elim (bool_cases (exclude_each_other (pool_of chosen) k id)) [
   | inr e ↦ e
   | inl apart ↦
       let pool = pool_of chosen in
@@ -78,7 +79,8 @@ no_excluder chosen id details consistent here named provides depends k there = e
         | inr b ↦ elim (or_true (conflicts_with pool id k) (share_a_name pool id k) b) [
           | inl x ↦
               let one = any_one (λ (d : Dependency). d.conflict && is_at pool (meets_dependency d) k) (depends_at pool id) x in
-              no_way (exclude_each_other pool k id) (depends one.0 k (subst (λ (z : List Dependency). IsMember one.0 z) deps one.1) (and_true one.0.conflict (is_at pool (meets_dependency one.0) k) one.2).0 (meets_offered pool one.0 k (and_true one.0.conflict (is_at pool (meets_dependency one.0) k) one.2).1) there) apart
+              let two = and_true one.0.conflict (is_at pool (meets_dependency one.0) k) one.2 in
+              no_way (exclude_each_other pool k id) (conflicts one.0 k (in_filter is_conflict one.0 details.depends (subst (λ (z : List Dependency). IsMember one.0 z) deps one.1) two.0) (meets_offered pool one.0 k two.1) there) apart
           | inr x ↦
               let one = any_one (λ name. is_at pool (occupies_name name) k) (occupied_names_at pool id) x in
               shared one.0 one.1 one.2

@@ -1,33 +1,19 @@
--- What meets a dependency offers its name.
-use Rattle.std.proofs.Common.{◌≡◌, inl, inr, ℕ, zero, suc, ◌+◌, ◌<◌, Bool, true, false, List, [], ◌∷◌, ◌++◌, length, get_or, sym, subst, ap, arith}
+-- What meets a need offers its name.
+use Rattle.std.proofs.Common.{◌≡◌, inl, inr, ℕ, ◌+◌, Bool, true, false, List, [], ◌∷◌, ◌++◌, sym, subst, arith}
 use Rattle.std.specs.Prelude.{Option, Some, None, slice_get, not, ◌&&◌}
 use Rattle.std.specs.Option.{option_map_or}
 use Rattle.std.specs.List.{list_any}
 use Rattle.std.specs.Str.{bytes_eq}
 use Rattle.dep_core.specs.Dependency.{Dependency}
 use Rattle.dep_core.specs.Meets.{is_wanted}
-use Rattle.pool_core.specs.Candidates.{Candidate, entry, is_met_by_entry, named, meets_dependency, meets_by_own_name, offers_name}
+use Rattle.pool_core.specs.Candidates.{Candidate, Need, entry, is_met_by_entry, named, need_name, meets_dependency, meets_by_own_name, offers_name}
 use Rattle.pool_core.specs.Rank.{SealedPool, meets_at}
-use Rattle.pool_core.specs.Options.{IsMember, places_offering, places_from}
+use Rattle.pool_core.specs.Options.{IsMember, places_offering}
 use Rattle.solve_core.specs.Selection.{is_met}
 use Rattle.pool_core.proofs.OptionLists.{in_places}
 use Rattle.solve_core.proofs.PoolFacts.{bool_cases, any_in}
 use Rattle.solve_core.proofs.Satisfying.{and_true, or_true, true_or, any_one, one_any}
 use Rattle.solve_core.proofs.Theory.{in_append}
-
-first_below : (n m : ℕ) (ps : List ℕ) (k d : ℕ) → ((j : ℕ) → j < length ps → get_or ps j d < m) → n < m → k < length (n ∷ ps) → get_or (n ∷ ps) k d < m
-first_below n m ps zero d rest here h = here
-first_below n m ps (suc k) d rest here h = rest k (omega arith)
-
-places_below : (n : ℕ) (test : Candidate → Bool) (cs : List Candidate) (k d : ℕ) → k < length (places_from n test cs) → get_or (places_from n test cs) k d < n + length cs
-places_below n test [] k d h = absurd (omega arith)
-places_below n test (c ∷ cs) k d h = elim (bool_cases (test c)) [
-  | inl e ↦ rw e (first_below n (n + length (c ∷ cs)) (places_from (suc n) test cs) k d (λ j g. let r = places_below (suc n) test cs j d g in omega arith) (omega arith) (rw e at h))
-  | inr e ↦ rw e (let r = places_below (suc n) test cs k d (rw e at h) in omega arith)
-]
-
-pub offered_below : (name : List ℕ) (cs : List Candidate) (k d : ℕ) → k < length (places_offering name cs) → get_or (places_offering name cs) k d < length cs
-offered_below name cs k d h = let r = places_below 0 (offers_name name) cs k d h in omega arith
 
 pub meets_offers : (d : Dependency) (c : Candidate) → meets_dependency d c ≡ true → offers_name d.name c ≡ true
 meets_offers d c h = elim (or_true (meets_by_own_name d c) (list_any (is_met_by_entry d) c.provides) h) [
@@ -50,32 +36,36 @@ meets_offered pool d m h =
     subst (λ (o : ℕ). IsMember o (places_offering d.name pool.candidates)) z
     (in_places 0 (offers_name d.name) pool.candidates m (mono_at (meets_dependency d) (offers_name d.name) (slice_get pool.candidates m) (meets_offers d) h))
 
--- no choice that offers the name meets the dependency, so none does
-pub unmet_if : (pool : SealedPool) (chosen : List ℕ) (d : Dependency) → ((k : ℕ) → IsMember k (places_offering d.name pool.candidates) → IsMember k chosen → meets_at pool k (entry d) ≡ true → ⊥) → is_met pool chosen (entry d) ≡ false
-unmet_if pool chosen d none = elim (bool_cases (is_met pool chosen (entry d))) [
-  | inl e ↦ let r = any_in (λ c. meets_at pool c (entry d)) chosen e in absurd (none r.0 (meets_offered pool d r.0 r.2) r.1 r.2)
-  | inr e ↦ e
-]
-
--- the known candidate at a place meets what the place meets
-pub meets_there : (pool : SealedPool) (m : ℕ) (d : Dependency) (c : Candidate) → slice_get pool.candidates m ≡ Some c → meets_at pool m (entry d) ≡ meets_dependency d c
-meets_there pool m d c e = ap (λ (o : Option Candidate). option_map_or (meets_dependency d) o false) e
-
 pub in_more : (P : ℕ → Type 0) (xs : List ℕ) (x : ℕ) → ((k : ℕ) → IsMember k xs → P k) → P x → (k : ℕ) → IsMember k (xs ++ x ∷ []) → P k
 in_more P xs x all here k h = elim (in_append k xs (x ∷ []) h) [
   | inl a ↦ all k a
   | inr b ↦ elim b [ inl e ↦ subst P (sym e) here | inr bad ↦ absurd bad ]
 ]
 
-pub named_offered : (pool : SealedPool) (name : List ℕ) (m : ℕ) → meets_at pool m (named name) ≡ true → IsMember m (places_offering name pool.candidates)
+named_offered : (pool : SealedPool) (name : List ℕ) (m : ℕ) → meets_at pool m (named name) ≡ true → IsMember m (places_offering name pool.candidates)
 named_offered pool name m h =
     let z : 0 + m ≡ m = omega arith in
     subst (λ (o : ℕ). IsMember o (places_offering name pool.candidates)) z
     (in_places 0 (offers_name name) pool.candidates m (mono_at (λ (c : Candidate). bytes_eq name c.name) (offers_name name) (slice_get pool.candidates m) (λ c e. true_or (bytes_eq name c.name) _ (inl e)) h))
 
--- no choice that offers the name has it, so none has
-pub unnamed_if : (pool : SealedPool) (chosen : List ℕ) (name : List ℕ) → ((k : ℕ) → IsMember k (places_offering name pool.candidates) → IsMember k chosen → meets_at pool k (named name) ≡ true → ⊥) → is_met pool chosen (named name) ≡ false
-unnamed_if pool chosen name none = elim (bool_cases (is_met pool chosen (named name))) [
-  | inl e ↦ let r = any_in (λ c. meets_at pool c (named name)) chosen e in absurd (none r.0 (named_offered pool name r.0 r.2) r.1 r.2)
+need_offered : (pool : SealedPool) (need : Need) (m : ℕ) → meets_at pool m need ≡ true → IsMember m (places_offering (need_name need) pool.candidates)
+need_offered pool (entry d) m h = meets_offered pool d m h
+need_offered pool (named name) m h = named_offered pool name m h
+
+not_both : (b : Bool) → b ≡ false → b ≡ true → ⊥
+not_both true e h = cc
+not_both false e h = cc
+
+-- no choice meets the need, looked for among all choices
+pub unmet_among_all : (pool : SealedPool) (chosen : List ℕ) (need : Need) → ((k : ℕ) → IsMember k chosen → meets_at pool k need ≡ false) → is_met pool chosen need ≡ false
+unmet_among_all pool chosen need none = elim (bool_cases (is_met pool chosen need)) [
+  | inl e ↦ let r = any_in (λ c. meets_at pool c need) chosen e in absurd (not_both (meets_at pool r.0 need) (none r.0 r.1) r.2)
+  | inr e ↦ e
+]
+
+-- the same, among those that offer its name
+pub unmet_among_offers : (pool : SealedPool) (chosen : List ℕ) (need : Need) → ((k : ℕ) → IsMember k (places_offering (need_name need) pool.candidates) → IsMember k chosen → meets_at pool k need ≡ false) → is_met pool chosen need ≡ false
+unmet_among_offers pool chosen need none = elim (bool_cases (is_met pool chosen need)) [
+  | inl e ↦ let r = any_in (λ c. meets_at pool c need) chosen e in absurd (not_both (meets_at pool r.0 need) (none r.0 (need_offered pool need r.0 r.2) r.1) r.2)
   | inr e ↦ e
 ]

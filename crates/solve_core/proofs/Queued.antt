@@ -1,6 +1,6 @@
 -- The queue of raised dependencies, a choice at a time.
 use Rattle.std.proofs.Common.{◌≡◌, inl, inr, ℕ, zero, suc, ◌+◌, ◌≤◌, ◌<◌, Bool, true, false, List, [], ◌∷◌, ◌++◌, length, take, map, refl, sym, subst, ap, ◌∙◌, arith, append_assoc, append-nil, length-append}
-use Rattle.std.specs.Prelude.{Option, Some, None, not, ◌||◌, slice_get}
+use Rattle.std.specs.Prelude.{Option, Some, None, not, ◌&&◌, ◌||◌, slice_get}
 use Rattle.std.specs.List.{filter, find, flat_map, list_any}
 use Rattle.dep_core.specs.Dependency.{Dependency}
 use Rattle.pool_core.specs.Candidates.{entry}
@@ -21,11 +21,12 @@ pub filtered : {X : Type 0} (p : X → Bool) (xs ys : List X) → filter p (xs +
 filtered p [] ys = refl
 filtered {X} p (x ∷ xs) ys = elim (bool_cases (p x)) [ inl t ↦ rw t (ap (λ (z : List X). x ∷ z) (filtered p xs ys)) | inr t ↦ rw t (filtered p xs ys) ]
 
-pub filter_twice : {X : Type 0} (p : X → Bool) (xs : List X) → filter p (filter p xs) ≡ filter p xs
-filter_twice p [] = refl
-filter_twice {X} p (x ∷ xs) = elim (bool_cases (p x)) [ inl t ↦ rw t (rw t (ap (λ (z : List X). x ∷ z) (filter_twice p xs))) | inr t ↦ rw t (filter_twice p xs) ]
+-- one of those that pass a test
+pub any_filter : {X : Type 0} (q p : X → Bool) (xs : List X) → list_any p (filter q xs) ≡ list_any (λ x. q x && p x) xs
+any_filter q p [] = refl
+any_filter q p (x ∷ xs) = elim (bool_cases (q x)) [ inl t ↦ rw t (ap (λ b. p x || b) (any_filter q p xs)) | inr t ↦ rw t (any_filter q p xs) ]
 
-mapped : {X Y : Type 0} (f : X → Y) (xs ys : List X) → map f (xs ++ ys) ≡ map f xs ++ map f ys
+pub mapped : {X Y : Type 0} (f : X → Y) (xs ys : List X) → map f (xs ++ ys) ≡ map f xs ++ map f ys
 mapped f [] ys = refl
 mapped {X} {Y} f (x ∷ xs) ys = ap (λ (z : List Y). f x ∷ z) (mapped f xs ys)
 
@@ -38,11 +39,11 @@ raised_needs-append by xs ys =
     ∙ mapped (λ (d : Dependency). (d, by)) (filter (λ (d : Dependency). not d.conflict) xs) (filter (λ (d : Dependency). not d.conflict) ys)
 
 -- a queue with one more dependency, in a loop over some
-pub queued_more : (X : Type 0) (seen : X → Dependency) (by : Option ℕ) (start before after : List RaisedDepValue) (done more : List X) (x : X) → before ≡ start ++ raised_deps by (map seen done) → after ≡ before ++ raised_deps by (seen x ∷ []) → more ≡ done ++ x ∷ [] → after ≡ start ++ raised_deps by (map seen more)
-queued_more X seen by start before after done more x was is e =
-    is ∙ (ap (λ (z : List RaisedDepValue). z ++ raised_deps by (seen x ∷ [])) was
-    ∙ (append_assoc start (raised_deps by (map seen done)) (raised_deps by (seen x ∷ []))
-    ∙ ap (λ (z : List RaisedDepValue). start ++ z) (sym (raised_needs-append by (map seen done) (seen x ∷ [])) ∙ ap (raised_deps by) (sym (mapped seen done (x ∷ [])) ∙ ap (map seen) (sym e)))))
+pub queued_more : (by : Option ℕ) (start before after : List RaisedDepValue) (done more : List Dependency) (d : Dependency) → before ≡ start ++ raised_deps by done → after ≡ before ++ raised_deps by (d ∷ []) → more ≡ done ++ d ∷ [] → after ≡ start ++ raised_deps by more
+queued_more by start before after done more d was is e =
+    is ∙ (ap (λ (z : List RaisedDepValue). z ++ raised_deps by (d ∷ [])) was
+    ∙ (append_assoc start (raised_deps by done) (raised_deps by (d ∷ []))
+    ∙ ap (λ (z : List RaisedDepValue). start ++ z) (sym (raised_needs-append by done (d ∷ [])) ∙ ap (raised_deps by) (sym e))))
 
 flat_more : (f : ℕ → List RaisedDepValue) (t : List ℕ) (c : ℕ) → flat_map f (t ++ c ∷ []) ≡ flat_map f t ++ f c
 flat_more f [] c = append-nil (f c)

@@ -3,7 +3,7 @@ use Rattle.std.proofs.Common.{◌≡◌, inl, inr, ℕ, Bool, true, false, List,
 use Rattle.std.specs.Prelude.{Option, Some, None, ◌&&◌, is_some, MatchOption}
 use Rattle.std.specs.List.{list_all}
 use Rattle.dep_core.specs.Dependency.{Dependency}
-use Rattle.pool_core.specs.Candidates.{entry}
+use Rattle.pool_core.specs.Candidates.{Need, entry}
 use Rattle.pool_core.specs.Rank.{SealedPool, meets_at}
 use Rattle.pool_core.specs.Options.{IsMember}
 use Rattle.solve_core.specs.Selection.{AreMembers, is_met}
@@ -17,9 +17,9 @@ all_map p f [] = refl
 all_map p f (x ∷ xs) = ap (λ b. p (f x) && b) (all_map p f xs)
 
 module _ (pool : SealedPool) where
-  pub is_met_by : (t : List ℕ) (d : Dependency) (o : Option ℕ) → MatchOption o (is_met pool t (entry d) ≡ false) (λ id. IsMember id t × (meets_at pool id (entry d) ≡ true)) → is_some o ≡ is_met pool t (entry d)
-  is_met_by t d None m = sym m
-  is_met_by t d (Some id) m = sym (one_any (λ c. meets_at pool c (entry d)) t id m.0 m.1)
+  pub is_met_by : (t : List ℕ) (need : Need) (o : Option ℕ) → MatchOption o (is_met pool t need ≡ false) (λ id. IsMember id t × (meets_at pool id need ≡ true)) → is_some o ≡ is_met pool t need
+  is_met_by t need None m = sym m
+  is_met_by t need (Some id) m = sym (one_any (λ c. meets_at pool c need) t id m.0 m.1)
 
   all_split : (t : List ℕ) (xs ys : List Dependency) → all_met pool t (xs ++ ys) ≡ true → (all_met pool t xs ≡ true) × (all_met pool t ys ≡ true)
   all_split t [] ys h = (refl, h)

@@ -1,4 +1,4 @@
--- what the contract of `solve` cites
+-- what the contract of `apk` says
 pub mod Selection
 -- what only serves proofs
 pub mod Reasons

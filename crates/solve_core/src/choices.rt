@@ -18,10 +18,10 @@ use crate::conflicts::Conflicts;
 use crate::exclusion::keeps_out;
 use crate::frame::Frame;
 use crate::install_ifs::InstallIfs;
-use crate::needs::{asks_for_name, choice_meeting, raisers};
+use crate::needs::{asks_for_name, is_met_by_latest_or_other, raisers};
 use crate::queue::{Checkpoint, RaisedDep, queue_all, queue_world};
 use crate::selection::Trace;
-use dep_core::Dep;
+use dep_core::{Dep, World};
 use pool_core::{CandId, Details, NeedRef, Sealed};
 use std::alloc::{AllocError, Global};
 use std::marker::Model;
@@ -44,14 +44,19 @@ pub(crate) struct Choices<'p> {
 }
 
 impl<'p> Choices<'p> {
-    /// No choices.
-    pub(crate) fn new(alloc: Global, pool: &'p Sealed<'p>) -> Result<Choices<'p>, AllocError>
+    /// No choices, under the world that the pool was sealed with.
+    pub(crate) fn new(
+        alloc: Global,
+        pool: &'p Sealed<'p>,
+        world: &'p World,
+    ) -> Result<Choices<'p>, AllocError>
+        requires { world.now ≡ pool.now.world }
         ensures consistent { IfOk result (λ chosen. IsConsistent chosen) }
         ensures pool { IfOk result (λ chosen. pool_of chosen ≡ pool.entry.now) }
         ensures none { IfOk result (λ chosen. choices_of chosen ≡ []) }
     {
         let mut queue = Vec::new(alloc);
-        queue_world(&mut queue, pool.positive_entries())?;
+        queue_world(&mut queue, world)?;
         let install_ifs = InstallIfs::new(alloc, pool)?;
         Ok(Choices {
             alloc,
@@ -81,9 +86,9 @@ impl<'p> Choices<'p> {
             asking_cursor: self.asking_cursor,
         };
         let details = self.pool.details(id);
-        let deps = details.depends().as_slice();
+        let deps = details.depends(self.alloc)?;
         queue_all(&mut self.queue, deps, id)?;
-        self.conflicts.add(deps, id)?;
+        self.conflicts.add(details.conflicts(), id)?;
         self.checkpoints.push(before)?;
         self.choices.push(id)?;
         self.asking_cursor = self.least_rank_asking(details);
@@ -154,7 +159,10 @@ impl<'p> Choices<'p> {
             (pool_of self.now) (choices_of self.now))) }
     {
         match self.front() {
-            Some(raised) => choice_meeting(self.pool, &self.choices, raised.dep()).is_some(),
+            Some(raised) => {
+                let need = NeedRef::Entry(raised.dep());
+                is_met_by_latest_or_other(self.pool, &self.choices, &need)
+            }
             None => false,
         }
     }
@@ -230,12 +238,7 @@ impl<'p> Choices<'p> {
             (choices_of self.now) frame) }
     {
         let details = self.pool.details(id);
-        let by = raisers(
-            self.alloc,
-            self.pool,
-            &self.choices,
-            details.install_if().as_slice(),
-        )?;
+        let by = raisers(self.alloc, self.pool, &self.choices, details.install_if())?;
         let options = self
             .pool
             .options_for(self.alloc, &NeedRef::Named(details.name()))?;
@@ -263,7 +266,7 @@ impl<'p> Choices<'p> {
             ≡ false }
     {
         let own = self.least_rank_waiting(details.name(), self.asking_cursor);
-        self.least_rank_provided(details.provides().as_slice(), own)
+        self.least_rank_provided(details.provides(), own)
     }
 
     // A rank, or the least one in front of it that asks and waits for a name of these entries.
@@ -308,45 +311,10 @@ impl<'p> Choices<'p> {
         least
     }
 
-    /// A choice that no satisfying selection holds beside the candidate. It is looked for among all
-    /// choices where these are fewer than the offers of the candidate's name.
+    /// A choice that no satisfying selection holds beside the candidate. It is looked for among
+    /// those that have a conflict of a name which the candidate offers, that offer a name which it
+    /// occupies, or that offer the name of one of its conflicts.
     pub(crate) fn excluder(&self, id: CandId) -> Option<CandId>
-        requires consistent { IsConsistent self.now }
-        requires within { id < length (pool_of self.now).candidates }
-        ensures { MatchOption result ((other : ℕ) → IsMember other (choices_of self.now) →
-            exclude_each_other (pool_of self.now) other id
-            ≡ false) (λ other. IsMember other (choices_of self.now)
-            × (exclude_each_other (pool_of self.now) other id ≡ true)) }
-    {
-        if self.are_choices_few(id) {
-            return self.excluder_of_all(id);
-        }
-        self.excluder_by_names(id)
-    }
-
-    // Whether there are fewer choices than offers of a candidate's name.
-    fn are_choices_few(&self, id: CandId) -> bool
-        requires { id < length (pool_of self.now).candidates }
-    {
-        let offers = self.pool.offers(self.pool.details(id).name());
-        self.choices.as_slice().len() < offers.len()
-    }
-
-    // The excluder among all choices.
-    fn excluder_of_all(&self, id: CandId) -> Option<CandId>
-        requires consistent { IsConsistent self.now }
-        requires within { id < length (pool_of self.now).candidates }
-        ensures { MatchOption result ((other : ℕ) → IsMember other (choices_of self.now) →
-            exclude_each_other (pool_of self.now) other id
-            ≡ false) (λ other. IsMember other (choices_of self.now)
-            × (exclude_each_other (pool_of self.now) other id ≡ true)) }
-    {
-        self.excluder_among(self.choices.as_slice(), id)
-    }
-
-    // The excluder among the choices that have a conflict of a name which the candidate offers, that
-    // offer a name which it occupies, or that offer the name of one of its conflicts.
-    fn excluder_by_names(&self, id: CandId) -> Option<CandId>
         requires consistent { IsConsistent self.now }
         requires within { id < length (pool_of self.now).candidates }
         ensures { MatchOption result ((other : ℕ) → IsMember other (choices_of self.now) →
@@ -358,14 +326,30 @@ impl<'p> Choices<'p> {
         if let Some(excluder) = self.excluder_named(details.name(), true, id) {
             return Some(excluder);
         }
-        if let Some(excluder) = self.excluder_provided(details.provides().as_slice(), id) {
+        if let Some(excluder) = self.excluder_provided(details.provides(), id) {
             return Some(excluder);
         }
-        self.excluder_offering(details.depends().as_slice(), id)
+        self.excluder_offering(details.conflicts(), id)
     }
 
-    // The first of some candidates that is a choice and excludes another, or is excluded by it.
+    // One of some candidates that is a choice and excludes another, or is excluded by it. It is
+    // looked for among all choices where these are fewer.
     fn excluder_among(&self, ids: &[CandId], id: CandId) -> Option<CandId>
+        requires consistent { IsConsistent self.now }
+        requires within { id < length (pool_of self.now).candidates }
+        ensures { MatchOption result ((k : ℕ) → IsMember k ids.now →
+            IsMember k (choices_of self.now) → exclude_each_other (pool_of self.now) k id
+            ≡ false) (λ other. IsMember other (choices_of self.now)
+            × (exclude_each_other (pool_of self.now) other id ≡ true)) }
+    {
+        let choices = self.choices.as_slice();
+        if choices.len() < ids.len() {
+            return self.first_excluder(choices, id);
+        }
+        self.first_excluder(ids, id)
+    }
+
+    fn first_excluder(&self, ids: &[CandId], id: CandId) -> Option<CandId>
         requires consistent { IsConsistent self.now }
         requires within { id < length (pool_of self.now).candidates }
         ensures { MatchOption result ((k : ℕ) → IsMember k ids.now →
@@ -381,8 +365,8 @@ impl<'p> Choices<'p> {
         None
     }
 
-    // The same among the candidates that have a conflict of a name, and, where it is occupied, those
-    // that offer it.
+    // The same among the candidates that have a conflict of a name, and, where it is occupied,
+    // those that offer it.
     fn excluder_named(&self, name: &[u8], is_occupied: bool, id: CandId) -> Option<CandId>
         requires consistent { IsConsistent self.now }
         requires within { id < length (pool_of self.now).candidates }
@@ -400,7 +384,7 @@ impl<'p> Choices<'p> {
         None
     }
 
-    // The same at the names of some entries of provides, of which those with a version are occupied.
+    // The same at the names of some entries of provides: those with a version are occupied.
     fn excluder_provided(&self, provides: &[Dep<'_>], id: CandId) -> Option<CandId>
         requires consistent { IsConsistent self.now }
         requires within { id < length (pool_of self.now).candidates }
@@ -421,38 +405,23 @@ impl<'p> Choices<'p> {
     }
 
     // The same among the candidates that offer the name of a conflict.
-    fn excluder_offering(&self, deps: &[Dep<'_>], id: CandId) -> Option<CandId>
+    fn excluder_offering(&self, conflicts: &[Dep<'_>], id: CandId) -> Option<CandId>
         requires consistent { IsConsistent self.now }
         requires within { id < length (pool_of self.now).candidates }
         ensures { MatchOption result ((d : Dependency) (k : ℕ) →
-            IsMember d (map dependency deps.now) → d.conflict ≡ true →
+            IsMember d (map dependency conflicts.now) →
             IsMember k (places_offering d.name (pool_of self.now).candidates) →
             IsMember k (choices_of self.now) → exclude_each_other (pool_of self.now) k id
             ≡ false) (λ other. IsMember other (choices_of self.now)
             × (exclude_each_other (pool_of self.now) other id ≡ true)) }
     {
-        for dep in deps {
-            match self.excluder_by_conflict(dep, id) {
+        for dep in conflicts {
+            match self.excluder_among(self.pool.offers(dep.name), id) {
                 Some(excluder) => return Some(excluder),
                 None => {}
             }
         }
         None
-    }
-
-    fn excluder_by_conflict(&self, dep: &Dep<'_>, id: CandId) -> Option<CandId>
-        requires consistent { IsConsistent self.now }
-        requires within { id < length (pool_of self.now).candidates }
-        ensures { MatchOption result ((k : ℕ) → (dependency dep.now).conflict ≡ true →
-            IsMember k (places_offering (dependency dep.now).name (pool_of self.now).candidates) →
-            IsMember k (choices_of self.now) → exclude_each_other (pool_of self.now) k id
-            ≡ false) (λ other. IsMember other (choices_of self.now)
-            × (exclude_each_other (pool_of self.now) other id ≡ true)) }
-    {
-        if !dep.conflict {
-            return None;
-        }
-        self.excluder_among(self.pool.offers(dep.name), id)
     }
 
     fn is_excluding_choice(&self, other: CandId, id: CandId) -> bool

@@ -20,29 +20,18 @@ pub(crate) fn keeps_out(one: &Details<'_>, other: &Details<'_>) -> bool
 }
 
 // Whether a conflict of one is met by the other.
-#[tactic(auto, using(crate::proofs::Queued::any_map))]
 fn excludes(one: &Details<'_>, other: &Details<'_>) -> bool
     ensures { result ≡ list_any (λ (d : Dependency). d.conflict
         && meets_dependency d other.now) one.now.depends }
 {
-    any_excludes(one.depends().as_slice(), other)
+    any_met(one.conflicts(), other)
 }
 
-fn any_excludes(deps: &[Dep<'_>], other: &Details<'_>) -> bool
-    ensures { result ≡ list_any (λ dep. (dependency dep).conflict
-        && meets_dependency (dependency dep) other.now) deps.now }
+fn any_met(conflicts: &[Dep<'_>], other: &Details<'_>) -> bool
+    ensures { result ≡ list_any (λ dep. meets_dependency (dependency dep) other.now)
+        conflicts.now }
 {
-    deps.iter().any(|dep| is_excluded(dep, other))
-}
-
-fn is_excluded(dep: &Dep<'_>, other: &Details<'_>) -> bool
-    ensures { result ≡ ((dependency dep.now).conflict && meets_dependency
-        (dependency dep.now) other.now) }
-{
-    if !dep.conflict {
-        return false;
-    }
-    other.meets(dep)
+    conflicts.iter().any(|dep| other.meets(dep))
 }
 
 // Whether both occupy a name.
@@ -52,7 +41,7 @@ fn shares(one: &Details<'_>, other: &Details<'_>) -> bool
     if other.occupies(one.name()) {
         return true;
     }
-    any_shared(one.provides().as_slice(), other)
+    any_shared(one.provides(), other)
 }
 
 fn any_shared(provides: &[Dep<'_>], other: &Details<'_>) -> bool

@@ -1,14 +1,12 @@
 //! The candidates whose install-if can come to apply, and which of them wait for a name.
-ghost use Rattle.std.specs.Prelude.{◌≡◌, ◌≤◌, ◌<◌, ℕ, List, length, get_or, map, true, false, IfOk, OnOk, slice_get};
+ghost use Rattle.std.specs.Prelude.{◌≡◌, ◌≤◌, ◌<◌, ℕ, List, length, get_or, true, false, IfOk, OnOk, slice_get};
 ghost use Rattle.dep_core.specs.Dependency.{Dependency};
-ghost use Rattle.dep_core.specs.Meets.{dependency};
 ghost use Rattle.pool_core.specs.Options.{AreMembers, IsMember};
 ghost use Rattle.pool_core.specs.Rank.{byte_cmp};
 ghost use Rattle.solve_core.specs.InstallIf.{AreInstallIfs, has_lesser_name, install_if_at, is_usable_at, name_at};
 ghost use Rattle.solve_core.specs.NameTable.{items_of};
 
 use crate::name_table::NameTable;
-use dep_core::Dep;
 use pool_core::{CandId, Sealed};
 use std::alloc::{AllocError, Global};
 use std::cmp::Ordering;
@@ -93,24 +91,7 @@ fn add_install_if<'p>(
         IsMember rank (items_of waiting.new d.name)) }
 {
     if let Some(details) = pool.at(id) {
-        add_entries(waiting, details.install_if().as_slice(), rank)?;
-    }
-    Ok(())
-}
-
-fn add_entries<'p>(
-    waiting: &mut NameTable<'p, usize>,
-    entries: &'p [Dep<'p>],
-    rank: usize,
-) -> Result<(), AllocError>
-    ensures more { OnOk result ((name : List ℕ) →
-        AreMembers (items_of waiting.old name) (items_of waiting.new name)) }
-    ensures each { OnOk result ((d : Dependency) →
-        IsMember d (map dependency entries.entry.now) →
-        IsMember rank (items_of waiting.new d.name)) }
-{
-    for entry in entries {
-        waiting.add(entry.name, rank)?;
+        waiting.add_all(details.install_if(), rank)?;
     }
     Ok(())
 }

@@ -1,8 +1,12 @@
 //! Items by name, each name's in the order in which they were added. It borrows the names.
-ghost use Rattle.std.specs.Prelude.{◌≡◌, ℕ, List, [], ◌∷◌, ◌++◌, OnOk, if◌then◌else◌};
+ghost use Rattle.std.specs.Prelude.{◌≡◌, ℕ, List, [], ◌∷◌, ◌++◌, map, OnOk, if◌then◌else◌};
 ghost use Rattle.std.specs.Str.{bytes_eq};
+ghost use Rattle.dep_core.specs.Dependency.{Dependency};
+ghost use Rattle.dep_core.specs.Meets.{dependency};
+ghost use Rattle.pool_core.specs.Options.{AreMembers, IsMember};
 ghost use Rattle.solve_core.specs.NameTable.{items_of};
 
+use dep_core::Dep;
 use indexmap::IndexMap;
 use std::alloc::{AllocError, Global};
 use std::marker::Model;
@@ -62,5 +66,18 @@ impl<'p, T: Copy> NameTable<'p, T> {
                 Ok(())
             }
         }
+    }
+
+    /// Adds an item behind those of the name of each of some dependencies.
+    pub(crate) fn add_all(&mut self, deps: &'p [Dep<'p>], item: T) -> Result<(), AllocError>
+        ensures more { OnOk result ((name : List ℕ) →
+            AreMembers (items_of self.old name) (items_of self.new name)) }
+        ensures each { OnOk result ((d : Dependency) → IsMember d (map dependency deps.entry.now) →
+            IsMember item (items_of self.new d.name)) }
+    {
+        for dep in deps {
+            self.add(dep.name, item)?;
+        }
+        Ok(())
     }
 }

@@ -3,7 +3,7 @@ ghost use Rattle.std.specs.Prelude.{◌≡◌, ◌∷◌, ◌++◌, [], map, OnO
 ghost use Rattle.dep_core.specs.Meets.{dependency};
 ghost use Rattle.solve_core.specs.Queue.{raised_deps};
 
-use dep_core::Dep;
+use dep_core::{Dep, World};
 use pool_core::CandId;
 use std::alloc::AllocError;
 use std::marker::Model;
@@ -11,7 +11,7 @@ use std::marker::Model;
 /// A dependency that has to be met, and the choice that has it, if it is none of world's.
 #[derive(Drop)]
 pub(crate) struct RaisedDep<'p> {
-    dep: &'p Dep<'p>,
+    dep: Dep<'p>,
     by: Option<CandId>,
 }
 
@@ -21,15 +21,15 @@ impl<'p> Model for RaisedDep<'p> {
 
     ghost Value = { RaisedDepValue };
 
-    ghost view = { λ r. (dependency r.dep.now, r.by) };
+    ghost view = { λ r. (dependency r.dep, r.by) };
 }
 
 impl<'p> RaisedDep<'p> {
     /// The dependency.
-    pub(crate) fn dep(&self) -> &'p Dep<'p>
+    pub(crate) fn dep(&self) -> &Dep<'p>
         ensures { dependency result.now ≡ self.now.0 }
     {
-        self.dep
+        &self.dep
     }
 
     /// The choice that has it; of an entry of world there is none.
@@ -51,13 +51,13 @@ pub(crate) struct Checkpoint {
 /// Queues what world asks for.
 pub(crate) fn queue_world<'p>(
     queue: &mut Vec<RaisedDep<'p>>,
-    deps: &'p [Dep<'p>],
+    world: &'p World,
 ) -> Result<(), AllocError>
     ensures { OnOk result (queue.new.items ≡ queue.old.items
-        ++ raised_deps None (map dependency deps.entry.now)) }
+        ++ raised_deps None world.entry.now) }
 {
-    for dep in deps {
-        queue_one(queue, dep, None)?;
+    for i in 0..world.len() {
+        queue_one(queue, world.entry(i), None)?;
     }
     Ok(())
 }
@@ -65,11 +65,11 @@ pub(crate) fn queue_world<'p>(
 /// Queues the dependencies of a choice that are no conflicts.
 pub(crate) fn queue_all<'p>(
     queue: &mut Vec<RaisedDep<'p>>,
-    deps: &'p [Dep<'p>],
+    deps: Vec<Dep<'p>>,
     by: CandId,
 ) -> Result<(), AllocError>
     ensures { OnOk result (queue.new.items ≡ queue.old.items
-        ++ raised_deps (Some by) (map dependency deps.entry.now)) }
+        ++ raised_deps (Some by) (map dependency deps.entry.items)) }
 {
     for dep in deps {
         queue_one(queue, dep, Some(by))?;
@@ -79,11 +79,11 @@ pub(crate) fn queue_all<'p>(
 
 fn queue_one<'p>(
     queue: &mut Vec<RaisedDep<'p>>,
-    dep: &'p Dep<'p>,
+    dep: Dep<'p>,
     by: Option<CandId>,
 ) -> Result<(), AllocError>
     ensures { OnOk result (queue.new.items ≡ queue.old.items
-        ++ raised_deps by (dependency dep.entry.now ∷ [])) }
+        ++ raised_deps by (dependency dep.entry ∷ [])) }
 {
     if !dep.conflict {
         queue.push(RaisedDep { dep, by })?;

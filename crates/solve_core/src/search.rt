@@ -10,6 +10,7 @@ use crate::candidate_set::CandidateSet;
 use crate::choices::Choices;
 use crate::frame::{Frame, RuledOutOption};
 use crate::selection::{Trace, options_are_as_promised};
+use dep_core::World;
 use pool_core::{CandId, Sealed};
 use std::alloc::{AllocError, Global};
 use std::marker::Model;
@@ -57,13 +58,18 @@ pub(crate) struct Search<'p> {
 }
 
 impl<'p> Search<'p> {
-    /// A search without choices.
-    pub(crate) fn new(alloc: Global, pool: &'p Sealed<'p>) -> Result<Search<'p>, AllocError>
+    /// A search without choices, under the world that the pool was sealed with.
+    pub(crate) fn new(
+        alloc: Global,
+        pool: &'p Sealed<'p>,
+        world: &'p World,
+    ) -> Result<Search<'p>, AllocError>
+        requires { world.now ≡ pool.now.world }
         ensures search { IfOk result (λ search. IsSearch search.chosen search.turns.items) }
         ensures pool { IfOk result (λ search. pool_of search.chosen ≡ pool.entry.now) }
         ensures none { IfOk result (λ search. search.turns.items ≡ []) }
     {
-        let chosen = Choices::new(alloc, pool)?;
+        let chosen = Choices::new(alloc, pool, world)?;
         Ok(Search {
             alloc,
             chosen,

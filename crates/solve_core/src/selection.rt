@@ -59,19 +59,19 @@ pub(crate) fn options_are_as_promised()
 
 /// The first preferred selection of the world that the pool was sealed with, in the order of its
 /// walk. None comes only where no selection satisfies it, and want of memory may stand for either
-/// answer. The world is not read again: a call names it, so that it shows which world is satisfied.
+/// answer.
 pub fn solve(alloc: Global, pool: &Sealed<'_>, world: &World) -> Result<Option<Trace>, AllocError>
     requires { world.now ≡ pool.now.world }
     ensures { IfOk result (λ found. MatchOption found
         ((selection : List ℕ) → IsSatisfying pool.now selection → ⊥)
         (λ trace. IsFirstSelection pool.now trace)) }
 {
-    let mut search = Search::new(alloc, pool)?;
+    let mut search = Search::new(alloc, pool, world)?;
     first_selection(alloc, &mut search)
 }
 
-// The first selection, by a search without choices. It borrows the search, so that it has nothing of
-// it to give back where it ends early.
+// The first selection, by a search without choices. It borrows the search, so that it has nothing
+// of it to give back where it ends early.
 fn first_selection(alloc: Global, search: &mut Search<'_>) -> Result<Option<Trace>, AllocError>
     requires { IsSearch search.old.chosen search.old.turns.items }
     ensures { IfOk result (λ found. MatchOption found ((selection : List ℕ) →

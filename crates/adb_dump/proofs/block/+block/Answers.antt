@@ -8,31 +8,34 @@ use Rattle.adb_dump.specs.Margin.{lines_at}
 use Rattle.adb_tables.specs.Values.{value_at}
 use Rattle.adb_view.specs.Adb.{payload_of}
 use Rattle.adb_view.specs.Entries.{array_entries}
-use Rattle.adb_dump.proofs.Puts.{on_ok_then, puts_on, puts_told, so_far_all, so_far_more}
+use Rattle.adb_dump.proofs.Puts.{on_ok_then, puts_on, puts_told, so_far_all, so_far_more, so_far_none}
 use Rattle.adb_dump.proofs.Turns.{entries_end, entries_later, entry_turn, field_behind, field_below, field_turn, fields_end, words_end}
 use Rattle.adb_dump.proofs.Left.{fields_later}
 use Rattle.adb_dump.proofs.block.+block.Goals as goal
 
 pub write_entries-returns : goal.write_entries-returns
 write_entries-returns g t c =
-    so_far_all (g.O.Out.holds) _ _ _ _ (entries_end c.args.start.depth c.loop-i.begun (payload_of c.args.adb) c.args.kind (array_entries c.args.words) c.loop-i.i (omega (arith, c.len-i-end.ensures.value, c.loop-i-test.false))) c.loop-i.invariant.so_far
+    so_far_all (g.O.Out.holds (payload_of c.args.adb)) _ _ _ _ (entries_end c.args.start.depth c.loop-i.begun (payload_of c.args.adb) c.args.kind (array_entries c.args.words) c.loop-i.i (omega (arith, c.len-i-end.ensures.value, c.loop-i-test.false))) c.loop-i.invariant.so_far
 
 pub write_fields-returns-after-loop-i : goal.write_fields-returns-after-loop-i
-write_fields-returns-after-loop-i g t c = so_far_all (g.O.Out.holds) _ _ _ _ (fields_end c.args.start.depth c.loop-i.begun (payload_of c.args.adb) c.args.fields.now (array_entries c.args.words) c.loop-i.i c.loop-i-test.false) c.loop-i.invariant.so_far
+write_fields-returns-after-loop-i g t c = so_far_all (g.O.Out.holds (payload_of c.args.adb)) _ _ _ _ (fields_end c.args.start.depth c.loop-i.begun (payload_of c.args.adb) c.args.fields.now (array_entries c.args.words) c.loop-i.i c.loop-i-test.false) c.loop-i.invariant.so_far
 
 pub write_fields-returns-then-i-len : goal.write_fields-returns-then-i-len
 write_fields-returns-then-i-len g t c =
-    so_far_all (g.O.Out.holds) _ _ _ _ (words_end c.args.start.depth c.loop-i.begun (payload_of c.args.adb) c.args.fields.now (array_entries c.args.words) c.loop-i.i (omega (arith, c.len.ensures.value, c.if-i-len.true))) c.loop-i.invariant.so_far
+    so_far_all (g.O.Out.holds (payload_of c.args.adb)) _ _ _ _ (words_end c.args.start.depth c.loop-i.begun (payload_of c.args.adb) c.args.fields.now (array_entries c.args.words) c.loop-i.i (omega (arith, c.len.ensures.value, c.if-i-len.true))) c.loop-i.invariant.so_far
 
 pub write_field-returns-in_ok-put : goal.write_field-returns-in_ok-put
 write_field-returns-in_ok-put g t c =
-    on_ok_then _ _ _ (λ block. puts_told (g.O.Out.holds) _ _ _ _ (field_behind c.args.field.kind c.args.start.depth c.args.start.begun _ (value_at (payload_of c.args.adb) c.args.field.kind c.args.word) (sym c.has_one_line.ensures ∙ c.if-has_one_line.true))
-    (puts_on (g.O.Out.holds) _ _ _ _ _ (puts_on (g.O.Out.holds) _ _ _ _ _ c.in_ok-write_name.ensures c.in_ok-put.ensures) block)) c.write_block.ensures
+    on_ok_then _ _ _ (λ block. puts_told (g.O.Out.holds (payload_of c.args.adb)) _ _ _ _ (field_behind c.args.field.kind c.args.start.depth c.args.start.begun _ (value_at (payload_of c.args.adb) c.args.field.kind c.args.word) (sym c.has_one_line.ensures ∙ c.if-has_one_line.true))
+    (puts_on (g.O.Out.holds (payload_of c.args.adb)) _ _ _ _ _ (puts_on (g.O.Out.holds (payload_of c.args.adb)) _ _ _ _ _ (c.in_ok-write_name.ensures (payload_of c.args.adb)) (c.in_ok-put.ensures (payload_of c.args.adb))) block)) c.write_block.ensures
 
 pub write_field-returns-in_ok-put-2 : goal.write_field-returns-in_ok-put-2
 write_field-returns-in_ok-put-2 g t c =
-    on_ok_then _ _ _ (λ block. puts_told (g.O.Out.holds) _ _ _ _ (field_below c.args.field.kind c.args.start.depth c.args.start.begun _ (value_at (payload_of c.args.adb) c.args.field.kind c.args.word) (sym c.has_one_line.ensures ∙ c.if-has_one_line.false))
-    (puts_on (g.O.Out.holds) _ _ _ _ _ (puts_on (g.O.Out.holds) _ _ _ _ _ c.in_ok-write_name.ensures c.in_ok-put-2.ensures) block)) c.write_block-else-has_one_line.ensures
+    on_ok_then _ _ _ (λ block. puts_told (g.O.Out.holds (payload_of c.args.adb)) _ _ _ _ (field_below c.args.field.kind c.args.start.depth c.args.start.begun _ (value_at (payload_of c.args.adb) c.args.field.kind c.args.word) (sym c.has_one_line.ensures ∙ c.if-has_one_line.false))
+    (puts_on (g.O.Out.holds (payload_of c.args.adb)) _ _ _ _ _ (puts_on (g.O.Out.holds (payload_of c.args.adb)) _ _ _ _ _ (c.in_ok-write_name.ensures (payload_of c.args.adb)) (c.in_ok-put-2.ensures (payload_of c.args.adb))) block)) c.write_block-else-has_one_line.ensures
+
+pub write_entries-loop-i-init : goal.write_entries-loop-i-init
+write_entries-loop-i-init g t c = record { sound = c.requires.sound; so_far = so_far_none (g.O.Out.holds (payload_of c.args.adb)) _ _ }
 
 pub write_entries-loop-i-preserved : goal.write_entries-loop-i-preserved
 write_entries-loop-i-preserved g t c =
@@ -42,9 +45,9 @@ write_entries-loop-i-preserved g t c =
     record {
       sound = entries_later payload c.args.kind words c.loop-i.i before c.loop-i.invariant.sound;
       so_far =
-          so_far_more (g.O.Out.holds) _ _ _ _ _ _ _ (entry_turn c.args.start.depth c.loop-i.begun payload c.args.kind words c.loop-i.i before c.loop-i.invariant.sound)
-          (puts_on (g.O.Out.holds) _ _ _ _ _ c.in_ok-write_dash.ensures
-          (puts_told (g.O.Out.holds) _ _ _ _ (ap (λ (w : ℕ). lines_at (c.args.start.depth + 1) true (or_null (value_at payload c.args.kind w) (block_lines (shape_of c.args.kind) (value_at payload c.args.kind w)))) c.entry_word.ensures) c.in_ok-write_entry.ensures))
+          so_far_more (g.O.Out.holds (payload_of c.args.adb)) _ _ _ _ _ _ _ (entry_turn c.args.start.depth c.loop-i.begun payload c.args.kind words c.loop-i.i before c.loop-i.invariant.sound)
+          (puts_on (g.O.Out.holds (payload_of c.args.adb)) _ _ _ _ _ (c.in_ok-write_dash.ensures (payload_of c.args.adb))
+          (puts_told (g.O.Out.holds (payload_of c.args.adb)) _ _ _ _ (ap (λ (w : ℕ). lines_at (c.args.start.depth + 1) true (or_null (value_at payload c.args.kind w) (block_lines (shape_of c.args.kind) (value_at payload c.args.kind w)))) c.entry_word.ensures) c.in_ok-write_entry.ensures))
           c.loop-i.invariant.so_far;
     }
 
@@ -58,6 +61,6 @@ write_fields-loop-i-preserved g t c =
     record {
       sound = fields_later payload fields words c.loop-i.i first c.loop-i-test.true within c.loop-i.invariant.sound;
       so_far =
-          so_far_more (g.O.Out.holds) _ _ _ _ _ _ _ (field_turn c.args.start.depth c.loop-i.begun payload fields words c.loop-i.i c.entry_word-word.result first c.loop-i-test.true within c.entry_word-word.ensures c.loop-i.invariant.sound (sym c.is_null.ensures ∙ c.if-is_null.false))
+          so_far_more (g.O.Out.holds (payload_of c.args.adb)) _ _ _ _ _ _ _ (field_turn c.args.start.depth c.loop-i.begun payload fields words c.loop-i.i c.entry_word-word.result first c.loop-i-test.true within c.entry_word-word.ensures c.loop-i.invariant.sound (sym c.is_null.ensures ∙ c.if-is_null.false))
           c.in_ok-write_field.ensures c.loop-i.invariant.so_far;
     }

@@ -1,6 +1,6 @@
 use Rattle.adb_dump.proofs.Placed.{laid_line}
-use Rattle.adb_dump.proofs.Puts.{puts_on, puts_told}
+use Rattle.adb_dump.proofs.Puts.{any_on, any_told}
 use Rattle.adb_dump.proofs.line.write_hash_line.Goals as goal
 
 pub returns : goal.returns
-returns g c = puts_told (g.O.Out.holds) _ _ _ _ (laid_line c.args.start.depth c.args.start.begun _) (puts_on (g.O.Out.holds) _ _ _ _ _ (puts_on (g.O.Out.holds) _ _ _ _ _ (c.in_ok-write_lead.ensures) (c.in_ok-write_hex.ensures)) (c.in_ok-put.ensures))
+returns g c = any_told (g.O.Out.holds) _ _ _ _ (laid_line c.args.start.depth c.args.start.begun _) (any_on (g.O.Out.holds) _ _ _ _ _ (any_on (g.O.Out.holds) _ _ _ _ _ (c.in_ok-write_lead.ensures) (c.in_ok-put_hash.ensures)) (c.in_ok-put.ensures))

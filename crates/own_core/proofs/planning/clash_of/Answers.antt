@@ -15,7 +15,7 @@ use Rattle.own_core.specs.WritesSeen.{HaveNamesBeside}
 use Rattle.own_core.proofs.ChangeClaims.{after_sorted, before_sorted}
 use Rattle.own_core.proofs.NameChanges.{all_written}
 use Rattle.own_core.proofs.PartsMeaning as Parts
-use Rattle.own_core.proofs.PlanParts.{clash_is, sorted_list, written_named}
+use Rattle.own_core.proofs.PlanParts.{clash_is, clash_may, sorted_list, written_named}
 use Rattle.own_core.proofs.planning.clash_of.Goals as goal
 
 pub names_beside-requires : goal.names_beside-requires
@@ -53,3 +53,15 @@ returns-clause-clash g c =
     (λ name. ap (λ (xs : List Claim). is_some (find (is_of_path name) (claims_before c.args.change.now))
     && not (is_some (find (is_of_path name) (claims_after c.args.change.now)) || is_some (find (is_of_path name) (map claim_seen xs)))) c.deref-2.ensures.value)
     c.first_clash.result c.first_clash.ensures.first
+
+pub returns-clause-may : goal.returns-clause-may
+returns-clause-may g c =
+    clash_may c.args.change.now c.args.parts.now
+    (λ name. list_any (bytes_eq name) (map joined_path c.deref-3.result.now))
+    (λ name. is_some (find (is_of_path name) (claims_before c.args.change.now))
+    && not (is_some (find (is_of_path name) (claims_after c.args.change.now)) || is_some (find (is_of_path name) (map claim_seen c.deref-2.result.now))))
+    (λ name. ap (list_any (bytes_eq name)) (ap (map joined_path) c.deref-3.ensures.value ∙ (c.in_ok-written.ensures
+    ∙ ap (λ besides. sorted_by bytes_cmp (all_written c.args.change.now besides)) (c.in_ok-besides.ensures ∙ ap (λ (xs : List Claim). map (λ d. aside_name d.path) (map claim_seen xs)) c.deref.ensures.value))))
+    (λ name. ap (λ (xs : List Claim). is_some (find (is_of_path name) (claims_before c.args.change.now))
+    && not (is_some (find (is_of_path name) (claims_after c.args.change.now)) || is_some (find (is_of_path name) (map claim_seen xs)))) c.deref-2.ensures.value)
+    c.first_clash.result c.first_clash.ensures.may

@@ -12,4 +12,4 @@ returns-then-occupies c =
 pub returns : goal.returns
 returns c =
     let h : occupies_name c.args.one.now.name c.args.other.now ≡ false = ap (λ (n : List ℕ). occupies_name n c.args.other.now) (sym c.name.ensures) ∙ (sym c.occupies.ensures ∙ c.if-occupies.false) in
-    c.any_shared.ensures ∙ occupied_rest Dep dependency c.args.one.now c.args.other.now c.as_slice.result.now (c.as_slice.ensures ∙ c.provides.ensures) h
+    c.any_shared.ensures ∙ occupied_rest Dep dependency c.args.one.now c.args.other.now c.provides.result.now c.provides.ensures h

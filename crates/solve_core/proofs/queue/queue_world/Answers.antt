@@ -1,23 +1,22 @@
-use Rattle.std.proofs.Common.{◌≡◌, ◌≤◌, ◌+◌, ◌∙◌, ◌++◌, ◌∷◌, [], List, take, map, subst, sym, ap, length, arith, append-nil}
+use Rattle.std.proofs.Common.{◌≡◌, ◌≤◌, List, length, subst, sym, arith, append-nil, ◌++◌}
 use Rattle.std.specs.Prelude.{None}
-use Rattle.std.proofs.lemmas.List.{take_more, take_all}
+use Rattle.std.proofs.lemmas.List.{take_all}
+use Rattle.dep_core.specs.Dependency.{Dependency}
 use Rattle.dep_core.specs.Meets.{dependency}
-use Rattle.dep_core.specs.declared.dep.Dep.{Dep}
+use Rattle.pool_core.proofs.Steps.{take_one_more}
 use Rattle.solve_core.specs.Queue.{raised_deps}
 use Rattle.solve_core.proofs.Queued.{queued_more}
 use Rattle.solve_core.proofs.queue.queue_world.Goals as goal
 
-pub loop-dep-init : goal.loop-dep-init
-loop-dep-init c = sym (append-nil c.args.queue.now.items)
+pub loop-i-init : goal.loop-i-init
+loop-i-init c = sym (append-nil c.args.queue.now.items)
 
-pub loop-dep-preserved : goal.loop-dep-preserved
-loop-dep-preserved c =
-    let deps : List Dep = c.args.deps.now in
-    queued_more Dep dependency None c.args.queue.now.items c.loop-dep.queue.items c.queue_one.new.queue.items (take c.loop-dep.dep-index deps) (take (c.loop-dep.dep-index + 1) deps) c.dep-item.result c.loop-dep.invariant c.in_ok-queue_one.ensures
-    (take_more deps c.loop-dep.dep-index c.dep-item.result (omega arith) ∙ ap (λ (k : Dep). take c.loop-dep.dep-index deps ++ k ∷ []) (sym c.dep-item.is))
+pub loop-i-preserved : goal.loop-i-preserved
+loop-i-preserved c =
+    queued_more None c.args.queue.now.items c.loop-i.queue.items c.queue_one.new.queue.items _ _ (dependency c.entry.result) c.loop-i.invariant c.in_ok-queue_one.ensures
+    (take_one_more c.args.world.now c.loop-i.i (dependency c.entry.result) c.entry.ensures)
 
 pub returns : goal.returns
 returns c =
-    let deps : List Dep = c.args.deps.now in
-    let past : length deps ≤ c.loop-dep.dep-index = omega arith in
-    subst (λ (z : List Dep). c.loop-dep.queue.items ≡ c.args.queue.now.items ++ raised_deps None (map dependency z)) (take_all c.loop-dep.dep-index deps past) c.loop-dep.invariant
+    let past : length c.args.world.now ≤ c.loop-i.i = omega arith in
+    subst (λ (z : List Dependency). c.loop-i.queue.items ≡ c.args.queue.now.items ++ raised_deps None z) (take_all c.loop-i.i c.args.world.now past) c.loop-i.invariant

@@ -1,8 +1,7 @@
-use Rattle.std.proofs.Common.{◌≡◌, ◌++◌, take, map}
+use Rattle.std.proofs.Common.{◌≡◌, ◌++◌, take}
 use Rattle.std.specs.Prelude.{None}
-use Rattle.dep_core.specs.Meets.{dependency}
 use Rattle.solve_core.specs.Queue.{raised_deps}
 use Rattle.solve_core.proofs.queue.queue_world.Given as goal
 
-abbrev pub invariant-loop-dep : goal.invariant-loop-dep
-invariant-loop-dep l = l.queue.items ≡ l.initial.queue.items ++ raised_deps None (map dependency (take l.dep-index l.deps))
+abbrev pub invariant-loop-i : goal.invariant-loop-i
+invariant-loop-i l = l.queue.items ≡ l.initial.queue.items ++ raised_deps None (take l.i l.world)

@@ -16,7 +16,7 @@ returns-clause-frame c =
     let t : List ℕ = choices_of c.args.self.now in
     let details = c.details-details.result.now in
     let by : List ℕ = c.in_ok-by.by.items in
-    let deps : map dependency c.as_slice.result.now ≡ details.install_if = c.as_slice.ensures ∙ c.install_if.ensures in
+    let deps : map dependency c.install_if.result.now ≡ details.install_if = c.install_if.ensures in
     let all : all_met pool by details.install_if ≡ true =
     ap (all_met pool by) (sym deps) ∙ c.in_ok-by.ensures.met (ap (all_met pool t) deps ∙ asks_all pool t c.args.id details c.requires.least c.details-details.ensures) in
     let options : c.into_ids.result.items ≡ options_for pool (named details.name) =

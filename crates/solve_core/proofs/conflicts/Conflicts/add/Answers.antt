@@ -13,4 +13,4 @@ returns-clause-one c = subst (λ (z : List ℕ). IsMember c.args.id z) (sym c.in
 
 pub returns-clause-listed : goal.returns-clause-listed
 returns-clause-listed c = λ depends is was.
-    listed_more depends c.args.self.now _ c.args.id (map dependency c.args.deps.now) is was c.in_ok-push.ensures c.in_ok-list_all.ensures.more c.in_ok-list_all.ensures.each
+    listed_more depends c.args.self.now _ c.args.id (map dependency c.args.conflicts.now) is was c.in_ok-push.ensures c.in_ok-add_all.ensures.more c.in_ok-add_all.ensures.each

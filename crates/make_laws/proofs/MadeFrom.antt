@@ -1,0 +1,85 @@
+-- Of what a package is made, by what is read back of it.
+use Rattle.command_core.specs.declared.values.TheConstants.{FILES, SCRIPT, TRIGGER}
+use Rattle.std.proofs.Common.{◌≡◌, ℕ, ◌^◌, ◌<◌, List, [], ◌∷◌, length, map, Ok, refl, ap, sym, ◌∙◌}
+use Rattle.adb_fields.specs.Repeated.{folders_in, list_of}
+use Rattle.adb_sound.specs.Container.{package_by}
+use Rattle.adb_tables.specs.Values.{entries_in, entry_in, text_in}
+use Rattle.adb_tables.proofs.ValueEntries.{entries_arr, nth_obj, text_blob}
+use Rattle.adb_view.specs.Plain.{Plain, blob_value}
+use Rattle.command_core.specs.Command.{CommandLine}
+use Rattle.make_info.specs.Information.{InfoItem, information_value, information, replaces_priority}
+use Rattle.make_info.specs.Reads.{Reads}
+use Rattle.make_info.specs.Values.{plains_of_list}
+use Rattle.make_package.specs.Making.{made_package, or_info_bad}
+use Rattle.make_package.specs.Package.{Script, SourceFolder, contents_of_folders, installed_size, package_fields, value_of_folder, value_of_package, value_of_scripts}
+use Rattle.make_package.specs.Sources.{AreNamesFor, folders_below, on_success, scripts_from, texts_of, values_with}
+use Rattle.make_core.specs.ReadBack.{packed_of_parts, packed_package}
+use Rattle.make_core.proofs.ListedNames.{after_ok}
+use Rattle.make_core.proofs.PackageFiles.{folders_stand, list-plains}
+use Rattle.pkg_core.specs.Whole.{Packed, package_with_contents}
+use Rattle.make_laws.specs.MadePackages.{HasTriggersInOrder, IsMadePackage, contained_package}
+
+-- what a package that is made is read back as
+abbrev pub ReadsBack : Type 0
+ReadsBack = (command : CommandLine) (names : List (List ℕ)) (read : Reads) (bytes : List ℕ) → AreNamesFor (values_with FILES command.values) names → made_package command names read ≡ Ok bytes → length bytes < 2 ^ 64
+    → packed_package command names read ≡ Ok (package_with_contents bytes)
+
+pub record IsMadeFrom (command : CommandLine) (names : List (List ℕ)) (read : Reads) (pkg : Plain) : Type 0 where
+  pub scripts : List Script
+  pub items : List InfoItem
+  pub sources : List SourceFolder
+  pub scripts_read : scripts_from read 0 (values_with SCRIPT command.values) ≡ Ok scripts
+  pub items_read : or_info_bad (information command) ≡ Ok items
+  pub sources_read : folders_below read (length scripts) (values_with FILES command.values) names ≡ Ok sources
+  pub value : pkg ≡ value_of_package (information_value items (installed_size sources)) sources scripts (texts_of (values_with TRIGGER command.values)) (replaces_priority items)
+
+pub made_from : ReadsBack → (command : CommandLine) (names : List (List ℕ)) (read : Reads) (bytes : List ℕ) → IsMadePackage command names read bytes → IsMadeFrom command names read (contained_package bytes)
+made_from back command names read bytes made =
+    let whole : Packed = package_with_contents bytes in
+    let one = after_ok (scripts_from read 0 (values_with SCRIPT command.values)) (λ scripts.
+    on_success (or_info_bad (information command)) (λ about.
+    on_success (folders_below read (length scripts) (values_with FILES command.values) names) (packed_of_parts command scripts about))) whole (back command names read bytes made.below made.made made.short) in
+    let two = after_ok (or_info_bad (information command)) (λ about.
+    on_success (folders_below read (length one.x) (values_with FILES command.values) names) (packed_of_parts command one.x about)) whole one.gives in
+    let three = after_ok (folders_below read (length one.x) (values_with FILES command.values) names) (packed_of_parts command one.x two.x) whole two.gives in
+    let gives = three.gives in
+    let v : Plain = value_of_package (information_value two.x (installed_size three.x)) three.x one.x (texts_of (values_with TRIGGER command.values)) (replaces_priority two.x) in
+    let same : package_by v (contents_of_folders 1 three.x) ≡ whole = cc (gives) in
+    record {
+      scripts = one.x;
+      items = two.x;
+      sources = three.x;
+      scripts_read = one.is;
+      items_read = two.is;
+      sources_read = three.is;
+      value = ap (λ (p : Packed). p.value) (sym same);
+    }
+
+texts_back : (ts : List (List ℕ)) → map text_in (map blob_value ts) ≡ ts
+texts_back [] = refl
+texts_back (t ∷ ts) = λ k. text_blob t k ∷ texts_back ts k
+
+module _ (command : CommandLine) (names : List (List ℕ)) (read : Reads) (pkg : Plain) (m : IsMadeFrom command names read pkg) where
+  abbrev info : Plain
+  info = information_value m.items (installed_size m.sources)
+
+  abbrev triggers : List (List ℕ)
+  triggers = texts_of (values_with TRIGGER command.values)
+
+  part : (i : ℕ) → entry_in pkg i ≡ entry_in (value_of_package info m.sources m.scripts triggers (replaces_priority m.items)) i
+  part i = ap (λ (v : Plain). entry_in v i) m.value
+
+  pub folders_are : folders_in pkg ≡ map value_of_folder m.sources
+  folders_are = ap folders_in m.value ∙ folders_stand info m.sources m.scripts triggers (replaces_priority m.items)
+
+  pub info_is : entry_in pkg 0 ≡ info
+  info_is = part 0 ∙ nth_obj (package_fields info (map value_of_folder m.sources) m.scripts triggers (replaces_priority m.items)) 0
+
+  pub scripts_are : entry_in pkg 2 ≡ value_of_scripts m.scripts
+  scripts_are = part 2 ∙ nth_obj (package_fields info (map value_of_folder m.sources) m.scripts triggers (replaces_priority m.items)) 2
+
+  pub triggers_are : HasTriggersInOrder command.values pkg
+  triggers_are =
+      ap (λ (v : Plain). map text_in (list_of (entries_in v))) (part 3 ∙ nth_obj (package_fields info (map value_of_folder m.sources) m.scripts triggers (replaces_priority m.items)) 3)
+      ∙ (ap (λ us. map text_in (list_of us)) (entries_arr (plains_of_list (map blob_value triggers)))
+      ∙ (ap (map text_in) (list-plains (map blob_value triggers)) ∙ texts_back triggers))

@@ -1,0 +1,6 @@
+use Rattle.adb_copy.proofs.WithoutZeros.{int_zeros, text_zeros}
+use Rattle.make_laws.proofs.EntryFields.{entry_zeros, none_zero}
+use Rattle.make_laws.proofs.values.values_without_zeros_tell_the_same.Goals as goal
+
+pub returns : goal.returns
+returns c = record { number = int_zeros; text = text_zeros; entries = entry_zeros; none_zero = none_zero }

@@ -1,0 +1,6 @@
+-- what the laws say
+pub mod NamedFields
+pub mod MadePackages
+pub mod SourceBytes
+pub mod ScriptFiles
+pub mod OptionGrammar

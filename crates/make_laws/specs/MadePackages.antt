@@ -1,0 +1,101 @@
+-- A package that is made, and what it holds in the words of the format (apk-package(5)).
+use Rattle.command_core.specs.declared.values.TheConstants.{FILES, TRIGGER}
+use Rattle.std.specs.Prelude.{◌≡◌, ◌↔◌, ◌⊎◌, ◌==◌, ℕ, ◌+◌, ◌*◌, ◌^◌, ◌<◌, List, [], length, map, codes, sum_by, Ok, All}
+use Rattle.std.specs.List.{filter, flat_map}
+use Rattle.adb_fields.specs.FirstPair.{IsIn}
+use Rattle.adb_fields.specs.Repeated.{files_in, folders_in, name_of}
+use Rattle.adb_schema.specs.Soundness.{payload_in, root_value}
+use Rattle.adb_tables.specs.Values.{int_in, text_in}
+use Rattle.adb_tables.specs.declared.tables.Which.TheVariants.{Dir, File, Package, PkgInfo}
+use Rattle.adb_view.specs.Plain.{Plain}
+use Rattle.base_core.specs.Files.{IsFolderOf}
+use Rattle.base_core.specs.Listed.{IsRising}
+use Rattle.command_core.specs.Command.{CommandLine}
+use Rattle.command_core.specs.declared.values.OptionValue.{OptionValue}
+use Rattle.make_core.specs.FilesBelow.{name_below}
+use Rattle.make_info.specs.Reads.{Reads}
+use Rattle.make_package.specs.Making.{made_package}
+use Rattle.make_package.specs.Sources.{AreNamesFor, values_with}
+use Rattle.make_laws.specs.NamedFields.{IsAccessOfRoot, entries_named, field_named}
+
+-- `mkpkg` makes these bytes, fewer than 2^64, of names below the folder that is given
+pub record IsMadePackage (command : CommandLine) (names : List (List ℕ)) (read : Reads)
+    (bytes : List ℕ) : Type 0 where
+  pub below : AreNamesFor (values_with FILES command.values) names
+  pub made : made_package command names read ≡ Ok bytes
+  pub short : length bytes < 2 ^ 64
+
+-- the value of the package in a container
+abbrev pub contained_package : List ℕ → Plain
+contained_package bytes = root_value Package (payload_in bytes)
+
+-- ---- folders and files
+
+-- the folders stand in byte order of their names, each once, and so do the files of each
+pub record IsInByteOrder (pkg : Plain) : Type 0 where
+  pub folders : IsRising (map name_of (folders_in pkg))
+  pub files : All (λ folder. IsRising (map name_of (files_in folder))) (folders_in pkg)
+
+-- the folder is the root, or the path stands below it, at any depth
+abbrev pub IsOverPath : List ℕ → List ℕ → Type 0
+IsOverPath folder path = (folder ≡ []) ⊎ IsFolderOf folder path
+
+-- a folder of the package is over the path of one of the names, which stand below `dir`
+abbrev pub IsOverOne : List ℕ → List (List ℕ) → List ℕ → Type 0
+IsOverOne dir names folder =
+    (path : List ℕ) × IsIn (name_below dir path) names × IsOverPath folder path
+
+-- the folders are just those that are over a path
+abbrev pub HasFoldersOver : List ℕ → List (List ℕ) → Plain → Type 0
+HasFoldersOver dir names pkg =
+    (folder : List ℕ) → IsIn folder (map name_of (folders_in pkg)) ↔ IsOverOne dir names folder
+
+-- ---- who may do what
+
+-- what one may do with a file
+abbrev pub MAY_READ : ℕ
+MAY_READ = 4
+
+abbrev pub MAY_WRITE : ℕ
+MAY_WRITE = 2
+
+-- enter a folder, or run a file
+abbrev pub MAY_ENTER : ℕ
+MAY_ENTER = 1
+
+-- the mode by what the user, the group and all others may do
+abbrev pub mode_of : ℕ → ℕ → ℕ → ℕ
+mode_of user group others = 64 * user + 8 * group + others
+
+-- all may read it and its user may write it
+abbrev pub readable : ℕ
+readable = mode_of (MAY_READ + MAY_WRITE) MAY_READ MAY_READ
+
+-- and all may enter it too
+abbrev pub enterable : ℕ
+enterable = mode_of (MAY_READ + MAY_WRITE + MAY_ENTER) (MAY_READ + MAY_ENTER) (MAY_READ + MAY_ENTER)
+
+abbrev pub IsReadableFile : Plain → Type 0
+IsReadableFile file = IsAccessOfRoot readable (field_named File (codes "acl") file)
+
+-- the folder may be entered, and its files be read
+pub record IsEnterableFolder (folder : Plain) : Type 0 where
+  pub itself : IsAccessOfRoot enterable (field_named Dir (codes "acl") folder)
+  pub files : All IsReadableFile (files_in folder)
+
+-- ---- triggers and sizes
+
+-- the triggers are the texts of `-t`, in the order given
+abbrev pub HasTriggersInOrder : List OptionValue → Plain → Type 0
+HasTriggersInOrder values pkg =
+    map text_in (entries_named Package (codes "triggers") pkg)
+    ≡ map (λ (v : OptionValue). v.text) (filter (λ (v : OptionValue). v.letter == TRIGGER) values)
+
+abbrev pub size_told : Plain → ℕ
+size_told file = int_in (field_named File (codes "size") file)
+
+-- the installed size is the sum of the sizes that the files tell
+abbrev pub HasSizeOfFiles : Plain → Type 0
+HasSizeOfFiles pkg =
+    int_in (field_named PkgInfo (codes "installed-size") (field_named Package (codes "info") pkg))
+    ≡ sum_by size_told (flat_map files_in (folders_in pkg))

@@ -1,0 +1,110 @@
+-- Which values `-I` takes, field by field (apk(8), `mkpkg`), and what each says.
+use Rattle.std.specs.Prelude.{◌≡◌, ◌≢◌, ℕ, ◌*◌, ◌+◌, ◌^◌, ◌<◌, ◌==◌, Bool, true, false, not, List, [], ◌∷◌, ◌++◌, length, map, None, Some}
+use Rattle.std.specs.Fmt.{decimal}
+use Rattle.std.specs.List.{filter, slice_split}
+use Rattle.hex.specs.Hex.{hex_digit_value}
+use Rattle.adb_fields.specs.FirstPair.{IsIn}
+use Rattle.command_core.specs.declared.values.OptionValue.{OptionValue}
+use Rattle.dep_core.specs.Dependency.{is_package_name}
+use Rattle.dep_core.specs.Spelling.{SpellsDependency}
+use Rattle.version_core.specs.Order.{is_version}
+use Rattle.make_info.specs.declared.field.Field.{Field}
+use Rattle.make_info.specs.declared.field.Field.TheVariants as Fields
+use Rattle.make_info.specs.Fields.{FieldValue, text, number, need, field_word}
+
+-- FIELD:VALUE; a colon (58) stands between them
+abbrev pub option_text : Field → List ℕ → List ℕ
+option_text f value = field_word f ++ 58 ∷ value
+
+-- ---- the grammars
+
+-- two digits, of either case, spell each byte
+abbrev pub SpellsBytes : List ℕ → List ℕ → Type 0
+SpellsBytes [] [] = Unit {0}
+SpellsBytes [] (byte ∷ bytes) = ⊥
+SpellsBytes (digit ∷ []) bytes = ⊥
+SpellsBytes (high ∷ low ∷ digits) [] = ⊥
+SpellsBytes (high ∷ low ∷ digits) (byte ∷ bytes) =
+    ((h : ℕ) × (l : ℕ) × (hex_digit_value high ≡ Some h) × (hex_digit_value low ≡ Some l)
+    × (byte ≡ h * 16 + l))
+    × SpellsBytes digits bytes
+
+-- the digits of a number below 2^64, as it is printed
+abbrev pub SpellsNumber : List ℕ → ℕ → Type 0
+SpellsNumber value n = (n < 2 ^ 64) × (value ≡ decimal n)
+
+-- the parts between spaces (32) that are not empty
+abbrev pub spaced_parts : List ℕ → List (List ℕ)
+spaced_parts value = filter (λ part. not (length part == 0)) (slice_split (λ b. b == 32) value)
+
+-- each part spells a dependency without tag
+abbrev pub SpellNeeds : List (List ℕ) → List FieldValue → Type 0
+SpellNeeds [] [] = Unit {0}
+SpellNeeds [] (value ∷ values) = ⊥
+SpellNeeds (part ∷ parts) [] = ⊥
+SpellNeeds (part ∷ parts) (text bytes ∷ values) = ⊥
+SpellNeeds (part ∷ parts) (number n ∷ values) = ⊥
+SpellNeeds (part ∷ parts) (need d ∷ values) =
+    (SpellsDependency part d × (d.tag ≡ None)) × SpellNeeds parts values
+
+-- ---- field by field
+
+abbrev pub SaysText : List ℕ → List FieldValue → Type 0
+SaysText value said = said ≡ text value ∷ []
+
+abbrev pub SaysNumber : List ℕ → List FieldValue → Type 0
+SaysNumber value said = (n : ℕ) × SpellsNumber value n × (said ≡ number n ∷ [])
+
+abbrev pub SaysNeeds : List ℕ → List FieldValue → Type 0
+SaysNeeds value said = SpellNeeds (spaced_parts value) said
+
+-- a value of the field is allowed, and says this
+abbrev pub SaysOfField : Field → List ℕ → List FieldValue → Type 0
+SaysOfField Fields.Name value said = (is_package_name value ≡ true) × SaysText value said
+SaysOfField Fields.Version value said = (is_version value ≡ true) × SaysText value said
+SaysOfField Fields.Description value said = SaysText value said
+SaysOfField Fields.Arch value said = SaysText value said
+SaysOfField Fields.License value said = SaysText value said
+SaysOfField Fields.Origin value said = SaysText value said
+SaysOfField Fields.Maintainer value said = SaysText value said
+SaysOfField Fields.Url value said = SaysText value said
+SaysOfField Fields.RepoCommit value said =
+    (bytes : List ℕ) × SpellsBytes value bytes × (said ≡ text bytes ∷ [])
+SaysOfField Fields.BuildTime value said = SaysNumber value said
+SaysOfField Fields.ProviderPriority value said = SaysNumber value said
+SaysOfField Fields.ReplacesPriority value said = SaysNumber value said
+SaysOfField Fields.Depends value said = SaysNeeds value said
+SaysOfField Fields.Provides value said = SaysNeeds value said
+SaysOfField Fields.Replaces value said = SaysNeeds value said
+SaysOfField Fields.InstallIf value said = SaysNeeds value said
+SaysOfField Fields.Recommends value said = SaysNeeds value said
+SaysOfField Fields.Tags value said = said ≡ map text (spaced_parts value)
+
+-- ---- a value of `-I` among others
+
+-- whether the field is a list, to which each of its values adds
+abbrev pub is_list_field : Field → Bool
+is_list_field Fields.Depends = true
+is_list_field Fields.Provides = true
+is_list_field Fields.Replaces = true
+is_list_field Fields.InstallIf = true
+is_list_field Fields.Recommends = true
+is_list_field Fields.Tags = true
+is_list_field f = false
+
+-- the option gives a value for the field
+abbrev pub IsGivenFor : Field → OptionValue → Type 0
+IsGivenFor f option = (value : List ℕ) × (option.text ≡ option_text f value)
+
+-- An option is taken behind those before it: its value is one of its field; where the field is no
+-- list it is the first; and it is no version that makes NAME-VERSION.apk too long.
+pub record IsTakenOption (too_long : Bool) (before : List OptionValue) (option : OptionValue) :
+    Type 0 where
+  pub field : Field
+  pub value : List ℕ
+  pub given : option.text ≡ option_text field value
+  pub said : List FieldValue
+  pub allowed : SaysOfField field value said
+  pub first : is_list_field field ≡ false → (other : OptionValue) → IsIn other before
+      → IsGivenFor field other → ⊥
+  pub short : too_long ≡ true → field ≢ Fields.Version

@@ -1,0 +1,34 @@
+-- Which file a script is (apk(8), `mkpkg`).
+use Rattle.std.specs.Prelude.{◌≡◌, ◌⊎◌, ℕ, List, Some}
+use Rattle.adb_fields.specs.FirstPair.{IsIn}
+use Rattle.adb_tables.specs.declared.tables.Which.TheVariants.{Package, Scripts}
+use Rattle.adb_view.specs.Plain.{Plain, null, blob_value}
+use Rattle.command_core.specs.Files.{without_dot}
+use Rattle.command_core.specs.Values.{script_file, script_type}
+use Rattle.command_core.specs.declared.values.OptionValue.{OptionValue}
+use Rattle.make_info.specs.Reads.{Reads}
+use Rattle.make_laws.specs.NamedFields.{field_named}
+use Rattle.std.specs.Prelude.{codes}
+
+-- an option gives a script of this type, whose file is found with these bytes
+pub record IsGivenScript (read : Reads) (options : List OptionValue) (type bytes : List ℕ) :
+    Type 0 where
+  pub option : OptionValue
+  pub given : IsIn option options
+  pub of_type : script_type option.text ≡ type
+  pub number : ℕ
+  pub found : read number (without_dot (script_file option.text)) ≡ Some bytes
+
+-- no option gives one
+abbrev pub IsNotGiven : List OptionValue → List ℕ → Type 0
+IsNotGiven options type =
+    (option : OptionValue) → IsIn option options → script_type option.text ≡ type → ⊥
+
+-- the script of the type that a package has: the one that is given, or none
+abbrev pub IsScriptGiven : Reads → List OptionValue → List ℕ → Plain → Type 0
+IsScriptGiven read options type script =
+    ((bytes : List ℕ) × IsGivenScript read options type bytes × (script ≡ blob_value bytes))
+    ⊎ (IsNotGiven options type × (script ≡ null))
+
+abbrev pub script_named : List ℕ → Plain → Plain
+script_named type pkg = field_named Scripts type (field_named Package (codes "scripts") pkg)

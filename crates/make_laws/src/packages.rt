@@ -1,0 +1,74 @@
+//! What a package that is made holds.
+ghost use Rattle.adb_fields.specs.FirstPair.{IsIn};
+ghost use Rattle.adb_fields.specs.Repeated.{folders_in};
+ghost use Rattle.command_core.specs.Command.{CommandLine};
+ghost use Rattle.command_core.specs.Files.{without_dot};
+ghost use Rattle.command_core.specs.Values.{script_types};
+ghost use Rattle.command_core.specs.declared.values.OptionValue.{OptionValue};
+ghost use Rattle.command_core.specs.declared.values.TheConstants.{FILES, SCRIPT};
+ghost use Rattle.make_info.specs.Reads.{Reads};
+ghost use Rattle.make_package.specs.Sources.{values_with};
+ghost use Rattle.make_laws.specs.MadePackages.{HasFoldersOver, HasSizeOfFiles, HasTriggersInOrder, IsEnterableFolder, IsInByteOrder, IsMadePackage, contained_package};
+ghost use Rattle.make_laws.specs.ScriptFiles.{IsScriptGiven, script_named};
+ghost use Rattle.std.specs.Prelude.{◌≡◌, ◌∷◌, ℕ, All, List};
+
+use make_core::a_made_package_is_read_back;
+use make_package::each_name_stands_in_one_folder;
+
+/// The folders of a package that is made stand in byte order, each once, and so do the files of
+/// each folder.
+pub fn a_made_package_is_in_byte_order()
+    ensures { (command : CommandLine) (names : List (List ℕ)) (read : Reads) (bytes : List ℕ)
+        → IsMadePackage command names read bytes → IsInByteOrder (contained_package bytes) }
+{
+    a_made_package_is_read_back();
+}
+
+/// The folders of a package that is made are just those that are over the path of a file, at any
+/// depth, with the root: none is left out, and there is no other.
+pub fn a_made_package_has_just_the_folders_over_its_paths()
+    ensures { (command : CommandLine) (names : List (List ℕ)) (read : Reads) (bytes : List ℕ)
+        (dir : OptionValue) (others : List OptionValue) → IsMadePackage command names read bytes
+        → values_with FILES command.values ≡ dir ∷ others
+        → HasFoldersOver (without_dot dir.text) names (contained_package bytes) }
+{
+    a_made_package_is_read_back();
+    each_name_stands_in_one_folder();
+}
+
+/// All may read each file of a package that is made, and enter each folder; both belong to root.
+pub fn a_made_package_may_be_read_by_all()
+    ensures { (command : CommandLine) (names : List (List ℕ)) (read : Reads) (bytes : List ℕ)
+        → IsMadePackage command names read bytes
+        → All IsEnterableFolder (folders_in (contained_package bytes)) }
+{
+    a_made_package_is_read_back();
+}
+
+/// The triggers of a package that is made are the texts of `-t`, in the order given.
+pub fn a_made_package_has_its_triggers_in_order()
+    ensures { (command : CommandLine) (names : List (List ℕ)) (read : Reads) (bytes : List ℕ)
+        → IsMadePackage command names read bytes
+        → HasTriggersInOrder command.values (contained_package bytes) }
+{
+    a_made_package_is_read_back();
+}
+
+/// A package that is made has the script of each type that an option gives as TYPE:FILE, with the
+/// bytes of the file, and no others.
+pub fn a_made_package_has_its_scripts()
+    ensures { (command : CommandLine) (names : List (List ℕ)) (read : Reads) (bytes : List ℕ)
+        (type : List ℕ) → IsMadePackage command names read bytes → IsIn type script_types
+        → IsScriptGiven read (values_with SCRIPT command.values) type
+        (script_named type (contained_package bytes)) }
+{
+    a_made_package_is_read_back();
+}
+
+/// The installed size that a package tells is the sum of the sizes that its files tell.
+pub fn a_made_package_tells_the_size_of_its_files()
+    ensures { (command : CommandLine) (names : List (List ℕ)) (read : Reads) (bytes : List ℕ)
+        → IsMadePackage command names read bytes → HasSizeOfFiles (contained_package bytes) }
+{
+    a_made_package_is_read_back();
+}

@@ -1,0 +1,74 @@
+//! What the values of a package and of an index tell, field by field.
+ghost use Rattle.adb_copy.specs.Zeros.{without_zeros};
+ghost use Rattle.adb_tables.specs.Values.{entry_in, int_in, text_in};
+ghost use Rattle.adb_tables.specs.declared.tables.Which.TheVariants.{Dep, File, Index, Package, PkgInfo};
+ghost use Rattle.adb_view.specs.Plain.{Plain, arr_value, blob_value, int, null};
+ghost use Rattle.dep_core.specs.Dependency.{Dependency};
+ghost use Rattle.dep_core.specs.Value.{dep_value};
+ghost use Rattle.make_index.specs.Entries.{entry_of_package};
+ghost use Rattle.make_index.specs.Index.{value_of_index};
+ghost use Rattle.make_info.specs.Information.{need_value};
+ghost use Rattle.make_info.specs.Values.{number_value, plains_of_list};
+ghost use Rattle.make_package.specs.Package.{value_of_file};
+ghost use Rattle.make_laws.specs.MadePackages.{contained_package};
+ghost use Rattle.make_laws.specs.NamedFields.{field_named};
+ghost use Rattle.make_laws.specs.SourceBytes.{IsLinkTo, IsNoLink};
+ghost use Rattle.pkg_core.specs.Whole.{package_id};
+ghost use Rattle.sha2.specs.Sha256.{sha256};
+ghost use Rattle.std.specs.Prelude.{◌≡◌, ◌≢◌, ◌∷◌, ℕ, List, codes, length};
+
+/// A file of a package tells what its bytes in the tree are: where they are a link, the target and
+/// neither size nor hash; else how many they are and their SHA-256, and no target.
+pub fn a_file_tells_what_its_bytes_are()
+    ensures link { (name bytes target : List ℕ) → IsLinkTo target bytes
+        → (let file = value_of_file (record { name = name; bytes = bytes }) in
+        (field_named File (codes "target") file ≡ blob_value (0 ∷ 160 ∷ target))
+        × (field_named File (codes "size") file ≡ null)
+        × (field_named File (codes "hashes") file ≡ null)) }
+    ensures regular { (name bytes : List ℕ) → IsNoLink bytes
+        → (let file = value_of_file (record { name = name; bytes = bytes }) in
+        (field_named File (codes "target") file ≡ null)
+        × (int_in (field_named File (codes "size") file) ≡ length bytes)
+        × (field_named File (codes "hashes") file ≡ blob_value (sha256 bytes))) }
+{}
+
+/// A dependency in a package's information tells its name, its version and its match number, which
+/// are read as this dependency.
+pub fn a_need_tells_its_dependency()
+    ensures { (d : Dependency)
+        → (let told = need_value (dep_value d) in
+        (field_named Dep (codes "name") told ≡ blob_value (dep_value d).name)
+        × (field_named Dep (codes "version") told ≡ blob_value (dep_value d).version)
+        × (field_named Dep (codes "match") told ≡ number_value (dep_value d).matching)) }
+{}
+
+/// An entry of an index tells the package's id and the length of its file. Each other field, by its
+/// name, is the one of the package's information, without zeros.
+pub fn an_entry_tells_what_its_package_tells()
+    ensures id { (file : List ℕ) → field_named PkgInfo (codes "hashes") (entry_of_package file)
+        ≡ blob_value (package_id file) }
+    ensures length { (file : List ℕ)
+        → int_in (field_named PkgInfo (codes "file-size") (entry_of_package file)) ≡ length file }
+    ensures others { (file name : List ℕ) → name ≢ codes "hashes" → name ≢ codes "file-size"
+        → field_named PkgInfo name (entry_of_package file) ≡ without_zeros
+        (field_named PkgInfo name (field_named Package (codes "info") (contained_package file))) }
+{}
+
+/// A value without zeros tells the same as the value: the same number, the same text, and of each
+/// entry the same. None of its entries is the number 0.
+pub fn values_without_zeros_tell_the_same()
+    ensures number { (v : Plain) → int_in (without_zeros v) ≡ int_in v }
+    ensures text { (v : Plain) → text_in (without_zeros v) ≡ text_in v }
+    ensures entries { (v : Plain) (i : ℕ)
+        → entry_in (without_zeros v) i ≡ without_zeros (entry_in v i) }
+    ensures none_zero { (v : Plain) → without_zeros v ≢ int 0 }
+{}
+
+/// An index has the description that is given, and its packages' entries.
+pub fn an_index_has_its_description_and_packages()
+    ensures { (description : List ℕ) (entries : List Plain)
+        → (field_named Index (codes "description") (value_of_index description entries)
+        ≡ blob_value description)
+        × (field_named Index (codes "packages") (value_of_index description entries)
+        ≡ arr_value (plains_of_list entries)) }
+{}
