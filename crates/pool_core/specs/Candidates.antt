@@ -9,7 +9,7 @@ use Rattle.adb_tables.specs.Values.{entries_in, entry_in, int_in, text_in}
 use Rattle.version_core.specs.Order.{is_version}
 use Rattle.dep_core.specs.Dependency.{Dependency}
 use Rattle.dep_core.specs.Meets.{meets}
-use Rattle.dep_core.specs.ValueReading.{dependency_of_value}
+pub use Rattle.adb_rules.specs.Dependencies.{dependency_in}
 
 -- a package to choose from: what its index, or the database, says of it, and what is read of that.
 -- The version is none only where the text is no version, which no tested container has.
@@ -31,11 +31,6 @@ pub record Candidate : Type 0 where
 
 abbrev pub version_of_text : List ℕ → Option (List ℕ)
 version_of_text text = if is_version text then Some text else None
-
-abbrev pub dependency_in : Plain → Option Dependency
-dependency_in value =
-    dependency_of_value (text_in (entry_in value 0)) (text_in (entry_in value 1))
-    (int_in (entry_in value 2))
 
 -- the dependencies of an array; an entry that is none is passed over, and no tested container has
 -- one
