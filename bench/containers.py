@@ -141,6 +141,18 @@ def overlapping_names(text, starts):
     return b"ADB.pckg" + block(0, payload.done(payload.object([info, payload.array([folder])])))
 
 
+def overlapping_tags(count):
+    """An index of one package with so many tags of 4 MB, each of which begins four bytes behind the one before: its length is there."""
+    payload = Payload()
+    info = [payload.blob(b"a"), payload.blob(b"1"), payload.blob(bytes(32))] + [0] * 17
+    payload.pad(4)
+    at = len(payload.bytes)
+    payload.bytes += struct.pack("<I", 4 << 20) * (count + (1 << 20) + 1)
+    tags = payload.array([0xA0000000 | at + 4 * i for i in range(count)])
+    packages = payload.array([payload.object(info + [tags])])
+    return b"ADB.indx" + block(0, payload.done(payload.object([0, packages])))
+
+
 def write(path, *pieces):
     """Writes a file of these pieces, and the folders above it."""
     os.makedirs(os.path.dirname(path), exist_ok=True)

@@ -90,12 +90,18 @@ impl Out for Length {
     }
 }
 
+/// How many bytes are counted before memory for so many is tried.
+const MUCH: usize = 1 << 30;
+
 /// How many bytes were put in, and how long the long texts are in lines, by their words. Many
 /// places may share a text, so a long one is counted once.
 #[derive(Drop)]
 pub(crate) struct Count {
     pub(crate) len: Length,
     lens: BTreeMap<u32, usize>,
+    alloc: Global,
+    /// Up to how many bytes no memory is tried.
+    room: usize,
 }
 
 impl Count {
@@ -109,7 +115,23 @@ impl Count {
         Count {
             len: Length { bytes: 0 },
             lens: BTreeMap::new(alloc),
+            alloc,
+            room: MUCH,
         }
+    }
+
+    /// So many bytes more. Where much was counted, memory for it is tried and given back: without
+    /// it the count need not go on.
+    fn add(&mut self, bytes: usize) -> Result<(), AllocError>
+        ensures len { OnOk result (self.new.len.bytes ≡ self.old.len.bytes + bytes) }
+        ensures lens { self.new.lens ≡ self.old.lens }
+    {
+        self.len.add(bytes)?;
+        if self.len.bytes > self.room {
+            let _tried: Vec<u8> = Vec::with_capacity(self.alloc, self.len.bytes)?;
+            self.room = self.len.bytes.saturating_mul(2);
+        }
+        Ok(())
     }
 
     /// How long the text of a word is in a line. The length of each text is kept.
@@ -153,7 +175,8 @@ impl Out for Count {
         × AreLineLengths payload out.lens };
 
     fn put(&mut self, bytes: &[u8]) -> Result<(), AllocError> {
-        self.len.add(bytes.len())
+        self.add(bytes.len())?;
+        Ok(())
     }
 }
 
@@ -164,14 +187,14 @@ impl BlobOut for Count {
             return Ok(());
         }
         let len = self.line_len(word, text)?;
-        self.len.add(len)?;
+        self.add(len)?;
         Ok(())
     }
 
     fn put_hash(&mut self, hash: &[u8]) -> Result<(), AllocError> {
         // Two digits for each byte.
-        self.len.add(hash.len())?;
-        self.len.add(hash.len())?;
+        self.add(hash.len())?;
+        self.add(hash.len())?;
         Ok(())
     }
 }
