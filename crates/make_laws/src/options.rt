@@ -1,11 +1,13 @@
-//! Which values `-I` of `mkpkg` takes.
+//! Which values `-I` of `mkpkg` takes, and what `--script` gives.
+ghost use Rattle.command_core.specs.Values.{script_file, script_type};
 ghost use Rattle.command_core.specs.declared.values.OptionValue.{OptionValue};
 ghost use Rattle.make_info.specs.declared.field.Field.{Field};
 ghost use Rattle.make_info.specs.Fields.{FieldValue, kind_of_field, values_by_kind};
 ghost use Rattle.make_info.specs.FieldTexts.{field_text_in};
 ghost use Rattle.make_info.specs.Information.{offends};
 ghost use Rattle.make_laws.specs.OptionGrammar.{IsTakenOption, SaysOfField, option_text};
-ghost use Rattle.std.specs.Prelude.{◌≡◌, ◌↔◌, ℕ, Bool, false, List, Some};
+ghost use Rattle.std.specs.List.{list_any};
+ghost use Rattle.std.specs.Prelude.{◌≡◌, ◌↔◌, ◌==◌, ◌++◌, ◌∷◌, ℕ, Bool, false, List, Some};
 
 use dep_core::{read_texts_are_spelled, spelled_texts_are_read};
 
@@ -32,3 +34,10 @@ pub fn an_option_offends_unless_it_is_taken()
     read_texts_are_spelled();
     spelled_texts_are_read();
 }
+
+/// A script is given as TYPE:FILE: the type ends before the first colon (58), and all behind it is
+/// the file's name, also further colons.
+pub fn a_script_is_given_as_its_type_and_its_file()
+    ensures { (type file : List ℕ) → list_any (λ b. b == 58) type ≡ false
+        → (script_type (type ++ 58 ∷ file) ≡ type) × (script_file (type ++ 58 ∷ file) ≡ file) }
+{}

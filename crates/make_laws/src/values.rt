@@ -7,7 +7,8 @@ ghost use Rattle.dep_core.specs.Dependency.{Dependency};
 ghost use Rattle.dep_core.specs.Value.{dep_value};
 ghost use Rattle.make_index.specs.Entries.{entry_of_package};
 ghost use Rattle.make_index.specs.Index.{value_of_index};
-ghost use Rattle.make_info.specs.Information.{need_value};
+ghost use Rattle.make_info.specs.Fields.{text, number, need};
+ghost use Rattle.make_info.specs.Information.{plain_value};
 ghost use Rattle.make_info.specs.Values.{number_value, plains_of_list};
 ghost use Rattle.make_package.specs.Package.{value_of_file};
 ghost use Rattle.make_laws.specs.MadePackages.{contained_package};
@@ -32,11 +33,13 @@ pub fn a_file_tells_what_its_bytes_are()
         × (field_named File (codes "hashes") file ≡ blob_value (sha256 bytes))) }
 {}
 
-/// A dependency in a package's information tells its name, its version and its match number, which
-/// are read as this dependency.
-pub fn a_need_tells_its_dependency()
-    ensures { (d : Dependency)
-        → (let told = need_value (dep_value d) in
+/// A value that an option says stands as it is: a text, a number, also 0, and of a dependency the
+/// name, the version and the match number.
+pub fn a_value_stands_as_it_is_said()
+    ensures text { (bytes : List ℕ) → plain_value (text bytes) ≡ blob_value bytes }
+    ensures number { (n : ℕ) → plain_value (number n) ≡ int n }
+    ensures need { (d : Dependency)
+        → (let told = plain_value (need d) in
         (field_named Dep (codes "name") told ≡ blob_value (dep_value d).name)
         × (field_named Dep (codes "version") told ≡ blob_value (dep_value d).version)
         × (field_named Dep (codes "match") told ≡ number_value (dep_value d).matching)) }
