@@ -15,10 +15,6 @@ use Rattle.make_laws.specs.NamedFields.{field_named}
 use Rattle.make_laws.specs.OptionGrammar.{IsGivenFor, SaysOfField, is_list_field, option_text}
 use Rattle.std.specs.Prelude.{ℕ, codes}
 
--- the options `-I` of a command, in the order given
-abbrev pub info_options : List OptionValue → List OptionValue
-info_options values = filter (λ (v : OptionValue). v.letter == INFO) values
-
 -- an option says this of the field; one of another field says nothing
 abbrev pub SaysOfOne : Field → OptionValue → List FieldValue → Type 0
 SaysOfOne f option said =
@@ -59,5 +55,5 @@ told_of_field f pkg =
 -- the package tells what the options of a command say of the field
 pub record TellsOptions (f : Field) (values : List OptionValue) (pkg : Plain) : Type 0 where
   pub said : List FieldValue
-  pub say : SayOfField f (info_options values) said
+  pub say : SayOfField f (filter (λ (v : OptionValue). v.letter == INFO) values) said
   pub tells : TellsOfField f said (told_of_field f pkg)

@@ -15,7 +15,7 @@ use Rattle.make_laws.proofs.MadeFrom.{IsMadeFrom, info_is, made_from, priority_i
 use Rattle.make_laws.proofs.ToldFields.{items_of, say_of_field, told_info, told_priority, values_for}
 use Rattle.make_laws.specs.MadePackages.{contained_package}
 use Rattle.make_laws.specs.NamedFields.{field_named}
-use Rattle.make_laws.specs.SaidOfFields.{SayOfField, TellsOfField, info_options, told_of_field}
+use Rattle.make_laws.specs.SaidOfFields.{SayOfField, TellsOfField, told_of_field}
 use Rattle.make_laws.proofs.packages.a_made_package_tells_what_its_options_say.Goals as goal
 
 info_ok : (r : Result (List InfoItem) ℕ) (items : List InfoItem) → or_info_bad r ≡ Ok items → r ≡ Ok items
@@ -30,7 +30,7 @@ module _ (command : CommandLine) (names : List (List ℕ)) (read : Reads) (pkg :
   in_info f other =
       subst (Tells f) (sym (ap (field_named PkgInfo (field_word f)) (info_is command names read pkg m))) (told_info f m.items (installed_size m.sources) other)
 
-  tells : (f : Field) → SayOfField Fields.ReplacesPriority (info_options command.values) (values_for Fields.ReplacesPriority m.items) → Tells f (told_of_field f pkg)
+  tells : (f : Field) → SayOfField Fields.ReplacesPriority (values_of_info command.values) (values_for Fields.ReplacesPriority m.items) → Tells f (told_of_field f pkg)
   tells Fields.Name say = in_info Fields.Name (λ e. cc (e))
   tells Fields.Version say = in_info Fields.Version (λ e. cc (e))
   tells Fields.Description say = in_info Fields.Description (λ e. cc (e))
@@ -42,7 +42,7 @@ module _ (command : CommandLine) (names : List (List ℕ)) (read : Reads) (pkg :
   tells Fields.RepoCommit say = in_info Fields.RepoCommit (λ e. cc (e))
   tells Fields.BuildTime say = in_info Fields.BuildTime (λ e. cc (e))
   tells Fields.ProviderPriority say = in_info Fields.ProviderPriority (λ e. cc (e))
-  tells Fields.ReplacesPriority say = told_priority (info_options command.values) m.items say (told_of_field Fields.ReplacesPriority pkg) (priority_is command names read pkg m)
+  tells Fields.ReplacesPriority say = told_priority (values_of_info command.values) m.items say (told_of_field Fields.ReplacesPriority pkg) (priority_is command names read pkg m)
   tells Fields.Depends say = in_info Fields.Depends (λ e. cc (e))
   tells Fields.Provides say = in_info Fields.Provides (λ e. cc (e))
   tells Fields.Replaces say = in_info Fields.Replaces (λ e. cc (e))
@@ -55,7 +55,7 @@ returns c = λ command names read bytes f made.
     let pkg : Plain = contained_package bytes in
     let m = made_from c.a_made_package_is_read_back.ensures command names read bytes made in
     let are = items_of command.values command.behind m.items (info_ok (information command) m.items m.items_read) in
-    let say : (g : Field) → SayOfField g (info_options command.values) (values_for g m.items) =
-    λ g. subst (λ (items : List InfoItem). SayOfField g (info_options command.values) (values_for g items)) (sym are.all)
+    let say : (g : Field) → SayOfField g (values_of_info command.values) (values_for g m.items) =
+    λ g. subst (λ (items : List InfoItem). SayOfField g (values_of_info command.values) (values_for g items)) (sym are.all)
     (say_of_field c.read_texts_are_spelled.ensures c.spelled_texts_are_read.ensures g (is_too_long command.values) [] (values_of_info command.values) are.none) in
     record { said = values_for f m.items; say = say f; tells = tells command names read pkg m f (say Fields.ReplacesPriority) }
