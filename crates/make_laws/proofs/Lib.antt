@@ -9,3 +9,4 @@ pub mod FileBytes
 pub mod FieldValues
 pub mod OptionTexts
 pub mod TakenOptions
+pub mod ToldFields

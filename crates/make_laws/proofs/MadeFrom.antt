@@ -9,7 +9,7 @@ use Rattle.adb_view.specs.Plain.{Plain, blob_value}
 use Rattle.command_core.specs.Command.{CommandLine}
 use Rattle.make_info.specs.Information.{InfoItem, information_value, information, replaces_priority}
 use Rattle.make_info.specs.Reads.{Reads}
-use Rattle.make_info.specs.Values.{plains_of_list}
+use Rattle.make_info.specs.Values.{number_value, plains_of_list}
 use Rattle.make_package.specs.Making.{made_package, or_info_bad}
 use Rattle.make_package.specs.Package.{Script, SourceFolder, contents_of_folders, installed_size, package_fields, value_of_folder, value_of_package, value_of_scripts}
 use Rattle.make_package.specs.Sources.{AreNamesFor, folders_below, on_success, scripts_from, texts_of, values_with}
@@ -77,6 +77,9 @@ module _ (command : CommandLine) (names : List (List ℕ)) (read : Reads) (pkg :
 
   pub scripts_are : entry_in pkg 2 ≡ value_of_scripts m.scripts
   scripts_are = part 2 ∙ nth_obj (package_fields info (map value_of_folder m.sources) m.scripts triggers (replaces_priority m.items)) 2
+
+  pub priority_is : entry_in pkg 4 ≡ number_value (replaces_priority m.items)
+  priority_is = part 4 ∙ nth_obj (package_fields info (map value_of_folder m.sources) m.scripts triggers (replaces_priority m.items)) 4
 
   pub triggers_are : HasTriggersInOrder command.values pkg
   triggers_are =

@@ -7,6 +7,7 @@ use Rattle.std.proofs.lemmas.Bool.{eqb-true, lt-ltb}
 use Rattle.std.proofs.lemmas.List.{drop_at, length-append, take_at}
 use Rattle.std.proofs.lemmas.List.Quantifiers.{position-Some}
 use Rattle.std.proofs.lemmas.Slice.Eq.{bytes_eq-Decides}
+use Rattle.command_core.specs.Values.{script_file, script_type}
 use Rattle.make_info.specs.declared.field.Field.{Field}
 use Rattle.make_info.specs.declared.field.Field.TheVariants as Fields
 use Rattle.make_info.specs.Fields.{field_of, field_word, fields}
@@ -81,6 +82,14 @@ colon_found word value h =
 behind_colon : (word value : List ℕ) → drop (length word + 1) (word ++ 58 ∷ value) ≡ value
 behind_colon word value =
     ap (drop (length word + 1)) (sym (append_assoc word (58 ∷ []) value)) ∙ drop_at (word ++ 58 ∷ []) value (length word + 1) (omega (arith, length-append word (58 ∷ [])))
+
+-- of TYPE:FILE the part before the first colon, and the part behind it
+pub script_parts : (type file : List ℕ) → list_any is_colon type ≡ false → (script_type (type ++ 58 ∷ file) ≡ type) × (script_file (type ++ 58 ∷ file) ≡ file)
+script_parts type file free =
+    let n = before_colon type file free in (
+      ap (λ m. take m (type ++ 58 ∷ file)) n ∙ take_at type (58 ∷ file) (length type) refl,
+      ap (λ m. drop (m + 1) (type ++ 58 ∷ file)) n ∙ behind_colon type file,
+    )
 
 pub given : (f : Field) (value : List ℕ) → field_text_in (option_text f value) ≡ Some (record { field = f; value = value })
 given f value =

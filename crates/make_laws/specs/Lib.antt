@@ -4,3 +4,4 @@ pub mod MadePackages
 pub mod SourceBytes
 pub mod ScriptFiles
 pub mod OptionGrammar
+pub mod SaidOfFields

@@ -6,12 +6,15 @@ ghost use Rattle.command_core.specs.Files.{without_dot};
 ghost use Rattle.command_core.specs.Values.{script_types};
 ghost use Rattle.command_core.specs.declared.values.OptionValue.{OptionValue};
 ghost use Rattle.command_core.specs.declared.values.TheConstants.{FILES, SCRIPT};
+ghost use Rattle.make_info.specs.declared.field.Field.{Field};
 ghost use Rattle.make_info.specs.Reads.{Reads};
 ghost use Rattle.make_package.specs.Sources.{values_with};
 ghost use Rattle.make_laws.specs.MadePackages.{HasFoldersOver, HasSizeOfFiles, HasTriggersInOrder, IsEnterableFolder, IsInByteOrder, IsMadePackage, contained_package};
+ghost use Rattle.make_laws.specs.SaidOfFields.{TellsOptions};
 ghost use Rattle.make_laws.specs.ScriptFiles.{IsScriptGiven, script_named};
 ghost use Rattle.std.specs.Prelude.{◌≡◌, ◌∷◌, ℕ, All, List};
 
+use dep_core::{read_texts_are_spelled, spelled_texts_are_read};
 use make_core::a_made_package_is_read_back;
 use make_package::each_name_stands_in_one_folder;
 
@@ -63,6 +66,18 @@ pub fn a_made_package_has_its_scripts()
         (script_named type (contained_package bytes)) }
 {
     a_made_package_is_read_back();
+}
+
+/// A package that is made tells of each field what the options `-I` say: of a list all that they
+/// say, in the order given, of another field the one value, and nothing where none is given.
+pub fn a_made_package_tells_what_its_options_say()
+    ensures { (command : CommandLine) (names : List (List ℕ)) (read : Reads) (bytes : List ℕ)
+        (f : Field) → IsMadePackage command names read bytes
+        → TellsOptions f command.values (contained_package bytes) }
+{
+    a_made_package_is_read_back();
+    read_texts_are_spelled();
+    spelled_texts_are_read();
 }
 
 /// The installed size that a package tells is the sum of the sizes that its files tell.

@@ -1,21 +1,62 @@
-//! What the values of a package and of an index tell, field by field.
+//! Which values `-I` of `mkpkg` takes and what `--script` gives, and what the values of a package
+//! and of an index tell, field by field.
 ghost use Rattle.adb_copy.specs.Zeros.{without_zeros};
 ghost use Rattle.adb_tables.specs.Values.{entry_in, int_in, text_in};
 ghost use Rattle.adb_tables.specs.declared.tables.Which.TheVariants.{Dep, File, Index, Package, PkgInfo};
 ghost use Rattle.adb_view.specs.Plain.{Plain, arr_value, blob_value, int, null};
+ghost use Rattle.command_core.specs.Values.{script_file, script_type};
+ghost use Rattle.command_core.specs.declared.values.OptionValue.{OptionValue};
 ghost use Rattle.dep_core.specs.Dependency.{Dependency};
 ghost use Rattle.dep_core.specs.Value.{dep_value};
 ghost use Rattle.make_index.specs.Entries.{entry_of_package};
 ghost use Rattle.make_index.specs.Index.{value_of_index};
-ghost use Rattle.make_info.specs.Information.{need_value};
+ghost use Rattle.make_info.specs.FieldTexts.{field_text_in};
+ghost use Rattle.make_info.specs.Fields.{FieldValue, kind_of_field, values_by_kind, text, number, need};
+ghost use Rattle.make_info.specs.Information.{offends, plain_value};
 ghost use Rattle.make_info.specs.Values.{number_value, plains_of_list};
-ghost use Rattle.make_package.specs.Package.{value_of_file};
+ghost use Rattle.make_info.specs.declared.field.Field.{Field};
 ghost use Rattle.make_laws.specs.MadePackages.{contained_package};
 ghost use Rattle.make_laws.specs.NamedFields.{field_named};
+ghost use Rattle.make_laws.specs.OptionGrammar.{IsTakenOption, SaysOfField, option_text};
 ghost use Rattle.make_laws.specs.SourceBytes.{IsLinkTo, IsNoLink};
+ghost use Rattle.make_package.specs.Package.{value_of_file};
 ghost use Rattle.pkg_core.specs.Whole.{package_id};
 ghost use Rattle.sha2.specs.Sha256.{sha256};
-ghost use Rattle.std.specs.Prelude.{◌≡◌, ◌≢◌, ◌∷◌, ℕ, List, codes, length};
+ghost use Rattle.std.specs.List.{list_any};
+ghost use Rattle.std.specs.Prelude.{◌≡◌, ◌↔◌, ◌==◌, ◌++◌, ◌∷◌, ℕ, Bool, false, List, Some, ◌≢◌, codes, length};
+
+use dep_core::{read_texts_are_spelled, spelled_texts_are_read};
+
+/// A text gives a value to a field exactly where it is FIELD:VALUE.
+pub fn a_text_gives_a_value_to_a_field()
+    ensures { (t value : List ℕ) (f : Field)
+        → field_text_in t ≡ Some (record { field = f; value = value }) ↔ t ≡ option_text f value }
+{}
+
+/// A value is one of a field exactly where it is of the field's grammar, and says what this says.
+pub fn a_value_is_taken_by_the_grammar_of_its_field()
+    ensures { (f : Field) (value : List ℕ) (said : List FieldValue)
+        → values_by_kind (kind_of_field f) value ≡ Some said ↔ SaysOfField f value said }
+{
+    read_texts_are_spelled();
+    spelled_texts_are_read();
+}
+
+/// A value of `-I` offends behind those before it exactly where it is not taken.
+pub fn an_option_offends_unless_it_is_taken()
+    ensures { (too_long : Bool) (before : List OptionValue) (option : OptionValue)
+        → offends too_long before option ≡ false ↔ IsTakenOption too_long before option }
+{
+    read_texts_are_spelled();
+    spelled_texts_are_read();
+}
+
+/// A script is given as TYPE:FILE: the type ends before the first colon (58), and all behind it is
+/// the file's name, also further colons.
+pub fn a_script_is_given_as_its_type_and_its_file()
+    ensures { (type file : List ℕ) → list_any (λ b. b == 58) type ≡ false
+        → (script_type (type ++ 58 ∷ file) ≡ type) × (script_file (type ++ 58 ∷ file) ≡ file) }
+{}
 
 /// A file of a package tells what its bytes in the tree are: where they are a link, the target and
 /// neither size nor hash; else how many they are and their SHA-256, and no target.
@@ -32,11 +73,13 @@ pub fn a_file_tells_what_its_bytes_are()
         × (field_named File (codes "hashes") file ≡ blob_value (sha256 bytes))) }
 {}
 
-/// A dependency in a package's information tells its name, its version and its match number, which
-/// are read as this dependency.
-pub fn a_need_tells_its_dependency()
-    ensures { (d : Dependency)
-        → (let told = need_value (dep_value d) in
+/// A value that an option says stands as it is: a text, a number, also 0, and of a dependency the
+/// name, the version and the match number.
+pub fn a_value_stands_as_it_is_said()
+    ensures text { (bytes : List ℕ) → plain_value (text bytes) ≡ blob_value bytes }
+    ensures number { (n : ℕ) → plain_value (number n) ≡ int n }
+    ensures need { (d : Dependency)
+        → (let told = plain_value (need d) in
         (field_named Dep (codes "name") told ≡ blob_value (dep_value d).name)
         × (field_named Dep (codes "version") told ≡ blob_value (dep_value d).version)
         × (field_named Dep (codes "match") told ≡ number_value (dep_value d).matching)) }

@@ -1,5 +1,5 @@
 use Rattle.make_laws.proofs.TakenOptions.{not_offended, taken}
-use Rattle.make_laws.proofs.options.an_option_offends_unless_it_is_taken.Goals as goal
+use Rattle.make_laws.proofs.values.an_option_offends_unless_it_is_taken.Goals as goal
 
 pub returns : goal.returns
 returns c = λ too_long before option. (

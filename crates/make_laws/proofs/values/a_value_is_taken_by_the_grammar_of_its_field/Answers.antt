@@ -1,5 +1,5 @@
 use Rattle.make_laws.proofs.FieldValues.{says_from, says_to}
-use Rattle.make_laws.proofs.options.a_value_is_taken_by_the_grammar_of_its_field.Goals as goal
+use Rattle.make_laws.proofs.values.a_value_is_taken_by_the_grammar_of_its_field.Goals as goal
 
 pub returns : goal.returns
 returns c = λ f value said. (
