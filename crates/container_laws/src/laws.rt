@@ -14,8 +14,8 @@ pub fn the_first_fault_of_a_header_is_reported()
 {}
 
 /// The fault that is reported of a container is the first of its tests that fails, in this order:
-/// the header, the schema, the first block, the head of its payload, the shapes of the values, their
-/// texts, the names that stand twice, and the blocks behind them.
+/// the header, the schema, the first block, the head of its payload, the shapes of the values,
+/// their texts, the names that stand twice, and the blocks behind them.
 pub fn the_first_fault_of_a_container_is_reported()
     ensures table { (which : Which) (file : List ℕ) (c : Cause)
         → whole_fault which file ≡ Some c → IsFaultOfTable which file c }
