@@ -31,11 +31,11 @@ const QUESTIONS: [(&[u8], Question); 3] = [
 
 /// The containers of the packages that come, in the order in which they were told.
 #[derive(Drop)]
-struct Change {
+struct ComingPackages {
     packages: Vec<Vec<u8>>,
 }
 
-impl Subject for Change {
+impl Subject for ComingPackages {
     fn answer(
         &mut self,
         alloc: Global,
@@ -67,7 +67,7 @@ fn main(rt: HostRuntime) -> io::Result<ExitCode> {
     let mut text = Vec::new(alloc);
     rt.stdin().read_to_end(&mut text)?;
     let mut report = Vec::new(alloc);
-    let mut change = Change {
+    let mut change = ComingPackages {
         packages: Vec::new(alloc),
     };
     let passed = run_lines(alloc, &mut change, &text, &mut report)?;

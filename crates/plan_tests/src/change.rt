@@ -15,7 +15,7 @@ use tree_memory::MemoryTree;
 
 /// The packages before a change and after it, each as its row tells it.
 #[derive(Drop)]
-pub struct Change {
+pub struct ToldChange {
     pub before: Vec<Words>,
     pub after: Vec<Words>,
     pub purge: bool,
@@ -25,7 +25,7 @@ pub struct Change {
 pub fn add_plan(
     alloc: Global,
     tree: &mut MemoryTree,
-    change: &Change,
+    change: &ToldChange,
     answer: &mut Vec<u8>,
 ) -> Result<Vec<u8>, AllocError> {
     let file = database_file(alloc, &change.before)?;
@@ -37,7 +37,7 @@ pub fn add_plan(
 fn add_plan_over<'a>(
     alloc: Global,
     tree: &mut MemoryTree,
-    change: &Change,
+    change: &ToldChange,
     file: &'a [u8],
     fronts: &'a [Front],
     answer: &mut Vec<u8>,
@@ -55,7 +55,7 @@ fn add_plan_over<'a>(
 fn add_plan_of<'a>(
     alloc: Global,
     tree: &mut MemoryTree,
-    change: &Change,
+    change: &ToldChange,
     db: &Db<'a>,
     fronts: &'a [Front],
     answer: &mut Vec<u8>,

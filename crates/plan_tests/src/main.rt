@@ -9,7 +9,7 @@ mod package;
 
 use adb_schema::ReadFault;
 use base_core::{Name, Words};
-use change::{Change, add_plan};
+use change::{ToldChange, add_plan};
 use db_core::Db;
 use row_lines::{Subject, add_yes_or_no, number_of, run_lines, value_named, word_at, words_behind};
 use std::alloc::{AllocError, Global};
@@ -50,7 +50,7 @@ const QUESTIONS: [(&[u8], Question); 10] = [
 /// leads to.
 #[derive(Drop)]
 struct Planned {
-    change: Change,
+    change: ToldChange,
     tree: MemoryTree,
     asked: u64,
     database: Vec<u8>,
@@ -59,7 +59,7 @@ struct Planned {
 impl Planned {
     fn new(alloc: Global) -> Planned {
         Planned {
-            change: Change {
+            change: ToldChange {
                 before: Vec::new(alloc),
                 after: Vec::new(alloc),
                 purge: false,

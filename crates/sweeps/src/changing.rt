@@ -11,7 +11,7 @@ use tree_memory::MemoryTree;
 
 /// One of the changes.
 #[derive(Clone, Copy)]
-pub enum Change {
+pub enum StagedChange {
     OneWrite,
     TwoWrites,
 }
@@ -25,9 +25,12 @@ pub enum Reached {
 }
 
 /// The change that a word names.
-pub fn change_named(word: &[u8]) -> Option<Change> {
+pub fn change_named(word: &[u8]) -> Option<StagedChange> {
     value_named(
-        &[(b"one", Change::OneWrite), (b"two", Change::TwoWrites)],
+        &[
+            (b"one", StagedChange::OneWrite),
+            (b"two", StagedChange::TwoWrites),
+        ],
         word,
     )
 }
@@ -44,15 +47,15 @@ pub fn add_reached(answer: &mut Vec<u8>, reached: Reached) -> Result<(), AllocEr
 /// Recovers the tree, and makes the change.
 pub fn run_change(
     alloc: Global,
-    change: Change,
+    change: StagedChange,
     tree: &mut MemoryTree,
 ) -> Result<Reached, AllocError> {
     if recover(alloc, tree).is_err() {
         return Ok(Reached::Nothing);
     }
     match change {
-        Change::OneWrite => run_one_write(alloc, tree),
-        Change::TwoWrites => run_two_writes(alloc, tree),
+        StagedChange::OneWrite => run_one_write(alloc, tree),
+        StagedChange::TwoWrites => run_two_writes(alloc, tree),
     }
 }
 

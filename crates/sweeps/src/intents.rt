@@ -1,5 +1,5 @@
 //! Recoveries of trees that no change of this program leaves, and of changes that are partly done.
-use crate::changing::{Change, add_reached, change_named, run_change};
+use crate::changing::{StagedChange, add_reached, change_named, run_change};
 use crate::trees::{add_count, add_tree, long_at, put, text_of, tree_of};
 use base_core::Words;
 use journal_core::{RecoverFault, recover};
@@ -82,7 +82,7 @@ pub fn add_change(alloc: Global, words: &Words, answer: &mut Vec<u8>) -> Result<
 
 fn add_changed_tree(
     alloc: Global,
-    change: Change,
+    change: StagedChange,
     tree: &mut MemoryTree,
     answer: &mut Vec<u8>,
 ) -> Result<(), AllocError> {

@@ -1,5 +1,5 @@
 //! A change that is cut off behind a call, or whose call fails, and the recovery of each image.
-use crate::changing::{Change, Reached, add_reached, change_named, run_change};
+use crate::changing::{Reached, StagedChange, add_reached, change_named, run_change};
 use crate::trees::{add_count, long_at, text_of, tree_of};
 use base_core::Words;
 use journal_core::recover;
@@ -22,7 +22,7 @@ struct Wanted {
 
 /// What a recovered tree holds.
 #[derive(Clone, Copy, PartialEq)]
-enum Found {
+enum Recovered {
     Old,
     New,
     Other,
@@ -48,12 +48,12 @@ impl Tally {
         }
     }
 
-    fn with(self, found: Found) -> Tally {
+    fn with(self, found: Recovered) -> Tally {
         let mut tally = self;
         match found {
-            Found::Old => tally.old = tally.old.saturating_add(1),
-            Found::New => tally.new = tally.new.saturating_add(1),
-            Found::Other => tally.other = tally.other.saturating_add(1),
+            Recovered::Old => tally.old = tally.old.saturating_add(1),
+            Recovered::New => tally.new = tally.new.saturating_add(1),
+            Recovered::Other => tally.other = tally.other.saturating_add(1),
         }
         tally
     }
@@ -77,7 +77,7 @@ impl Tally {
 fn wanted_texts(
     alloc: Global,
     words: &Words,
-    change: Change,
+    change: StagedChange,
 ) -> Result<Option<Wanted>, AllocError> {
     let mut tree = tree_of(alloc, words, FILES)?;
     texts_of_change(alloc, change, &mut tree)
@@ -85,7 +85,7 @@ fn wanted_texts(
 
 fn texts_of_change(
     alloc: Global,
-    change: Change,
+    change: StagedChange,
     tree: &mut MemoryTree,
 ) -> Result<Option<Wanted>, AllocError> {
     let old = text_of(alloc, tree)?;
@@ -96,14 +96,14 @@ fn texts_of_change(
     Ok(Some(Wanted { old, new }))
 }
 
-fn found_of(wanted: &Wanted, text: &[u8]) -> Found {
+fn found_of(wanted: &Wanted, text: &[u8]) -> Recovered {
     if text == wanted.old.as_slice() {
-        return Found::Old;
+        return Recovered::Old;
     }
     if text == wanted.new.as_slice() {
-        return Found::New;
+        return Recovered::New;
     }
-    Found::Other
+    Recovered::Other
 }
 
 /// What a tree holds once it is recovered; and what a crash then leaves of it is the same once that
@@ -113,15 +113,15 @@ fn found_in(
     wanted: &Wanted,
     tree: &mut MemoryTree,
     choice: u64,
-) -> Result<Found, AllocError> {
+) -> Result<Recovered, AllocError> {
     if recover(alloc, tree).is_err() {
-        return Ok(Found::Other);
+        return Ok(Recovered::Other);
     }
     let text = text_of(alloc, tree)?;
     if is_settled(alloc, tree, &text, choice)? {
         return Ok(found_of(wanted, &text));
     }
-    Ok(Found::Other)
+    Ok(Recovered::Other)
 }
 
 /// Whether an image of a tree recovers to these files.
@@ -160,7 +160,7 @@ pub fn add_stop(alloc: Global, words: &Words, answer: &mut Vec<u8>) -> Result<()
 fn add_stop_of(
     alloc: Global,
     words: &Words,
-    change: Change,
+    change: StagedChange,
     wanted: &Wanted,
     answer: &mut Vec<u8>,
 ) -> Result<(), AllocError> {
@@ -171,7 +171,7 @@ fn add_stop_of(
 
 fn add_images(
     alloc: Global,
-    change: Change,
+    change: StagedChange,
     wanted: &Wanted,
     tree: &mut MemoryTree,
     answer: &mut Vec<u8>,
@@ -195,7 +195,7 @@ fn found_in_image(
     wanted: &Wanted,
     tree: &MemoryTree,
     choice: u64,
-) -> Result<Found, AllocError> {
+) -> Result<Recovered, AllocError> {
     let mut image = tree.pick_image(alloc, choice)?;
     found_in(alloc, wanted, &mut image, choice)
 }
@@ -228,7 +228,7 @@ pub fn add_fault(alloc: Global, words: &Words, answer: &mut Vec<u8>) -> Result<(
 fn add_failed_change(
     alloc: Global,
     words: &Words,
-    change: Change,
+    change: StagedChange,
     answer: &mut Vec<u8>,
 ) -> Result<(), AllocError> {
     let mut tree = tree_of(alloc, words, FILES)?;
@@ -241,7 +241,7 @@ fn add_failed_change(
 /// How far a change comes whose call with this number fails.
 fn run_failing(
     alloc: Global,
-    change: Change,
+    change: StagedChange,
     tree: &mut MemoryTree,
     call: u64,
 ) -> Result<Reached, AllocError> {
@@ -253,7 +253,7 @@ fn run_failing(
 fn tally_of_first(
     alloc: Global,
     words: &Words,
-    change: Change,
+    change: StagedChange,
     wanted: &Wanted,
 ) -> Result<Tally, AllocError> {
     let call = long_at(words, 2);
@@ -276,7 +276,7 @@ fn tally_of_first(
 fn tally_of_second(
     alloc: Global,
     words: &Words,
-    change: Change,
+    change: StagedChange,
     wanted: &Wanted,
     failing: Failing,
     tally: Tally,
@@ -301,7 +301,7 @@ fn tally_of_second(
 fn first_fails(
     alloc: Global,
     words: &Words,
-    change: Change,
+    change: StagedChange,
     failing: Failing,
 ) -> Result<bool, AllocError> {
     let mut tree = tree_of(alloc, words, FILES)?;
@@ -311,7 +311,7 @@ fn first_fails(
 /// Whether the recovery of a change that failed fails too.
 fn run_and_recover(
     alloc: Global,
-    change: Change,
+    change: StagedChange,
     tree: &mut MemoryTree,
     failing: Failing,
 ) -> Result<bool, AllocError> {
@@ -323,7 +323,7 @@ fn run_and_recover(
 fn tally_of_third(
     alloc: Global,
     words: &Words,
-    change: Change,
+    change: StagedChange,
     wanted: &Wanted,
     failing: Failing,
     tally: Tally,
@@ -334,7 +334,7 @@ fn tally_of_third(
 
 fn recover_thrice(
     alloc: Global,
-    change: Change,
+    change: StagedChange,
     wanted: &Wanted,
     tree: &mut MemoryTree,
     failing: Failing,
