@@ -103,7 +103,7 @@ look_found command (v ∷ rest) (Ok verdict) reads found =
 
 pub look_read : (command : CommandLine) (judged : Judged) → does_only_read (effect_of command.applet) ≡ true → IfOk judged (λ verdict. (read : Reads) × (as_outcome no_names verdict ≡ command_outcome command nothing_given read no_names)) → IfOk judged (ReportsOne (IsFoundOutcomeOf (Ok command)))
 look_read command (Err e) reads found = tt
-look_read command (Ok verdict) reads (read, is) = (as_outcome no_names verdict, inl (nothing_given, read, no_names, none_by_some command read reads, inl is), refl)
+look_read command (Ok verdict) reads (read, is) = (as_outcome no_names verdict, inl (nothing_given, read, no_names, none_by_some command read no_names reads, inl is), refl)
 
 pub look_run : (command : CommandLine) (old now : History) (judged : Judged) → does_only_read (effect_of command.applet) ≡ true → now ≡ old
     → IfObservable old (λ v. IsWholeRun (Wholes command v) (effect_of command.applet) (output_if (effect_of command.applet) command) judged v old now)
@@ -130,14 +130,14 @@ made_given other command files names makes are = cc
 given_of_names : (command : CommandLine) (files : Files) (names : List (List ℕ)) → effect_of command.applet ≡ Makes → IsListingFor command.applet command files names → IsGiven command (reads_in files) files (listed names)
 given_of_names command files names makes are = let (list, choice, clash) = made_given command.applet command files names makes are in record { names = list; chosen = choice; clash = clash }
 
-made_by_some : (applet : Applet) (command : CommandLine) (read : Reads) (names : List (List ℕ)) → effect_of applet ≡ Makes → MayBeListedFor applet command names
-    → MayBeListedFor applet command names × IsChosenFor (effect_of applet) command read None × MayClash (effect_of applet) None
-made_by_some Mkpkg command read names makes are = (are, refl, refl)
-made_by_some Mkndx command read names makes are = (are, refl, refl)
-made_by_some other command read names makes are = cc
+made_by_some : (applet : Applet) (command : CommandLine) (read : Reads) (files : Files) (names : List (List ℕ)) → effect_of applet ≡ Makes → MayBeListedFor applet command names
+    → MayBeListedFor applet command names × IsChosenFor (effect_of applet) command read None × MayClash (effect_of applet) command read files None None
+made_by_some Mkpkg command read files names makes are = (are, refl, refl)
+made_by_some Mkndx command read files names makes are = (are, refl, refl)
+made_by_some other command read files names makes are = absurd (cc)
 
-given_by_some : (command : CommandLine) (read : Reads) (names : List (List ℕ)) → effect_of command.applet ≡ Makes → MayBeListedFor command.applet command names → MayBeGiven command read (listed names)
-given_by_some command read names makes are = let (list, choice, clash) = made_by_some command.applet command read names makes are in record { names = list; chosen = choice; clash = clash }
+given_by_some : (command : CommandLine) (read : Reads) (files : Files) (names : List (List ℕ)) → effect_of command.applet ≡ Makes → MayBeListedFor command.applet command names → MayBeGiven command read files (listed names)
+given_by_some command read files names makes are = let (list, choice, clash) = made_by_some command.applet command read files names makes are in record { names = list; chosen = choice; clash = clash }
 
 makes_package : (command : CommandLine) → Mkpkg ≡ command.applet → effect_of command.applet ≡ Makes
 makes_package command same = sym (ap effect_of same)
@@ -178,13 +178,13 @@ pub package_read_one : (command : CommandLine) (judged : Judged) → Mkpkg ≡ c
     → IfOk judged (ReportsOne (IsFoundOver command))
 package_read_one command (Err e) same found = tt
 package_read_one command (Ok verdict) same (names, named, read, reports) =
-    (mkpkg read no_names command names, (listed names, read, no_names, given_by_some command read names (makes_package command same) (subst (λ (a : Applet). MayBeListedFor a command names) same named), inl (ap (λ (a : Applet). applet_outcome a command (listed names) read no_names) same)), reports)
+    (mkpkg read no_names command names, (listed names, read, no_names, given_by_some command read no_names names (makes_package command same) (subst (λ (a : Applet). MayBeListedFor a command names) same named), inl (ap (λ (a : Applet). applet_outcome a command (listed names) read no_names) same)), reports)
 
 pub index_read_one : (command : CommandLine) (judged : Judged) → Mkndx ≡ command.applet → IfOk judged (λ verdict. (read : Reads) × AreFiles read 0 command.operands × Reports verdict (mkndx read no_names command))
     → IfOk judged (ReportsOne (IsFoundOver command))
 index_read_one command (Err e) same found = tt
 index_read_one command (Ok verdict) same (read, files, reports) =
-    (mkndx read no_names command, (listed [], read, no_names, given_by_some command read [] (makes_index command same) (subst (λ (a : Applet). MayBeListedFor a command []) same refl), inl (ap (λ (a : Applet). applet_outcome a command (listed []) read no_names) same)), reports)
+    (mkndx read no_names command, (listed [], read, no_names, given_by_some command read no_names [] (makes_index command same) (subst (λ (a : Applet). MayBeListedFor a command []) same refl), inl (ap (λ (a : Applet). applet_outcome a command (listed []) read no_names) same)), reports)
 
 runs_among : (A B : TreeState → Outcome → Type 0) (out : Option (List ℕ)) (judged : Judged) (old now : History) → ((v : TreeState) (o : Outcome) → A v o → B v o) → ((v : TreeState) (o : Outcome) → B v o → A v o)
     → IfObservable old (λ v. IsRun (A v) Makes out judged v old now) → IfNothingWaits old (λ v. IsRun (B v) Makes out judged v old now)

@@ -17,8 +17,8 @@ use Rattle.change_outcome.specs.ChangeOutcome.{ChangeDone}
 use Rattle.command_core.specs.Command.{CommandLine}
 use Rattle.command_core.specs.declared.command.Applet.{Applet}
 use Rattle.command_core.specs.declared.command.Applet.TheVariants.{Add, Del, Fix, Upgrade}
-use Rattle.engine_core.specs.ChangeRun.{ComesTo, DoesCommit, IsChangeRun, IsCommit, IsFoundChanged, IsNoneOrCommit, report_as_is, report_in, selected_in}
-use Rattle.engine_core.specs.Changed.{IsClashFor, changed, selected_for}
+use Rattle.engine_core.specs.ChangeRun.{ComesTo, DoesCommit, IsChangeRun, IsCommit, IsFoundChanged, IsNoneOrCommit, report_as_is, report_in, coming_in}
+use Rattle.engine_core.specs.Changed.{IsClashFor, IsClashForOver, changed, selected_for}
 use Rattle.engine_core.specs.Choice.{IsChoiceFrom}
 use Rattle.engine_core.specs.Runs.{IsRunCounted}
 use Rattle.engine_core.specs.Selecting.{pool_for}
@@ -74,17 +74,18 @@ are_given command read files chosen clash changes choice first =
     let (list, chosen_so, clash_so) = parts_given command.applet command read files chosen clash changes choice first in
     record { names = list; chosen = chosen_so; clash = clash_so }
 
-parts_by_some : (applet : Applet) (command : CommandLine) (read : Reads) (chosen : Option (List ℕ)) (clash : Option NamePair) → effect_of applet ≡ Changes → IsChoiceFrom (pool_for command read) chosen
-    → MayBeListedFor applet command [] × IsChosenFor (effect_of applet) command read chosen × MayClash (effect_of applet) clash
-parts_by_some Add command read chosen clash changes choice = (refl, choice, tt)
-parts_by_some Del command read chosen clash changes choice = (refl, choice, tt)
-parts_by_some Upgrade command read chosen clash changes choice = (refl, choice, tt)
-parts_by_some Fix command read chosen clash changes choice = (refl, choice, tt)
-parts_by_some other command read chosen clash changes choice = cc
+parts_by_some : (applet : Applet) (command : CommandLine) (read : Reads) (files standing : Files) (chosen : Option (List ℕ)) (clash : Option NamePair) → effect_of applet ≡ Changes → IsChoiceFrom (pool_for command read) chosen
+    → IsClashForOver command read files standing chosen clash → MayBeListedFor applet command [] × IsChosenFor (effect_of applet) command read chosen × MayClash (effect_of applet) command read files chosen clash
+parts_by_some Add command read files standing chosen clash changes choice first = (refl, choice, (standing, first))
+parts_by_some Del command read files standing chosen clash changes choice first = (refl, choice, (standing, first))
+parts_by_some Upgrade command read files standing chosen clash changes choice first = (refl, choice, (standing, first))
+parts_by_some Fix command read files standing chosen clash changes choice first = (refl, choice, (standing, first))
+parts_by_some other command read files standing chosen clash changes choice first = absurd (cc)
 
-may_be_given : (command : CommandLine) (read : Reads) (chosen : Option (List ℕ)) (clash : Option NamePair) → effect_of command.applet ≡ Changes → IsChoiceFrom (pool_for command read) chosen → MayBeGiven command read (given_by chosen clash)
-may_be_given command read chosen clash changes choice =
-    let (list, chosen_so, clash_so) = parts_by_some command.applet command read chosen clash changes choice in
+may_be_given : (command : CommandLine) (read : Reads) (files standing : Files) (chosen : Option (List ℕ)) (clash : Option NamePair) → effect_of command.applet ≡ Changes → IsChoiceFrom (pool_for command read) chosen
+    → IsClashForOver command read files standing chosen clash → MayBeGiven command read files (given_by chosen clash)
+may_be_given command read files standing chosen clash changes choice first =
+    let (list, chosen_so, clash_so) = parts_by_some command.applet command read files standing chosen clash changes choice first in
     record { names = list; chosen = chosen_so; clash = clash_so }
 
 -- what the command comes to
@@ -144,10 +145,10 @@ module _ (command : CommandLine) (changes : effect_of command.applet ≡ Changes
   abbrev wanted : Wanted
   wanted = changed command run.read run.files run.chosen run.clash
 
-  found_so : (verdict : Verdict) → IsToldAs answer (Ok verdict) → AgreesUnlessDisk report_as_is answer (report_in wanted) ⊎ IsFoundChanged (selected_in (selected_for command run.read run.chosen)) wanted old answer → ReportsOne (IsFoundOver command) verdict
+  found_so : (verdict : Verdict) → IsToldAs answer (Ok verdict) → AgreesUnlessDisk report_as_is answer (report_in wanted) ⊎ IsFoundChanged (coming_in (selected_for command run.read run.chosen)) wanted old answer → ReportsOne (IsFoundOver command) verdict
   found_so verdict told (inl agrees) = (
     change_outcome run.files wanted,
-    (found, run.read, run.files, may_be_given command run.read run.chosen run.clash changes run.choice, inl (applet_is command.applet command run.read run.files run.chosen run.clash changes)),
+    (found, run.read, run.files, may_be_given command run.read run.files run.standing run.chosen run.clash changes run.choice run.is_clash, inl (applet_is command.applet command run.read run.files run.chosen run.clash changes)),
     reports_wanted answer verdict run.files wanted agrees told,
   )
   found_so verdict told (inr spoiled) = (
@@ -156,12 +157,12 @@ module _ (command : CommandLine) (changes : effect_of command.applet ≡ Changes
       found,
       run.read,
       run.files,
-      may_be_given command run.read run.chosen run.clash changes run.choice,
+      may_be_given command run.read run.files run.standing run.chosen run.clash changes run.choice run.is_clash,
       inr (record {
         changes = changes;
         commits = ap (λ (o : Outcome). o.commits) (sym (applet_is command.applet command run.read run.files run.chosen run.clash changes)) ∙ commits_so run.files wanted spoiled.commits;
         candidate = spoiled.candidate;
-        selects = spoiled.selects;
+        comes = spoiled.comes;
         cause = spoiled.cause;
         refusal = refl;
       }),
@@ -180,12 +181,12 @@ pub record IsRunAt (command : CommandLine) (v : TreeState) (old now : History) (
   pub chosen : Option (List ℕ)
   pub clash : Option NamePair
   pub given : IsGiven command (reads_in (files_of v)) (files_of v) (given_by chosen clash)
-  pub comes : ComesTo (selected_in (selected_for command (reads_in (files_of v)) chosen)) (changed command (reads_in (files_of v)) (files_of v) chosen clash) old now a b answer
+  pub comes : ComesTo (coming_in (selected_for command (reads_in (files_of v)) chosen)) (changed command (reads_in (files_of v)) (files_of v) chosen clash) old now a b answer
 
-abbrev RunFacts : CommandLine → History → History → Counts → Counts → Answered → Option (List ℕ) → Option NamePair → Reads → Files → Type 0
-RunFacts command old now a b answer chosen clash read files =
-    IsChoiceFrom (pool_for command read) chosen × IsClashFor command read files chosen clash
-    × ComesTo (selected_in (selected_for command read chosen)) (changed command read files chosen clash) old now a b answer
+abbrev RunFacts : CommandLine → History → History → Counts → Counts → Answered → Option (List ℕ) → Option NamePair → Reads → Files → Files → Type 0
+RunFacts command old now a b answer chosen clash read files standing =
+    IsChoiceFrom (pool_for command read) chosen × IsClashForOver command read files standing chosen clash
+    × ComesTo (coming_in (selected_for command read chosen)) (changed command read files chosen clash) old now a b answer
 
 run_at : (command : CommandLine) → effect_of command.applet ≡ Changes → (v : TreeState) (rest now : History) (a b : Counts) (answer : Answered) → IsChangeRun command (v ∷ rest) now a b answer → IsRunAt command v (v ∷ rest) now a b answer
 run_at command changes v rest now a b answer run = record {
@@ -198,10 +199,11 @@ run_at command changes v rest now a b answer run = record {
     same_reads : run.read ≡ reads_in (files_of v)
     same_reads i n name = run.observed n name i
 
-    both : RunFacts command (v ∷ rest) now a b answer run.chosen run.clash (reads_in (files_of v)) (files_of v)
+    both : RunFacts command (v ∷ rest) now a b answer run.chosen run.clash (reads_in (files_of v)) (files_of v) (files_of v)
     both =
-        subst (λ (read : Reads). RunFacts command (v ∷ rest) now a b answer run.chosen run.clash read (files_of v)) same_reads
-        (subst (λ (files : Files). RunFacts command (v ∷ rest) now a b answer run.chosen run.clash run.read files) run.there (run.choice, run.is_clash, run.comes))
+        subst (λ (read : Reads). RunFacts command (v ∷ rest) now a b answer run.chosen run.clash read (files_of v) (files_of v)) same_reads
+        (subst (λ (files : Files). RunFacts command (v ∷ rest) now a b answer run.chosen run.clash run.read files (files_of v)) run.there
+        (subst (λ (standing : Files). RunFacts command (v ∷ rest) now a b answer run.chosen run.clash run.read run.files standing) run.stand (run.choice, run.is_clash, run.comes)))
 
 -- no answer but want of memory and a fault of the tree is judged as one
 told_error : (answer : Answered) (e : TreeFault) → IsToldAs answer (Err e) → ((e ≡ Trees.Disk) × (answer ≡ Err Disk)) ⊎ ((e ≡ Trees.Memory) × (answer ≡ Err Memory))

@@ -56,9 +56,9 @@ no_clash : (effect : Effect) (command : CommandLine) (read : Reads) (files : Fil
 no_clash Changes command read files reads = cc
 no_clash other command read files reads = refl
 
-no_clash_by_some : (effect : Effect) → does_only_read effect ≡ true → MayClash effect None
-no_clash_by_some Changes reads = cc
-no_clash_by_some other reads = refl
+no_clash_by_some : (effect : Effect) (command : CommandLine) (read : Reads) (files : Files) → does_only_read effect ≡ true → MayClash effect command read files None None
+no_clash_by_some Changes command read files reads = absurd (cc)
+no_clash_by_some other command read files reads = refl
 
 pub none_given : (command : CommandLine) (read : Reads) (files : Files) → does_only_read (effect_of command.applet) ≡ true → IsGiven command read files nothing_given
 none_given command read files reads = record {
@@ -67,11 +67,11 @@ none_given command read files reads = record {
   clash = no_clash (effect_of command.applet) command read files reads;
 }
 
-pub none_by_some : (command : CommandLine) (read : Reads) → does_only_read (effect_of command.applet) ≡ true → MayBeGiven command read nothing_given
-none_by_some command read reads = record {
+pub none_by_some : (command : CommandLine) (read : Reads) (files : Files) → does_only_read (effect_of command.applet) ≡ true → MayBeGiven command read files nothing_given
+none_by_some command read files reads = record {
   names = no_listing_by_some command.applet command reads;
   chosen = no_choice (effect_of command.applet) command read reads;
-  clash = no_clash_by_some (effect_of command.applet) reads;
+  clash = no_clash_by_some (effect_of command.applet) command read files reads;
 }
 
 pub words_read : (effect : Effect) → does_rest_on_words effect ≡ true → does_only_read effect ≡ true

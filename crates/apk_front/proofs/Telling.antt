@@ -53,14 +53,14 @@ are_given command read files tells =
     let (list, chosen, clash) = tells_given command.applet command read files tells in
     record { names = list; chosen = chosen; clash = clash }
 
-tells_by_some : (applet : Applet) (command : CommandLine) (read : Reads) → effect_of applet ≡ Tells
-    → MayBeListedFor applet command [] × IsChosenFor (effect_of applet) command read None × MayClash (effect_of applet) None
-tells_by_some Info command read tells = (refl, refl, refl)
-tells_by_some other command read tells = cc
+tells_by_some : (applet : Applet) (command : CommandLine) (read : Reads) (files : Files) → effect_of applet ≡ Tells
+    → MayBeListedFor applet command [] × IsChosenFor (effect_of applet) command read None × MayClash (effect_of applet) command read files None None
+tells_by_some Info command read files tells = (refl, refl, refl)
+tells_by_some other command read files tells = absurd (cc)
 
-may_be_given : (command : CommandLine) (read : Reads) → effect_of command.applet ≡ Tells → MayBeGiven command read nothing_given
-may_be_given command read tells =
-    let (list, chosen, clash) = tells_by_some command.applet command read tells in
+may_be_given : (command : CommandLine) (read : Reads) (files : Files) → effect_of command.applet ≡ Tells → MayBeGiven command read files nothing_given
+may_be_given command read files tells =
+    let (list, chosen, clash) = tells_by_some command.applet command read files tells in
     record { names = list; chosen = chosen; clash = clash }
 
 -- ---- what was answered as wanted is reported so
@@ -91,7 +91,7 @@ module _ (command : CommandLine) (tells : effect_of command.applet ≡ Tells) wh
   info_read old answer (Err e) told by = tt
   info_read old answer (Ok verdict) told by = (
     info by.read no_names command,
-    (nothing_given, by.read, no_names, may_be_given command by.read tells, inl (info_is command.applet command nothing_given by.read no_names tells)),
+    (nothing_given, by.read, no_names, may_be_given command by.read no_names tells, inl (info_is command.applet command nothing_given by.read no_names tells)),
     reports_wanted answer verdict no_names (info_told command by.read) by.is told,
   )
 

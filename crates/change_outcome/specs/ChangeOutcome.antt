@@ -193,15 +193,30 @@ change_or_refusal inputs r wishes read clash files =
     and_then (change_members inputs r wishes read)
     (change_with_members inputs r wishes clash files)
 
--- it is the first clash of the names after the change, where the packages after it are found; else
--- nothing is asked, and there is none
+-- ---- the first clash
+
+-- It is the first clash of the names after the change, where the packages after it are found; else
+-- nothing is asked, and there is none. By these files configuration is kept or a file is laid beside
+-- it, and among the standing ones names clash.
+abbrev pub IsClashFoundOver :
+    Inputs → ChangeWishes → Files → Files → Result (List MemberFound) Refusal → Option NamePair
+    → Type 0
+IsClashFoundOver inputs wishes files standing (Ok found) clash =
+    IsClashOf (name_change (file_change inputs wishes found) files) standing clash
+IsClashFoundOver inputs wishes files standing (Err refusal) clash = clash ≡ None
+
+abbrev pub IsClashOfChangeOver :
+    Inputs → Replacement → ChangeWishes → Reads → Files → Files → Option NamePair → Type 0
+IsClashOfChangeOver inputs r wishes read files standing clash =
+    IsClashFoundOver inputs wishes files standing (change_members inputs r wishes read) clash
+
+-- both are the same files
 abbrev pub IsClashFound :
     Inputs → ChangeWishes → Files → Result (List MemberFound) Refusal → Option NamePair → Type 0
-IsClashFound inputs wishes files (Ok found) clash =
-    IsClashOf (name_change (file_change inputs wishes found) files) files clash
-IsClashFound inputs wishes files (Err refusal) clash = clash ≡ None
+IsClashFound inputs wishes files members clash =
+    IsClashFoundOver inputs wishes files files members clash
 
 abbrev pub IsClashOfChange :
     Inputs → Replacement → ChangeWishes → Reads → Files → Option NamePair → Type 0
 IsClashOfChange inputs r wishes read files clash =
-    IsClashFound inputs wishes files (change_members inputs r wishes read) clash
+    IsClashOfChangeOver inputs r wishes read files files clash

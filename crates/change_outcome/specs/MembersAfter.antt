@@ -1,7 +1,7 @@
 -- The packages after a change, name by name.
-use Rattle.std.specs.Prelude.{ℕ, suc, ◌+◌, Bool, List, [], ◌∷◌, length, map, Option, Some, None, Result, Ok, option_map, slice_get}
+use Rattle.std.specs.Prelude.{ℕ, suc, ◌+◌, Bool, List, [], ◌∷◌, length, map, Option, Some, None, Result, Ok, is_some, option_map, slice_get}
 use Rattle.std.specs.Option.{option_map_or}
-use Rattle.std.specs.List.{cons_option, find}
+use Rattle.std.specs.List.{cons_option, filter, find}
 use Rattle.adb_view.specs.Plain.{Plain}
 use Rattle.change_inputs.specs.Chains.{and_then}
 use Rattle.change_inputs.specs.Inputs.{first_index_read}
@@ -92,6 +92,10 @@ members_after r read repositories no_scripts =
 
 abbrev pub members_found : List MemberFound → List Member
 members_found found = map (λ m. m.member) found
+
+-- the selected candidates whose packages come
+abbrev pub candidates_that_come : Replacement → List Candidate
+candidates_that_come r = filter (λ (c : Candidate). is_some (change_of_name r c.name)) r.selected
 
 -- the contents of the package of the member at a place
 abbrev pub contents_found : List MemberFound → ℕ → List Contents

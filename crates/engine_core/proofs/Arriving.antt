@@ -1,7 +1,7 @@
 -- A package that comes has the name and the version of its candidate.
-use Rattle.std.proofs.Common.{◌≡◌, ℕ, zero, suc, Bool, true, false, cond, List, [], ◌∷◌, Contains, Option, Some, None, Result, Ok, Err, refl, sym, ap, subst, arith, true≢false}
-use Rattle.std.specs.Prelude.{if◌then◌else◌, not, option_map}
-use Rattle.std.specs.List.{cons_option, find}
+use Rattle.std.proofs.Common.{◌≡◌, ℕ, zero, suc, Bool, true, false, cond, List, [], ◌∷◌, Contains, Option, Some, None, Result, Ok, Err, refl, sym, ap, subst, ◌∙◌, arith, true≢false}
+use Rattle.std.specs.Prelude.{if◌then◌else◌, is_some, not, option_map}
+use Rattle.std.specs.List.{cons_option, filter, find}
 use Rattle.std.specs.Str.{bytes_eq}
 use Rattle.std.proofs.lemmas.Option.{same_Some}
 use Rattle.std.proofs.lemmas.Slice.Eq.{bytes_eq-Decides}
@@ -9,7 +9,7 @@ use Rattle.adb_fields.specs.Repeated.{package_name}
 use Rattle.adb_view.specs.Plain.{Plain}
 use Rattle.base_core.specs.declared.cause.Cause.{Cause}
 use Rattle.change_inputs.specs.Chains.{and_then}
-use Rattle.change_outcome.specs.MembersAfter.{MemberFound, coming_by_path, coming_found, members_after, members_found, name_after, name_by_change, name_by_selected, names_after, staying_found}
+use Rattle.change_outcome.specs.MembersAfter.{MemberFound, candidates_that_come, coming_by_path, coming_found, members_after, members_found, name_after, name_by_change, name_by_selected, names_after, staying_found}
 use Rattle.change_outcome.specs.PackageFiles.{ComingPackage, first_script_of, package_file_of, package_found, package_in_file, scripts_of_change, unless_number, unless_package_bad, unless_script}
 use Rattle.db_core.specs.Members.{Member, is_coming}
 use Rattle.db_core.specs.Packages.{is_package_named}
@@ -38,13 +38,28 @@ same_Ok {A} a b e = ap ok_or e
     ok_or (Ok x) = x
     ok_or (Err refusal) = a
 
-find_in : {X : Type 0} (p : X → Bool) (xs : List X) (x : X) → find p xs ≡ Some x → Contains xs x
-find_in p [] x e = absurd (cc (e))
-find_in {X} p (y ∷ ys) x e = by (p y) e (find_in p ys x)
+find_passes : {X : Type 0} (p : X → Bool) (xs : List X) (x : X) → find p xs ≡ Some x → p x ≡ true
+find_passes p [] x e = absurd (cc (e))
+find_passes {X} p (y ∷ ys) x e = by (p y) refl e (find_passes p ys x)
   where
-    by : (b : Bool) → cond b (Some y) (find p ys) ≡ Some x → (find p ys ≡ Some x → Contains ys x) → Contains (y ∷ ys) x
-    by true is more = (0, omega arith, same_Some y x is)
-    by false is more = let (k, less, here) = more is in (suc k, omega (arith, less), here)
+    by : (b : Bool) → p y ≡ b → cond b (Some y) (find p ys) ≡ Some x → (find p ys ≡ Some x → p x ≡ true) → p x ≡ true
+    by true passes is more = ap p (sym (same_Some y x is)) ∙ passes
+    by false off is more = more is
+
+-- what is found also stands among those that pass another test, if it passes that
+find_among : {X : Type 0} (p q : X → Bool) (xs : List X) (x : X) → q x ≡ true → find p xs ≡ Some x → Contains (filter q xs) x
+find_among p q [] x passes e = absurd (cc (e))
+find_among {X} p q (y ∷ ys) x passes e = by (p y) e (find_among p q ys x passes)
+  where
+    one_more : (b : Bool) → Contains (filter q ys) x → Contains (cond b (y ∷ filter q ys) (filter q ys)) x
+    one_more true (k, less, here) = (suc k, omega (arith, less), here)
+    one_more false inside = inside
+
+    by : (b : Bool) → cond b (Some y) (find p ys) ≡ Some x → (find p ys ≡ Some x → Contains (filter q ys) x) → Contains (cond (q y) (y ∷ filter q ys) (filter q ys)) x
+    by true is more =
+        let same : y ≡ x = same_Some y x is in
+        subst (λ b. Contains (cond b (y ∷ filter q ys) (filter q ys)) x) (sym (ap q same ∙ passes)) (0, omega arith, same)
+    by false is more = one_more (q y) (more is)
 
 -- ---- one candidate
 
@@ -54,7 +69,7 @@ module _ (selected : List Candidate) where
 
   module _ (c : Candidate) (inside : Contains selected c) where
     of_coming : (pkg : ComingPackage) → c.name ≡ package_name pkg.value → selected_version c ≡ version_text pkg.value → Comes (coming_found pkg)
-    of_coming pkg name version coming = record { candidate = c; selects = inside; name = name; version = version }
+    of_coming pkg name version coming = record { candidate = c; comes = inside; name = name; version = version }
 
     by_tests : (p pkg : ComingPackage) (a b d : Bool) (e f g : Refusal) → bytes_eq c.name (package_name p.value) ≡ b → bytes_eq (selected_version c) (version_text p.value) ≡ d
         → (if not a then Err e else if not b then Err f else if not d then Err g else Ok p) ≡ Ok pkg → Comes (coming_found pkg)
@@ -106,10 +121,10 @@ module _ (selected : List Candidate) where
         let (pkg, comes, rest) = chain_ok (coming_by_path read n c (package_file_of repositories c)) (λ pkg. unless_script no_scripts name pkg.value (scripts_of_change change) (Some (coming_found pkg))) first is in
         subst ComesIf (scripts_ok no_scripts (Some (coming_found pkg)) first name pkg.value (scripts_of_change change) rest) (by_path c (inside c refl) read n (package_file_of repositories c) pkg comes)
 
-    by_change : (n : ℕ) (name : List ℕ) (change : Option Change) (before : Option Plain) (c : Option Candidate) (first : Option MemberFound) → ((x : Candidate) → c ≡ Some x → Contains selected x)
+    by_change : (n : ℕ) (name : List ℕ) (change : Option Change) (before : Option Plain) (c : Option Candidate) (first : Option MemberFound) → (is_some change ≡ true → (x : Candidate) → c ≡ Some x → Contains selected x)
         → name_by_change read repositories no_scripts n name change before c ≡ Ok first → ComesIf first
     by_change n name None before c first inside is = subst ComesIf (same_Ok (option_map staying_found before) first is) (stays before)
-    by_change n name (Some change) before c first inside is = by_selected n name change before c first inside is
+    by_change n name (Some change) before c first inside is = by_selected n name change before c first (inside refl) is
 
     -- ---- all names
 
@@ -117,23 +132,30 @@ module _ (selected : List Candidate) where
     with_first None others one each = each
     with_first (Some m) others one each = (one, each)
 
-    by_names : (r : Replacement) → r.selected ≡ selected → (n : ℕ) (names : List (List ℕ)) (found : List MemberFound) → names_after r read repositories no_scripts n names ≡ Ok found → Each Comes found
-    by_names r same n [] found is = subst (Each Comes) (same_Ok [] found is) tt
-    by_names r same n (name ∷ names) found is =
+    by_names : (r : Replacement) → ((name : List ℕ) (x : Candidate) → is_some (change_of_name r name) ≡ true → find (is_selected_named name) r.selected ≡ Some x → Contains selected x) → (n : ℕ) (names : List (List ℕ)) (found : List MemberFound) → names_after r read repositories no_scripts n names ≡ Ok found → Each Comes found
+    by_names r inside n [] found is = subst (Each Comes) (same_Ok [] found is) tt
+    by_names r inside n (name ∷ names) found is =
         let (first, one, rest) = chain_ok (name_after r read repositories no_scripts n name) (λ first. and_then (names_after r read repositories no_scripts (suc n) names) (λ others. Ok (cons_option first others))) found is in
         let (others, more, last) = chain_ok (names_after r read repositories no_scripts (suc n) names) (λ others. Ok (cons_option first others)) found rest in
         subst (Each Comes) (same_Ok (cons_option first others) found last)
         (with_first first others
         (by_change n name (change_of_name r name) (find (is_package_named name) r.before) (find (is_selected_named name) r.selected) first
-        (λ x e. subst (λ (cs : List Candidate). Contains cs x) same (find_in (is_selected_named name) r.selected x e)) one)
-        (by_names r same (suc n) names others more))
+        (λ changes x. inside name x changes) one)
+        (by_names r inside (suc n) names others more))
 
   at_place : (found : List MemberFound) → Each Comes found → AreOfCandidates selected (members_found found)
   at_place [] each place m at coming = absurd (cc (at))
   at_place (x ∷ xs) each zero m at coming = subst (λ (y : Member). is_coming y ≡ true → IsOfCandidate selected y) (same_Some x.member m at) each.0 coming
   at_place (x ∷ xs) each (suc place) m at coming = at_place xs each.1 place m at coming
 
+-- the candidate of a name that changes is one that comes
+comes_by_name : (r : Replacement) (name : List ℕ) (x : Candidate) → is_some (change_of_name r name) ≡ true → find (is_selected_named name) r.selected ≡ Some x → Contains (candidates_that_come r) x
+comes_by_name r name x changes e =
+    let named : x.name ≡ name = (bytes_eq-Decides x.name name).0 (find_passes (is_selected_named name) r.selected x e) in
+    find_among (is_selected_named name) (λ (c : Candidate). is_some (change_of_name r c.name)) r.selected x (ap (λ (l : List ℕ). is_some (change_of_name r l)) named ∙ changes) e
+
 pub of_candidates : (r : Replacement) (read : Reads) (repositories : List Repository) (no_scripts : Bool) (found : List MemberFound) → members_after r read repositories no_scripts ≡ Ok found
-    → AreOfCandidates r.selected (members_found found)
+    → AreOfCandidates (candidates_that_come r) (members_found found)
 unfolding members_after
-of_candidates r read repositories no_scripts found is = at_place r.selected found (by_names r.selected read repositories no_scripts r refl _ (names_on_both_sides r) found is)
+of_candidates r read repositories no_scripts found is =
+    at_place (candidates_that_come r) found (by_names (candidates_that_come r) read repositories no_scripts r (comes_by_name r) _ (names_on_both_sides r) found is)

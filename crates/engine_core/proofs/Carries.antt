@@ -30,7 +30,7 @@ use Rattle.engine_core.proofs.Once.{once_both}
 use Rattle.change_laws.proofs.Leading.{acted_is}
 use Rattle.change_laws.proofs.Room.{room}
 use Rattle.change_outcome.specs.ChangeOutcome.{Actions, ChangeDone, ChangeWishes, actions_of, bytes_under, change_done, does_something, file_change, is_other_file, name_if_needed, new_records, unless_overflow, written_records}
-use Rattle.change_outcome.specs.MembersAfter.{MemberFound, contents_found}
+use Rattle.change_outcome.specs.MembersAfter.{MemberFound, candidates_that_come, contents_found}
 use Rattle.journal_core.specs.Recovery.{after_actions, intent_name}
 use Rattle.journal_core.specs.Staged.{HasRoomBeside, HasRoomToStage, IsEmptyStage, Staging, action_count, new_stage, with_staged}
 use Rattle.journal_intent.specs.IntentValue.{intent_of_lists, value_of_intent}
@@ -209,8 +209,8 @@ module _ (history : List TreeState) (wishes : ChangeWishes) (p : Planned) (found
   abbrev wanted : Result ChangeDone Refusal
   wanted = ready_change inputs (replacement_arrived p.arrived.now) wishes found files own.database.items
 
-  abbrev selected : List Candidate
-  selected = (replacement_arrived p.arrived.now).selected
+  abbrev candidates : List Candidate
+  candidates = candidates_that_come (replacement_arrived p.arrived.now)
 
   pub written_is : map write_name writes ≡ actions.writes
   written_is = ready.names ∙ ap names_in_order (write_names_are history wishes p found files ready.plan own ready.own rw ready.which)
@@ -304,12 +304,12 @@ module _ (history : List TreeState) (wishes : ChangeWishes) (p : Planned) (found
   -- ---- nothing is carried through
 
   pub large_comes : (names : List (List ℕ)) → names ≡ map write_name writes → (counts : Counts) (fault : Refused)
-      → Agrees {A = Bool} (λ _. true) (Err fault) (unless_overflow (overflow_of (value_of_intent (intent_of_lists removals names))) true) → ComesTo selected wanted history history counts counts (Err fault)
+      → Agrees {A = Bool} (λ _. true) (Err fault) (unless_overflow (overflow_of (value_of_intent (intent_of_lists removals names))) true) → ComesTo candidates wanted history history counts counts (Err fault)
   large_comes names names_is counts (IsRefused refusal) told =
-      comes_to_refusal selected wanted history history counts counts (nothing_read history counts) refusal
+      comes_to_refusal candidates wanted history history counts counts (nothing_read history counts) refusal
       (ready_large refusal (ap (λ (ns : List (List ℕ)). unless_overflow (overflow_of (value_of_intent (intent_of_lists removals ns))) true) (sym names_is) ∙ told))
   large_comes names names_is counts Disk told = absurd told
-  large_comes names names_is counts Memory told = comes_to_failure selected wanted history history counts counts (nothing_read history counts) Memory tt
+  large_comes names names_is counts Memory told = comes_to_failure candidates wanted history history counts counts (nothing_read history counts) Memory tt
 
   pub fits_by : (names : List (List ℕ)) → names ≡ map write_name writes → unless_overflow (overflow_of (value_of_intent (intent_of_lists removals names))) true ≡ Ok true → wanted ≡ Ok done
   fits_by names names_is told = ready_fits (ap (λ (ns : List (List ℕ)). unless_overflow (overflow_of (value_of_intent (intent_of_lists removals ns))) true) (sym names_is) ∙ told)
@@ -323,8 +323,8 @@ module _ (history : List TreeState) (wishes : ChangeWishes) (p : Planned) (found
       twice true = refl
       twice false = refl
 
-  pub idle_comes : wanted ≡ Ok done → done.commits ≡ false → (counts : Counts) (report : List ℕ) → report ≡ done.report → ComesTo selected wanted history history counts counts (Ok report)
-  idle_comes is idle counts report told = comes_to_idle selected wanted history history counts counts (nothing_read history counts) done report is idle told
+  pub idle_comes : wanted ≡ Ok done → done.commits ≡ false → (counts : Counts) (report : List ℕ) → report ≡ done.report → ComesTo candidates wanted history history counts counts (Ok report)
+  idle_comes is idle counts report told = comes_to_idle candidates wanted history history counts counts (nothing_read history counts) done report is idle told
 
   -- ---- what comes of the run
 
@@ -336,7 +336,7 @@ module _ (history : List TreeState) (wishes : ChangeWishes) (p : Planned) (found
     abbrev Carried : Result (Unit {0}) StageFault → Type 0
     Carried r = IfObservable history (λ v. v.names intent_name ≡ None → IsEmptyStage (files_of v) → IsCarriedTo {A = Unit {0}} done.files v history now r)
 
-    pub done_comes : Carried (Ok tt) → (report : List ℕ) → report ≡ done.report → ComesTo selected wanted history now before after (Ok report)
+    pub done_comes : Carried (Ok tt) → (report : List ℕ) → report ≡ done.report → ComesTo candidates wanted history now before after (Ok report)
     done_comes run report told = record {
       told = inl (ap report_in is ∙ ap Ok (sym told));
       run = if_told history _ _ run (λ v carried absent empty.
@@ -344,7 +344,7 @@ module _ (history : List TreeState) (wishes : ChangeWishes) (p : Planned) (found
       proper = proper_where;
     }
 
-    pub disk_comes : (fault : StageFault) → fault ≡ Stages.Disk → Carried (Err fault) → ComesTo selected wanted history now before after (Err Disk)
+    pub disk_comes : (fault : StageFault) → fault ≡ Stages.Disk → Carried (Err fault) → ComesTo candidates wanted history now before after (Err Disk)
     disk_comes fault is_disk run = record {
       told = inl tt;
       run = if_told history _ _ run (λ v carried absent empty.
@@ -362,18 +362,18 @@ module _ (history : List TreeState) (wishes : ChangeWishes) (p : Planned) (found
       run_where : (result : Result (List ℕ) Refused) → IfObservable history (λ v. v.names intent_name ≡ None → IsEmptyStage (files_of v) → IsNoneOrCommit wanted v history now result)
       run_where result = if_told history _ _ unseen (λ v never absent empty. absurd (never absent empty))
 
-      pub bad_comes : (refused : Refused) → IsRefusedPackage (members_arrived p.arrived.now) member cause refused → ComesTo selected wanted history now before after (Err refused)
+      pub bad_comes : (refused : Refused) → IsRefusedPackage (members_arrived p.arrived.now) member cause refused → ComesTo candidates wanted history now before after (Err refused)
       bad_comes (IsRefused refusal) bad =
           let (m, at, told) = bad in
           let coming = file_comes history wishes p found files ready.plan writes rw ready.each member has in
           let same : coming.0 ≡ m = (let one = coming.1 in cc) in
-          let candidate = ready.plan.arrived.read.selected member m (subst (λ (ms : List Member). slice_get ms member ≡ Some m) ready.plan.arrived.members at) (subst (λ (x : Member). is_coming x ≡ true) same coming.2) in
+          let candidate = ready.plan.arrived.read.coming member m (subst (λ (ms : List Member). slice_get ms member ≡ Some m) ready.plan.arrived.members at) (subst (λ (x : Member). is_coming x ≡ true) same coming.2) in
           record {
             told = inr (record {
               unseen = unseen;
               commits = subst DoesCommit (sym is) commits;
               candidate = candidate.candidate;
-              selects = candidate.selects;
+              comes = candidate.comes;
               cause = cause;
               refusal = ap (λ (r : Refusal). Err (IsRefused r)) (told ∙ (λ i. PackageBad (sym candidate.name i) (sym candidate.version i) cause));
             });

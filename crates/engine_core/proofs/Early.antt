@@ -22,7 +22,7 @@ use Rattle.path_clashes.specs.Clash.{NamePair}
 use Rattle.package_changes.specs.Changes.{Replacement}
 use Rattle.pool_core.specs.Candidates.{Candidate}
 use Rattle.report_core.specs.declared.refusal.Refusal.{Refusal}
-use Rattle.engine_core.specs.ChangeRun.{ComesTo, DoesCommit, IsNoneOrCommit, report_as_is, report_in, selected_in}
+use Rattle.engine_core.specs.ChangeRun.{ComesTo, DoesCommit, IsNoneOrCommit, report_as_is, report_in, coming_in}
 use Rattle.engine_core.specs.Changed.{IsClashOfSelected, IsClashUnlessSimulated, Selected, change_of_selected}
 use Rattle.engine_core.specs.Runs.{IsSelectedRun}
 use Rattle.engine_core.specs.Wishes.{wishes_of}
@@ -52,7 +52,10 @@ pub record Seen (command : CommandLine) (selected : Result Selected Refusal) (ol
   pub files : Files
   pub there : IfObservable old (λ v. files ≡ files_of v)
   pub clash : Option NamePair
-  pub is_clash : IfObservable old (λ v. IsClashOfSelected command read files selected clash)
+  pub is_clash : IsClashOfSelected command read files selected clash
+
+pub nothing_within : IsWithin [] (no_names {X = List ℕ})
+nothing_within q is = absurd (cc)
 
 within_files : (v : TreeState) (names : List (List ℕ)) → IsWithin names v.names → IsWithin names (files_of v)
 within_files v names within q is = within q (by_number (v.names q) is)
@@ -66,10 +69,12 @@ pub record FilesSeen (command : CommandLine) (selected : Result Selected Refusal
   pub files : Files
   pub there : IfObservable old (λ v. files ≡ files_of v)
   pub clash : Option NamePair
-  pub is_clash : IfObservable old (λ v. IsClashOfSelected command read files selected clash)
+  pub is_clash : IsClashOfSelected command read files selected clash
 
 pub files_seen : HaveClash → (command : CommandLine) (selected : Result Selected Refusal) (old : List TreeState) (read : Reads) → All IsWhole old → FilesSeen command selected old read
-files_seen have command selected [] read whole = record { files = no_names; there = tt; clash = None; is_clash = tt }
+files_seen have command selected [] read whole =
+    let found = clash_selected have [] no_names nothing_within command read selected in
+    record { files = no_names; there = tt; clash = found.0; is_clash = found.1 }
 files_seen have command selected (v ∷ earlier) read whole =
     let finite = (All-head IsWhole v earlier whole).finite v.names (inl refl) in
     let found = clash_selected have finite.0 (files_of v) (within_files v finite.0 finite.1) command read selected in
@@ -149,13 +154,15 @@ module _ (selected : List Candidate) (wanted : Result ChangeDone Refusal) (old n
 
 module _ (command : CommandLine) (selected : Result Selected Refusal) (old now : List TreeState) (before after : Counts) where
   pub of_seen : (seen : Seen command selected old) (result : Result (List ℕ) Refused)
-      → ComesTo (selected_in selected) (and_then selected (change_of_selected command seen.read seen.files seen.clash)) old now before after result
+      → ComesTo (coming_in selected) (and_then selected (change_of_selected command seen.read seen.files seen.clash)) old now before after result
       → IsSelectedRun command selected old now before after result
   of_seen seen result comes = record {
     read = seen.read;
     observed = seen.observed;
     files = seen.files;
     there = seen.there;
+    standing = seen.files;
+    stand = seen.there;
     clash = seen.clash;
     is_clash = seen.is_clash;
     comes = comes;

@@ -19,19 +19,20 @@ use Rattle.change_inputs.specs.Inputs.{Inputs}
 use Rattle.change_inputs.specs.declared.refused.Refused.{Refused}
 use Rattle.change_inputs.specs.declared.refused.Refused.TheVariants as Commands
 use Rattle.change_outcome.specs.ChangeOutcome.{ChangeDone, ChangeWishes, IsClashFound, change_members, change_with_members, file_change, name_at_place, touched_paths, unless_clash, unless_contested, unless_reserved_path, unless_too_large}
-use Rattle.change_outcome.specs.MembersAfter.{MemberFound, members_found}
+use Rattle.change_outcome.specs.MembersAfter.{MemberFound, candidates_that_come, members_found}
 use Rattle.change_outcome.specs.Triggers.{unless_trigger}
 use Rattle.db_core.specs.Members.{Member, member_listings, member_name, staying_member}
 use Rattle.db_core.specs.Seen.{members_of, packages_of}
 use Rattle.file_owners.specs.Owners.{contested_of}
 use Rattle.make_info.specs.Reads.{Reads}
-use Rattle.own_core.specs.Planned.{ArePlanLists, HasOwnNames, HasSources, IsPlanFor, IsPlanOf, IsRefusalFor, IsRefusalOf, change_by, member_name_at}
+use Rattle.own_core.specs.Planned.{ArePlanLists, HasOwnNames, HasSources, IsClashBySome, IsPlanFor, IsPlanOf, IsRefusalFor, IsRefusalOf, MayBeRefusalOf, change_by, member_name_at}
 use Rattle.own_core.specs.declared.fault.PlanFault.{PlanFault}
 use Rattle.own_core.specs.declared.planning.FilePlan.{FilePlan}
 use Rattle.own_core.specs.declared.fault.PlanFault.TheVariants as Plans
 use Rattle.package_changes.specs.Changes.{Replacement}
 use Rattle.path_claims.specs.Claims.{ContestedPath}
 use Rattle.path_clashes.specs.Clash.{HasNoClash, NamePair}
+use Rattle.path_clashes.specs.FirstClash.{IsClashOf, MayBeClashOf}
 use Rattle.report_core.specs.declared.refusal.Refusal.{Refusal}
 use Rattle.report_core.specs.declared.refusal.Refusal.TheVariants.{Owned, PathClash, Reserved}
 use Rattle.engine_core.specs.ChangeRun.{ComesTo}
@@ -40,7 +41,7 @@ use Rattle.engine_core.specs.Making.{IsFoundRun}
 use Rattle.engine_core.specs.Plans.{IsRefusedFor}
 use Rattle.engine_core.specs.declared.arrived.Arrived.{Arrived}
 use Rattle.engine_core.specs.declared.arrived.Planned.{Planned}
-use Rattle.engine_core.proofs.Early.{HaveClash, IsOnlyRead, comes_to_failure, comes_to_refusal, if_told}
+use Rattle.engine_core.proofs.Early.{HaveClash, IsOnlyRead, comes_to_failure, comes_to_refusal, nothing_within}
 use Rattle.engine_core.proofs.WholeRuns.{comes_behind_reads}
 
 -- ---- the files of a history
@@ -64,22 +65,42 @@ within_files v names within q is = within q (by_number (v.names q) is)
 
 record ClashSeen (inputs : Inputs) (wishes : ChangeWishes) (found : List MemberFound) (old : List TreeState) : Type 0 where
   pub clash : Option NamePair
-  pub is_clash : IfObservable old (λ v. IsClashFound inputs wishes (files_now old) (Ok found) clash)
+  pub is_clash : IsClashFound inputs wishes (files_now old) (Ok found) clash
+
+-- by some files, and among some, the first clash; where the history tells its files both are these
+record ClashTold (change : FileChange) (old : List TreeState) (clash : Option NamePair) : Type 0 where
+  pub files : Files
+  pub there : IfObservable old (λ v. files ≡ files_of v)
+  pub standing : Files
+  pub stand : IfObservable old (λ v. standing ≡ files_of v)
+  pub is_clash : IsClashOf (name_change change files) standing clash
+
+clash_told : (change : FileChange) (old : List TreeState) (clash : Option NamePair) → IsClashBySome change old clash → IfObservable old (λ v. IsClashOf (name_change change (files_of v)) (files_of v) clash) → ClashTold change old clash
+clash_told change [] clash some told = record { files = some.files; there = tt; standing = some.may.0; stand = tt; is_clash = some.may.1 }
+clash_told change (v ∷ earlier) clash some told = record { files = files_of v; there = refl; standing = files_of v; stand = refl; is_clash = told }
+
+-- the same by files that are given
+none_told : (change : FileChange) (files : Files) (old : List TreeState) → IfObservable old (λ v. files ≡ files_of v) → MayBeClashOf (name_change change files) None → IfObservable old (λ v. HasNoClash (name_change change files) files)
+    → (standing : Files) × IfObservable old (λ v. standing ≡ files_of v) × IsClashOf (name_change change files) standing None
+none_told change files [] there may told = (may.0, tt, may.1)
+none_told change files (v ∷ earlier) there may told = (files, there, told)
 
 module _ (have : HaveClash) (inputs : Inputs) (r : Replacement) (wishes : ChangeWishes) (read : Reads) (found : List MemberFound) (is_found : change_members inputs r wishes read ≡ Ok found) where
   clash_seen : (old : List TreeState) → All IsWhole old → ClashSeen inputs wishes found old
-  clash_seen [] whole = record { clash = None; is_clash = tt }
+  clash_seen [] whole =
+      let c = have.exists inputs r wishes read [] no_names nothing_within in
+      record { clash = c.0; is_clash = subst (λ (f : Result (List MemberFound) Refusal). IsClashFound inputs wishes no_names f c.0) is_found c.1 }
   clash_seen (v ∷ earlier) whole =
       let finite = (All-head IsWhole v earlier whole).finite v.names (inl refl) in
       let c = have.exists inputs r wishes read finite.0 (files_of v) (within_files v finite.0 finite.1) in
       record { clash = c.0; is_clash = subst (λ (f : Result (List MemberFound) Refusal). IsClashFound inputs wishes (files_of v) f c.0) is_found c.1 }
 
   module _ (old now : List TreeState) (before after : Counts) (whole : All IsWhole old) (quiet : IsOnlyRead old now before after) where
-    found_by : (result : Result (List ℕ) Refused) → ((clash : Option NamePair) → ComesTo r.selected (change_with_members inputs r wishes clash (files_now old) found) old now before after result)
+    found_by : (result : Result (List ℕ) Refused) → ((clash : Option NamePair) → ComesTo (candidates_that_come r) (change_with_members inputs r wishes clash (files_now old) found) old now before after result)
         → IsFoundRun inputs r wishes found old now before after result
     found_by result comes =
         let seen = clash_seen old whole in
-        record { files = files_now old; there = there_now old; clash = seen.clash; is_clash = seen.is_clash; comes = comes seen.clash }
+        record { files = files_now old; there = there_now old; standing = files_now old; stand = there_now old; clash = seen.clash; is_clash = seen.is_clash; comes = comes seen.clash }
 
     pub found_failure : (fault : Refused) → IsFailure fault → IsFoundRun inputs r wishes found old now before after (Err fault)
     found_failure fault is = found_by (Err fault) (λ clash. comes_to_failure _ _ old now before after quiet fault is)
@@ -91,22 +112,20 @@ module _ (have : HaveClash) (inputs : Inputs) (r : Replacement) (wishes : Change
         (ap (λ (o : Option (List ℕ)). unless_reserved_path o (unless_clash clash (unless_contested (members_found found) (contested_of (members_found found))
         (and_then (unless_trigger wishes.no_scripts (touched_paths (file_change inputs wishes found) (files_now old)) (members_found found)) (λ allowed. unless_too_large inputs r wishes found (files_now old)))))) is))
 
-    by_clash : (result : Result (List ℕ) Refused) (clash : Option NamePair) → IfObservable old (λ v. IsClashFound inputs wishes (files_of v) (Ok found) clash)
-        → ComesTo r.selected (change_with_members inputs r wishes clash (files_now old) found) old now before after result → IsFoundRun inputs r wishes found old now before after result
-    by_clash result clash is comes = record { files = files_now old; there = there_now old; clash = clash; is_clash = here old is; comes = comes }
-      where
-        here : (h : List TreeState) → IfObservable h (λ v. IsClashFound inputs wishes (files_of v) (Ok found) clash) → IfObservable h (λ v. IsClashFound inputs wishes (files_now h) (Ok found) clash)
-        here [] is = tt
-        here (v ∷ earlier) is = is
+    by_clash : (result : Result (List ℕ) Refused) (clash : Option NamePair) → (told : ClashTold (file_change inputs wishes found) old clash)
+        → ComesTo (candidates_that_come r) (change_with_members inputs r wishes clash told.files found) old now before after result → IsFoundRun inputs r wishes found old now before after result
+    by_clash result clash told comes =
+        record { files = told.files; there = told.there; standing = told.standing; stand = told.stand; clash = clash; is_clash = told.is_clash; comes = comes }
 
-    path_clash : (path other : List ℕ) → first_reserved (members_found found) ≡ None → IfObservable old (λ v. IsRefusalOf (file_change inputs wishes found) (files_of v) (Plans.PathClash path other))
+    path_clash : (path other : List ℕ) → first_reserved (members_found found) ≡ None → ClashTold (file_change inputs wishes found) old (Some (record { path = path; other = other }))
         → IsFoundRun inputs r wishes found old now before after (Err (Commands.Refusal (PathClash path other)))
-    path_clash path other none first =
+    path_clash path other none told =
         let pair : NamePair = record { path = path; other = other } in
-        by_clash _ (Some pair) (if_told old _ _ first (λ v is. is))
+        by_clash _ (Some pair) told
         (comes_to_refusal _ _ old now before after quiet (PathClash path other)
         (ap (λ (o : Option (List ℕ)). unless_reserved_path o (unless_clash (Some pair) (unless_contested (members_found found) (contested_of (members_found found))
-        (and_then (unless_trigger wishes.no_scripts (touched_paths (file_change inputs wishes found) (files_now old)) (members_found found)) (λ allowed. unless_too_large inputs r wishes found (files_now old)))))) none))
+        (and_then (unless_trigger wishes.no_scripts (touched_paths (file_change inputs wishes found) told.files) (members_found found)) (λ allowed. unless_too_large inputs r wishes found told.files)))))
+        none))
 
     named : (place : ℕ) (name : List ℕ) → member_name_at (members_found found) place ≡ Some name → name_at_place (members_found found) place ≡ name
     named place name is = by (slice_get (members_found found) place) is
@@ -115,24 +134,24 @@ module _ (have : HaveClash) (inputs : Inputs) (r : Replacement) (wishes : Change
         by None e = absurd (cc (e))
         by (Some m) e = same_Some (member_name m) name e
 
-    owned_path : (path first second : List ℕ) → IsRefusalFor (members_found found) (Plans.Owned path first second) → IfObservable old (λ v. IsRefusalOf (file_change inputs wishes found) (files_of v) (Plans.Owned path first second))
+    owned_path : (path first second : List ℕ) → IsRefusalFor (members_found found) (Plans.Owned path first second) → ClashTold (file_change inputs wishes found) old None
         → IsFoundRun inputs r wishes found old now before after (Err (Commands.Refusal (Owned path first second)))
-    owned_path path first second (none, contest) apart =
+    owned_path path first second (none, contest) told =
         let contested : Option ContestedPath = contested_of (members_found found) in
-        let rest = and_then (unless_trigger wishes.no_scripts (touched_paths (file_change inputs wishes found) (files_now old)) (members_found found)) (λ allowed. unless_too_large inputs r wishes found (files_now old)) in
-        by_clash _ None (if_told old _ _ apart (λ v is. is))
+        let rest = and_then (unless_trigger wishes.no_scripts (touched_paths (file_change inputs wishes found) told.files) (members_found found)) (λ allowed. unless_too_large inputs r wishes found told.files) in
+        by_clash _ None told
         (comes_to_refusal _ _ old now before after quiet (Owned path first second)
         (ap (λ (o : Option (List ℕ)). unless_reserved_path o (unless_contested (members_found found) contested rest)) none
         ∙ ap (λ (o : Option ContestedPath). unless_contested (members_found found) o rest) contest.is
         ∙ ((λ i. Err (Owned (sym contest.at i) (named contest.contest.rivals.first first contest.lister i) (named contest.contest.rivals.second second contest.other i))))))
 
     pub unplanned : (fault : PlanFault) (refused : Refused) → IsRefusedFor fault refused → IsRefusalFor (members_found found) fault
-        → IfObservable old (λ v. IsRefusalOf (file_change inputs wishes found) (files_of v) fault) → IsFoundRun inputs r wishes found old now before after (Err refused)
-    unplanned (Plans.Reserved path) refused is cause first = subst (λ (e : Refused). IsFoundRun inputs r wishes found old now before after (Err e)) (sym is) (reserved_path path cause)
-    unplanned (Plans.PathClash path other) refused is cause first = subst (λ (e : Refused). IsFoundRun inputs r wishes found old now before after (Err e)) (sym is) (path_clash path other cause first)
-    unplanned (Plans.Owned path one two) refused is cause first = subst (λ (e : Refused). IsFoundRun inputs r wishes found old now before after (Err e)) (sym is) (owned_path path one two cause first)
-    unplanned Plans.Disk refused is cause first = subst (λ (e : Refused). IsFoundRun inputs r wishes found old now before after (Err e)) (sym is) (found_failure Commands.Disk tt)
-    unplanned Plans.Memory refused is cause first = subst (λ (e : Refused). IsFoundRun inputs r wishes found old now before after (Err e)) (sym is) (found_failure Commands.Memory tt)
+        → IfObservable old (λ v. IsRefusalOf (file_change inputs wishes found) (files_of v) fault) → MayBeRefusalOf (file_change inputs wishes found) old fault → IsFoundRun inputs r wishes found old now before after (Err refused)
+    unplanned (Plans.Reserved path) refused is cause first may = subst (λ (e : Refused). IsFoundRun inputs r wishes found old now before after (Err e)) (sym is) (reserved_path path cause)
+    unplanned (Plans.PathClash path other) refused is cause first may = subst (λ (e : Refused). IsFoundRun inputs r wishes found old now before after (Err e)) (sym is) (path_clash path other cause (clash_told (file_change inputs wishes found) old (Some (record { path = path; other = other })) may first))
+    unplanned (Plans.Owned path one two) refused is cause first may = subst (λ (e : Refused). IsFoundRun inputs r wishes found old now before after (Err e)) (sym is) (owned_path path one two cause (clash_told (file_change inputs wishes found) old None may first))
+    unplanned Plans.Disk refused is cause first may = subst (λ (e : Refused). IsFoundRun inputs r wishes found old now before after (Err e)) (sym is) (found_failure Commands.Disk tt)
+    unplanned Plans.Memory refused is cause first may = subst (λ (e : Refused). IsFoundRun inputs r wishes found old now before after (Err e)) (sym is) (found_failure Commands.Memory tt)
 
 -- ---- a plan
 
@@ -145,11 +164,13 @@ pub unplanned_run : HaveClash → (old now : List TreeState) (before after : Cou
     → All IsWhole old → IsOnlyRead old now before after → IsArrived old a found → change_members (inputs_arrived a) (replacement_arrived a) wishes read ≡ Ok found
     → IsRefusedFor fault refused → IsRefusalFor (members_of a.members.now) fault
     → IfObservable old (λ v. IsRefusalOf (change_by a.selection.now.db.now a.members.now wishes.purge) (files_of v) fault)
+    → MayBeRefusalOf (change_by a.selection.now.db.now a.members.now wishes.purge) old fault
     → IsFoundRun (inputs_arrived a) (replacement_arrived a) wishes found old now before after (Err refused)
-unplanned_run have old now before after a wishes read found fault refused whole quiet arrived is_found is cause first =
+unplanned_run have old now before after a wishes read found fault refused whole quiet arrived is_found is cause first may =
     unplanned have (inputs_arrived a) (replacement_arrived a) wishes read found is_found old now before after whole quiet fault refused is
     (subst (λ (ms : List Member). IsRefusalFor ms fault) arrived.members cause)
     (subst (λ (c : FileChange). IfObservable old (λ v. IsRefusalOf c (files_of v) fault)) (change_is old a wishes found arrived) first)
+    (subst (λ (c : FileChange). MayBeRefusalOf c old fault) (change_is old a wishes found arrived) may)
 
 pub planned_now : (old mid : List TreeState) → mid ≡ old → (p : Planned) (wishes : ChangeWishes) (found : List MemberFound) → IsArrived old p.arrived.now found
     → (plan : IsPlanOf (change_by p.arrived.now.selection.now.db.now p.arrived.now.members.now wishes.purge) old p.plan.now)
@@ -172,7 +193,7 @@ planned_now old mid same p wishes found arrived plan names sources owners unrese
 
 pub planned_run : (old mid now : List TreeState) (before between after : Counts) (a : Arrived) (p : FilePlan) (wishes : ChangeWishes) (found : List MemberFound) (result : Result (List ℕ) Refused)
     → IsOnlyRead old mid before between → IsArrived old a found → (plan : IsPlanOf (change_by a.selection.now.db.now a.members.now wishes.purge) old p) → IsPlanFor (members_of a.members.now) p
-    → ComesTo (replacement_arrived a).selected
+    → ComesTo (candidates_that_come (replacement_arrived a))
     (and_then (unless_trigger wishes.no_scripts (touched_paths (file_change (inputs_arrived a) wishes found) plan.files) (members_found found))
     (λ allowed. unless_too_large (inputs_arrived a) (replacement_arrived a) wishes found plan.files)) mid now between after result
     → IsFoundRun (inputs_arrived a) (replacement_arrived a) wishes found old now before after result
@@ -184,11 +205,16 @@ planned_run old mid now before between after a p wishes found result quiet arriv
     let wanted_is : change_with_members inputs r wishes None plan.files found ≡ rest =
     ap (λ (o : Option (List ℕ)). unless_reserved_path o (unless_contested members (contested_of members) rest)) (sym (ap first_reserved arrived.members) ∙ owners.allowed)
     ∙ ap (λ (o : Option ContestedPath). unless_contested members o rest) (sym (ap contested_of arrived.members) ∙ owners.owners) in
+    let none = none_told (file_change inputs wishes found) plan.files old plan.told
+    (subst (λ (c : FileChange). MayBeClashOf (name_change c plan.files) None) (change_is old a wishes found arrived) plan.may_have_none)
+    (subst (λ (c : FileChange). IfObservable old (λ v. HasNoClash (name_change c plan.files) plan.files)) (change_is old a wishes found arrived) plan.no_clash) in
     record {
       files = plan.files;
       there = plan.told;
+      standing = none.0;
+      stand = none.1;
       clash = None;
-      is_clash = subst (λ (c : FileChange). IfObservable old (λ v. HasNoClash (name_change c plan.files) plan.files)) (change_is old a wishes found arrived) plan.no_clash;
-      comes = subst (λ (w : Result ChangeDone Refusal). ComesTo r.selected w old now before after result) (sym wanted_is)
-          (comes_behind_reads r.selected rest old mid now before between after result quiet comes);
+      is_clash = none.2;
+      comes = subst (λ (w : Result ChangeDone Refusal). ComesTo (candidates_that_come r) w old now before after result) (sym wanted_is)
+          (comes_behind_reads (candidates_that_come r) rest old mid now before between after result quiet comes);
     }

@@ -13,8 +13,8 @@ use Rattle.change_inputs.specs.Chains.{and_then}
 use Rattle.change_inputs.specs.Inputs.{Inputs}
 use Rattle.change_inputs.specs.declared.refused.Refused.{Refused}
 use Rattle.change_inputs.specs.declared.refused.Refused.TheVariants.{Disk, Memory, Refusal as IsRefused}
-use Rattle.change_outcome.specs.ChangeOutcome.{ChangeDone, ChangeWishes, IsClashFound, change_members, change_or_refusal, change_with_members}
-use Rattle.change_outcome.specs.MembersAfter.{MemberFound, members_after}
+use Rattle.change_outcome.specs.ChangeOutcome.{ChangeDone, ChangeWishes, IsClashFoundOver, change_members, change_or_refusal, change_with_members}
+use Rattle.change_outcome.specs.MembersAfter.{MemberFound, candidates_that_come, members_after, members_found}
 use Rattle.command_core.specs.Command.{CommandLine}
 use Rattle.command_core.specs.declared.command.Flags.{Flags}
 use Rattle.db_core.specs.Seen.{packages_of}
@@ -31,8 +31,8 @@ use Rattle.pool_core.specs.Rank.{SealedPool}
 use Rattle.pool_core.specs.declared.pool.TheConstants.{MOST_CANDIDATES}
 use Rattle.report_core.specs.declared.refusal.Refusal.{Refusal}
 use Rattle.engine_core.specs.ChangeRun.{ComesTo}
-use Rattle.engine_core.specs.Changed.{IsClashOfSelected, IsClashUnlessSimulated, change_of_selected, simulated_change}
-use Rattle.engine_core.specs.Finishing.{AreArrivals, IsRootRead}
+use Rattle.engine_core.specs.Changed.{IsClashOfSelectedOver, IsClashUnlessSimulatedOver, change_of_selected, simulated_change}
+use Rattle.engine_core.specs.Finishing.{AreArrivals, AreOfCandidates, IsRootRead}
 use Rattle.engine_core.specs.Making.{IsFoundRun}
 use Rattle.engine_core.specs.Runs.{IsSelectedRun}
 use Rattle.engine_core.specs.Selecting.{pool_by}
@@ -40,7 +40,7 @@ use Rattle.engine_core.specs.SelectionSeen.{HasItsDatabase, inputs_of_selection,
 use Rattle.engine_core.specs.Wishes.{wishes_of}
 use Rattle.engine_core.specs.declared.selection.Selection.{Selection}
 use Rattle.engine_core.proofs.Arriving.{of_candidates}
-use Rattle.engine_core.proofs.Early.{HaveClash, IsOnlyRead, comes_to_refusal, files_seen, if_told, selected_failure}
+use Rattle.engine_core.proofs.Early.{HaveClash, IsOnlyRead, comes_to_refusal, files_seen, selected_failure}
 use Rattle.engine_core.proofs.WholeRuns.{run_behind_reads}
 
 -- a pool that is not refused holds no more than members can be
@@ -83,11 +83,11 @@ module _ (s : Selection) (database : HasItsDatabase s) (command : CommandLine) w
     unfolding change_or_refusal
     by_found read files clash members is = change_is read files clash ∙ ap (λ (m : Result (List MemberFound) Refusal). and_then m (change_with_members inputs (replacement_seen s) wishes clash files)) is
 
-    clash_is : (read : Reads) (found : List MemberFound) (files : Files) (clash : Option NamePair) → change_members inputs (replacement_seen s) wishes read ≡ Ok found → IsClashFound inputs wishes files (Ok found) clash
-        → IsClashOfSelected command read files (Ok (selection_seen s)) clash
-    clash_is read found files clash is here =
-        subst (λ (b : Bool). IsClashUnlessSimulated b wishes read files (selection_seen s) clash) (sym real)
-        (subst (λ (m : Result (List MemberFound) Refusal). IsClashFound inputs wishes files m clash) (sym is) here)
+    clash_is : (read : Reads) (found : List MemberFound) (files standing : Files) (clash : Option NamePair) → change_members inputs (replacement_seen s) wishes read ≡ Ok found
+        → IsClashFoundOver inputs wishes files standing (Ok found) clash → IsClashOfSelectedOver command read files standing (Ok (selection_seen s)) clash
+    clash_is read found files standing clash is here =
+        subst (λ (b : Bool). IsClashUnlessSimulatedOver b wishes read files standing (selection_seen s) clash) (sym real)
+        (subst (λ (m : Result (List MemberFound) Refusal). IsClashFoundOver inputs wishes files standing m clash) (sym is) here)
 
     module _ (have : HaveClash) (old mid : List TreeState) (before between : Counts) (whole : All IsWhole old) (quiet : IsOnlyRead old mid before between)
         (repositories : List Repository) (are : repositories ≡ inputs.root.repositories) (flags : Flags) (is_flags : flags ≡ command.flags) where
@@ -104,6 +104,8 @@ module _ (s : Selection) (database : HasItsDatabase s) (command : CommandLine) w
             observed = explained.observed;
             files = seen.files;
             there = seen.there;
+            standing = seen.files;
+            stand = seen.there;
             clash = seen.clash;
             is_clash = seen.is_clash;
             comes = comes_to_refusal _ _ old mid before between quiet refusal (by_found read seen.files seen.clash (Err refusal) is);
@@ -123,7 +125,8 @@ module _ (s : Selection) (database : HasItsDatabase s) (command : CommandLine) w
           placed = named;
           read = explained.is.2;
           root = root;
-          selected = of_candidates placed explained.read repositories flags.no_scripts explained.is.0 explained.is.1;
+          coming = subst (λ (r : Replacement). AreOfCandidates (candidates_that_come r) (members_found explained.is.0)) placed_is
+              (of_candidates placed explained.read repositories flags.no_scripts explained.is.0 explained.is.1);
         })
 
         pub arrived_run : (now : List TreeState) (after : Counts) (result : Result (List ℕ) Refused)
@@ -137,7 +140,9 @@ module _ (s : Selection) (database : HasItsDatabase s) (command : CommandLine) w
               observed = subst (λ (h : List TreeState). AreObserved h read) (sym quiet.same) explained.observed;
               files = run.files;
               there = run.there;
+              standing = run.standing;
+              stand = run.stand;
               clash = run.clash;
-              is_clash = if_told mid _ _ run.is_clash (λ v here. clash_is read explained.is.0 run.files run.clash found_is here);
-              comes = subst (λ (w : Result ChangeDone Refusal). ComesTo (replacement_seen s).selected w mid now between after result) (sym (by_found read run.files run.clash (Ok explained.is.0) found_is)) run.comes;
+              is_clash = clash_is read explained.is.0 run.files run.standing run.clash found_is run.is_clash;
+              comes = subst (λ (w : Result ChangeDone Refusal). ComesTo (candidates_that_come (replacement_seen s)) w mid now between after result) (sym (by_found read run.files run.clash (Ok explained.is.0) found_is)) run.comes;
             })

@@ -13,7 +13,7 @@ use Rattle.change_inputs.specs.Seen.{inputs_seen}
 use Rattle.change_inputs.specs.declared.loaded.Loaded.{Loaded}
 use Rattle.change_inputs.specs.declared.refused.Refused.{Refused}
 use Rattle.change_inputs.specs.declared.refused.Refused.TheVariants.{Disk, Memory, Refusal as IsRefused}
-use Rattle.change_outcome.specs.ChangeOutcome.{ChangeDone, ChangeWishes, IsClashFound, change_members, change_or_refusal, change_with_members}
+use Rattle.change_outcome.specs.ChangeOutcome.{ChangeDone, ChangeWishes, IsClashFoundOver, change_members, change_or_refusal, change_with_members}
 use Rattle.change_outcome.specs.MembersAfter.{MemberFound, members_after}
 use Rattle.command_core.specs.Command.{CommandLine}
 use Rattle.dep_core.specs.Repositories.{Repository}
@@ -26,13 +26,13 @@ use Rattle.pool_core.specs.Rank.{SealedPool}
 use Rattle.report_core.specs.declared.refusal.Refusal.{Refusal}
 use Rattle.change_laws.specs.Premises.{IsRootOfFiles}
 use Rattle.engine_core.specs.Finishing.{IsRootRead}
-use Rattle.engine_core.specs.ChangeRun.{ComesTo, IsChangeRun, selected_in}
-use Rattle.engine_core.specs.Changed.{IsClashOfSelected, IsClashUnlessSimulated, Selected, change_of_selected, changed, selected_by, selected_for, selected_of_inputs, simulated_change}
+use Rattle.engine_core.specs.ChangeRun.{ComesTo, IsChangeRun, coming_in}
+use Rattle.engine_core.specs.Changed.{IsClashOfSelected, IsClashOfSelectedOver, IsClashUnlessSimulatedOver, Selected, change_of_selected, changed, selected_by, selected_for, selected_of_inputs, simulated_change}
 use Rattle.engine_core.specs.Choice.{IsChoiceFrom}
 use Rattle.engine_core.specs.Runs.{IsRunBy, IsSelectedRun}
 use Rattle.engine_core.specs.Selecting.{pool_by, pool_for}
 use Rattle.engine_core.specs.Wishes.{unknown_place, unless_place, wishes_of}
-use Rattle.engine_core.proofs.Early.{HaveClash, IsOnlyRead, comes_to_failure, comes_to_refusal, files_seen, if_told}
+use Rattle.engine_core.proofs.Early.{HaveClash, IsOnlyRead, comes_to_failure, comes_to_refusal, files_seen}
 use Rattle.engine_core.proofs.SelectedRuns.{HaveChoice}
 
 -- what is read of the root, and what is read behind it, rest on reads of their own
@@ -94,8 +94,10 @@ run_behind_reads command selected old mid now before between after result quiet 
   observed = subst (λ (h : List TreeState). AreObserved h run.read) quiet.same run.observed;
   files = run.files;
   there = subst (λ (h : List TreeState). IfObservable h (λ v. run.files ≡ files_of v)) quiet.same run.there;
+  standing = run.standing;
+  stand = subst (λ (h : List TreeState). IfObservable h (λ v. run.standing ≡ files_of v)) quiet.same run.stand;
   clash = run.clash;
-  is_clash = subst (λ (h : List TreeState). IfObservable h (λ v. IsClashOfSelected command run.read run.files selected run.clash)) quiet.same run.is_clash;
+  is_clash = run.is_clash;
   comes = comes_behind_reads _ _ old mid now before between after result quiet run.comes;
 }
 
@@ -120,15 +122,15 @@ module _ (have : HaveOwnReads) (command : CommandLine) (inputs : Inputs) (read o
       by true = refl
       by false = same_of_inputs s.inputs is
 
-  clash_same : (s : Selected) (files : Files) (clash : Option NamePair) → s.inputs ≡ inputs → IsClashUnlessSimulated command.flags.simulate (wishes_of command) other files s clash → IsClashUnlessSimulated command.flags.simulate (wishes_of command) read files s clash
-  clash_same s files clash is = by command.flags.simulate
+  clash_same : (s : Selected) (files standing : Files) (clash : Option NamePair) → s.inputs ≡ inputs → IsClashUnlessSimulatedOver command.flags.simulate (wishes_of command) other files standing s clash → IsClashUnlessSimulatedOver command.flags.simulate (wishes_of command) read files standing s clash
+  clash_same s files standing clash is = by command.flags.simulate
     where
       of_inputs : (i : Inputs) → i ≡ inputs → change_members i s.replacement (wishes_of command) other ≡ change_members i s.replacement (wishes_of command) read
       of_inputs i e = subst (λ (j : Inputs). change_members j s.replacement (wishes_of command) other ≡ change_members j s.replacement (wishes_of command) read) (sym e) (sym (members_same s.replacement (wishes_of command)))
 
-      by : (b : Bool) → IsClashUnlessSimulated b (wishes_of command) other files s clash → IsClashUnlessSimulated b (wishes_of command) read files s clash
+      by : (b : Bool) → IsClashUnlessSimulatedOver b (wishes_of command) other files standing s clash → IsClashUnlessSimulatedOver b (wishes_of command) read files standing s clash
       by true clash_is = clash_is
-      by false clash_is = subst (λ (found : Result (List MemberFound) Refusal). IsClashFound s.inputs (wishes_of command) files found clash) (of_inputs s.inputs is) clash_is
+      by false clash_is = subst (λ (found : Result (List MemberFound) Refusal). IsClashFoundOver s.inputs (wishes_of command) files standing found clash) (of_inputs s.inputs is) clash_is
 
 -- what is selected has these inputs
 abbrev HasInputs : Inputs → Result Selected Refusal → Type 0
@@ -183,8 +185,8 @@ module _ (have : HaveOwnReads) (command : CommandLine) (inputs : Inputs) (old no
   unfolding changed selected
   changed_is = sym (ap (λ (s : Result Selected Refusal). and_then s (change_of_selected command read run.files run.clash)) selected_is ∙ by_selected selected (selected_has command chosen inputs))
 
-  clash_by : (s : Result Selected Refusal) → HasInputs inputs s → IsClashOfSelected command run.read run.files s run.clash → IsClashOfSelected command read run.files s run.clash
-  clash_by (Ok s) has clash = clash_same have command inputs read run.read same s run.files run.clash has clash
+  clash_by : (s : Result Selected Refusal) → HasInputs inputs s → IsClashOfSelectedOver command run.read run.files run.standing s run.clash → IsClashOfSelectedOver command read run.files run.standing s run.clash
+  clash_by (Ok s) has clash = clash_same have command inputs read run.read same s run.files run.standing run.clash has clash
   clash_by (Err refusal) has clash = clash
 
   pub whole_run : IsChangeRun command old now before after result
@@ -196,12 +198,13 @@ module _ (have : HaveOwnReads) (command : CommandLine) (inputs : Inputs) (old no
     choice = subst (λ (r : Result Inputs Refusal). IsChoiceFrom (and_then r (pool_by command)) chosen) (sym inputs_is) choice;
     files = run.files;
     there = run.there;
+    standing = run.standing;
+    stand = run.stand;
     clash = run.clash;
-    is_clash = if_told old _ _ run.is_clash (λ v clash.
-        subst (λ (s : Result Selected Refusal). IsClashOfSelected command read run.files s run.clash) (sym selected_is)
-        (clash_by selected (selected_has command chosen inputs) clash));
-    comes = subst (λ (s : Result Selected Refusal). ComesTo (selected_in s) (changed command read run.files chosen run.clash) old now before after result) (sym selected_is)
-        (subst (λ (w : Result ChangeDone Refusal). ComesTo (selected_in selected) w old now before after result) changed_is run.comes);
+    is_clash = subst (λ (s : Result Selected Refusal). IsClashOfSelectedOver command read run.files run.standing s run.clash) (sym selected_is)
+        (clash_by selected (selected_has command chosen inputs) run.is_clash);
+    comes = subst (λ (s : Result Selected Refusal). ComesTo (coming_in s) (changed command read run.files chosen run.clash) old now before after result) (sym selected_is)
+        (subst (λ (w : Result ChangeDone Refusal). ComesTo (coming_in selected) w old now before after result) changed_is run.comes);
   }
 
 pub joined : HaveOwnReads → (command : CommandLine) (loaded : Loaded) (old mid now : List TreeState) (before between after : Counts) (result : Result (List ℕ) Refused) → IsOnlyRead old mid before between
@@ -224,6 +227,8 @@ module _ (choose : HaveChoice) (have : HaveClash) (command : CommandLine) (old n
         choice = choice;
         files = seen.files;
         there = seen.there;
+        standing = seen.files;
+        stand = seen.there;
         clash = seen.clash;
         is_clash = seen.is_clash;
         comes = comes_to_failure _ _ old now before after quiet fault is;
@@ -241,8 +246,10 @@ module _ (choose : HaveChoice) (have : HaveClash) (command : CommandLine) (old n
         choice = subst (λ (r : Result Inputs Refusal). IsChoiceFrom (and_then r (pool_by command)) None) (sym is) refl;
         files = seen.files;
         there = seen.there;
+        standing = seen.files;
+        stand = seen.there;
         clash = seen.clash;
-        is_clash = if_told old _ _ seen.is_clash (λ v clash. subst (λ (s : Result Selected Refusal). IsClashOfSelected command read seen.files s seen.clash) (sym selected) clash);
+        is_clash = subst (λ (s : Result Selected Refusal). IsClashOfSelected command read seen.files s seen.clash) (sym selected) seen.is_clash;
         comes = comes_to_refusal _ _ old now before after quiet refusal (ap (λ (s : Result Selected Refusal). and_then s (change_of_selected command read seen.files seen.clash)) selected);
       }
 

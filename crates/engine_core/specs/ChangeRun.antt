@@ -10,6 +10,7 @@ use Rattle.change_inputs.specs.Chains.{and_then}
 use Rattle.change_inputs.specs.declared.refused.Refused.{Refused}
 use Rattle.change_inputs.specs.declared.refused.Refused.TheVariants.{Disk, Refusal as IsRefused}
 use Rattle.change_outcome.specs.ChangeOutcome.{ChangeDone}
+use Rattle.change_outcome.specs.MembersAfter.{candidates_that_come}
 use Rattle.command_core.specs.Command.{CommandLine}
 use Rattle.journal_core.specs.Recovery.{intent_name}
 use Rattle.journal_core.specs.Staged.{HasRoomToStage, IsEmptyStage}
@@ -21,7 +22,7 @@ use Rattle.pool_core.specs.Candidates.{Candidate}
 use Rattle.report_core.specs.declared.refusal.Refusal.{Refusal}
 use Rattle.report_core.specs.declared.refusal.Refusal.TheVariants.{PackageBad}
 use Rattle.stage_run.specs.StageRun.{IsStageRun, IsStageRunDone}
-use Rattle.engine_core.specs.Changed.{IsClashFor, Selected, changed, selected_for}
+use Rattle.engine_core.specs.Changed.{IsClashForOver, Selected, changed, selected_for}
 use Rattle.engine_core.specs.Choice.{IsChoiceFrom}
 use Rattle.engine_core.specs.Selecting.{pool_for}
 
@@ -39,16 +40,16 @@ abbrev pub DoesCommit : Result ChangeDone Refusal → Type 0
 DoesCommit (Ok done) = done.commits ≡ true
 DoesCommit (Err refusal) = ⊥
 
--- The file of a package is not what it was when it was tested, as its contents are read once more.
--- Where a tree shows its files, and neither an intent is read nor anything waits, this does not
--- happen.
-pub record IsFoundChanged (selected : List Candidate) (wanted : Result ChangeDone Refusal)
+-- The file of a package that comes is not what it was when it was tested, as its contents are read
+-- once more. Where a tree shows its files, and neither an intent is read nor anything waits, this
+-- does not happen.
+pub record IsFoundChanged (coming : List Candidate) (wanted : Result ChangeDone Refusal)
     (history : List TreeState) (result : Result (List ℕ) Refused) : Type 0 where
   pub unseen : IfObservable history (λ v. v.names intent_name ≡ None → IsEmptyStage (files_of v)
       → ⊥)
   pub commits : DoesCommit wanted
   pub candidate : Candidate
-  pub selects : Contains selected candidate
+  pub comes : Contains coming candidate
   pub cause : Cause
   pub refusal : result
       ≡ Err (IsRefused (PackageBad candidate.name (selected_version candidate) cause))
@@ -75,25 +76,26 @@ IsNoneOrCommit wanted v old now result =
 
 -- ---- both
 
--- What comes of a change is wanted, and these candidates are selected: it is reported, or refused;
--- and where neither an intent is read nor anything waits, the change is carried through, by calls of
--- which none is a misuse where a change that commits has room.
-pub record ComesTo (selected : List Candidate) (wanted : Result ChangeDone Refusal)
+-- What comes of a change is wanted, and the packages of these candidates come: it is reported, or
+-- refused; and where neither an intent is read nor anything waits, the change is carried through, by
+-- calls of which none is a misuse where a change that commits has room.
+pub record ComesTo (coming : List Candidate) (wanted : Result ChangeDone Refusal)
     (old now : List TreeState) (before after : Counts)
     (result : Result (List ℕ) Refused) : Type 0 where
   pub told : AgreesUnlessDisk report_as_is result (report_in wanted)
-      ⊎ IsFoundChanged selected wanted old result
+      ⊎ IsFoundChanged coming wanted old result
   pub run : IfObservable old (λ v. v.names intent_name ≡ None → IsEmptyStage (files_of v)
       → IsNoneOrCommit wanted v old now result)
   pub proper : IfObservable old (λ v. v.names intent_name ≡ None → IsEmptyStage (files_of v)
       → (DoesCommit wanted → HasRoomToStage (files_of v)) → after.misuses ≡ before.misuses)
 
-abbrev pub selected_in : Result Selected Refusal → List Candidate
-selected_in (Ok s) = s.replacement.selected
-selected_in (Err refusal) = []
+abbrev pub coming_in : Result Selected Refusal → List Candidate
+coming_in (Ok s) = candidates_that_come s.replacement
+coming_in (Err refusal) = []
 
 -- A run of a command's change: by what reads find, by some files, by what is chosen, and by the
--- first clash of names. Where the tree shows its files these are the files that it has at the start.
+-- first clash of names among some standing files. Where the tree shows its files both are the files
+-- that it has at the start.
 pub record IsChangeRun (command : CommandLine) (old now : List TreeState) (before after : Counts)
     (result : Result (List ℕ) Refused) : Type 0 where
   pub read : Reads
@@ -102,7 +104,9 @@ pub record IsChangeRun (command : CommandLine) (old now : List TreeState) (befor
   pub choice : IsChoiceFrom (pool_for command read) chosen
   pub files : Files
   pub there : IfObservable old (λ v. files ≡ files_of v)
+  pub standing : Files
+  pub stand : IfObservable old (λ v. standing ≡ files_of v)
   pub clash : Option NamePair
-  pub is_clash : IfObservable old (λ v. IsClashFor command read files chosen clash)
-  pub comes : ComesTo (selected_in (selected_for command read chosen))
+  pub is_clash : IsClashForOver command read files standing chosen clash
+  pub comes : ComesTo (coming_in (selected_for command read chosen))
       (changed command read files chosen clash) old now before after result

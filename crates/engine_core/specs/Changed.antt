@@ -4,7 +4,7 @@ use Rattle.std.specs.Prelude.{◌≡◌, ℕ, Bool, true, false, if◌then◌els
 use Rattle.base_core.specs.Files.{Files}
 use Rattle.change_inputs.specs.Chains.{and_then}
 use Rattle.change_inputs.specs.Inputs.{Inputs, inputs_of}
-use Rattle.change_outcome.specs.ChangeOutcome.{ChangeDone, ChangeWishes, IsClashOfChange, change_or_refusal}
+use Rattle.change_outcome.specs.ChangeOutcome.{ChangeDone, ChangeWishes, IsClashOfChangeOver, change_or_refusal}
 use Rattle.command_core.specs.Command.{CommandLine}
 use Rattle.make_info.specs.Reads.{Reads}
 use Rattle.package_changes.specs.Changes.{Replacement}
@@ -69,20 +69,37 @@ changed command read files chosen clash =
 -- ---- the first clash
 
 -- a change that is only simulated does not ask for it
+abbrev pub IsClashUnlessSimulatedOver :
+    Bool → ChangeWishes → Reads → Files → Files → Selected → Option NamePair → Type 0
+IsClashUnlessSimulatedOver true wishes read files standing s clash = clash ≡ None
+IsClashUnlessSimulatedOver false wishes read files standing s clash =
+    IsClashOfChangeOver s.inputs s.replacement wishes read files standing clash
+
+abbrev pub IsClashOfSelectedOver :
+    CommandLine → Reads → Files → Files → Result Selected Refusal → Option NamePair → Type 0
+IsClashOfSelectedOver command read files standing (Ok s) clash =
+    IsClashUnlessSimulatedOver command.flags.simulate (wishes_of command) read files standing s clash
+IsClashOfSelectedOver command read files standing (Err refusal) clash = clash ≡ None
+
+-- It is the first clash of the names after the change; where the command comes not so far, none. By
+-- these files configuration is kept or a file is laid beside it, and among the standing ones names
+-- clash.
+abbrev pub IsClashForOver :
+    CommandLine → Reads → Files → Files → Option (List ℕ) → Option NamePair → Type 0
+IsClashForOver command read files standing chosen clash =
+    IsClashOfSelectedOver command read files standing (selected_for command read chosen) clash
+
+-- both are the same files
 abbrev pub IsClashUnlessSimulated :
     Bool → ChangeWishes → Reads → Files → Selected → Option NamePair → Type 0
-IsClashUnlessSimulated true wishes read files s clash = clash ≡ None
-IsClashUnlessSimulated false wishes read files s clash =
-    IsClashOfChange s.inputs s.replacement wishes read files clash
+IsClashUnlessSimulated simulate wishes read files s clash =
+    IsClashUnlessSimulatedOver simulate wishes read files files s clash
 
 abbrev pub IsClashOfSelected :
     CommandLine → Reads → Files → Result Selected Refusal → Option NamePair → Type 0
-IsClashOfSelected command read files (Ok s) clash =
-    IsClashUnlessSimulated command.flags.simulate (wishes_of command) read files s clash
-IsClashOfSelected command read files (Err refusal) clash = clash ≡ None
+IsClashOfSelected command read files selected clash =
+    IsClashOfSelectedOver command read files files selected clash
 
--- it is the first clash of the names after the change; where the command comes not so far, none
 abbrev pub IsClashFor :
     CommandLine → Reads → Files → Option (List ℕ) → Option NamePair → Type 0
-IsClashFor command read files chosen clash =
-    IsClashOfSelected command read files (selected_for command read chosen) clash
+IsClashFor command read files chosen clash = IsClashForOver command read files files chosen clash

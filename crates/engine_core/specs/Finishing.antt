@@ -14,7 +14,7 @@ use Rattle.pool_core.specs.Candidates.{Candidate}
 use Rattle.change_inputs.specs.Inputs.{Inputs}
 use Rattle.change_laws.specs.Premises.{IsRootOfFiles}
 use Rattle.change_outcome.specs.ChangeOutcome.{ChangeWishes, file_change, is_other_file}
-use Rattle.change_outcome.specs.MembersAfter.{MemberFound, members_found}
+use Rattle.change_outcome.specs.MembersAfter.{MemberFound, candidates_that_come, members_found}
 use Rattle.db_core.specs.Members.{Member, is_coming, member_name}
 use Rattle.db_core.specs.Seen.{members_of, packages_of}
 use Rattle.dep_core.specs.World.{world_text}
@@ -39,15 +39,15 @@ IsRootRead history inputs = IfObservable history (λ v. IsRootOfFiles (files_of 
 -- ---- the packages
 
 -- one of these candidates has its name and version
-pub record IsOfCandidate (selected : List Candidate) (m : Member) : Type 0 where
+pub record IsOfCandidate (coming : List Candidate) (m : Member) : Type 0 where
   pub candidate : Candidate
-  pub selects : Contains selected candidate
+  pub comes : Contains coming candidate
   pub name : candidate.name ≡ member_name m
   pub version : selected_version candidate ≡ version_text m.pkg
 
 abbrev pub AreOfCandidates : List Candidate → List Member → Type 0
-AreOfCandidates selected members = (place : ℕ) (m : Member) → slice_get members place ≡ Some m
-    → is_coming m ≡ true → IsOfCandidate selected m
+AreOfCandidates coming members = (place : ℕ) (m : Member) → slice_get members place ≡ Some m
+    → is_coming m ≡ true → IsOfCandidate coming m
 
 abbrev pub inputs_arrived : Arrived → Inputs
 inputs_arrived a = inputs_of_selection a.selection.now
@@ -66,7 +66,7 @@ pub record AreArrivals (history : List TreeState) (s : Selection) (names : Place
       ≡ placed_names_of (replacement_by s.db.now s.pool.now s.trace.now s.again.now)
   pub read : AreMembersRead history (packages_of s.db.now) (arrivals_seen arrivals) found
   pub root : IsRootRead history (inputs_of_selection s)
-  pub selected : AreOfCandidates (replacement_seen s).selected (members_found found)
+  pub coming : AreOfCandidates (candidates_that_come (replacement_seen s)) (members_found found)
 
 -- and their members stand one beside the other
 pub record IsArrived (history : List TreeState) (a : Arrived) (found : List MemberFound) : Type 0 where

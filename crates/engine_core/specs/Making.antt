@@ -6,8 +6,8 @@ use Rattle.base_core.specs.Files.{Files}
 use Rattle.base_core.specs.Tree.{TreeState, files_of}
 use Rattle.change_inputs.specs.Inputs.{Inputs}
 use Rattle.change_inputs.specs.declared.refused.Refused.{Refused}
-use Rattle.change_outcome.specs.ChangeOutcome.{ChangeWishes, IsClashFound, change_members, change_with_members}
-use Rattle.change_outcome.specs.MembersAfter.{MemberFound}
+use Rattle.change_outcome.specs.ChangeOutcome.{ChangeWishes, IsClashFoundOver, change_members, change_with_members}
+use Rattle.change_outcome.specs.MembersAfter.{MemberFound, candidates_that_come}
 use Rattle.make_info.specs.Reads.{Reads}
 use Rattle.package_changes.specs.Changes.{Replacement}
 use Rattle.path_clashes.specs.Clash.{NamePair}
@@ -19,9 +19,11 @@ pub record IsFoundRun (inputs : Inputs) (r : Replacement) (wishes : ChangeWishes
     (result : Result (List ℕ) Refused) : Type 0 where
   pub files : Files
   pub there : IfObservable old (λ v. files ≡ files_of v)
+  pub standing : Files
+  pub stand : IfObservable old (λ v. standing ≡ files_of v)
   pub clash : Option NamePair
-  pub is_clash : IfObservable old (λ v. IsClashFound inputs wishes files (Ok found) clash)
-  pub comes : ComesTo r.selected (change_with_members inputs r wishes clash files found)
+  pub is_clash : IsClashFoundOver inputs wishes files standing (Ok found) clash
+  pub comes : ComesTo (candidates_that_come r) (change_with_members inputs r wishes clash files found)
       old now before after result
 
 abbrev pub IsMembersRun :

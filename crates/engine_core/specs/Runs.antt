@@ -13,8 +13,8 @@ use Rattle.make_info.specs.Reads.{Reads}
 use Rattle.make_package.specs.Runs.{AreObserved}
 use Rattle.path_clashes.specs.Clash.{NamePair}
 use Rattle.report_core.specs.declared.refusal.Refusal.{Refusal}
-use Rattle.engine_core.specs.ChangeRun.{ComesTo, selected_in}
-use Rattle.engine_core.specs.Changed.{IsClashOfSelected, Selected, change_of_selected, selected_of_inputs}
+use Rattle.engine_core.specs.ChangeRun.{ComesTo, coming_in}
+use Rattle.engine_core.specs.Changed.{IsClashOfSelectedOver, Selected, change_of_selected, selected_of_inputs}
 use Rattle.engine_core.specs.Choice.{IsChoiceFrom}
 use Rattle.engine_core.specs.Selecting.{pool_by}
 
@@ -26,9 +26,11 @@ pub record IsSelectedRun (command : CommandLine) (selected : Result Selected Ref
   pub observed : AreObserved old read
   pub files : Files
   pub there : IfObservable old (λ v. files ≡ files_of v)
+  pub standing : Files
+  pub stand : IfObservable old (λ v. standing ≡ files_of v)
   pub clash : Option NamePair
-  pub is_clash : IfObservable old (λ v. IsClashOfSelected command read files selected clash)
-  pub comes : ComesTo (selected_in selected)
+  pub is_clash : IsClashOfSelectedOver command read files standing selected clash
+  pub comes : ComesTo (coming_in selected)
       (and_then selected (change_of_selected command read files clash))
       old now before after result
 

@@ -2,7 +2,7 @@
 ghost use Rattle.base_core.specs.Files.{Files};
 ghost use Rattle.change_inputs.specs.Chains.{and_then};
 ghost use Rattle.change_outcome.specs.ChangeOutcome.{file_change, touched_paths, unless_too_large};
-ghost use Rattle.change_outcome.specs.MembersAfter.{MemberFound, members_found};
+ghost use Rattle.change_outcome.specs.MembersAfter.{MemberFound, candidates_that_come, members_found};
 ghost use Rattle.change_outcome.specs.Triggers.{unless_trigger};
 ghost use Rattle.engine_core.specs.Carrying.{HasPlan, ready_change};
 ghost use Rattle.engine_core.specs.ChangeRun.{ComesTo};
@@ -40,7 +40,7 @@ fn carry_change<T: Tree>(
     requires records { AreRecordsOf (inputs_arrived planned.now.arrived.now) records.now }
     ensures comes { (found : List MemberFound) (files : Files)
         → IsPlanned (T.history tree.old) (wishes_of command.now) planned.now found files
-        → ComesTo (replacement_arrived planned.now.arrived.now).selected
+        → ComesTo (candidates_that_come (replacement_arrived planned.now.arrived.now))
         (ready_change (inputs_arrived planned.now.arrived.now)
         (replacement_arrived planned.now.arrived.now) (wishes_of command.now) found files
         records.now.database.items) (T.history tree.old) (T.history tree.new) (T.counts tree.old)
@@ -93,7 +93,7 @@ pub(crate) fn finish_change<T: Tree>(
     requires { HasPlan (T.history tree.old) (wishes_of command.now) planned.now }
     ensures comes { (found : List MemberFound) (files : Files)
         → IsPlanned (T.history tree.old) (wishes_of command.now) planned.now found files
-        → ComesTo (replacement_arrived planned.now.arrived.now).selected
+        → ComesTo (candidates_that_come (replacement_arrived planned.now.arrived.now))
         (and_then (unless_trigger (wishes_of command.now).no_scripts
         (touched_paths (file_change (inputs_arrived planned.now.arrived.now)
         (wishes_of command.now) found) files) (members_found found))

@@ -24,7 +24,7 @@ use Rattle.outcome.specs.Changing.{change_outcome}
 use Rattle.outcome.specs.Given.{Given}
 use Rattle.outcome.specs.Commands.{IsOutcomeOf, IsOutcomeUnless, applet_outcome, reads_in}
 use Rattle.outcome.specs.Effect.{Effect, Computes, Reads as OnlyReads, Tells, Makes, Changes, does_only_read, effect_by, effect_of, reads_only}
-use Rattle.outcome.specs.Make.{files_with, index_line, make_outcome, unless_reserved}
+use Rattle.outcome.specs.Make.{files_with_output, index_line, make_outcome, unless_reserved}
 use Rattle.outcome.specs.Outcome.{Outcome, commit_report, just_refusal}
 use Rattle.outcome.specs.Work.{recovery_fault, work_files}
 
@@ -41,7 +41,7 @@ unless_output files None o h = h
 unless_output files (Some name) o h = unless_name (is_reserved name) files name o h
 
 made_commits : (files : Files) (output : Option (List ℕ)) (report : List ℕ) (result : Result (List ℕ) MakeFault) → IsRefusalOrMade result → CommitsUnlessRefused (make_outcome files output report result)
-made_commits files output report (Ok bytes) fine = unless_output files output (commit_report (files_with output bytes files) report) refl
+made_commits files output report (Ok bytes) fine = unless_output files output (commit_report (files_with_output output bytes files) report) refl
 made_commits files output report (Err (FileMissing place)) fine = refl
 made_commits files output report (Err (FileBad place cause)) fine = refl
 made_commits files output report (Err (InfoBad place)) fine = refl

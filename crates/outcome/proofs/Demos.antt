@@ -26,7 +26,7 @@ use Rattle.outcome.specs.Commands.{IsOutcomeOf, IsOutcomeUnless, applet_outcome,
 use Rattle.outcome.specs.Demo.{AreIndexed, AreInstalled, ArePackaged, IsDemoOutcome, IsRunBehind, IsRunUnless, demo_start, with_demo_file}
 use Rattle.outcome.specs.Effect.{Makes, effect_of}
 use Rattle.outcome.specs.Given.{Given}
-use Rattle.outcome.specs.Make.{files_with, index_line, make_outcome, unless_reserved}
+use Rattle.outcome.specs.Make.{files_with_output, index_line, make_outcome, unless_reserved}
 use Rattle.outcome.specs.Outcome.{Outcome, just_refusal, just_report, outcome_of, report_unless}
 use Rattle.outcome.specs.Work.{recovery_fault, work_files}
 
@@ -54,7 +54,7 @@ few_drop files name (names, within) = (names, λ q some. within q (if_there (byt
     if_there true o some = cc
     if_there false o some = some
 
-few_with : (output : Option (List ℕ)) (bytes : List ℕ) (files : Files) → AreFew files → AreFew (files_with output bytes files)
+few_with : (output : Option (List ℕ)) (bytes : List ℕ) (files : Files) → AreFew files → AreFew (files_with_output output bytes files)
 few_with None bytes files few = few
 few_with (Some name) bytes files few = few_put (drop_name files (scratch_of name)) name bytes (few_drop files (scratch_of name) few)
 
@@ -69,7 +69,7 @@ few_output files None o few after = after
 few_output files (Some name) o few after = few_name (is_reserved name) files name o few after
 
 few_made : (files : Files) (output : Option (List ℕ)) (report : List ℕ) (made : Result (List ℕ) MakeFault) → AreFew files → AreFew ((make_outcome files output report made).files)
-few_made files output report (Ok bytes) few = few_output files output (record (just_report (files_with output bytes files) report) { commits = true }) few (few_with output bytes files few)
+few_made files output report (Ok bytes) few = few_output files output (record (just_report (files_with_output output bytes files) report) { commits = true }) few (few_with output bytes files few)
 few_made files output report (Err (FileMissing place)) few = few
 few_made files output report (Err (FileBad place cause)) few = few
 few_made files output report (Err (InfoBad place)) few = few

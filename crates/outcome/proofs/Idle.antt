@@ -36,7 +36,7 @@ use Rattle.outcome.specs.Commands.{IsOutcomeOf, IsOutcomeOver, IsOutcomeUnless, 
 use Rattle.outcome.specs.Dump.{adbdump, dump_of, dump_outcome, text_outcome}
 use Rattle.outcome.specs.Effect.{effect_by, effect_of}
 use Rattle.outcome.specs.Given.{Given}
-use Rattle.outcome.specs.Make.{files_with, index_line, make_outcome, unless_reserved}
+use Rattle.outcome.specs.Make.{files_with_output, index_line, make_outcome, unless_reserved}
 use Rattle.outcome.specs.Outcome.{Outcome, commit_report, just_refusal, outcome_of, report_unless}
 use Rattle.outcome.specs.Verify.{sound_lines, verify_refusal}
 use Rattle.outcome.specs.Version.{invalid_lines, order_report, version, version_refusal}
@@ -81,7 +81,7 @@ output_idle files None o h = h
 output_idle files (Some name) o h = reserved_idle (is_reserved name) files name o h
 
 made_idle : (files : Files) (output : Option (List ℕ)) (report : List ℕ) (result : Result (List ℕ) MakeFault) → LeavesIdle files (make_outcome files output report result)
-made_idle files output report (Ok bytes) = output_idle files output (commit_report (files_with output bytes files) report) (λ idle. absurd (true≢false idle))
+made_idle files output report (Ok bytes) = output_idle files output (commit_report (files_with_output output bytes files) report) (λ idle. absurd (true≢false idle))
 made_idle files output report (Err (FileMissing place)) = λ idle. refl
 made_idle files output report (Err (FileBad place cause)) = λ idle. refl
 made_idle files output report (Err (InfoBad place)) = λ idle. refl

@@ -11,7 +11,7 @@ use Rattle.report_core.specs.declared.refusal.Refusal.TheVariants.{IntentBad, Pa
 use Rattle.command_core.specs.Command.{CommandLine}
 use Rattle.command_core.specs.declared.command.Applet.{Applet}
 use Rattle.command_core.specs.declared.command.Applet.TheVariants.{Adbdump, Demo, Info, Mkndx, Mkpkg, Verify, Version}
-use Rattle.engine_core.specs.ChangeRun.{selected_in}
+use Rattle.engine_core.specs.ChangeRun.{coming_in}
 use Rattle.engine_core.specs.Changed.{selected_for}
 use Rattle.outcome.specs.Changing.{change}
 use Rattle.outcome.specs.Dump.{adbdump}
@@ -78,18 +78,19 @@ pub record IsSpoiled (command : CommandLine) (read : Reads) (given : Given) (fil
   pub changes : effect_of command.applet ≡ Changes
   pub commits : (command_outcome command given read files).commits ≡ true
   pub candidate : Candidate
-  pub selects : Contains (selected_in (selected_for command read given.chosen)) candidate
+  pub comes : Contains (coming_in (selected_for command read given.chosen)) candidate
   pub cause : Cause
   pub refusal : outcome
       ≡ just_refusal files (PackageBad candidate.name (selected_version candidate) cause)
 
--- the outcome for some listing, some contents at each read, and some files
+-- the outcome for some listing, some contents at each read, and some files; and for the first clash
+-- of names among some files that stand
 abbrev pub IsFoundOver : CommandLine → Outcome → Type 0
 IsFoundOver command outcome =
     (given : Given)
     × (read : Reads)
     × (files : Files)
-    × MayBeGiven command read given
+    × MayBeGiven command read files given
     × ((outcome ≡ command_outcome command given read files)
     ⊎ IsSpoiled command read given files outcome)
 

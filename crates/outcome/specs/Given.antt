@@ -6,7 +6,7 @@ use Rattle.command_core.specs.Command.{CommandLine}
 use Rattle.command_core.specs.declared.command.Applet.{Applet}
 use Rattle.command_core.specs.declared.command.Applet.TheVariants.{Mkpkg}
 use Rattle.command_core.specs.declared.values.TheConstants.{FILES}
-use Rattle.engine_core.specs.Changed.{IsClashFor}
+use Rattle.engine_core.specs.Changed.{IsClashFor, IsClashForOver}
 use Rattle.engine_core.specs.Choice.{IsChoiceFrom}
 use Rattle.engine_core.specs.Selecting.{pool_for}
 use Rattle.make_info.specs.Reads.{Reads}
@@ -64,12 +64,17 @@ abbrev pub MayBeListedFor : Applet → CommandLine → List (List ℕ) → Type 
 MayBeListedFor Mkpkg command names = AreNamesFor (values_with FILES command.values) names
 MayBeListedFor other command names = names ≡ []
 
--- only a change may have a clash; which one it has is not said
-abbrev pub MayClash : Effect → Option NamePair → Type 0
-MayClash Changes clash = Unit {0}
-MayClash other clash = clash ≡ None
+-- only a change has a clash: the first one among some standing files
+abbrev pub MayClash :
+    Effect → CommandLine → Reads → Files → Option (List ℕ) → Option NamePair → Type 0
+MayClash Changes command read files chosen clash =
+    (standing : Files) × IsClashForOver command read files standing chosen clash
+MayClash other command read files chosen clash = clash ≡ None
 
-pub record MayBeGiven (command : CommandLine) (read : Reads) (given : Given) : Type 0 where
+-- all this, by some files
+pub record MayBeGiven (command : CommandLine) (read : Reads) (files : Files) (given : Given)
+    : Type 0 where
   pub names : MayBeListedFor command.applet command given.names
   pub chosen : IsChosenFor (effect_of command.applet) command read given.chosen
-  pub clash : MayClash (effect_of command.applet) given.clash
+  pub clash :
+      MayClash (effect_of command.applet) command read files given.chosen given.clash

@@ -39,15 +39,15 @@ unless_reserved files (Some name) otherwise =
     if is_reserved name then just_refusal files (Reserved name) else otherwise
 
 -- these bytes stand under the output's name, and nothing under its scratch name
-abbrev pub files_with : Option (List ℕ) → List ℕ → Files → Files
-files_with None bytes files = files
-files_with (Some name) bytes files = replaced_files name bytes files
+abbrev pub files_with_output : Option (List ℕ) → List ℕ → Files → Files
+files_with_output None bytes files = files
+files_with_output (Some name) bytes files = replaced_files name bytes files
 
 -- A container is written and reported; what cannot be made is refused. A reserved output is refused
 -- behind all other refusals but that of a container that is too large.
 abbrev pub make_outcome : Files → Option (List ℕ) → List ℕ → Result (List ℕ) MakeFault → Outcome
 make_outcome files output report (Ok bytes) =
-    unless_reserved files output (commit_report (files_with output bytes files) report)
+    unless_reserved files output (commit_report (files_with_output output bytes files) report)
 make_outcome files output report (Err (NoFile place)) = just_refusal files (FileMissing place)
 make_outcome files output report (Err (BadFile place cause)) =
     just_refusal files (FileBad place cause)

@@ -25,10 +25,10 @@ use Rattle.refusal_laws.proofs.Lists.{found_in}
 
 -- ---- what its file says
 
-abbrev differs : Candidate → ℕ → List ℕ → List ℕ → Refusal
+abbrev pub differs : Candidate → ℕ → List ℕ → List ℕ → Refusal
 differs c field wanted found = PackageDiffers c.name (selected_version c) field wanted found
 
-abbrev IsTold : Candidate → ComingPackage → Refusal → Type 0
+abbrev pub IsTold : Candidate → ComingPackage → Refusal → Type 0
 IsTold c pkg refusal = (field : ℕ) × (wanted : List ℕ) × (found : List ℕ) × IsOtherPackage c pkg field wanted found × (differs c field wanted found ≡ refusal)
 
 abbrev kept_package : Result ComingPackage Refusal → Result ComingPackage Refusal
@@ -38,12 +38,12 @@ not_same : (a b : List ℕ) → bytes_eq a b ≡ false → a ≡ b → ⊥
 not_same a b apart is = true≢false (sym ((bytes_eq-Decides a b).1 is) ∙ apart)
 
 module _ (c : Candidate) (pkg : ComingPackage) where
-  abbrev by_fields : Bool → Bool → Bool → Result ComingPackage Refusal
+  abbrev pub by_fields : Bool → Bool → Bool → Result ComingPackage Refusal
   by_fields a b v =
       if not a then Err (differs c id_field c.id pkg.id) else if not b then Err (differs c name_field c.name (package_name pkg.value))
       else if not v then Err (differs c version_field (selected_version c) (version_text pkg.value)) else Ok pkg
 
-  different_err : (refusal : Refusal) → unless_different c pkg ≡ Err refusal → IsTold c pkg refusal
+  pub different_err : (refusal : Refusal) → unless_different c pkg ≡ Err refusal → IsTold c pkg refusal
   different_err refusal e = by_tests (is_same_id c.id pkg.id) refl (bytes_eq c.name (package_name pkg.value)) refl (bytes_eq (selected_version c) (version_text pkg.value)) refl e
     where
       by_tests : (a : Bool) → is_same_id c.id pkg.id ≡ a → (b : Bool) → bytes_eq c.name (package_name pkg.value) ≡ b → (v : Bool) → bytes_eq (selected_version c) (version_text pkg.value) ≡ v
@@ -103,10 +103,10 @@ script_ok false name pkg numbers a b e = by_number (first_script_of pkg numbers)
     by_number None e = (cc (e))
     by_number (Some number) e = absurd (cc (e))
 
-abbrev IsScriptTold : Bool → List ℕ → Plain → List ℕ → Refusal → Type 0
+abbrev pub IsScriptTold : Bool → List ℕ → Plain → List ℕ → Refusal → Type 0
 IsScriptTold no_scripts name pkg numbers refusal = (script : ℕ) × (no_scripts ≡ false) × (first_script_of pkg numbers ≡ Some script) × (ScriptNeeded name script ≡ refusal)
 
-script_err : {A : Type 0} (no_scripts : Bool) (name : List ℕ) (pkg : Plain) (numbers : List ℕ) (a : A) (refusal : Refusal) → unless_script no_scripts name pkg numbers a ≡ Err refusal
+pub script_err : {A : Type 0} (no_scripts : Bool) (name : List ℕ) (pkg : Plain) (numbers : List ℕ) (a : A) (refusal : Refusal) → unless_script no_scripts name pkg numbers a ≡ Err refusal
     → IsScriptTold no_scripts name pkg numbers refusal
 script_err true name pkg numbers a refusal e = absurd (cc (e))
 script_err false name pkg numbers a refusal e = by_number (first_script_of pkg numbers) refl e

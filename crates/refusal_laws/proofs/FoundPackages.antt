@@ -29,7 +29,7 @@ use Rattle.refusal_laws.proofs.Lists.{and_then_ok, found_in, in_mapped}
 
 -- ---- lists
 
-name_at_place : (xs : List (List ℕ)) (q : List ℕ) → Names.IsIn q xs → (i : ℕ) × (slice_get xs i ≡ Some q)
+pub name_at_place : (xs : List (List ℕ)) (q : List ℕ) → Names.IsIn q xs → (i : ℕ) × (slice_get xs i ≡ Some q)
 name_at_place [] q here = absurd here
 name_at_place (x ∷ xs) q (inl is) = (zero, ap (λ (y : List ℕ). Some y) (sym is))
 name_at_place (x ∷ xs) q (inr more) = let other = name_at_place xs q more in (suc other.0, other.1)

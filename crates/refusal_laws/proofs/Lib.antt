@@ -1,6 +1,7 @@
 pub mod ChangeFaults
 pub mod Coming
 pub mod CommandFaults
+pub mod FirstPackage
 pub mod FoundPackages
 pub mod InputFaults
 pub mod Lists

@@ -4,6 +4,7 @@ pub mod ReadBefore
 pub mod ComingPackages
 pub mod PackageFaults
 pub mod ChangeFaults
+pub mod FirstPackage
 pub mod TestsPassed
 pub mod PackagesAfter
 pub mod CommandFaults

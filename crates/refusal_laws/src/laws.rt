@@ -21,6 +21,7 @@ ghost use Rattle.path_clashes.specs.Clash.{NamePair};
 ghost use Rattle.report_core.specs.declared.refusal.Refusal.{Refusal};
 ghost use Rattle.refusal_laws.specs.ChangeFaults.{IsFaultOfChange, IsFaultOfPackage};
 ghost use Rattle.refusal_laws.specs.CommandFaults.{IsFaultOfCommand};
+ghost use Rattle.refusal_laws.specs.FirstPackage.{IsFirstRefused};
 ghost use Rattle.refusal_laws.specs.InputFaults.{IsFaultOfInput};
 ghost use Rattle.refusal_laws.specs.MadeTooLarge.{IsPackageTooLarge};
 ghost use Rattle.refusal_laws.specs.PackagesAfter.{AreSelectedOnes};
@@ -102,6 +103,14 @@ pub fn a_change_that_is_made_has_no_fault()
         → IsClashOfChange inputs r wishes read files clash
         → (found : List MemberFound) × (change_members inputs r wishes read ≡ Ok found)
         × HasNoFault wishes (file_change inputs wishes found) files }
+{}
+
+/// Where a package that comes or goes is refused, it is the first one with a fault, in byte order of
+/// names, and it has no other.
+pub fn a_refused_package_is_the_first_with_a_fault()
+    ensures { (inputs : Inputs) (r : Replacement) (wishes : ChangeWishes) (read : Reads)
+        (refusal : Refusal) → change_members inputs r wishes read ≡ Err refusal
+        → IsFirstRefused inputs r wishes read refusal }
 {}
 
 /// The packages after a change are the selected ones: one that comes is as its file has it, with

@@ -50,12 +50,6 @@ bytes_next files writes contents i w at stand =
     (found.0, found.1, stand.each i w found.0 at found.1)
 
 module _ (start stage next : Staging) (writes : List StagedWrite) (i : ℕ) (w : StagedWrite) (at : slice_get writes i ≡ Some w) (old now later : History) (so_far : AreStagedOn start stage writes i old now) where
-  pub each_run : ((contents : List (List ℕ)) (v : TreeState) (first : List TreeState) (bytes : List ℕ) → IsStaging stage contents None v first now → StandsForBytes (files_of v) w.source bytes → IsStagingRun v first later)
-      → (contents : List (List ℕ)) (v : TreeState) (first : List TreeState) → IsStaging start [] None v first old → StandForEach (files_of v) writes contents → IsStagingRun v first later
-  each_run run contents v first staging stand =
-      let (bytes, is, source) = bytes_next (files_of v) writes contents i w at stand in
-      run (take i contents) v first bytes (so_far contents v first staging stand) source
-
   pub each_more : ((contents : List (List ℕ)) (v : TreeState) (first : List TreeState) (bytes : List ℕ) → IsStaging stage contents None v first now → StandsForBytes (files_of v) w.source bytes → IsStaging next (contents ++ bytes ∷ []) None v first later)
       → AreStagedOn start next writes (i + 1) old later
   each_more staged contents v first staging stand =
@@ -111,6 +105,14 @@ listed_next start stage next writes i w old now later at listed one v first stag
       subst (λ (ws : List StagedWrite). MayStandForEach ws (so_far.0 ++ found.0 ∷ [])) (sym (take_next writes i w at)) (may_more (take i writes) so_far.0 w found.0 so_far.1 found.1),
       found.2,
     )
+
+-- only what waits has changed, whatever comes next
+pub listed_run : (start stage : Staging) (writes : List StagedWrite) (i : ℕ) (old now later : History) → AreListedOn start stage writes i old now
+    → ((contents : List (List ℕ)) (v : TreeState) (first : List TreeState) → IsStaging stage contents None v first now → IsStagingRun v first later)
+    → (v : TreeState) (first : List TreeState) → IsStaging start [] None v first old → IsStagingRun v first later
+listed_run start stage writes i old now later listed run v first staging =
+    let found = listed v first staging in
+    run found.0 v first found.2
 
 pub all_listed : (start stage : Staging) (writes : List StagedWrite) (i : ℕ) (old now : History) → length writes ≤ i → AreListedOn start stage writes i old now
     → (v : TreeState) (first : List TreeState) → IsStaging start [] None v first old → (contents : List (List ℕ)) × MayStandForEach writes contents × IsStaging stage contents None v first now

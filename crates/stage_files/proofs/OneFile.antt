@@ -1,7 +1,7 @@
 -- A file is staged piece by piece.
 use Rattle.std.proofs.Common.{◌≡◌, ℕ, Bool, true, false, List, [], ◌∷◌, ◌++◌, Option, Some, None, Result, Ok, Err, refl, sym, ap, subst, ◌∙◌, append_assoc, arith}
 use Rattle.std.proofs.lemmas.List.{append-nil}
-use Rattle.std.specs.Prelude.{OnOk, IfErr}
+use Rattle.std.specs.Prelude.{OnErr, OnOk, IfErr}
 use Rattle.std.specs.Result.{IsErrAnd}
 use Rattle.base_core.specs.Calls.{HasNow, IfObservable}
 use Rattle.base_core.specs.Faults.{Counts, GoesOn, IsNoFault}
@@ -41,6 +41,33 @@ pub package_now : (stage : Staging) (contents : List (List ℕ)) (begun : Option
 package_now stage contents begun v first now name pkg staging there =
     now_map now (IsReadButWaiting (files_of v)) (λ w. files_of w name ≡ Some pkg) (shown_now stage contents begun v first now staging)
     (λ w shown. shown name (no_waiting (files_of v) name pkg staging.empty there) ∙ there)
+
+-- ---- whatever the tree shows
+
+-- a file that is begun waits, with whatever bytes came
+abbrev pub IsBegunOn : Staging → Staging → History → History → Type 0
+IsBegunOn start stage old now =
+    (contents : List (List ℕ)) (v : TreeState) (first : List TreeState) → IsStaging start contents None v first old
+    → (so_far : List ℕ) × IsStaging stage contents (Some so_far) v first now
+
+pub begun_first : (start stage : Staging) (old now : History)
+    → ((contents : List (List ℕ)) (v : TreeState) (first : List TreeState) → IsStaging start contents None v first old → IsStaging stage contents (Some []) v first now)
+    → IsBegunOn start stage old now
+begun_first start stage old now begun contents v first staging = ([], begun contents v first staging)
+
+module _ (start stage : Staging) (old now later : History) (begun : IsBegunOn start stage old now) where
+  pub begun_more : (grown : Staging) (piece : List ℕ)
+      → ((contents : List (List ℕ)) (so_far : List ℕ) (v : TreeState) (first : List TreeState) → IsStaging stage contents (Some so_far) v first now → IsStaging grown contents (Some (so_far ++ piece)) v first later)
+      → IsBegunOn start grown old later
+  begun_more grown piece appended contents v first staging =
+      let (so_far, half) = begun contents v first staging in
+      (so_far ++ piece, appended contents so_far v first half)
+
+  pub begun_run : ((contents : List (List ℕ)) (so_far : List ℕ) (v : TreeState) (first : List TreeState) → IsStaging stage contents (Some so_far) v first now → IsStagingRun v first later)
+      → (contents : List (List ℕ)) (v : TreeState) (first : List TreeState) → IsStaging start contents None v first old → IsStagingRun v first later
+  begun_run run contents v first staging =
+      let (so_far, half) = begun contents v first staging in
+      run contents so_far v first half
 
 -- ---- the file that is begun
 
@@ -171,12 +198,6 @@ begun_read start stage whole old now begun contents v first bytes staging readin
 
 -- what a call makes of the file that is begun
 module _ (start stage : Staging) (whole file : FilePieces) (old now later : History) (read : IsReadOn start stage whole file old now) where
-  pub half_run : ((contents : List (List ℕ)) (so_far : List ℕ) (v : TreeState) (first : List TreeState) → IsStaging stage contents (Some so_far) v first now → IsStagingRun v first later)
-      → (contents : List (List ℕ)) (v : TreeState) (first : List TreeState) (bytes : List ℕ) → IsStaging start contents None v first old → IsReadingIn (files_of v) whole bytes → IsStagingRun v first later
-  half_run run contents v first bytes staging reading =
-      let half = read contents v first bytes staging reading in
-      run contents half.so_far v first half.staging
-
   pub half_proper : (before between after : ℕ) → IsProperOn start whole old before between
       → ((contents : List (List ℕ)) (so_far : List ℕ) (v : TreeState) (first : List TreeState) → IsStaging stage contents (Some so_far) v first now → after ≡ between)
       → IsProperOn start whole old before after
@@ -215,6 +236,10 @@ same_fault {A} {E} r fault other and is = sym (subst (λ (x : Result A E). IsErr
 pub not_ok : {A E : Type 0} (P : E → Type 0) (r : Result A E) (Q : Type 0) → IsErrAnd r P → OnOk r Q
 not_ok P (Ok a) Q is = absurd is
 not_ok P (Err e) Q is = tt
+
+pub on_err : {A E : Type 0} (r : Result A E) (Q : Type 0) → Q → OnErr r Q
+on_err (Ok a) Q is = tt
+on_err (Err e) Q is = is
 
 pub goes_through : (a b c : Counts) → GoesOn a b → GoesOn b c → GoesOn a c
 goes_through a b c one two = record {

@@ -1,5 +1,5 @@
 //! A change is carried through: its files are staged, and one step lets all of them count.
-ghost use Rattle.std.specs.Prelude.{◌≡◌, ◌<◌, ◌+◌, ◌++◌, ◌∷◌, [], ℕ, false, List, None, length, take, IfErr, IsErrOf, OnOk};
+ghost use Rattle.std.specs.Prelude.{◌≡◌, ◌<◌, ◌+◌, ◌++◌, ◌∷◌, ◌⊎◌, [], ℕ, false, List, None, length, take, IfErr, IsErrOf, OnErr, OnOk};
 ghost use Rattle.base_core.specs.Calls.{IfObservable};
 ghost use Rattle.base_core.specs.Faults.{GoesOn, HasCause, IsNoFault};
 ghost use Rattle.base_core.specs.Read.{OnlyReads};
@@ -10,7 +10,7 @@ ghost use Rattle.journal_core.specs.Staged.{HasRoomBeside, IsEmptyStage, new_sta
 ghost use Rattle.stage_files.specs.Carried.{IsCarriedTo};
 ghost use Rattle.stage_files.specs.Sources.{HasFileOf, MayStandForEach, StandForEach};
 ghost use Rattle.stage_files.specs.declared.fault.StageFault.TheVariants.{Bad, Disk as DiskFault};
-ghost use Rattle.stage_run.specs.StageRun.{IsStageRunDone, IsStaging, IsStagingRun};
+ghost use Rattle.stage_run.specs.StageRun.{IsStageRun, IsStageRunDone, IsStaging, IsStagingRun};
 
 use crate::fault::StageFault;
 use crate::source::StagedWrite;
@@ -52,9 +52,8 @@ fn stage_each<T: Tree>(
     requires closed { stage.old.is_open ≡ false }
     requires none { stage.old.staged ≡ 0 }
     requires same { length writes.now ≡ length stage.old.intent.writes }
-    ensures run { (contents : List (List ℕ)) (v : TreeState) (first : List TreeState)
+    ensures run { (v : TreeState) (first : List TreeState)
         → IsStaging stage.old [] None v first (T.history tree.old)
-        → StandForEach (files_of v) writes.now contents
         → IsStagingRun v first (T.history tree.new) }
     ensures staging { (contents : List (List ℕ)) (v : TreeState) (first : List TreeState)
         → IsStaging stage.old [] None v first (T.history tree.old)
@@ -117,6 +116,18 @@ pub fn carry_out<T: Tree>(
         → OnOk result ((contents : List (List ℕ)) × MayStandForEach writes.now contents
         × IsStageRunDone (after_actions stage.old.intent (with_staged 1 contents (files_of v)))
         v (T.history tree.new))) }
+    // Nor is it half done behind an error: only what waits has changed where a package is bad; and
+    // where the tree failed either that, or the change has begun that leads to such files.
+    ensures unpublished { IfObservable (T.history tree.old) (λ v.
+        v.names intent_name ≡ None → IsEmptyStage (files_of v)
+        → (member : ℕ) (cause : Cause) → IsErrOf result (Bad member cause)
+        → IsStagingRun v (T.history tree.old) (T.history tree.new)) }
+    ensures cut_off { IfObservable (T.history tree.old) (λ v.
+        v.names intent_name ≡ None → IsEmptyStage (files_of v)
+        → OnErr result (IsStagingRun v (T.history tree.old) (T.history tree.new)
+        ⊎ ((contents : List (List ℕ)) × MayStandForEach writes.now contents
+        × IsStageRun (after_actions stage.old.intent (with_staged 1 contents (files_of v)))
+        v (T.history tree.old) (T.history tree.new)))) }
     ensures bad { (member : ℕ) (cause : Cause) → IsErrOf result (Bad member cause)
         → HasFileOf member writes.now }
     ensures goes_on { GoesOn (T.counts tree.old) (T.counts tree.new) }

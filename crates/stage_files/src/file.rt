@@ -27,11 +27,12 @@ pub(crate) fn stage_file<T: Tree>(
     requires closed { stage.old.is_open ≡ false }
     requires more { stage.old.staged < length stage.old.intent.writes }
 
-    // Where the tree shows the package only what waits has changed at each moment, and the file's
-    // bytes wait; and only the tree may fail.
+    // Whatever the tree shows of the package, and whatever is answered, only what waits has changed
+    // at each moment.
     ensures run { (contents : List (List ℕ)) (v : TreeState) (first : List TreeState)
-        (bytes : List ℕ) → IsStaging stage.old contents None v first (T.history tree.old)
-        → IsReadingIn (files_of v) file.entry bytes → IsStagingRun v first (T.history tree.new) }
+        → IsStaging stage.old contents None v first (T.history tree.old)
+        → IsStagingRun v first (T.history tree.new) }
+    // Where it shows the package, the file's bytes wait then, and only the tree may fail.
     ensures staging { (contents : List (List ℕ)) (v : TreeState) (first : List TreeState)
         (bytes : List ℕ) → IsStaging stage.old contents None v first (T.history tree.old)
         → IsReadingIn (files_of v) file.entry bytes

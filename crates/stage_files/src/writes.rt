@@ -71,8 +71,8 @@ fn stage_packaged<T: Tree>(
     requires closed { stage.old.is_open ≡ false }
     requires more { stage.old.staged < length stage.old.intent.writes }
     ensures run { (contents : List (List ℕ)) (v : TreeState) (first : List TreeState)
-        (bytes : List ℕ) → IsStaging stage.old contents None v first (T.history tree.old)
-        → IsFileSource (files_of v) f.now bytes → IsStagingRun v first (T.history tree.new) }
+        → IsStaging stage.old contents None v first (T.history tree.old)
+        → IsStagingRun v first (T.history tree.new) }
     ensures staging { (contents : List (List ℕ)) (v : TreeState) (first : List TreeState)
         (bytes : List ℕ) → IsStaging stage.old contents None v first (T.history tree.old)
         → IsFileSource (files_of v) f.now bytes
@@ -119,8 +119,8 @@ pub(crate) fn stage_write<T: Tree>(
     requires closed { stage.old.is_open ≡ false }
     requires more { stage.old.staged < length stage.old.intent.writes }
     ensures run { (contents : List (List ℕ)) (v : TreeState) (first : List TreeState)
-        (bytes : List ℕ) → IsStaging stage.old contents None v first (T.history tree.old)
-        → StandsForBytes (files_of v) source.now bytes → IsStagingRun v first (T.history tree.new) }
+        → IsStaging stage.old contents None v first (T.history tree.old)
+        → IsStagingRun v first (T.history tree.new) }
     ensures staging { (contents : List (List ℕ)) (v : TreeState) (first : List TreeState)
         (bytes : List ℕ) → IsStaging stage.old contents None v first (T.history tree.old)
         → StandsForBytes (files_of v) source.now bytes

@@ -2,7 +2,7 @@ use Rattle.std.proofs.Common.{subst}
 use Rattle.base_core.specs.Calls.{IfObservable}
 use Rattle.base_core.specs.Tree.{files_of}
 use Rattle.command_core.specs.declared.command.Flags.{Flags}
-use Rattle.own_core.specs.Planned.{IsPlanOf, IsRefusalOf, change_by}
+use Rattle.own_core.specs.Planned.{IsPlanOf, IsRefusalOf, MayBeRefusalOf, change_by}
 use Rattle.engine_core.specs.Wishes.{wishes_of}
 use Rattle.engine_core.proofs.Counted.{counted_behind}
 use Rattle.engine_core.proofs.Early.{HaveClash}
@@ -40,3 +40,4 @@ returns-in-Err-clause-run g c = λ found read arrived is_found.
     unplanned_run have (g.T.Tree.history c.args.tree.now) _ _ _ a (wishes_of c.args.command.now) read found c.in-Err.fault c.refused_plan.result
     (g.met.T.Tree.whole c.args.tree.now) (record { same = c.in-Err.ensures.tree.same; proper = c.in-Err.ensures.tree.proper }) arrived is_found c.refused_plan.ensures c.in-Err.ensures.cause
     (subst (λ (f : Flags). IfObservable (g.T.Tree.history c.args.tree.now) (λ v. IsRefusalOf (change_by a.selection.now.db.now a.members.now f.purge) (files_of v) c.in-Err.fault)) c.flags-purge.ensures.value c.in-Err.ensures.refusal)
+    (subst (λ (f : Flags). MayBeRefusalOf (change_by a.selection.now.db.now a.members.now f.purge) (g.T.Tree.history c.args.tree.now) c.in-Err.fault) c.flags-purge.ensures.value c.in-Err.ensures.may)

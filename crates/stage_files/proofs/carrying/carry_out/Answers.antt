@@ -1,13 +1,15 @@
-use Rattle.std.proofs.Common.{◌≡◌, ℕ, List, Ok, Err, ap, refl, sym, subst, ◌∙◌}
+use Rattle.std.proofs.Common.{◌≡◌, ◌⊎◌, inl, inr, ℕ, List, Ok, Err, ap, refl, sym, subst, ◌∙◌}
+use Rattle.std.specs.Prelude.{IsErrOf, OnErr}
 use Rattle.base_core.specs.Tree.{files_of}
+use Rattle.base_core.specs.declared.cause.Cause.{Cause}
 use Rattle.journal_core.specs.Recovery.{after_actions}
 use Rattle.journal_core.specs.Staged.{HasRoomBeside, Staging, with_staged}
 use Rattle.stage_files.specs.Carried.{IsCarriedTo}
 use Rattle.stage_files.specs.Sources.{MayStandForEach}
-use Rattle.stage_files.specs.declared.fault.StageFault.TheVariants.{Disk}
+use Rattle.stage_files.specs.declared.fault.StageFault.TheVariants.{Bad, Disk}
 use Rattle.stage_files.proofs.Carried.{carried, carried_on, of_each, where_seen}
-use Rattle.stage_files.proofs.OneFile.{same_fault, if_disk, not_ok}
-use Rattle.stage_run.specs.StageRun.{IsStageRun, IsStageRunDone}
+use Rattle.stage_files.proofs.OneFile.{same_fault, if_disk, not_ok, on_err}
+use Rattle.stage_run.specs.StageRun.{IsStageRun, IsStageRunDone, IsStagingRun}
 use Rattle.stage_files.proofs.carrying.carry_out.Goals as goal
 
 pub returns-in_err-stage_each-clause-run : goal.returns-in_err-stage_each-clause-run
@@ -15,7 +17,7 @@ returns-in_err-stage_each-clause-run g c =
     carried c.a_new_stage_is_staging.ensures (g.T.Tree.history c.args.tree.now) (g.T.Tree.history c.look_at_each.new.tree) c.args.stage.now _ _ c.args.writes.now c.requires.new c.look_at_each.ensures.same
     (λ v contents. IsCarriedTo {A = Unit {0}} (after_actions c.args.stage.now.intent (with_staged 1 contents (files_of v))) v (g.T.Tree.history c.args.tree.now) (g.T.Tree.history c.stage_each.new.tree) c.from_residual-in_err-stage_each.result)
     (λ v contents staging stand. record {
-      run = c.a_staging_run_is_a_stage_run.ensures _ v _ _ (c.in_err-stage_each.ensures.run contents v (g.T.Tree.history c.args.tree.now) staging stand);
+      run = c.a_staging_run_is_a_stage_run.ensures _ v _ _ (c.in_err-stage_each.ensures.run v (g.T.Tree.history c.args.tree.now) staging);
       ok = not_ok (λ e. e ≡ c.in_err-stage_each.field-0.0) c.from_residual-in_err-stage_each.result _ c.from_residual-in_err-stage_each.ensures.1;
       err = if_disk c.from_residual-in_err-stage_each.result c.in_err-stage_each.field-0.0 c.from_residual-in_err-stage_each.ensures.1 (c.in_err-stage_each.ensures.good contents v (g.T.Tree.history c.args.tree.now) staging stand);
     })
@@ -91,3 +93,50 @@ returns-clause-listed g c =
       subst (λ (s : Staging). IsStageRunDone (after_actions s.intent (with_staged 1 found.0 (files_of v))) v (g.T.Tree.history c.carry_through.new.tree)) c.in_ok-stage_each.ensures.view
           (c.in_ok-carry_through.ensures.done found.0 v (g.T.Tree.history c.args.tree.now) found.2),
     ))
+
+pub returns-in_err-look_at_each-clause-unpublished : goal.returns-in_err-look_at_each-clause-unpublished
+returns-in_err-look_at_each-clause-unpublished g c =
+    carried_on c.a_new_stage_is_staging.ensures (g.T.Tree.history c.args.tree.now) (g.T.Tree.history c.look_at_each.new.tree) c.args.stage.now _ _ c.requires.new c.look_at_each.ensures.same
+    (λ v. (member : ℕ) (cause : Cause) → IsErrOf c.from_residual.result (Bad member cause) → IsStagingRun v (g.T.Tree.history c.args.tree.now) (g.T.Tree.history c.look_at_each.new.tree))
+    (λ v staging member cause is. staging.run)
+
+pub returns-in_err-look_at_each-clause-cut_off : goal.returns-in_err-look_at_each-clause-cut_off
+returns-in_err-look_at_each-clause-cut_off g c =
+    carried_on c.a_new_stage_is_staging.ensures (g.T.Tree.history c.args.tree.now) (g.T.Tree.history c.look_at_each.new.tree) c.args.stage.now _ _ c.requires.new c.look_at_each.ensures.same
+    (λ v. OnErr c.from_residual.result (IsStagingRun v (g.T.Tree.history c.args.tree.now) (g.T.Tree.history c.look_at_each.new.tree) ⊎ ((contents : List (List ℕ)) × MayStandForEach c.args.writes.now contents × IsStageRun (after_actions c.args.stage.now.intent (with_staged 1 contents (files_of v))) v (g.T.Tree.history c.args.tree.now) (g.T.Tree.history c.look_at_each.new.tree))))
+    (λ v staging. on_err c.from_residual.result _ (inl staging.run))
+
+pub returns-in_err-stage_each-clause-unpublished : goal.returns-in_err-stage_each-clause-unpublished
+returns-in_err-stage_each-clause-unpublished g c =
+    carried_on c.a_new_stage_is_staging.ensures (g.T.Tree.history c.args.tree.now) (g.T.Tree.history c.look_at_each.new.tree) c.args.stage.now _ _ c.requires.new c.look_at_each.ensures.same
+    (λ v. (member : ℕ) (cause : Cause) → IsErrOf c.from_residual-in_err-stage_each.result (Bad member cause) → IsStagingRun v (g.T.Tree.history c.args.tree.now) (g.T.Tree.history c.stage_each.new.tree))
+    (λ v staging member cause is. c.in_err-stage_each.ensures.run v (g.T.Tree.history c.args.tree.now) staging)
+
+pub returns-in_err-stage_each-clause-cut_off : goal.returns-in_err-stage_each-clause-cut_off
+returns-in_err-stage_each-clause-cut_off g c =
+    carried_on c.a_new_stage_is_staging.ensures (g.T.Tree.history c.args.tree.now) (g.T.Tree.history c.look_at_each.new.tree) c.args.stage.now _ _ c.requires.new c.look_at_each.ensures.same
+    (λ v. OnErr c.from_residual-in_err-stage_each.result (IsStagingRun v (g.T.Tree.history c.args.tree.now) (g.T.Tree.history c.stage_each.new.tree) ⊎ ((contents : List (List ℕ)) × MayStandForEach c.args.writes.now contents × IsStageRun (after_actions c.args.stage.now.intent (with_staged 1 contents (files_of v))) v (g.T.Tree.history c.args.tree.now) (g.T.Tree.history c.stage_each.new.tree))))
+    (λ v staging. on_err c.from_residual-in_err-stage_each.result _ (inl (c.in_err-stage_each.ensures.run v (g.T.Tree.history c.args.tree.now) staging)))
+
+pub returns-in_err-carry_through-clause-unpublished : goal.returns-in_err-carry_through-clause-unpublished
+returns-in_err-carry_through-clause-unpublished g c = of_each (g.T.Tree.history c.args.tree.now) _ (λ v unread empty member cause is.
+    cc (same_fault c.from_residual-in_err-carry_through.result Disk (Bad member cause) c.from_residual-in_err-carry_through.ensures.1 is))
+
+pub returns-in_err-carry_through-clause-cut_off : goal.returns-in_err-carry_through-clause-cut_off
+returns-in_err-carry_through-clause-cut_off g c =
+    carried_on c.a_new_stage_is_staging.ensures (g.T.Tree.history c.args.tree.now) (g.T.Tree.history c.look_at_each.new.tree) c.args.stage.now _ _ c.requires.new c.look_at_each.ensures.same
+    (λ v. OnErr c.from_residual-in_err-carry_through.result (IsStagingRun v (g.T.Tree.history c.args.tree.now) (g.T.Tree.history c.carry_through.new.tree) ⊎ ((contents : List (List ℕ)) × MayStandForEach c.args.writes.now contents × IsStageRun (after_actions c.args.stage.now.intent (with_staged 1 contents (files_of v))) v (g.T.Tree.history c.args.tree.now) (g.T.Tree.history c.carry_through.new.tree))))
+    (λ v staging.
+    let found = c.in_ok-stage_each.ensures.listed v (g.T.Tree.history c.args.tree.now) staging in
+    on_err c.from_residual-in_err-carry_through.result _ (inr (
+      found.0,
+      found.1,
+      subst (λ (s : Staging). IsStageRun (after_actions s.intent (with_staged 1 found.0 (files_of v))) v (g.T.Tree.history c.args.tree.now) (g.T.Tree.history c.carry_through.new.tree)) c.in_ok-stage_each.ensures.view
+          (c.in_err-carry_through.ensures.run found.0 v (g.T.Tree.history c.args.tree.now) found.2),
+    )))
+
+pub returns-clause-unpublished : goal.returns-clause-unpublished
+returns-clause-unpublished g c = of_each (g.T.Tree.history c.args.tree.now) _ (λ v unread empty member cause is. cc is)
+
+pub returns-clause-cut_off : goal.returns-clause-cut_off
+returns-clause-cut_off g c = of_each (g.T.Tree.history c.args.tree.now) _ (λ v unread empty. tt)

@@ -1,13 +1,12 @@
 use Rattle.std.proofs.Common.{◌+◌, Err, ap, ◌∙◌, arith}
 use Rattle.journal_core.specs.Staged.{Staging}
-use Rattle.stage_files.proofs.Each.{all_listed, all_staged, each_good, each_more, each_proper, each_run, item_at, listed_next}
+use Rattle.stage_files.proofs.Each.{all_listed, all_staged, each_good, each_more, each_proper, item_at, listed_next, listed_run}
 use Rattle.stage_files.proofs.OneFile.{same_fault, goes_through, if_disk, kept_through}
 use Rattle.stage_files.proofs.carrying.stage_each.Goals as goal
 
 pub returns-in_err-stage_write-clause-run : goal.returns-in_err-stage_write-clause-run
 returns-in_err-stage_write-clause-run g c =
-    each_run c.args.stage.now c.loop-write.stage c.stage_write.new.stage c.args.writes.now c.loop-write.write-index c.write-item.result (item_at c.args.writes.now c.loop-write.write-index c.write-item.result (omega arith) c.write-item.is)
-    (g.T.Tree.history c.args.tree.now) (g.T.Tree.history c.loop-write.tree) (g.T.Tree.history c.stage_write.new.tree) c.loop-write.invariant.staged c.in_err-stage_write.ensures.run
+    listed_run _ _ _ _ _ _ _ c.loop-write.invariant.listed c.in_err-stage_write.ensures.run
 
 pub returns-in_err-stage_write-clause-good : goal.returns-in_err-stage_write-clause-good
 returns-in_err-stage_write-clause-good g c = λ contents v first staging stand.
@@ -46,8 +45,8 @@ loop-write-preserved g c = record {
 }
 
 pub returns-clause-run : goal.returns-clause-run
-returns-clause-run g c = λ contents v first staging stand.
-    (all_staged c.args.stage.now c.loop-write.stage c.args.writes.now c.loop-write.write-index (g.T.Tree.history c.args.tree.now) (g.T.Tree.history c.loop-write.tree) (omega arith) c.loop-write.invariant.staged contents v first staging stand).run
+returns-clause-run g c = λ v first staging.
+    (all_listed c.args.stage.now c.loop-write.stage c.args.writes.now c.loop-write.write-index (g.T.Tree.history c.args.tree.now) (g.T.Tree.history c.loop-write.tree) (omega arith) c.loop-write.invariant.listed v first staging).2.run
 
 pub returns-clause-staging : goal.returns-clause-staging
 returns-clause-staging g c =

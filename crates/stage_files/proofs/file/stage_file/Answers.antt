@@ -1,13 +1,11 @@
 use Rattle.std.proofs.Common.{ap, refl, sym, ◌∙◌, Ok}
-use Rattle.stage_files.proofs.OneFile.{begun_listed, begun_read, goes_through, half_proper, half_run, if_disk, kept_through, listed_more, listed_whole, read_fails, read_more, read_proper, read_whole, same_bytes, same_history}
+use Rattle.stage_files.proofs.OneFile.{begun_first, begun_listed, begun_more, begun_read, begun_run, goes_through, half_proper, if_disk, kept_through, listed_more, listed_whole, read_fails, read_more, read_proper, read_whole, same_bytes, same_history}
 use Rattle.stage_files.proofs.file.stage_file.Goals as goal
-
-pub returns-in_err-begin_file-clause-run : goal.returns-in_err-begin_file-clause-run
-returns-in_err-begin_file-clause-run g c = λ contents v first bytes staging reading. c.in_err-begin_file.ensures.run contents v first staging
 
 pub pieces-init : goal.pieces-init
 pieces-init g c = record {
   view = c.in_ok-begin_file.ensures.view;
+  begun = begun_first _ _ _ _ c.in_ok-begin_file.ensures.staging;
   read = begun_read _ _ _ _ _ c.in_ok-begin_file.ensures.staging;
   listed = begun_listed _ _ c.args.file _ _ c.in_ok-begin_file.ensures.staging;
   due = refl;
@@ -18,7 +16,7 @@ pieces-init g c = record {
 
 pub returns-in_err-next_piece-clause-run : goal.returns-in_err-next_piece-clause-run
 returns-in_err-next_piece-clause-run g c =
-    half_run _ _ _ _ _ _ _ c.pieces.invariant.read (λ contents so_far v first staging. (same_history _ _ _ _ _ _ _ c.in_err-next_piece.ensures.tree.same staging).run)
+    begun_run _ _ _ _ _ c.pieces.invariant.begun (λ contents so_far v first staging. (same_history _ _ _ _ _ _ _ c.in_err-next_piece.ensures.tree.same staging).run)
 
 pub returns-in_err-next_piece-clause-good : goal.returns-in_err-next_piece-clause-good
 returns-in_err-next_piece-clause-good g c = λ contents v first bytes staging reading.
@@ -33,6 +31,8 @@ returns-in_err-next_piece-clause-proper g c =
 pub pieces-preserved : goal.pieces-preserved
 pieces-preserved g c = record {
   view = c.in_ok-append_piece.ensures.view ∙ c.pieces.invariant.view;
+  begun = begun_more _ _ _ _ _ c.pieces.invariant.begun _ _
+      (λ contents so_far v first staging. c.in_ok-append_piece.ensures.staging contents so_far v first (same_history _ _ _ _ _ _ _ c.in_ok-next_piece.ensures.tree.same staging));
   read = read_more c.args.stage.now c.pieces.stage c.args.file c.pieces.file c.next_piece.new.self c.next_piece.new.piece _ (g.T.Tree.history c.pieces.tree) (g.T.Tree.history c.append_piece.new.tree) c.next_piece.result
       c.pieces.invariant.read c.next_piece.ensures.piece c.next_piece.ensures.name c.next_piece.ensures.len c.append_piece.new.stage (c.in_ok-next_piece.was ∙ ap Ok c.if-branch.true)
       (λ contents so_far v first staging. same_bytes _ contents so_far _ _ v first _ (sym c.bytes.ensures.bytes)
@@ -51,7 +51,7 @@ pieces-preserved g c = record {
 
 pub returns-in_err-append_piece-clause-run : goal.returns-in_err-append_piece-clause-run
 returns-in_err-append_piece-clause-run g c =
-    half_run _ _ _ _ _ _ _ c.pieces.invariant.read (λ contents so_far v first staging. c.in_err-append_piece.ensures.run contents so_far v first (same_history _ _ _ _ _ _ _ c.in_ok-next_piece.ensures.tree.same staging))
+    begun_run _ _ _ _ _ c.pieces.invariant.begun (λ contents so_far v first staging. c.in_err-append_piece.ensures.run contents so_far v first (same_history _ _ _ _ _ _ _ c.in_ok-next_piece.ensures.tree.same staging))
 
 pub returns-in_err-append_piece-clause-proper : goal.returns-in_err-append_piece-clause-proper
 returns-in_err-append_piece-clause-proper g c =
@@ -61,7 +61,7 @@ returns-in_err-append_piece-clause-proper g c =
 
 pub returns-in_err-end_file-clause-run : goal.returns-in_err-end_file-clause-run
 returns-in_err-end_file-clause-run g c =
-    half_run _ _ _ _ _ _ _ c.pieces.invariant.read (λ contents so_far v first staging. c.in_err-end_file.ensures.run contents so_far v first (same_history _ _ _ _ _ _ _ c.in_ok-next_piece.ensures.tree.same staging))
+    begun_run _ _ _ _ _ c.pieces.invariant.begun (λ contents so_far v first staging. c.in_err-end_file.ensures.run contents so_far v first (same_history _ _ _ _ _ _ _ c.in_ok-next_piece.ensures.tree.same staging))
 
 pub returns-in_err-end_file-clause-proper : goal.returns-in_err-end_file-clause-proper
 returns-in_err-end_file-clause-proper g c =
@@ -71,7 +71,7 @@ returns-in_err-end_file-clause-proper g c =
 
 pub returns-clause-run : goal.returns-clause-run
 returns-clause-run g c =
-    half_run _ _ _ _ _ _ _ c.pieces.invariant.read (λ contents so_far v first staging. c.in_ok-end_file.ensures.run contents so_far v first (same_history _ _ _ _ _ _ _ c.in_ok-next_piece.ensures.tree.same staging))
+    begun_run _ _ _ _ _ c.pieces.invariant.begun (λ contents so_far v first staging. c.in_ok-end_file.ensures.run contents so_far v first (same_history _ _ _ _ _ _ _ c.in_ok-next_piece.ensures.tree.same staging))
 
 pub returns-clause-staging : goal.returns-clause-staging
 returns-clause-staging g c = λ contents v first bytes staging reading.

@@ -1,12 +1,13 @@
 use Rattle.std.proofs.Common.{◌≡◌, true}
 use Rattle.base_core.specs.Faults.{GoesOn, IsNoFault}
 use Rattle.piece_reader.specs.FileReading.{bytes_left_of, file_due}
-use Rattle.stage_files.proofs.OneFile.{IsListedOn, IsProperOn, IsReadOn}
+use Rattle.stage_files.proofs.OneFile.{IsBegunOn, IsListedOn, IsProperOn, IsReadOn}
 use Rattle.stage_files.proofs.file.stage_file.Given as goal
 
 abbrev pub invariant-pieces : goal.invariant-pieces
 invariant-pieces g l = record {
   view : l.stage ≡ record l.fn.stage { is_open = true };
+  begun : IsBegunOn l.fn.stage l.stage (g.T.Tree.history l.fn.tree) (g.T.Tree.history l.tree);
   read : IsReadOn l.fn.stage l.stage l.fn.file l.file (g.T.Tree.history l.fn.tree) (g.T.Tree.history l.tree);
   listed : IsListedOn l.fn.stage l.stage l.fn.file l.file (g.T.Tree.history l.fn.tree) (g.T.Tree.history l.tree);
   due : file_due l.file ≡ file_due l.fn.file;

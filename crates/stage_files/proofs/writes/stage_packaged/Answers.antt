@@ -4,11 +4,6 @@ use Rattle.pkg_core.specs.Contents.{Expected}
 use Rattle.stage_files.proofs.Files.{source_reading}
 use Rattle.stage_files.proofs.writes.stage_packaged.Goals as goal
 
-pub returns-in-Ok-clause-run : goal.returns-in-Ok-clause-run
-returns-in-Ok-clause-run g c = λ contents v first bytes staging source.
-    c.in-Ok.ensures.run contents v first bytes staging
-    (source_reading _ _ _ _ c.file-file.ensures.name c.file-file.ensures.len c.file-file.ensures.reading source)
-
 pub returns-in-Ok-clause-staging : goal.returns-in-Ok-clause-staging
 returns-in-Ok-clause-staging g c = λ contents v first bytes staging source.
     c.in-Ok.ensures.staging contents v first bytes staging
@@ -19,11 +14,6 @@ returns-in-Ok-clause-proper g c = λ contents v first bytes staging source room.
     c.in-Ok.ensures.proper contents v first bytes staging
     (source_reading _ _ _ _ c.file-file.ensures.name c.file-file.ensures.len c.file-file.ensures.reading source) room
 
-pub returns-in-Err-Bad-clause-run : goal.returns-in-Err-Bad-clause-run
-returns-in-Err-Bad-clause-run g c = λ contents v first bytes staging source.
-    c.in-Err-Bad.ensures.run contents v first bytes staging
-    (source_reading _ _ _ _ c.file-file.ensures.name c.file-file.ensures.len c.file-file.ensures.reading source)
-
 pub returns-in-Err-Bad-clause-good : goal.returns-in-Err-Bad-clause-good
 returns-in-Err-Bad-clause-good g c = λ contents v first bytes staging source.
     cc (c.in-Err-Bad.ensures.good contents v first bytes staging
@@ -33,11 +23,6 @@ pub returns-in-Err-Bad-clause-proper : goal.returns-in-Err-Bad-clause-proper
 returns-in-Err-Bad-clause-proper g c = λ contents v first bytes staging source room.
     c.in-Err-Bad.ensures.proper contents v first bytes staging
     (source_reading _ _ _ _ c.file-file.ensures.name c.file-file.ensures.len c.file-file.ensures.reading source) room
-
-pub returns-in-Err-Disk-clause-run : goal.returns-in-Err-Disk-clause-run
-returns-in-Err-Disk-clause-run g c = λ contents v first bytes staging source.
-    c.in-Err-Disk.ensures.run contents v first bytes staging
-    (source_reading _ _ _ _ c.file-file.ensures.name c.file-file.ensures.len c.file-file.ensures.reading source)
 
 pub returns-in-Err-Disk-clause-proper : goal.returns-in-Err-Disk-clause-proper
 returns-in-Err-Disk-clause-proper g c = λ contents v first bytes staging source room.

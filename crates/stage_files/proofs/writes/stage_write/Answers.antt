@@ -1,38 +1,18 @@
 use Rattle.std.proofs.Common.{◌++◌, ◌∷◌, [], ℕ, List, None, sym, subst}
 use Rattle.stage_run.specs.StageRun.{IsStaging}
 use Rattle.base_core.specs.Tree.{files_of}
-use Rattle.stage_files.proofs.Files.{file_listed, file_stands, given_listed, given_stands, link_listed, link_stands}
+use Rattle.stage_files.proofs.Files.{file_listed, given_listed, given_stands, link_listed, link_stands}
 use Rattle.stage_files.proofs.writes.stage_write.Goals as goal
-
-pub returns-in_err-stage_bytes-in-Bytes-clause-run : goal.returns-in_err-stage_bytes-in-Bytes-clause-run
-returns-in_err-stage_bytes-in-Bytes-clause-run g c = λ contents v first bytes staging is.
-    c.in_err-stage_bytes-in-Bytes.ensures.run contents v first staging
-
-pub returns-in_err-stage_link-in-Link-clause-run : goal.returns-in_err-stage_link-in-Link-clause-run
-returns-in_err-stage_link-in-Link-clause-run g c = λ contents v first bytes staging is.
-    c.in_err-stage_link-in-Link.ensures.run contents v first staging
-
-pub returns-in_ok-stage_bytes-in-Bytes-clause-run : goal.returns-in_ok-stage_bytes-in-Bytes-clause-run
-returns-in_ok-stage_bytes-in-Bytes-clause-run g c = λ contents v first bytes staging is.
-    c.in_ok-stage_bytes-in-Bytes.ensures.run contents v first staging
 
 pub returns-in_ok-stage_bytes-in-Bytes-clause-staging : goal.returns-in_ok-stage_bytes-in-Bytes-clause-staging
 returns-in_ok-stage_bytes-in-Bytes-clause-staging g c = λ contents v first bytes staging is.
     subst (λ (b : List ℕ). IsStaging c.stage_bytes.new.stage (contents ++ b ∷ []) None v first (g.T.Tree.history c.stage_bytes.new.tree))
     (sym (given_stands (files_of v) c.args.source.now _ bytes c.in-Bytes.is is)) (c.in_ok-stage_bytes-in-Bytes.ensures.staging contents v first staging)
 
-pub returns-in_ok-stage_link-in-Link-clause-run : goal.returns-in_ok-stage_link-in-Link-clause-run
-returns-in_ok-stage_link-in-Link-clause-run g c = λ contents v first bytes staging is.
-    c.in_ok-stage_link-in-Link.ensures.run contents v first staging
-
 pub returns-in_ok-stage_link-in-Link-clause-staging : goal.returns-in_ok-stage_link-in-Link-clause-staging
 returns-in_ok-stage_link-in-Link-clause-staging g c = λ contents v first bytes staging is.
     subst (λ (b : List ℕ). IsStaging c.stage_link.new.stage (contents ++ b ∷ []) None v first (g.T.Tree.history c.stage_link.new.tree))
     (sym (link_stands (files_of v) c.args.source.now _ bytes c.in-Link.is is)) (c.in_ok-stage_link-in-Link.ensures.staging contents v first staging)
-
-pub returns-in-File-clause-run : goal.returns-in-File-clause-run
-returns-in-File-clause-run g c = λ contents v first bytes staging is.
-    c.stage_packaged.ensures.run contents v first bytes staging (file_stands (files_of v) c.args.source.now _ bytes c.in-File.is is)
 
 pub returns-in_ok-stage_bytes-in-Bytes-clause-listed : goal.returns-in_ok-stage_bytes-in-Bytes-clause-listed
 returns-in_ok-stage_bytes-in-Bytes-clause-listed g c = λ contents v first staging.

@@ -1,0 +1,87 @@
+-- Which test of a container fails first.
+use Rattle.std.proofs.Common.{◌≡◌, inl, inr, ℕ, zero, suc, ◌<◌, Bool, true, false, if◌then◌else◌, List, [], ◌∷◌, Option, Some, None, Result, Ok, Err, refl, ap, sym, ◌∙◌, arith}
+use Rattle.std.specs.Prelude.{slice_get}
+use Rattle.adb_block.specs.Header.{header_of}
+use Rattle.adb_block.specs.Reading.{Reading, done, fault, more, reading_of}
+use Rattle.adb_block.specs.Standing.{start_of}
+use Rattle.adb_schema.specs.Soundness.{blocks_fault, file_fault, is_schema_wanted, root_value, schema_word}
+use Rattle.adb_tables.specs.Walk.{or_else}
+use Rattle.adb_tables.specs.declared.tables.Which.{Which}
+use Rattle.base_core.specs.declared.cause.Cause.{Cause}
+use Rattle.base_core.specs.declared.cause.Cause.TheVariants.{WrongSchema}
+use Rattle.container_laws.specs.TestsInOrder.{IsBlocksFault, IsContainerFault, IsFaultOfTable, IsFirstFailing, tests_of_values}
+use Rattle.container_laws.proofs.FirstHeader.{header_told}
+use Rattle.pkg_core.specs.Whole.{behind_fault, container_fault, fault_by_header, fault_by_schema, root_of_schema, whole_fault}
+
+-- ---- tests one behind the other
+
+chain : List (Option Cause) → Option Cause
+chain [] = None
+chain (t ∷ ts) = or_else t (chain ts)
+
+first_of : (tests : List (Option Cause)) (c : Cause) → chain tests ≡ Some c → IsFirstFailing tests c
+unfolding chain
+first_of [] c e = absurd (cc (e))
+first_of (Some d ∷ ts) c e =
+    let same : d ≡ c = cc (e) in
+    record { place = 0; fails = ap (λ (x : Cause). Some (Some x)) same; before = λ j lt. absurd (omega arith) }
+first_of (None ∷ ts) c e = further (first_of ts c e)
+  where
+    before_one : (f : IsFirstFailing ts c) (j : ℕ) → j < suc f.place → slice_get (None ∷ ts) j ≡ Some None
+    before_one f zero lt = refl
+    before_one f (suc j) lt = f.before j (omega arith)
+
+    further : IsFirstFailing ts c → IsFirstFailing (None ∷ ts) c
+    further f = record { place = suc f.place; fails = f.fails; before = before_one f }
+
+or_none : (o : Option Cause) → or_else o None ≡ o
+or_none None = refl
+or_none (Some c) = refl
+
+five : (a b d e f : Option Cause) → or_else (or_else a (or_else b (or_else d e))) f ≡ chain (a ∷ (b ∷ (d ∷ (e ∷ (f ∷ [])))))
+unfolding chain
+five (Some x) b d e f = refl
+five None (Some x) d e f = refl
+five None None (Some x) e f = refl
+five None None None e f = ap (or_else e) (sym (or_none f))
+
+-- ---- the blocks
+
+blocks_told : (which : Which) (r : Reading) (c : Cause) → blocks_fault (behind_fault which) which r ≡ Some c → IsBlocksFault which r c
+blocks_told which done c e = absurd (cc (e))
+blocks_told which (fault d) c e = let same : d ≡ c = cc (e) in inl (ap fault same)
+blocks_told which (more b at r) c e =
+    inr (b, at, r, refl, first_of (tests_of_values which b.payload r) c (sym (five _ _ _ _ (behind_fault which (root_value which b.payload) r)) ∙ e))
+
+table_by : (which : Which) (file : List ℕ) (c : Cause) (schema : ℕ) (b : Bool) → header_of file ≡ Ok schema → is_schema_wanted (schema_word which) schema ≡ b
+    → or_else (if b then None else Some (WrongSchema schema)) (blocks_fault (behind_fault which) which (reading_of (start_of schema file))) ≡ Some c → IsFaultOfTable which file c
+table_by which file c schema true header wanted e = inr (schema, header, inr (wanted, blocks_told which (reading_of (start_of schema file)) c e))
+table_by which file c schema false header wanted e =
+    let same : WrongSchema schema ≡ c = cc (e) in
+    inr (schema, header, inl (wanted, sym same))
+
+by_header : (which : Which) (file : List ℕ) (c : Cause) (h : Result ℕ Cause) → header_of file ≡ h → file_fault (behind_fault which) which file h ≡ Some c → IsFaultOfTable which file c
+by_header which file c (Err d) header e =
+    let same : d ≡ c = cc (e) in
+    inl (header_told file c (header ∙ ap Err same))
+by_header which file c (Ok schema) header e = table_by which file c schema (is_schema_wanted (schema_word which) schema) header refl e
+
+pub table_told : (which : Which) (file : List ℕ) (c : Cause) → whole_fault which file ≡ Some c → IsFaultOfTable which file c
+unfolding whole_fault
+table_told which file c e = by_header which file c (header_of file) refl e
+
+by_schema : (file : List ℕ) (c : Cause) (schema : ℕ) (root : Option Which) → header_of file ≡ Ok schema → root_of_schema schema ≡ root → fault_by_schema file schema root ≡ Some c → IsContainerFault file c
+by_schema file c schema None header root e =
+    let same : WrongSchema schema ≡ c = cc (e) in
+    inr (schema, header, inl (root, sym same))
+by_schema file c schema (Some which) header root e = inr (schema, header, inr (which, root, table_told which file c e))
+
+any_by : (file : List ℕ) (c : Cause) (h : Result ℕ Cause) → header_of file ≡ h → fault_by_header file h ≡ Some c → IsContainerFault file c
+any_by file c (Err d) header e =
+    let same : d ≡ c = cc (e) in
+    inl (header_told file c (header ∙ ap Err same))
+any_by file c (Ok schema) header e = by_schema file c schema (root_of_schema schema) header refl e
+
+pub any_told : (file : List ℕ) (c : Cause) → container_fault file ≡ Some c → IsContainerFault file c
+unfolding container_fault
+any_told file c e = any_by file c (header_of file) refl e

@@ -1,0 +1,2 @@
+pub mod FirstHeader
+pub mod FirstTests

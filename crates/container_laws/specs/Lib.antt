@@ -1,0 +1,3 @@
+-- what the laws say
+pub mod HeaderFaults
+pub mod TestsInOrder

@@ -1,0 +1,58 @@
+-- The tests of a container in the order in which they are made.
+use Rattle.std.specs.Prelude.{◌≡◌, ◌⊎◌, ◌<◌, ℕ, true, false, List, [], ◌∷◌, Option, Some, None, Ok, slice_get}
+use Rattle.base_core.specs.declared.cause.Cause.{Cause}
+use Rattle.base_core.specs.declared.cause.Cause.TheVariants.{WrongSchema}
+use Rattle.adb_block.specs.Header.{header_of}
+use Rattle.adb_block.specs.Piece.{Piece}
+use Rattle.adb_block.specs.Reading.{Reading, fault, more, reading_of}
+use Rattle.adb_block.specs.Standing.{start_of}
+use Rattle.adb_fields.specs.Repeated.{repeated_fault}
+use Rattle.adb_rules.specs.Texts.{text_fault}
+use Rattle.adb_schema.specs.Soundness.{is_schema_wanted, root_value, schema_word}
+use Rattle.adb_tables.specs.Schema.{shape_of}
+use Rattle.adb_tables.specs.Walk.{shape_fault}
+use Rattle.adb_tables.specs.declared.tables.Kind.TheVariants.{Obj}
+use Rattle.adb_tables.specs.declared.tables.Which.{Which}
+use Rattle.adb_view.specs.Head.{head_fault, root_of}
+use Rattle.container_laws.specs.HeaderFaults.{IsHeaderFault}
+use Rattle.pkg_core.specs.Whole.{behind_fault, root_of_schema}
+
+-- of tests in their order, one has this fault, and none before it has any
+pub record IsFirstFailing (tests : List (Option Cause)) (c : Cause) : Type 0 where
+  pub place : ℕ
+  pub fails : slice_get tests place ≡ Some (Some c)
+  pub before : (j : ℕ) → j < place → slice_get tests j ≡ Some None
+
+-- the tests of the values and of the blocks behind them: the head of the payload, the shapes, the
+-- texts, the names that stand twice, the other blocks
+abbrev pub tests_of_values : Which → List ℕ → Reading → List (Option Cause)
+tests_of_values which payload behind =
+    head_fault payload
+    ∷ (shape_fault payload (shape_of (Obj which)) (root_of payload)
+    ∷ (text_fault which (root_value which payload)
+    ∷ (repeated_fault which (root_value which payload)
+    ∷ (behind_fault which (root_value which payload) behind ∷ []))))
+
+-- the first block is none; or there is one, and one of its tests or of those behind it fails first
+abbrev pub IsBlocksFault : Which → Reading → Cause → Type 0
+IsBlocksFault which r c =
+    (r ≡ fault c)
+    ⊎ ((b : Piece) × (at : ℕ) × (behind : Reading) × (r ≡ more b at behind)
+    × IsFirstFailing (tests_of_values which b.payload behind) c)
+
+-- first the header, then the schema, then the blocks
+abbrev pub IsFaultOfTable : Which → List ℕ → Cause → Type 0
+IsFaultOfTable which file c =
+    IsHeaderFault file c
+    ⊎ ((schema : ℕ) × (header_of file ≡ Ok schema)
+    × (((is_schema_wanted (schema_word which) schema ≡ false) × (c ≡ WrongSchema schema))
+    ⊎ ((is_schema_wanted (schema_word which) schema ≡ true)
+    × IsBlocksFault which (reading_of (start_of schema file)) c)))
+
+-- of any of the four schemas: the header, then that it is one of the four, then its tests
+abbrev pub IsContainerFault : List ℕ → Cause → Type 0
+IsContainerFault file c =
+    IsHeaderFault file c
+    ⊎ ((schema : ℕ) × (header_of file ≡ Ok schema)
+    × (((root_of_schema schema ≡ None) × (c ≡ WrongSchema schema))
+    ⊎ ((which : Which) × (root_of_schema schema ≡ Some which) × IsFaultOfTable which file c)))

@@ -1,0 +1,286 @@
+-- A package that is refused is the first one with a fault, and has no other.
+use Rattle.std.proofs.Common.{◌≡◌, ⊎_elim, inl, inr, ◌∙◌, ℕ, zero, suc, ◌+◌, ◌<◌, Bool, false, true, List, [], ◌∷◌, ◌++◌, length, map, Option, Some, None, Result, Ok, Err, refl, ap, sym, arith, true≢false}
+use Rattle.std.specs.Prelude.{bytes_eq, slice_get}
+use Rattle.std.specs.List.{cons_option, find}
+use Rattle.std.specs.Ordering.{is_lt}
+use Rattle.std.proofs.lemmas.Bool.{cases_lt, false_from_ne_true}
+use Rattle.std.proofs.lemmas.Option.{get_or_from_slice_get, slice_get_within}
+use Rattle.std.proofs.lemmas.Slice.Eq.{bytes_eq-Decides}
+use Rattle.adb_fields.specs.Repeated.{package_name}
+use Rattle.adb_view.specs.Plain.{Plain}
+use Rattle.base_core.specs.declared.cause.Cause.{Cause}
+use Rattle.base_core.proofs.Rising as Names
+use Rattle.change_files.proofs.InOrder.{in_left, in_order, order_rises}
+use Rattle.change_inputs.specs.Chains.{and_then}
+use Rattle.change_inputs.specs.Inputs.{Inputs, first_index_read}
+use Rattle.change_outcome.specs.ChangeOutcome.{ChangeWishes, change_members}
+use Rattle.change_outcome.specs.MembersAfter.{MemberFound, coming_by_path, coming_found, members_after, name_after, name_by_change, name_by_selected, name_that_comes, name_that_goes, names_after}
+use Rattle.change_outcome.specs.PackageFiles.{ComingPackage, first_script_of, package_file_of, package_found, package_in_file, scripts_of_change, unless_number, unless_package_bad, unless_script}
+use Rattle.db_core.specs.Packages.{is_package_named}
+use Rattle.file_owners.specs.Replaces.{version_text}
+use Rattle.list_order.specs.ByteOrder.{precedes}
+use Rattle.make_info.specs.Reads.{Reads}
+use Rattle.package_changes.specs.Changes.{Replacement, change_of_name, is_selected_named, names_on_both_sides, selected_version}
+use Rattle.path_clashes.proofs.PairOrder.{precedes_itself, precedes_one_way}
+use Rattle.pkg_core.specs.Whole.{package_fault}
+use Rattle.pool_core.specs.Candidates.{Candidate, is_same_id}
+use Rattle.report_core.specs.Reports.{Change}
+use Rattle.report_core.specs.declared.refusal.Refusal.{Refusal}
+use Rattle.report_core.specs.declared.refusal.Refusal.TheVariants.{PackageBad, PackageDiffers, PackageMissing, ScriptNeeded}
+use Rattle.refusal_laws.specs.ChangeFaults.{IsFaultOfPackage}
+use Rattle.refusal_laws.specs.ComingPackages.{IsAsSelected, IsReadFor, selected_of_name}
+use Rattle.refusal_laws.specs.FirstPackage.{IsFirstRefused, refused_name}
+use Rattle.refusal_laws.specs.PackageFaults.{IsComingOrGoing, IsOtherPackage}
+use Rattle.refusal_laws.proofs.Coming.{by_fields, different_err, path_is, script_err}
+use Rattle.refusal_laws.proofs.FoundPackages.{name_at_place}
+use Rattle.refusal_laws.proofs.Lists.{and_then_err, found_in, in_mapped}
+
+-- ---- the name that a refusal tells
+
+candidate_named : (name : List ℕ) (cs : List Candidate) (c : Candidate) → find (is_selected_named name) cs ≡ Some c → c.name ≡ name
+candidate_named name cs c e = (bytes_eq-Decides c.name name).0 (found_in (is_selected_named name) cs c e).1
+
+found_name : (c : Candidate) (file : Option (List ℕ)) (refusal : Refusal) → package_found c file ≡ Err refusal → refused_name refusal ≡ c.name
+found_name c None refusal e = let told : PackageMissing c.name (selected_version c) ≡ refusal = cc in ap refused_name (sym told)
+found_name c (Some file) refusal e = by_fault (package_fault file) e
+  where
+    by_fault : (fault : Option Cause) → unless_package_bad c fault (package_in_file file) ≡ Err refusal → refused_name refusal ≡ c.name
+    by_fault None e = ap refused_name (sym (different_err c (package_in_file file) refusal e).4)
+    by_fault (Some cause) e = let told : PackageBad c.name (selected_version c) cause ≡ refusal = cc in ap refused_name (sym told)
+
+script_name : {A : Type 0} (no_scripts : Bool) (name : List ℕ) (pkg : Plain) (numbers : List ℕ) (a : A) (refusal : Refusal) → unless_script no_scripts name pkg numbers a ≡ Err refusal → refused_name refusal ≡ name
+script_name no_scripts name pkg numbers a refusal e = ap refused_name (sym (script_err no_scripts name pkg numbers a refusal e).3)
+
+script_is : {A : Type 0} (no_scripts : Bool) (name : List ℕ) (pkg : Plain) (numbers : List ℕ) (a : A) (script : ℕ) → no_scripts ≡ false → first_script_of pkg numbers ≡ Some script
+    → unless_script no_scripts name pkg numbers a ≡ Err (ScriptNeeded name script)
+script_is no_scripts name pkg numbers a script asked first = ap (λ b. unless_script b name pkg numbers a) asked ∙ ap (λ o. unless_number name o a) first
+
+-- what passes all tests is found
+found_so : (c : Candidate) (file : List ℕ) → IsAsSelected c file → package_found c (Some file) ≡ Ok (package_in_file file)
+found_so c file is =
+    ap (λ o. unless_package_bad c o (package_in_file file)) is.sound
+    ∙ (λ i. by_fields c (package_in_file file) (is.id i) ((bytes_eq-Decides c.name (package_name (package_in_file file).value)).1 (sym is.name) i)
+    ((bytes_eq-Decides (selected_version c) (version_text (package_in_file file).value)).1 (sym is.version) i))
+
+-- two texts that differ are not equal as bytes
+apart_bytes : (a b wanted found : List ℕ) → wanted ≡ a → found ≡ b → (wanted ≡ found → ⊥) → bytes_eq a b ≡ false
+apart_bytes a b wanted found w f differ = false_from_ne_true (bytes_eq a b) (λ same. differ (w ∙ ((bytes_eq-Decides a b).0 same ∙ sym f)))
+
+module _ (inputs : Inputs) (r : Replacement) (wishes : ChangeWishes) (read : Reads) where
+  abbrev first_read : ℕ
+  first_read = first_index_read + length inputs.root.repositories
+
+  abbrev of_name : ℕ → List ℕ → Result (Option MemberFound) Refusal
+  of_name n name = name_after r read inputs.root.repositories wishes.no_scripts n name
+
+  abbrev with_scripts : List ℕ → Change → ComingPackage → Result (Option MemberFound) Refusal
+  with_scripts name change pkg = unless_script wishes.no_scripts name pkg.value (scripts_of_change change) (Some (coming_found pkg))
+
+  -- ---- of the name that is refused
+
+  told_name : (n : ℕ) (name : List ℕ) (refusal : Refusal) → of_name n name ≡ Err refusal → refused_name refusal ≡ name
+  told_name n name refusal e = by_change (change_of_name r name) (find (is_package_named name) r.before) (find (is_selected_named name) r.selected) (λ c is. candidate_named name r.selected c is) e
+    where
+      comes : (change : Change) (c : Candidate) → c.name ≡ name → name_that_comes read inputs.root.repositories wishes.no_scripts n name change c ≡ Err refusal → refused_name refusal ≡ name
+      comes change c named e =
+          elim (and_then_err (coming_by_path read n c (package_file_of inputs.root.repositories c)) (with_scripts name change) refusal e) [
+            | inl first ↦ found_name c _ refusal (sym (path_is read n c (package_file_of inputs.root.repositories c)) ∙ first) ∙ named
+            | inr next ↦ script_name wishes.no_scripts name next.0.value (scripts_of_change change) (Some (coming_found next.0)) refusal next.2
+          ]
+
+      goes : (change : Change) (before : Option Plain) → name_that_goes wishes.no_scripts name change before ≡ Err refusal → refused_name refusal ≡ name
+      goes change None e = absurd (cc (e))
+      goes change (Some pkg) e = script_name wishes.no_scripts name pkg (scripts_of_change change) None refusal e
+
+      by_change : (change : Option Change) (before : Option Plain) (c : Option Candidate) → ((x : Candidate) → c ≡ Some x → x.name ≡ name)
+          → name_by_change read inputs.root.repositories wishes.no_scripts n name change before c ≡ Err refusal → refused_name refusal ≡ name
+      by_change None before c named e = absurd (cc (e))
+      by_change (Some change) before None named e = goes change before e
+      by_change (Some change) before (Some c) named e = comes change c (named c refl) e
+
+  -- ---- where it stands
+
+  record IsRefusedAt (n : ℕ) (names : List (List ℕ)) (refusal : Refusal) : Type 0 where
+    pub place : ℕ
+    pub name : List ℕ
+    pub at : slice_get names place ≡ Some name
+    pub refused : of_name (n + place) name ≡ Err refusal
+    pub before : (i : ℕ) (q : List ℕ) → i < place → slice_get names i ≡ Some q → (o : Option MemberFound) × (of_name (n + i) q ≡ Ok o)
+
+  refused_in : (n : ℕ) (names : List (List ℕ)) (refusal : Refusal) → names_after r read inputs.root.repositories wishes.no_scripts n names ≡ Err refusal → IsRefusedAt n names refusal
+  refused_in n [] refusal e = absurd (cc (e))
+  refused_in n (name ∷ names) refusal e =
+      elim (and_then_err (of_name n name) (λ first. and_then (names_after r read inputs.root.repositories wishes.no_scripts (suc n) names) (λ others. Ok (cons_option first others))) refusal e) [
+        | inl first ↦ record { place = 0; name = name; at = refl; refused = (let k : n + 0 ≡ n = omega arith in ap (λ m. of_name m name) k ∙ first); before = λ i q less. absurd (omega arith) }
+        | inr next ↦ by_others next.0 next.1 next.2 (λ others. refused_in (suc n) names refusal others)
+      ]
+    where
+      behind : (first : Option MemberFound) → of_name n name ≡ Ok first → IsRefusedAt (suc n) names refusal → IsRefusedAt n (name ∷ names) refusal
+      behind first ok more = record {
+        place = suc more.place;
+        name = more.name;
+        at = more.at;
+        refused = (let k : n + suc more.place ≡ suc n + more.place = omega arith in ap (λ m. of_name m more.name) k ∙ more.refused);
+        before = before;
+      }
+        where
+          before : (i : ℕ) (q : List ℕ) → i < suc more.place → slice_get (name ∷ names) i ≡ Some q → (o : Option MemberFound) × (of_name (n + i) q ≡ Ok o)
+          before zero q less at = (first, (let k : n + zero ≡ n = omega arith in let same : q ≡ name = cc in (λ j. of_name (k j) (same j)) ∙ ok))
+          before (suc i) q less at = let o = more.before i q (omega arith) at in (o.0, (let k : n + suc i ≡ suc n + i = omega arith in ap (λ m. of_name m q) k ∙ o.1))
+
+      by_others : (first : Option MemberFound) → of_name n name ≡ Ok first → and_then (names_after r read inputs.root.repositories wishes.no_scripts (suc n) names) (λ others. Ok (cons_option first others)) ≡ Err refusal
+          → (names_after r read inputs.root.repositories wishes.no_scripts (suc n) names ≡ Err refusal → IsRefusedAt (suc n) names refusal) → IsRefusedAt n (name ∷ names) refusal
+      by_others first ok e more =
+          elim (and_then_err (names_after r read inputs.root.repositories wishes.no_scripts (suc n) names) (λ others. Ok (cons_option first others)) refusal e) [
+            | inl others ↦ behind first ok (more others)
+            | inr last ↦ absurd (no_refusal (cons_option first last.0) last.2)
+          ]
+        where
+          no_refusal : (fs : List MemberFound) → Ok fs ≡ Err refusal → ⊥
+          no_refusal fs e = cc (e)
+
+  -- ---- each fault is the refusal of its package
+
+  record IsToldAt (refusal : Refusal) : Type 0 where
+    pub place : ℕ
+    pub at : slice_get (names_on_both_sides r) place ≡ Some (refused_name refusal)
+    pub told : of_name (first_read + place) (refused_name refusal) ≡ Err refusal
+
+  comes_is : (n : ℕ) (name : List ℕ) (change : Change) (c : Candidate) → change_of_name r name ≡ Some change → selected_of_name r name ≡ Some c
+      → of_name n name ≡ name_that_comes read inputs.root.repositories wishes.no_scripts n name change c
+  comes_is n name change c becomes selected =
+      ap (λ ch. name_by_change read inputs.root.repositories wishes.no_scripts n name ch (find (is_package_named name) r.before) (find (is_selected_named name) r.selected)) becomes
+      ∙ ap (λ s. name_by_selected read inputs.root.repositories wishes.no_scripts n name change (find (is_package_named name) r.before) s) selected
+
+  file_is : (name version : List ℕ) (file : Option (List ℕ)) (is : IsReadFor inputs r read name version file) → of_name (first_read + is.place) name ≡ and_then (package_found is.candidate file) (with_scripts name is.change)
+  file_is name version file is =
+      comes_is (first_read + is.place) name is.change is.candidate is.becomes is.selected
+      ∙ ap (λ p. and_then p (with_scripts name is.change)) (path_is read (first_read + is.place) is.candidate (package_file_of inputs.root.repositories is.candidate) ∙ ap (package_found is.candidate) is.is_file)
+
+  named : (name version : List ℕ) (file : Option (List ℕ)) (is : IsReadFor inputs r read name version file) → is.candidate.name ≡ name
+  named name version file is = candidate_named name r.selected is.candidate is.selected
+
+  different_told : (name version file : List ℕ) (is : IsReadFor inputs r read name version (Some file)) (field : ℕ) (wanted found : List ℕ) → package_fault file ≡ None
+      → IsOtherPackage is.candidate (package_in_file file) field wanted found → package_found is.candidate (Some file) ≡ Err (PackageDiffers name version field wanted found)
+  different_told name version file is field wanted found sound other = ap (λ o. unless_package_bad is.candidate o (package_in_file file)) sound ∙ by other
+    where
+      by : IsOtherPackage is.candidate (package_in_file file) field wanted found
+          → by_fields is.candidate (package_in_file file) (is_same_id is.candidate.id (package_in_file file).id) (bytes_eq is.candidate.name (package_name (package_in_file file).value)) (bytes_eq (selected_version is.candidate) (version_text (package_in_file file).value)) ≡ Err (PackageDiffers name version field wanted found)
+      by (inl (field_is, (wanted_is, found_is, off))) =
+          ap (λ a. by_fields is.candidate (package_in_file file) a (bytes_eq is.candidate.name (package_name (package_in_file file).value)) (bytes_eq (selected_version is.candidate) (version_text (package_in_file file).value))) ((λ i. is_same_id (sym wanted_is i) (sym found_is i)) ∙ off)
+          ∙ (λ i. Err (PackageDiffers (named name version (Some file) is i) (is.has_version i) (sym field_is i) (sym wanted_is i) (sym found_is i)))
+      by (inr (inl (field_is, same_id, (wanted_is, found_is, differ)))) =
+          (λ i. by_fields is.candidate (package_in_file file) (same_id i) (apart_bytes is.candidate.name (package_name (package_in_file file).value) wanted found wanted_is found_is differ i) (bytes_eq (selected_version is.candidate) (version_text (package_in_file file).value)))
+          ∙ (λ i. Err (PackageDiffers (named name version (Some file) is i) (is.has_version i) (sym field_is i) (sym wanted_is i) (sym found_is i)))
+      by (inr (inr (field_is, same_id, same_name, (wanted_is, found_is, differ)))) =
+          (λ i. by_fields is.candidate (package_in_file file) (same_id i) ((bytes_eq-Decides is.candidate.name (package_name (package_in_file file).value)).1 same_name i)
+          (apart_bytes (selected_version is.candidate) (version_text (package_in_file file).value) wanted found wanted_is found_is differ i))
+          ∙ (λ i. Err (PackageDiffers (named name version (Some file) is i) (is.has_version i) (sym field_is i) (sym wanted_is i) (sym found_is i)))
+
+  script_told : (name : List ℕ) (script : ℕ) (pkg : Plain) (change : Change) → wishes.no_scripts ≡ false → IsComingOrGoing inputs r read name pkg → change_of_name r name ≡ Some change
+      → first_script_of pkg (scripts_of_change change) ≡ Some script → IsToldAt (ScriptNeeded name script)
+  script_told name script pkg change asked (inl (coming, brought, value)) becomes first =
+      let is = brought.is_read in
+      let same : (package_in_file brought.file).value ≡ pkg = sym (value ∙ ap (λ (p : ComingPackage). p.value) brought.is_package) in
+      let one : is.change ≡ change = (let both = sym is.becomes ∙ becomes in cc) in
+      record {
+        place = is.place;
+        at = is.is_place;
+        told =
+            file_is name brought.version (Some brought.file) is
+            ∙ (ap (λ p. and_then p (with_scripts name is.change)) (found_so is.candidate brought.file brought.as_selected)
+            ∙ script_is wishes.no_scripts name (package_in_file brought.file).value (scripts_of_change is.change) (Some (coming_found (package_in_file brought.file))) script asked
+            ((λ i. first_script_of (same i) (scripts_of_change (one i))) ∙ first));
+      }
+  script_told name script pkg change asked (inr going) becomes first =
+      let here = found_in (is_package_named name) r.before pkg going.before in
+      let named_so : package_name pkg ≡ name = (bytes_eq-Decides (package_name pkg) name).0 here.1 in
+      let among = in_order (package_name pkg) (map package_name r.before ++ map (λ (c : Candidate). c.name) r.selected)
+      (in_left (package_name pkg) (map package_name r.before) (map (λ (c : Candidate). c.name) r.selected) (in_mapped package_name r.before pkg here.0)) in
+      let place = name_at_place (names_on_both_sides r) (package_name pkg) among in
+      record {
+        place = place.0;
+        at = place.1 ∙ ap (λ (q : List ℕ). Some q) named_so;
+        told =
+            ap (λ ch. name_by_change read inputs.root.repositories wishes.no_scripts (first_read + place.0) name ch (find (is_package_named name) r.before) (find (is_selected_named name) r.selected)) becomes
+            ∙ (ap (λ s. name_by_selected read inputs.root.repositories wishes.no_scripts (first_read + place.0) name change (find (is_package_named name) r.before) s) going.unselected
+            ∙ (ap (λ b. name_that_goes wishes.no_scripts name change b) going.before
+            ∙ script_is wishes.no_scripts name pkg (scripts_of_change change) None script asked first));
+      }
+
+  fault_told : (refusal : Refusal) → IsFaultOfPackage inputs r wishes read refusal → IsToldAt refusal
+  fault_told (PackageMissing name version) is = record {
+    place = is.place;
+    at = is.is_place;
+    told = file_is name version None is ∙ (λ i. Err (PackageMissing (named name version None is i) (is.has_version i)));
+  }
+  fault_told (PackageBad name version cause) bad =
+      let is = bad.is_read in
+      record {
+        place = is.place;
+        at = is.is_place;
+        told =
+            file_is name version (Some bad.file) is
+            ∙ (ap (λ o. and_then (unless_package_bad is.candidate o (package_in_file bad.file)) (with_scripts name is.change)) bad.fault
+            ∙ (λ i. Err (PackageBad (named name version (Some bad.file) is i) (is.has_version i) cause)));
+      }
+  fault_told (PackageDiffers name version field wanted found) other =
+      let is = other.is_read in
+      record {
+        place = is.place;
+        at = is.is_place;
+        told =
+            file_is name version (Some other.file) is
+            ∙ ap (λ p. and_then p (with_scripts name is.change)) (different_told name version other.file is field wanted found other.sound other.other);
+      }
+  fault_told (ScriptNeeded name script) is = script_told name script is.pkg is.change is.asked is.is_package is.becomes is.first
+  fault_told other is = absurd is
+
+  -- ---- the first
+
+  in_order_so : (p q : ℕ) (a b : List ℕ) → p < q → slice_get (names_on_both_sides r) p ≡ Some a → slice_get (names_on_both_sides r) q ≡ Some b → precedes a b ≡ true
+  in_order_so p q a b less at_a at_b =
+      let names = names_on_both_sides r in
+      let pairs = Names.pairs_from_rises names (order_rises (map package_name r.before ++ map (λ (c : Candidate). c.name) r.selected)) in
+      (λ i. precedes (sym (get_or_from_slice_get names p a [] at_a) i) (sym (get_or_from_slice_get names q b [] at_b) i)) ∙ ap is_lt (pairs p q [] less (slice_get_within names q b at_b))
+
+  module _ (refusal : Refusal) (at : IsRefusedAt first_read (names_on_both_sides r) refusal) where
+    told_here : refused_name refusal ≡ at.name
+    told_here = told_name (first_read + at.place) at.name refusal at.refused
+
+    not_earlier : (other : Refusal) (told : IsToldAt other) → told.place < at.place → ⊥
+    not_earlier other told less =
+        let ok = at.before told.place (refused_name other) less told.at in
+        let both : Err other ≡ Ok ok.0 = sym told.told ∙ ok.1 in cc (both)
+
+    same_place : (other : Refusal) (told : IsToldAt other) → told.place ≡ at.place → (refused_name other ≡ at.name) × (other ≡ refusal)
+    same_place other told same =
+        let both : Some (refused_name other) ≡ Some at.name = sym told.at ∙ (ap (slice_get (names_on_both_sides r)) same ∙ at.at) in
+        let name : refused_name other ≡ at.name = cc in
+        let refusals : Err other ≡ Err refusal = sym told.told ∙ ((λ i. of_name (first_read + same i) (name i)) ∙ at.refused) in
+        (name, (let e : other ≡ refusal = cc in e))
+
+    first_so : (other : Refusal) → IsFaultOfPackage inputs r wishes read other → precedes (refused_name other) (refused_name refusal) ≡ false
+    first_so other is = by (fault_told other is)
+      where
+        by : IsToldAt other → precedes (refused_name other) (refused_name refusal) ≡ false
+        by told =
+            ⊎_elim (λ less. absurd (not_earlier other told less))
+            (λ upto. ⊎_elim (λ less. ap (precedes (refused_name other)) told_here ∙ precedes_one_way at.name (refused_name other) (in_order_so at.place told.place at.name (refused_name other) less at.at told.at))
+            (λ more. (λ i. precedes ((same_place other told (omega arith)).0 i) (told_here i)) ∙ precedes_itself at.name) (cases_lt at.place told.place)) (cases_lt told.place at.place)
+
+    only_so : (other : Refusal) → IsFaultOfPackage inputs r wishes read other → refused_name other ≡ refused_name refusal → other ≡ refusal
+    only_so other is name = by (fault_told other is)
+      where
+        by : IsToldAt other → other ≡ refusal
+        by told =
+            ⊎_elim (λ less. absurd (not_earlier other told less))
+            (λ upto. ⊎_elim (λ less. absurd (true≢false (sym (in_order_so at.place told.place at.name (refused_name other) less at.at told.at)
+            ∙ (ap (precedes at.name) (name ∙ told_here) ∙ precedes_itself at.name))))
+            (λ more. (same_place other told (omega arith)).1) (cases_lt at.place told.place)) (cases_lt told.place at.place)
+
+  pub first_refused : (refusal : Refusal) → change_members inputs r wishes read ≡ Err refusal → IsFirstRefused inputs r wishes read refusal
+  unfolding members_after
+  first_refused refusal e =
+      let at = refused_in first_read (names_on_both_sides r) refusal e in
+      record { first = first_so refusal at; only = only_so refusal at }

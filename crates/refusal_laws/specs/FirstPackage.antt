@@ -1,0 +1,26 @@
+-- Which of the packages that come or go with a change is refused.
+use Rattle.std.specs.Prelude.{◌≡◌, ℕ, false, List, []}
+use Rattle.change_inputs.specs.Inputs.{Inputs}
+use Rattle.change_outcome.specs.ChangeOutcome.{ChangeWishes}
+use Rattle.list_order.specs.ByteOrder.{precedes}
+use Rattle.make_info.specs.Reads.{Reads}
+use Rattle.package_changes.specs.Changes.{Replacement}
+use Rattle.report_core.specs.declared.refusal.Refusal.{Refusal}
+use Rattle.report_core.specs.declared.refusal.Refusal.TheVariants.{PackageBad, PackageDiffers, PackageMissing, ScriptNeeded}
+use Rattle.refusal_laws.specs.ChangeFaults.{IsFaultOfPackage}
+
+-- the name of the package that is refused
+abbrev pub refused_name : Refusal → List ℕ
+refused_name (PackageMissing name version) = name
+refused_name (PackageBad name version cause) = name
+refused_name (PackageDiffers name version field wanted found) = name
+refused_name (ScriptNeeded name script) = name
+refused_name other = []
+
+-- no package with a fault comes before it by name, and it has no other fault
+pub record IsFirstRefused (inputs : Inputs) (r : Replacement) (wishes : ChangeWishes)
+    (read : Reads) (refusal : Refusal) : Type 0 where
+  pub first : (other : Refusal) → IsFaultOfPackage inputs r wishes read other
+      → precedes (refused_name other) (refused_name refusal) ≡ false
+  pub only : (other : Refusal) → IsFaultOfPackage inputs r wishes read other
+      → refused_name other ≡ refused_name refusal → other ≡ refusal
