@@ -37,7 +37,7 @@ kept_done r = r
 abbrev kept_pool : Result SealedPool Refusal → Result SealedPool Refusal
 kept_pool r = r
 
-pool_fault : (inputs : Inputs) (upgraded : UpgradedNames) (refusal : Refusal) → root_pool inputs upgraded ≡ Err refusal → (count : ℕ) × AreTooMany inputs count × (TooMany count ≡ refusal)
+pub pool_fault : (inputs : Inputs) (upgraded : UpgradedNames) (refusal : Refusal) → root_pool inputs upgraded ≡ Err refusal → (count : ℕ) × AreTooMany inputs count × (TooMany count ≡ refusal)
 unfolding root_pool
 pool_fault inputs upgraded refusal e = by_count (nat_lt MOST_CANDIDATES (length (candidates_of inputs))) refl e
   where

@@ -6,6 +6,7 @@ pub mod FoundPackages
 pub mod InputFaults
 pub mod Lists
 pub mod MadeTooLarge
+pub mod OperandsKnown
 pub mod PackageFaults
 pub mod PackagesAfter
 pub mod Paths

@@ -8,6 +8,7 @@ pub mod FirstPackage
 pub mod TestsPassed
 pub mod PackagesAfter
 pub mod CommandFaults
+pub mod OperandsKnown
 pub mod RunFaults
 pub mod RunMade
 pub mod MadeTooLarge

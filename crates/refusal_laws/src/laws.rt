@@ -6,7 +6,7 @@ ghost use Rattle.change_inputs.specs.Inputs.{Inputs, inputs_of};
 ghost use Rattle.change_outcome.specs.ChangeOutcome.{ChangeDone, ChangeWishes, IsClashOfChange, change_members, change_or_refusal, file_change};
 ghost use Rattle.change_outcome.specs.MembersAfter.{MemberFound};
 ghost use Rattle.command_core.specs.Command.{CommandLine};
-ghost use Rattle.engine_core.specs.Changed.{IsClashFor, changed};
+ghost use Rattle.engine_core.specs.Changed.{IsClashFor, changed, selected_of_inputs};
 ghost use Rattle.engine_core.specs.Choice.{IsChoiceFrom};
 ghost use Rattle.engine_core.specs.Selecting.{pool_for};
 ghost use Rattle.make_info.specs.Reads.{Reads};
@@ -24,6 +24,7 @@ ghost use Rattle.refusal_laws.specs.CommandFaults.{IsFaultOfCommand};
 ghost use Rattle.refusal_laws.specs.FirstPackage.{IsFirstRefused};
 ghost use Rattle.refusal_laws.specs.InputFaults.{IsFaultOfInput};
 ghost use Rattle.refusal_laws.specs.MadeTooLarge.{IsPackageTooLarge};
+ghost use Rattle.refusal_laws.specs.OperandsKnown.{HasPassedBeforeSelection};
 ghost use Rattle.refusal_laws.specs.PackagesAfter.{AreSelectedOnes};
 ghost use Rattle.refusal_laws.specs.ReadBefore.{HasReadBefore};
 ghost use Rattle.refusal_laws.specs.RunFaults.{IsFaultOfRun, IsFaultOver};
@@ -75,6 +76,15 @@ pub fn a_refused_command_has_its_fault()
         → IsChoiceFrom (pool_for command read) chosen
         → IsClashFor command read files chosen clash
         → IsFaultOfCommand command read files chosen refusal }
+{}
+
+/// A refusal of the selection comes behind the tests before it: a name that is not installed where
+/// the candidates are not too many, and then it is the first such operand; and that no selection
+/// satisfies the new world where there is no such operand either.
+pub fn a_refused_selection_has_passed_the_tests_before()
+    ensures { (command : CommandLine) (inputs : Inputs) (chosen : Option (List ℕ))
+        (refusal : Refusal) → selected_of_inputs command chosen inputs ≡ Err refusal
+        → HasPassedBeforeSelection command inputs refusal }
 {}
 
 /// A refusal for the files of a change comes behind the tests before it: a clash of names where no

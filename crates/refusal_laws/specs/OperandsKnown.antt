@@ -1,0 +1,38 @@
+-- What holds of the candidates and the operands where a selection is refused.
+use Rattle.std.specs.Prelude.{◌≡◌, ℕ, List, ◌∷◌, ◌++◌, Ok}
+use Rattle.adb_fields.specs.FirstPair.{IsIn}
+use Rattle.change_inputs.specs.Inputs.{Inputs}
+use Rattle.command_core.specs.Command.{CommandLine}
+use Rattle.command_core.specs.declared.operands.Operand.{Operand}
+use Rattle.engine_core.specs.Selecting.{pool_by}
+use Rattle.pool_core.specs.Rank.{SealedPool}
+use Rattle.report_core.specs.declared.refusal.Refusal.{Refusal}
+use Rattle.report_core.specs.declared.refusal.Refusal.TheVariants.{NotInstalled, Unsatisfied}
+use Rattle.refusal_laws.specs.CommandFaults.{IsUnknownTo}
+
+-- none of these operands is a name that the command does not know
+abbrev pub AreKnown : CommandLine → Inputs → List Operand → Type 0
+AreKnown command inputs operands =
+    (o : Operand) → IsIn o operands → IsUnknownTo command.applet inputs o.text → ⊥
+
+-- so it is with each operand before the one at this place
+pub record IsFirstUnknown (command : CommandLine) (inputs : Inputs) (place : ℕ) : Type 0 where
+  pub before : List Operand
+  pub operand : Operand
+  pub after : List Operand
+  pub are : command.operands ≡ before ++ operand ∷ after
+  pub at : operand.place ≡ place
+  pub known : AreKnown command inputs before
+
+-- the candidates are not too many
+abbrev pub HasPool : CommandLine → Inputs → Type 0
+HasPool command inputs = (pool : SealedPool) × (pool_by command inputs ≡ Ok pool)
+
+-- first the candidates are counted, then the operands are looked at in their order, and last a
+-- selection is searched
+abbrev pub HasPassedBeforeSelection : CommandLine → Inputs → Refusal → Type 0
+HasPassedBeforeSelection command inputs (NotInstalled place) =
+    HasPool command inputs × IsFirstUnknown command inputs place
+HasPassedBeforeSelection command inputs Unsatisfied =
+    HasPool command inputs × AreKnown command inputs command.operands
+HasPassedBeforeSelection command inputs other = Unit {0}
