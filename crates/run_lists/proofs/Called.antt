@@ -1,6 +1,6 @@
 -- A call of `apk` is a run.
 use Rattle.std.proofs.Common.{◌≡◌, [], ◌∷◌, refl}
-use Rattle.std.specs.Prelude.{IsSome, is_some}
+use Rattle.std.specs.Prelude.{IsSome, IsTrue, is_some}
 use Rattle.apk_front.specs.Answers.{IsAnswerTo, LeavesFiles}
 use Rattle.apk_front.specs.Moments.{AnswersOutcome, AreReadOnTheWay, AreSafe, CommitsNothing, HasNothingToRecover, HidesScratchOf, LeavesAtRest, LeavesLasting, UnreadNamesLast}
 use Rattle.base_core.specs.Calls.{HasNow, IfObservable}
@@ -9,7 +9,7 @@ use Rattle.base_core.specs.Faults.{HasCause}
 use Rattle.base_core.specs.Tree.{TreeState, files_of}
 use Rattle.journal_core.specs.Quiet.{IsStill}
 use Rattle.journal_core.specs.Recovery.{RestsOn, intent_name}
-use Rattle.outcome.specs.Effect.{effect_by, output}
+use Rattle.outcome.specs.Effect.{effect_by, output, reads_only}
 use Rattle.outcome.specs.Work.{recovery_fault}
 use Rattle.words_core.specs.Grammar.{command_of}
 use Rattle.run_lists.specs.Events.{IsOutcomeFrom, IsRunFrom, Run}
@@ -30,6 +30,7 @@ abbrev pub AllAtomic : Type 0
 AllAtomic = (v : TreeState) (run : Run) → IsRunFrom v run → IsAtomicBehindAll v run
 
 pub called : AllSafe → AllAtomic → (run : Run)
+    → (IsTrue (reads_only (command_of run.words)) → run.now ≡ run.old)
     → IfObservable run.old (λ v. IsAnswerTo run.words (files_of v) (LeavesFiles run.now) (HasCause run.before run.after) run.answer run.out run.err)
     → IfObservable run.old (λ v. CommitsNothing (IsOutcomeFrom v run) run.answer → HasNothingToRecover (effect_by (command_of run.words)) v → run.now ≡ run.old)
     → IfObservable run.old (λ v. IsSome (recovery_fault (effect_by (command_of run.words)) (files_of v)) → run.now ≡ run.old)
@@ -41,7 +42,7 @@ pub called : AllSafe → AllAtomic → (run : Run)
     → IfObservable run.old (λ v. (ignored : Ignored) → IsOrderly (RestsOn ignored) v → HidesScratchOf (output run.words) ignored → LeavesLasting (IsOutcomeFrom v run) (effect_by (command_of run.words)) ignored v run.now run.answer)
     → IfObservable run.old (λ v. (ignored : Ignored) → IsOrderly (RestsOn ignored) v → HidesScratchOf (output run.words) ignored → AnswersOutcome run.answer → LeavesAtRest (IsOutcomeFrom v run) (output run.words) ignored run.now)
     → IfObservable run.old (λ v. IsRunFrom v run × IsSafeBehindAll v run × IsAtomicBehindAll v run)
-called all_safe all_atomic run =
+called all_safe all_atomic run same =
     observed run.old
     (λ v. IsAnswerTo run.words (files_of v) (LeavesFiles run.now) (HasCause run.before run.after) run.answer run.out run.err)
     (λ v. CommitsNothing (IsOutcomeFrom v run) run.answer → HasNothingToRecover (effect_by (command_of run.words)) v → run.now ≡ run.old)
@@ -58,6 +59,7 @@ called all_safe all_atomic run =
     let is_run : IsRunFrom v run = record {
       begins = begins;
       stated = stated;
+      same = same;
       idle = idle;
       bad_intent = bad_intent;
       reads = reads;
