@@ -19,7 +19,7 @@ fault_is_found : (files : Files) → HasBadIntent files → IsSome (fault_of_int
 fault_is_found files (cause, (file, there, bad)) =
     subst (λ (o : Option Cause). IsSome o) (sym (ap fault_of_intent there ∙ bad)) refl
 
-only_reads : (read : Result CommandLine ℕ) (effect : Effect) → effect_by read ≡ effect → IsTrue (does_only_read effect) → IsTrue (reads_only read)
+pub only_reads : (read : Result CommandLine ℕ) (effect : Effect) → effect_by read ≡ effect → IsTrue (does_only_read effect) → IsTrue (reads_only read)
 only_reads (Ok command) effect is reads = subst (λ (e : Effect). IsTrue (does_only_read e)) (sym is) reads
 only_reads (Err place) effect is reads = refl
 

@@ -2,6 +2,7 @@ pub mod Along
 pub mod AtMoments
 pub mod BadIntent
 pub mod Called
+pub mod Committed
 pub mod Ending
 pub mod Facts
 pub mod Idle

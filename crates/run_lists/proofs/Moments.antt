@@ -22,6 +22,7 @@ use Rattle.run_lists.specs.Events.{Crashes, Edits, Ends, Event, HasSeen, IsMomen
 use Rattle.run_lists.specs.Reading.{HasBytesOfRun, HasOutcomeBytes, HasSeenRuns, IsDoneForGood, IsLastingName, IsNoDraft, IsRunWith, IsTrueAt, LeavesTrueAt}
 use Rattle.run_lists.proofs.Along.{seen_orderly}
 use Rattle.run_lists.proofs.AtMoments.{History, now_map, start_or_made}
+use Rattle.run_lists.proofs.Committed.{CommitsNoIntent}
 use Rattle.run_lists.proofs.Facts.{Facts, Ignored}
 use Rattle.run_lists.proofs.Names.{behind_hides, no_scratch}
 use Rattle.run_lists.proofs.OneRun.{now_hides, now_orderly, orderly_at}
@@ -97,7 +98,7 @@ module _ (v : TreeState) (run : Run) (m : TreeState) where
 
 -- ---- a test along runs
 
-module _ (test : Option (List ℕ) → Bool) (q : List ℕ) (stays : IsWaitingName q → ⊥) where
+module _ (no_intent : CommitsNoIntent) (test : Option (List ℕ) → Bool) (q : List ℕ) (stays : IsWaitingName q → ⊥) where
   abbrev At : Files → Type 0
   At files = IsTrueAt test q files
 
@@ -154,10 +155,10 @@ module _ (test : Option (List ℕ) → Bool) (q : List ℕ) (stays : IsWaitingNa
     stands_true (inr (inr (o, one, commits, inr (inl drafting)))) =
         draft_true (effect_by (command_of run.words)) (output run.words) (files_of v) m drafting leaves.no_draft.drafts at
     stands_true (inr (inr (o, one, commits, inr (inr (inl p))))) = record {
-      read = one_of_two (work_files (effect_by (command_of run.words)) (files_of v) q) (o.files q) (files_of m q) worked_at.read (leaves.outcomes o one commits).read (p.bytes q stays);
-      recovered = subst Passes (sym (ap (λ (f : Files). f q) p.leads)) (leaves.outcomes o one commits).read;
+      read = one_of_two (work_files (effect_by (command_of run.words)) (files_of v) q) (o.files q) (files_of m q) worked_at.read (leaves.outcomes o one commits) (p.bytes q stays);
+      recovered = subst Passes (sym (ap (λ (f : Files). f q) p.leads)) (leaves.outcomes o one commits);
     }
-    stands_true (inr (inr (o, one, commits, inr (inr (inr is))))) = subst At (sym is) (leaves.outcomes o one commits)
+    stands_true (inr (inr (o, one, commits, inr (inr (inr is))))) = subst At (sym is) (plain o.files (no_intent run.words (files_of v) o one commits) (leaves.outcomes o one commits))
 
 -- the last state of a run is one of its moments
 last_by : (run : Run) (w : TreeState) (added : List TreeState) → run.now ≡ added ++ run.old → HasNow run.now (λ u. u ≡ w) → IsMomentOf run w
@@ -171,16 +172,16 @@ last_moment run v w is_run ends = by is_run.reads
     by (inl since) = last_by run w since.added since.is ends
     by (inr (o, one, commits, since)) = last_by run w since.added since.is ends
 
-led_true : (test : Option (List ℕ) → Bool) (q : List ℕ) (stays : IsWaitingName q → ⊥) (v w : TreeState) (event : Event) → IsTrueAt test q (files_of v) → IsRunWith (LeavesTrueAt test q) v event → LeadsOn v event w → IsTrueAt test q (files_of w)
-led_true test q stays v w (Ends run) at leaves (is_run, ends) = stands_true test q stays v run w leaves at (stands v run w is_run (last_moment run v w is_run ends))
-led_true test q stays v w (Stops run) at leaves (is_run, moment) = stands_true test q stays v run w leaves at (stands v run w is_run moment)
-led_true test q stays v w Crashes at leaves leads = absurd leaves
-led_true test q stays v w Edits at leaves leads = absurd leaves
+led_true : CommitsNoIntent → (test : Option (List ℕ) → Bool) (q : List ℕ) (stays : IsWaitingName q → ⊥) (v w : TreeState) (event : Event) → IsTrueAt test q (files_of v) → IsRunWith (LeavesTrueAt test q) v event → LeadsOn v event w → IsTrueAt test q (files_of w)
+led_true no_intent test q stays v w (Ends run) at leaves (is_run, ends) = stands_true no_intent test q stays v run w leaves at (stands v run w is_run (last_moment run v w is_run ends))
+led_true no_intent test q stays v w (Stops run) at leaves (is_run, moment) = stands_true no_intent test q stays v run w leaves at (stands v run w is_run moment)
+led_true no_intent test q stays v w Crashes at leaves leads = absurd leaves
+led_true no_intent test q stays v w Edits at leaves leads = absurd leaves
 
-pub seen_true : (test : Option (List ℕ) → Bool) (q : List ℕ) → (IsWaitingName q → ⊥) → (first w : TreeState) (events : List Event) → IsTrueAt test q (files_of first) → HasSeenRuns (LeavesTrueAt test q) first events w → IsTrueAt test q (files_of w)
-seen_true test q stays first w [] at is = subst (λ (u : TreeState). IsTrueAt test q (files_of u)) (sym is) at
-seen_true test q stays first w (event ∷ earlier) at (v, seen, leaves, leads) =
-    led_true test q stays v w event (seen_true test q stays first v earlier at seen) leaves leads
+pub seen_true : CommitsNoIntent → (test : Option (List ℕ) → Bool) (q : List ℕ) → (IsWaitingName q → ⊥) → (first w : TreeState) (events : List Event) → IsTrueAt test q (files_of first) → HasSeenRuns (LeavesTrueAt test q) first events w → IsTrueAt test q (files_of w)
+seen_true no_intent test q stays first w [] at is = subst (λ (u : TreeState). IsTrueAt test q (files_of u)) (sym is) at
+seen_true no_intent test q stays first w (event ∷ earlier) at (v, seen, leaves, leads) =
+    led_true no_intent test q stays v w event (seen_true no_intent test q stays first v earlier at seen) leaves leads
 
 -- ---- what an intent said
 

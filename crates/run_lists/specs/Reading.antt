@@ -21,7 +21,7 @@ pub record IsNoDraft (run : Run) (q : List ℕ) : Type 0 where
   pub waits : IsWaitingName q → ⊥
   pub drafts : is_draft_name (effect_by (command_of run.words)) (output run.words) q ≡ false
 
--- a name has what an outcome of the run gives it, which commits
+-- an outcome of the run commits, and gives the name what it has
 abbrev pub HasOutcomeBytes : TreeState → Run → TreeState → List ℕ → Type 0
 HasOutcomeBytes v run m q =
     (outcome : Outcome)
@@ -66,13 +66,12 @@ pub record IsTrueAt (test : Option (List ℕ) → Bool) (q : List ℕ) (files : 
   pub read : test (files q) ≡ true
   pub recovered : test (unstaged_files files q) ≡ true
 
--- the name is no draft of the run, and the test holds of it in the files of each outcome that
--- commits
+-- the name is no draft of the run, and the test holds of what each outcome that commits gives it
 pub record LeavesTrueAt (test : Option (List ℕ) → Bool) (q : List ℕ) (v : TreeState)
     (run : Run) : Type 0 where
   pub no_draft : IsNoDraft run q
   pub outcomes : (outcome : Outcome) → IsOutcomeFrom v run outcome → outcome.commits ≡ true
-      → IsTrueAt test q outcome.files
+      → test (outcome.files q) ≡ true
 
 -- ---- a bad intent
 
