@@ -1,5 +1,5 @@
 -- What holds at the moments of a run, and at its last one.
-use Rattle.std.proofs.Common.{◌≡◌, inl, inr, List, [], ◌∷◌, ◌++◌, sym, subst, ◌∙◌}
+use Rattle.std.proofs.Common.{◌≡◌, ◌⊎◌, inl, inr, List, [], ◌∷◌, ◌++◌, sym, subst, ◌∙◌}
 use Rattle.std.specs.Prelude.{All}
 use Rattle.std.proofs.lemmas.List.{append_cancel_right}
 use Rattle.std.proofs.lemmas.List.Elements.{All-contains, All-head}
@@ -44,6 +44,17 @@ at_moment P run v m begins p since (inl first) = at_start run.old P v m p begins
 at_moment P run v m begins p since (inr (added, is, contains)) =
     let same : since.added ≡ added = append_cancel_right since.added added run.old (sym since.is ∙ is) in
     All-contains P added m (subst (λ (h : History). All P h) same since.each) contains
+
+first_moment : (h : History) (v m : TreeState) → HasNow h (λ u. u ≡ v) → HasNow h (λ u. m ≡ u) → m ≡ v
+first_moment [] v m begins is = absurd is
+first_moment (u ∷ rest) v m begins is = is ∙ begins
+
+-- it is the first one, or one that the run made
+pub start_or_made : (P : TreeState → Type 0) (run : Run) (v m : TreeState) → HasNow run.old (λ u. u ≡ v) → Since P run.old run.now → IsMomentOf run m → (m ≡ v) ⊎ P m
+start_or_made P run v m begins since (inl first) = inl (first_moment run.old v m begins first)
+start_or_made P run v m begins since (inr (added, is, contains)) =
+    let same : since.added ≡ added = append_cancel_right since.added added run.old (sym since.is ∙ is) in
+    inr (All-contains P added m (subst (λ (h : History). All P h) same since.each) contains)
 
 newest : (P : TreeState → Type 0) (added old : History) (v : TreeState) → HasNow old (λ u. u ≡ v) → P v → All P added → HasNow (added ++ old) P
 newest P [] old v begins p each = now_is old P v p begins

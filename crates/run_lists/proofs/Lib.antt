@@ -1,9 +1,13 @@
 pub mod Along
 pub mod AtMoments
+pub mod BadIntent
 pub mod Called
+pub mod Committed
 pub mod Ending
 pub mod Facts
 pub mod Idle
+pub mod Moments
 pub mod Names
 pub mod OneRun
 pub mod Recovered
+pub mod Unstaged

@@ -31,7 +31,7 @@ differ : (n : ℕ) → n ≡ 116 → n ≡ 112 → ⊥
 differ n t p = omega (arith, t, p)
 
 -- it ends in t, and a scratch name in p
-no_scratch : (name : List ℕ) → intent_name ≡ scratch_of name → ⊥
+pub no_scratch : (name : List ℕ) → intent_name ≡ scratch_of name → ⊥
 unfolding last_of
 no_scratch name is = differ (last_of intent_name) refl (ap last_of is ∙ last-behind name 46 (codes "apk-tmp"))
 

@@ -1,8 +1,8 @@
 -- What a root may see: runs, stops, crashes and changes by others, and lists of them.
-use Rattle.std.specs.Prelude.{◌≡◌, ◌≢◌, ◌⊎◌, ◌++◌, ◌||◌, ℕ, Bool, true, false, List, [], ◌∷◌, Option, Some, None, Contains, is_some}
+use Rattle.std.specs.Prelude.{◌≡◌, ◌≢◌, ◌⊎◌, ◌++◌, ◌||◌, ℕ, Bool, true, false, List, [], ◌∷◌, Option, Some, None, Contains, IsSome, IsTrue, is_some}
 use Rattle.std.specs.Str.{bytes_eq}
 use Rattle.apk_front.specs.Answers.{IsAnswerTo, LeavesFiles}
-use Rattle.apk_front.specs.Moments.{AnswersOutcome, AreSafe, CanRecover, CommitsNothing, HidesScratchOf, LeavesAtRest, LeavesLasting, ignored_but}
+use Rattle.apk_front.specs.Moments.{AnswersOutcome, AreReadOnTheWay, AreSafe, CanRecover, CommitsNothing, HasNothingToRecover, HidesScratchOf, LeavesAtRest, LeavesLasting, UnreadNamesLast, ignored_but}
 use Rattle.apk_front.specs.declared.answer.Answer.{Answer}
 use Rattle.apk_front.specs.declared.answer.Answer.TheVariants.{Ok, TreeFault}
 use Rattle.base_core.specs.Calls.{HasNow}
@@ -12,11 +12,12 @@ use Rattle.base_core.specs.Restart.{IsCrashOf}
 use Rattle.base_core.specs.Sink.{SinkChange}
 use Rattle.base_core.specs.Tree.{TreeState, files_of}
 use Rattle.journal_core.specs.Quiet.{IsStill}
-use Rattle.journal_core.specs.Recovery.{RestsOn}
+use Rattle.journal_core.specs.Recovery.{RestsOn, intent_name}
 use Rattle.journal_core.specs.Replacing.{scratch_of}
-use Rattle.outcome.specs.Effect.{effect_by, output}
+use Rattle.outcome.specs.Effect.{effect_by, output, reads_only}
 use Rattle.outcome.specs.Outcome.{Outcome}
 use Rattle.outcome.specs.Words.{IsOutcome}
+use Rattle.outcome.specs.Work.{recovery_fault}
 use Rattle.words_core.specs.Grammar.{command_of}
 
 -- ---- a run
@@ -49,6 +50,15 @@ pub record IsRunFrom (v : TreeState) (run : Run) : Type 0 where
   pub begins : HasNow run.old (λ u. u ≡ v)
   pub stated : IsAnswerTo run.words (files_of v) (LeavesFiles run.now)
       (HasCause run.before run.after) run.answer run.out run.err
+  pub same : IsTrue (reads_only (command_of run.words)) → run.now ≡ run.old
+  pub idle : CommitsNothing (IsOutcomeFrom v run) run.answer
+      → HasNothingToRecover (effect_by (command_of run.words)) v → run.now ≡ run.old
+  pub bad_intent : IsSome (recovery_fault (effect_by (command_of run.words)) (files_of v))
+      → run.now ≡ run.old
+  pub reads : AreReadOnTheWay (IsOutcomeFrom v run) (effect_by (command_of run.words))
+      (output run.words) v run.old run.now
+  pub last : IsSome (v.names intent_name)
+      → Since (UnreadNamesLast (output run.words)) run.old run.now
   pub left : CommitsNothing (IsOutcomeFrom v run) run.answer → (ignored : List ℕ → Bool)
       → IsOrderly (RestsOn ignored) v → Since (IsStill ignored v) run.old run.now
   pub crash : (ignored : List ℕ → Bool)

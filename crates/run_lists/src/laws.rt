@@ -1,24 +1,31 @@
 //! Laws on lists of runs, stops and crashes.
-ghost use Rattle.std.specs.Prelude.{◌≡◌, ◌≢◌, ℕ, Bool, false, true, List, None, IsTrue};
+ghost use Rattle.std.specs.Prelude.{◌≡◌, ◌≢◌, ℕ, Bool, false, true, List, None, Option, IsSome, IsTrue};
 ghost use Rattle.apk_front.specs.Moments.{AnswersOutcome, HasIdleOutcome, HidesScratchOf, IsAtRest};
 ghost use Rattle.base_core.specs.Calls.{HasNow};
 ghost use Rattle.base_core.specs.Crash.{IsOrderly};
 ghost use Rattle.base_core.specs.Files.{Files};
 ghost use Rattle.base_core.specs.Tree.{TreeState, files_of};
-ghost use Rattle.journal_core.specs.Recovery.{RestsOn, intent_name, state_of};
+ghost use Rattle.journal_core.specs.Kept.{IsWaitingName};
+ghost use Rattle.journal_core.specs.Recovery.{RestsOn, intent_name, intent_of, state_of};
 ghost use Rattle.journal_core.specs.Staged.{unstaged_files};
 ghost use Rattle.outcome.specs.Effect.{does_recover, effect_by, output, reads_only};
+ghost use Rattle.outcome.specs.Outcome.{Outcome};
+ghost use Rattle.outcome.specs.Words.{IsOutcome};
 ghost use Rattle.outcome.specs.Work.{recovery_fault};
-ghost use Rattle.run_lists.specs.Events.{Event, HasNoPendingOutput, HasSeen, HasSeenIdly, HasSeenToOneState, IsIdleRun, IsOutcomeFrom, IsRunFrom, Run, ignored_behind, nothing_ignored, with_scratch};
+ghost use Rattle.run_lists.specs.Events.{Event, HasNoPendingOutput, HasSeen, HasSeenIdly, HasSeenToOneState, IsIdleRun, IsMomentOf, IsOutcomeFrom, IsRunFrom, Run, ignored_behind, nothing_ignored, with_scratch};
+ghost use Rattle.run_lists.specs.Reading.{HasBadIntent, HasBytesOfRun, HasSeenRuns, IsAnyRun, IsDoneForGood, IsLastingName, IsNoDraft, IsTrueAt, LeavesTrueAt};
 ghost use Rattle.run_lists.specs.Safety.{IsAtomicBehindAll, IsSafeBehindAll};
 ghost use Rattle.words_core.specs.Grammar.{command_of};
 
 use apk_front::a_crash_leaves_the_old_files_or_those_of_the_outcome;
 use base_core::a_crash_may_leave_the_files_as_read;
+use change_laws::a_change_keeps_room;
 use journal_core::{a_crash_leaves_an_orderly_settled_tree, more_names_may_be_ignored};
+use journal_intent::an_intent_is_read_from_a_sound_container;
 use outcome::{
     a_command_that_commits_nothing_leaves_the_files, a_command_that_makes_commits_unless_refused,
-    a_command_that_reads_leaves_the_files, an_outcome_is_unique,
+    a_command_that_reads_leaves_the_files, a_command_that_tells_leaves_the_files,
+    an_outcome_is_unique,
 };
 
 /// Whatever list of runs, stops, crashes and changes by others a root has seen from an orderly tree
@@ -107,4 +114,60 @@ pub fn a_root_that_commits_nothing_keeps_its_state()
     an_outcome_is_unique();
     a_command_that_reads_leaves_the_files();
     a_command_that_commits_nothing_leaves_the_files();
+}
+
+/// No file goes for a while: at each moment of a run a name has what it had before, what a recovery
+/// leaves or what an outcome gives it, and so it is along runs that follow each other without a
+/// crash. This is said of each name but the intent's and those of drafts, and asks for no file to be
+/// synced.
+pub fn each_name_keeps_old_recovered_or_new_bytes()
+    // At each moment of a run.
+    ensures moments { (v m : TreeState) (run : Run) (q : List ℕ) → IsRunFrom v run
+        → IsMomentOf run m → IsNoDraft run q → HasBytesOfRun v run m q }
+
+    // An outcome that commits leaves no intent to be done.
+    ensures commits { (words : List (List ℕ)) (files : Files) (o : Outcome)
+        → IsOutcome words files o → o.commits ≡ true → intent_of o.files ≡ None }
+
+    // What holds of a name at first, as read and as a recovery leaves it, and in the files of each
+    // outcome that commits, holds of it behind each of the runs, and at each moment at which one is
+    // stopped: as that a file stands there.
+    ensures along { (test : Option (List ℕ) → Bool) (q : List ℕ) (first w : TreeState)
+        (events : List Event) → (IsWaitingName q → ⊥) → IsTrueAt test q (files_of first)
+        → HasSeenRuns (LeavesTrueAt test q) first events w
+        → IsTrueAt test q (files_of w) }
+{
+    a_command_that_reads_leaves_the_files();
+    a_command_that_tells_leaves_the_files();
+    a_change_keeps_room();
+    an_intent_is_read_from_a_sound_container();
+}
+
+/// Where the intent is bad, no run writes anything, whatever its words and its answer.
+pub fn a_bad_intent_and_all_files_stay()
+    ensures run { (v : TreeState) (run : Run) → IsRunFrom v run → HasBadIntent (files_of v)
+        → run.now ≡ run.old }
+
+    // So runs alone, ended or stopped, leave the tree as it was.
+    ensures along { (first w : TreeState) (events : List Event) → HasBadIntent (files_of first)
+        → HasSeenRuns IsAnyRun first events w → w ≡ first }
+{}
+
+/// What an intent said is done for good at each moment of the next run at which none is read, also
+/// where the run is stopped: each name has what a recovery leaves, or what an outcome of the run
+/// gives it, and each crash leaves just that.
+pub fn what_an_intent_said_is_done_for_good()
+    ensures { (ignored : List ℕ → Bool) (first v m : TreeState) (events : List Event) (run : Run)
+        → ignored intent_name ≡ false → IsOrderly (RestsOn ignored) first
+        → HasSeen first events v → IsRunFrom v run → IsSome (v.names intent_name)
+        → IsMomentOf run m → m.names intent_name ≡ None
+        → (q : List ℕ) → IsLastingName (ignored_behind ignored events) run q
+        → IsDoneForGood v run m q }
+{
+    a_crash_leaves_an_orderly_settled_tree();
+    a_crash_may_leave_the_files_as_read();
+    more_names_may_be_ignored();
+    an_outcome_is_unique();
+    a_command_that_makes_commits_unless_refused();
+    a_crash_leaves_the_old_files_or_those_of_the_outcome();
 }

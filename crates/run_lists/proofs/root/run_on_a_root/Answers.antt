@@ -12,4 +12,4 @@ returns g c =
       out = _;
       err = _;
       answer = c.apk.result;
-    }) c.apk.ensures.stated c.apk.ensures.left c.apk.ensures.crash c.apk.ensures.orderly c.apk.ensures.settled c.apk.ensures.at_rest
+    }) c.apk.ensures.same c.apk.ensures.stated c.apk.ensures.idle c.apk.ensures.bad_intent c.apk.ensures.reads c.apk.ensures.last c.apk.ensures.left c.apk.ensures.crash c.apk.ensures.orderly c.apk.ensures.settled c.apk.ensures.at_rest

@@ -1,0 +1,186 @@
+-- An outcome that commits holds no intent.
+use Rattle.std.proofs.Common.{◌≡◌, ◌∙◌, ℕ, Bool, true, false, List, [], length, Option, Some, None, Result, Ok, Err, refl, sym, ap, subst}
+use Rattle.std.specs.Prelude.{if◌then◌else◌, IsTrue}
+use Rattle.std.specs.Str.{bytes_eq}
+use Rattle.std.proofs.lemmas.Bool.{false≢true}
+use Rattle.std.proofs.lemmas.Slice.Eq.{bytes_eq-Decides}
+use Rattle.adb_rules.specs.Reserved.{is_reserved}
+use Rattle.adb_schema.specs.Soundness.{first_fault, payload_in, root_value}
+use Rattle.adb_tables.specs.declared.tables.Which.TheVariants.{Intent as IntentTable}
+use Rattle.base_core.specs.Files.{Files}
+use Rattle.base_core.specs.declared.cause.Cause.{Cause}
+use Rattle.change_inputs.specs.Chains.{and_then}
+use Rattle.change_inputs.specs.Inputs.{Inputs}
+use Rattle.change_outcome.specs.ChangeOutcome.{ChangeDone, ChangeWishes, change_or_refusal}
+use Rattle.command_core.specs.Command.{CommandLine}
+use Rattle.command_core.specs.declared.command.Applet.{Applet}
+use Rattle.command_core.specs.declared.command.Applet.TheVariants.{Demo, Mkndx, Mkpkg}
+use Rattle.engine_core.specs.Changed.{Selected, change_of_selected, changed, selected_for, simulated_change}
+use Rattle.engine_core.specs.Wishes.{wishes_of}
+use Rattle.journal_core.specs.Recovery.{Intent, intent_at, intent_in, intent_name, intent_of, read_intent, recovered_files_by}
+use Rattle.journal_core.specs.Replacing.{replaced_files, scratch_of}
+use Rattle.journal_core.specs.Staged.{unstaged_files}
+use Rattle.make_index.specs.Index.{made_index}
+use Rattle.make_info.specs.Output.{output_name}
+use Rattle.make_info.specs.Reads.{Reads as Reading}
+use Rattle.make_info.specs.declared.fault.MakeFault.{MakeFault}
+use Rattle.make_info.specs.declared.fault.MakeFault.TheVariants.{FileMissing as NoFile, FileBad as BadFile, InfoBad as BadInfo, TooLarge, Disk, Memory}
+use Rattle.make_package.specs.Making.{made_package}
+use Rattle.package_changes.specs.Changes.{Replacement}
+use Rattle.path_clashes.specs.Clash.{NamePair}
+use Rattle.report_core.specs.declared.refusal.Refusal.{Refusal}
+use Rattle.report_core.specs.declared.refusal.Refusal.TheVariants.{Reserved}
+use Rattle.words_core.specs.Grammar.{command_of}
+use Rattle.outcome.proofs.Applets.{change_is}
+use Rattle.outcome.specs.Changing.{change_outcome}
+use Rattle.outcome.specs.Commands.{IsOutcomeOf, IsOutcomeUnless, applet_outcome, reads_in}
+use Rattle.outcome.specs.Effect.{Effect, Computes, Reads, Tells, Makes, Changes, effect_by, effect_of, reads_only}
+use Rattle.outcome.specs.Given.{Given}
+use Rattle.outcome.specs.Make.{files_with_output, index_line, make_outcome, unless_reserved}
+use Rattle.outcome.specs.Outcome.{Outcome, commit_report, just_refusal}
+use Rattle.outcome.specs.Words.{IsOutcome, IsOutcomeBy, IsOutcomeFor}
+use Rattle.outcome.specs.Work.{fault_of_intent, recovery_fault, work_files}
+use Rattle.run_lists.proofs.BadIntent.{only_reads}
+use Rattle.run_lists.proofs.Names.{no_scratch}
+use Rattle.run_lists.proofs.Unstaged.{none_found}
+
+abbrev pub BringsNoIntent : Type 0
+BringsNoIntent = (inputs : Inputs) (r : Replacement) (wishes : ChangeWishes) (read : Reading) (clash : Option NamePair) (files : Files) (done : ChangeDone)
+    → change_or_refusal inputs r wishes read clash files ≡ Ok done → files intent_name ≡ None → done.files intent_name ≡ None
+
+abbrev pub ReadSound : Type 0
+ReadSound = (file : List ℕ) → first_fault IntentTable file ≡ None → read_intent file ≡ Some (intent_in (root_value IntentTable (payload_in file)))
+
+abbrev Brings : Outcome → Type 0
+Brings o = o.commits ≡ true → intent_of o.files ≡ None
+
+-- ---- a change
+
+module _ (gone : BringsNoIntent) where
+  selected_none : (command : CommandLine) (read : Reading) (files : Files) (clash : Option NamePair) (s : Selected) (done : ChangeDone)
+      → (simulate : Bool) → (if simulate then Ok (simulated_change s.replacement (wishes_of command) files) else change_or_refusal s.inputs s.replacement (wishes_of command) read clash files) ≡ Ok done
+      → files intent_name ≡ None → done.files intent_name ≡ None
+  selected_none command read files clash s done true is absent = subst (λ (f : Files). f intent_name ≡ None) (ap (λ (r : Result ChangeDone Refusal). files_or r) is) absent
+    where
+      files_or : Result ChangeDone Refusal → Files
+      files_or (Ok d) = d.files
+      files_or (Err refusal) = files
+  selected_none command read files clash s done false is absent = gone s.inputs s.replacement (wishes_of command) read clash files done is absent
+
+  by_selected : (command : CommandLine) (read : Reading) (files : Files) (clash : Option NamePair) (selected : Result Selected Refusal) (done : ChangeDone)
+      → and_then selected (change_of_selected command read files clash) ≡ Ok done → files intent_name ≡ None → done.files intent_name ≡ None
+  by_selected command read files clash (Ok s) done is absent = selected_none command read files clash s done command.flags.simulate is absent
+  by_selected command read files clash (Err refusal) done is absent = cc
+
+  changed_none : (command : CommandLine) (read : Reading) (files : Files) (chosen : Option (List ℕ)) (clash : Option NamePair) (done : ChangeDone)
+      → changed command read files chosen clash ≡ Ok done → files intent_name ≡ None → done.files intent_name ≡ None
+  unfolding changed
+  changed_none command read files chosen clash done is absent = by_selected command read files clash (selected_for command read chosen) done is absent
+
+  change_none : (command : CommandLine) (files : Files) (chosen : Option (List ℕ)) (clash : Option NamePair) (result : Result ChangeDone Refusal)
+      → changed command (reads_in files) files chosen clash ≡ result → files intent_name ≡ None → Brings (change_outcome files result)
+  change_none command files chosen clash (Ok done) is absent commits = ap intent_at (changed_none command (reads_in files) files chosen clash done is absent)
+  change_none command files chosen clash (Err refusal) is absent commits = ap intent_at absent
+
+-- ---- what is made
+
+not_same : (p q : List ℕ) → (p ≡ q → ⊥) → bytes_eq p q ≡ false
+not_same p q other = by (bytes_eq p q) refl
+  where
+    by : (b : Bool) → bytes_eq p q ≡ b → bytes_eq p q ≡ false
+    by true is = absurd (other ((bytes_eq-Decides p q).0 is))
+    by false is = is
+
+not_reserved : (name : List ℕ) → is_reserved name ≡ false → intent_name ≡ name → ⊥
+not_reserved name free is = false≢true (sym free ∙ ap is_reserved (sym is))
+
+with_other : (name bytes : List ℕ) (files : Files) → is_reserved name ≡ false → replaced_files name bytes files intent_name ≡ files intent_name
+with_other name bytes files free =
+    ap (λ (b : Bool). if b then Some bytes else (if bytes_eq intent_name (scratch_of name) then None else files intent_name)) (not_same intent_name name (not_reserved name free))
+    ∙ ap (λ (b : Bool). if b then None else files intent_name) (not_same intent_name (scratch_of name) (no_scratch name))
+
+made_by : (name bytes report : List ℕ) (files : Files) → intent_of files ≡ None → (b : Bool) → is_reserved name ≡ b
+    → Brings (if b then just_refusal files (Reserved name) else commit_report (files_with_output (Some name) bytes files) report)
+made_by name bytes report files none true is commits = absurd (false≢true commits)
+made_by name bytes report files none false is commits = ap intent_at (with_other name bytes files is) ∙ none
+
+made_unless : (output : Option (List ℕ)) (bytes report : List ℕ) (files : Files) → intent_of files ≡ None → Brings (unless_reserved files output (commit_report (files_with_output output bytes files) report))
+made_unless None bytes report files none commits = none
+made_unless (Some name) bytes report files none commits = made_by name bytes report files none (is_reserved name) refl commits
+
+refused_by : (name : List ℕ) (files : Files) (refusal : Refusal) (b : Bool) → Brings (if b then just_refusal files (Reserved name) else just_refusal files refusal)
+refused_by name files refusal true commits = absurd (false≢true commits)
+refused_by name files refusal false commits = absurd (false≢true commits)
+
+refused_unless : (output : Option (List ℕ)) (files : Files) (refusal : Refusal) → Brings (unless_reserved files output (just_refusal files refusal))
+refused_unless None files refusal commits = absurd (false≢true commits)
+refused_unless (Some name) files refusal commits = refused_by name files refusal (is_reserved name) commits
+
+made_none : (output : Option (List ℕ)) (report : List ℕ) (files : Files) → intent_of files ≡ None → (made : Result (List ℕ) MakeFault) → Brings (make_outcome files output report made)
+made_none output report files none (Ok bytes) commits = made_unless output bytes report files none commits
+made_none output report files none (Err (NoFile place)) commits = absurd (false≢true commits)
+made_none output report files none (Err (BadFile place cause)) commits = absurd (false≢true commits)
+made_none output report files none (Err (BadInfo place)) commits = absurd (false≢true commits)
+made_none output report files none (Err (TooLarge bytes values)) commits = refused_unless output files _ commits
+made_none output report files none (Err Disk) commits = absurd (false≢true commits)
+made_none output report files none (Err Memory) commits = absurd (false≢true commits)
+
+maker_none : (applet : Applet) (command : CommandLine) (given : Given) (files : Files) → effect_of applet ≡ Makes → intent_of files ≡ None → Brings (applet_outcome applet command given (reads_in files) files)
+maker_none Mkpkg command given files makes none = made_none (output_name command) [] files none (made_package command given.names (reads_in files))
+maker_none Mkndx command given files makes none = made_none (output_name command) (index_line (length command.operands)) files none (made_index command (reads_in files))
+maker_none other command given files makes none = absurd (cc (makes))
+
+-- ---- by the words
+
+absent_now : ReadSound → (files : Files) (found : Option (List ℕ)) → files intent_name ≡ found → fault_of_intent found ≡ None → unstaged_files files intent_name ≡ None
+absent_now sound files None is good = ap (λ (o : Option (List ℕ)). recovered_files_by (intent_at o) files intent_name) is ∙ is
+absent_now sound files (Some file) is good =
+    ap (λ (o : Option (List ℕ)). recovered_files_by (intent_at o) files intent_name) is
+    ∙ ap (λ (o : Option Intent). recovered_files_by o files intent_name) (sound file good)
+
+no_demo : (applet : Applet) (command : CommandLine) (files : Files) (o : Outcome) → (effect_of applet ≡ Computes → ⊥) → IsOutcomeFor applet command files o → IsOutcomeOf (Ok command) files o
+no_demo Demo command files o works is = absurd (works refl)
+no_demo other command files o works is = is
+
+-- each outcome that commits
+abbrev pub CommitsNoIntent : Type 0
+CommitsNoIntent = (words : List (List ℕ)) (files : Files) (o : Outcome) → IsOutcome words files o → o.commits ≡ true → intent_of o.files ≡ None
+
+module _ (gone : BringsNoIntent) (sound : ReadSound) where
+  makes_none : (fault : Option Cause) (command : CommandLine) (files : Files) (o : Outcome) → effect_of command.applet ≡ Makes → IsOutcomeUnless fault command files o → Brings o
+  makes_none (Some cause) command files o makes is commits = absurd (false≢true (sym (ap (λ (p : Outcome). p.commits) is) ∙ commits))
+  makes_none None command files o makes (given, are, is) commits =
+      let work : work_files (effect_of command.applet) files ≡ unstaged_files files = ap (λ (e : Effect). work_files e files) makes in
+      subst Brings (sym is) (maker_none command.applet command given (work_files (effect_of command.applet) files) makes (ap intent_of work ∙ none_found files)) commits
+
+  changes_none : (fault : Option Cause) (command : CommandLine) (files : Files) (o : Outcome) → effect_of command.applet ≡ Changes → recovery_fault (effect_of command.applet) files ≡ fault → IsOutcomeUnless fault command files o → Brings o
+  changes_none (Some cause) command files o changes at is commits = absurd (false≢true (sym (ap (λ (p : Outcome). p.commits) is) ∙ commits))
+  changes_none None command files o changes at (given, are, is) commits =
+      let work : work_files (effect_of command.applet) files ≡ unstaged_files files = ap (λ (e : Effect). work_files e files) changes in
+      let good = subst (λ (e : Effect). recovery_fault e files ≡ None) changes at in
+      let absent = ap (λ (f : Files). f intent_name) work ∙ absent_now sound files (files intent_name) refl good in
+      let here = work_files (effect_of command.applet) files in
+      subst Brings (change_is command.applet command given (reads_in here) here changes ∙ sym is)
+      (change_none gone command here given.chosen given.clash (changed command (reads_in here) here given.chosen given.clash) refl absent) commits
+
+  by_command : (read : Result CommandLine ℕ) (files : Files) (o : Outcome) (effect : Effect) → effect_by read ≡ effect → (effect ≡ Computes → ⊥) → (effect ≡ Reads → ⊥) → (effect ≡ Tells → ⊥) → IsOutcomeBy read files o → Brings o
+  by_command (Err place) files o effect is works reads tells one = absurd (works (sym is))
+  by_command (Ok command) files o Computes is works reads tells one = absurd (works refl)
+  by_command (Ok command) files o Reads is works reads tells one = absurd (reads refl)
+  by_command (Ok command) files o Tells is works reads tells one = absurd (tells refl)
+  by_command (Ok command) files o Makes is works reads tells one =
+      makes_none (recovery_fault (effect_of command.applet) files) command files o is (no_demo command.applet command files o (λ computes. works (sym is ∙ computes)) one)
+  by_command (Ok command) files o Changes is works reads tells one =
+      changes_none (recovery_fault (effect_of command.applet) files) command files o is refl (no_demo command.applet command files o (λ computes. works (sym is ∙ computes)) one)
+
+  module _ (reading : (words : List (List ℕ)) (files : Files) (o : Outcome) → IsTrue (reads_only (command_of words)) → IsOutcome words files o → o.commits ≡ false)
+      (telling : (words : List (List ℕ)) (files : Files) (o : Outcome) → effect_by (command_of words) ≡ Tells → IsOutcome words files o → o.commits ≡ false) where
+    pub committed_none : CommitsNoIntent
+    committed_none words files o one commits = by (effect_by (command_of words)) refl
+      where
+        by : (effect : Effect) → effect_by (command_of words) ≡ effect → intent_of o.files ≡ None
+        by Computes is = absurd (false≢true (sym (reading words files o (only_reads (command_of words) Computes is refl) one) ∙ commits))
+        by Reads is = absurd (false≢true (sym (reading words files o (only_reads (command_of words) Reads is refl) one) ∙ commits))
+        by Tells is = absurd (false≢true (sym (telling words files o is one) ∙ commits))
+        by Makes is = by_command (command_of words) files o Makes is (λ e. cc (e)) (λ e. cc (e)) (λ e. cc (e)) one commits
+        by Changes is = by_command (command_of words) files o Changes is (λ e. cc (e)) (λ e. cc (e)) (λ e. cc (e)) one commits
