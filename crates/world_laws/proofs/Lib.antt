@@ -1,0 +1,2 @@
+pub mod NewWorlds
+pub mod ReadWorlds
