@@ -1,2 +1,3 @@
 pub mod NewWorlds
 pub mod ReadWorlds
+pub mod Simulations

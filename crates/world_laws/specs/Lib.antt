@@ -1,2 +1,3 @@
 -- what the laws say
 pub mod NewWorld
+pub mod Simulation

@@ -4,6 +4,10 @@
 //! `engine_core` that they speak of.
 #![tactic(auto)]
 
+mod simulation;
 mod worlds;
 
+pub use simulation::{
+    a_refused_simulation_refuses_the_change, a_simulation_tells_what_the_change_does,
+};
 pub use worlds::the_new_world_holds_what_was_asked;
