@@ -1,3 +1,4 @@
 pub mod NewWorlds
 pub mod ReadWorlds
 pub mod Simulations
+pub mod NextNeeds
