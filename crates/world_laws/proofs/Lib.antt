@@ -1,0 +1,4 @@
+pub mod NewWorlds
+pub mod ReadWorlds
+pub mod Simulations
+pub mod NextNeeds

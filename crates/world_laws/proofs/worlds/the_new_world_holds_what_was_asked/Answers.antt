@@ -1,0 +1,9 @@
+use Rattle.world_laws.proofs.NewWorlds.{holds_asked}
+use Rattle.world_laws.proofs.ReadWorlds.{of_inputs}
+use Rattle.world_laws.proofs.worlds.the_new_world_holds_what_was_asked.Goals as goal
+
+pub returns-clause-world : goal.returns-clause-world
+returns-clause-world c = holds_asked
+
+pub returns-clause-read : goal.returns-clause-read
+returns-clause-read c = of_inputs

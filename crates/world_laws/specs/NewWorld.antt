@@ -1,0 +1,64 @@
+-- Which entries stand in world after a command, in a reader's words. Both worlds are in byte order
+-- of names with one entry a name, so the entries alone say what a world is.
+use Rattle.std.specs.Prelude.{◌≡◌, ◌≢◌, ◌⊎◌, ◌↔◌, ℕ, List, [], ◌∷◌, ◌++◌, Some, Ok, unwrap_or}
+use Rattle.adb_fields.specs.FirstPair.{IsIn}
+use Rattle.change_inputs.specs.Inputs.{Root, world_read}
+use Rattle.command_core.specs.Command.{CommandLine}
+use Rattle.command_core.specs.declared.command.Applet.{Applet}
+use Rattle.command_core.specs.declared.command.Applet.TheVariants.{Add, Del}
+use Rattle.command_core.specs.declared.operands.Operand.{Operand}
+use Rattle.dep_core.specs.Dependency.{Dependency}
+use Rattle.dep_core.specs.Reading.{dependency_of}
+use Rattle.dep_core.specs.World.{IsWorld, world_of}
+use Rattle.make_info.specs.Reads.{Reads}
+use Rattle.root_names.specs.RootNames.{world_name}
+
+-- ---- `add`
+
+-- no operand is a dependency of this name
+abbrev pub IsAddedByNone : List ℕ → List Operand → Type 0
+IsAddedByNone name operands = (o : Operand) (d : Dependency) → IsIn o operands
+    → dependency_of o.text ≡ Some d → d.name ≢ name
+
+-- an operand is this dependency, and none behind it is one of the same name
+pub record IsAdded (operands : List Operand) (d : Dependency) : Type 0 where
+  pub front : List Operand
+  pub operand : Operand
+  pub behind : List Operand
+  pub stands : operands ≡ front ++ operand ∷ behind
+  pub says : dependency_of operand.text ≡ Some d
+  pub last : IsAddedByNone d.name behind
+
+-- an entry is one of the operands, or it stood before and no operand has its name
+pub record HoldsAdded (operands : List Operand) (before after : List Dependency) : Type 0 where
+  pub world : IsWorld after
+  pub entries : (d : Dependency) → IsIn d after
+      ↔ (IsAdded operands d ⊎ (IsIn d before × IsAddedByNone d.name operands))
+
+-- ---- `del`
+
+-- no operand is this name
+abbrev pub IsNoOperand : List ℕ → List Operand → Type 0
+IsNoOperand name operands = (o : Operand) → IsIn o operands → o.text ≢ name
+
+-- an entry stood before, and no operand is its name
+pub record HoldsOthers (operands : List Operand) (before after : List Dependency) : Type 0 where
+  pub world : IsWorld after
+  pub entries : (d : Dependency) → IsIn d after ↔ (IsIn d before × IsNoOperand d.name operands)
+
+-- ---- each applet
+
+-- the others leave world as it is
+abbrev pub HoldsWhatWasAsked :
+    Applet → List Operand → List Dependency → List Dependency → Type 0
+HoldsWhatWasAsked Add operands before after = HoldsAdded operands before after
+HoldsWhatWasAsked Del operands before after = HoldsOthers operands before after
+HoldsWhatWasAsked applet operands before after = after ≡ before
+
+-- ---- among what a change reads of a root
+
+-- world before is the one of its file, an absent one counting as empty, and the new one holds what
+-- the command asks for
+pub record IsReadWorld (command : CommandLine) (read : Reads) (root : Root) : Type 0 where
+  pub file : world_of (unwrap_or (read world_read world_name) []) ≡ Ok root.world
+  pub asked : HoldsWhatWasAsked command.applet command.operands root.world root.new_world

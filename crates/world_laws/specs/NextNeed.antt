@@ -1,0 +1,79 @@
+-- Which need is met next, in a reader's words: of world, then of the choices, then by install-if.
+use Rattle.std.specs.Prelude.{◌≡◌, ◌⊎◌, ℕ, true, false, List, ◌∷◌, ◌++◌, Option, Some, None}
+use Rattle.dep_core.specs.Dependency.{Dependency}
+use Rattle.list_order.specs.ByteOrder.{precedes}
+use Rattle.pool_core.specs.Candidates.{Candidate, Need, entry, named, has_usable_install_if}
+use Rattle.pool_core.specs.Options.{IsMember}
+use Rattle.pool_core.specs.Rank.{SealedPool, meets_at}
+use Rattle.solve_core.specs.Selection.{depends_at}
+
+-- a chosen candidate meets it
+abbrev pub IsMetByChoice : SealedPool → List ℕ → Need → Type 0
+IsMetByChoice pool chosen need = (c : ℕ) × IsMember c chosen × (meets_at pool c need ≡ true)
+
+-- ---- dependencies
+
+-- each of them that is no conflict is met
+abbrev pub AreMet : SealedPool → List ℕ → List Dependency → Type 0
+AreMet pool chosen deps = (d : Dependency) → IsMember d deps → d.conflict ≡ false
+    → IsMetByChoice pool chosen (entry d)
+
+-- of them this is the first that is no conflict and is not met
+pub record IsFirstUnmet (pool : SealedPool) (chosen : List ℕ) (deps : List Dependency)
+    (d : Dependency) : Type 0 where
+  pub front : List Dependency
+  pub behind : List Dependency
+  pub stands : deps ≡ front ++ d ∷ behind
+  pub before : AreMet pool chosen front
+  pub positive : d.conflict ≡ false
+  pub unmet : ¬ IsMetByChoice pool chosen (entry d)
+
+-- ---- of the choices
+
+-- the dependencies of each of these choices are met
+abbrev pub AreMetOfEach : SealedPool → List ℕ → List ℕ → Type 0
+AreMetOfEach pool chosen choices = (c : ℕ) → IsMember c choices
+    → AreMet pool chosen (depends_at pool c)
+
+-- it is the first unmet dependency of a choice, and those of the choices before it are met
+pub record IsFirstOfChoices (pool : SealedPool) (chosen choices : List ℕ)
+    (d : Dependency) : Type 0 where
+  pub front : List ℕ
+  pub choice : ℕ
+  pub behind : List ℕ
+  pub stands : choices ≡ front ++ choice ∷ behind
+  pub before : AreMetOfEach pool chosen front
+  pub first : IsFirstUnmet pool chosen (depends_at pool choice) d
+
+-- ---- by install-if
+
+-- a candidate has this name, its install-if can apply and is met entry by entry, and no choice
+-- meets the name
+pub record IsAskedByInstallIf (pool : SealedPool) (chosen name : List ℕ) : Type 0 where
+  pub candidate : Candidate
+  pub stands : IsMember candidate pool.candidates
+  pub is_named : candidate.name ≡ name
+  pub usable : has_usable_install_if pool.world candidate ≡ true
+  pub applies : (d : Dependency) → IsMember d candidate.install_if
+      → IsMetByChoice pool chosen (entry d)
+  pub unmet : ¬ IsMetByChoice pool chosen (named name)
+
+-- of such names it is the first in byte order
+pub record IsFirstByInstallIf (pool : SealedPool) (chosen name : List ℕ) : Type 0 where
+  pub asked : IsAskedByInstallIf pool chosen name
+  pub first : (other : List ℕ) → IsAskedByInstallIf pool chosen other
+      → precedes other name ≡ false
+
+-- ---- the next need
+
+abbrev pub IsNext : SealedPool → List ℕ → Need → Type 0
+IsNext pool chosen (entry d) = IsFirstUnmet pool chosen pool.world d
+    ⊎ (AreMet pool chosen pool.world × IsFirstOfChoices pool chosen chosen d)
+IsNext pool chosen (named name) = AreMet pool chosen pool.world
+    × AreMetOfEach pool chosen chosen × IsFirstByInstallIf pool chosen name
+
+-- where there is none, all are met
+abbrev pub IsNextOrNone : SealedPool → List ℕ → Option Need → Type 0
+IsNextOrNone pool chosen (Some need) = IsNext pool chosen need
+IsNextOrNone pool chosen None = AreMet pool chosen pool.world × AreMetOfEach pool chosen chosen
+    × ((name : List ℕ) → ¬ IsAskedByInstallIf pool chosen name)

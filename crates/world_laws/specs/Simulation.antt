@@ -1,0 +1,22 @@
+-- What a simulation of a change tells of the change that is made.
+use Rattle.std.specs.Prelude.{◌≡◌, ℕ, List, ◌++◌}
+use Rattle.command_core.specs.Command.{CommandLine}
+use Rattle.command_core.specs.Flags.{with_flag}
+use Rattle.command_core.specs.declared.command.Flag.TheVariants.{Simulate}
+use Rattle.report_core.specs.Reports.{report_line, sum_text}
+
+-- the same command with `--simulate`
+abbrev pub with_simulation : CommandLine → CommandLine
+with_simulation command = record command { flags = with_flag Simulate command.flags }
+
+-- All that is told before the last line of the simulation's report, a sum, is told first by the
+-- change's report too, to the byte; and this one ends with a sum of its own.
+pub record IsForetold (simulation report : List ℕ) : Type 0 where
+  pub told : List ℕ
+  pub bytes : ℕ
+  pub packages : ℕ
+  pub simulated : simulation ≡ told ++ report_line (sum_text bytes packages)
+  pub more : List ℕ
+  pub new_bytes : ℕ
+  pub new_packages : ℕ
+  pub made : report ≡ told ++ more ++ report_line (sum_text new_bytes new_packages)
