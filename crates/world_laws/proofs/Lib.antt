@@ -3,3 +3,4 @@ pub mod ReadWorlds
 pub mod Simulations
 pub mod NextNeeds
 pub mod OneWorld
+pub mod OneNeed
