@@ -23,7 +23,7 @@ use Rattle.world_laws.specs.NewWorld.{HoldsAdded, HoldsOthers, HoldsWhatWasAsked
 
 -- ---- order
 
-in_order : (w : List Dependency) → IsWorld w → is_in_order w ≡ true
+pub in_order : (w : List Dependency) → IsWorld w → is_in_order w ≡ true
 in_order w h = (and_parts (list_all is_dependency w) (is_in_order w) h).1
 
 all_in : (P : Dependency → Bool) (w : List Dependency) (x : Dependency) → list_all P w ≡ true → IsIn x w → P x ≡ true
@@ -39,17 +39,22 @@ is_self Greater e = absurd (cc (e))
 self : (a : List ℕ) → bytes_cmp a a ≡ Equal
 self a = is_self (bytes_cmp a a) (names_total.antisymm a a)
 
-other_less : (a b : List ℕ) → bytes_cmp a b ≡ Less → b ≢ a
+pub other_less : (a b : List ℕ) → bytes_cmp a b ≡ Less → b ≢ a
 other_less a b less same = let e : Less ≡ Equal = sym less ∙ (ap (bytes_cmp a) same ∙ self a) in absurd (cc (e))
 
 other_greater : (a b : List ℕ) → bytes_cmp a b ≡ Greater → b ≢ a
 other_greater a b greater same = let e : Greater ≡ Equal = sym greater ∙ (ap (bytes_cmp a) same ∙ self a) in absurd (cc (e))
 
 -- no entry behind the first has its name
-behind_other : (e : Dependency) (rest : List Dependency) (x : Dependency) → is_in_order (e ∷ rest) ≡ true → IsIn x rest → bytes_cmp e.name x.name ≡ Less
+pub behind_other : (e : Dependency) (rest : List Dependency) (x : Dependency) → is_in_order (e ∷ rest) ≡ true → IsIn x rest → bytes_cmp e.name x.name ≡ Less
 behind_other e rest x h here =
     let parts = and_parts (list_all (is_behind e.name) rest) (is_in_order rest) h in
     lt-less (bytes_cmp e.name x.name) (all_in (is_behind e.name) rest x parts.0 here)
+
+-- of two entries, one behind the other, only the second comes behind
+pub behind_first : (x y : Dependency) (a : List Dependency) → is_in_order (x ∷ a) ≡ true → IsIn y a → bytes_cmp y.name x.name ≡ Less → ⊥
+behind_first x y a h here less =
+    other_less y.name y.name (names_total.trans y.name x.name y.name less (behind_other x a y h here)) refl
 
 -- each entry of a world has another name than one that comes before its first
 before_other : (name : List ℕ) (e : Dependency) (rest : List Dependency) (x : Dependency) → bytes_cmp name e.name ≡ Less → is_in_order (e ∷ rest) ≡ true → IsIn x (e ∷ rest) → x.name ≢ name
@@ -57,7 +62,7 @@ before_other name e rest x less h (inl is) = λ same. other_less name e.name les
 before_other name e rest x less h (inr more) =
     other_less name x.name (names_total.trans name e.name x.name less (behind_other e rest x h more))
 
-tail_in_order : (e : Dependency) (rest : List Dependency) → is_in_order (e ∷ rest) ≡ true → is_in_order rest ≡ true
+pub tail_in_order : (e : Dependency) (rest : List Dependency) → is_in_order (e ∷ rest) ≡ true → is_in_order rest ≡ true
 tail_in_order e rest h = (and_parts (list_all (is_behind e.name) rest) (is_in_order rest) h).1
 
 -- ---- one entry more

@@ -12,10 +12,13 @@ ghost use Rattle.world_laws.specs.NewWorld.{HoldsWhatWasAsked, IsReadWorld};
 
 /// World after `add` has the operands, of each name the last one, and the entries of all other
 /// names; after `del` it has the entries of all names but the operands. Any other command leaves
-/// it. So it is with what a change reads of a root.
+/// it. Just one world holds what was asked. So it is with what a change reads of a root.
 pub fn the_new_world_holds_what_was_asked()
     ensures world { (applet : Applet) (operands : List Operand) (world : List Dependency)
         → IsWorld world → HoldsWhatWasAsked applet operands world (new_world applet operands world) }
     ensures read { (command : CommandLine) (read : Reads) (inputs : Inputs)
         → inputs_of command read ≡ Ok inputs → IsReadWorld command read inputs.root }
+    ensures one { (applet : Applet) (operands : List Operand) (world after other : List Dependency)
+        → HoldsWhatWasAsked applet operands world after
+        → HoldsWhatWasAsked applet operands world other → after ≡ other }
 {}
