@@ -14,8 +14,8 @@ IsMetByChoice pool chosen need = (c : ℕ) × IsMember c chosen × (meets_at poo
 -- ---- dependencies
 
 -- each of them that is no conflict is met
-abbrev pub AreMet : SealedPool → List ℕ → List Dependency → Type 0
-AreMet pool chosen deps = (d : Dependency) → IsMember d deps → d.conflict ≡ false
+abbrev pub AreMetByChoices : SealedPool → List ℕ → List Dependency → Type 0
+AreMetByChoices pool chosen deps = (d : Dependency) → IsMember d deps → d.conflict ≡ false
     → IsMetByChoice pool chosen (entry d)
 
 -- of them this is the first that is no conflict and is not met
@@ -24,7 +24,7 @@ pub record IsFirstUnmet (pool : SealedPool) (chosen : List ℕ) (deps : List Dep
   pub front : List Dependency
   pub behind : List Dependency
   pub stands : deps ≡ front ++ d ∷ behind
-  pub before : AreMet pool chosen front
+  pub before : AreMetByChoices pool chosen front
   pub positive : d.conflict ≡ false
   pub unmet : ¬ IsMetByChoice pool chosen (entry d)
 
@@ -33,7 +33,7 @@ pub record IsFirstUnmet (pool : SealedPool) (chosen : List ℕ) (deps : List Dep
 -- the dependencies of each of these choices are met
 abbrev pub AreMetOfEach : SealedPool → List ℕ → List ℕ → Type 0
 AreMetOfEach pool chosen choices = (c : ℕ) → IsMember c choices
-    → AreMet pool chosen (depends_at pool c)
+    → AreMetByChoices pool chosen (depends_at pool c)
 
 -- it is the first unmet dependency of a choice, and those of the choices before it are met
 pub record IsFirstOfChoices (pool : SealedPool) (chosen choices : List ℕ)
@@ -68,12 +68,12 @@ pub record IsFirstByInstallIf (pool : SealedPool) (chosen name : List ℕ) : Typ
 
 abbrev pub IsNext : SealedPool → List ℕ → Need → Type 0
 IsNext pool chosen (entry d) = IsFirstUnmet pool chosen pool.world d
-    ⊎ (AreMet pool chosen pool.world × IsFirstOfChoices pool chosen chosen d)
-IsNext pool chosen (named name) = AreMet pool chosen pool.world
+    ⊎ (AreMetByChoices pool chosen pool.world × IsFirstOfChoices pool chosen chosen d)
+IsNext pool chosen (named name) = AreMetByChoices pool chosen pool.world
     × AreMetOfEach pool chosen chosen × IsFirstByInstallIf pool chosen name
 
 -- where there is none, all are met
 abbrev pub IsNextOrNone : SealedPool → List ℕ → Option Need → Type 0
 IsNextOrNone pool chosen (Some need) = IsNext pool chosen need
-IsNextOrNone pool chosen None = AreMet pool chosen pool.world × AreMetOfEach pool chosen chosen
+IsNextOrNone pool chosen None = AreMetByChoices pool chosen pool.world × AreMetOfEach pool chosen chosen
     × ((name : List ℕ) → ¬ IsAskedByInstallIf pool chosen name)
