@@ -13,7 +13,7 @@ use Rattle.pool_core.specs.Options.{IsMember}
 use Rattle.pool_core.specs.Rank.{SealedPool, meets_at}
 use Rattle.solve_core.specs.Selection.{depends_at, first_some, install_if_applies, is_met, is_unmet, least_name, lesser_name, names_by_install_if, next_need, positive_needs, raised_needs}
 use Rattle.solve_core.proofs.PoolFacts.{any_in, filter_in, in_filter, in_map, least_in, least_none, map_in}
-use Rattle.world_laws.specs.NextNeed.{AreMet, AreMetOfEach, IsAskedByInstallIf, IsFirstOfChoices, IsFirstUnmet, IsMetByChoice, IsNextOrNone}
+use Rattle.world_laws.specs.NextNeed.{AreMetByChoices, AreMetOfEach, IsAskedByInstallIf, IsFirstOfChoices, IsFirstUnmet, IsMetByChoice, IsNextOrNone}
 
 -- ---- the least name
 
@@ -109,7 +109,7 @@ module _ (pool : SealedPool) (chosen : List ℕ) where
   abbrev HeadMet : Dependency → Type 0
   HeadMet e = (d : Dependency) → d ≡ e → d.conflict ≡ false → IsMetByChoice pool chosen (entry d)
 
-  more_met : (e : Dependency) (deps : List Dependency) → HeadMet e → AreMet pool chosen deps → AreMet pool chosen (e ∷ deps)
+  more_met : (e : Dependency) (deps : List Dependency) → HeadMet e → AreMetByChoices pool chosen deps → AreMetByChoices pool chosen (e ∷ deps)
   more_met e deps head rest d (inl is) = head d is
   more_met e deps head rest d (inr here) = rest d here
 
@@ -125,7 +125,7 @@ module _ (pool : SealedPool) (chosen : List ℕ) where
 
   -- the first need of some dependencies, or those behind them
   abbrev Splits : List Dependency → Option Need → Option Need → Type 0
-  Splits deps found behind = ((d : Dependency) × IsFirstUnmet pool chosen deps d × (found ≡ Some (entry d))) ⊎ (AreMet pool chosen deps × (found ≡ behind))
+  Splits deps found behind = ((d : Dependency) × IsFirstUnmet pool chosen deps d × (found ≡ Some (entry d))) ⊎ (AreMetByChoices pool chosen deps × (found ≡ behind))
 
   one_more : (e : Dependency) (deps : List Dependency) (found behind : Option Need) → HeadMet e → Splits deps found behind → Splits (e ∷ deps) found behind
   one_more e deps found behind head (inl (d, first, is)) = inl (d, further e deps d head first, is)
@@ -169,8 +169,8 @@ module _ (pool : SealedPool) (chosen : List ℕ) where
   abbrev SplitsChoices : List ℕ → Option Need → Type 0
   SplitsChoices cs found = ((d : Dependency) × IsFirstOfChoices pool chosen cs d × (found ≡ Some (entry d))) ⊎ (AreMetOfEach pool chosen cs × (found ≡ None))
 
-  each_more : (c : ℕ) (cs : List ℕ) → AreMet pool chosen (depends_at pool c) → AreMetOfEach pool chosen cs → AreMetOfEach pool chosen (c ∷ cs)
-  each_more c cs head rest k (inl is) = subst (λ (n : ℕ). AreMet pool chosen (depends_at pool n)) (sym is) head
+  each_more : (c : ℕ) (cs : List ℕ) → AreMetByChoices pool chosen (depends_at pool c) → AreMetOfEach pool chosen cs → AreMetOfEach pool chosen (c ∷ cs)
+  each_more c cs head rest k (inl is) = subst (λ (n : ℕ). AreMetByChoices pool chosen (depends_at pool n)) (sym is) head
   each_more c cs head rest k (inr here) = rest k here
 
   choices : (cs : List ℕ) → SplitsChoices cs (find test (raised cs))
@@ -234,7 +234,7 @@ module _ (pool : SealedPool) (chosen : List ℕ) where
         unmet = unmet (named name) (not_true (is_met pool chosen (named name)) kept.1);
       }
 
-  by_names : AreMet pool chosen pool.world → AreMetOfEach pool chosen chosen → (r : Option (List ℕ)) → least_name unmet_names ≡ r → IsNextOrNone pool chosen (option_map named r)
+  by_names : AreMetByChoices pool chosen pool.world → AreMetOfEach pool chosen chosen → (r : Option (List ℕ)) → least_name unmet_names ≡ r → IsNextOrNone pool chosen (option_map named r)
   by_names world each None e = (world, each, λ name asked. subst (λ (l : List (List ℕ)). IsMember name l) (least_none unmet_names e) (asked_in name asked))
   by_names world each (Some name) e = (
     world,

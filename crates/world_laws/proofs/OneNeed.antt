@@ -9,7 +9,7 @@ use Rattle.pool_core.specs.Candidates.{Need, entry, named}
 use Rattle.pool_core.specs.Options.{IsMember}
 use Rattle.pool_core.specs.Rank.{SealedPool}
 use Rattle.solve_core.specs.Selection.{depends_at}
-use Rattle.world_laws.specs.NextNeed.{AreMet, AreMetOfEach, IsFirstByInstallIf, IsFirstOfChoices, IsFirstUnmet, IsMetByChoice, IsNext, IsNextOrNone}
+use Rattle.world_laws.specs.NextNeed.{AreMetByChoices, AreMetOfEach, IsFirstByInstallIf, IsFirstOfChoices, IsFirstUnmet, IsMetByChoice, IsNext, IsNextOrNone}
 
 -- ---- the first place of a list
 
@@ -40,13 +40,13 @@ module _ (pool : SealedPool) (chosen : List ℕ) where
   one_unmet deps d e f g =
       one_place IsDone f.front g.front d e f.behind g.behind (sym f.stands ∙ g.stands) f.before g.before (λ done. f.unmet (done f.positive)) (λ done. g.unmet (done g.positive))
 
-  not_met : (deps : List Dependency) (d : Dependency) → IsFirstUnmet pool chosen deps d → ¬ AreMet pool chosen deps
+  not_met : (deps : List Dependency) (d : Dependency) → IsFirstUnmet pool chosen deps d → ¬ AreMetByChoices pool chosen deps
   not_met deps d f all =
       f.unmet (all d (subst (λ (l : List Dependency). IsMember d l) (sym f.stands) (member_at f.front d f.behind)) f.positive)
 
   one_choice : (d e : Dependency) → IsFirstOfChoices pool chosen chosen d → IsFirstOfChoices pool chosen chosen e → d ≡ e
   one_choice d e f g =
-      let same : f.choice ≡ g.choice = one_place (λ c. AreMet pool chosen (depends_at pool c)) f.front g.front f.choice g.choice f.behind g.behind (sym f.stands ∙ g.stands) f.before g.before
+      let same : f.choice ≡ g.choice = one_place (λ c. AreMetByChoices pool chosen (depends_at pool c)) f.front g.front f.choice g.choice f.behind g.behind (sym f.stands ∙ g.stands) f.before g.before
       (not_met (depends_at pool f.choice) d f.first) (not_met (depends_at pool g.choice) e g.first) in
       one_unmet (depends_at pool g.choice) d e (subst (λ (c : ℕ). IsFirstUnmet pool chosen (depends_at pool c) d) same f.first) g.first
 
@@ -58,7 +58,7 @@ module _ (pool : SealedPool) (chosen : List ℕ) where
   one_name n m f g =
       cmp-equal n m (lt_equal (bytes_cmp n m) (g.first n f.asked) (ap is_lt (sym (names_total.antisymm m n)) ∙ f.first m g.asked))
 
-  not_all : (d : Dependency) → IsNext pool chosen (entry d) → AreMet pool chosen pool.world → AreMetOfEach pool chosen chosen → ⊥
+  not_all : (d : Dependency) → IsNext pool chosen (entry d) → AreMetByChoices pool chosen pool.world → AreMetOfEach pool chosen chosen → ⊥
   not_all d (inl first) world each = not_met pool.world d first world
   not_all d (inr next) world each = not_each d next.1 each
 

@@ -75,5 +75,6 @@ IsNext pool chosen (named name) = AreMetByChoices pool chosen pool.world
 -- where there is none, all are met
 abbrev pub IsNextOrNone : SealedPool → List ℕ → Option Need → Type 0
 IsNextOrNone pool chosen (Some need) = IsNext pool chosen need
-IsNextOrNone pool chosen None = AreMetByChoices pool chosen pool.world × AreMetOfEach pool chosen chosen
+IsNextOrNone pool chosen None = AreMetByChoices pool chosen pool.world
+    × AreMetOfEach pool chosen chosen
     × ((name : List ℕ) → ¬ IsAskedByInstallIf pool chosen name)
