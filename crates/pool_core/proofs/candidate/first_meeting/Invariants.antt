@@ -1,9 +1,10 @@
-use Rattle.std.proofs.Common.{◌≡◌, take, map}
-use Rattle.std.specs.Prelude.{None}
-use Rattle.std.specs.List.{find}
+use Rattle.std.proofs.Common.{◌≡◌, Bool, true, false, take, map, List}
+use Rattle.std.specs.Prelude.{None, not, ◌&&◌}
+use Rattle.std.specs.List.{find, list_all, list_any}
+use Rattle.dep_core.specs.Dependency.{Dependency}
 use Rattle.dep_core.specs.Meets.{dependency}
-use Rattle.pool_core.specs.Candidates.{is_met_by_entry}
+use Rattle.pool_core.specs.Candidates.{entry_occupies, is_met_by_entry, meets_dependency}
 use Rattle.pool_core.proofs.candidate.first_meeting.Given as goal
 
-abbrev pub invariant-loop-entry : goal.invariant-loop-entry
-invariant-loop-entry l = find (is_met_by_entry (dependency l.dep)) (map dependency (take l.entry-index l.provides)) ≡ None
+abbrev pub invariant-loop-i : goal.invariant-loop-i
+invariant-loop-i l = find (is_met_by_entry (dependency l.dep)) (take l.i l.provides) ≡ None

@@ -1,0 +1,9 @@
+use Rattle.std.proofs.Common.{◌≡◌, Bool, true, false, take, map, List}
+use Rattle.std.specs.Prelude.{None, not, ◌&&◌}
+use Rattle.std.specs.List.{find, list_all, list_any}
+use Rattle.dep_core.specs.Dependency.{Dependency}
+use Rattle.dep_core.specs.Meets.{dependency}
+use Rattle.pool_core.proofs.candidate.are_positive.Given as goal
+
+abbrev pub invariant-loop-i : goal.invariant-loop-i
+invariant-loop-i l = list_all (λ (d : Dependency). not d.conflict) (take l.i l.deps) ≡ true
