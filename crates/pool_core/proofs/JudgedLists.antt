@@ -3,6 +3,7 @@
 use Rattle.std.proofs.Common.{◌≡◌, inl, inr, ℕ, zero, suc, ◌+◌, ◌-◌, ◌<◌, Bool, true, false, List, [], ◌∷◌, ◌++◌, length, length-append, append-nil, refl, ap, sym, subst, ◌∙◌, arith, Option, Some, None}
 use Rattle.std.proofs.lemmas.Bool.Decides.{eqb_tells}
 use Rattle.std.specs.List.{cons_option}
+use Rattle.std.specs.Option.{option_map}
 use Rattle.std.specs.Prelude.{is_some, option_to_list, slice_get, ◌&&◌, if◌then◌else◌}
 use Rattle.adb_view.specs.Plain.{Plain, Plains, none, more}
 use Rattle.adb_rules.specs.SoundValues.{IsSoundDependency}
@@ -107,6 +108,10 @@ sound_at (more v vs) zero s h = at_front (dependency_in v) (dependencies_of vs) 
 sound_at (more v vs) (suc i) s h =
     past_front (dependency_in v) (dependencies_of vs) i (some_of v (s 0 (omega (arith, h))))
     ∙ sound_at vs i (λ j g. s (suc j) (omega (arith, g))) (omega (arith, h))
+
+pub some_mapped : {X Y : Type 0} (f : X → Y) (o : Option X) → is_some o ≡ true → is_some (option_map f o) ≡ true
+some_mapped f None h = absurd (cc)
+some_mapped f (Some x) h = refl
 
 -- one more entry that was read as a dependency
 pub one_more_sound : (list : Plain) (n : ℕ) (value : Plain) → value ≡ entry_in list ((n + 1) - 1) → is_some (dependency_in value) ≡ true → ((k : ℕ) → k < n → IsSoundDependency (entry_in list k)) → (k : ℕ) → k < n + 1 → IsSoundDependency (entry_in list k)

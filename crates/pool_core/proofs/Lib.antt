@@ -19,3 +19,4 @@ pub mod CandidateLists
 pub mod MarksThroughTable
 pub mod SearchedWords
 pub mod ReadWords
+pub mod PackageLists

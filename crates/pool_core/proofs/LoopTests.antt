@@ -1,6 +1,6 @@
 -- Tests of a list, an element at a time.
-use Rattle.std.proofs.Common.{◌≡◌, inl, inr, ℕ, zero, suc, ◌+◌, Bool, true, false, List, [], ◌∷◌, ◌++◌, take, map, refl, sym, ap, ◌∙◌}
-use Rattle.std.specs.Prelude.{Option, Some, None, slice_get, ◌||◌, ◌&&◌}
+use Rattle.std.proofs.Common.{◌≡◌, inl, inr, ℕ, zero, suc, ◌+◌, ◌<◌, Bool, true, false, List, [], ◌∷◌, ◌++◌, length, take, arith, map, refl, sym, ap, ◌∙◌}
+use Rattle.std.specs.Prelude.{Some, None, slice_get, ◌||◌, ◌&&◌}
 use Rattle.std.specs.List.{find, list_all, list_any}
 use Rattle.std.proofs.lemmas.List.{map-append}
 use Rattle.pool_core.proofs.OptionLists.{bool_cases}
@@ -68,3 +68,13 @@ module _ {X : Type 0} (p : X → Bool) where
 pub map_next : {X Y : Type 0} (f : X → Y) (xs : List X) (i : ℕ) (x : X) (before after : List Y) → slice_get xs i ≡ Some x → before ≡ map f (take i xs) → after ≡ before ++ f x ∷ [] → after ≡ map f (take (i + 1) xs)
 map_next {X} {Y} f xs i x before after h was is =
     is ∙ (ap (λ (ys : List Y). ys ++ f x ∷ []) was ∙ (sym (map-append f (take i xs) (x ∷ [])) ∙ ap (map f) (sym (take_one_more xs i x h))))
+
+pub unmarked_next : {X : Type 0} (xs : List X) (i : ℕ) (before after : List Bool) → i < length xs → before ≡ map (λ (x : X). false) (take i xs) → after ≡ before ++ false ∷ [] → after ≡ map (λ (x : X). false) (take (i + 1) xs)
+unmarked_next {X} xs i before after h was is =
+    let z : i + 1 ≡ suc i = omega arith in
+    is ∙ (ap (λ (ms : List Bool). ms ++ false ∷ []) was ∙ (front xs i h ∙ ap (λ (n : ℕ). map (λ (x : X). false) (take n xs)) (sym z)))
+  where
+    front : (ys : List X) (n : ℕ) → n < length ys → map (λ (x : X). false) (take n ys) ++ false ∷ [] ≡ map (λ (x : X). false) (take (suc n) ys)
+    front [] n g = absurd (omega (arith, g))
+    front (y ∷ ys) zero g = refl
+    front (y ∷ ys) (suc n) g = ap (λ (ms : List Bool). false ∷ ms) (front ys n (omega (arith, g)))

@@ -69,6 +69,8 @@ impl<'a> Deps<'a> {
         requires { place < length self.now }
         ensures { slice_get self.now place ≡ Some (dependency result) }
     {
+        // An array has less than 2^32 entries.
+        let _count = self.list.len();
         if self.are_sound {
             read_sound(&self.list.get(place + 1))
         } else {

@@ -25,6 +25,7 @@ use crate::packages::{Packages, Source};
 use crate::sealed::{Sealed, seal_list};
 use crate::table::Table;
 use adb_fields::objects_field;
+use adb_rules::entries_keep_the_rule_of_their_list;
 use adb_schema::{IndexView, PkgInfo};
 use adb_tables::{Which, entry_word};
 use adb_view::{Arr, Val};
@@ -84,7 +85,7 @@ impl<'a> CandidateList<'a> {
     ) -> Result<(), PoolFault>
         requires list { IsCandidateList self.old }
         requires source { slice_get self.old.packages.sources.items source_place ≡ Some source.now }
-        requires package { IsPackageOf source.now word }
+        requires word { IsPackageOf source.now word }
         ensures list { OnOk result (IsCandidateList self.new) }
         ensures sources { OnOk result (self.new.packages.sources ≡ self.old.packages.sources) }
         ensures pushed { OnOk result (candidates_of_packages self.new.packages
@@ -121,13 +122,13 @@ impl<'a> CandidateList<'a> {
             (array_entries packages)) i) }
         ensures list { OnOk result (IsCandidateList self.new) }
         ensures pushed { OnOk result (candidates_of_packages self.new.packages
-            ≡ candidates_of_packages self.old.packages ++ candidates_of_source source
-            (entries_in (array_at (payload_of source.adb) (Kinds.Obj Tables.PkgInfo)
-            (array_entries packages)))) }
+            ≡ candidates_of_packages self.old.packages ++ candidates_of_source source.entry
+            (entries_in (array_at (payload_of source.entry.adb) (Kinds.Obj Tables.PkgInfo)
+            (array_entries packages.entry)))) }
         ensures fault { IfErr result (λ fault. IsPoolFault fault
             (length (candidates_of_packages self.old.packages) + count_of (entries_in
-            (array_at (payload_of source.adb) (Kinds.Obj Tables.PkgInfo)
-            (array_entries packages))))) }
+            (array_at (payload_of source.entry.adb) (Kinds.Obj Tables.PkgInfo)
+            (array_entries packages.entry))))) }
     {
         let source_place = self.packages.add_source(source)?;
         for i in 0..packages.len() {
@@ -302,6 +303,7 @@ impl<'a> Pool<'a> {
         let mut list = self.take_list();
         let packages = objects_field(index.adb(), Which::Index, index.word(), 1, Which::PkgInfo);
         index.values_keep_their_rules();
+        entries_keep_the_rule_of_their_list();
         let source = Source {
             adb: index.adb(),
             repo: Some(repo),

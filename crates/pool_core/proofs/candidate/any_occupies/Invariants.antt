@@ -1,9 +1,6 @@
-use Rattle.std.proofs.Common.{◌≡◌, Bool, true, false, take, map, List}
-use Rattle.std.specs.Prelude.{None, not, ◌&&◌}
-use Rattle.std.specs.List.{find, list_all, list_any}
-use Rattle.dep_core.specs.Dependency.{Dependency}
-use Rattle.dep_core.specs.Meets.{dependency}
-use Rattle.pool_core.specs.Candidates.{entry_occupies, is_met_by_entry, meets_dependency}
+use Rattle.std.proofs.Common.{◌≡◌, false, take}
+use Rattle.std.specs.List.{list_any}
+use Rattle.pool_core.specs.Candidates.{entry_occupies}
 use Rattle.pool_core.proofs.candidate.any_occupies.Given as goal
 
 abbrev pub invariant-loop-i : goal.invariant-loop-i

@@ -1,8 +1,7 @@
-use Rattle.std.proofs.Common.{◌≡◌, Bool, true, false, take, map, List}
-use Rattle.std.specs.Prelude.{None, not, ◌&&◌}
-use Rattle.std.specs.List.{find, list_all, list_any}
+use Rattle.std.proofs.Common.{◌≡◌, true, take}
+use Rattle.std.specs.Prelude.{not}
+use Rattle.std.specs.List.{list_all}
 use Rattle.dep_core.specs.Dependency.{Dependency}
-use Rattle.dep_core.specs.Meets.{dependency}
 use Rattle.pool_core.proofs.candidate.are_positive.Given as goal
 
 abbrev pub invariant-loop-i : goal.invariant-loop-i

@@ -1,9 +1,8 @@
-use Rattle.std.proofs.Common.{◌≡◌, Bool, true, false, take, map, List}
-use Rattle.std.specs.Prelude.{None, not, ◌&&◌}
-use Rattle.std.specs.List.{find, list_all, list_any}
-use Rattle.dep_core.specs.Dependency.{Dependency}
+use Rattle.std.proofs.Common.{◌≡◌, take}
+use Rattle.std.specs.Prelude.{None}
+use Rattle.std.specs.List.{find}
 use Rattle.dep_core.specs.Meets.{dependency}
-use Rattle.pool_core.specs.Candidates.{entry_occupies, is_met_by_entry, meets_dependency}
+use Rattle.pool_core.specs.Candidates.{is_met_by_entry}
 use Rattle.pool_core.proofs.candidate.first_meeting.Given as goal
 
 abbrev pub invariant-loop-i : goal.invariant-loop-i

@@ -21,15 +21,15 @@ loop-i-preserved c =
     let values : Plains = entries_in (list_value c.args.list.now) in
     elim c.match-read_if_sound.branch [
       | in-Some+else-passed-place w ↦ record {
-          passed = w.passed-is ∙ one_passed c.loop-i.i values (dependency_value c.get.result) (dependency w.in-Some.dep) c.loop-i.passed (omega arith) c.get.ensures w.in-Some.ensures c.loop-i.invariant.passed;
-          few = omega (arith, w.passed-is, c.loop-i.invariant.few);
-          before = omega (arith, w.passed-is, c.loop-i.invariant.before, w.if-passed-place.false);
-        }
+        passed = w.passed-is ∙ one_passed c.loop-i.i values (dependency_value c.get.result) (dependency w.in-Some.dep) c.loop-i.passed (omega arith) c.get.ensures w.in-Some.ensures c.loop-i.invariant.passed;
+        few = omega (arith, w.passed-is, c.loop-i.invariant.few);
+        before = omega (arith, w.passed-is, c.loop-i.invariant.before, w.if-passed-place.false);
+      }
       | in_default w ↦ record {
-          passed = w.passed-is ∙ none_passed c.loop-i.i values (dependency_value c.get.result) c.loop-i.passed (omega arith) c.get.ensures w.in_default.ensures c.loop-i.invariant.passed;
-          few = omega (arith, w.passed-is, c.loop-i.invariant.few);
-          before = omega (arith, w.passed-is, c.loop-i.invariant.before);
-        }
+        passed = w.passed-is ∙ none_passed c.loop-i.i values (dependency_value c.get.result) c.loop-i.passed (omega arith) c.get.ensures w.in_default.ensures c.loop-i.invariant.passed;
+        few = omega (arith, w.passed-is, c.loop-i.invariant.few);
+        before = omega (arith, w.passed-is, c.loop-i.invariant.before);
+      }
     ]
 
 pub unreachable-requires : goal.unreachable-requires

@@ -1,10 +1,5 @@
-use Rattle.std.proofs.Common.{◌≡◌, Bool, true, false, take, map, List}
-use Rattle.std.specs.Prelude.{None, not, ◌&&◌}
-use Rattle.std.specs.List.{find, list_all, list_any}
-use Rattle.dep_core.specs.Dependency.{Dependency}
-use Rattle.dep_core.specs.Meets.{dependency}
+use Rattle.std.proofs.Common.{◌≡◌, take, map}
 use Rattle.pool_core.specs.Packages.{candidates_of_packages}
-use Rattle.pool_core.specs.Candidates.{Candidate, is_allowed}
 use Rattle.pool_core.specs.Rank.{is_kept_installed, listed_names}
 use Rattle.pool_core.proofs.keeping.marks_with_sorted.Given as goal
 

@@ -1,8 +1,7 @@
-use Rattle.std.proofs.Common.{◌≡◌, Bool, true, false, take, map, List, ℕ}
-use Rattle.std.specs.Prelude.{None, not, ◌&&◌}
-use Rattle.std.specs.List.{find, list_all, list_any}
+use Rattle.std.proofs.Common.{◌≡◌, take, List, ℕ}
+use Rattle.std.specs.Prelude.{not, ◌&&◌}
+use Rattle.std.specs.List.{list_any}
 use Rattle.dep_core.specs.Dependency.{Dependency}
-use Rattle.dep_core.specs.Meets.{dependency}
 use Rattle.std.specs.Str.{bytes_eq}
 use Rattle.pool_core.specs.Table.{ids_of, with_last_where}
 use Rattle.pool_core.proofs.table.Table.add_provided.Given as goal
