@@ -2,11 +2,10 @@
 use Rattle.std.proofs.Common.{◌≡◌, ℕ, zero, suc, ◌≤◌, ◌<◌, Bool, true, false, eqb, List, [], ◌∷◌, length, get_or, Option, Some, None, option_map, Result, Ok, Err, refl, sym, ap, subst, ◌∙◌, arith, inl, inr, ◌⊎◌}
 use Rattle.std.specs.Prelude.{is_some, slice_get}
 use Rattle.std.proofs.lemmas.Bool.{eqb-true}
-use Rattle.std.proofs.lemmas.List.{get_or_past}
 use Rattle.adb_view.specs.Plain.{Plain, null, int, Plains, none, more, without_last_nulls, Shape, number, text, hash, array, object, blob_value, obj_of, obj_value, arr_value, unless_null, from_answer, then_more, each_plain, plain_of, plains_of}
 use Rattle.adb_view.specs.Readers.{int_of, blob_of, run_of, ARRAY, OBJECT}
 use Rattle.adb_tables.specs.Schema.{table, shape_of, shapes_of, schema_number}
-use Rattle.adb_fields.specs.Fields.{IsFieldOf, are_all_sound, values_at, array_at}
+use Rattle.adb_fields.specs.Fields.{AreFieldsOf, IsFieldOf, are_all_sound, values_at, array_at}
 use Rattle.adb_tables.specs.Values.{is_sound, value_at, kind_at, nth, count_of, entries_in, entry_in, int_in, text_in}
 use Rattle.adb_tables.proofs.ValueEntries.{entries_arr, nth_trimmed, text_blob}
 use Rattle.adb_tables.specs.Shapes.{object_shape, objects_shape, texts_shape, int_shape, text_shape, hash_shape}
@@ -184,6 +183,9 @@ field_read p which w ws i k h run e =
     let r = field_is p which w ws i d h run lt in
     subst (λ (x : Kind). FieldRead p which w i x (get_or ws i 0)) is (record { sound = r.0; value = r.1 })
 
+pub fields_read : (p : List ℕ) (which : Which) (w : ℕ) (ws : List ℕ) → is_sound p (Obj which) w ≡ true → run_of OBJECT p w ≡ Ok ws → AreFieldsOf p which w ws
+fields_read p which w ws h run i k e = let r = field_read p which w ws i k h run e in (r.sound, r.value)
+
 -- a sound object has a run
 pub object_runs : (p : List ℕ) (which : Which) (w : ℕ) (c : Cause) → is_sound p (Obj which) w ≡ true → run_of OBJECT p w ≡ Err c → ⊥
 object_runs p which w c h e = let (ws, r) = object_read_of p which w h in let run = r.run in cc
@@ -196,19 +198,6 @@ int_reads p w c h e = let r = int_read_of p w h in cc
 
 pub hash_reads : (p : List ℕ) (w : ℕ) (c : Cause) → is_sound p Hash w ≡ true → blob_of p w ≡ Err c → ⊥
 hash_reads p w c h e = let r = hash_read_of p w h in cc
-
--- so its word stands for the field, also past the last
-field_word_is : (p : List ℕ) (which : Which) (w : ℕ) (ws : List ℕ) (i word : ℕ) → is_sound p (Obj which) w ≡ true → run_of OBJECT p w ≡ Ok ws → get_or ws i 0 ≡ word → IsFieldOf p which w i word
-field_word_is p which w ws i word h run is = λ k e.
-    let r = field_read p which w ws i k h run e in
-    let moved : FieldRead p which w i k word = subst (λ (x : ℕ). FieldRead p which w i k x) is r in
-    (moved.sound, moved.value)
-
-pub field_within : (p : List ℕ) (which : Which) (w : ℕ) (ws : List ℕ) (i word : ℕ) → is_sound p (Obj which) w ≡ true → run_of OBJECT p w ≡ Ok ws → word ≡ get_or ws i 0 → IsFieldOf p which w i word
-field_within p which w ws i word h run is = field_word_is p which w ws i word h run (sym is)
-
-pub field_past : (p : List ℕ) (which : Which) (w : ℕ) (ws : List ℕ) (i : ℕ) → is_sound p (Obj which) w ≡ true → run_of OBJECT p w ≡ Ok ws → length ws ≤ i → IsFieldOf p which w i 0
-field_past p which w ws i h run past = field_word_is p which w ws i 0 h run (get_or_past ws i 0 past)
 
 -- ---- arrays
 

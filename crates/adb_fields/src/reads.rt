@@ -1,35 +1,48 @@
 //! Reads of sound words, and of the fields of sound objects: they cannot fail. Fields count from 0,
 //! and a field that is missing is Null.
 
-ghost use Rattle.std.specs.Prelude.{◌≡◌, ◌<◌, true, Some, length, slice_index};
+ghost use Rattle.std.specs.Prelude.{◌≡◌, ◌<◌, true, Some, length, slice_index, slice_index_or};
 ghost use Rattle.adb_view.specs.Adb.{payload_of};
 ghost use Rattle.adb_view.specs.Entries.{array_entries};
 ghost use Rattle.adb_view.specs.Readers.{run_of, OBJECT};
 ghost use Rattle.adb_view.specs.Gives.{Gives};
 ghost use Rattle.adb_tables.specs.Values.{is_sound, value_at, int_in, text_in, kind_at, entry_in};
-ghost use Rattle.adb_fields.specs.Fields.{IsFieldOf, are_all_sound, array_at};
+ghost use Rattle.adb_fields.specs.Fields.{AreFieldsOf, IsFieldOf, are_all_sound, array_at};
 ghost use Rattle.adb_tables.specs.declared.tables.Kind.TheVariants as Kinds;
 
 use adb_tables::{Which, entry_word, object_entries};
 use adb_view::{Adb, Arr, Val};
 
+/// The words of a sound object's fields, those past its table's too.
+#[tactic(auto, using(crate::proofs::FieldReads::object_runs))]
+pub fn object_words<'a>(adb: Adb<'a>, which: Which, object: Val) -> Arr<'a>
+    requires { is_sound (payload_of adb) (Kinds.Obj which) object ≡ true }
+    ensures { AreFieldsOf (payload_of adb.entry) which object (array_entries result) }
+{
+    match object_entries(adb, object) {
+        Ok(entries) => entries,
+        Err(_) => unreachable!(),
+    }
+}
+
+/// The word with this index, counted from 0; NULL past the last.
+pub fn word_or_null(words: Arr<'_>, i: usize) -> Val
+    ensures { result ≡ slice_index_or (array_entries words.entry) i 0 }
+{
+    if i < words.len() {
+        entry_word(words, i)
+    } else {
+        Val::of(0)
+    }
+}
+
 /// The field of a sound object, counted from 0; NULL where the object ends before it. Of a place
 /// behind the table's last field nothing is said.
-#[tactic(auto, using(crate::proofs::FieldReads::object_runs))]
 pub fn field_word(adb: Adb<'_>, which: Which, object: Val, i: usize) -> Val
     requires { is_sound (payload_of adb) (Kinds.Obj which) object ≡ true }
     ensures { IsFieldOf (payload_of adb.entry) which object i result }
 {
-    match object_entries(adb, object) {
-        Ok(entries) => {
-            if i < entries.len() {
-                entry_word(entries, i)
-            } else {
-                Val::of(0)
-            }
-        }
-        Err(_) => unreachable!(),
-    }
+    word_or_null(object_words(adb, which, object), i)
 }
 
 /// The integer that a sound word means.
