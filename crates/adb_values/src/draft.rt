@@ -1,11 +1,13 @@
 //! A payload under construction.
 
-ghost use Rattle.std.specs.Prelude.{◌≡◌, ◌<◌, ◌≤◌, ◌∷◌, ◌++◌, [], length, take, IfOk, OnErr, OnOk, vec_capacity, vec_len};
+ghost use Rattle.std.specs.Prelude.{◌≡◌, ℕ, ◌<◌, ◌≤◌, List, ◌∷◌, ◌++◌, [], length, take, true, false, IfOk, OnErr, OnOk, vec_capacity, vec_len};
 ghost use Rattle.adb_view.specs.Plain.{Plain, Plains, arr_value, blob_value, int, null, obj_value};
 ghost use Rattle.adb_values.specs.Drafts.{empty_draft, draft_with_open_list, draft_with, draft_with_all, DraftState};
 ghost use Rattle.adb_values.specs.LastList.{last_start, last_word};
+ghost use Rattle.adb_values.specs.Words.{HasBlob, KeepsWords};
 ghost use Rattle.adb_values.specs.Written.{IsWrittenAs};
 ghost use Rattle.adb_write.specs.Canonical.{written_of, MOST_BYTES};
+ghost use Rattle.adb_write.specs.Writing.{is_over};
 
 use adb_view::Val;
 use adb_write::{WriteFault, Writer};
@@ -21,14 +23,18 @@ pub struct Draft {
     words: Vec<Val>,
     /// How many of them stand before each open list.
     starts: Vec<usize>,
+    alloc: Global,
 }
 
 impl Model for Draft {
     ghost use Rattle.adb_values.specs.Drafts.{draft_by, DraftState};
+    ghost use Rattle.adb_write.specs.Again.{HasWholeItems};
 
     ghost Value = { DraftState };
 
     ghost view = { λ d. draft_by d.writer d.words.items d.starts.items };
+
+    ghost invariant = { λ d. HasWholeItems d.writer };
 }
 
 impl Draft {
@@ -40,13 +46,20 @@ impl Draft {
             writer: Writer::new(alloc),
             words: Vec::new(alloc),
             starts: Vec::new(alloc),
+            alloc,
         }
+    }
+
+    /// Whence it takes its memory.
+    pub fn alloc(&self) -> Global {
+        self.alloc
     }
 
     /// Adds Null.
     pub fn null(&mut self) -> Result<(), AllocError>
         ensures ok { OnOk result (self.new ≡ draft_with null self.old) }
         ensures err { OnErr result (self.new ≡ self.old) }
+        ensures words { KeepsWords self.old self.new }
     {
         self.words.push(Val::of(0))?;
         Ok(())
@@ -56,6 +69,7 @@ impl Draft {
     pub fn int(&mut self, n: u64) -> Result<(), AllocError>
         ensures ok { OnOk result (self.new ≡ draft_with (int n) self.old) }
         ensures err { OnErr result (self.new ≡ self.old) }
+        ensures words { KeepsWords self.old self.new }
     {
         self.words.reserve(1)?;
         let word = self.writer.int(n)?;
@@ -67,9 +81,34 @@ impl Draft {
     pub fn blob(&mut self, bytes: &[u8]) -> Result<(), AllocError>
         ensures ok { OnOk result (self.new ≡ draft_with (blob_value bytes.now) self.old) }
         ensures err { OnErr result (self.new ≡ self.old) }
+        ensures words { KeepsWords self.old self.new }
+    {
+        self.blob_word(bytes)?;
+        Ok(())
+    }
+
+    /// The same, and answers the blob's word, by which it is added again.
+    pub fn blob_word(&mut self, bytes: &[u8]) -> Result<Val, AllocError>
+        ensures ok { OnOk result (self.new ≡ draft_with (blob_value bytes.now) self.old) }
+        ensures err { OnErr result (self.new ≡ self.old) }
+        ensures word { IfOk result (λ word. HasBlob self.new bytes.now word) }
+        ensures words { KeepsWords self.old self.new }
     {
         self.words.reserve(1)?;
         let word = self.writer.blob(bytes)?;
+        self.words.push(word)?;
+        Ok(word)
+    }
+
+    /// Adds a blob again by its word, without a look at its bytes.
+    pub fn blob_again(&mut self, word: Val) -> Result<(), AllocError>
+        ensures ok { OnOk result ((bytes : List ℕ) → HasBlob self.old bytes word
+            → self.new ≡ draft_with (blob_value bytes) self.old) }
+        ensures err { OnErr result (self.new ≡ self.old) }
+        ensures words { KeepsWords self.old self.new }
+    {
+        self.words.reserve(1)?;
+        let word = if_within(&mut self.writer, word)?;
         self.words.push(word)?;
         Ok(())
     }
@@ -78,6 +117,7 @@ impl Draft {
     pub fn open_list(&mut self) -> Result<(), AllocError>
         ensures ok { OnOk result (self.new ≡ draft_with_open_list self.old) }
         ensures err { OnErr result (self.new ≡ self.old) }
+        ensures words { KeepsWords self.old self.new }
     {
         self.starts.push(self.words.len())?;
         Ok(())
@@ -90,6 +130,7 @@ impl Draft {
             → self.old ≡ draft_with_all vs (draft_with_open_list before)
             → self.new ≡ draft_with (arr_value vs) before) }
         ensures err { OnErr result (self.new ≡ self.old) }
+        ensures words { KeepsWords self.old self.new }
     {
         self.words.reserve(1)?;
         let start = self.last_start();
@@ -107,6 +148,7 @@ impl Draft {
             → self.old ≡ draft_with_all vs (draft_with_open_list before)
             → self.new ≡ draft_with (obj_value vs) before) }
         ensures err { OnErr result (self.new ≡ self.old) }
+        ensures words { KeepsWords self.old self.new }
     {
         self.words.reserve(1)?;
         let start = self.last_start();
@@ -140,6 +182,18 @@ impl Draft {
         let writer = self.writer;
         writer.finish(root)
     }
+}
+
+/// The word, or NULL where the writer passed a limit: an integer that its word holds whole tells it.
+fn if_within(writer: &mut Writer, word: Val) -> Result<Val, AllocError>
+    ensures same { writer.new ≡ writer.old }
+    ensures within { is_over writer.old ≡ false → IfOk result (λ it. it ≡ word.entry) }
+    ensures over { is_over writer.old ≡ true → IfOk result (λ it. it ≡ 0) }
+{
+    if writer.int(0)?.is_null() {
+        return Ok(Val::of(0));
+    }
+    Ok(word)
 }
 
 /// Puts a word in the place of those from `start` on.
