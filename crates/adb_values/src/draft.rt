@@ -4,7 +4,7 @@ ghost use Rattle.std.specs.Prelude.{◌≡◌, ℕ, ◌<◌, ◌≤◌, List, �
 ghost use Rattle.adb_view.specs.Plain.{Plain, Plains, arr_value, blob_value, int, null, obj_value};
 ghost use Rattle.adb_values.specs.Drafts.{empty_draft, draft_with_open_list, draft_with, draft_with_all, DraftState};
 ghost use Rattle.adb_values.specs.LastList.{last_start, last_word};
-ghost use Rattle.adb_values.specs.Words.{HasBlob, KeepsWords};
+ghost use Rattle.adb_values.specs.Words.{HasBlob};
 ghost use Rattle.adb_values.specs.Written.{IsWrittenAs};
 ghost use Rattle.adb_write.specs.Canonical.{written_of, MOST_BYTES};
 ghost use Rattle.adb_write.specs.Writing.{is_over};
@@ -59,7 +59,6 @@ impl Draft {
     pub fn null(&mut self) -> Result<(), AllocError>
         ensures ok { OnOk result (self.new ≡ draft_with null self.old) }
         ensures err { OnErr result (self.new ≡ self.old) }
-        ensures words { KeepsWords self.old self.new }
     {
         self.words.push(Val::of(0))?;
         Ok(())
@@ -69,7 +68,6 @@ impl Draft {
     pub fn int(&mut self, n: u64) -> Result<(), AllocError>
         ensures ok { OnOk result (self.new ≡ draft_with (int n) self.old) }
         ensures err { OnErr result (self.new ≡ self.old) }
-        ensures words { KeepsWords self.old self.new }
     {
         self.words.reserve(1)?;
         let word = self.writer.int(n)?;
@@ -81,7 +79,6 @@ impl Draft {
     pub fn blob(&mut self, bytes: &[u8]) -> Result<(), AllocError>
         ensures ok { OnOk result (self.new ≡ draft_with (blob_value bytes.now) self.old) }
         ensures err { OnErr result (self.new ≡ self.old) }
-        ensures words { KeepsWords self.old self.new }
     {
         self.blob_word(bytes)?;
         Ok(())
@@ -92,7 +89,6 @@ impl Draft {
         ensures ok { OnOk result (self.new ≡ draft_with (blob_value bytes.now) self.old) }
         ensures err { OnErr result (self.new ≡ self.old) }
         ensures word { IfOk result (λ word. HasBlob self.new bytes.now word) }
-        ensures words { KeepsWords self.old self.new }
     {
         self.words.reserve(1)?;
         let word = self.writer.blob(bytes)?;
@@ -105,10 +101,8 @@ impl Draft {
         ensures ok { OnOk result ((bytes : List ℕ) → HasBlob self.old bytes word
             → self.new ≡ draft_with (blob_value bytes) self.old) }
         ensures err { OnErr result (self.new ≡ self.old) }
-        ensures words { KeepsWords self.old self.new }
     {
-        self.words.reserve(1)?;
-        let word = if_within(&mut self.writer, word)?;
+        let word = word_unless_over(&self.writer, word);
         self.words.push(word)?;
         Ok(())
     }
@@ -117,7 +111,6 @@ impl Draft {
     pub fn open_list(&mut self) -> Result<(), AllocError>
         ensures ok { OnOk result (self.new ≡ draft_with_open_list self.old) }
         ensures err { OnErr result (self.new ≡ self.old) }
-        ensures words { KeepsWords self.old self.new }
     {
         self.starts.push(self.words.len())?;
         Ok(())
@@ -130,7 +123,6 @@ impl Draft {
             → self.old ≡ draft_with_all vs (draft_with_open_list before)
             → self.new ≡ draft_with (arr_value vs) before) }
         ensures err { OnErr result (self.new ≡ self.old) }
-        ensures words { KeepsWords self.old self.new }
     {
         self.words.reserve(1)?;
         let start = self.last_start();
@@ -148,7 +140,6 @@ impl Draft {
             → self.old ≡ draft_with_all vs (draft_with_open_list before)
             → self.new ≡ draft_with (obj_value vs) before) }
         ensures err { OnErr result (self.new ≡ self.old) }
-        ensures words { KeepsWords self.old self.new }
     {
         self.words.reserve(1)?;
         let start = self.last_start();
@@ -184,16 +175,15 @@ impl Draft {
     }
 }
 
-/// The word, or NULL where the writer passed a limit: an integer that its word holds whole tells it.
-fn if_within(writer: &mut Writer, word: Val) -> Result<Val, AllocError>
-    ensures same { writer.new ≡ writer.old }
-    ensures within { is_over writer.old ≡ false → IfOk result (λ it. it ≡ word.entry) }
-    ensures over { is_over writer.old ≡ true → IfOk result (λ it. it ≡ 0) }
+/// The word, or NULL where the writer passed a limit.
+fn word_unless_over(writer: &Writer, word: Val) -> Val
+    ensures within { is_over writer.now ≡ false → result ≡ word }
+    ensures over { is_over writer.now ≡ true → result ≡ 0 }
 {
-    if writer.int(0)?.is_null() {
-        return Ok(Val::of(0));
+    if writer.passes_limit() {
+        return Val::of(0);
     }
-    Ok(word)
+    word
 }
 
 /// Puts a word in the place of those from `start` on.
