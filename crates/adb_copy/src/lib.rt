@@ -8,6 +8,7 @@
 
 mod copy;
 mod entry;
+mod known_texts;
 
 pub use copy::{write_info, write_int, write_tags};
 pub use entry::{write_acl, write_file, write_scripts};
