@@ -1,7 +1,6 @@
 use Rattle.std.proofs.Common.{◌≡◌, ◌-◌, ℕ, List, length, drop, ◌∙◌, ap, arith, length-drop, sym, take_all}
 use Rattle.adb_view.specs.Adb.{payload_of}
 use Rattle.adb_view.specs.Entries.{array_entries}
-use Rattle.adb_fields.specs.Fields.{array_at}
 use Rattle.adb_tables.specs.declared.tables.Kind.TheVariants as Kinds
 use Rattle.adb_tables.specs.declared.tables.Which.TheVariants as Tables
 use Rattle.adb_fields.specs.Repeated.{list_of}

@@ -7,14 +7,14 @@ use Rattle.adb_tables.specs.declared.tables.Which.TheVariants as Tables
 use Rattle.adb_view.specs.Plain.{Plain, Plains, arr_value}
 use Rattle.adb_fields.specs.Repeated.{list_of}
 use Rattle.adb_fields.proofs.FieldReads.{entry_count}
-use Rattle.adb_tables.specs.Values.{count_of, entries_in, value_at}
+use Rattle.adb_tables.specs.Values.{count_of, entries_in}
 use Rattle.adb_values.specs.Drafts.{DraftState, draft_with, draft_with_all, draft_with_open_list}
 use Rattle.adb_values.proofs.Lists.{closed, on_ok}
 use Rattle.adb_copy.specs.Known.{AreBlobsOf}
 use Rattle.adb_copy.specs.Zeros.{without_zeros}
 use Rattle.adb_copy.specs.declared.known_texts.KnownTexts.{KnownTexts}
 use Rattle.adb_copy.proofs.Known.{known_closed_array, known_opened}
-use Rattle.adb_copy.proofs.ReadWords.{word_sound, word_value, word_within}
+use Rattle.adb_copy.proofs.ReadWords.{word_sound, word_value}
 use Rattle.db_write.specs.NewDatabase.{owned_entries}
 use Rattle.db_write.proofs.Marking.{all_owned, left_out, put_in}
 use Rattle.db_write.proofs.folders.write_files.Goals.{then-is_set+in_ok-write_file, else-is_set}
@@ -48,12 +48,12 @@ loop-i-preserved c =
             put_in vs c.args.flags.now c.loop-i.i c.is_set.result _ _ _ here c.is_set.ensures w.if-is_set.true c.loop-i.invariant.left
             (w.draft-is ∙ w.in_ok-write_file.ensures.file ∙ ap (λ (v : Plain). draft_with (without_zeros v) c.loop-i.draft) (word_value p (Kinds.Obj Tables.File) ws c.loop-i.i w.entry_word.result c.requires.sound within w.entry_word.ensures));
         known =
-            subst (λ (d : DraftState). AreBlobsOf p d _) (sym w.draft-is)
+            subst (λ (d : DraftState). AreBlobsOf p d c.if-is_set.known) (sym w.draft-is)
             (subst (λ (t : KnownTexts). AreBlobsOf p w.write_file.new.draft t) (sym w.known-is) w.in_ok-write_file.ensures.known);
       }
       | else-is_set w ↦ record {
         left = left_out vs c.args.flags.now c.loop-i.i c.is_set.result _ _ _ here c.is_set.ensures w.if-is_set.false c.loop-i.invariant.left w.draft-is;
-        known = subst (λ (d : DraftState). AreBlobsOf p d _) (sym w.draft-is) (subst (λ (t : KnownTexts). AreBlobsOf p c.loop-i.draft t) (sym w.known-is) c.loop-i.invariant.known);
+        known = subst (λ (d : DraftState). AreBlobsOf p d c.if-is_set.known) (sym w.draft-is) (subst (λ (t : KnownTexts). AreBlobsOf p c.loop-i.draft t) (sym w.known-is) c.loop-i.invariant.known);
       }
     ]
 
