@@ -27,7 +27,7 @@ pub struct KnownTexts {
 }
 
 impl KnownTexts {
-    ghost use Rattle.adb_copy.specs.KnownTexts.{AreBlobsOf};
+    ghost use Rattle.adb_copy.specs.Known.{AreBlobsOf};
 
     /// None is known.
     pub fn new(alloc: Global) -> KnownTexts

@@ -23,7 +23,6 @@ pub struct Draft {
     words: Vec<Val>,
     /// How many of them stand before each open list.
     starts: Vec<usize>,
-    alloc: Global,
 }
 
 impl Model for Draft {
@@ -46,13 +45,7 @@ impl Draft {
             writer: Writer::new(alloc),
             words: Vec::new(alloc),
             starts: Vec::new(alloc),
-            alloc,
         }
-    }
-
-    /// Whence it takes its memory.
-    pub fn alloc(&self) -> Global {
-        self.alloc
     }
 
     /// Adds Null.

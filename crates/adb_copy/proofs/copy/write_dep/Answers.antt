@@ -8,7 +8,7 @@ use Rattle.adb_values.specs.Drafts.{draft_with_all, draft_with_open_list}
 use Rattle.adb_values.proofs.Lists.{closed_as, on_ok}
 use Rattle.adb_copy.specs.Zeros.{int_value, without_zeros}
 use Rattle.adb_copy.proofs.Fields.{dep_written}
-use Rattle.adb_copy.proofs.KnownTexts.{known_closed_object, known_more, known_opened}
+use Rattle.adb_copy.proofs.Known.{known_closed_object, known_more, known_opened}
 use Rattle.adb_copy.proofs.Shapes.{value_shape}
 use Rattle.adb_copy.proofs.copy.write_dep.Goals as goal
 

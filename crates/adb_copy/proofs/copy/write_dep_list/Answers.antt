@@ -10,7 +10,7 @@ use Rattle.adb_fields.specs.Fields.{array_at}
 use Rattle.adb_fields.proofs.FieldReads.{entry_count}
 use Rattle.adb_values.proofs.Lists.{closed_as}
 use Rattle.adb_copy.specs.Zeros.{all_without_zeros, without_zeros}
-use Rattle.adb_copy.proofs.KnownTexts.{known_opened}
+use Rattle.adb_copy.proofs.Known.{known_opened}
 use Rattle.adb_copy.proofs.Lists.{zeros_given, zeros_left}
 use Rattle.adb_copy.proofs.ReadWords.{word_sound, word_value, word_within}
 use Rattle.adb_copy.proofs.Shapes.{array_shape}

@@ -6,7 +6,7 @@ use Rattle.adb_tables.specs.Values.{entries_in}
 use Rattle.adb_tables.specs.declared.tables.Kind.TheVariants as Kinds
 use Rattle.adb_tables.specs.declared.tables.Which.TheVariants as Tables
 use Rattle.adb_values.specs.Drafts.{draft_with_all}
-use Rattle.adb_copy.specs.KnownTexts.{AreBlobsOf}
+use Rattle.adb_copy.specs.Known.{AreBlobsOf}
 use Rattle.adb_copy.specs.Zeros.{all_without_zeros}
 use Rattle.adb_copy.proofs.Lists.{rest}
 use Rattle.adb_copy.proofs.copy.write_dep_list.Given as goal

@@ -10,7 +10,7 @@ use Rattle.adb_fields.proofs.FieldReads.{entry_count}
 use Rattle.adb_values.specs.Drafts.{draft_with, draft_with_all, draft_with_open_list}
 use Rattle.adb_values.proofs.Lists.{closed_as, on_ok}
 use Rattle.adb_copy.specs.Zeros.{all_without_zeros, without_zeros}
-use Rattle.adb_copy.proofs.KnownTexts.{known_closed_array, known_opened}
+use Rattle.adb_copy.proofs.Known.{known_closed_array, known_opened}
 use Rattle.adb_copy.proofs.Lists.{zeros_given, zeros_left}
 use Rattle.adb_copy.proofs.ReadWords.{text_value, word_sound, word_value, word_within}
 use Rattle.adb_copy.proofs.Shapes.{array_shape}

@@ -5,7 +5,7 @@ use Rattle.adb_fields.specs.Fields.{array_at}
 use Rattle.adb_tables.specs.Values.{entries_in}
 use Rattle.adb_tables.specs.declared.tables.Kind.TheVariants as Kinds
 use Rattle.adb_values.specs.Drafts.{draft_with_all}
-use Rattle.adb_copy.specs.KnownTexts.{AreBlobsOf}
+use Rattle.adb_copy.specs.Known.{AreBlobsOf}
 use Rattle.adb_copy.specs.Zeros.{all_without_zeros}
 use Rattle.adb_copy.proofs.Lists.{rest}
 use Rattle.adb_copy.proofs.copy.write_text_list.Given as goal

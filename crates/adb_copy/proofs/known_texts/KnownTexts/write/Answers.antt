@@ -5,7 +5,7 @@ use Rattle.adb_tables.specs.Values.{text_in, value_at}
 use Rattle.adb_tables.specs.declared.tables.Kind.TheVariants as Kinds
 use Rattle.adb_values.specs.Words.{HasBlob}
 use Rattle.adb_values.proofs.Lists.{on_ok}
-use Rattle.adb_copy.proofs.KnownTexts.{known_more}
+use Rattle.adb_copy.proofs.Known.{known_more}
 use Rattle.adb_copy.proofs.known_texts.KnownTexts.write.Goals as goal
 
 pub returns-then-text-le-SHORT-clause-known : goal.returns-then-text-le-SHORT-clause-known

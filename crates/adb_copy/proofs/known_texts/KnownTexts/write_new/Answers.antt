@@ -4,7 +4,7 @@ use Rattle.adb_view.specs.Plain.{blob_value}
 use Rattle.adb_tables.specs.Values.{text_in, value_at}
 use Rattle.adb_tables.specs.declared.tables.Kind.TheVariants as Kinds
 use Rattle.adb_values.specs.Words.{HasBlob}
-use Rattle.adb_copy.proofs.KnownTexts.{known_inserted, known_more}
+use Rattle.adb_copy.proofs.Known.{known_inserted, known_more}
 use Rattle.adb_copy.proofs.known_texts.KnownTexts.write_new.Goals as goal
 
 pub returns-clause-known : goal.returns-clause-known

@@ -8,7 +8,7 @@ use Rattle.adb_tables.specs.declared.tables.Kind.TheVariants.{Text}
 use Rattle.adb_values.specs.Drafts.{DraftState, draft_with, draft_with_all, draft_with_open_list}
 use Rattle.adb_values.specs.Words.{HasBlob}
 use Rattle.adb_values.proofs.Words.{has_closed_array, has_closed_object, has_more, has_opened}
-use Rattle.adb_copy.specs.KnownTexts.{AreBlobsOf}
+use Rattle.adb_copy.specs.Known.{AreBlobsOf}
 use Rattle.adb_copy.specs.declared.known_texts.KnownTexts.{KnownTexts}
 
 module _ (payload : List ℕ) (texts : KnownTexts) (d later : DraftState) (known : AreBlobsOf payload d texts) where
