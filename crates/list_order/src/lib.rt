@@ -4,7 +4,7 @@
 //! what follows from them.
 #![tactic(auto)]
 
-ghost use Rattle.list_order.specs.ByteOrder.{bytes_cmp, smallest};
+ghost use Rattle.list_order.specs.ByteOrder.{bytes_cmp, smallest_text};
 ghost use Rattle.list_order.specs.Sorted.{sorted_by};
 ghost use Rattle.std.specs.List.Sorted.{IsPermutation, IsSorted};
 ghost use Rattle.std.specs.Prelude.{◌≡◌, ℕ, List, slice_get};
@@ -18,5 +18,5 @@ pub fn sorted_texts_are_in_order()
 
 /// The smallest of several texts is the one that comes first when they are sorted.
 pub fn the_smallest_text_is_sorted_first()
-    ensures { (texts : List (List ℕ)) → smallest texts ≡ slice_get (sorted_by bytes_cmp texts) 0 }
+    ensures { (texts : List (List ℕ)) → smallest_text texts ≡ slice_get (sorted_by bytes_cmp texts) 0 }
 {}
