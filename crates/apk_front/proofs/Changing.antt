@@ -11,8 +11,8 @@ use Rattle.base_core.specs.Tree.{TreeState, files_of}
 use Rattle.base_core.specs.declared.tree.TreeFault.{TreeFault}
 use Rattle.base_core.specs.declared.tree.TreeFault.TheVariants as Trees
 use Rattle.change_inputs.specs.Answers.{AgreesUnlessDisk}
-use Rattle.change_inputs.specs.declared.refused.Refused.{Refused}
-use Rattle.change_inputs.specs.declared.refused.Refused.TheVariants.{Disk, Memory, Refusal as IsRefused}
+use Rattle.change_inputs.specs.declared.root.Refused.{Refused}
+use Rattle.change_inputs.specs.declared.root.Refused.TheVariants.{Disk, Memory, Refusal as IsRefused}
 use Rattle.change_outcome.specs.ChangeOutcome.{ChangeDone}
 use Rattle.command_core.specs.Command.{CommandLine}
 use Rattle.command_core.specs.declared.command.Applet.{Applet}

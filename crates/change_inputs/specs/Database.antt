@@ -7,8 +7,8 @@ use Rattle.adb_view.specs.Plain.{Plain}
 use Rattle.report_core.specs.declared.refusal.Refusal.{Refusal}
 use Rattle.report_core.specs.declared.refusal.Refusal.TheVariants.{DatabaseBad, NoDatabase, ResultTooLarge}
 use Rattle.v2_core.specs.Payload.{payload_of_text}
-use Rattle.v2_core.specs.declared.fault.V2Fault.{V2Fault}
-use Rattle.v2_core.specs.declared.fault.V2Fault.TheVariants.{Bad, Memory, TooLarge}
+use Rattle.v2_core.specs.declared.read.V2Fault.{V2Fault}
+use Rattle.v2_core.specs.declared.read.V2Fault.TheVariants.{Bad, Memory, TooLarge}
 use Rattle.change_inputs.specs.Chains.{unless_cause}
 
 -- the packages, the bytes of the container that has them, where there is one, and whether a text

@@ -11,8 +11,8 @@ use Rattle.change_inputs.specs.Chains.{and_then}
 use Rattle.change_inputs.specs.Inputs.{Inputs, first_index_read, inputs_of}
 use Rattle.change_inputs.specs.Seen.{inputs_seen}
 use Rattle.change_inputs.specs.declared.loaded.Loaded.{Loaded}
-use Rattle.change_inputs.specs.declared.refused.Refused.{Refused}
-use Rattle.change_inputs.specs.declared.refused.Refused.TheVariants.{Disk, Memory, Refusal as IsRefused}
+use Rattle.change_inputs.specs.declared.root.Refused.{Refused}
+use Rattle.change_inputs.specs.declared.root.Refused.TheVariants.{Disk, Memory, Refusal as IsRefused}
 use Rattle.change_outcome.specs.ChangeOutcome.{ChangeDone, ChangeWishes, IsClashFoundOver, change_members, change_or_refusal, change_with_members}
 use Rattle.change_outcome.specs.MembersAfter.{MemberFound, members_after}
 use Rattle.command_core.specs.Command.{CommandLine}

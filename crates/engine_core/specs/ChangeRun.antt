@@ -7,8 +7,8 @@ use Rattle.base_core.specs.Tree.{TreeState, files_of}
 use Rattle.base_core.specs.declared.cause.Cause.{Cause}
 use Rattle.change_inputs.specs.Answers.{AgreesUnlessDisk}
 use Rattle.change_inputs.specs.Chains.{and_then}
-use Rattle.change_inputs.specs.declared.refused.Refused.{Refused}
-use Rattle.change_inputs.specs.declared.refused.Refused.TheVariants.{Disk, Refusal as IsRefused}
+use Rattle.change_inputs.specs.declared.root.Refused.{Refused}
+use Rattle.change_inputs.specs.declared.root.Refused.TheVariants.{Disk, Refusal as IsRefused}
 use Rattle.change_outcome.specs.ChangeOutcome.{ChangeDone}
 use Rattle.change_outcome.specs.MembersAfter.{candidates_that_come}
 use Rattle.command_core.specs.Command.{CommandLine}

@@ -1,7 +1,7 @@
 -- How it is told why there is no plan.
 use Rattle.std.specs.Prelude.{◌≡◌}
-use Rattle.change_inputs.specs.declared.refused.Refused.{Refused}
-use Rattle.change_inputs.specs.declared.refused.Refused.TheVariants as Commands
+use Rattle.change_inputs.specs.declared.root.Refused.{Refused}
+use Rattle.change_inputs.specs.declared.root.Refused.TheVariants as Commands
 use Rattle.own_core.specs.declared.fault.PlanFault.{PlanFault}
 use Rattle.own_core.specs.declared.fault.PlanFault.TheVariants as Plans
 use Rattle.report_core.specs.declared.refusal.Refusal.TheVariants.{Owned, PathClash, Reserved}

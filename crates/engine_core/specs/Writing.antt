@@ -10,10 +10,10 @@ use Rattle.db_core.specs.Members.{Member, is_coming}
 use Rattle.file_guard.specs.AsListed.{file_target, has_target}
 use Rattle.own_core.specs.ClaimEntries.{folders_if_any, listed_file_at}
 use Rattle.package_test.specs.declared.package.TestedPackage.{TestedPackage}
-use Rattle.stage_files.specs.declared.source.PackagedFile.{PackagedFile}
-use Rattle.stage_files.specs.declared.source.Source.{Source}
-use Rattle.stage_files.specs.declared.source.Source.TheVariants.{Bytes, File, Link}
-use Rattle.stage_files.specs.declared.source.StagedWrite.{StagedWrite}
+use Rattle.stage_files.specs.declared.writes.PackagedFile.{PackagedFile}
+use Rattle.stage_files.specs.declared.writes.Source.{Source}
+use Rattle.stage_files.specs.declared.writes.Source.TheVariants.{Bytes, File, Link}
+use Rattle.stage_files.specs.declared.writes.StagedWrite.{StagedWrite}
 use Rattle.engine_core.specs.declared.writes.RecordWrites.{RecordWrites}
 
 abbrev pub write_name : StagedWrite → List ℕ

@@ -9,9 +9,9 @@ use Rattle.pkg_core.specs.Contents.{bytes_of_file, contents_in}
 use Rattle.pkg_core.specs.Whole.{files_in_file}
 use Rattle.stage_files.specs.Reading.{IsReadingIn}
 use Rattle.stage_files.specs.Sources.{AreListedFor, IsFileSource, MayStandFor, StandsForBytes}
-use Rattle.stage_files.specs.declared.source.PackagedFile.{PackagedFile}
-use Rattle.stage_files.specs.declared.source.Source.{Source}
-use Rattle.stage_files.specs.declared.source.Source.TheVariants.{Bytes, File, Link}
+use Rattle.stage_files.specs.declared.writes.PackagedFile.{PackagedFile}
+use Rattle.stage_files.specs.declared.writes.Source.{Source}
+use Rattle.stage_files.specs.declared.writes.Source.TheVariants.{Bytes, File, Link}
 use Rattle.file_guard.specs.AsListed.{link_to}
 
 pub source_reading : (files : Files) (f : PackagedFile) (bytes : List ℕ) (file : FilePieces)
