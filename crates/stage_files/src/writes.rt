@@ -6,7 +6,6 @@ ghost use Rattle.base_core.specs.Faults.{GoesOn, HasCause, IsNoFault};
 ghost use Rattle.base_core.specs.Files.{Files};
 ghost use Rattle.base_core.specs.Tree.{TreeState, files_of};
 ghost use Rattle.base_core.specs.declared.cause.Cause.{Cause};
-ghost use Rattle.file_guard.specs.AsListed.{link_to};
 ghost use Rattle.journal_core.specs.Staged.{HasRoomBeside};
 ghost use Rattle.stage_files.specs.Sources.{AreListedFor, IsFileAt, IsFileSource, MayStandFor, StandsForBytes};
 ghost use Rattle.stage_files.specs.declared.writes.StageFault.TheVariants.{Bad, Disk as DiskFault};
@@ -17,7 +16,7 @@ use base_core::{Cause, Disk, Name, Tree};
 use journal_core::Stage;
 use package_test::TestedPackage;
 use piece_reader::{Piece, PieceFault};
-use stage_run::{append_piece, begin_file, end_file, stage_bytes};
+use stage_run::{stage_bytes, stage_pieces};
 
 /// What stands in front of a link's text.
 const LINK_MARK: &[u8] = b"!<symlink>";
@@ -30,32 +29,6 @@ fn link_text(target: &[u8]) -> &[u8]
         return &[];
     }
     &target[2..]
-}
-
-/// Stages the bytes that stand for a link.
-fn stage_link<T: Tree>(stage: &mut Stage, tree: &mut T, target: &[u8]) -> Result<(), Disk>
-    requires closed { stage.old.is_open ≡ false }
-    requires more { stage.old.staged < length stage.old.intent.writes }
-    ensures run { (contents : List (List ℕ)) (v : TreeState) (first : List TreeState)
-        → IsStaging stage.old contents None v first (T.history tree.old)
-        → IsStagingRun v first (T.history tree.new) }
-    ensures staging { (contents : List (List ℕ)) (v : TreeState) (first : List TreeState)
-        → IsStaging stage.old contents None v first (T.history tree.old)
-        → OnOk result (IsStaging stage.new (contents ++ link_to target.now ∷ []) None v first
-        (T.history tree.new)) }
-    ensures view { OnOk result (stage.new ≡ record stage.old { staged = stage.old.staged + 1 }) }
-    ensures goes_on { GoesOn (T.counts tree.old) (T.counts tree.new) }
-    ensures cause { OnErr result (HasCause (T.counts tree.old) (T.counts tree.new)) }
-    ensures kept { OnOk result (IsNoFault (T.counts tree.old) (T.counts tree.new)) }
-    ensures proper { (contents : List (List ℕ)) (v : TreeState) (first : List TreeState)
-        → IsStaging stage.old contents None v first (T.history tree.old)
-        → HasRoomBeside (files_of v)
-        → (T.counts tree.new).misuses ≡ (T.counts tree.old).misuses }
-{
-    begin_file(stage, tree)?;
-    append_piece(stage, tree, LINK_MARK)?;
-    append_piece(stage, tree, link_text(target))?;
-    end_file(stage, tree)
 }
 
 /// Stages a file of a package.
@@ -149,7 +122,7 @@ pub(crate) fn stage_write<T: Tree>(
 {
     match source {
         Source::Bytes(bytes) => Ok(stage_bytes(stage, tree, bytes)?),
-        Source::Link(target) => Ok(stage_link(stage, tree, target)?),
+        Source::Link(target) => Ok(stage_pieces(stage, tree, LINK_MARK, link_text(target))?),
         Source::File(f) => stage_packaged(stage, tree, f, piece),
     }
 }

@@ -114,6 +114,37 @@ pub fn stage_bytes<T: Tree>(stage: &mut Stage, tree: &mut T, bytes: &[u8]) -> Re
     end_file(stage, tree)
 }
 
+/// Stages one whole file of two pieces, one behind the other.
+pub fn stage_pieces<T: Tree>(
+    stage: &mut Stage,
+    tree: &mut T,
+    first_piece: &[u8],
+    last_piece: &[u8],
+) -> Result<(), Disk>
+    requires closed { stage.old.is_open ≡ false }
+    requires more { stage.old.staged < length stage.old.intent.writes }
+    ensures run { (contents : List (List ℕ)) (v : TreeState) (first : List TreeState)
+        → IsStaging stage.old contents None v first (T.history tree.old)
+        → IsStagingRun v first (T.history tree.new) }
+    ensures staging { (contents : List (List ℕ)) (v : TreeState) (first : List TreeState)
+        → IsStaging stage.old contents None v first (T.history tree.old)
+        → OnOk result (IsStaging stage.new (contents ++ (first_piece.now ++ last_piece.now) ∷ [])
+        None v first (T.history tree.new)) }
+    ensures view { OnOk result (stage.new ≡ record stage.old { staged = stage.old.staged + 1 }) }
+    ensures goes_on { GoesOn (T.counts tree.old) (T.counts tree.new) }
+    ensures cause { OnErr result (HasCause (T.counts tree.old) (T.counts tree.new)) }
+    ensures kept { OnOk result (IsNoFault (T.counts tree.old) (T.counts tree.new)) }
+    ensures proper { (contents : List (List ℕ)) (v : TreeState) (first : List TreeState)
+        → IsStaging stage.old contents None v first (T.history tree.old)
+        → HasRoomBeside (files_of v)
+        → (T.counts tree.new).misuses ≡ (T.counts tree.old).misuses }
+{
+    begin_file(stage, tree)?;
+    append_piece(stage, tree, first_piece)?;
+    append_piece(stage, tree, last_piece)?;
+    end_file(stage, tree)
+}
+
 /// With a new stage files may come to wait, where no intent is read and nothing waits.
 pub fn a_new_stage_is_staging()
     ensures { (removals writes : List (List ℕ)) (now : List TreeState) → IfObservable now (λ v.

@@ -1,6 +1,5 @@
-use Rattle.std.proofs.Common.{◌++◌, ◌∷◌, [], ℕ, List, None, subst, ◌∙◌, OnOk}
-use Rattle.stage_run.specs.StageRun.{IsStaging}
-use Rattle.stage_files.proofs.writes.stage_link.Goals as goal
+use Rattle.std.proofs.Common.{◌∙◌}
+use Rattle.stage_run.proofs.staging.stage_pieces.Goals as goal
 
 pub returns-in_err-append_piece-clause-run : goal.returns-in_err-append_piece-clause-run
 returns-in_err-append_piece-clause-run g c = λ contents v first staging.
@@ -29,10 +28,8 @@ returns-clause-run g c = λ contents v first staging.
 
 pub returns-clause-staging : goal.returns-clause-staging
 returns-clause-staging g c = λ contents v first staging.
-    subst (λ (text : List ℕ). OnOk c.end_file.result (IsStaging c.end_file.new.stage (contents ++ (33 ∷ 60 ∷ 115 ∷ 121 ∷ 109 ∷ 108 ∷ 105 ∷ 110 ∷ 107 ∷ 62 ∷ text) ∷ []) None v first (g.T.Tree.history c.end_file.new.tree)))
-    c.link_text.ensures
-    (c.end_file.ensures.staging contents _ v first (c.in_ok-append_piece-2.ensures.staging contents _ v first
-    (c.in_ok-append_piece.ensures.staging contents _ v first (c.in_ok-begin_file.ensures.staging contents v first staging))))
+    c.end_file.ensures.staging contents _ v first (c.in_ok-append_piece-2.ensures.staging contents _ v first
+    (c.in_ok-append_piece.ensures.staging contents _ v first (c.in_ok-begin_file.ensures.staging contents v first staging)))
 
 pub returns-clause-proper : goal.returns-clause-proper
 returns-clause-proper g c = λ contents v first staging room.
