@@ -2,6 +2,7 @@
 use Rattle.std.specs.Prelude.{ℕ, ◌==◌, ◌-◌, Bool, true, false, not, if◌then◌else◌, List, [], ◌∷◌, ◌++◌, length, codes, Option, Some, None, Result, Ok, Err, bytes_eq, slice_get}
 use Rattle.std.specs.List.{list_any}
 use Rattle.adb_schema.specs.Soundness.{payload_in, root_value}
+use Rattle.adb_tables.specs.FieldIndexes.{PACKAGE_SCRIPTS}
 use Rattle.adb_tables.specs.Values.{entry_in, text_in}
 use Rattle.adb_tables.specs.declared.tables.Which.TheVariants as Tables
 use Rattle.adb_view.specs.Plain.{Plain}
@@ -87,7 +88,8 @@ unless_different c pkg =
     (version_text pkg.value))
     else Ok pkg
 
-abbrev pub unless_package_bad : Candidate → Option Cause → ComingPackage → Result ComingPackage Refusal
+abbrev pub unless_package_bad :
+    Candidate → Option Cause → ComingPackage → Result ComingPackage Refusal
 unless_package_bad c None pkg = unless_different c pkg
 unless_package_bad c (Some cause) pkg = Err (PackageBad c.name (selected_version c) cause)
 
@@ -100,7 +102,7 @@ package_found c (Some file) = unless_package_bad c (package_fault file) (package
 
 -- the script with this number, or no bytes
 abbrev pub script_of : Plain → ℕ → List ℕ
-script_of pkg number = text_in (entry_in (entry_in pkg 2) (number - 1))
+script_of pkg number = text_in (entry_in (entry_in pkg PACKAGE_SCRIPTS) (number - 1))
 
 abbrev pub has_script_of : Plain → ℕ → Bool
 has_script_of pkg number = not (length (script_of pkg number) == 0)

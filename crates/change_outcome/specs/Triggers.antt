@@ -3,6 +3,7 @@ use Rattle.std.specs.Prelude.{ℕ, ◌==◌, Bool, true, false, ◌&&◌, if◌t
 use Rattle.std.specs.List.{filter, flat_map, list_any}
 use Rattle.base_core.specs.Name.{parts_of}
 use Rattle.adb_fields.specs.Repeated.{entries_at, package_name}
+use Rattle.adb_tables.specs.FieldIndexes.{PACKAGE_TRIGGERS}
 use Rattle.adb_tables.specs.Values.{text_in}
 use Rattle.adb_view.specs.Plain.{Plain}
 use Rattle.change_files.specs.PlanLists.{names_in_order}
@@ -48,7 +49,7 @@ is_folder_matched folder pattern =
     else are_parts_matched (parts_of (without_slash pattern)) (parts_of folder)
 
 abbrev pub patterns_of : Plain → List (List ℕ)
-patterns_of pkg = map text_in (entries_at 3 pkg)
+patterns_of pkg = map text_in (entries_at PACKAGE_TRIGGERS pkg)
 
 -- ---- what is due
 

@@ -4,6 +4,7 @@ use Rattle.std.specs.List.{filter_map, find, list_any}
 use Rattle.std.specs.declared.cmp.Ordering.{Ordering}
 use Rattle.std.specs.declared.cmp.Ordering.TheVariants.{Less, Equal, Greater}
 use Rattle.adb_view.specs.Plain.{Plain}
+use Rattle.adb_tables.specs.FieldIndexes.{INFO_HASHES, INFO_VERSION, PACKAGE_INFO}
 use Rattle.adb_tables.specs.Values.{entry_in, text_in}
 use Rattle.adb_fields.specs.Repeated.{package_name}
 use Rattle.db_core.specs.Packages.{is_package_named}
@@ -21,10 +22,10 @@ pub record Replacement : Type 0 where
   pub again : List (List ℕ)
 
 abbrev pub installed_id : Plain → List ℕ
-installed_id pkg = text_in (entry_in (entry_in pkg 0) 2)
+installed_id pkg = text_in (entry_in (entry_in pkg PACKAGE_INFO) INFO_HASHES)
 
 abbrev pub selected_version : Candidate → List ℕ
-selected_version c = text_in (entry_in c.info 1)
+selected_version c = text_in (entry_in c.info INFO_VERSION)
 
 abbrev pub is_selected_named : List ℕ → Candidate → Bool
 is_selected_named name c = bytes_eq c.name name
