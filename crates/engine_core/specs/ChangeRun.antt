@@ -22,7 +22,7 @@ use Rattle.pool_core.specs.Candidates.{Candidate}
 use Rattle.report_core.specs.declared.refusal.Refusal.{Refusal}
 use Rattle.report_core.specs.declared.refusal.Refusal.TheVariants.{PackageBad}
 use Rattle.stage_run.specs.StageRun.{IsStageRun, IsStageRunDone}
-use Rattle.engine_core.specs.Changed.{IsClashForOver, Selected, changed, selected_for}
+use Rattle.engine_core.specs.Changed.{IsClashForOver, Selected, change_of_command, selected_for}
 use Rattle.engine_core.specs.Choice.{IsChoiceFrom}
 use Rattle.engine_core.specs.Selecting.{pool_for}
 
@@ -109,4 +109,4 @@ pub record IsChangeRun (command : CommandLine) (old now : List TreeState) (befor
   pub clash : Option NamePair
   pub is_clash : IsClashForOver command read files standing chosen clash
   pub comes : ComesTo (coming_in (selected_for command read chosen))
-      (changed command read files chosen clash) old now before after result
+      (change_of_command command read files chosen clash) old now before after result

@@ -14,7 +14,7 @@ ghost use Rattle.base_core.specs.Files.{Files};
 ghost use Rattle.change_files.specs.FileChange.{FileChange};
 ghost use Rattle.change_outcome.specs.ChangeOutcome.{ChangeDone, ChangeWishes, change_report};
 ghost use Rattle.command_core.specs.Command.{CommandLine};
-ghost use Rattle.engine_core.specs.Changed.{changed};
+ghost use Rattle.engine_core.specs.Changed.{change_of_command};
 ghost use Rattle.engine_core.specs.Choice.{IsChoiceFrom};
 ghost use Rattle.engine_core.specs.Selecting.{pool_for};
 ghost use Rattle.make_info.specs.Reads.{Reads};
@@ -56,8 +56,8 @@ pub fn a_simulation_tells_what_the_change_does()
         (simulation done : ChangeDone) → command.flags.simulate ≡ false
         → IsChoiceFrom (pool_for (with_simulation command) read) expected
         → IsChoiceFrom (pool_for command read) chosen
-        → changed (with_simulation command) read files expected other ≡ Ok simulation
-        → changed command read files chosen clash ≡ Ok done
+        → change_of_command (with_simulation command) read files expected other ≡ Ok simulation
+        → change_of_command command read files chosen clash ≡ Ok done
         → IsForetold simulation.report done.report }
 {
     a_change_that_is_made_passes_each_test();
@@ -70,8 +70,8 @@ pub fn a_refused_simulation_refuses_the_change()
         (expected chosen : Option (List ℕ)) (other clash : Option NamePair) (refusal : Refusal)
         → IsChoiceFrom (pool_for (with_simulation command) read) expected
         → IsChoiceFrom (pool_for command read) chosen
-        → changed (with_simulation command) read files expected other ≡ Err refusal
-        → changed command read files chosen clash ≡ Err refusal }
+        → change_of_command (with_simulation command) read files expected other ≡ Err refusal
+        → change_of_command command read files chosen clash ≡ Err refusal }
 {
     a_choice_is_unique();
 }
