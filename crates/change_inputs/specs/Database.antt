@@ -19,6 +19,7 @@ pub record Database : Type 0 where
   pub file : Option (List ℕ)
   pub from_text : Bool
 
+-- the packages, with the bytes of the file or the text that they were taken over from
 abbrev pub database_by : List Plain → Option (List ℕ) → Bool → Database
 database_by packages file from_text =
     record { packages = packages; file = file; from_text = from_text }

@@ -24,6 +24,7 @@ database_seen (Payload own) =
     database_by (entries_at IDB_PACKAGES (root_value Idb own.payload.items)) None true
 database_seen New = database_by [] None false
 
+-- what contracts see in the values of the program
 abbrev pub installed_seen : Installed → Database
 installed_seen installed = database_seen installed.database
 

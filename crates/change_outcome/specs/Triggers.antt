@@ -48,6 +48,7 @@ is_folder_matched folder pattern =
     if length folder == 0 then bytes_eq pattern (codes "/")
     else are_parts_matched (parts_of (without_slash pattern)) (parts_of folder)
 
+-- the folders that a package watches
 abbrev pub patterns_of : Plain → List (List ℕ)
 patterns_of pkg = map text_in (entries_at PACKAGE_TRIGGERS pkg)
 
@@ -76,6 +77,7 @@ due_lines folders pkg = flat_map (due_line pkg) (filter (is_due pkg) folders)
 unfoldable pub trigger_lines : List (List ℕ) → List Member → List ℕ
 trigger_lines paths members = flat_map (λ m. due_lines (folders_of_paths paths) m.pkg) members
 
+-- whether a trigger of the package is due for one of the folders
 abbrev pub has_due_trigger : List (List ℕ) → Plain → Bool
 has_due_trigger folders pkg = list_any (is_due pkg) folders
 

@@ -8,6 +8,7 @@ use Rattle.adb_fields.specs.Repeated.{entries_at, package_name, paths_in}
 use Rattle.db_core.specs.Members.{Member, is_coming}
 use Rattle.adb_tables.specs.FieldIndexes.{IDB_PACKAGES}
 
+-- whether a package has a name
 abbrev pub is_package_named : List ℕ → Plain → Bool
 is_package_named name pkg = bytes_eq (package_name pkg) name
 

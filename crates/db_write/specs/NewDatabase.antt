@@ -67,11 +67,13 @@ package_after m flags =
     (more (without_zeros (entry_in m.pkg PACKAGE_TRIGGERS))
     (more (int_value (int_in (entry_in m.pkg PACKAGE_REPLACES_PRIORITY))) none)))))
 
+-- the packages, each with the flags of its own files
 abbrev pub packages_after : List Member → List Bool → Plains
 packages_after members flags = each_by_flags member_file_count package_after members flags
 
 -- ---- the database
 
+-- the database after a change, as a value
 unfoldable pub database_value : List Member → List Bool → Plain
 database_value members flags = obj_value (more (arr_value (packages_after members flags)) none)
 

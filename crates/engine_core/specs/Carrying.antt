@@ -38,6 +38,7 @@ HasPlan history wishes p =
 
 -- ---- a package that was changed
 
+-- the refusal names the member whose file is bad, and the test that failed
 abbrev pub IsPackageBad : List Member → ℕ → Cause → Refusal → Type 0
 IsPackageBad members place cause refusal =
     (m : Member)

@@ -28,6 +28,7 @@ use Rattle.engine_core.specs.Selecting.{pool_for}
 
 -- ---- what it answers
 
+-- nothing comes behind the report
 abbrev pub report_as_is : List ℕ → List ℕ
 report_as_is report = report
 
@@ -89,6 +90,7 @@ pub record ComesTo (coming : List Candidate) (wanted : Result ChangeDone Refusal
   pub proper : IfObservable old (λ v. v.names intent_name ≡ None → IsEmptyStage (files_of v)
       → (DoesCommit wanted → HasRoomToStage (files_of v)) → after.misuses ≡ before.misuses)
 
+-- the candidates whose packages are read
 abbrev pub coming_in : Result Selected Refusal → List Candidate
 coming_in (Ok s) = candidates_that_come s.replacement
 coming_in (Err refusal) = []

@@ -11,6 +11,7 @@ use Rattle.dep_core.specs.Meets.{meets}
 use Rattle.adb_rules.specs.Dependencies.{dependency_in}
 use Rattle.list_order.specs.ByteOrder.{precedes}
 
+-- the version of a package, as its information has it
 abbrev pub version_text : Plain → List ℕ
 version_text pkg = text_in (entry_in (entry_in pkg PACKAGE_INFO) INFO_VERSION)
 

@@ -8,6 +8,7 @@ use Rattle.adb_view.specs.Plain.{Plain}
 use Rattle.adb_tables.specs.FieldIndexes.{INFO_HASHES, INFO_NAME, INFO_VERSION}
 use Rattle.adb_tables.specs.Values.{entry_in, text_in}
 
+-- the fields by which entries are put in order
 abbrev pub name_in : Plain → List ℕ
 name_in entry = text_in (entry_in entry INFO_NAME)
 

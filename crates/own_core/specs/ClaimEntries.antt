@@ -19,6 +19,7 @@ abbrev pub listed_file_at : Plain → ℕ → ℕ → Plain
 listed_file_at folders folder file =
     entry_in (entry_in (entry_in folders (folder - 1)) DIR_FILES) (file - 1)
 
+-- folders have a file with these positions, which count from 1
 pub record HasFileAt (folders : Plain) (folder file : ℕ) : Type 0 where
   pub folder_low : 0 < folder
   pub folder_high : folder ≤ count_of (entries_in folders)

@@ -21,6 +21,7 @@ pub record Replacement : Type 0 where
   pub selected : List Candidate
   pub again : List (List ℕ)
 
+-- the id of an installed package: its information keeps it in the field hashes
 abbrev pub installed_id : Plain → List ℕ
 installed_id pkg = text_in (entry_in (entry_in pkg PACKAGE_INFO) INFO_HASHES)
 
@@ -56,6 +57,7 @@ unless_same name pkg c is_same is_again =
     (version_text_cmp (version_text pkg) (selected_version c)))
     else if is_again then Some (Reinstall name (selected_version c)) else None
 
+-- what becomes of a name, by the package before and the candidate selected
 abbrev pub change_between : Bool → List ℕ → Option Plain → Option Candidate → Option Change
 change_between is_again name None None = None
 change_between is_again name None (Some c) = Some (Install name (selected_version c))

@@ -12,6 +12,7 @@ use Rattle.v2_core.specs.Database.{value_of_records}
 use Rattle.v2_core.specs.Reading.{records_of}
 use Rattle.v2_core.specs.Records.{Record}
 
+-- a test that fails, or a limit that is passed, refuses the text
 abbrev pub unless_bad : List ℕ → Option Cause → Result (List ℕ) V2Fault
 unless_bad payload None = Ok payload
 unless_bad payload (Some cause) = Err (Bad cause)
