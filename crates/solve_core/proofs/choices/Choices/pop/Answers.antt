@@ -22,7 +22,7 @@ returns-in-Some-clause-consistent c =
     c.truncate.ensures.items ∙ (ap (take before.queue_len) (c.requires.queue ∙ (ap (queue_of pool) less.2 ∙ queue_more pool rest less.1)) ∙ take_front (queue_of pool rest) (raised_deps_at pool less.1) before.queue_len less.4.0) in
     let front : (k : ℕ) → IsMember k rest → IsMember k old = λ k h. subst (λ (z : List ℕ). IsMember k z) (sym less.2) (in_left k rest (less.1 ∷ []) h) in
     consistent_by c.args.self.now _ rest (record { pool = refl; choices = is; install_ifs = refl }) c.requires.install_ifs
-    (λ k h. c.requires.within k (front k h)) queue less.4.1 less.4.2 c.requires.listed (λ k h. c.requires.added k (front k h)) less.3
+    (λ k h. c.requires.within k (front k h)) queue less.4.1 less.4.2 (c.take_conflicts_away.ensures.listed rest less.1 less.2) less.3
 
 pub returns-in_default-clause-choices : goal.returns-in_default-clause-choices
 returns-in_default-clause-choices c = λ rest last e.
