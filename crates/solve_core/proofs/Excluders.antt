@@ -1,5 +1,5 @@
 -- What excludes a further candidate, and that nothing does where each name and each conflict of it is free.
-use Rattle.std.proofs.Common.{◌≡◌, inl, inr, ℕ, Bool, true, false, List, [], ◌∷◌, ◌++◌, map, refl, sym, subst, ap, ◌∙◌}
+use Rattle.std.proofs.Common.{◌≡◌, inl, inr, ℕ, Bool, true, false, List, [], ◌∷◌, refl, sym, subst, ap, ◌∙◌}
 use Rattle.std.specs.Prelude.{Option, Some, None, not, ◌&&◌, ◌||◌, ◌==◌, ◌⊎◌, is_some, MatchOption, find}
 use Rattle.std.specs.Option.{option_map, option_map_or}
 use Rattle.std.specs.List.{filter, flat_map, list_any}
@@ -11,7 +11,7 @@ use Rattle.pool_core.specs.Candidates.{Candidate, entry, meets_dependency, occup
 use Rattle.pool_core.specs.Rank.{SealedPool, candidate_at, is_at, meets_at}
 use Rattle.pool_core.specs.Options.{IsMember}
 use Rattle.solve_core.specs.Selection.{exclude_each_other, depends_at, conflicts_with, is_met, occupied_names_at, occupied_names, keeps_out, share_a_name}
-use Rattle.solve_core.specs.Conflicts.{conflicts_among, conflicts_named}
+use Rattle.solve_core.specs.Conflicts.{conflicts_named}
 use Rattle.solve_core.specs.Excluders.{AreListed, IsExcluder, IsFreeAt}
 use Rattle.solve_core.specs.NameTable.{items_of}
 use Rattle.solve_core.specs.declared.conflicts.Conflicts.{Conflicts}

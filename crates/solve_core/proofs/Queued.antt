@@ -1,6 +1,6 @@
 -- The queue of raised dependencies, a choice at a time.
 use Rattle.std.proofs.Common.{◌≡◌, inl, inr, ℕ, zero, suc, ◌+◌, ◌≤◌, ◌<◌, Bool, true, false, List, [], ◌∷◌, ◌++◌, length, take, map, refl, sym, subst, ap, ◌∙◌, arith, append_assoc, append-nil, length-append}
-use Rattle.std.specs.Prelude.{Option, Some, None, not, ◌&&◌, ◌||◌, slice_get}
+use Rattle.std.specs.Prelude.{Option, Some, None, not, ◌||◌, slice_get}
 use Rattle.std.specs.List.{filter, find, flat_map, list_any}
 use Rattle.dep_core.specs.Dependency.{Dependency}
 use Rattle.pool_core.specs.Candidates.{entry}

@@ -1,6 +1,6 @@
 -- Choices that meet the entries of an install-if.
 use Rattle.std.proofs.Common.{◌≡◌, inl, inr, ℕ, zero, suc, ◌+◌, true, false, List, [], ◌∷◌, ◌++◌, take, refl, sym, subst, ap, ◌∙◌}
-use Rattle.std.specs.Prelude.{Option, Some, None, ◌&&◌, is_some, slice_get, MatchOption}
+use Rattle.std.specs.Prelude.{Option, Some, None, is_some, slice_get, MatchOption}
 use Rattle.pool_core.proofs.Steps.{take_one_more}
 use Rattle.dep_core.specs.Dependency.{Dependency}
 use Rattle.pool_core.specs.Candidates.{Need, entry}

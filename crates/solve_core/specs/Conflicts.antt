@@ -9,7 +9,8 @@ use Rattle.solve_core.specs.Selection.{depends_at}
 -- the conflicts of a name among some dependencies, each with the choice that has it
 abbrev pub conflicts_named : List ℕ → ℕ → List Dependency → List (ℕ × Dependency)
 conflicts_named name by deps =
-    map (λ (d : Dependency). (by, d)) (filter (λ (d : Dependency). d.conflict && bytes_eq name d.name) deps)
+    map (λ (d : Dependency). (by, d))
+    (filter (λ (d : Dependency). d.conflict && bytes_eq name d.name) deps)
 
 -- the conflicts of a name that some choices have, in the order of the choices
 abbrev pub conflicts_among : SealedPool → List ℕ → List ℕ → List (ℕ × Dependency)

@@ -1,15 +1,15 @@
-//! The choices so far: the first need that none of them meets, and what excludes a further choice.
-ghost use Rattle.std.specs.Prelude.{◌≡◌, ◌≤◌, ℕ, List, [], ◌∷◌, ◌++◌, ◌<◌, ◌^◌, length, map, IfSome, false, true, IfOk, OnOk, MatchOption, MatchBool, None, Some, ◌+◌, option_copied, slice_get, option_to_list, is_some};
+//! The choices so far: what they raise, and the first need that none of them meets.
+ghost use Rattle.std.specs.Prelude.{◌≡◌, ◌≤◌, ℕ, List, [], ◌∷◌, ◌++◌, ◌<◌, ◌^◌, length, IfSome, false, true, IfOk, OnOk, MatchOption, MatchBool, None, Some, ◌+◌, option_copied, slice_get, option_to_list};
 ghost use Rattle.std.specs.List.{find};
 ghost use Rattle.dep_core.specs.Dependency.{Dependency};
 ghost use Rattle.dep_core.specs.Meets.{dependency};
 ghost use Rattle.pool_core.specs.Candidates.{entry};
 ghost use Rattle.pool_core.specs.Candidates.{offers_name};
-ghost use Rattle.pool_core.specs.Options.{IsMember, options_for, places_offering};
+ghost use Rattle.pool_core.specs.Options.{IsMember, options_for};
 ghost use Rattle.solve_core.specs.InstallIf.{AreUnasked, IsLeastAsking, IsNoneAsking, rank_asks};
 ghost use Rattle.solve_core.specs.NameTable.{items_of};
 ghost use Rattle.solve_core.specs.Queue.{AreMet, is_unmet_dep, queue_of};
-ghost use Rattle.solve_core.specs.Selection.{exclude_each_other, next_need};
+ghost use Rattle.solve_core.specs.Selection.{next_need};
 ghost use Rattle.solve_core.specs.Reasons.{IsFrameOf};
 ghost use Rattle.solve_core.specs.Choices.{IsConsistent, choices_of, install_ifs_of, pool_of};
 ghost use Rattle.solve_core.specs.Excluders.{AreListed};

@@ -1,14 +1,12 @@
 //! The conflicts of the choices by their names, and what excludes a further candidate: a choice
 //! that has a conflict which it meets, that meets one of its own, or that occupies a name of its.
-ghost use Rattle.std.specs.Prelude.{◌≡◌, ◌∷◌, ◌++◌, ℕ, List, [], OnOk, map, filter, find, ◌&&◌};
+ghost use Rattle.std.specs.Prelude.{◌≡◌, ◌∷◌, ◌++◌, ℕ, List, [], OnOk, find};
 ghost use Rattle.std.specs.Option.{option_map};
-ghost use Rattle.std.specs.Str.{bytes_eq};
 ghost use Rattle.dep_core.specs.Dependency.{Dependency};
 ghost use Rattle.dep_core.specs.Meets.{dependency};
 ghost use Rattle.pool_core.specs.Candidates.{meets_dependency};
 ghost use Rattle.solve_core.specs.Conflicts.{conflicts_named};
 ghost use Rattle.solve_core.specs.NameTable.{items_of};
-ghost use Rattle.solve_core.specs.Selection.{depends_at};
 
 use crate::name_table::NameTable;
 use dep_core::Dep;

@@ -10,10 +10,10 @@ pub loop-i-init : goal.loop-i-init
 loop-i-init c = refl
 
 pub returns-then-not-is_dep_met : goal.returns-then-not-is_dep_met
-returns-then-not-is_dep_met c = sym (one_not_met c.args.pool.now c.args.choices.now c.args.deps.now c.loop-i.i (dependency c.get.result) c.get.ensures (sym c.is_dep_met.ensures ∙ c.if-is_dep_met.false))
+returns-then-not-is_dep_met c = sym (one_not_met c.args.pool.now c.args.choices.now c.args.deps.now c.loop-i.i (dependency c.get.result) c.get.ensures (sym c.is_dep_met.ensures ∙ c.if-not-is_dep_met.true))
 
 pub loop-i-preserved : goal.loop-i-preserved
-loop-i-preserved c = all_met_on c.args.pool.now c.args.choices.now c.args.deps.now c.loop-i.i (dependency c.get.result) c.get.ensures c.loop-i.invariant (sym c.is_dep_met.ensures ∙ c.if-is_dep_met.true)
+loop-i-preserved c = all_met_on c.args.pool.now c.args.choices.now c.args.deps.now c.loop-i.i (dependency c.get.result) c.get.ensures c.loop-i.invariant (sym c.is_dep_met.ensures ∙ c.if-not-is_dep_met.false)
 
 pub returns : goal.returns
 returns c =

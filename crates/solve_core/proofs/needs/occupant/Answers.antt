@@ -1,7 +1,5 @@
-use Rattle.std.proofs.Common.{◌≡◌, ℕ, List, false, sym, subst}
-use Rattle.pool_core.specs.Candidates.{occupies_name}
+use Rattle.std.proofs.Common.{ℕ, List, sym, subst}
 use Rattle.pool_core.specs.Options.{IsMember}
-use Rattle.pool_core.specs.Rank.{is_at}
 use Rattle.solve_core.proofs.Excluders.{match_none}
 use Rattle.solve_core.proofs.Offered.{occupied_among_offers}
 use Rattle.solve_core.proofs.needs.occupant.Goals as goal

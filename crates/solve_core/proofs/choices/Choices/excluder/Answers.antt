@@ -1,4 +1,4 @@
-use Rattle.std.proofs.Common.{◌≡◌, ◌∙◌, ℕ, List, true, inl, sym, subst, refl}
+use Rattle.std.proofs.Common.{ℕ, List, true, subst}
 use Rattle.pool_core.specs.Candidates.{Candidate}
 use Rattle.solve_core.specs.Choices.{choices_of, pool_of}
 use Rattle.solve_core.specs.Excluders.{IsFreeAt}

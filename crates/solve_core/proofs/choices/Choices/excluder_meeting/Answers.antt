@@ -1,11 +1,9 @@
-use Rattle.std.proofs.Common.{◌≡◌, ◌≤◌, ◌∙◌, ℕ, List, true, false, length, sym, subst, arith}
-use Rattle.std.specs.Prelude.{is_some}
+use Rattle.std.proofs.Common.{◌≡◌, ◌≤◌, List, true, false, length, sym, subst, arith}
 use Rattle.dep_core.specs.Dependency.{Dependency}
 use Rattle.dep_core.specs.Meets.{dependency}
 use Rattle.pool_core.specs.Candidates.{entry}
 use Rattle.pool_core.specs.Options.{IsMember}
 use Rattle.solve_core.specs.Choices.{choices_of, pool_of}
-use Rattle.solve_core.specs.Excluders.{IsFreeAt}
 use Rattle.solve_core.specs.Selection.{is_met}
 use Rattle.solve_core.proofs.Asking.{there_is}
 use Rattle.solve_core.proofs.Offered.{each_all, each_on}

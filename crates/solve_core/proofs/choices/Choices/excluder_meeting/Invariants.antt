@@ -1,10 +1,8 @@
-use Rattle.std.proofs.Common.{◌≡◌, ℕ, false, true, take}
-use Rattle.std.specs.Prelude.{is_some}
+use Rattle.std.proofs.Common.{◌≡◌, false, true, take}
 use Rattle.dep_core.specs.Dependency.{Dependency}
 use Rattle.pool_core.specs.Candidates.{entry}
 use Rattle.pool_core.specs.Options.{IsMember}
 use Rattle.solve_core.specs.Choices.{choices_of, pool_of}
-use Rattle.solve_core.specs.Excluders.{IsFreeAt}
 use Rattle.solve_core.specs.Selection.{is_met}
 use Rattle.solve_core.proofs.choices.Choices.excluder_meeting.Given as goal
 

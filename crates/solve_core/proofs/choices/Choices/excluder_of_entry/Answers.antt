@@ -1,7 +1,4 @@
-use Rattle.std.proofs.Common.{◌≡◌, ◌∙◌, ℕ, List, true, inr, map, sym, subst}
-use Rattle.std.specs.Prelude.{not, ◌&&◌, is_some}
-use Rattle.std.specs.List.{filter}
-use Rattle.dep_core.specs.Dependency.{Dependency}
+use Rattle.std.proofs.Common.{◌∙◌, sym}
 use Rattle.dep_core.specs.Meets.{dependency}
 use Rattle.solve_core.proofs.Excluders.{occupied_by_entry}
 use Rattle.solve_core.proofs.choices.Choices.excluder_of_entry.Goals as goal

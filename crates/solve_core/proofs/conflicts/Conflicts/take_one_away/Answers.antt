@@ -1,4 +1,3 @@
-use Rattle.std.proofs.Common.{sym}
 use Rattle.dep_core.specs.Meets.{dependency}
 use Rattle.solve_core.proofs.ConflictTables.{taken_away}
 use Rattle.solve_core.proofs.conflicts.Conflicts.take_one_away.Goals as goal

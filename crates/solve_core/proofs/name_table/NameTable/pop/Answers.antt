@@ -1,10 +1,9 @@
-use Rattle.std.proofs.Common.{◌≡◌, ◌∙◌, ◌-◌, List, ℕ, Vec, [], ap, sym, length, take, arith, vec_len}
-use Rattle.std.specs.Prelude.{None, if◌then◌else◌}
+use Rattle.std.proofs.Common.{◌≡◌, ◌∙◌, ◌-◌, List, ℕ, Vec, ap, sym, length, take, arith, vec_len}
+use Rattle.std.specs.Prelude.{if◌then◌else◌}
 use Rattle.std.specs.Global.{Global}
-use Rattle.std.specs.Map.{lookup}
 use Rattle.std.specs.Str.{bytes_eq}
 use Rattle.solve_core.specs.NameTable.{items_of, names_and_items, without_last}
-use Rattle.solve_core.proofs.NameTables.{Entries, is_key, items_of-set_value, items_or_none, looked_up, popped_item, popped_none}
+use Rattle.solve_core.proofs.NameTables.{Entries, items_of-set_value, items_or_none, looked_up, popped_item, popped_none}
 use Rattle.solve_core.proofs.name_table.NameTable.pop.Goals as goal
 
 pub returns : goal.returns

@@ -7,10 +7,13 @@ pub step_back_for_reason-requires-clause-within : goal.step_back_for_reason-requ
 step_back_for_reason-requires-clause-within c =
     let pool = pool_of c.args.self.now.chosen in
     let both = dead_end pool (λ need. c.options_are_as_promised.ensures pool need) (choices_of c.args.self.now.chosen) c.args.spent c.requires.spent in
-    λ k h. both.0 k (c.in_ok-reason_of.ensures.0 k h)
+    λ k h. both.0 k (c.in_ok-self.ensures.0 k h)
 
 pub step_back_for_reason-requires-clause-dead : goal.step_back_for_reason-requires-clause-dead
 step_back_for_reason-requires-clause-dead c =
     let pool = pool_of c.args.self.now.chosen in
     let both = dead_end pool (λ need. c.options_are_as_promised.ensures pool need) (choices_of c.args.self.now.chosen) c.args.spent c.requires.spent in
-    dead_same pool (dead_end_reason c.args.spent) _ c.in_ok-reason_of.ensures both.1
+    dead_same pool (dead_end_reason c.args.spent) _ c.in_ok-self.ensures both.1
+
+pub returns-clause-lighter : goal.returns-clause-lighter
+returns-clause-lighter c = c.step_back_for_reason.ensures.lighter c.args.spent
