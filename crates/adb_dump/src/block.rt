@@ -18,7 +18,7 @@ use crate::line::{
     LineStart, write_dash, write_hash_line, write_hex, write_name, write_number_line,
     write_text_line,
 };
-use crate::out::{BlobOut, Count, Out};
+use crate::text_out::{BlobOut, Count, Out};
 use crate::words::{is_null, object_words};
 use adb_fields::{hash_word, int_word, objects_word, text_word, texts_word};
 use adb_schema::{Field, Kind, Shaped, Which, fields_of, schema_word};

@@ -18,7 +18,7 @@
 mod block;
 mod laws;
 mod line;
-mod out;
+mod text_out;
 mod words;
 
 pub use block::dump;
