@@ -1,5 +1,5 @@
 -- What was written is found again, whatever was written since.
-use Rattle.std.proofs.Common.{◌≡◌, ℕ, suc, ◌+◌, ◌*◌, ◌^◌, ◌<◌, ◌≤◌, Bool, true, false, cond, eqb, ltb, List, [], ◌∷◌, ◌++◌, length, take, drop, replicate, Option, Some, None, refl, sym, ap, subst, ◌∙◌, append_assoc, arith, inl, inr, eq-eqb, le_trans}
+use Rattle.std.proofs.Common.{◌≡◌, ℕ, suc, ◌+◌, ◌^◌, ◌<◌, ◌≤◌, Bool, true, false, cond, eqb, ltb, List, [], ◌∷◌, ◌++◌, length, take, drop, replicate, Option, Some, None, refl, sym, ap, subst, ◌∙◌, append_assoc, arith, inl, inr, eq-eqb, le_trans}
 use Rattle.std.specs.Prelude.{find, bytes_eq, ◌&&◌}
 use Rattle.std.specs.List.{flat_map, AllByRecursion}
 use Rattle.std.specs.Int.{w8, w16, w32, w64, from_le_bytes, to_le_bytes}
@@ -9,6 +9,7 @@ use Rattle.std.proofs.lemmas.Slice.Eq.{bytes_eq-Decides}
 use Rattle.adb_view.specs.Plain.{Plain, null, int, blob, arr, obj, Plains, none, more, IsNormal, AreNormal, count_of}
 use Rattle.adb_view.specs.Readers.{ARRAY, OBJECT}
 use Rattle.adb_write.specs.Canonical.{gap, Item, WrittenItem, Cell, in_place, apart, int_item, int_cell, blob_item, blob_cell, run_bytes, run_item, run_cell, trimmed_words, Layout, empty_layout, end_offset, is_equal_item, word_of_item, put_new, put_unless, put_item, put_cell, put_run, write, write_all, payload_with_root, MOST_BYTES}
+use Rattle.adb_write.specs.Again.{front_len, IsFramed, IsThere, IsWhole, len_by}
 use Rattle.adb_write.specs.Size.{entries_of, entries_of_all, with_entries}
 use Rattle.adb_write.proofs.Found.{equal_kind, equal_bytes, equal_within}
 use Rattle.adb_write.proofs.Placed.{wide8, wide16, wide32, wide64}
@@ -18,21 +19,7 @@ use Rattle.adb_write.proofs.Overflow.{entries_in, int_entries, blob_entries, run
 
 -- ---- an item tells its length in its front
 
--- how many bytes tell it
-abbrev front_len : ℕ → ℕ
-front_len kind = cond (eqb kind 8) 1 (cond (eqb kind 9) 2 4)
-
--- the length that they tell
-abbrev len_by : ℕ → List ℕ → ℕ
-len_by kind front =
-    cond (eqb kind 2) 4 (cond (eqb kind 3) 8 (cond (eqb kind 8) (1 + from_le_bytes w8 front) (cond (eqb kind 9) (2 + from_le_bytes w16 front) (cond (eqb kind 10) (4 + from_le_bytes w32 front) (4 * from_le_bytes w32 front)))))
-
-record IsFramed (i : Item) : Type 0 where
-  pub some : 0 < length i.bytes
-  pub long : front_len i.kind ≤ length i.bytes
-  pub len : length i.bytes ≡ len_by i.kind (take (front_len i.kind) i.bytes)
-
-abbrev IsFramedCell : Cell → Type 0
+abbrev pub IsFramedCell : Cell → Type 0
 IsFramedCell (in_place w) = Unit {0}
 IsFramedCell (apart i) = IsFramed i
 
@@ -53,7 +40,7 @@ int_framed n = go (ltb n (2 ^ 32))
     go true = record { some = omega (arith, wide32.len n); long = omega (arith, wide32.len n); len = wide32.len n }
     go false = record { some = omega (arith, wide64.len n); long = omega (arith, wide64.len n); len = wide64.len n }
 
-blob_framed : (b : List ℕ) → length b < 2 ^ 32 → IsFramed (blob_item b)
+pub blob_framed : (b : List ℕ) → length b < 2 ^ 32 → IsFramed (blob_item b)
 blob_framed b few =
     elim (cases_lt (length b) (2 ^ 8)) [
       | inl a ↦
@@ -94,26 +81,26 @@ object_framed ws few = record { some = omega (arith, run_long ws); long = omega 
 
 -- ---- and so is each cell that fits
 
-int_cell_framed : (n : ℕ) → IsFramedCell (int_cell n)
+pub int_cell_framed : (n : ℕ) → IsFramedCell (int_cell n)
 int_cell_framed n = go (ltb n (2 ^ 28))
   where
     go : (a : Bool) → IsFramedCell (cond a (in_place (2 ^ 28 + n)) (apart (int_item n)))
     go true = tt
     go false = int_framed n
 
-blob_cell_framed : (b : List ℕ) (out : Layout) → end_offset (put_cell (blob_cell b) out).1 ≤ MOST_BYTES → IsFramedCell (blob_cell b)
+pub blob_cell_framed : (b : List ℕ) (out : Layout) → end_offset (put_cell (blob_cell b) out).1 ≤ MOST_BYTES → IsFramedCell (blob_cell b)
 blob_cell_framed [] out fits = tt
 blob_cell_framed (x ∷ xs) out fits =
     let long = blob_long (x ∷ xs) in
     blob_framed (x ∷ xs) (omega (arith, item_within (blob_item (x ∷ xs)) out (omega arith)))
 
-array_cell_framed : (ws : List ℕ) (out : Layout) → end_offset (put_run ARRAY ws out).1 ≤ MOST_BYTES → IsFramedCell (run_cell ARRAY ws)
+pub array_cell_framed : (ws : List ℕ) (out : Layout) → end_offset (put_run ARRAY ws out).1 ≤ MOST_BYTES → IsFramedCell (run_cell ARRAY ws)
 array_cell_framed [] out fits = tt
 array_cell_framed (w ∷ ws) out fits =
     let long = run_long (w ∷ ws) in
     array_framed (w ∷ ws) (omega (arith, item_within (run_item ARRAY (w ∷ ws)) out (omega arith)))
 
-object_cell_framed : (ws : List ℕ) (out : Layout) → end_offset (put_run OBJECT ws out).1 ≤ MOST_BYTES → IsFramedCell (run_cell OBJECT ws)
+pub object_cell_framed : (ws : List ℕ) (out : Layout) → end_offset (put_run OBJECT ws out).1 ≤ MOST_BYTES → IsFramedCell (run_cell OBJECT ws)
 object_cell_framed [] out fits = tt
 object_cell_framed (w ∷ ws) out fits =
     let long = run_long (w ∷ ws) in
@@ -133,12 +120,6 @@ equal_more body q i x some e =
     let within = equal_within body x.offset i.bytes some bytes in
     is_equal (body ++ q) i x (equal_kind body i x e)
     (ap (take (length i.bytes)) (drop-append-le x.offset body q (omega arith)) ∙ take-append-le (length i.bytes) (drop x.offset body) q (omega (arith, length-drop x.offset body)) ∙ bytes)
-
--- a framed item stands there
-record IsThere (body : List ℕ) (x : WrittenItem) : Type 0 where
-  pub what : Item
-  pub framed : IsFramed what
-  pub equal : is_equal_item body what x ≡ true
 
 there_more : (body q : List ℕ) (x : WrittenItem) → IsThere body x → IsThere (body ++ q) x
 there_more body q x t = record { what = t.what; framed = t.framed; equal = equal_more body q t.what x t.framed.some t.equal }
@@ -175,12 +156,8 @@ all_from : {A : Type 0} (P Q : A → Type 0) → ((x : A) → P x → Q x) → (
 all_from P Q f [] h = tt
 all_from P Q f (x ∷ xs) h = (f x h.0, all_from P Q f xs h.1)
 
--- each written item stands in the layout
-record IsWhole (out : Layout) : Type 0 where
-  pub all : AllByRecursion (IsThere out.body) out.items
-
 -- what is found in the one is the same in the other
-record Keeps (out later : Layout) : Type 0 where
+pub record Keeps (out later : Layout) : Type 0 where
   pub found : (i : Item) (x : WrittenItem) → IsFramed i → find (is_equal_item out.body i) out.items ≡ Some x → find (is_equal_item later.body i) later.items ≡ Some x
 
 keeps_itself : (out : Layout) → Keeps out out
@@ -227,7 +204,7 @@ new_keeps i out f w absent = record { found = λ j x g e. go j x g e (is_equal_i
 
 -- ---- one value more
 
-record Stays (out later : Layout) : Type 0 where
+pub record Stays (out later : Layout) : Type 0 where
   pub whole : IsWhole later
   pub keeps : Keeps out later
 
@@ -238,17 +215,17 @@ put_item_stays i out f w = go (find (is_equal_item out.body i) out.items) refl
     go None e = record { whole = new_whole i out f w; keeps = new_keeps i out f w e }
     go (Some there) e = record { whole = record { all = w.all }; keeps = record { found = λ j x g h. h } }
 
-put_cell_stays : (c : Cell) (out : Layout) → IsFramedCell c → IsWhole out → Stays out (put_cell c out).1
+pub put_cell_stays : (c : Cell) (out : Layout) → IsFramedCell c → IsWhole out → Stays out (put_cell c out).1
 put_cell_stays (in_place word) out f w = record { whole = w; keeps = keeps_itself out }
 put_cell_stays (apart i) out f w = put_item_stays i out f w
 
 -- the item is found where it was put
-record IsFoundAgain (i : Item) (r : ℕ × Layout) : Type 0 where
+pub record IsFoundAgain (i : Item) (r : ℕ × Layout) : Type 0 where
   pub item : WrittenItem
   pub is : find (is_equal_item r.1.body i) r.1.items ≡ Some item
   pub word : word_of_item item ≡ r.0
 
-put_item_found : (i : Item) (out : Layout) → IsFoundAgain i (put_item i out)
+pub put_item_found : (i : Item) (out : Layout) → IsFoundAgain i (put_item i out)
 put_item_found i out = go (find (is_equal_item out.body i) out.items) refl
   where
     go : (found : Option WrittenItem) → find (is_equal_item out.body i) out.items ≡ found → IsFoundAgain i (put_unless found i out)
@@ -347,7 +324,7 @@ mutual
 
 -- ---- the law
 
-nothing_whole : IsWhole empty_layout
+pub nothing_whole : IsWhole empty_layout
 nothing_whole = record { all = tt }
 
 pub stored_once : (before v since : Plain) → IsNormal v → end_offset (write since (write v (write before empty_layout).1).1).1 ≤ MOST_BYTES

@@ -1,4 +1,5 @@
 //! The indexes of repositories: their files, which are all read before one of them is tested.
+ghost use Rattle.adb_rules.specs.Texts.{text_fault};
 ghost use Rattle.adb_schema.specs.Soundness.{root_value};
 ghost use Rattle.adb_schema.specs.Views.{index_value};
 ghost use Rattle.adb_tables.specs.Values.{is_sound};
@@ -14,7 +15,7 @@ ghost use Rattle.std.specs.Prelude.{◌≡◌, ◌<◌, ◌++◌, ◌∷◌, [],
 use crate::opening::{payload_in, test_file};
 use crate::reading::read_file;
 use crate::refused::Refused;
-use adb_schema::{IndexView, ReadFault, View, Which};
+use adb_schema::{IndexView, ReadFault, Which};
 use adb_tables::values_of_few_visits_have_no_fault;
 use adb_view::Adb;
 use base_core::{Name, Tree};
@@ -65,6 +66,7 @@ impl IndexFiles {
 fn open_payload(payload: &[u8]) -> IndexView<'_>
     requires head { is_none (head_fault payload.now) ≡ true }
     requires sound { is_sound payload.now (Kinds.Obj Tables.Index) (root_of payload.now) ≡ true }
+    requires texts { is_none (text_fault Tables.Index (root_value Tables.Index payload.now)) ≡ true }
     ensures { index_value result ≡ root_value Tables.Index payload.now }
 {
     let Ok(adb) = Adb::new(payload) else {

@@ -3,7 +3,7 @@ use Rattle.std.specs.Prelude.{ℕ, Bool, true, false, not, ◌&&◌, nat_le, Lis
 use Rattle.adb_view.specs.Plain.{Plain}
 use Rattle.path_claims.specs.Claims.{PathClaim}
 use Rattle.file_guard.specs.Listed.{IsOfEntry}
-use Rattle.file_guard.specs.declared.listed.ListedFile.{ListedFile}
+use Rattle.file_guard.specs.declared.compare.ListedFile.{ListedFile}
 use Rattle.change_files.specs.Fate as Fates
 use Rattle.change_files.specs.Fate.{aside_name, fate_by, gives_way, goes_aside, goes_in}
 use Rattle.change_files.specs.FileChange.{FileChange, is_claimed}

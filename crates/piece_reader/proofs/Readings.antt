@@ -11,7 +11,7 @@ use Rattle.adb_block.specs.declared.block.BlockKind.{BlockKind}
 use Rattle.pkg_core.specs.Contents.{Expected}
 use Rattle.piece_core.specs.Pieces.{PiecesRead, piece, pieces_by_blocks, refusal}
 use Rattle.piece_core.specs.Taking.{file_bytes_left, next_len}
-use Rattle.piece_core.specs.declared.part.Part.{Part}
+use Rattle.piece_core.specs.declared.file.Part.{Part}
 use Rattle.piece_core.specs.Places.{pieces_at}
 use Rattle.piece_core.specs.declared.place.BlockPlace.{BlockPlace}
 use Rattle.piece_reader.specs.Opened.{IsNextPiece, IsOpenFile, IsPieceOf, NotDisk}
