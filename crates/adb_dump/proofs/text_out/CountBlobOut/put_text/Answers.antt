@@ -1,8 +1,8 @@
 use Rattle.std.proofs.Common.{ap}
 use Rattle.adb_view.specs.Adb.{payload_of}
 use Rattle.adb_dump.proofs.Lengths.{counts_more, lengths_stay}
-use Rattle.adb_dump.specs.declared.out.Length.{Length}
-use Rattle.adb_dump.proofs.out.CountBlobOut.put_text.Goals as goal
+use Rattle.adb_dump.specs.declared.text_out.Length.{Length}
+use Rattle.adb_dump.proofs.text_out.CountBlobOut.put_text.Goals as goal
 
 pub returns-then-text-le-SHORT : goal.returns-then-text-le-SHORT
 returns-then-text-le-SHORT c = c.in_ok-write_text.ensures (payload_of c.args._adb)

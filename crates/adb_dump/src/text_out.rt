@@ -1,6 +1,6 @@
 //! What the text is put into: its bytes, or only a count of them.
 
-ghost use Rattle.std.specs.Prelude.{◌≡◌, ℕ, ◌+◌, List, IfOk, OnOk, length};
+ghost use Rattle.std.specs.Prelude.{◌≡◌, ℕ, ◌+◌, List, [], IfOk, OnOk, length};
 ghost use Rattle.std.specs.BTreeMap.{get};
 ghost use Rattle.std.specs.Ordering.{nat_cmp};
 ghost use Rattle.hex.specs.Hex.{encode_lower};
@@ -55,6 +55,47 @@ impl Out for Vec<u8> {
 }
 
 impl BlobOut for Vec<u8> {
+    fn put_text(&mut self, _adb: Adb<'_>, _word: Val, text: &[u8]) -> Result<(), AllocError> {
+        write_text(self, text)
+    }
+
+    fn put_hash(&mut self, hash: &[u8]) -> Result<(), AllocError> {
+        write_hex(self, hash)
+    }
+}
+
+/// The bytes themselves, as long as there is room.
+#[derive(Drop)]
+pub(crate) struct Room {
+    pub(crate) bytes: Vec<u8>,
+    /// How many bytes more may come.
+    left: usize,
+}
+
+impl Room {
+    /// Memory for so many bytes.
+    pub(crate) fn new(alloc: Global, bytes: usize) -> Result<Room, AllocError>
+        ensures { IfOk result (λ room. room.bytes.items ≡ []) }
+    {
+        Ok(Room {
+            bytes: Vec::with_capacity(alloc, bytes)?,
+            left: bytes,
+        })
+    }
+}
+
+impl Out for Room {
+    ghost use Rattle.std.specs.Prelude.{◌≡◌};
+
+    ghost holds = { λ _ out bytes. out.bytes.items ≡ bytes };
+
+    fn put(&mut self, bytes: &[u8]) -> Result<(), AllocError> {
+        self.left = self.left.checked_sub(bytes.len()).ok_or(AllocError)?;
+        self.bytes.extend_from_slice(bytes)
+    }
+}
+
+impl BlobOut for Room {
     fn put_text(&mut self, _adb: Adb<'_>, _word: Val, text: &[u8]) -> Result<(), AllocError> {
         write_text(self, text)
     }

@@ -1,6 +1,6 @@
 use Rattle.std.proofs.Common.{◌∙◌, refl}
 use Rattle.adb_dump.proofs.Lengths.{hash_counts, lengths_stay}
-use Rattle.adb_dump.proofs.out.CountBlobOut.put_hash.Goals as goal
+use Rattle.adb_dump.proofs.text_out.CountBlobOut.put_hash.Goals as goal
 
 pub returns : goal.returns
 returns c p before was =

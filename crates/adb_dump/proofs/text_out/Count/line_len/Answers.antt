@@ -1,6 +1,6 @@
 use Rattle.std.proofs.Common.{ℕ, List, length, sym, ap, ◌∙◌}
 use Rattle.adb_dump.specs.Dump.{text_form}
-use Rattle.adb_dump.proofs.out.Count.line_len.Goals as goal
+use Rattle.adb_dump.proofs.text_out.Count.line_len.Goals as goal
 
 pub returns-in-Some-clause-len : goal.returns-in-Some-clause-len
 returns-in-Some-clause-len c payload text kept =
