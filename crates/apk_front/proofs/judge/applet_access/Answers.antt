@@ -1,5 +1,5 @@
 use Rattle.apk_front.proofs.Effects.{reads_one, writes_one}
-use Rattle.apk_front.proofs.effect.applet_access.Goals as goal
+use Rattle.apk_front.proofs.judge.applet_access.Goals as goal
 
 pub returns-in-Verify : goal.returns-in-Verify
 returns-in-Verify c = reads_one c.args.applet c.in-Verify.is

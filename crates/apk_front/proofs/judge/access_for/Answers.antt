@@ -1,5 +1,5 @@
 use Rattle.apk_front.proofs.Effects.{access_by, access_usage}
-use Rattle.apk_front.proofs.effect.access_for.Goals as goal
+use Rattle.apk_front.proofs.judge.access_for.Goals as goal
 
 pub returns-in-Ok : goal.returns-in-Ok
 returns-in-Ok c = access_by c.args.words.now _ c.applet.result _ c.in-Ok.ensures.ok c.applet.ensures.value c.applet_access.ensures

@@ -1,5 +1,5 @@
 use Rattle.engine_core.proofs.Choices.{choice_exists}
-use Rattle.engine_core.proofs.laws.a_choice_exists.Goals as goal
+use Rattle.engine_core.proofs.choosing.a_choice_exists.Goals as goal
 
 pub returns : goal.returns
 returns c = choice_exists (λ pool need. record {
