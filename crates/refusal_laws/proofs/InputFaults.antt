@@ -25,7 +25,7 @@ use Rattle.v2_core.specs.Reading.{records_of}
 use Rattle.v2_core.specs.Records.{Record}
 use Rattle.v2_core.specs.declared.fault.V2Fault.{V2Fault}
 use Rattle.v2_core.specs.declared.fault.V2Fault.TheVariants.{Bad, Memory, TooLarge}
-use Rattle.refusal_laws.specs.InputFaults.{IsFaultOfInput, IsIndexRead, repositories_found}
+use Rattle.refusal_laws.specs.InputFaults.{IsFaultOfDatabase, IsFaultOfInput, IsIndexRead, repositories_found}
 use Rattle.refusal_laws.proofs.Lists.{and_then_err, and_then_ok}
 
 -- ---- a text is never refused for want of memory
@@ -68,36 +68,47 @@ pub no_refusal : {A : Type 0} (a : A) (refusal : Refusal) → Ok a ≡ Err refus
 no_refusal a refusal e = cc (e)
 
 module _ (command : CommandLine) (read : Reads) where
-  abbrev IsSo : Refusal → Type 0
-  IsSo refusal = IsFaultOfInput command read refusal
-
   -- ---- the database
 
+  abbrev IsDatabaseSo : Refusal → Type 0
+  IsDatabaseSo refusal = IsFaultOfDatabase command read refusal
+
   text_fault : (text : List ℕ) (refusal : Refusal) → read database_read database_name ≡ None → read text_database_read text_database_name ≡ Some text
-      → (payload : Result (List ℕ) V2Fault) → payload_of_text text ≡ payload → payload_database payload ≡ Err refusal → IsSo refusal
+      → (payload : Result (List ℕ) V2Fault) → payload_of_text text ≡ payload → payload_database payload ≡ Err refusal → IsDatabaseSo refusal
   text_fault text refusal none some (Ok payload) is e = absurd (cc (e))
   text_fault text refusal none some (Err (Bad cause)) is e =
       let same : DatabaseBad cause ≡ refusal = cc in
-      subst IsSo same (inr (record { container = none; text = text; is_text = some; refused = is }))
+      subst IsDatabaseSo same (inr (record { container = none; text = text; is_text = some; refused = is }))
   text_fault text refusal none some (Err (TooLarge bytes values)) is e =
       let same : ResultTooLarge bytes values ≡ refusal = cc in
-      subst IsSo same (record { container = none; text = text; is_text = some; refused = is })
+      subst IsDatabaseSo same (record { container = none; text = text; is_text = some; refused = is })
   text_fault text refusal none some (Err Memory) is e = absurd (text_remembers text is)
 
   none_fault : (may_begin : Bool) (refusal : Refusal) → command.flags.initdb ≡ may_begin → read database_read database_name ≡ None → read text_database_read text_database_name ≡ None
-      → root_database may_begin None None ≡ Err refusal → IsSo refusal
+      → root_database may_begin None None ≡ Err refusal → IsDatabaseSo refusal
   none_fault true refusal begun none neither e = absurd (cc (e))
   none_fault false refusal begun none neither e =
       let same : NoDatabase ≡ refusal = cc in
-      subst IsSo same (record { container = none; text = neither; not_begun = begun })
+      subst IsDatabaseSo same (record { container = none; text = neither; not_begun = begun })
 
-  database_fault : (file text : Option (List ℕ)) (refusal : Refusal) → read database_read database_name ≡ file → read text_database_read text_database_name ≡ text
-      → root_database command.flags.initdb file text ≡ Err refusal → IsSo refusal
+  pub database_fault : (file text : Option (List ℕ)) (refusal : Refusal) → read database_read database_name ≡ file → read text_database_read text_database_name ≡ text
+      → root_database command.flags.initdb file text ≡ Err refusal → IsDatabaseSo refusal
   database_fault (Some file) text refusal is other e =
       let why = cause_err DatabaseBad (first_fault Idb file) _ refusal e in
-      subst IsSo why.2 (inl (record { file = file; is_file = is; fault = why.1 }))
+      subst IsDatabaseSo why.2 (inl (record { file = file; is_file = is; fault = why.1 }))
   database_fault None (Some text) refusal is other e = text_fault text refusal is other (payload_of_text text) refl e
   database_fault None None refusal is other e = none_fault command.flags.initdb refusal refl is other e
+
+  -- ---- all inputs
+
+  abbrev IsSo : Refusal → Type 0
+  IsSo refusal = IsFaultOfInput command read refusal
+
+  database_so : (refusal : Refusal) → IsDatabaseSo refusal → IsSo refusal
+  database_so NoDatabase is = is
+  database_so (DatabaseBad cause) is = is
+  database_so (ResultTooLarge bytes values) is = is
+  database_so other is = absurd is
 
   -- ---- world and the repositories
 
@@ -141,7 +152,7 @@ module _ (command : CommandLine) (read : Reads) where
   root_fault refusal e =
       elim (and_then_err (root_database command.flags.initdb (read database_read database_name) (read text_database_read text_database_name)) (λ database.
       and_then (root_world (text_found (read world_read world_name))) (world_then database)) refusal e) [
-        | inl first ↦ database_fault (read database_read database_name) (read text_database_read text_database_name) refusal refl refl first
+        | inl first ↦ database_so refusal (database_fault (read database_read database_name) (read text_database_read text_database_name) refusal refl refl first)
         | inr next ↦ elim (and_then_err (root_world (text_found (read world_read world_name))) (world_then next.0) refusal next.2) [
           | inl second ↦ world_fault refusal second
           | inr third ↦ elim (and_then_err (root_repositories command.flags.allow_untrusted (repositories_found read)) (λ repositories.

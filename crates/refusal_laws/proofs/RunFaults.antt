@@ -21,7 +21,7 @@ use Rattle.report_core.specs.declared.refusal.Refusal.TheVariants.{IntentBad}
 use Rattle.refusal_laws.specs.RunFaults.{IsFaultOfRun, IsFaultOver}
 use Rattle.refusal_laws.proofs.CommandFaults.{command_fault}
 
-some_same : (a b : Refusal) → Some a ≡ Some b → a ≡ b
+pub some_same : (a b : Refusal) → Some a ≡ Some b → a ≡ b
 some_same a b e = cc (e)
 
 -- a refused outcome of a change is that of a refusal

@@ -69,13 +69,18 @@ pub record IsIndexBad (read : Reads) (number : ℕ) (cause : Cause) : Type 0 whe
 
 -- ---- each refusal
 
-abbrev pub IsFaultOfInput : CommandLine → Reads → Refusal → Type 0
-IsFaultOfInput command read NoDatabase = HasNoDatabase command read
-IsFaultOfInput command read (DatabaseBad cause) =
+-- of the database
+abbrev pub IsFaultOfDatabase : CommandLine → Reads → Refusal → Type 0
+IsFaultOfDatabase command read NoDatabase = HasNoDatabase command read
+IsFaultOfDatabase command read (DatabaseBad cause) =
     IsContainerBad read cause ⊎ IsTextRefused read (Bad cause)
 -- a text database that says more than a container may have
-IsFaultOfInput command read (ResultTooLarge bytes values) =
+IsFaultOfDatabase command read (ResultTooLarge bytes values) =
     IsTextRefused read (TooLarge bytes values)
+IsFaultOfDatabase command read other = ⊥
+
+-- of all that a change reads
+abbrev pub IsFaultOfInput : CommandLine → Reads → Refusal → Type 0
 IsFaultOfInput command read (WorldBad line) =
     world_of (text_found (read world_read world_name)) ≡ Err line
 IsFaultOfInput command read (RepositoriesBad line) =
@@ -83,7 +88,7 @@ IsFaultOfInput command read (RepositoriesBad line) =
 IsFaultOfInput command read Untrusted = IsUntrusted command read
 IsFaultOfInput command read (IndexMissing number) = IsIndexRead read number None
 IsFaultOfInput command read (IndexBad number cause) = IsIndexBad read number cause
-IsFaultOfInput command read other = ⊥
+IsFaultOfInput command read other = IsFaultOfDatabase command read other
 
 -- ---- too many
 

@@ -9,6 +9,7 @@ pub mod TestsPassed
 pub mod PackagesAfter
 pub mod CommandFaults
 pub mod OperandsKnown
+pub mod InfoFaults
 pub mod RunFaults
 pub mod RunMade
 pub mod MadeTooLarge

@@ -12,6 +12,7 @@ use Rattle.outcome.specs.Work.{fault_of_intent}
 use Rattle.report_core.specs.declared.refusal.Refusal.{Refusal}
 use Rattle.report_core.specs.declared.refusal.Refusal.TheVariants.{IntentBad}
 use Rattle.refusal_laws.specs.CommandFaults.{IsFaultOfCommand}
+use Rattle.refusal_laws.specs.InfoFaults.{IsFaultOfInfo}
 
 -- of the command over the files on which it works, with the candidates that are to be chosen
 pub record IsFaultOver (command : CommandLine) (files : Files) (refusal : Refusal) : Type 0 where
@@ -31,3 +32,10 @@ IsFaultOfRun command files refusal =
     IsIntentRefusal files refusal
     ⊎ ((fault_of_intent (files intent_name) ≡ None)
     × IsFaultOver command (unstaged_files files) refusal)
+
+-- so it is with a run of `info`
+abbrev pub IsFaultOfInfoRun : CommandLine → Files → Refusal → Type 0
+IsFaultOfInfoRun command files refusal =
+    IsIntentRefusal files refusal
+    ⊎ ((fault_of_intent (files intent_name) ≡ None)
+    × IsFaultOfInfo command (reads_in (unstaged_files files)) refusal)

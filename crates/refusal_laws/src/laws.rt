@@ -12,8 +12,8 @@ ghost use Rattle.engine_core.specs.Selecting.{pool_for};
 ghost use Rattle.make_info.specs.Reads.{Reads};
 ghost use Rattle.make_info.specs.declared.fault.MakeFault.TheVariants.{TooLarge};
 ghost use Rattle.make_package.specs.Making.{made_package};
-ghost use Rattle.outcome.specs.Commands.{IsOutcomeOver};
-ghost use Rattle.outcome.specs.Effect.{Changes, effect_of};
+ghost use Rattle.outcome.specs.Commands.{IsOutcomeOver, reads_in};
+ghost use Rattle.outcome.specs.Effect.{Changes, Tells, effect_of};
 ghost use Rattle.outcome.specs.Outcome.{Outcome};
 ghost use Rattle.outcome.specs.Words.{IsOutcome};
 ghost use Rattle.package_changes.specs.Changes.{Replacement};
@@ -22,12 +22,13 @@ ghost use Rattle.report_core.specs.declared.refusal.Refusal.{Refusal};
 ghost use Rattle.refusal_laws.specs.ChangeFaults.{IsFaultOfChange, IsFaultOfPackage};
 ghost use Rattle.refusal_laws.specs.CommandFaults.{IsFaultOfCommand};
 ghost use Rattle.refusal_laws.specs.FirstPackage.{IsFirstRefused};
+ghost use Rattle.refusal_laws.specs.InfoFaults.{IsFaultOfInfo};
 ghost use Rattle.refusal_laws.specs.InputFaults.{IsFaultOfInput};
 ghost use Rattle.refusal_laws.specs.MadeTooLarge.{IsPackageTooLarge};
 ghost use Rattle.refusal_laws.specs.OperandsKnown.{HasPassedBeforeSelection};
 ghost use Rattle.refusal_laws.specs.PackagesAfter.{AreSelectedOnes};
 ghost use Rattle.refusal_laws.specs.ReadBefore.{HasReadBefore};
-ghost use Rattle.refusal_laws.specs.RunFaults.{IsFaultOfRun, IsFaultOver};
+ghost use Rattle.refusal_laws.specs.RunFaults.{IsFaultOfInfoRun, IsFaultOfRun, IsFaultOver};
 ghost use Rattle.refusal_laws.specs.RunMade.{HasFirstSelection};
 ghost use Rattle.refusal_laws.specs.TestsPassed.{HasNoFault, HasPassedBefore};
 ghost use Rattle.words_core.specs.Grammar.{command_of};
@@ -63,6 +64,20 @@ pub fn a_refused_run_has_its_fault()
         (refusal : Refusal) → command_of words ≡ Ok command
         → effect_of command.applet ≡ Changes → IsOutcome words files o
         → o.refusal ≡ Some refusal → IsFaultOfRun command files refusal }
+{
+    a_command_recovers();
+}
+
+/// Where `info` is refused, also behind its report, what the refusal says is so: of the intent, of
+/// the database, or of the first operand that asks for what is not installed.
+pub fn a_refused_info_has_its_fault()
+    ensures over { (command : CommandLine) (files : Files) (o : Outcome) (refusal : Refusal)
+        → effect_of command.applet ≡ Tells → IsOutcomeOver command files o
+        → o.refusal ≡ Some refusal → IsFaultOfInfo command (reads_in files) refusal }
+    ensures words { (words : List (List ℕ)) (command : CommandLine) (files : Files) (o : Outcome)
+        (refusal : Refusal) → command_of words ≡ Ok command
+        → effect_of command.applet ≡ Tells → IsOutcome words files o
+        → o.refusal ≡ Some refusal → IsFaultOfInfoRun command files refusal }
 {
     a_command_recovers();
 }
