@@ -56,8 +56,11 @@ module _ (ignored : Ignored) (v : TreeState) (run : Run) (is_run : IsRunFrom v r
   pub idle_moment : IsIdleRun v run → (m : TreeState) → IsMomentOf run m → IsStill ignored v m
   idle_moment idle m moment = at_moment (IsStill ignored v) run v m is_run.begins (still_self ignored v orderly) (idle_still idle) moment
 
+  pub idle_last : IsIdleRun v run → HasNow run.now (IsStill ignored v)
+  idle_last idle = at_last (IsStill ignored v) run.old run.now v is_run.begins (still_self ignored v orderly) (idle_still idle)
+
   pub idle_end : IsIdleRun v run → (w : TreeState) → HasNow run.now (λ u. u ≡ w) → IsStill ignored v w
-  idle_end idle w ends = now_at run.now (IsStill ignored v) w (at_last (IsStill ignored v) run.old run.now v is_run.begins (still_self ignored v orderly) (idle_still idle)) ends
+  idle_end idle w ends = now_at run.now (IsStill ignored v) w (idle_last idle) ends
 
 -- ---- the answer
 
