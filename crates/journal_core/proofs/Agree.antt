@@ -3,7 +3,7 @@ use Rattle.std.proofs.Common.{◌≡◌, inl, inr, ℕ, ◌+◌, ◌≤◌, ◌<
 use Rattle.std.specs.List.{list_any}
 use Rattle.std.specs.Str.{bytes_eq}
 use Rattle.base_core.specs.Files.{Files}
-use Rattle.journal_core.specs.Recovery.{intent_name, is_staged, stage_name, Intent, intent_at, intent_of, without_names, move_if, after_moves, recovered_files_by, recovered_files, is_hidden, state_of, IsPlaceOf, RestsOn}
+use Rattle.journal_core.specs.Recovery.{intent_name, stage_name, Intent, intent_at, intent_of, without_names, move_if, after_moves, recovered_files_by, recovered_files, is_hidden, state_of, IsPlaceOf, RestsOn}
 
 -- two trees of files agree at these names
 abbrev pub Agree : (List ℕ → Type 0) → Files → Files → Type 0

@@ -4,7 +4,7 @@ use Rattle.adb_schema.specs.Soundness.{first_fault, payload_in, root_value}
 use Rattle.adb_tables.specs.declared.tables.Which.TheVariants.{Intent as IntentTable}
 use Rattle.base_core.specs.Files.{Files}
 use Rattle.base_core.specs.declared.cause.Cause.{Cause}
-use Rattle.journal_core.specs.Recovery.{Intent, intent_at, intent_in, intent_name, intent_of, is_staged, read_intent, recovered_files, recovered_files_by, state_of}
+use Rattle.journal_core.specs.Recovery.{Intent, intent_at, intent_in, intent_name, is_staged, read_intent, recovered_files, recovered_files_by, state_of}
 use Rattle.journal_core.specs.Staged.{IsIntentFault}
 use Rattle.journal_core.proofs.Contents.{hidden_state, shown_state}
 

@@ -3,7 +3,7 @@ use Rattle.std.proofs.Common.{◌≡◌, ◌≢◌, ◌||◌, ⊎_elim, ℕ, zer
 use Rattle.std.specs.List.{list_any}
 use Rattle.std.specs.Str.{bytes_eq}
 use Rattle.base_core.specs.Files.{Files, drop_name, put_name}
-use Rattle.journal_core.specs.Recovery.{Intent, after_actions, after_moves, intent_name, is_hidden, is_staged, move_if, recovered_files, stage_name, state_of, without_names}
+use Rattle.journal_core.specs.Recovery.{Intent, after_actions, after_moves, is_hidden, is_staged, move_if, recovered_files, stage_name, state_of, without_names}
 use Rattle.journal_core.specs.Staged.{with_staged}
 use Rattle.journal_core.proofs.Replayed.{move_if-off, place_not_among}
 use Rattle.journal_intent.proofs.AtName.{name_cases, off_name, put_name-at, put_name-off}

@@ -14,7 +14,7 @@ use Rattle.base_core.specs.Restart.{IsCrashOf}
 use Rattle.base_core.specs.Tree.{TreeState, files_of}
 use Rattle.base_core.specs.declared.cause.Cause.{Cause}
 use Rattle.journal_core.specs.Quiet.{IsQuiet, IsStill}
-use Rattle.journal_core.specs.Recovery.{RestsOn, intent_name, is_staged, recovered_files, state_of}
+use Rattle.journal_core.specs.Recovery.{IsSettled, RestsOn, intent_name, is_staged, recovered_files, state_of}
 use Rattle.journal_core.specs.Staged.{IsIntentFault, unstaged_files}
 use Rattle.outcome.specs.Effect.{Effect, Computes, Reads, Tells, Makes, Changes, does_recover, effect_by, output}
 use Rattle.outcome.specs.Outcome.{Outcome}
@@ -26,7 +26,7 @@ use Rattle.words_core.specs.Grammar.{command_of}
 use Rattle.run_lists.specs.Events.{Crashes, Edits, Ends, Event, HasSeen, HasSeenIdly, IsIdle, IsIdleRun, IsMomentOf, IsOutcomeFrom, IsRunFrom, LeadsOn, Run, Stops, ignored_behind, ignored_in, nothing_ignored}
 use Rattle.run_lists.specs.Reading.{HasBadIntent}
 use Rattle.run_lists.specs.Recovered.{HasSeenNoBadIntent, HasStateBeforeOrOutcome, IsRecoveredRoot, IsRecoveredBy, IsUnrefused, LeavesNoBadIntent, PutsNoBadIntent}
-use Rattle.run_lists.specs.Safety.{IsOldOrOutcome}
+use Rattle.run_lists.specs.Safety.{HasOldOrOutcome, IsOldOrOutcome}
 use Rattle.run_lists.proofs.Along.{as_crash, seen_orderly}
 use Rattle.run_lists.proofs.AtMoments.{now_map, now_with}
 use Rattle.run_lists.proofs.Committed.{CommitsNoIntent, ReadSound, absent_now}
@@ -146,6 +146,10 @@ module _ (names : Ignored) (v : TreeState) (run : Run) where
   left_state m (inl quiet) image is = let was = quiet image is in inl (was.0, was.1, was.2)
   left_state m (inr (o, one, commits, old_or_new)) image is =
       ⊎_elim (λ was. inl (was.0, was.1, was.2)) (λ new. inr (o, one, commits, new)) (old_or_new image is)
+
+pub one_of_two : (names : Ignored) (v : TreeState) (run : Run) (files : Files) → IsSettled names (files_of v) v → HasStateBeforeOrOutcome names v run files → HasOldOrOutcome names v run files
+one_of_two names v run files settled (inl (was, left, same)) = inl (same ∙ settled was left)
+one_of_two names v run files settled (inr (o, one, commits, same)) = inr (o, one, commits, same)
 
 quiet_on : (ignored : Ignored) (a b c : TreeState) → IsQuiet ignored a b → IsQuiet ignored b c → IsQuiet ignored a c
 quiet_on ignored a b c first second image is =

@@ -6,7 +6,7 @@ ghost use Rattle.base_core.specs.Crash.{IsOrderly};
 ghost use Rattle.base_core.specs.Files.{Files};
 ghost use Rattle.base_core.specs.Tree.{TreeState, files_of};
 ghost use Rattle.journal_core.specs.Kept.{IsWaitingName};
-ghost use Rattle.journal_core.specs.Recovery.{RestsOn, intent_name, state_of};
+ghost use Rattle.journal_core.specs.Recovery.{IsSettled, RestsOn, intent_name, state_of};
 ghost use Rattle.journal_core.specs.Staged.{unstaged_files};
 ghost use Rattle.outcome.specs.Effect.{does_recover, effect_by, output, reads_only};
 ghost use Rattle.outcome.specs.Outcome.{Outcome};
@@ -14,8 +14,8 @@ ghost use Rattle.outcome.specs.Words.{IsOutcome};
 ghost use Rattle.outcome.specs.Work.{recovery_fault};
 ghost use Rattle.run_lists.specs.Events.{Event, HasNoPendingOutput, HasSeen, HasSeenIdly, HasSeenToOneState, IsIdleRun, IsMomentOf, IsOutcomeFrom, IsRunFrom, Run, ignored_behind, ignored_in, nothing_ignored, with_scratch};
 ghost use Rattle.run_lists.specs.Reading.{HasBadIntent, HasBytesOfRun, HasSeenRuns, IsAnyRun, IsDoneForGood, IsLastingName, IsNoDraft, IsTrueAt, LeavesTrueAt};
-ghost use Rattle.run_lists.specs.Recovered.{HasSeenNoBadIntent, IsRecoveredBy, IsUnrefused, LeavesNoBadIntent};
-ghost use Rattle.run_lists.specs.Safety.{IsAtomicBehindAll, IsSafeBehindAll};
+ghost use Rattle.run_lists.specs.Recovered.{HasSeenNoBadIntent, HasStateBeforeOrOutcome, IsRecoveredBy, IsUnrefused, LeavesNoBadIntent};
+ghost use Rattle.run_lists.specs.Safety.{HasOldOrOutcome, IsAtomicBehindAll, IsSafeBehindAll};
 ghost use Rattle.words_core.specs.Grammar.{command_of};
 
 use apk_front::a_crash_leaves_the_old_files_or_those_of_the_outcome;
@@ -205,12 +205,18 @@ pub fn no_list_leaves_a_bad_intent()
 /// recovers is not refused for an intent. Once it has answered that it commits nothing, nothing is
 /// left to do, and the root has a state from before the stopped run, or that of its outcome.
 pub fn a_stopped_run_is_recovered()
-    ensures { (ignored : List ℕ → Bool) (first v m w : TreeState) (events later : List Event)
+    ensures recovered { (ignored : List ℕ → Bool) (first v m w : TreeState) (events later : List Event)
         (run next : Run) → ignored intent_name ≡ false → IsOrderly (RestsOn ignored) first
         → LeavesNoBadIntent first → HasSeenNoBadIntent first events v
         → IsRunFrom v run → IsMomentOf run m → HasSeenIdly m later w
         → IsRunFrom w next → does_recover (effect_by (command_of next.words)) ≡ true
         → IsRecoveredBy (ignored_in run (ignored_behind ignored events)) v run w next }
+
+    // Where the root had one state when the run began, these are two: the old one and the
+    // outcome's.
+    ensures two { (ignored : List ℕ → Bool) (v : TreeState) (run : Run) (files : Files)
+        → IsSettled ignored (files_of v) v → HasStateBeforeOrOutcome ignored v run files
+        → HasOldOrOutcome ignored v run files }
 {
     a_crash_leaves_an_orderly_settled_tree();
     a_crash_may_leave_the_files_as_read();

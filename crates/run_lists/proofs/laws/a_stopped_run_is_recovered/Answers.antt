@@ -1,9 +1,12 @@
 use Rattle.run_lists.proofs.Facts.{Facts}
-use Rattle.run_lists.proofs.Recoverable.{stopped_recovers}
+use Rattle.run_lists.proofs.Recoverable.{one_of_two, stopped_recovers}
 use Rattle.run_lists.proofs.laws.a_stopped_run_is_recovered.Goals as goal
 
-pub returns : goal.returns
-returns c =
+pub returns-clause-two : goal.returns-clause-two
+returns-clause-two c = one_of_two
+
+pub returns-clause-recovered : goal.returns-clause-recovered
+returns-clause-recovered c =
     let facts : Facts = record {
       crash_orderly = c.a_crash_leaves_an_orderly_settled_tree.ensures.orderly;
       crash_settled = c.a_crash_leaves_an_orderly_settled_tree.ensures.settled;
