@@ -20,7 +20,7 @@ len_by kind front =
     if kind == 10 then 4 + from_le_bytes w32 front else
     4 * from_le_bytes w32 front
 
-pub record IsFramed (i : Item) : Type 0 where
+pub record TellsItsLength (i : Item) : Type 0 where
   pub some : 0 < length i.bytes
   pub long : front_len i.kind ≤ length i.bytes
   pub len : length i.bytes ≡ len_by i.kind (take (front_len i.kind) i.bytes)
@@ -28,16 +28,16 @@ pub record IsFramed (i : Item) : Type 0 where
 -- an item that tells its length stands there
 pub record IsThere (body : List ℕ) (x : WrittenItem) : Type 0 where
   pub what : Item
-  pub framed : IsFramed what
+  pub framed : TellsItsLength what
   pub equal : is_equal_item body what x ≡ true
 
 -- each written item stands in the layout
-pub record IsWhole (out : Layout) : Type 0 where
+pub record HasAllItems (out : Layout) : Type 0 where
   pub all : AllByRecursion (IsThere out.body) out.items
 
 -- the same of a writer, whose bytes are counted
 pub record IsWholeWriting (w : Writing) : Type 0 where
-  pub whole : IsWhole (layout_of w)
+  pub whole : HasAllItems (layout_of w)
   pub bytes : w.bytes ≡ 8 + length w.body
 
 -- unless it passed a limit

@@ -11,6 +11,7 @@ use Rattle.own_core.specs.ClaimEntries.{claim_entry}
 use Rattle.own_core.specs.declared.fate.Fate.{Fate}
 use Rattle.own_core.specs.declared.fate.Fate.TheVariants.{GivesWay, GoesAside, GoesIn}
 
+-- what contracts see in a fate
 abbrev pub fate_seen : Fate → Fates.Fate
 fate_seen GoesIn = goes_in
 fate_seen GivesWay = gives_way

@@ -9,8 +9,8 @@ use Rattle.piece_core.specs.Taking.{IsTaken, file_bytes_left, pieces_in}
 use Rattle.piece_core.specs.declared.file.FileCheck.{FileCheck}
 use Rattle.piece_core.specs.declared.file.Part.{Part}
 use Rattle.piece_reader.specs.Opened.{IsNextPiece, IsOpenFile, NotDisk, bytes_to_come}
-use Rattle.piece_reader.specs.declared.fault.PieceFault.{PieceFault}
-use Rattle.piece_reader.specs.declared.fault.PieceFault.TheVariants.{Bad, Disk}
+use Rattle.piece_reader.specs.declared.piece.PieceFault.{PieceFault}
+use Rattle.piece_reader.specs.declared.piece.PieceFault.TheVariants.{Bad, Disk}
 use Rattle.piece_reader.specs.declared.open.OpenFile.{OpenFile}
 
 -- ---- the tree failed
