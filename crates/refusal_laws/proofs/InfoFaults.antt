@@ -13,8 +13,8 @@ use Rattle.report_core.specs.declared.refusal.Refusal.{Refusal}
 use Rattle.report_core.specs.declared.refusal.Refusal.TheVariants.{DatabaseBad, NoDatabase, ResultTooLarge}
 use Rattle.root_names.specs.RootNames.{database_name, text_database_name}
 use Rattle.v2_core.specs.Payload.{payload_of_text}
-use Rattle.v2_core.specs.declared.fault.V2Fault.{V2Fault}
-use Rattle.v2_core.specs.declared.fault.V2Fault.TheVariants.{Bad, Memory, TooLarge}
+use Rattle.v2_core.specs.declared.read.V2Fault.{V2Fault}
+use Rattle.v2_core.specs.declared.read.V2Fault.TheVariants.{Bad, Memory, TooLarge}
 use Rattle.refusal_laws.specs.InfoFaults.{IsFaultOfDatabase, IsFaultOfInfo}
 use Rattle.refusal_laws.proofs.InputFaults.{cause_err, text_remembers}
 use Rattle.refusal_laws.proofs.Lists.{and_then_err}

@@ -5,7 +5,7 @@ use Rattle.installed_info.specs.Refusals.{IsOfAnOperand}
 use Rattle.make_info.specs.Reads.{Reads}
 use Rattle.report_core.specs.declared.refusal.Refusal.{Refusal}
 use Rattle.report_core.specs.declared.refusal.Refusal.TheVariants.{DatabaseBad, NoDatabase, ResultTooLarge}
-use Rattle.v2_core.specs.declared.fault.V2Fault.TheVariants.{Bad, TooLarge}
+use Rattle.v2_core.specs.declared.read.V2Fault.TheVariants.{Bad, TooLarge}
 use Rattle.refusal_laws.specs.InputFaults.{HasNoDatabase, IsContainerBad, IsTextRefused}
 use Rattle.refusal_laws.specs.ReadBefore.{HasDatabase}
 
