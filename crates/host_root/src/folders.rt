@@ -67,7 +67,7 @@ impl Folders {
     }
 
     /// Makes the folders on the way to a path that are absent. A file on the way is a fault.
-    pub fn make_way<R: Files>(&mut self, rt: &R, path: &[u8]) -> Result<(), HostFault> {
+    fn make_way<R: Files>(&mut self, rt: &R, path: &[u8]) -> Result<(), HostFault> {
         if self.knows_way(path)? {
             return Ok(());
         }
@@ -92,9 +92,18 @@ impl Folders {
         keep(&mut self.changed, folder)
     }
 
+    /// Makes room for a file: the folders on the way to its path, with no folder at the path.
+    pub fn make_room<R: Host>(&mut self, rt: &R, path: &[u8]) -> Result<(), HostFault> {
+        self.make_way(rt, path)?;
+        if look_at(rt, self.alloc, path)?.is_folder() {
+            self.clear(rt, path)?;
+        }
+        Ok(())
+    }
+
     /// Takes folders away that hold nothing and stand where a file is to be. Where a file or
     /// anything else is below them it is a fault, and nothing changes.
-    pub fn clear<R: Host>(&mut self, rt: &R, path: &[u8]) -> Result<(), HostFault> {
+    fn clear<R: Host>(&mut self, rt: &R, path: &[u8]) -> Result<(), HostFault> {
         let folders = empty_tree(rt, self.alloc, path)?;
         for folder in folders.iter().rev() {
             self.note(parent_of(folder))?;
@@ -146,7 +155,7 @@ impl Folders {
         if self.is_known(path) {
             return Ok(true);
         }
-        if !look(rt, self.alloc, path, path_text(path)?)?.is_folder() {
+        if !look_at(rt, self.alloc, path)?.is_folder() {
             return Ok(false);
         }
         self.keep_known(path)?;
@@ -157,7 +166,7 @@ impl Folders {
         if self.is_known(folder) {
             return Ok(());
         }
-        match look(rt, self.alloc, folder, path_text(folder)?)? {
+        match look_at(rt, self.alloc, folder)? {
             Found::Folder => {}
             Found::File(_) => return Err(HostFault::at(self.alloc, Reason::NoFolder, folder)),
             Found::Nothing => {
@@ -197,6 +206,11 @@ impl Folders {
     }
 }
 
+/// What stands at a path.
+fn look_at<R: Files>(rt: &R, alloc: Global, path: &[u8]) -> Result<Found, HostFault> {
+    look(rt, alloc, path, path_text(path)?)
+}
+
 fn keep(folders: &mut BTreeSet<Vec<u8>>, folder: Vec<u8>) -> Result<(), HostFault> {
     match folders.insert(folder) {
         Ok(_) => Ok(()),
@@ -228,7 +242,7 @@ fn folders_in<R: Host>(rt: &R, alloc: Global, folder: &[u8]) -> Result<Vec<Vec<u
         let entry = entry?;
         let path = entry.path();
         let path = path.as_str().as_bytes();
-        if !look(rt, alloc, path, path_text(path)?)?.is_folder() {
+        if !look_at(rt, alloc, path)?.is_folder() {
             return Err(HostFault::own(Reason::Folder));
         }
         push(&mut found, Vec::from_slice(alloc, path)?)?;
