@@ -6,6 +6,8 @@
 #[cfg(test)]
 mod drafts;
 #[cfg(test)]
+mod expected;
+#[cfg(test)]
 mod packages;
 #[cfg(test)]
 mod writer;

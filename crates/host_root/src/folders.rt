@@ -106,10 +106,16 @@ impl Folders {
     fn clear<R: Host>(&mut self, rt: &R, path: &[u8]) -> Result<(), HostFault> {
         let folders = empty_tree(rt, self.alloc, path)?;
         for folder in folders.iter().rev() {
-            self.note(parent_of(folder))?;
-            fs::remove_dir(rt, path_text(folder)?)?;
-            self.forget(folder);
+            self.remove_empty(rt, folder)?;
         }
+        Ok(())
+    }
+
+    /// Takes a folder away that holds nothing.
+    fn remove_empty<R: Files>(&mut self, rt: &R, folder: &[u8]) -> Result<(), HostFault> {
+        self.note(parent_of(folder))?;
+        fs::remove_dir(rt, path_text(folder)?)?;
+        self.forget(folder);
         Ok(())
     }
 
@@ -222,36 +228,46 @@ fn keep(folders: &mut BTreeSet<Vec<u8>>, folder: Vec<u8>) -> Result<(), HostFaul
 /// stands in.
 fn empty_tree<R: Host>(rt: &R, alloc: Global, root: &[u8]) -> Result<Vec<Vec<u8>>, HostFault> {
     let mut folders = Vec::new(alloc);
-    push(&mut folders, Vec::from_slice(alloc, root)?)?;
+    push(alloc, &mut folders, root)?;
     for next in 0..usize::MAX {
         if next >= folders.len() {
             break;
         }
-        let found = folders_in(rt, alloc, &folders[next])?;
-        for folder in found {
-            push(&mut folders, folder)?;
-        }
+        let folder = Vec::from_slice(alloc, &folders[next])?;
+        push_folders(rt, alloc, &folder, &mut folders)?;
     }
     Ok(folders)
 }
 
-/// The folders in a folder that holds nothing else.
-fn folders_in<R: Host>(rt: &R, alloc: Global, folder: &[u8]) -> Result<Vec<Vec<u8>>, HostFault> {
-    let mut found = Vec::new(alloc);
+/// Adds the folders in a folder that holds nothing else.
+fn push_folders<R: Host>(
+    rt: &R,
+    alloc: Global,
+    folder: &[u8],
+    folders: &mut Vec<Vec<u8>>,
+) -> Result<(), HostFault> {
     for entry in fs::read_dir(rt, path_text(folder)?)? {
         let entry = entry?;
-        let path = entry.path();
-        let path = path.as_str().as_bytes();
-        if !look_at(rt, alloc, path)?.is_folder() {
-            return Err(HostFault::own(Reason::Folder));
-        }
-        push(&mut found, Vec::from_slice(alloc, path)?)?;
+        push_folder(rt, alloc, entry.path().as_str().as_bytes(), folders)?;
     }
-    Ok(found)
+    Ok(())
 }
 
-fn push(list: &mut Vec<Vec<u8>>, path: Vec<u8>) -> Result<(), HostFault> {
-    match list.push(path) {
+/// Adds the folder at a path. Where something else stands it is a fault.
+fn push_folder<R: Files>(
+    rt: &R,
+    alloc: Global,
+    path: &[u8],
+    folders: &mut Vec<Vec<u8>>,
+) -> Result<(), HostFault> {
+    if !look_at(rt, alloc, path)?.is_folder() {
+        return Err(HostFault::own(Reason::Folder));
+    }
+    push(alloc, folders, path)
+}
+
+fn push(alloc: Global, list: &mut Vec<Vec<u8>>, path: &[u8]) -> Result<(), HostFault> {
+    match list.push(Vec::from_slice(alloc, path)?) {
         Ok(()) => Ok(()),
         Err(_) => Err(HostFault::Memory),
     }

@@ -110,14 +110,20 @@ impl<'a, R: Host> Root<'a, R> {
     pub fn fill(&mut self, path: &[u8], at: u64, into: &mut [u8]) -> Result<(), HostFault> {
         self.enter()?;
         if !is_open(&self.reader, path) {
-            let looked_at = self.look_at(path)?;
-            let file = fs::open(self.rt, self.folders.host_path(self.rt, path)?)?;
-            self.reader = Some(Opened::of(self.alloc, path, file, looked_at)?);
+            self.open_to_read(path)?;
         }
         match &mut self.reader {
             Some(reader) => reader.fill(at, into),
             None => Err(HostFault::own(Reason::Nothing)),
         }
+    }
+
+    /// Opens the file at a path for reading.
+    fn open_to_read(&mut self, path: &[u8]) -> Result<(), HostFault> {
+        let looked_at = self.look_at(path)?;
+        let file = fs::open(self.rt, self.folders.host_path(self.rt, path)?)?;
+        self.reader = Some(Opened::of(self.alloc, path, file, looked_at)?);
+        Ok(())
     }
 
     /// Makes an empty file at a path, which stays open, with the folders on the way to it. Folders
@@ -138,17 +144,23 @@ impl<'a, R: Host> Root<'a, R> {
         }
         close(&mut self.reader, path);
         if !is_open(&self.writer, path) {
-            let looked_at = self.look_at(path)?;
-            let file = OpenOptions::new()
-                .append(true)
-                .open(self.rt, path_text(path)?)?;
-            self.writer = Some(Opened::of(self.alloc, path, file, looked_at)?);
+            self.open_again(path)?;
         }
         self.seen = None;
         match &mut self.writer {
             Some(writer) => Ok(writer),
             None => Err(HostFault::own(Reason::Nothing)),
         }
+    }
+
+    /// Opens the file at a path to append to it.
+    fn open_again(&mut self, path: &[u8]) -> Result<(), HostFault> {
+        let looked_at = self.look_at(path)?;
+        let file = OpenOptions::new()
+            .append(true)
+            .open(self.rt, path_text(path)?)?;
+        self.writer = Some(Opened::of(self.alloc, path, file, looked_at)?);
+        Ok(())
     }
 
     /// Adds a piece to the file at a path. Where that fails, the front of the piece that was
