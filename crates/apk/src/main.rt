@@ -4,17 +4,15 @@
 //! host did of it is not seen by a proof. All else is decided below it.
 #![tactic(auto)]
 
-mod stream;
-mod words;
+mod process;
 
 use apk_front::{Access, Answer, access_for, apk, status};
 use host_files::Lock;
 use host_tree::HostTree;
+use process::{HostSink, WordsFault, words_of};
 use std::io;
 use std::io::Write;
 use std::process::ExitCode;
-use stream::HostSink;
-use words::{WordsFault, words_of};
 
 /// The status of a run that finds no memory for its words.
 const NO_MEMORY: u8 = 4;

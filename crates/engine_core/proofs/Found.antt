@@ -16,8 +16,8 @@ use Rattle.change_files.specs.PlanLists.{first_reserved}
 use Rattle.change_inputs.specs.Answers.{IsFailure}
 use Rattle.change_inputs.specs.Chains.{and_then}
 use Rattle.change_inputs.specs.Inputs.{Inputs}
-use Rattle.change_inputs.specs.declared.refused.Refused.{Refused}
-use Rattle.change_inputs.specs.declared.refused.Refused.TheVariants as Commands
+use Rattle.change_inputs.specs.declared.root.Refused.{Refused}
+use Rattle.change_inputs.specs.declared.root.Refused.TheVariants as Commands
 use Rattle.change_outcome.specs.ChangeOutcome.{ChangeDone, ChangeWishes, IsClashFound, change_members, change_with_members, file_change, name_at_place, touched_paths, unless_clash, unless_contested, unless_reserved_path, unless_too_large}
 use Rattle.change_outcome.specs.MembersAfter.{MemberFound, candidates_that_come, members_found}
 use Rattle.change_outcome.specs.Triggers.{unless_trigger}

@@ -8,6 +8,7 @@ use Rattle.engine_core.specs.Changed.{Selected}
 use Rattle.engine_core.specs.Selecting.{replacement_of_choice}
 use Rattle.engine_core.specs.declared.selection.Selection.{Selection}
 
+-- what was read of the root for a selection
 abbrev pub inputs_of_selection : Selection → Inputs
 inputs_of_selection s = inputs_seen s.loaded.now
 

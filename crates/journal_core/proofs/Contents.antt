@@ -3,10 +3,10 @@ use Rattle.std.proofs.Common.{◌≡◌, ◌≢◌, ◌||◌, ⊎_elim, ℕ, zer
 use Rattle.std.specs.List.{list_any}
 use Rattle.std.specs.Str.{bytes_eq}
 use Rattle.base_core.specs.Files.{Files, drop_name, put_name}
-use Rattle.journal_core.specs.Recovery.{Intent, after_actions, after_moves, intent_name, is_hidden, is_staged, move_if, recovered_files, stage_name, state_of, without_names}
+use Rattle.journal_core.specs.Recovery.{Intent, after_actions, after_moves, is_hidden, is_staged, move_if, recovered_files, stage_name, state_of, without_names}
 use Rattle.journal_core.specs.Staged.{with_staged}
 use Rattle.journal_core.proofs.Replayed.{move_if-off, place_not_among}
-use Rattle.journal_intent.proofs.AtName.{name_cases, off_name, other_name, put_name-at, put_name-off}
+use Rattle.journal_intent.proofs.AtName.{name_cases, off_name, put_name-at, put_name-off}
 use Rattle.journal_intent.proofs.StageNames.{stage_names_apart, stage_name_staged}
 use Rattle.journal_intent.specs.FreeNames.{AreFreeNames, AreOnce, HasFreeNames, IsFreeName, IsNoneOf, IsOneOf}
 use Rattle.journal_intent.specs.IntentValue.{intent_of_lists}
@@ -24,10 +24,8 @@ or_right false b e = e
 
 -- ---- the state of files
 
-pub shown_state : (ignored : List ℕ → Bool) (files : Files) (q : List ℕ) → is_staged q ≡ false → ignored q ≡ false → q ≢ intent_name → state_of ignored files q ≡ recovered_files files q
-shown_state ignored files q staged hidden ne =
-    let all : is_hidden ignored q ≡ false = ap (λ b. b || (is_staged q || ignored q)) (other_name q intent_name ne) ∙ ap (λ b. b || ignored q) staged ∙ hidden in
-    ap (λ b. cond b None (recovered_files files q)) all
+pub shown_state : (ignored : List ℕ → Bool) (files : Files) (q : List ℕ) → is_staged q ≡ false → ignored q ≡ false → state_of ignored files q ≡ recovered_files files q
+shown_state ignored files q staged shown = ap (λ b. cond b None (recovered_files files q)) (ap (λ b. b || ignored q) staged ∙ shown)
 
 pub hidden_state : (ignored : List ℕ → Bool) (files : Files) (q : List ℕ) → is_hidden ignored q ≡ true → state_of ignored files q ≡ None
 hidden_state ignored files q hidden = ap (λ b. cond b None (recovered_files files q)) hidden

@@ -2,6 +2,7 @@ pub mod Acted
 pub mod Acts
 pub mod Again
 pub mod Agree
+pub mod BadIntents
 pub mod Below
 pub mod Beside
 pub mod Between

@@ -1,10 +1,9 @@
 -- What holds for some ignored names holds for more of them.
 use Rattle.std.proofs.Common.{◌≡◌, inl, inr, ⊎_elim, Bool, true, false, cond, ◌||◌, ℕ, List, Option, None, refl, ap}
-use Rattle.std.specs.Str.{bytes_eq}
 use Rattle.base_core.specs.Files.{Files}
 use Rattle.base_core.specs.Tree.{TreeState}
 use Rattle.journal_core.specs.Quiet.{IsQuiet}
-use Rattle.journal_core.specs.Recovery.{intent_name, is_hidden, is_staged, recovered_files, state_of, IsOldOrNew, IsSettled, RestsOn}
+use Rattle.journal_core.specs.Recovery.{is_hidden, is_staged, recovered_files, state_of, IsOldOrNew, IsSettled, RestsOn}
 
 module _ (few many : List ℕ → Bool) (up : (q : List ℕ) → few q ≡ true → many q ≡ true) where
   smaller : (a b c : Bool) → (b ≡ true → c ≡ true) → (a || c) ≡ false → (a || b) ≡ false
@@ -18,11 +17,7 @@ module _ (few many : List ℕ → Bool) (up : (q : List ℕ) → few q ≡ true 
   rests_fewer files q (inr (inr place)) = inr (inr place)
 
   hidden_more : (q : List ℕ) → is_hidden many q ≡ false → is_hidden few q ≡ false
-  hidden_more q = by (bytes_eq q intent_name) (is_staged q) (few q) (many q) (up q)
-    where
-      by : (a b c d : Bool) → (c ≡ true → d ≡ true) → (a || (b || d)) ≡ false → (a || (b || c)) ≡ false
-      by true b c d more is = is
-      by false b c d more is = smaller b c d more is
+  hidden_more q = smaller (is_staged q) (few q) (many q) (up q)
 
   shown_same : (a b : Bool) (f g : Option (List ℕ)) → (a ≡ false → b ≡ false) → cond b None f ≡ cond b None g → cond a None f ≡ cond a None g
   shown_same true b f g less same = refl

@@ -6,8 +6,7 @@ use Rattle.base_core.specs.Files.{Files, drop_name}
 use Rattle.base_core.specs.Tree.{TreeState, after_remove, after_rename, after_sync_names, files_of, same_state, Anywhere}
 use Rattle.journal_core.specs.Acting.{MovesIfThere, acting_stage}
 use Rattle.journal_core.specs.Kept.{HasOldOrNewBytes, IsWaitingName, KeepsFilesBut, KeepsOldOrNewBytes}
-use Rattle.journal_core.specs.Recovering.{IsReplayed}
-use Rattle.journal_core.specs.Recovery.{Intent, after_actions, after_moves, intent_name, intent_of, is_staged, move_if, read_intent, recovered_files, recovered_files_by, stage_name, without_names}
+use Rattle.journal_core.specs.Recovery.{Intent, after_actions, intent_name, intent_of, is_staged, move_if, read_intent, recovered_files, recovered_files_by, stage_name, without_names}
 use Rattle.journal_core.specs.Staged.{IsActing, Staging, unstaged_files}
 use Rattle.journal_core.proofs.Acts.{among_at, moved_reads, removed_reads}
 use Rattle.journal_core.proofs.Carried.{acting_found}
@@ -17,7 +16,7 @@ use Rattle.journal_core.proofs.Emptied.{KeepsShown}
 use Rattle.journal_core.proofs.History.{History, no_more, none_since, now_since, observable_at, observable_map, on_observable, one_more, since_on, since_weaker}
 use Rattle.journal_core.proofs.Leaving.{told_called, told_on}
 use Rattle.journal_core.proofs.OneCall.{one_called}
-use Rattle.journal_core.proofs.Replayed.{move_if-off, moved, place_not_among}
+use Rattle.journal_core.proofs.Replayed.{move_if-off, place_not_among}
 use Rattle.journal_core.proofs.Rowing.{ActsOn}
 use Rattle.journal_intent.proofs.AtName.{drop_name-at, drop_name-off, name_cases, off_name, put_name-at}
 use Rattle.journal_intent.proofs.StageNames.{stage_name_staged}

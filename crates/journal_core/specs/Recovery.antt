@@ -50,11 +50,12 @@ recovered_files_by (Some intent) files = drop_name (after_actions intent files) 
 abbrev pub recovered_files : Files → Files
 recovered_files files = recovered_files_by (intent_of files) files
 
--- the names that no state has: the intent, the waiting files, and further names ignored
+-- the names that no state has: the waiting files, and further names ignored
 abbrev pub is_hidden : (List ℕ → Bool) → List ℕ → Bool
-is_hidden ignored name = bytes_eq name intent_name || (is_staged name || ignored name)
+is_hidden ignored name = is_staged name || ignored name
 
--- the state that files stand for, apart from the names ignored
+-- the state that files stand for, apart from the names ignored; an intent that is done and gone is no
+-- part of it, but a file under its name that is no intent container is
 abbrev pub state_of : (List ℕ → Bool) → Files → Files
 state_of ignored files q = if is_hidden ignored q then None else recovered_files files q
 
@@ -69,7 +70,7 @@ IsPlaceOf (Some intent) q = (k : ℕ) × (1 ≤ k) × (k < 1 + length intent.wri
 -- for the intent's actions
 abbrev pub RestsOn : (List ℕ → Bool) → Files → List ℕ → Type 0
 RestsOn ignored files q =
-    (q ≡ intent_name) ⊎ (((is_staged q || ignored q) ≡ false) ⊎ IsPlaceOf (intent_of files) q)
+    (q ≡ intent_name) ⊎ ((is_hidden ignored q ≡ false) ⊎ IsPlaceOf (intent_of files) q)
 
 -- ---- what a crash leaves, as states
 

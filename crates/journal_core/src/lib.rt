@@ -20,7 +20,7 @@ pub use journal_intent::{
 };
 pub use laws::{
     Journal, a_crash_leaves_an_orderly_settled_tree, a_new_stage_has_staged_nothing,
-    a_state_has_the_recovered_files, an_image_has_the_state_of_its_map,
+    a_state_has_the_recovered_files, a_state_shows_a_bad_intent, an_image_has_the_state_of_its_map,
     an_intent_that_is_read_has_been_published, each_write_has_its_own_bytes,
     moments_on_the_way_join, more_names_may_be_ignored, no_files_leave_room_for_a_change,
     old_or_new_then_quiet_is_old_or_new, quiet_moments_join, quiet_then_old_or_new_is_old_or_new,

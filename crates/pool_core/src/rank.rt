@@ -1,7 +1,7 @@
 //! Which of two candidates is taken first for a need, key by key. The pin to a tag comes before
 //! these keys and the place in the list behind them: both are of a place, so they stand with the
 //! sealed pool.
-ghost use Rattle.std.specs.Prelude.{◌≡◌, option_copied};
+ghost use Rattle.std.specs.Prelude.{◌≡◌};
 ghost use Rattle.std.specs.Option.{option_cmp};
 ghost use Rattle.std.specs.Str.{bytes_eq};
 ghost use Rattle.pool_core.specs.Rank.{byte_cmp, earlier_repository, greater_version, merit_cmp, text_cmp};
@@ -55,10 +55,10 @@ fn has_name(details: &Details<'_>, name: &[u8]) -> bool
 fn by_merit(need: &NeedRef<'_>, one: &Details<'_>, other: &Details<'_>) -> Ordering
     ensures { result ≡ merit_cmp (need_by need.now) one.now other.now }
 {
-    let under = by_version(one.version_under(need), other.version_under(need));
+    let under = by_version(&one.version_under(need), &other.version_under(need));
     let priority = other.priority().cmp(&one.priority());
     let name = one.name().cmp(&other.name());
-    let version = by_version(one.version(), other.version());
+    let version = by_version(&one.version(), &other.version());
     under.then(priority.then(name.then(version)))
 }
 
@@ -66,13 +66,13 @@ fn by_merit(need: &NeedRef<'_>, one: &Details<'_>, other: &Details<'_>) -> Order
 fn by_text(one: &Details<'_>, other: &Details<'_>) -> Ordering
     ensures { result ≡ text_cmp one.now other.now }
 {
-    let version = by_version_text(one.version(), other.version());
+    let version = by_version_text(&one.version(), &other.version());
     version.then(by_repo(one.repo(), other.repo()))
 }
 
 // The order of two versions: the greater first, none last.
-fn by_version(one: Option<&Version<'_>>, other: Option<&Version<'_>>) -> Ordering
-    ensures { result ≡ greater_version (option_copied one.entry) (option_copied other.entry) }
+fn by_version(one: &Option<Version<'_>>, other: &Option<Version<'_>>) -> Ordering
+    ensures { result ≡ greater_version one.now other.now }
 {
     match (one, other) {
         (None, None) => Ordering::Equal,
@@ -83,8 +83,8 @@ fn by_version(one: Option<&Version<'_>>, other: Option<&Version<'_>>) -> Orderin
 }
 
 // The order of two versions by their texts, none first.
-fn by_version_text(one: Option<&Version<'_>>, other: Option<&Version<'_>>) -> Ordering
-    ensures { result ≡ option_cmp byte_cmp (option_copied one.entry) (option_copied other.entry) }
+fn by_version_text(one: &Option<Version<'_>>, other: &Option<Version<'_>>) -> Ordering
+    ensures { result ≡ option_cmp byte_cmp one.now other.now }
 {
     match (one, other) {
         (None, None) => Ordering::Equal,

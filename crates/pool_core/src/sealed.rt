@@ -1,6 +1,6 @@
 //! The candidates under a world: which of them may be selected, which offer a name, and the options
 //! of a need, best first.
-ghost use Rattle.std.specs.Prelude.{◌≡◌, ◌<◌, ◌^◌, ◌==◌, ◌++◌, ◌∷◌, [], map, length, slice_get, Some, IfOk, OnOk, filter, ◌&&◌, not, option_copied, if◌then◌else◌, true, false};
+ghost use Rattle.std.specs.Prelude.{◌≡◌, ◌<◌, ◌^◌, ◌==◌, ◌++◌, ◌∷◌, [], map, length, slice_get, Some, IfOk, OnOk, filter, ◌&&◌, not, if◌then◌else◌, true, false};
 ghost use Rattle.std.specs.Option.{option_cmp, option_map_or};
 ghost use Rattle.std.specs.List.{list_all, list_any};
 ghost use Rattle.std.specs.Ordering.{bool_cmp, flip_args};
@@ -10,6 +10,7 @@ ghost use Rattle.dep_core.specs.Meets.{dependency};
 ghost use Rattle.pool_core.specs.Candidates.{Candidate as CandidateValue, has_usable_install_if, is_allowed, is_eligible, is_barred_by, meets_dependency, uses_tag};
 ghost use Rattle.pool_core.specs.CandidateList.{IsCandidateList};
 ghost use Rattle.pool_core.specs.Options.{may_meet, places_offering, options_for, places_from};
+ghost use Rattle.pool_core.specs.Packages.{candidates_of_packages};
 ghost use Rattle.pool_core.specs.Rank.{candidate_at, candidate_cmp, is_at, is_eligible_at, is_kept_installed, is_pinned, is_pinned_at, is_pinned_to, rank_cmp, sealed_pool_by};
 ghost use Rattle.pool_core.specs.Values.{candidate_value, names_upgraded_by, need_by, need_of};
 ghost use Rattle.pool_core.specs.World.{entries_of_kind, has_positive_install_if, is_entry_of_kind, places_marked};
@@ -19,6 +20,7 @@ use crate::keeping::kept_marks;
 use crate::laws::rank_is_total;
 use crate::marks::{eligible_marks, pinned_marks};
 use crate::need::{Need, NeedRef, Options, Upgrade};
+use crate::packages::Packages;
 use crate::pool::CandidateList;
 use crate::rank::by_details;
 use crate::table::Table;
@@ -30,7 +32,7 @@ use std::marker::Model;
 /// The candidates under a world. What is asked of each candidate again and again is marked once.
 #[derive(Drop)]
 pub struct Sealed<'a> {
-    details: Vec<Details<'a>>,
+    packages: Packages<'a>,
     table: Table<'a>,
     world: &'a World,
     upgrade: Upgrade<'a>,
@@ -46,6 +48,7 @@ impl<'a> Model for Sealed<'a> {
     ghost use Rattle.std.specs.Prelude.{◌≡◌, map};
     ghost use Rattle.pool_core.specs.Candidates.{has_usable_install_if, is_eligible};
     ghost use Rattle.pool_core.specs.Options.{places_from};
+    ghost use Rattle.pool_core.specs.Packages.{candidates_of_packages};
     ghost use Rattle.pool_core.specs.Rank.{SealedPool, is_kept_installed, is_pinned, sealed_pool_by};
     ghost use Rattle.pool_core.specs.Table.{LeadsToOffers};
     ghost use Rattle.pool_core.specs.Values.{names_upgraded_by};
@@ -55,14 +58,14 @@ impl<'a> Model for Sealed<'a> {
     ghost coded = { Prim.hlevel (codes, plain_code) };
 
     ghost view = { λ s.
-        sealed_pool_by s.details.items s.world.now (names_upgraded_by s.upgrade) };
+        sealed_pool_by (candidates_of_packages s.packages) s.world.now (names_upgraded_by s.upgrade) };
 
-    ghost invariant = { λ s. LeadsToOffers s.table s.details.items
-        × (s.eligible.items ≡ map (is_eligible s.world.now) s.details.items)
-        × (s.pinned.items ≡ map (is_pinned s.world.now) s.details.items)
-        × (s.kept.items ≡ map (is_kept_installed (names_upgraded_by s.upgrade)) s.details.items)
+    ghost invariant = { λ s. LeadsToOffers s.table (candidates_of_packages s.packages)
+        × (s.eligible.items ≡ map (is_eligible s.world.now) (candidates_of_packages s.packages))
+        × (s.pinned.items ≡ map (is_pinned s.world.now) (candidates_of_packages s.packages))
+        × (s.kept.items ≡ map (is_kept_installed (names_upgraded_by s.upgrade)) (candidates_of_packages s.packages))
         × (s.install_ifs.items
-        ≡ places_from 0 (has_usable_install_if s.world.now) s.details.items) };
+        ≡ places_from 0 (has_usable_install_if s.world.now) (candidates_of_packages s.packages)) };
 }
 
 impl<'a> Sealed<'a> {
@@ -70,14 +73,14 @@ impl<'a> Sealed<'a> {
     pub fn len(&self) -> usize
         ensures { result ≡ length self.now.candidates }
     {
-        self.details.len()
+        self.packages.len()
     }
 
     /// Whether there is no candidate.
     pub fn is_empty(&self) -> bool
         ensures { result ≡ (length self.now.candidates == 0) }
     {
-        self.details.is_empty()
+        self.packages.len() == 0
     }
 
     /// A candidate, with all that its index, or the database, says of it.
@@ -89,18 +92,22 @@ impl<'a> Sealed<'a> {
     }
 
     /// What is compared of a candidate.
-    pub fn details(&self, id: CandId) -> &Details<'a>
+    pub fn details(&self, id: CandId) -> Details<'a>
         requires { id < length self.now.candidates }
-        ensures { slice_get self.now.candidates id ≡ Some result.now }
+        ensures { slice_get self.now.candidates id ≡ Some result }
     {
-        &self.details[id.place as usize]
+        self.packages.get(id.place as usize)
     }
 
     /// What is compared of a candidate, if there is one at the place.
-    pub fn at(&self, id: CandId) -> Option<&Details<'a>>
-        ensures { option_copied result ≡ candidate_at self.now id }
+    pub fn at(&self, id: CandId) -> Option<Details<'a>>
+        ensures { result ≡ candidate_at self.now id }
     {
-        self.details.get(id.place as usize)
+        let place = id.place as usize;
+        if place >= self.packages.len() {
+            return None;
+        }
+        Some(self.packages.get(place))
     }
 
     /// The places of the candidates that are named so or have an entry of provides of that name
@@ -171,13 +178,13 @@ impl<'a> Sealed<'a> {
         ensures { result ≡ is_at self.now (may_meet self.now (need_by need.now)) id }
     {
         let place = id.place as usize;
-        if place >= self.details.len() {
+        if place >= self.packages.len() {
             return false;
         }
         if !self.eligible[place] {
             return false;
         }
-        self.details[place].meets_need(need)
+        self.packages.get(place).meets_need(need)
     }
 
     // The rank of two candidates for a need.
@@ -201,7 +208,7 @@ impl<'a> Sealed<'a> {
             (Some(one), Some(other)) => {
                 let pin = self.by_pin(a, b);
                 let kept = self.by_kept(a, b);
-                pin.then(by_details(need, one, other, kept))
+                pin.then(by_details(need, &one, &other, kept))
             }
         }
     }
@@ -263,13 +270,13 @@ pub(crate) fn seal_list<'a>(
 ) -> Result<Sealed<'a>, AllocError>
     requires { IsCandidateList list }
     ensures { IfOk result (λ sealed. sealed
-        ≡ sealed_pool_by list.entry.details.items world.entry.now
+        ≡ sealed_pool_by (candidates_of_packages list.entry.packages) world.entry.now
         (names_upgraded_by upgrade.entry)) }
 {
     let marks = marks_by_world(alloc, &list, world)?;
-    let kept = kept_marks(alloc, &list.details, upgrade)?;
+    let kept = kept_marks(alloc, &list.packages, upgrade)?;
     Ok(Sealed {
-        details: list.details,
+        packages: list.packages,
         table: list.table,
         world,
         upgrade,
@@ -296,17 +303,17 @@ fn marks_by_world(
 ) -> Result<WorldMarks, AllocError>
     requires { IsCandidateList list.now }
     ensures eligible { IfOk result (λ marks. marks.eligible.items
-        ≡ map (is_eligible world.now) list.now.details.items) }
+        ≡ map (is_eligible world.now) (candidates_of_packages list.now.packages)) }
     ensures pinned { IfOk result (λ marks. marks.pinned.items
-        ≡ map (is_pinned world.now) list.now.details.items) }
+        ≡ map (is_pinned world.now) (candidates_of_packages list.now.packages)) }
     ensures install_ifs { IfOk result (λ marks. marks.install_ifs.items
-        ≡ places_from 0 (has_usable_install_if world.now) list.now.details.items) }
+        ≡ places_from 0 (has_usable_install_if world.now) (candidates_of_packages list.now.packages)) }
 {
     let conflicts = entries_of_kind(alloc, world, EntryKind::Conflict)?;
     let tagged = entries_of_kind(alloc, world, EntryKind::Tagged)?;
-    let eligible = eligible_marks(alloc, &list.details, &list.table, &tagged, &conflicts)?;
-    let pinned = pinned_marks(alloc, &list.details, &list.table, &tagged)?;
-    let install_ifs = install_ifs_among(alloc, &list.details, &eligible)?;
+    let eligible = eligible_marks(alloc, &list.packages, &list.table, &tagged, &conflicts)?;
+    let pinned = pinned_marks(alloc, &list.packages, &list.table, &tagged)?;
+    let install_ifs = install_ifs_among(alloc, &list.packages, &eligible)?;
     Ok(WorldMarks {
         eligible,
         pinned,
@@ -354,17 +361,18 @@ fn is_entry_of_kind(kind: EntryKind, dep: &Dep<'_>) -> bool
 // The places of the candidates that may be selected and have an install-if without conflict.
 fn install_ifs_among(
     alloc: Global,
-    details: &[Details<'_>],
+    packages: &Packages<'_>,
     eligible: &[bool],
 ) -> Result<Vec<CandId>, AllocError>
-    requires few { length details.now < 2 ^ 32 }
-    requires marked { length eligible.now ≡ length details.now }
+    requires few { length (candidates_of_packages packages.now) < 2 ^ 32 }
+    requires marked { length eligible.now ≡ length (candidates_of_packages packages.now) }
     ensures { IfOk result (λ ids. ids.items
-        ≡ places_marked 0 eligible.now details.now) }
+        ≡ places_marked 0 eligible.now
+        (candidates_of_packages packages.now)) }
 {
     let mut ids = Vec::new(alloc);
-    for place in 0..details.len() {
-        push_if_marked(&mut ids, place, eligible[place], &details[place])?;
+    for place in 0..packages.len() {
+        push_if_marked(&mut ids, place, eligible[place], &packages.get(place))?;
     }
     Ok(ids)
 }

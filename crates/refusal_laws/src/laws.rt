@@ -6,7 +6,7 @@ ghost use Rattle.change_inputs.specs.Inputs.{Inputs, inputs_of};
 ghost use Rattle.change_outcome.specs.ChangeOutcome.{ChangeDone, ChangeWishes, IsClashOfChange, change_members, change_or_refusal, file_change};
 ghost use Rattle.change_outcome.specs.MembersAfter.{MemberFound};
 ghost use Rattle.command_core.specs.Command.{CommandLine};
-ghost use Rattle.engine_core.specs.Changed.{IsClashFor, changed, selected_of_inputs};
+ghost use Rattle.engine_core.specs.Changed.{IsClashFor, change_of_command, selected_of_inputs};
 ghost use Rattle.engine_core.specs.Choice.{IsChoiceFrom};
 ghost use Rattle.engine_core.specs.Selecting.{pool_for};
 ghost use Rattle.make_info.specs.Reads.{Reads};
@@ -72,7 +72,7 @@ pub fn a_refused_run_has_its_fault()
 pub fn a_refused_command_has_its_fault()
     ensures { (command : CommandLine) (read : Reads) (files : Files) (chosen : Option (List ℕ))
         (clash : Option NamePair) (refusal : Refusal)
-        → changed command read files chosen clash ≡ Err refusal
+        → change_of_command command read files chosen clash ≡ Err refusal
         → IsChoiceFrom (pool_for command read) chosen
         → IsClashFor command read files chosen clash
         → IsFaultOfCommand command read files chosen refusal }

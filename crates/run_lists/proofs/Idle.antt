@@ -1,16 +1,14 @@
 -- A root on which nothing is committed keeps its state, which is what a recovery leaves.
-use Rattle.std.proofs.Common.{◌≡◌, ◌≢◌, inr, ℕ, Bool, true, false, cond, ◌||◌, List, [], ◌∷◌, None, Option, refl, sym, subst, ◌∙◌}
+use Rattle.std.proofs.Common.{◌≡◌, inr, ℕ, Bool, true, false, cond, ◌||◌, List, [], ◌∷◌, None, Option, refl, sym, subst, ◌∙◌}
 use Rattle.std.specs.Prelude.{IsTrue}
-use Rattle.std.specs.Str.{bytes_eq}
 use Rattle.std.proofs.lemmas.Bool.{false≢true}
-use Rattle.std.proofs.lemmas.Slice.Eq.{bytes_eq-Decides}
 use Rattle.apk_front.specs.Moments.{IsAtRest}
 use Rattle.base_core.specs.Crash.{IsImage, IsOrderly}
 use Rattle.base_core.specs.Files.{Files}
 use Rattle.base_core.specs.Restart.{IsCrashOf}
 use Rattle.base_core.specs.Tree.{TreeState, files_of}
 use Rattle.journal_core.specs.Quiet.{IsQuiet, IsStill}
-use Rattle.journal_core.specs.Recovery.{RestsOn, intent_name, is_staged, recovered_files, state_of}
+use Rattle.journal_core.specs.Recovery.{RestsOn, is_staged, recovered_files, state_of}
 use Rattle.journal_core.specs.Staged.{unstaged_files}
 use Rattle.outcome.specs.Effect.{reads_only}
 use Rattle.outcome.specs.Outcome.{Outcome}
@@ -58,12 +56,10 @@ reader_idle reading v run reads = inr (reader_output (command_of run.words) read
 
 -- ---- the state
 
-shown_by : (a b c : Bool) (file : Option (List ℕ)) → (a ≡ true → ⊥) → c ≡ false → cond (a || (b || c)) None file ≡ cond b None file
-shown_by true b c file off shown = absurd (off refl)
-shown_by false true c file off shown = refl
-shown_by false false true file off shown = cc
-shown_by false false false file off shown = refl
+shown_by : (b c : Bool) (file : Option (List ℕ)) → c ≡ false → cond (b || c) None file ≡ cond b None file
+shown_by true c file shown = refl
+shown_by false true file shown = cc
+shown_by false false file shown = refl
 
-pub state_read : (ignored : Ignored) (files : Files) (q : List ℕ) → q ≢ intent_name → ignored q ≡ false → state_of ignored files q ≡ unstaged_files files q
-state_read ignored files q other shown =
-    shown_by (bytes_eq q intent_name) (is_staged q) (ignored q) (recovered_files files q) (λ is. other ((bytes_eq-Decides q intent_name).0 is)) shown
+pub state_read : (ignored : Ignored) (files : Files) (q : List ℕ) → ignored q ≡ false → state_of ignored files q ≡ unstaged_files files q
+state_read ignored files q shown = shown_by (is_staged q) (ignored q) (recovered_files files q) shown

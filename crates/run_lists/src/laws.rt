@@ -1,5 +1,5 @@
 //! Laws on lists of runs, stops and crashes.
-ghost use Rattle.std.specs.Prelude.{◌≡◌, ◌≢◌, ℕ, Bool, false, true, List, None, Option, IsSome, IsTrue};
+ghost use Rattle.std.specs.Prelude.{◌≡◌, ℕ, Bool, false, true, List, None, Option, IsSome, IsTrue};
 ghost use Rattle.apk_front.specs.Moments.{AnswersOutcome, HasIdleOutcome, HidesScratchOf, IsAtRest};
 ghost use Rattle.base_core.specs.Calls.{HasNow};
 ghost use Rattle.base_core.specs.Crash.{IsOrderly};
@@ -98,8 +98,7 @@ pub fn a_root_that_commits_nothing_keeps_its_state()
 
     // The state is what a recovery leaves under each name but those ignored.
     ensures read { (ignored : List ℕ → Bool) (files : Files) (q : List ℕ)
-        → q ≢ intent_name → ignored q ≡ false
-        → state_of ignored files q ≡ unstaged_files files q }
+        → ignored q ≡ false → state_of ignored files q ≡ unstaged_files files q }
 
     // So a run that recovers, and has an outcome that commits nothing, leaves the files that have
     // it, once the outcome is answered; unless a bad intent was refused.

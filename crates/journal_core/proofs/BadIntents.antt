@@ -1,0 +1,62 @@
+-- A state shows a bad intent, and no other.
+use Rattle.std.proofs.Common.{◌≡◌, ◌||◌, ℕ, Bool, true, false, List, Option, None, Some, refl, sym, ap, ◌∙◌}
+use Rattle.adb_schema.specs.Soundness.{first_fault, payload_in, root_value}
+use Rattle.adb_tables.specs.declared.tables.Which.TheVariants.{Intent as IntentTable}
+use Rattle.base_core.specs.Files.{Files}
+use Rattle.base_core.specs.declared.cause.Cause.{Cause}
+use Rattle.journal_core.specs.Recovery.{Intent, intent_at, intent_in, intent_name, is_staged, read_intent, recovered_files, recovered_files_by, state_of}
+use Rattle.journal_core.specs.Staged.{IsIntentFault}
+use Rattle.journal_core.proofs.Contents.{hidden_state, shown_state}
+
+or_true : (a b : Bool) → b ≡ true → (a || b) ≡ true
+or_true true b e = refl
+or_true false b e = e
+
+module _ (sound : (file : List ℕ) → first_fault IntentTable file ≡ None → read_intent file ≡ Some (intent_in (root_value IntentTable (payload_in file))))
+    (other : (file : List ℕ) (cause : Cause) → first_fault IntentTable file ≡ Some cause → read_intent file ≡ None) where
+  -- a file that fails a test stays where it is
+  stays : (files : Files) (file : List ℕ) (cause : Cause) → files intent_name ≡ Some file → first_fault IntentTable file ≡ Some cause → recovered_files files intent_name ≡ Some file
+  stays files file cause is bad = ap (λ (o : Option Intent). recovered_files_by o files intent_name) (ap intent_at is ∙ other file cause bad) ∙ is
+
+  -- one that fails none is an intent, and goes
+  goes : (files : Files) (file : List ℕ) → files intent_name ≡ Some file → first_fault IntentTable file ≡ None → recovered_files files intent_name ≡ None
+  goes files file is good = ap (λ (o : Option Intent). recovered_files_by o files intent_name) (ap intent_at is ∙ sound file good)
+
+  absent : (files : Files) → files intent_name ≡ None → recovered_files files intent_name ≡ None
+  absent files is = ap (λ (o : Option (List ℕ)). recovered_files_by (intent_at o) files intent_name) is ∙ is
+
+  pub bad_shown : (ignored : List ℕ → Bool) (files : Files) (cause : Cause) → ignored intent_name ≡ false → IsIntentFault files cause → state_of ignored files intent_name ≡ files intent_name
+  bad_shown ignored files cause shown (file, is, bad) = shown_state ignored files intent_name refl shown ∙ (stays files file cause is bad ∙ sym is)
+
+  none_left : (files : Files) → ((cause : Cause) → IsIntentFault files cause → ⊥) → (found : Option (List ℕ)) → files intent_name ≡ found → recovered_files files intent_name ≡ None
+  none_left files none None is = absent files is
+  none_left files none (Some file) is = by (first_fault IntentTable file) refl
+    where
+      by : (fault : Option Cause) → first_fault IntentTable file ≡ fault → recovered_files files intent_name ≡ None
+      by None good = goes files file is good
+      by (Some cause) bad = absurd (none cause (file, is, bad))
+
+  pub none_shown : (ignored : List ℕ → Bool) (files : Files) → ((cause : Cause) → IsIntentFault files cause → ⊥) → state_of ignored files intent_name ≡ None
+  none_shown ignored files none = by (ignored intent_name) refl
+    where
+      by : (b : Bool) → ignored intent_name ≡ b → state_of ignored files intent_name ≡ None
+      by true hidden = hidden_state ignored files intent_name (or_true (is_staged intent_name) (ignored intent_name) hidden)
+      by false shown = shown_state ignored files intent_name refl shown ∙ none_left files none (files intent_name) refl
+
+  none_some : {X : Type 0} (x : X) (o : Option X) → o ≡ Some x → o ≡ None → ⊥
+  none_some x o some none = cc (some, none)
+
+  -- what a recovery leaves under the name is a bad intent
+  is_bad : (files : Files) (file : List ℕ) → recovered_files files intent_name ≡ Some file → (found : Option (List ℕ)) → files intent_name ≡ found → files intent_name ≡ Some file
+  is_bad files file left None is = absurd (none_some file (recovered_files files intent_name) left (absent files is))
+  is_bad files file left (Some other_file) is = by (first_fault IntentTable other_file) refl
+    where
+      by : (fault : Option Cause) → first_fault IntentTable other_file ≡ fault → files intent_name ≡ Some file
+      by None good = absurd (none_some file (recovered_files files intent_name) left (goes files other_file is good))
+      by (Some cause) bad = is ∙ (sym (stays files other_file cause is bad) ∙ left)
+
+  pub bad_in_both : (ignored : List ℕ → Bool) (a b : Files) (cause : Cause) → ignored intent_name ≡ false → state_of ignored a ≡ state_of ignored b → IsIntentFault a cause → IsIntentFault b cause
+  bad_in_both ignored a b cause shown same (file, is, bad) =
+      let left : recovered_files b intent_name ≡ Some file =
+      sym (shown_state ignored b intent_name refl shown) ∙ (sym (ap (λ (f : Files). f intent_name) same) ∙ (bad_shown ignored a cause shown (file, is, bad) ∙ is)) in
+      (file, is_bad b file left (b intent_name) refl, bad)
