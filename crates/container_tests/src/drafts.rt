@@ -1,20 +1,13 @@
 //! Drafts: what is given to them, byte for byte, and the limit of values with lists that are equal.
 
-use crate::expected::{expect_bytes, expect_number, expect_too_large};
 use adb_values::Draft;
+use adb_write::WriteFault;
 use std::alloc::AllocError;
 use std::test::Fail;
 
 /// A package with the name `a` and the version `1`.
 const PACKAGE: &[u8] =
     b"\0\0\0\0\x18\0\0\xe0\x01a\x011\x03\0\0\0\x08\0\0\x80\x0a\0\0\x80\x02\0\0\0\x0c\0\0\xe0";
-
-fn payload(draft: Draft) -> Result<Vec<u8>, Fail> {
-    match draft.finish() {
-        Ok(payload) => Ok(payload),
-        Err(_) => Err(Fail::from("no payload")),
-    }
-}
 
 #[test]
 fn a_package(rt: HostRuntime) -> Result<(), Fail> {
@@ -26,8 +19,8 @@ fn a_package(rt: HostRuntime) -> Result<(), Fail> {
     draft.null()?;
     draft.close_object()?;
     draft.close_object()?;
-    let payload = payload(draft)?;
-    expect_bytes(&rt, &payload, PACKAGE);
+    let payload = draft.finish().map_err(|_| Fail::from("no payload"))?;
+    assert_eq!(rt; payload.as_slice(), PACKAGE);
     Ok(())
 }
 
@@ -42,8 +35,8 @@ fn nothing_is_null(rt: HostRuntime) -> Result<(), Fail> {
     draft.null()?;
     draft.close_object()?;
     draft.close_object()?;
-    let payload = payload(draft)?;
-    expect_bytes(&rt, &payload, &[0; 8]);
+    let payload = draft.finish().map_err(|_| Fail::from("no payload"))?;
+    assert_eq!(rt; payload.as_slice(), [0; 8].as_slice());
     Ok(())
 }
 
@@ -51,8 +44,8 @@ fn nothing_is_null(rt: HostRuntime) -> Result<(), Fail> {
 fn values_without_a_list_around_them(rt: HostRuntime) -> Result<(), Fail> {
     let mut draft = Draft::new(rt.alloc());
     draft.int(5)?;
-    let payload = payload(draft)?;
-    expect_bytes(&rt, &payload, b"\0\0\0\0\x05\0\0\x10");
+    let payload = draft.finish().map_err(|_| Fail::from("no payload"))?;
+    assert_eq!(rt; payload.as_slice(), b"\0\0\0\0\x05\0\0\x10".as_slice());
     Ok(())
 }
 
@@ -74,8 +67,8 @@ fn the_limit_of_values_is_met_by_equal_lists(rt: HostRuntime) -> Result<(), Fail
     // 1 + 683 + 683 * 6,140 = 4,194,304 values.
     let mut draft = Draft::new(rt.alloc());
     equal_lists(&mut draft, 683, 6140)?;
-    let payload = payload(draft)?;
-    expect_number(&rt, payload.len() as u64, 8 + 4 * 6141 + 4 * 684);
+    let payload = draft.finish().map_err(|_| Fail::from("no payload"))?;
+    assert_eq!(rt; payload.len(), 8 + 4 * 6141 + 4 * 684);
     Ok(())
 }
 
@@ -84,7 +77,11 @@ fn the_limit_of_values_is_passed_by_one_with_equal_lists(rt: HostRuntime) -> Res
     // 1 + 2,048 + 2,048 * 2,047 = 4,194,305 values.
     let mut draft = Draft::new(rt.alloc());
     equal_lists(&mut draft, 2048, 2047)?;
-    expect_too_large(&rt, draft.finish(), 8 + 4 * 2048 + 4 * 2049, 4_194_305);
+    let counts = WriteFault::TooLarge {
+        bytes: 8 + 4 * 2048 + 4 * 2049,
+        values: 4_194_305,
+    };
+    assert_eq!(rt; draft.finish().err(), Some(counts));
     Ok(())
 }
 
@@ -97,6 +94,10 @@ fn ten_million_equal_entries(rt: HostRuntime) -> Result<(), Fail> {
     }
     draft.close_array()?;
     // The blob's two bytes, two zeros, and the list.
-    expect_too_large(&rt, draft.finish(), 8 + 4 + 4 * 10_000_001, 10_000_001);
+    let counts = WriteFault::TooLarge {
+        bytes: 8 + 4 + 4 * 10_000_001,
+        values: 10_000_001,
+    };
+    assert_eq!(rt; draft.finish().err(), Some(counts));
     Ok(())
 }

@@ -6,8 +6,6 @@
 #[cfg(test)]
 mod drafts;
 #[cfg(test)]
-mod expected;
-#[cfg(test)]
 mod packages;
 #[cfg(test)]
 mod writer;

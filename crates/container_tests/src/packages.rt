@@ -1,6 +1,5 @@
 //! Packages that give the contents of their files, and that go on refusing once they refused.
 
-use crate::expected::{expect_bytes, expect_number};
 use base_core::Cause;
 use pkg_core::Package;
 use std::alloc::{AllocError, Global};
@@ -39,16 +38,14 @@ fn file(
 fn a_package_gives_its_file(rt: HostRuntime) -> Result<(), Fail> {
     let bytes = file(rt.alloc(), b"pckg", ONE, ABC)?;
     let mut opened = Package::new(rt.alloc(), &bytes)?;
-    expect_bytes(
-        &rt,
-        &opened.id(),
-        b"\x07*<k\xa8|\xfa\xa4\x1c\x09\xed\x85d\x9f\x92\xf6\xb4tZ\xe6'\xbf\xb6\xf0\x10\x82\xf5X0\xa8\x1a\xb7",
+    assert_eq!(rt;
+        opened.id(),
+        *b"\x07*<k\xa8|\xfa\xa4\x1c\x09\xed\x85d\x9f\x92\xf6\xb4tZ\xe6'\xbf\xb6\xf0\x10\x82\xf5X0\xa8\x1a\xb7"
     );
-    expect_number(&rt, opened.view().paths().len() as u64, 1);
+    assert_eq!(rt; opened.view().paths().len(), 1);
     let given = opened.next_file().ok().flatten().ok_or("no file")?;
-    expect_number(&rt, given.path as u64, 1);
-    expect_number(&rt, given.file as u64, 1);
-    expect_bytes(&rt, given.bytes, b"abc");
+    assert_eq!(rt; (given.path, given.file), (1, 1));
+    assert_eq!(rt; given.bytes, b"abc".as_slice());
     assert!(rt; matches!(opened.next_file(), Ok(None)));
     assert!(rt; matches!(opened.next_file(), Ok(None)));
     Ok(())

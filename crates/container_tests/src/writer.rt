@@ -1,11 +1,8 @@
 //! The writer: payloads and their words byte for byte, the widths of numbers, and the counts past a
 //! limit.
 
-use crate::expected::{
-    expect_bytes, expect_null, expect_number, expect_other_word, expect_too_large, expect_word,
-};
 use adb_view::Val;
-use adb_write::{Writer, file_of};
+use adb_write::{WriteFault, Writer, file_of};
 use std::alloc::AllocError;
 use std::process::Abort;
 use std::test::Fail;
@@ -27,10 +24,9 @@ const ONE_WRITE: &[u8] =
     b"\0\0\0\0\x14\0\0\xe0\x01a\0\0\x02\0\0\0\x08\0\0\x80\x03\0\0\0\0\0\0\0\x0c\0\0\xd0";
 
 fn payload(writer: Writer, root: Val) -> Result<Vec<u8>, Fail> {
-    match writer.finish(root) {
-        Ok(payload) => Ok(payload),
-        Err(_) => Err(Fail::from("the payload is not given")),
-    }
+    writer
+        .finish(root)
+        .map_err(|_| Fail::from("the payload is not given"))
 }
 
 #[test]
@@ -41,9 +37,9 @@ fn a_package_and_its_file(rt: HostRuntime) -> Result<(), Fail> {
     let info = writer.obj(&[name, version])?;
     let root = writer.obj(&[info])?;
     let payload = payload(writer, root)?;
-    expect_bytes(&rt, &payload, PACKAGE);
+    assert_eq!(rt; payload.as_slice(), PACKAGE);
     let file = file_of(rt.alloc(), 0x676b_6370, &payload)?;
-    expect_bytes(&rt, &file, PACKAGE_FILE);
+    assert_eq!(rt; file.as_slice(), PACKAGE_FILE);
     Ok(())
 }
 
@@ -54,19 +50,22 @@ fn an_intent(rt: HostRuntime) -> Result<(), Fail> {
     let writes = writer.arr(&[path])?;
     let root = writer.obj(&[null(), writes, null()])?;
     let payload = payload(writer, root)?;
-    expect_bytes(&rt, &payload, ONE_WRITE);
+    assert_eq!(rt; payload.as_slice(), ONE_WRITE);
     Ok(())
 }
 
 #[test]
 fn nothing_is_null(rt: HostRuntime) -> Result<(), Fail> {
     let mut writer = Writer::new(rt.alloc());
-    expect_null(&rt, writer.blob(b"")?);
-    expect_null(&rt, writer.arr(&[])?);
-    expect_null(&rt, writer.obj(&[])?);
-    expect_null(&rt, writer.obj(&[null(), null()])?);
+    let words = [
+        writer.blob(b"")?,
+        writer.arr(&[])?,
+        writer.obj(&[])?,
+        writer.obj(&[null(), null()])?,
+    ];
+    assert_eq!(rt; words, [null(); 4]);
     let payload = payload(writer, null())?;
-    expect_bytes(&rt, &payload, &[0; 8]);
+    assert_eq!(rt; payload.as_slice(), [0; 8].as_slice());
     Ok(())
 }
 
@@ -87,10 +86,14 @@ fn integers_of_each_width(rt: HostRuntime) -> Result<(), Fail> {
         let mut writer = Writer::new(rt.alloc());
         writer.blob(b"ab")?;
         let root = writer.int(n)?;
-        expect_word(&rt, root, word);
+        assert_eq!(rt; root.word(), word, "{n}");
         let payload = payload(writer, root)?;
-        expect_bytes(&rt, payload.get(4..8).ok_or("a root")?, &word.to_le_bytes());
-        expect_bytes(&rt, payload.get(11..).ok_or("an integer")?, bytes);
+        assert_eq!(rt;
+            payload.get(4..8),
+            Some(word.to_le_bytes().as_slice()),
+            "{n}"
+        );
+        assert_eq!(rt; payload.get(11..), Some(bytes), "{n}");
     }
     Ok(())
 }
@@ -114,10 +117,10 @@ fn blobs_of_each_width(rt: HostRuntime) -> Result<(), Fail> {
         let mut writer = Writer::new(rt.alloc());
         writer.blob(b"ab")?;
         let root = writer.blob(text)?;
-        expect_word(&rt, root, word);
+        assert_eq!(rt; root.word(), word, "{len}");
         let payload = payload(writer, root)?;
         let rest = payload.get(11..).ok_or("what is behind the first")?;
-        expect_bytes(&rt, rest.strip_prefix(front).ok_or("a front")?, text);
+        assert_eq!(rt; rest.strip_prefix(front), Some(text), "{len}");
     }
     Ok(())
 }
@@ -135,7 +138,7 @@ fn a_name_and_an_equal_origin_stand_once(rt: HostRuntime) -> Result<(), Fail> {
     let info = writer.obj(&[name, version, null(), null(), null(), null(), origin])?;
     let root = writer.obj(&[info])?;
     let payload = payload(writer, root)?;
-    expect_bytes(&rt, &payload, SHARED);
+    assert_eq!(rt; payload.as_slice(), SHARED);
     Ok(())
 }
 
@@ -153,8 +156,12 @@ fn integers_are_equal_by_width_and_number(rt: HostRuntime) -> Result<(), Fail> {
     for (first, second, word) in TWO_INTEGERS {
         let mut writer = Writer::new(rt.alloc());
         writer.int(first)?;
-        expect_word(&rt, writer.int(second)?, word);
-        expect_number(&rt, u64::from(writer.int(first)?.word() % 0x1000_0000), 8);
+        assert_eq!(rt; writer.int(second)?.word(), word, "{first} {second}");
+        assert_eq!(rt;
+            writer.int(first)?.word() % 0x1000_0000,
+            8,
+            "{first} {second}"
+        );
     }
     Ok(())
 }
@@ -167,11 +174,11 @@ fn blobs_are_equal_to_their_last_byte(rt: HostRuntime) -> Result<(), Fail> {
     let first = writer.blob(&text)?;
     text[299] = b'y';
     let other = writer.blob(&text)?;
-    expect_other_word(&rt, first, other);
-    expect_word(&rt, writer.blob(&text)?, other.word());
+    assert!(rt; first.word() != other.word());
+    assert_eq!(rt; writer.blob(&text)?, other);
     text[299] = b'x';
-    expect_word(&rt, writer.blob(&text)?, first.word());
-    expect_other_word(&rt, writer.blob(text.get(..299).ok_or("a front")?)?, first);
+    assert_eq!(rt; writer.blob(&text)?, first);
+    assert!(rt; writer.blob(text.get(..299).ok_or("a front")?)?.word() != first.word());
     Ok(())
 }
 
@@ -182,24 +189,20 @@ fn lists_are_equal_by_kind_and_entries(rt: HostRuntime) -> Result<(), Fail> {
     let array = writer.arr(&[one, null()])?;
     let object = writer.obj(&[one, null()])?;
     assert!(rt; array.word() % 0x1000_0000 != object.word() % 0x1000_0000);
-    expect_word(&rt, writer.arr(&[one, null()])?, array.word());
-    expect_word(&rt, writer.obj(&[one])?, object.word());
-    expect_other_word(&rt, writer.arr(&[one])?, array);
-    expect_other_word(&rt, writer.arr(&[null(), one])?, array);
-    expect_other_word(&rt, writer.arr(&[one, null(), null()])?, array);
+    assert_eq!(rt; writer.arr(&[one, null()])?, array);
+    assert_eq!(rt; writer.obj(&[one])?, object);
+    assert!(rt; writer.arr(&[one])?.word() != array.word());
+    assert!(rt; writer.arr(&[null(), one])?.word() != array.word());
+    assert!(rt; writer.arr(&[one, null(), null()])?.word() != array.word());
     Ok(())
 }
 
 /// How many blobs are written in each order; they take many pages of the writer's table.
 const BLOBS_IN_ORDER: u32 = 5000;
 
-/// A number for each, in an order that rises, that falls, or that does neither.
-fn number_in(order: u32, i: u32) -> u32 {
-    match order {
-        0 => i,
-        1 => BLOBS_IN_ORDER.wrapping_sub(i),
-        _ => i.wrapping_mul(7919) % 65_536,
-    }
+/// A number for each, in an order that neither rises nor falls.
+fn scattered(n: u32) -> u32 {
+    n.wrapping_mul(7919) % 65_536
 }
 
 #[test]
@@ -208,15 +211,25 @@ fn each_of_many_blobs_is_found_again(rt: HostRuntime) -> Result<(), Fail> {
         let mut writer = Writer::new(rt.alloc());
         let mut words = Vec::new(rt.alloc());
         for i in 0..BLOBS_IN_ORDER {
-            words.push(writer.blob(&number_in(order, i).to_be_bytes())?)?;
+            let n = match order {
+                0 => i,
+                1 => BLOBS_IN_ORDER - i,
+                _ => scattered(i),
+            };
+            words.push(writer.blob(&n.to_be_bytes())?)?;
         }
-        for (i, word) in words.iter().enumerate() {
-            let again = writer.blob(&number_in(order, i as u32).to_be_bytes())?;
-            expect_word(&rt, again, word.word());
+        for i in 0..BLOBS_IN_ORDER {
+            let n = match order {
+                0 => i,
+                1 => BLOBS_IN_ORDER - i,
+                _ => scattered(i),
+            };
+            let again = writer.blob(&n.to_be_bytes())?;
+            assert_eq!(rt; Some(&again), words.get(i as usize), "{order} {i}");
         }
         // A head, and five bytes for each blob.
         let payload = payload(writer, null())?;
-        expect_number(&rt, payload.len() as u64, 8 + 5 * u64::from(BLOBS_IN_ORDER));
+        assert_eq!(rt; payload.len(), 8 + 5 * BLOBS_IN_ORDER as usize, "{order}");
     }
     Ok(())
 }
@@ -232,14 +245,13 @@ fn the_limit_of_values_met_and_passed_by_equal_entries(rt: HostRuntime) -> Resul
     entries.resize(MOST_ENTRIES, text)?;
     let most = writer.arr(&entries)?;
     assert!(rt; !most.is_null());
-    expect_null(&rt, writer.arr(&[text])?);
-    expect_null(&rt, writer.blob(b"a")?);
-    expect_too_large(
-        &rt,
-        writer.finish(most),
-        10 + 2 + 4 * MOST_ENTRIES as u64 + 4 + 8,
-        4_194_305,
-    );
+    assert!(rt; writer.arr(&[text])?.is_null());
+    assert!(rt; writer.blob(b"a")?.is_null());
+    let counts = WriteFault::TooLarge {
+        bytes: 10 + 2 + 4 * MOST_ENTRIES as u64 + 4 + 8,
+        values: 4_194_305,
+    };
+    assert_eq!(rt; writer.finish(most).err(), Some(counts));
     Ok(())
 }
 
@@ -254,8 +266,8 @@ fn arrays(writer: &mut Writer, rt: &impl Abort) -> Result<Val, AllocError> {
     }
     // The last but one passes the limit of values.
     assert!(rt; !words[MANY - 3].is_null());
-    expect_null(rt, words[MANY - 2]);
-    expect_null(rt, words[MANY - 1]);
+    assert!(rt; words[MANY - 2].is_null());
+    assert!(rt; words[MANY - 1].is_null());
     writer.arr(&words)
 }
 
@@ -263,8 +275,12 @@ fn arrays(writer: &mut Writer, rt: &impl Abort) -> Result<Val, AllocError> {
 fn the_counts_just_past_a_limit(rt: HostRuntime) -> Result<(), Fail> {
     let mut writer = Writer::new(rt.alloc());
     let root = arrays(&mut writer, &rt)?;
-    expect_null(&rt, root);
-    expect_null(&rt, writer.int(1)?);
-    expect_too_large(&rt, writer.finish(root), 8_208, 4_196_353);
+    assert!(rt; root.is_null());
+    assert!(rt; writer.int(1)?.is_null());
+    let counts = WriteFault::TooLarge {
+        bytes: 8_208,
+        values: 4_196_353,
+    };
+    assert_eq!(rt; writer.finish(root).err(), Some(counts));
     Ok(())
 }
