@@ -11,11 +11,9 @@
 
 mod block;
 mod blocks;
-mod laws;
 
 pub use block::{Block, BlockKind, Frame, Head, block_head, frame_of, head_len, padding_of};
-pub use blocks::Blocks;
-pub use laws::{
-    a_container_has_one_reading, the_first_fault_of_framing_is_reported, what_is_read_is_spelled,
-    what_is_spelled_is_read, what_is_written_is_spelled,
+pub use blocks::{
+    Blocks, a_container_has_one_reading, the_first_fault_of_framing_is_reported,
+    what_is_read_is_spelled, what_is_spelled_is_read, what_is_written_is_spelled,
 };

@@ -4,3 +4,5 @@ pub mod Lists
 pub mod Shapes
 pub mod Zeros
 pub mod WithoutZeros
+pub mod Known
+pub mod ReadWords

@@ -2,3 +2,4 @@
 pub mod Zeros
 -- what only inner contracts and proofs use
 pub mod Fields
+pub mod Known

@@ -1,20 +1,53 @@
 //! The information of a package, written value by value.
-ghost use Rattle.std.specs.Prelude.{◌≡◌, map, OnOk};
-ghost use Rattle.adb_schema.specs.Views.{dependency_value, info_value};
-ghost use Rattle.adb_fields.specs.ListValue.{list_value};
+ghost use Rattle.std.specs.Prelude.{◌≡◌, map, true, Some, OnOk};
+ghost use Rattle.adb_schema.specs.Views.{info_value};
+ghost use Rattle.adb_fields.specs.Fields.{are_all_sound, array_at};
+ghost use Rattle.adb_tables.specs.Values.{entry_in, is_sound, kind_at, value_at};
+ghost use Rattle.adb_tables.specs.declared.tables.Kind.TheVariants as Kinds;
+ghost use Rattle.adb_tables.specs.declared.tables.Which.TheVariants as Tables;
 ghost use Rattle.adb_values.specs.Drafts.{draft_with, draft_with_all};
 ghost use Rattle.adb_copy.specs.Zeros.{int_value, without_zeros, info_with};
 ghost use Rattle.adb_copy.specs.Fields.{int_plains};
+ghost use Rattle.adb_copy.specs.Known.{AreBlobsOf};
+ghost use Rattle.adb_view.specs.Adb.{payload_of};
+ghost use Rattle.adb_view.specs.Entries.{array_entries};
 ghost use Rattle.adb_view.specs.Plain.{text_plains};
 
-use adb_schema::{DepView, List, PkgInfo};
+use crate::known_texts::KnownTexts;
+use adb_fields::{int_field, objects_field, texts_field};
+use adb_schema::PkgInfo;
+use adb_tables::{Which, entry_word};
 use adb_values::Draft;
-use adb_view::values_have_their_shape;
-use std::alloc::AllocError;
+use adb_view::{Adb, Arr, Val, values_have_their_shape};
+use std::alloc::{AllocError, Global};
+
+/// The fields of an info with dependencies.
+const DEPENDS: usize = 14;
+
+const PROVIDES: usize = 15;
+
+const REPLACES: usize = 16;
+
+const INSTALL_IF: usize = 17;
+
+const RECOMMENDS: usize = 18;
+
+/// That with its tags.
+const TAGS: usize = 20;
+
+/// The field of a dependency with its name.
+const NAME: usize = 0;
+
+/// That with its version.
+const VERSION: usize = 1;
+
+/// That with its match number.
+const MATCHING: usize = 2;
 
 /// Writes an info with this id as its hash and this length as its file's size. An integer 0 is
 /// NULL.
 pub fn write_info<'a>(
+    alloc: Global,
     draft: &mut Draft,
     info: &PkgInfo<'a>,
     id: &'a [u8],
@@ -54,13 +87,13 @@ pub fn write_info<'a>(
             info.provider_priority(),
         ],
     )?;
-    write_deps(draft, info.depends())?;
-    write_deps(draft, info.provides())?;
-    write_deps(draft, info.replaces())?;
-    write_deps(draft, info.install_if())?;
-    write_deps(draft, info.recommends())?;
+    write_deps(alloc, draft, info, DEPENDS)?;
+    write_deps(alloc, draft, info, PROVIDES)?;
+    write_deps(alloc, draft, info, REPLACES)?;
+    write_deps(alloc, draft, info, INSTALL_IF)?;
+    write_deps(alloc, draft, info, RECOMMENDS)?;
     write_int(draft, info.layer())?;
-    write_tags(draft, info.tags())?;
+    write_info_tags(alloc, draft, info)?;
     write_int(draft, info.unused())?;
     draft.close_object()
 }
@@ -96,41 +129,91 @@ pub fn write_int(draft: &mut Draft, n: u64) -> Result<(), AllocError>
     draft.int(n)
 }
 
-/// Writes an array of texts.
-pub fn write_tags<'a>(draft: &mut Draft, texts: List<'a, &'a [u8]>) -> Result<(), AllocError>
+/// Writes the tags of an info.
+fn write_info_tags(alloc: Global, draft: &mut Draft, info: &PkgInfo<'_>) -> Result<(), AllocError>
     ensures { OnOk result
-        (draft.new ≡ draft_with (without_zeros (list_value texts.entry)) draft.old) }
+        (draft.new ≡ draft_with (without_zeros (entry_in (info_value info.now) 20)) draft.old) }
+{
+    let adb = info.adb();
+    let mut known = KnownTexts::new(alloc);
+    let tags = texts_field(adb, Which::PkgInfo, info.word(), TAGS);
+    write_text_list(draft, adb, &mut known, tags)
+}
+
+/// Writes an array of texts.
+pub fn write_text_list<'a>(
+    draft: &mut Draft,
+    adb: Adb<'a>,
+    known: &mut KnownTexts,
+    texts: Arr<'a>,
+) -> Result<(), AllocError>
+    requires sound { are_all_sound (payload_of adb) Kinds.Text (array_entries texts) ≡ true }
+    requires known { AreBlobsOf (payload_of adb) draft.old known.old }
+    ensures texts { OnOk result (draft.new ≡ draft_with (without_zeros
+        (array_at (payload_of adb.entry) Kinds.Text (array_entries texts.entry))) draft.old) }
+    ensures known { OnOk result (AreBlobsOf (payload_of adb.entry) draft.new known.new) }
 {
     values_have_their_shape();
     draft.open_list()?;
     for i in 0..texts.len() {
-        draft.blob(texts.get(i + 1))?;
+        known.write(draft, adb, entry_word(texts, i))?;
     }
     draft.close_array()
 }
 
+/// Writes an array of dependencies, a field of an info.
+fn write_deps(
+    alloc: Global,
+    draft: &mut Draft,
+    info: &PkgInfo<'_>,
+    field: usize,
+) -> Result<(), AllocError>
+    requires { kind_at Tables.PkgInfo field ≡ Some (Kinds.ObjArr Tables.Dep) }
+    ensures { OnOk result (draft.new
+        ≡ draft_with (without_zeros (entry_in (info_value info.now) field)) draft.old) }
+{
+    let adb = info.adb();
+    let deps = objects_field(adb, Which::PkgInfo, info.word(), field, Which::Dep);
+    write_dep_list(alloc, draft, adb, deps)
+}
+
 /// Writes an array of dependencies.
-fn write_deps<'a>(draft: &mut Draft, deps: List<'a, DepView<'a>>) -> Result<(), AllocError>
-    ensures { OnOk result
-        (draft.new ≡ draft_with (without_zeros (list_value deps.entry)) draft.old) }
+fn write_dep_list<'a>(
+    alloc: Global,
+    draft: &mut Draft,
+    adb: Adb<'a>,
+    deps: Arr<'a>,
+) -> Result<(), AllocError>
+    requires { are_all_sound (payload_of adb) (Kinds.Obj Tables.Dep) (array_entries deps) ≡ true }
+    ensures { OnOk result (draft.new ≡ draft_with (without_zeros (array_at
+        (payload_of adb.entry) (Kinds.Obj Tables.Dep) (array_entries deps.entry))) draft.old) }
 {
     values_have_their_shape();
+    let mut known = KnownTexts::new(alloc);
     draft.open_list()?;
     for i in 0..deps.len() {
-        write_dep(draft, &deps.get(i + 1))?;
+        write_dep(draft, adb, &mut known, entry_word(deps, i))?;
     }
     draft.close_array()
 }
 
 /// Writes a dependency.
-fn write_dep(draft: &mut Draft, dep: &DepView<'_>) -> Result<(), AllocError>
-    ensures { OnOk result
-        (draft.new ≡ draft_with (without_zeros (dependency_value dep.now)) draft.old) }
+fn write_dep(
+    draft: &mut Draft,
+    adb: Adb<'_>,
+    known: &mut KnownTexts,
+    dep: Val,
+) -> Result<(), AllocError>
+    requires sound { is_sound (payload_of adb) (Kinds.Obj Tables.Dep) dep ≡ true }
+    requires known { AreBlobsOf (payload_of adb) draft.old known.old }
+    ensures dep { OnOk result (draft.new ≡ draft_with (without_zeros
+        (value_at (payload_of adb.entry) (Kinds.Obj Tables.Dep) dep)) draft.old) }
+    ensures known { OnOk result (AreBlobsOf (payload_of adb.entry) draft.new known.new) }
 {
     values_have_their_shape();
     draft.open_list()?;
-    draft.blob(dep.name())?;
-    draft.blob(dep.version())?;
-    write_int(draft, dep.matching())?;
+    known.write_field(draft, adb, Which::Dep, dep, NAME)?;
+    known.write_field(draft, adb, Which::Dep, dep, VERSION)?;
+    write_int(draft, int_field(adb, Which::Dep, dep, MATCHING))?;
     draft.close_object()
 }

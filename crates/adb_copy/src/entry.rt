@@ -1,75 +1,92 @@
 //! Files and their access lists, and scripts, written value by value.
+ghost use Rattle.adb_copy.specs.Known.{AreBlobsOf};
 ghost use Rattle.adb_copy.specs.Zeros.{without_zeros};
-ghost use Rattle.adb_fields.specs.ListValue.{list_value};
-ghost use Rattle.adb_schema.specs.Views.{acl_value, file_value, scripts_value};
-ghost use Rattle.adb_tables.specs.Values.{count_of, entries_in, entry_in};
+ghost use Rattle.adb_schema.specs.Views.{scripts_value};
+ghost use Rattle.adb_tables.specs.Values.{is_sound, value_at};
+ghost use Rattle.adb_tables.specs.declared.tables.Kind.TheVariants as Kinds;
+ghost use Rattle.adb_tables.specs.declared.tables.Which.TheVariants as Tables;
 ghost use Rattle.adb_values.specs.Drafts.{draft_with};
-ghost use Rattle.std.specs.Prelude.{◌≡◌, ◌<◌, OnOk};
+ghost use Rattle.adb_view.specs.Adb.{payload_of};
+ghost use Rattle.std.specs.Prelude.{◌≡◌, true, OnOk};
 
-use crate::copy::{write_int, write_tags};
-use adb_schema::{AclView, FileInfo, List, ScriptsView};
+use crate::copy::{write_int, write_text_list};
+use crate::known_texts::KnownTexts;
+use adb_fields::{field_word, hash_field, int_field, texts_field};
+use adb_schema::ScriptsView;
+use adb_tables::Which;
 use adb_values::Draft;
-use adb_view::values_have_their_shape;
+use adb_view::{Adb, Val, values_have_their_shape};
 use std::alloc::AllocError;
 
-/// Writes an access list once more.
-pub fn write_acl(draft: &mut Draft, acl: &AclView<'_>) -> Result<(), AllocError>
-    ensures { OnOk result (draft.new ≡ draft_with (without_zeros (acl_value acl.now)) draft.old) }
+/// The fields of an access list.
+const MODE: usize = 0;
+
+const USER: usize = 1;
+
+const GROUP: usize = 2;
+
+const XATTRS: usize = 3;
+
+/// The fields of a file.
+const NAME: usize = 0;
+
+const ACL: usize = 1;
+
+const SIZE: usize = 2;
+
+const MTIME: usize = 3;
+
+const HASHES: usize = 4;
+
+const TARGET: usize = 5;
+
+const UNUSED: usize = 6;
+
+/// Writes the access list of a word once more.
+pub fn write_acl(
+    draft: &mut Draft,
+    adb: Adb<'_>,
+    known: &mut KnownTexts,
+    acl: Val,
+) -> Result<(), AllocError>
+    requires sound { is_sound (payload_of adb) (Kinds.Obj Tables.Acl) acl ≡ true }
+    requires known { AreBlobsOf (payload_of adb) draft.old known.old }
+    ensures acl { OnOk result (draft.new ≡ draft_with (without_zeros
+        (value_at (payload_of adb.entry) (Kinds.Obj Tables.Acl) acl)) draft.old) }
+    ensures known { OnOk result (AreBlobsOf (payload_of adb.entry) draft.new known.new) }
 {
     values_have_their_shape();
     draft.open_list()?;
-    write_int(draft, acl.mode())?;
-    draft.blob(acl.user())?;
-    draft.blob(acl.group())?;
-    write_tags(draft, acl.xattrs())?;
+    write_int(draft, int_field(adb, Which::Acl, acl, MODE))?;
+    known.write_field(draft, adb, Which::Acl, acl, USER)?;
+    known.write_field(draft, adb, Which::Acl, acl, GROUP)?;
+    write_text_list(draft, adb, known, texts_field(adb, Which::Acl, acl, XATTRS))?;
     draft.close_object()
 }
 
-/// Writes the file at a place of a folder once more; places count from 0.
-pub fn write_file<'a>(
+/// Writes the file of a word once more.
+pub fn write_file(
     draft: &mut Draft,
-    files: &List<'a, FileInfo<'a>>,
-    i: usize,
+    adb: Adb<'_>,
+    known: &mut KnownTexts,
+    file: Val,
 ) -> Result<(), AllocError>
-    requires { i < count_of (entries_in (list_value files.now)) }
-    ensures { OnOk result (draft.new
-        ≡ draft_with (without_zeros (entry_in (list_value files.now) i)) draft.old) }
+    requires sound { is_sound (payload_of adb) (Kinds.Obj Tables.File) file ≡ true }
+    requires known { AreBlobsOf (payload_of adb) draft.old known.old }
+    ensures file { OnOk result (draft.new ≡ draft_with (without_zeros
+        (value_at (payload_of adb.entry) (Kinds.Obj Tables.File) file)) draft.old) }
+    ensures known { OnOk result (AreBlobsOf (payload_of adb.entry) draft.new known.new) }
 {
     values_have_their_shape();
-    let file = file_at(files, i);
     draft.open_list()?;
-    draft.blob(file.name())?;
-    write_file_acl(draft, &file, files)?;
-    write_int(draft, file.size())?;
-    write_int(draft, file.mtime())?;
-    draft.blob(file.hashes())?;
-    draft.blob(file.target())?;
-    write_int(draft, file.unused())?;
+    known.write_field(draft, adb, Which::File, file, NAME)?;
+    write_acl(draft, adb, known, field_word(adb, Which::File, file, ACL))?;
+    write_int(draft, int_field(adb, Which::File, file, SIZE))?;
+    write_int(draft, int_field(adb, Which::File, file, MTIME))?;
+    draft.blob(hash_field(adb, Which::File, file, HASHES))?;
+    known.write_field(draft, adb, Which::File, file, TARGET)?;
+    write_int(draft, int_field(adb, Which::File, file, UNUSED))?;
     draft.close_object()
-}
-
-/// The file at a place of a folder, counted from 0.
-fn file_at<'a>(files: &List<'a, FileInfo<'a>>, i: usize) -> FileInfo<'a>
-    requires { i < count_of (entries_in (list_value files.now)) }
-    ensures { file_value result ≡ entry_in (list_value files.now) i }
-{
-    if i >= files.len() {
-        unreachable!();
-    }
-    files.get(i + 1)
-}
-
-/// Writes the access list of a file once more.
-fn write_file_acl<'a>(
-    draft: &mut Draft,
-    file: &FileInfo<'a>,
-    _files: &List<'a, FileInfo<'a>>,
-) -> Result<(), AllocError>
-    ensures { OnOk result
-        (draft.new ≡ draft_with (without_zeros (entry_in (file_value file.now) 1)) draft.old) }
-{
-    let acl = file.acl();
-    write_acl(draft, &acl)
 }
 
 /// Writes scripts once more.

@@ -1,13 +1,16 @@
 //! Values of a container, written once more into another one (apk-v3(5)): the information of a
 //! package, its files and their access lists, and its scripts.
 //!
-//! Views go in, and what they show goes into a draft. An integer 0 becomes NULL, at every depth.
-//! The contracts cite `Zeros` of `specs/` (values in which no integer is 0, and an information with
-//! another id and length).
+//! Views or words of a payload go in, and what they show goes into a draft. An integer 0 becomes
+//! NULL, at every depth. Many places may share a long text: `KnownTexts` has those that the draft
+//! has already. The contracts cite `Zeros` of `specs/` (values in which no integer is 0, and an
+//! information with another id and length) and `Known` (the texts that a draft has).
 #![tactic(auto)]
 
 mod copy;
 mod entry;
+mod known_texts;
 
-pub use copy::{write_info, write_int, write_tags};
+pub use copy::{write_info, write_int, write_text_list};
 pub use entry::{write_acl, write_file, write_scripts};
+pub use known_texts::KnownTexts;

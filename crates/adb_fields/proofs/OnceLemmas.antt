@@ -1,19 +1,16 @@
 -- No pair is reported exactly where each name stands once.
-use Rattle.std.proofs.Common.{◌≡◌, ℕ, suc, zero, ◌+◌, ◌<◌, ◌≤◌, ◌⊎◌, inl, inr, Bool, true, false, cond, List, [], ◌∷◌, ◌++◌, map, Option, Some, None, refl, ap, sym, subst, ◌∙◌, arith, ◌↔◌}
-use Rattle.std.specs.List.{flat_map}
+use Rattle.std.proofs.Common.{◌≡◌, ℕ, ◌+◌, ◌<◌, ◌≤◌, ◌⊎◌, inl, inr, Bool, true, false, cond, List, [], ◌∷◌, Option, Some, None, refl, ap, sym, subst, ◌∙◌, arith, ◌↔◌}
 use Rattle.base_core.specs.declared.cause.Cause.{Cause}
 use Rattle.adb_view.specs.Plain.{Plain}
 use Rattle.adb_tables.specs.Walk.{or_else}
-use Rattle.adb_tables.specs.Values.{text_in}
 use Rattle.adb_tables.specs.declared.tables.Which.{Which}
 use Rattle.adb_tables.specs.declared.tables.Which.TheVariants.{Dep, Acl, PkgInfo, File, Dir, Scripts, Package, Index, Idb, Intent}
 use Rattle.adb_fields.specs.declared.pairs.Pair.{Pair}
-use Rattle.adb_fields.specs.Pairs.{NameWithPosition, is_before, earlier, earliest, first_pair}
+use Rattle.adb_fields.specs.Pairs.{NameWithPosition, is_before, earlier}
 use Rattle.adb_fields.specs.FirstPair.{IsFirstOf}
-use Rattle.adb_fields.specs.FirstPair.{IsFirst}
 use Rattle.adb_fields.specs.FirstPair.{IsPair}
 use Rattle.adb_fields.specs.FirstPair.{IsIn}
-use Rattle.adb_fields.specs.Repeated.{field_number, numbered_from, all_at, by_list_from, twice, twice_in_one, in_two, entries_at, files_in, folders_in, name_of, package_name, paths_in, folder_twice, file_twice, package_twice, path_in_two, name_twice, repeated_at, inside_fault, between_fault, repeated_fault}
+use Rattle.adb_fields.specs.Repeated.{field_number, numbered_from, all_at, by_list_from, twice, twice_in_one, in_two, entries_at, folder_twice, file_twice, package_twice, path_in_two, name_twice, repeated_at, inside_fault, between_fault, repeated_fault}
 use Rattle.adb_fields.specs.Once.{AreDistinctNames, AllDistinct, IsInOneOf, AreApart, StandOnceInside, StandOnceBetween, NamesStandOnce}
 use Rattle.adb_fields.proofs.Members.{in-front, in-behind, in-either, in-map, from-map}
 use Rattle.adb_fields.proofs.FirstPair.{first_pair-first}

@@ -1,5 +1,5 @@
 -- Words that stand for a field or for an entry.
-use Rattle.std.specs.Prelude.{◌≡◌, ℕ, true, Bool, List, is_some, unwrap_or, Some}
+use Rattle.std.specs.Prelude.{◌≡◌, ℕ, true, Bool, List, is_some, slice_index_or, unwrap_or, Some}
 use Rattle.adb_view.specs.Plain.{Plain, Plains, none, arr_value, each_plain, plain_of}
 use Rattle.adb_tables.specs.Schema.{shape_of}
 use Rattle.adb_tables.specs.Values.{is_sound, value_at, kind_at, entry_in}
@@ -12,6 +12,11 @@ use Rattle.adb_tables.specs.declared.tables.Kind.TheVariants.{Obj}
 abbrev pub IsFieldOf : List ℕ → Which → ℕ → ℕ → ℕ → Type 0
 IsFieldOf p which w i word = (k : Kind) → kind_at which i ≡ Some k → (is_sound p k word ≡ true)
     × (value_at p k word ≡ entry_in (value_at p (Obj which) w) i)
+
+-- each of these words is the field of the object with its index, and behind them the fields are
+-- Null
+abbrev pub AreFieldsOf : List ℕ → Which → ℕ → List ℕ → Type 0
+AreFieldsOf p which object words = (i : ℕ) → IsFieldOf p which object i (slice_index_or words i 0)
 
 -- whether each of an array's words has a plain value under the kind
 unfoldable pub are_all_sound : List ℕ → Kind → List ℕ → Bool

@@ -23,7 +23,7 @@ pub use pairs::{
     the_first_pair_of_two_lists_is_reported,
 };
 pub use reads::{
-    field_word, hash_field, hash_word, int_field, int_word, objects_field, objects_word,
-    text_field, text_word, texts_field, texts_word,
+    field_word, hash_field, hash_word, int_field, int_word, object_words, objects_field,
+    objects_word, text_field, text_word, texts_field, texts_word, word_or_null,
 };
 pub use repeated::{no_name_is_repeated_where_each_stands_once, repeated_names};

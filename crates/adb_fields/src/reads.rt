@@ -1,89 +1,101 @@
 //! Reads of sound words, and of the fields of sound objects: they cannot fail. Fields count from 0,
 //! and a field that is missing is Null.
 
-ghost use Rattle.std.specs.Prelude.{◌≡◌, ◌<◌, true, Some, length, slice_index};
+ghost use Rattle.std.specs.Prelude.{◌≡◌, ◌<◌, true, Some, length, slice_index, slice_index_or};
 ghost use Rattle.adb_view.specs.Adb.{payload_of};
 ghost use Rattle.adb_view.specs.Entries.{array_entries};
 ghost use Rattle.adb_view.specs.Readers.{run_of, OBJECT};
-ghost use Rattle.adb_view.specs.Gives.{Gives};
 ghost use Rattle.adb_tables.specs.Values.{is_sound, value_at, int_in, text_in, kind_at, entry_in};
-ghost use Rattle.adb_fields.specs.Fields.{IsFieldOf, are_all_sound, array_at};
+ghost use Rattle.adb_fields.specs.Fields.{AreFieldsOf, IsFieldOf, are_all_sound, array_at};
 ghost use Rattle.adb_tables.specs.declared.tables.Kind.TheVariants as Kinds;
 
-use adb_tables::{Which, entry_word, object_entries};
+use adb_tables::{Which, entry_word};
 use adb_view::{Adb, Arr, Val};
+
+/// The words of a sound object's fields, those past its table's too.
+#[tactic(auto, using(crate::proofs::FieldReads::object_runs))]
+pub fn object_words<'a>(adb: Adb<'a>, which: Which, object: Val) -> Arr<'a>
+    requires { is_sound (payload_of adb) (Kinds.Obj which) object ≡ true }
+    ensures { AreFieldsOf (payload_of adb.entry) which object (array_entries result) }
+{
+    match adb.find_entries(object) {
+        Some(entries) => entries,
+        None => unreachable!(),
+    }
+}
+
+/// The word with this index, counted from 0; NULL past the last.
+pub fn word_or_null(words: Arr<'_>, i: usize) -> Val
+    ensures { result ≡ slice_index_or (array_entries words.entry) i 0 }
+{
+    if i < words.len() {
+        entry_word(words, i)
+    } else {
+        Val::of(0)
+    }
+}
 
 /// The field of a sound object, counted from 0; NULL where the object ends before it. Of a place
 /// behind the table's last field nothing is said.
-#[tactic(auto, using(crate::proofs::FieldReads::object_runs))]
 pub fn field_word(adb: Adb<'_>, which: Which, object: Val, i: usize) -> Val
     requires { is_sound (payload_of adb) (Kinds.Obj which) object ≡ true }
     ensures { IsFieldOf (payload_of adb.entry) which object i result }
 {
-    match object_entries(adb, object) {
-        Ok(entries) => {
-            if i < entries.len() {
-                entry_word(entries, i)
-            } else {
-                Val::of(0)
-            }
-        }
-        Err(_) => unreachable!(),
-    }
+    word_or_null(object_words(adb, which, object), i)
 }
 
 /// The integer that a sound word means.
-#[tactic(auto, using(crate::proofs::FieldReads::int_read_of, crate::proofs::FieldReads::int_reads))]
+#[tactic(auto, using(crate::proofs::FieldReads::int_read_of, crate::proofs::FieldReads::int_reads, crate::proofs::FieldReads::read_ok))]
 pub fn int_word(adb: Adb<'_>, word: Val) -> u64
     requires { is_sound (payload_of adb) Kinds.Int word ≡ true }
     ensures { result ≡ int_in (value_at (payload_of adb.entry) Kinds.Int word) }
 {
-    match adb.int(word) {
-        Ok(n) => n,
-        Err(_) => unreachable!(),
+    match adb.find_int(word) {
+        Some(n) => n,
+        None => unreachable!(),
     }
 }
 
 /// The bytes that a sound word means as a text.
-#[tactic(auto, using(crate::proofs::FieldReads::text_read_of, crate::proofs::FieldReads::text_reads))]
+#[tactic(auto, using(crate::proofs::FieldReads::text_read_of, crate::proofs::FieldReads::text_reads, crate::proofs::FieldReads::read_ok))]
 pub fn text_word<'a>(adb: Adb<'a>, word: Val) -> &'a [u8]
     requires { is_sound (payload_of adb) Kinds.Text word ≡ true }
     ensures { result.now ≡ text_in (value_at (payload_of adb.entry) Kinds.Text word) }
 {
-    match adb.blob(word) {
-        Ok(bytes) => bytes,
-        Err(_) => unreachable!(),
+    match adb.find_blob(word) {
+        Some(bytes) => bytes,
+        None => unreachable!(),
     }
 }
 
 /// The bytes that a sound word means as a hash.
-#[tactic(auto, using(crate::proofs::FieldReads::hash_read_of, crate::proofs::FieldReads::hash_reads))]
+#[tactic(auto, using(crate::proofs::FieldReads::hash_read_of, crate::proofs::FieldReads::hash_reads, crate::proofs::FieldReads::read_ok))]
 pub fn hash_word<'a>(adb: Adb<'a>, word: Val) -> &'a [u8]
     requires { is_sound (payload_of adb) Kinds.Hash word ≡ true }
     ensures { result.now ≡ text_in (value_at (payload_of adb.entry) Kinds.Hash word) }
 {
-    match adb.blob(word) {
-        Ok(bytes) => bytes,
-        Err(_) => unreachable!(),
+    match adb.find_blob(word) {
+        Some(bytes) => bytes,
+        None => unreachable!(),
     }
 }
 
 /// The words of a sound array of texts.
-#[tactic(auto, using(crate::proofs::FieldReads::texts_sound, crate::proofs::FieldReads::texts_value, crate::proofs::FieldReads::texts_run))]
+#[tactic(auto, using(crate::proofs::FieldReads::texts_sound, crate::proofs::FieldReads::texts_value, crate::proofs::FieldReads::texts_run, crate::proofs::FieldReads::read_ok))]
 pub fn texts_word<'a>(adb: Adb<'a>, word: Val) -> Arr<'a>
     requires { is_sound (payload_of adb) Kinds.TextArr word ≡ true }
     ensures sound { are_all_sound (payload_of adb.entry) Kinds.Text (array_entries result) ≡ true }
     ensures value { array_at (payload_of adb.entry) Kinds.Text (array_entries result)
         ≡ value_at (payload_of adb.entry) Kinds.TextArr word }
 {
-    match adb.arr(word) {
-        Ok(entries) => entries,
-        Err(_) => unreachable!(),
+    match adb.find_arr(word) {
+        Some(entries) => entries,
+        None => unreachable!(),
     }
 }
 
 /// The words of a sound array of objects.
-#[tactic(auto, using(crate::proofs::FieldReads::objects_sound, crate::proofs::FieldReads::objects_value, crate::proofs::FieldReads::objects_run))]
+#[tactic(auto, using(crate::proofs::FieldReads::objects_sound, crate::proofs::FieldReads::objects_value, crate::proofs::FieldReads::objects_run, crate::proofs::FieldReads::read_ok))]
 pub fn objects_word<'a>(adb: Adb<'a>, which: Which, word: Val) -> Arr<'a>
     requires { is_sound (payload_of adb) (Kinds.ObjArr which) word ≡ true }
     ensures sound { are_all_sound (payload_of adb.entry) (Kinds.Obj which) (array_entries result)
@@ -91,9 +103,9 @@ pub fn objects_word<'a>(adb: Adb<'a>, which: Which, word: Val) -> Arr<'a>
     ensures value { array_at (payload_of adb.entry) (Kinds.Obj which) (array_entries result)
         ≡ value_at (payload_of adb.entry) (Kinds.ObjArr which) word }
 {
-    match adb.arr(word) {
-        Ok(entries) => entries,
-        Err(_) => unreachable!(),
+    match adb.find_arr(word) {
+        Some(entries) => entries,
+        None => unreachable!(),
     }
 }
 

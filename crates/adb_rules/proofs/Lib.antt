@@ -1,4 +1,5 @@
 pub mod Below
+pub mod NoRule
 pub mod TextSteps
 pub mod FirstBad
 pub mod SoundLeaves

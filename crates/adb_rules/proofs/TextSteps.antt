@@ -58,7 +58,7 @@ first_bad-append (x ∷ xs) ys = go (keeps_rule x) (first_bad-append xs ys)
     go true h = h
     go false h = refl
 
-behind_good : (xs ys : List Leaf) → first_bad xs ≡ None → first_bad (xs ++ ys) ≡ first_bad ys
+pub behind_good : (xs ys : List Leaf) → first_bad xs ≡ None → first_bad (xs ++ ys) ≡ first_bad ys
 behind_good xs ys e = first_bad-append xs ys ∙ ap (λ o. or_else o (first_bad ys)) e
 
 behind_bad : (xs ys : List Leaf) (c : Cause) → first_bad xs ≡ Some c → first_bad (xs ++ ys) ≡ Some c
@@ -137,7 +137,7 @@ behind-behind zero vs = refl
 behind-behind (suc i) none = refl
 behind-behind (suc i) (more v vs) = behind-behind i vs
 
-one_field : (f : Field) (fs : List Field) (field_number : ℕ) (a : Surroundings) (vs : Plains)
+pub one_field : (f : Field) (fs : List Field) (field_number : ℕ) (a : Surroundings) (vs : Plains)
     → field_leaves (shapes_of (f ∷ fs)) field_number a vs ≡ leaves (shape_of f.kind) field_number a (nth vs 0) ++ field_leaves (shapes_of fs) (field_number + 1) a (behind 1 vs)
 unfolding field_leaves behind
 one_field f fs field_number a none = refl

@@ -1,7 +1,11 @@
--- What the text walk answers on its way, and entries that it passes over.
-use Rattle.std.specs.Prelude.{◌≡◌, ℕ, ◌-◌, ◌<◌, List, slice_index, Option, Some, None}
+-- What the text walk answers on its way, and what it passes over.
+use Rattle.std.specs.Prelude.{◌≡◌, ℕ, ◌-◌, ◌<◌, true, List, slice_index, Option, Some, None}
 use Rattle.base_core.specs.declared.cause.Cause.{Cause}
 use Rattle.base_core.specs.declared.cause.Cause.TheVariants.{BadText}
+use Rattle.adb_view.specs.Plain.{Plain}
+use Rattle.adb_tables.specs.Schema.{shape_of}
+use Rattle.adb_tables.specs.declared.tables.Kind.{Kind}
+use Rattle.adb_rules.specs.Texts.{Surroundings, first_bad, leaves, text_rule}
 
 -- the fault of a field's number, if there is one
 abbrev pub bad_text_at : Option ℕ → Option Cause
@@ -12,3 +16,13 @@ bad_text_at (Some place) = Some (BadText place)
 pub record IsSameAsBefore (words : List ℕ) (i : ℕ) : Type 0 where
   pub behind : 0 < i
   pub same : slice_index words i ≡ slice_index words (i - 1)
+
+-- no text breaks the rule of the field
+abbrev pub TakesEachText : ℕ → Type 0
+TakesEachText field_number = (around : Surroundings) (text : List ℕ)
+    → text_rule field_number around text ≡ true
+
+-- no value of the kind breaks a rule as this field
+abbrev pub TakesEachValue : Kind → ℕ → Type 0
+TakesEachValue kind field_number = (around : Surroundings) (v : Plain)
+    → first_bad (leaves (shape_of kind) field_number around v) ≡ None

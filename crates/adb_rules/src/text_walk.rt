@@ -1,6 +1,6 @@
 //! The text walk: each number and text of a walked payload, against the rule of its field.
 
-ghost use Rattle.std.specs.Prelude.{ℕ, List, ◌↔◌, None, ◌≡◌, ◌==◌, ◌*◌, true, length, ◌+◌, ◌<◌, ◌≤◌, ◌^◌, IfOk, [], ◌∷◌};
+ghost use Rattle.std.specs.Prelude.{ℕ, List, ◌↔◌, None, ◌≡◌, ◌==◌, ◌*◌, true, false, length, ◌+◌, ◌<◌, ◌≤◌, ◌^◌, IfOk, [], ◌∷◌};
 ghost use Rattle.std.specs.Bool.{OnTrue};
 ghost use Rattle.adb_view.specs.Adb.{payload_of};
 ghost use Rattle.adb_tables.specs.Schema.{schema_number, shape_of, shapes_of, table};
@@ -9,7 +9,7 @@ ghost use Rattle.adb_fields.specs.Paths.{path_of};
 ghost use Rattle.adb_rules.specs.Rules.{is_change_name, is_one_part};
 ghost use Rattle.adb_rules.specs.Surroundings.{surroundings_of};
 ghost use Rattle.adb_rules.specs.TextRules.{text_at};
-ghost use Rattle.adb_rules.specs.TextWalk.{IsSameAsBefore, bad_text_at};
+ghost use Rattle.adb_rules.specs.TextWalk.{IsSameAsBefore, TakesEachText, TakesEachValue, bad_text_at};
 ghost use Rattle.adb_tables.specs.Shaped.{shaped_value, table_of};
 ghost use Rattle.adb_view.specs.Shaped.{Each};
 ghost use Rattle.adb_rules.specs.SoundValues.{IsChangeName, IsSoundDependency, IsFileOf, IsFolder, IsInformation, IsPackage, KeepsRules};
@@ -25,7 +25,8 @@ ghost use Rattle.adb_tables.specs.declared.tables.Which.TheVariants as Tables;
 use crate::judged::{Judged, TextRule};
 use crate::rules::*;
 use adb_fields::{
-    field_word, hash_word, int_field, int_word, objects_word, text_field, text_word, texts_word,
+    hash_word, int_field, int_word, object_words, objects_word, text_field, text_word, texts_word,
+    word_or_null,
 };
 use adb_tables::{Kind, Shaped, Which, entry_word, fields_of, number_of};
 use adb_view::{Adb, Arr, Val};
@@ -86,10 +87,10 @@ impl<'a> Surroundings<'a> {
     }
 
     /// What stands around the fields of an object.
-    pub(crate) fn inside(self, adb: Adb<'a>, which: Which, object: Val) -> Surroundings<'a>
+    pub(crate) fn inside(&self, adb: Adb<'a>, which: Which, object: Val) -> Surroundings<'a>
         requires { is_sound (payload_of adb) (Kinds.Obj which) object ≡ true }
         ensures { surroundings_of result
-            ≡ inside_of (schema_number which) (surroundings_of self.entry)
+            ≡ inside_of (schema_number which) (surroundings_of self.now)
             (value_at (payload_of adb.entry) (Kinds.Obj which) object) }
     {
         match which {
@@ -103,7 +104,7 @@ impl<'a> Surroundings<'a> {
                 folder: self.folder,
                 has_contents: has_contents(adb, object),
             },
-            _ => self,
+            _ => *self,
         }
     }
 
@@ -243,7 +244,7 @@ pub fn check_texts(alloc: Global, shaped: Shaped<'_>) -> Result<Option<Cause>, A
     let which = shaped.which();
     let mut judged = Judged::new(alloc, adb);
     let around = Surroundings::at_root(which);
-    match check_value(adb, &mut judged, Kind::Obj(which), 0, around, adb.root())? {
+    match check_value(adb, &mut judged, Kind::Obj(which), 0, &around, adb.root())? {
         Some(place) => Ok(Some(Cause::BadText { place })),
         None => Ok(None),
     }
@@ -257,20 +258,20 @@ fn check_value<'a>(
     judged: &mut Judged<'a>,
     kind: Kind,
     field_number: u16,
-    around: Surroundings<'a>,
+    around: &Surroundings<'a>,
     word: Val,
 ) -> Result<Option<u16>, AllocError>
     requires sound { is_sound (payload_of adb) kind word ≡ true }
     requires payload { payload_of judged.old.adb ≡ payload_of adb }
     ensures place { IfOk result (λ place. bad_text_at place
-        ≡ first_bad (leaves (shape_of kind) field_number (surroundings_of around.entry)
+        ≡ first_bad (leaves (shape_of kind) field_number (surroundings_of around.now)
         (value_at (payload_of adb.entry) kind word))) }
     ensures payload { judged.new.adb ≡ judged.old.adb }
 {
     match kind {
         Kind::Int => Ok(check_number(field_number, int_word(adb, word))),
-        Kind::Text => check_text(judged, field_number, &around, word, text_word(adb, word)),
-        Kind::Hash => check_text(judged, field_number, &around, word, hash_word(adb, word)),
+        Kind::Text => check_text(judged, field_number, around, word, text_word(adb, word)),
+        Kind::Hash => check_text(judged, field_number, around, word, hash_word(adb, word)),
         Kind::TextArr => {
             let texts = texts_word(adb, word);
             check_entries(adb, judged, Kind::Text, field_number, around, texts)
@@ -281,7 +282,7 @@ fn check_value<'a>(
         }
         Kind::Obj(which) => {
             let inside = around.inside(adb, which, word);
-            check_fields(adb, judged, which, inside, word)
+            check_fields(adb, judged, which, &inside, word)
         }
     }
 }
@@ -293,13 +294,13 @@ fn check_entries<'a>(
     judged: &mut Judged<'a>,
     kind: Kind,
     field_number: u16,
-    around: Surroundings<'a>,
+    around: &Surroundings<'a>,
     entries: Arr<'a>,
 ) -> Result<Option<u16>, AllocError>
     requires sound { are_all_sound (payload_of adb) kind (array_entries entries) ≡ true }
     requires payload { payload_of judged.old.adb ≡ payload_of adb }
     ensures place { IfOk result (λ place. bad_text_at place
-        ≡ first_bad (each_leaf (leaves (shape_of kind) field_number (surroundings_of around.entry))
+        ≡ first_bad (each_leaf (leaves (shape_of kind) field_number (surroundings_of around.now))
         (values_at (payload_of adb.entry) kind (array_entries entries.entry)))) }
     ensures payload { judged.new.adb ≡ judged.old.adb }
 {
@@ -326,32 +327,84 @@ fn is_same_as_before(entries: Arr<'_>, i: usize) -> bool
     entry_word(entries, i - 1).word() == entry_word(entries, i).word()
 }
 
-/// Checks the fields of an object, each of those of its table.
+/// Checks the fields of an object, each of those of its table that has a rule.
 #[cycle(check)]
 fn check_fields<'a>(
     adb: Adb<'a>,
     judged: &mut Judged<'a>,
     which: Which,
-    around: Surroundings<'a>,
+    around: &Surroundings<'a>,
     object: Val,
 ) -> Result<Option<u16>, AllocError>
     requires sound { is_sound (payload_of adb) (Kinds.Obj which) object ≡ true }
     requires payload { payload_of judged.old.adb ≡ payload_of adb }
     ensures place { IfOk result (λ place. bad_text_at place
         ≡ first_bad (field_leaves (shapes_of (table which)) (100 * schema_number which + 1)
-        (surroundings_of around.entry)
+        (surroundings_of around.now)
         (entries_in (value_at (payload_of adb.entry) (Kinds.Obj which) object)))) }
     ensures payload { judged.new.adb ≡ judged.old.adb }
 {
+    let words = object_words(adb, which, object);
     let mut field_number = 100 * number_of(which);
     for (i, field) in fields_of(which).iter().enumerate() {
         field_number += 1;
-        let word = field_word(adb, which, object, i);
+        if !has_rule(field.kind, field_number) {
+            continue;
+        }
+        let word = word_or_null(words, i);
         if let Some(place) = check_value(adb, judged, field.kind, field_number, around, word)? {
             return Ok(Some(place));
         }
     }
     Ok(None)
+}
+
+/// Whether a value of this kind may break a rule as this field: there is one for the field, or for
+/// a field below it.
+fn has_rule(kind: Kind, field_number: u16) -> bool
+    ensures { result ≡ false → TakesEachValue kind field_number }
+{
+    match kind {
+        Kind::Int => field_number == field_number::DEP_MATCH,
+        Kind::Text => has_text_rule(field_number),
+        Kind::Hash => has_text_rule(field_number),
+        Kind::TextArr => has_text_rule(field_number),
+        Kind::Obj(which) => has_rule_below(which),
+        Kind::ObjArr(_) => true,
+    }
+}
+
+/// Whether the objects of a table may break a rule.
+fn has_rule_below(which: Which) -> bool
+    ensures { result ≡ false → (field_number : ℕ) → TakesEachValue (Kinds.Obj which) field_number }
+{
+    match which {
+        Which::Acl => false,
+        Which::Scripts => false,
+        _ => true,
+    }
+}
+
+/// Whether there is a rule for the texts of a field.
+#[tactic(auto, unfolding(crate::specs::Texts::text_rule))]
+fn has_text_rule(field_number: u16) -> bool
+    ensures { result ≡ false → TakesEachText field_number }
+{
+    matches!(
+        field_number,
+        field_number::DEP_NAME
+            | field_number::DEP_VERSION
+            | field_number::PKGINFO_NAME
+            | field_number::PKGINFO_VERSION
+            | field_number::PKGINFO_HASHES
+            | field_number::FILE_NAME
+            | field_number::FILE_HASHES
+            | field_number::FILE_TARGET
+            | field_number::DIR_NAME
+            | field_number::INDEX_PKGNAME_SPEC
+            | field_number::INTENT_REMOVALS
+            | field_number::INTENT_WRITES
+    )
 }
 
 fn check_number(field_number: u16, n: u64) -> Option<u16>

@@ -46,14 +46,20 @@ payload_sound visited which p h =
 abbrev pub Kept : Type 0
 Kept = (which : Which) (v : Plain) → (text_fault which v ≡ None) ↔ KeepsRules which v
 
+pub payload_texts : (which : Which) (p : List ℕ) → payload_fault which p ≡ None → text_fault which (root_value which p) ≡ None
+payload_texts which p h =
+    first_passed (text_fault which (root_value which p)) (repeated_fault which (root_value which p))
+    (later_passed (shape_fault p (shape_of (Kinds.Obj which)) (root_of p)) _ (later_passed (head_fault p) _ h))
+
 pub payload_rules : Kept → (which : Which) (p : List ℕ) → payload_fault which p ≡ None → KeepsRules which (root_value which p)
 payload_rules kept which p h =
-    (kept which (root_value which p)).0
-    (first_passed (text_fault which (root_value which p)) (repeated_fault which (root_value which p))
-    (later_passed (shape_fault p (shape_of (Kinds.Obj which)) (root_of p)) _ (later_passed (head_fault p) _ h)))
+    (kept which (root_value which p)).0 (payload_texts which p h)
 
 pub file_head : (which : Which) (file : List ℕ) → first_fault which file ≡ None → is_none (head_fault (payload_in file)) ≡ true
 file_head which file h = payload_head which (payload_in file) (sound_payload which file h)
 
 pub file_sound : Visited → (which : Which) (file : List ℕ) → first_fault which file ≡ None → is_sound (payload_in file) (Kinds.Obj which) (root_of (payload_in file)) ≡ true
 file_sound visited which file h = payload_sound visited which (payload_in file) (sound_payload which file h)
+
+pub file_texts : (which : Which) (file : List ℕ) → first_fault which file ≡ None → text_fault which (root_value which (payload_in file)) ≡ None
+file_texts which file h = payload_texts which (payload_in file) (sound_payload which file h)

@@ -105,33 +105,43 @@ impl<'a> Checked<'a> {
     }
 }
 
-/// An index of packages.
+/// An index of packages, each of whose texts keeps the rule of its field.
 #[derive(Clone, Copy)]
 pub struct IndexView<'a> {
     adb: Adb<'a>,
     word: u32,
     ghost sound: { is_sound (payload_of adb) (Kinds.Obj Tables.Index) word ≡ true },
+    ghost texts: { is_none (text_fault Tables.Index
+        (value_at (payload_of adb) (Kinds.Obj Tables.Index) word)) ≡ true },
 }
 
-impl<'a> Kinded for IndexView<'a> {
-    ghost kind = { Kinds.Obj Tables.Index };
-}
+impl<'a> IndexView<'a> {
+    ghost use Rattle.adb_tables.specs.Values.{entry_in, text_in};
+    ghost use Rattle.adb_rules.specs.SoundValues.{KeepsRules};
+    ghost use Rattle.adb_schema.specs.Views.{index_value};
+    ghost use Rattle.adb_fields.specs.ListValue.{list_value};
 
-impl<'a> View<'a> for IndexView<'a> {
-    ghost shows = { λ view. value_at (payload_of view.adb) (Kinds.Obj Tables.Index) view.word };
-
-    fn of(adb: Adb<'a>, word: Val) -> IndexView<'a> {
+    /// The index of a word, whose texts keep their rules.
+    pub fn of(adb: Adb<'a>, word: Val) -> IndexView<'a>
+        requires sound { is_sound (payload_of adb) (Kinds.Obj Tables.Index) word ≡ true }
+        requires texts { is_none (text_fault Tables.Index
+            (value_at (payload_of adb) (Kinds.Obj Tables.Index) word)) ≡ true }
+        ensures { index_value result
+            ≡ value_at (payload_of adb.entry) (Kinds.Obj Tables.Index) word }
+    {
         IndexView {
             adb,
             word: word.word(),
         }
     }
-}
 
-impl<'a> IndexView<'a> {
-    ghost use Rattle.adb_tables.specs.Values.{entry_in, text_in};
-    ghost use Rattle.adb_schema.specs.Views.{index_value};
-    ghost use Rattle.adb_fields.specs.ListValue.{list_value};
+    /// Each text and number of the index keeps the rule of its field: a name is a package's, a
+    /// version a version.
+    pub fn values_keep_their_rules(&self)
+        ensures { KeepsRules Tables.Index (index_value self.now) }
+    {
+        no_text_is_bad_where_each_keeps_its_rule();
+    }
 
     /// The payload that it is read from.
     pub fn adb(&self) -> Adb<'a>

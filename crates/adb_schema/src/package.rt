@@ -288,6 +288,22 @@ impl<'a> PackageView<'a> {
     ghost use Rattle.adb_schema.specs.Views.{info_value, package_value, scripts_value};
     ghost use Rattle.adb_fields.specs.ListValue.{list_value};
 
+    /// The payload that it is read from.
+    pub fn adb(&self) -> Adb<'a>
+        ensures { result ≡ self.now.adb }
+    {
+        self.adb
+    }
+
+    /// Its word in the payload.
+    pub fn word(&self) -> Val
+        ensures is { result ≡ self.now.word }
+        ensures sound { is_sound (payload_of self.now.adb) (Kinds.Obj Tables.Package) result
+            ≡ true }
+    {
+        self.word
+    }
+
     /// Its information.
     pub fn info(&self) -> PkgInfo<'a>
         ensures { info_value result ≡ entry_in (package_value self.now) 0 }

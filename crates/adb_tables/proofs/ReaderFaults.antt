@@ -4,6 +4,7 @@ use Rattle.std.specs.Prelude.{if◌then◌else◌, ◌==◌}
 use Rattle.std.specs.Int.{w8, w16, w32, w64}
 use Rattle.adb_view.specs.Bytes.{number_at}
 use Rattle.adb_view.specs.Readers.{int_of, blob_of, run_of, run_at, counted_at, kind_of, low_of, inside}
+use Rattle.adb_view.specs.Gives.{read_of}
 use Rattle.adb_tables.specs.VisitFault.{is_reader_fault}
 use Rattle.base_core.specs.declared.cause.Cause.{Cause}
 
@@ -52,3 +53,8 @@ blob_fault p w c e = of_answer (blob_of p w) c (blob_answer p w) e
 
 pub run_fault : (kind : ℕ) (p : List ℕ) (w : ℕ) (c : Cause) → run_of kind p w ≡ Err c → is_reader_fault c ≡ true
 run_fault kind p w c e = of_answer (run_of kind p w) c (run_answer kind p w) e
+
+-- what was read, whatever it is shown as
+pub read_ok : {A : Type 0} (r : Result A Cause) (x : A) → read_of r ≡ Some x → r ≡ Ok x
+read_ok (Ok y) x e = cc
+read_ok (Err c) x e = absurd cc

@@ -1,5 +1,6 @@
 -- what the contract of `apk` says
 pub mod Schema
+pub mod FieldIndexes
 pub mod Values
 pub mod Walk
 -- what only inner contracts and proofs use

@@ -6,6 +6,7 @@
 //! `Values` (plain values of words, and their fields) and `Shaped`.
 #![tactic(auto)]
 
+mod readers;
 mod shaped;
 mod tables;
 mod visit_fault;

@@ -21,6 +21,7 @@ ghost use Rattle.base_core.specs.declared.cause.Cause.{Cause};
 ghost use Rattle.adb_tables.specs.declared.tables.Which.{Which};
 ghost use Rattle.adb_tables.specs.declared.tables.Kind.TheVariants as Kinds;
 
+use crate::readers::{read_array, read_blob, read_int, read_object};
 use crate::shaped::Shaped;
 use crate::tables::{Field, Kind, Which, fields_of};
 use crate::visit_fault::VisitFault;
@@ -73,7 +74,7 @@ pub fn shape(adb: Adb<'_>, which: Which) -> Result<Shaped<'_>, Cause>
 /// Visits a word and what lies below it, behind so many visits, and answers how many there were
 /// then.
 #[cycle(walk)]
-#[tactic(auto, using(crate::proofs::WalkSteps::walk_full, crate::proofs::WalkSteps::int_ok, crate::proofs::WalkSteps::int_err, crate::proofs::WalkSteps::text_ok, crate::proofs::WalkSteps::text_err, crate::proofs::WalkSteps::hash_ok, crate::proofs::WalkSteps::hash_err, crate::proofs::WalkSteps::texts_ok, crate::proofs::WalkSteps::texts_err, crate::proofs::WalkSteps::objects_ok, crate::proofs::WalkSteps::objects_err, crate::proofs::WalkSteps::object_ok, crate::proofs::WalkSteps::object_err, crate::proofs::ReaderFaults::int_fault, crate::proofs::ReaderFaults::blob_fault, crate::proofs::ReaderFaults::run_fault))]
+#[tactic(auto, using(crate::proofs::WalkSteps::walk_full, crate::proofs::WalkSteps::int_ok, crate::proofs::WalkSteps::int_err, crate::proofs::WalkSteps::text_ok, crate::proofs::WalkSteps::text_err, crate::proofs::WalkSteps::hash_ok, crate::proofs::WalkSteps::hash_err, crate::proofs::WalkSteps::texts_ok, crate::proofs::WalkSteps::texts_err, crate::proofs::WalkSteps::objects_ok, crate::proofs::WalkSteps::objects_err, crate::proofs::WalkSteps::object_ok, crate::proofs::WalkSteps::object_err))]
 fn walk_value(adb: Adb<'_>, kind: Kind, before: u32, word: Val) -> Result<u32, VisitFault>
     requires { before ≤ MOST_VALUES }
     ensures exact { with_cause result ≡ walk (payload_of adb.entry) (shape_of kind) before word }
@@ -84,25 +85,25 @@ fn walk_value(adb: Adb<'_>, kind: Kind, before: u32, word: Val) -> Result<u32, V
         return Err(VisitFault::TooLarge { count });
     }
     match kind {
-        Kind::Int => match adb.int(word) {
+        Kind::Int => match read_int(adb, word) {
             Ok(_) => Ok(count),
-            Err(cause) => Err(VisitFault::of_reader(cause)),
+            Err(fault) => Err(fault),
         },
-        Kind::Text | Kind::Hash => match adb.blob(word) {
+        Kind::Text | Kind::Hash => match read_blob(adb, word) {
             Ok(_) => Ok(count),
-            Err(cause) => Err(VisitFault::of_reader(cause)),
+            Err(fault) => Err(fault),
         },
-        Kind::TextArr => match adb.arr(word) {
+        Kind::TextArr => match read_array(adb, word) {
             Ok(texts) => walk_entries(adb, Kind::Text, count, texts),
-            Err(cause) => Err(VisitFault::of_reader(cause)),
+            Err(fault) => Err(fault),
         },
-        Kind::ObjArr(which) => match adb.arr(word) {
+        Kind::ObjArr(which) => match read_array(adb, word) {
             Ok(objects) => walk_entries(adb, Kind::Obj(which), count, objects),
-            Err(cause) => Err(VisitFault::of_reader(cause)),
+            Err(fault) => Err(fault),
         },
-        Kind::Obj(which) => match object_entries(adb, word) {
+        Kind::Obj(which) => match read_object(adb, word) {
             Ok(entries) => walk_each_field(adb, fields_of(which), count, entries),
-            Err(cause) => Err(VisitFault::of_reader(cause)),
+            Err(fault) => Err(fault),
         },
     }
 }

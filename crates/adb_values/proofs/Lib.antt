@@ -3,3 +3,4 @@ pub mod Closed
 pub mod Finished
 -- For callers.
 pub mod Lists
+pub mod Words

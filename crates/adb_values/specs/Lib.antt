@@ -1,5 +1,6 @@
 -- what the contracts of this crate's calls say, in the order in which it is best read
 pub mod Drafts
+pub mod Words
 pub mod Written
 -- what only inner contracts and proofs use
 pub mod LastList

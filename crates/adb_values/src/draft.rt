@@ -1,11 +1,13 @@
 //! A payload under construction.
 
-ghost use Rattle.std.specs.Prelude.{◌≡◌, ◌<◌, ◌≤◌, ◌∷◌, ◌++◌, [], length, take, IfOk, OnErr, OnOk, vec_capacity, vec_len};
+ghost use Rattle.std.specs.Prelude.{◌≡◌, ℕ, ◌<◌, ◌≤◌, List, ◌∷◌, ◌++◌, [], length, take, true, false, IfOk, OnErr, OnOk, vec_capacity, vec_len};
 ghost use Rattle.adb_view.specs.Plain.{Plain, Plains, arr_value, blob_value, int, null, obj_value};
 ghost use Rattle.adb_values.specs.Drafts.{empty_draft, draft_with_open_list, draft_with, draft_with_all, DraftState};
 ghost use Rattle.adb_values.specs.LastList.{last_start, last_word};
+ghost use Rattle.adb_values.specs.Words.{HasBlob};
 ghost use Rattle.adb_values.specs.Written.{IsWrittenAs};
 ghost use Rattle.adb_write.specs.Canonical.{written_of, MOST_BYTES};
+ghost use Rattle.adb_write.specs.Writing.{is_over};
 
 use adb_view::Val;
 use adb_write::{WriteFault, Writer};
@@ -25,10 +27,13 @@ pub struct Draft {
 
 impl Model for Draft {
     ghost use Rattle.adb_values.specs.Drafts.{draft_by, DraftState};
+    ghost use Rattle.adb_write.specs.Again.{HasWholeItems};
 
     ghost Value = { DraftState };
 
     ghost view = { λ d. draft_by d.writer d.words.items d.starts.items };
+
+    ghost invariant = { λ d. HasWholeItems d.writer };
 }
 
 impl Draft {
@@ -68,8 +73,29 @@ impl Draft {
         ensures ok { OnOk result (self.new ≡ draft_with (blob_value bytes.now) self.old) }
         ensures err { OnErr result (self.new ≡ self.old) }
     {
+        self.blob_word(bytes)?;
+        Ok(())
+    }
+
+    /// The same, and answers the blob's word, by which it is added again.
+    pub fn blob_word(&mut self, bytes: &[u8]) -> Result<Val, AllocError>
+        ensures ok { OnOk result (self.new ≡ draft_with (blob_value bytes.now) self.old) }
+        ensures err { OnErr result (self.new ≡ self.old) }
+        ensures word { IfOk result (λ word. HasBlob self.new bytes.now word) }
+    {
         self.words.reserve(1)?;
         let word = self.writer.blob(bytes)?;
+        self.words.push(word)?;
+        Ok(word)
+    }
+
+    /// Adds a blob again by its word, without a look at its bytes.
+    pub fn blob_again(&mut self, word: Val) -> Result<(), AllocError>
+        ensures ok { OnOk result ((bytes : List ℕ) → HasBlob self.old bytes word
+            → self.new ≡ draft_with (blob_value bytes) self.old) }
+        ensures err { OnErr result (self.new ≡ self.old) }
+    {
+        let word = word_unless_over(&self.writer, word);
         self.words.push(word)?;
         Ok(())
     }
@@ -140,6 +166,17 @@ impl Draft {
         let writer = self.writer;
         writer.finish(root)
     }
+}
+
+/// The word, or NULL where the writer passed a limit.
+fn word_unless_over(writer: &Writer, word: Val) -> Val
+    ensures within { is_over writer.now ≡ false → result ≡ word }
+    ensures over { is_over writer.now ≡ true → result ≡ 0 }
+{
+    if writer.passes_limit() {
+        return Val::of(0);
+    }
+    word
 }
 
 /// Puts a word in the place of those from `start` on.

@@ -15,3 +15,8 @@ Finds view None answer = answer ≡ None
 abbrev pub cause_of : {A : Type 0} → Result A Cause → Option Cause
 cause_of (Ok x) = None
 cause_of (Err c) = Some c
+
+-- what was read, where the answer is no refusal
+abbrev pub read_of : {A : Type 0} → Result A Cause → Option A
+read_of (Ok x) = Some x
+read_of (Err c) = None

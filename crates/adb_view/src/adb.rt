@@ -3,7 +3,7 @@
 ghost use Rattle.std.specs.Prelude.{◌≡◌, ◌≤◌, length, slice_range, IfOk, ◌<◌, ℕ, List, All, IfSome, is_some};
 ghost use Rattle.adb_view.specs.Head.{head_fault, root_of};
 ghost use Rattle.adb_view.specs.Readers.{int_of, blob_of, run_of, ARRAY, OBJECT};
-ghost use Rattle.adb_view.specs.Gives.{Gives, cause_of};
+ghost use Rattle.adb_view.specs.Gives.{Finds, Gives, cause_of, read_of};
 ghost use Rattle.std.specs.List.{list_all};
 ghost use Rattle.adb_view.specs.Plain.{Shape, Fields, plain_of, plains_of, IsNormal};
 ghost use Rattle.adb_view.specs.Shaped.{HasShape, HaveShapes};
@@ -144,6 +144,55 @@ impl<'a> Adb<'a> {
     {
         let entries = Arr::read(self.payload, kind::OBJECT, v)?;
         Ok(Obj::of(entries))
+    }
+
+    /// The integer that `int` reads; none where it refuses. A cause has 150 bytes, which a reader
+    /// that may answer one moves at each call.
+    #[tactic(auto, unfolding(crate::specs::Readers::int_of))]
+    pub fn find_int(&self, v: Val) -> Option<u64>
+        ensures { result ≡ read_of (int_of (payload_of self.now) v) }
+    {
+        if v.is_null() {
+            return Some(0);
+        }
+        match v.kind() {
+            kind::INT => Some(u64::from(v.low())),
+            kind::INT_32 => number(self.payload, v.low() as usize, Width::Four),
+            kind::INT_64 => number(self.payload, v.low() as usize, Width::Eight),
+            _ => None,
+        }
+    }
+
+    /// The bytes that `blob` reads; none where it refuses.
+    #[tactic(auto, unfolding(crate::specs::Readers::blob_of))]
+    pub fn find_blob(&self, v: Val) -> Option<&'a [u8]>
+        ensures { Finds (λ bytes. bytes.now) result (read_of (blob_of (payload_of self.now) v)) }
+    {
+        if v.is_null() {
+            return Some(&[]);
+        }
+        let width = match v.kind() {
+            kind::BLOB_8 => Width::One,
+            kind::BLOB_16 => Width::Two,
+            kind::BLOB_32 => Width::Four,
+            _ => return None,
+        };
+        let (from, end) = counted_range(self.payload, v.low() as usize, width)?;
+        Some(&self.payload[from..end])
+    }
+
+    /// The array that `arr` reads; none where it refuses.
+    pub fn find_arr(&self, v: Val) -> Option<Arr<'a>>
+        ensures { Finds array_entries result (read_of (run_of ARRAY (payload_of self.now) v)) }
+    {
+        Arr::find(self.payload, kind::ARRAY, v)
+    }
+
+    /// The entries of the object that `obj` reads; none where it refuses.
+    pub fn find_entries(&self, v: Val) -> Option<Arr<'a>>
+        ensures { Finds array_entries result (read_of (run_of OBJECT (payload_of self.now) v)) }
+    {
+        Arr::find(self.payload, kind::OBJECT, v)
     }
 }
 

@@ -2,7 +2,7 @@
 
 ghost use Rattle.std.specs.Prelude.{◌≡◌, ◌≤◌, ◌<◌, ◌-◌, ◌*◌, ◌^◌, ◌==◌, length};
 ghost use Rattle.adb_view.specs.Readers.{run_of};
-ghost use Rattle.adb_view.specs.Gives.{Gives};
+ghost use Rattle.adb_view.specs.Gives.{Finds, Gives, read_of};
 
 use crate::words::{Val, run, word_at};
 use base_core::Cause;
@@ -33,6 +33,23 @@ impl<'a> Arr<'a> {
         match run(payload, v.low() as usize) {
             Some(bytes) => Ok(Arr { bytes }),
             None => Err(Cause::Outside { word }),
+        }
+    }
+
+    /// The same, and none where it is refused.
+    #[tactic(auto, unfolding(crate::specs::Readers::run_of, crate::specs::Bytes::words))]
+    pub(crate) fn find(payload: &'a [u8], kind: u32, v: Val) -> Option<Arr<'a>>
+        ensures { Finds array_entries result (read_of (run_of kind payload.now v)) }
+    {
+        if v.is_null() {
+            return Some(Arr { bytes: &[] });
+        }
+        if v.kind() != kind {
+            return None;
+        }
+        match run(payload, v.low() as usize) {
+            Some(bytes) => Some(Arr { bytes }),
+            None => None,
         }
     }
 

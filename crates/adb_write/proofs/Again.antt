@@ -1,5 +1,5 @@
 -- What was written is found again, whatever was written since.
-use Rattle.std.proofs.Common.{◌≡◌, ℕ, suc, ◌+◌, ◌*◌, ◌^◌, ◌<◌, ◌≤◌, Bool, true, false, cond, eqb, ltb, List, [], ◌∷◌, ◌++◌, length, take, drop, replicate, Option, Some, None, refl, sym, ap, subst, ◌∙◌, append_assoc, arith, inl, inr, eq-eqb, le_trans}
+use Rattle.std.proofs.Common.{◌≡◌, ℕ, suc, ◌+◌, ◌^◌, ◌<◌, ◌≤◌, Bool, true, false, cond, eqb, ltb, List, [], ◌∷◌, ◌++◌, length, take, drop, replicate, Option, Some, None, refl, sym, ap, subst, ◌∙◌, append_assoc, arith, inl, inr, eq-eqb, le_trans}
 use Rattle.std.specs.Prelude.{find, bytes_eq, ◌&&◌}
 use Rattle.std.specs.List.{flat_map, AllByRecursion}
 use Rattle.std.specs.Int.{w8, w16, w32, w64, from_le_bytes, to_le_bytes}
@@ -9,6 +9,7 @@ use Rattle.std.proofs.lemmas.Slice.Eq.{bytes_eq-Decides}
 use Rattle.adb_view.specs.Plain.{Plain, null, int, blob, arr, obj, Plains, none, more, IsNormal, AreNormal, count_of}
 use Rattle.adb_view.specs.Readers.{ARRAY, OBJECT}
 use Rattle.adb_write.specs.Canonical.{gap, Item, WrittenItem, Cell, in_place, apart, int_item, int_cell, blob_item, blob_cell, run_bytes, run_item, run_cell, trimmed_words, Layout, empty_layout, end_offset, is_equal_item, word_of_item, put_new, put_unless, put_item, put_cell, put_run, write, write_all, payload_with_root, MOST_BYTES}
+use Rattle.adb_write.specs.Again.{front_len, TellsItsLength, IsThere, HasAllItems, len_by}
 use Rattle.adb_write.specs.Size.{entries_of, entries_of_all, with_entries}
 use Rattle.adb_write.proofs.Found.{equal_kind, equal_bytes, equal_within}
 use Rattle.adb_write.proofs.Placed.{wide8, wide16, wide32, wide64}
@@ -18,26 +19,12 @@ use Rattle.adb_write.proofs.Overflow.{entries_in, int_entries, blob_entries, run
 
 -- ---- an item tells its length in its front
 
--- how many bytes tell it
-abbrev front_len : ℕ → ℕ
-front_len kind = cond (eqb kind 8) 1 (cond (eqb kind 9) 2 4)
-
--- the length that they tell
-abbrev len_by : ℕ → List ℕ → ℕ
-len_by kind front =
-    cond (eqb kind 2) 4 (cond (eqb kind 3) 8 (cond (eqb kind 8) (1 + from_le_bytes w8 front) (cond (eqb kind 9) (2 + from_le_bytes w16 front) (cond (eqb kind 10) (4 + from_le_bytes w32 front) (4 * from_le_bytes w32 front)))))
-
-record IsFramed (i : Item) : Type 0 where
-  pub some : 0 < length i.bytes
-  pub long : front_len i.kind ≤ length i.bytes
-  pub len : length i.bytes ≡ len_by i.kind (take (front_len i.kind) i.bytes)
-
-abbrev IsFramedCell : Cell → Type 0
+abbrev pub IsFramedCell : Cell → Type 0
 IsFramedCell (in_place w) = Unit {0}
-IsFramedCell (apart i) = IsFramed i
+IsFramedCell (apart i) = TellsItsLength i
 
 -- two items of one kind that stand at one place are equal
-same_bytes : (i j : Item) (x : List ℕ) → IsFramed i → IsFramed j → i.kind ≡ j.kind → take (length i.bytes) x ≡ i.bytes → take (length j.bytes) x ≡ j.bytes → i.bytes ≡ j.bytes
+same_bytes : (i j : Item) (x : List ℕ) → TellsItsLength i → TellsItsLength j → i.kind ≡ j.kind → take (length i.bytes) x ≡ i.bytes → take (length j.bytes) x ≡ j.bytes → i.bytes ≡ j.bytes
 same_bytes i j x f g kind a b =
     let front : take (front_len i.kind) i.bytes ≡ take (front_len j.kind) j.bytes =
     ap (take (front_len i.kind)) (sym a) ∙ take-take (front_len i.kind) (length i.bytes) x f.long ∙ ap (λ (k : ℕ). take (front_len k) x) kind ∙ sym (take-take (front_len j.kind) (length j.bytes) x g.long) ∙ ap (take (front_len j.kind)) b in
@@ -46,14 +33,14 @@ same_bytes i j x f g kind a b =
 
 -- ---- each item is framed
 
-int_framed : (n : ℕ) → IsFramed (int_item n)
+int_framed : (n : ℕ) → TellsItsLength (int_item n)
 int_framed n = go (ltb n (2 ^ 32))
   where
-    go : (a : Bool) → IsFramed (cond a (record { kind = 2; align = 4; bytes = to_le_bytes w32 n; entries = 0 }) (record { kind = 3; align = 8; bytes = to_le_bytes w64 n; entries = 0 }))
+    go : (a : Bool) → TellsItsLength (cond a (record { kind = 2; align = 4; bytes = to_le_bytes w32 n; entries = 0 }) (record { kind = 3; align = 8; bytes = to_le_bytes w64 n; entries = 0 }))
     go true = record { some = omega (arith, wide32.len n); long = omega (arith, wide32.len n); len = wide32.len n }
     go false = record { some = omega (arith, wide64.len n); long = omega (arith, wide64.len n); len = wide64.len n }
 
-blob_framed : (b : List ℕ) → length b < 2 ^ 32 → IsFramed (blob_item b)
+pub blob_framed : (b : List ℕ) → length b < 2 ^ 32 → TellsItsLength (blob_item b)
 blob_framed b few =
     elim (cases_lt (length b) (2 ^ 8)) [
       | inl a ↦
@@ -62,7 +49,7 @@ blob_framed b few =
           let is : blob_item b ≡ i = rw t refl in
           let total = length-append (to_le_bytes w8 (length b)) b in
           let front : from_le_bytes w8 (take 1 (to_le_bytes w8 (length b) ++ b)) ≡ length b = ap (from_le_bytes w8) (take_at (to_le_bytes w8 (length b)) b 1 (wide8.len (length b))) ∙ wide8.again (length b) a in
-          subst IsFramed (sym is) (record { some = omega (arith, total, wide8.len (length b)); long = omega (arith, total, wide8.len (length b)); len = omega (arith, total, wide8.len (length b), front) })
+          subst TellsItsLength (sym is) (record { some = omega (arith, total, wide8.len (length b)); long = omega (arith, total, wide8.len (length b)); len = omega (arith, total, wide8.len (length b), front) })
       | inr a ↦
           let t : ltb (length b) (2 ^ 8) ≡ false = le-ltb _ _ a in
           elim (cases_lt (length b) (2 ^ 16)) [
@@ -72,48 +59,48 @@ blob_framed b few =
                 let is : blob_item b ≡ i = rw (t, u) refl in
                 let total = length-append (to_le_bytes w16 (length b)) b in
                 let front : from_le_bytes w16 (take 2 (to_le_bytes w16 (length b) ++ b)) ≡ length b = ap (from_le_bytes w16) (take_at (to_le_bytes w16 (length b)) b 2 (wide16.len (length b))) ∙ wide16.again (length b) c in
-                subst IsFramed (sym is) (record { some = omega (arith, total, wide16.len (length b)); long = omega (arith, total, wide16.len (length b)); len = omega (arith, total, wide16.len (length b), front) })
+                subst TellsItsLength (sym is) (record { some = omega (arith, total, wide16.len (length b)); long = omega (arith, total, wide16.len (length b)); len = omega (arith, total, wide16.len (length b), front) })
             | inr c ↦
                 let u : ltb (length b) (2 ^ 16) ≡ false = le-ltb _ _ c in
                 let i : Item = record { kind = 10; align = 4; bytes = to_le_bytes w32 (length b) ++ b; entries = 0 } in
                 let is : blob_item b ≡ i = rw (t, u) refl in
                 let total = length-append (to_le_bytes w32 (length b)) b in
                 let front : from_le_bytes w32 (take 4 (to_le_bytes w32 (length b) ++ b)) ≡ length b = ap (from_le_bytes w32) (take_at (to_le_bytes w32 (length b)) b 4 (wide32.len (length b))) ∙ wide32.again (length b) few in
-                subst IsFramed (sym is) (record { some = omega (arith, total, wide32.len (length b)); long = omega (arith, total, wide32.len (length b)); len = omega (arith, total, wide32.len (length b), front) })
+                subst TellsItsLength (sym is) (record { some = omega (arith, total, wide32.len (length b)); long = omega (arith, total, wide32.len (length b)); len = omega (arith, total, wide32.len (length b), front) })
           ]
     ]
 
 run_front : (ws : List ℕ) → suc (length ws) < 2 ^ 32 → from_le_bytes w32 (take 4 (run_bytes ws)) ≡ suc (length ws)
 run_front ws few = ap (from_le_bytes w32) (take_at (to_le_bytes w32 (suc (length ws))) (flat_map (to_le_bytes w32) ws) 4 (wide32.len (suc (length ws)))) ∙ wide32.again (suc (length ws)) few
 
-array_framed : (ws : List ℕ) → suc (length ws) < 2 ^ 32 → IsFramed (run_item ARRAY ws)
+array_framed : (ws : List ℕ) → suc (length ws) < 2 ^ 32 → TellsItsLength (run_item ARRAY ws)
 array_framed ws few = record { some = omega (arith, run_long ws); long = omega (arith, run_long ws); len = omega (arith, run_long ws, run_front ws few) }
 
-object_framed : (ws : List ℕ) → suc (length ws) < 2 ^ 32 → IsFramed (run_item OBJECT ws)
+object_framed : (ws : List ℕ) → suc (length ws) < 2 ^ 32 → TellsItsLength (run_item OBJECT ws)
 object_framed ws few = record { some = omega (arith, run_long ws); long = omega (arith, run_long ws); len = omega (arith, run_long ws, run_front ws few) }
 
 -- ---- and so is each cell that fits
 
-int_cell_framed : (n : ℕ) → IsFramedCell (int_cell n)
+pub int_cell_framed : (n : ℕ) → IsFramedCell (int_cell n)
 int_cell_framed n = go (ltb n (2 ^ 28))
   where
     go : (a : Bool) → IsFramedCell (cond a (in_place (2 ^ 28 + n)) (apart (int_item n)))
     go true = tt
     go false = int_framed n
 
-blob_cell_framed : (b : List ℕ) (out : Layout) → end_offset (put_cell (blob_cell b) out).1 ≤ MOST_BYTES → IsFramedCell (blob_cell b)
+pub blob_cell_framed : (b : List ℕ) (out : Layout) → end_offset (put_cell (blob_cell b) out).1 ≤ MOST_BYTES → IsFramedCell (blob_cell b)
 blob_cell_framed [] out fits = tt
 blob_cell_framed (x ∷ xs) out fits =
     let long = blob_long (x ∷ xs) in
     blob_framed (x ∷ xs) (omega (arith, item_within (blob_item (x ∷ xs)) out (omega arith)))
 
-array_cell_framed : (ws : List ℕ) (out : Layout) → end_offset (put_run ARRAY ws out).1 ≤ MOST_BYTES → IsFramedCell (run_cell ARRAY ws)
+pub array_cell_framed : (ws : List ℕ) (out : Layout) → end_offset (put_run ARRAY ws out).1 ≤ MOST_BYTES → IsFramedCell (run_cell ARRAY ws)
 array_cell_framed [] out fits = tt
 array_cell_framed (w ∷ ws) out fits =
     let long = run_long (w ∷ ws) in
     array_framed (w ∷ ws) (omega (arith, item_within (run_item ARRAY (w ∷ ws)) out (omega arith)))
 
-object_cell_framed : (ws : List ℕ) (out : Layout) → end_offset (put_run OBJECT ws out).1 ≤ MOST_BYTES → IsFramedCell (run_cell OBJECT ws)
+pub object_cell_framed : (ws : List ℕ) (out : Layout) → end_offset (put_run OBJECT ws out).1 ≤ MOST_BYTES → IsFramedCell (run_cell OBJECT ws)
 object_cell_framed [] out fits = tt
 object_cell_framed (w ∷ ws) out fits =
     let long = run_long (w ∷ ws) in
@@ -134,17 +121,11 @@ equal_more body q i x some e =
     is_equal (body ++ q) i x (equal_kind body i x e)
     (ap (take (length i.bytes)) (drop-append-le x.offset body q (omega arith)) ∙ take-append-le (length i.bytes) (drop x.offset body) q (omega (arith, length-drop x.offset body)) ∙ bytes)
 
--- a framed item stands there
-record IsThere (body : List ℕ) (x : WrittenItem) : Type 0 where
-  pub what : Item
-  pub framed : IsFramed what
-  pub equal : is_equal_item body what x ≡ true
-
 there_more : (body q : List ℕ) (x : WrittenItem) → IsThere body x → IsThere (body ++ q) x
 there_more body q x t = record { what = t.what; framed = t.framed; equal = equal_more body q t.what x t.framed.some t.equal }
 
 -- items that are equal to one written item have one kind and the same bytes
-one_item : (body : List ℕ) (i j : Item) (x : WrittenItem) → IsFramed i → IsFramed j → is_equal_item body i x ≡ true → is_equal_item body j x ≡ true → (i.kind ≡ j.kind) × (i.bytes ≡ j.bytes)
+one_item : (body : List ℕ) (i j : Item) (x : WrittenItem) → TellsItsLength i → TellsItsLength j → is_equal_item body i x ≡ true → is_equal_item body j x ≡ true → (i.kind ≡ j.kind) × (i.bytes ≡ j.bytes)
 one_item body i j x f g a b =
     let kind : i.kind ≡ j.kind = sym (equal_kind body i x a) ∙ equal_kind body j x b in
     (kind, same_bytes i j (drop x.offset body) f g kind (equal_bytes body i x a) (equal_bytes body j x b))
@@ -154,7 +135,7 @@ same_test body i j x kind bytes =
     ap (λ (k : ℕ). eqb x.kind k && bytes_eq (take (length i.bytes) (drop x.offset body)) i.bytes) kind
     ∙ ap (λ (b : List ℕ). eqb x.kind j.kind && bytes_eq (take (length b) (drop x.offset body)) b) bytes
 
-equal_stays : (body q : List ℕ) (i : Item) (x : WrittenItem) → IsFramed i → IsThere body x → is_equal_item body i x ≡ is_equal_item (body ++ q) i x
+equal_stays : (body q : List ℕ) (i : Item) (x : WrittenItem) → TellsItsLength i → IsThere body x → is_equal_item body i x ≡ is_equal_item (body ++ q) i x
 equal_stays body q i x f t = go (is_equal_item body i x) (is_equal_item (body ++ q) i x) refl refl
   where
     go : (a b : Bool) → is_equal_item body i x ≡ a → is_equal_item (body ++ q) i x ≡ b → a ≡ b
@@ -175,13 +156,9 @@ all_from : {A : Type 0} (P Q : A → Type 0) → ((x : A) → P x → Q x) → (
 all_from P Q f [] h = tt
 all_from P Q f (x ∷ xs) h = (f x h.0, all_from P Q f xs h.1)
 
--- each written item stands in the layout
-record IsWhole (out : Layout) : Type 0 where
-  pub all : AllByRecursion (IsThere out.body) out.items
-
 -- what is found in the one is the same in the other
-record Keeps (out later : Layout) : Type 0 where
-  pub found : (i : Item) (x : WrittenItem) → IsFramed i → find (is_equal_item out.body i) out.items ≡ Some x → find (is_equal_item later.body i) later.items ≡ Some x
+pub record Keeps (out later : Layout) : Type 0 where
+  pub found : (i : Item) (x : WrittenItem) → TellsItsLength i → find (is_equal_item out.body i) out.items ≡ Some x → find (is_equal_item later.body i) later.items ≡ Some x
 
 keeps_itself : (out : Layout) → Keeps out out
 keeps_itself out = record { found = λ i x f e. e }
@@ -205,7 +182,7 @@ new_equal i out =
     (ap (λ (x : List ℕ). take (length i.bytes) (drop (length out.body + gap i.align (end_offset out)) x)) (sym (append_assoc out.body zeros i.bytes))
     ∙ ap (take (length i.bytes)) (drop_at (out.body ++ zeros) i.bytes (length out.body + gap i.align (end_offset out)) at) ∙ take_all (length i.bytes) i.bytes (omega arith))
 
-new_whole : (i : Item) (out : Layout) → IsFramed i → IsWhole out → IsWhole (put_new i out).1
+new_whole : (i : Item) (out : Layout) → TellsItsLength i → HasAllItems out → HasAllItems (put_new i out).1
 new_whole i out f w = record {
   all = (
     record { what = i; framed = f; equal = new_equal i out },
@@ -213,10 +190,10 @@ new_whole i out f w = record {
   );
 }
 
-new_keeps : (i : Item) (out : Layout) → IsFramed i → IsWhole out → find (is_equal_item out.body i) out.items ≡ None → Keeps out (put_new i out).1
+new_keeps : (i : Item) (out : Layout) → TellsItsLength i → HasAllItems out → find (is_equal_item out.body i) out.items ≡ None → Keeps out (put_new i out).1
 new_keeps i out f w absent = record { found = λ j x g e. go j x g e (is_equal_item (out.body ++ added i out) j (new_item i out)) refl }
   where
-    go : (j : Item) (x : WrittenItem) → IsFramed j → find (is_equal_item out.body j) out.items ≡ Some x → (b : Bool) → is_equal_item (out.body ++ added i out) j (new_item i out) ≡ b
+    go : (j : Item) (x : WrittenItem) → TellsItsLength j → find (is_equal_item out.body j) out.items ≡ Some x → (b : Bool) → is_equal_item (out.body ++ added i out) j (new_item i out) ≡ b
         → cond b (Some (new_item i out)) (find (is_equal_item (out.body ++ added i out) j) out.items) ≡ Some x
     go j x g e true h =
         let same = one_item (out.body ++ added i out) i j (new_item i out) f g (new_equal i out) h in
@@ -227,28 +204,28 @@ new_keeps i out f w absent = record { found = λ j x g e. go j x g e (is_equal_i
 
 -- ---- one value more
 
-record Stays (out later : Layout) : Type 0 where
-  pub whole : IsWhole later
+pub record Stays (out later : Layout) : Type 0 where
+  pub whole : HasAllItems later
   pub keeps : Keeps out later
 
-put_item_stays : (i : Item) (out : Layout) → IsFramed i → IsWhole out → Stays out (put_item i out).1
+put_item_stays : (i : Item) (out : Layout) → TellsItsLength i → HasAllItems out → Stays out (put_item i out).1
 put_item_stays i out f w = go (find (is_equal_item out.body i) out.items) refl
   where
     go : (found : Option WrittenItem) → find (is_equal_item out.body i) out.items ≡ found → Stays out (put_unless found i out).1
     go None e = record { whole = new_whole i out f w; keeps = new_keeps i out f w e }
     go (Some there) e = record { whole = record { all = w.all }; keeps = record { found = λ j x g h. h } }
 
-put_cell_stays : (c : Cell) (out : Layout) → IsFramedCell c → IsWhole out → Stays out (put_cell c out).1
+pub put_cell_stays : (c : Cell) (out : Layout) → IsFramedCell c → HasAllItems out → Stays out (put_cell c out).1
 put_cell_stays (in_place word) out f w = record { whole = w; keeps = keeps_itself out }
 put_cell_stays (apart i) out f w = put_item_stays i out f w
 
 -- the item is found where it was put
-record IsFoundAgain (i : Item) (r : ℕ × Layout) : Type 0 where
+pub record IsFoundAgain (i : Item) (r : ℕ × Layout) : Type 0 where
   pub item : WrittenItem
   pub is : find (is_equal_item r.1.body i) r.1.items ≡ Some item
   pub word : word_of_item item ≡ r.0
 
-put_item_found : (i : Item) (out : Layout) → IsFoundAgain i (put_item i out)
+pub put_item_found : (i : Item) (out : Layout) → IsFoundAgain i (put_item i out)
 put_item_found i out = go (find (is_equal_item out.body i) out.items) refl
   where
     go : (found : Option WrittenItem) → find (is_equal_item out.body i) out.items ≡ found → IsFoundAgain i (put_unless found i out)
@@ -278,7 +255,7 @@ cell_counts c out later n e f k = cell_again c out later f k ∙ ap (λ (m : ℕ
 mutual
   unfolding write
 
-  write_stays : (v : Plain) (out : Layout) → IsWhole out → end_offset (write v out).1 ≤ MOST_BYTES → Stays out (write v out).1
+  write_stays : (v : Plain) (out : Layout) → HasAllItems out → end_offset (write v out).1 ≤ MOST_BYTES → Stays out (write v out).1
   write_stays null out w fits = record { whole = w; keeps = keeps_itself out }
   write_stays (int n) out w fits = put_cell_stays (int_cell n) out (int_cell_framed n) w
   write_stays (blob b) out w fits = put_cell_stays (blob_cell b) out (blob_cell_framed b out fits) w
@@ -293,7 +270,7 @@ mutual
       let t = put_cell_stays (run_cell OBJECT (trimmed_words r.0)) r.1 (object_cell_framed (trimmed_words r.0) r.1 fits) s.whole in
       record { whole = t.whole; keeps = keeps_then out r.1 (put_run OBJECT (trimmed_words r.0) r.1).1 s.keeps t.keeps }
 
-  write_all_stays : (vs : Plains) (out : Layout) → IsWhole out → end_offset (write_all vs out).1 ≤ MOST_BYTES → Stays out (write_all vs out).1
+  write_all_stays : (vs : Plains) (out : Layout) → HasAllItems out → end_offset (write_all vs out).1 ≤ MOST_BYTES → Stays out (write_all vs out).1
   write_all_stays none out w fits = record { whole = w; keeps = keeps_itself out }
   write_all_stays (more v vs) out w fits =
       let s = write_stays v out w (le_trans (Grows-here _ _ (write_all-grows vs (write v out).1)) fits) in
@@ -303,7 +280,7 @@ mutual
 mutual
   unfolding write IsNormal entries_of
 
-  write_again : (v : Plain) (out later : Layout) → IsNormal v → IsWhole out → end_offset (write v out).1 ≤ MOST_BYTES → Keeps (write v out).1 later → write v later ≡ ((write v out).0, with_entries (entries_of v) later)
+  write_again : (v : Plain) (out later : Layout) → IsNormal v → HasAllItems out → end_offset (write v out).1 ≤ MOST_BYTES → Keeps (write v out).1 later → write v later ≡ ((write v out).0, with_entries (entries_of v) later)
   write_again null out later n w fits k = ap (λ (l : Layout). (0, l)) (with_none later)
   write_again (int m) out later n w fits k = cell_counts (int_cell m) out later 0 (int_entries m) (int_cell_framed m) k
   write_again (blob b) out later n w fits k = cell_counts (blob_cell b) out later 0 (blob_entries b) (blob_cell_framed b out fits) k
@@ -332,7 +309,7 @@ mutual
       ∙ cell_counts (run_cell OBJECT (trimmed_words r.0)) r.1 further (count_of vs) (run_entries OBJECT (trimmed_words r.0) ∙ ap length stay ∙ words_count vs out) f (record { found = k.found })
       ∙ ap (λ (l : Layout). ((put_run OBJECT (trimmed_words r.0) r.1).0, l)) (with_both (entries_of_all vs) (count_of vs) later)
 
-  write_all_again : (vs : Plains) (out later : Layout) → AreNormal vs → IsWhole out → end_offset (write_all vs out).1 ≤ MOST_BYTES → Keeps (write_all vs out).1 later → write_all vs later ≡ ((write_all vs out).0, with_entries (entries_of_all vs) later)
+  write_all_again : (vs : Plains) (out later : Layout) → AreNormal vs → HasAllItems out → end_offset (write_all vs out).1 ≤ MOST_BYTES → Keeps (write_all vs out).1 later → write_all vs later ≡ ((write_all vs out).0, with_entries (entries_of_all vs) later)
   write_all_again none out later n w fits k = ap (λ (l : Layout). ([], l)) (with_none later)
   write_all_again (more v vs) out later n w fits k =
       let within = le_trans (Grows-here _ _ (write_all-grows vs (write v out).1)) fits in
@@ -347,7 +324,7 @@ mutual
 
 -- ---- the law
 
-nothing_whole : IsWhole empty_layout
+pub nothing_whole : HasAllItems empty_layout
 nothing_whole = record { all = tt }
 
 pub stored_once : (before v since : Plain) → IsNormal v → end_offset (write since (write v (write before empty_layout).1).1).1 ≤ MOST_BYTES

@@ -17,4 +17,5 @@ pub mod DepthFirst
 pub mod Visited
 pub mod Overflow
 pub mod Again
+pub mod Kept
 mod Worked

@@ -6,6 +6,7 @@ pub mod Size
 pub mod Writing
 pub mod DepthFirst
 pub mod StandsFor
+pub mod Again
 pub mod Items
 pub mod Keys
 pub mod WordPages

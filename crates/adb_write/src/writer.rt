@@ -113,6 +113,13 @@ impl Writer {
         }
     }
 
+    /// Whether a limit was passed, so that nothing is written from then on.
+    pub fn passes_limit(&self) -> bool
+        ensures { result ≡ is_over self.now }
+    {
+        self.counts.passes()
+    }
+
     /// Writes an integer: in its word below 2^28, in 32 bits below 2^32, else in 64.
     pub fn int(&mut self, n: u64) -> Result<Val, AllocError>
         ensures ok { IfOk result (λ word. (word, self.new) ≡ int_call n self.old) }

@@ -4,17 +4,15 @@
 //! host did of it is not seen by a proof. All else is decided below it.
 #![tactic(auto)]
 
-mod stream;
-mod words;
+mod process;
 
-use apk_front::{Access, Answer, access_for, apk, status};
+use apk_front::{Answer, RootAccess, access_for, apk, status};
 use host_files::Lock;
 use host_tree::HostTree;
+use process::{HostSink, WordsFault, words_of};
 use std::io;
 use std::io::Write;
 use std::process::ExitCode;
-use stream::HostSink;
-use words::{WordsFault, words_of};
 
 /// The status of a run that finds no memory for its words.
 const NO_MEMORY: u8 = 4;
@@ -50,10 +48,10 @@ fn out_of_memory(rt: &HostRuntime) -> ExitCode {
 }
 
 /// A run that writes has the root alone.
-fn lock_for(access: Access) -> Lock {
+fn lock_for(access: RootAccess) -> Lock {
     match access {
-        Access::Read => Lock::Shared,
-        Access::Write => Lock::Exclusive,
+        RootAccess::Read => Lock::Shared,
+        RootAccess::Write => Lock::Exclusive,
     }
 }
 

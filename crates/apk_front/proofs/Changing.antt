@@ -11,14 +11,14 @@ use Rattle.base_core.specs.Tree.{TreeState, files_of}
 use Rattle.base_core.specs.declared.tree.TreeFault.{TreeFault}
 use Rattle.base_core.specs.declared.tree.TreeFault.TheVariants as Trees
 use Rattle.change_inputs.specs.Answers.{AgreesUnlessDisk}
-use Rattle.change_inputs.specs.declared.refused.Refused.{Refused}
-use Rattle.change_inputs.specs.declared.refused.Refused.TheVariants.{Disk, Memory, Refusal as IsRefused}
+use Rattle.change_inputs.specs.declared.root.Refused.{Refused}
+use Rattle.change_inputs.specs.declared.root.Refused.TheVariants.{Disk, Memory, Refusal as IsRefused}
 use Rattle.change_outcome.specs.ChangeOutcome.{ChangeDone}
 use Rattle.command_core.specs.Command.{CommandLine}
 use Rattle.command_core.specs.declared.command.Applet.{Applet}
 use Rattle.command_core.specs.declared.command.Applet.TheVariants.{Add, Del, Fix, Upgrade}
 use Rattle.engine_core.specs.ChangeRun.{ComesTo, DoesCommit, IsChangeRun, IsCommit, IsFoundChanged, IsNoneOrCommit, report_as_is, report_in, coming_in}
-use Rattle.engine_core.specs.Changed.{IsClashFor, IsClashForOver, changed, selected_for}
+use Rattle.engine_core.specs.Changed.{IsClashFor, IsClashForOver, change_of_command, selected_for}
 use Rattle.engine_core.specs.Choice.{IsChoiceFrom}
 use Rattle.engine_core.specs.Runs.{IsRunCounted}
 use Rattle.engine_core.specs.Selecting.{pool_for}
@@ -93,7 +93,7 @@ abbrev Wanted : Type 0
 Wanted = Result ChangeDone Refusal
 
 applet_is : (applet : Applet) (command : CommandLine) (read : Reads) (files : Files) (chosen : Option (List ℕ)) (clash : Option NamePair) → effect_of applet ≡ Changes
-    → change_outcome files (changed command read files chosen clash) ≡ applet_outcome applet command (given_by chosen clash) read files
+    → change_outcome files (change_of_command command read files chosen clash) ≡ applet_outcome applet command (given_by chosen clash) read files
 applet_is applet command read files chosen clash changes = change_is applet command (given_by chosen clash) read files changes
 
 -- ---- what is told
@@ -143,7 +143,7 @@ module _ (command : CommandLine) (changes : effect_of command.applet ≡ Changes
   found = given_by run.chosen run.clash
 
   abbrev wanted : Wanted
-  wanted = changed command run.read run.files run.chosen run.clash
+  wanted = change_of_command command run.read run.files run.chosen run.clash
 
   found_so : (verdict : Verdict) → IsToldAs answer (Ok verdict) → AgreesUnlessDisk report_as_is answer (report_in wanted) ⊎ IsFoundChanged (coming_in (selected_for command run.read run.chosen)) wanted old answer → ReportsOne (IsFoundOver command) verdict
   found_so verdict told (inl agrees) = (
@@ -181,12 +181,12 @@ pub record IsRunAt (command : CommandLine) (v : TreeState) (old now : History) (
   pub chosen : Option (List ℕ)
   pub clash : Option NamePair
   pub given : IsGiven command (reads_in (files_of v)) (files_of v) (given_by chosen clash)
-  pub comes : ComesTo (coming_in (selected_for command (reads_in (files_of v)) chosen)) (changed command (reads_in (files_of v)) (files_of v) chosen clash) old now a b answer
+  pub comes : ComesTo (coming_in (selected_for command (reads_in (files_of v)) chosen)) (change_of_command command (reads_in (files_of v)) (files_of v) chosen clash) old now a b answer
 
 abbrev RunFacts : CommandLine → History → History → Counts → Counts → Answered → Option (List ℕ) → Option NamePair → Reads → Files → Files → Type 0
 RunFacts command old now a b answer chosen clash read files standing =
     IsChoiceFrom (pool_for command read) chosen × IsClashForOver command read files standing chosen clash
-    × ComesTo (coming_in (selected_for command read chosen)) (changed command read files chosen clash) old now a b answer
+    × ComesTo (coming_in (selected_for command read chosen)) (change_of_command command read files chosen clash) old now a b answer
 
 run_at : (command : CommandLine) → effect_of command.applet ≡ Changes → (v : TreeState) (rest now : History) (a b : Counts) (answer : Answered) → IsChangeRun command (v ∷ rest) now a b answer → IsRunAt command v (v ∷ rest) now a b answer
 run_at command changes v rest now a b answer run = record {
@@ -222,7 +222,7 @@ told_ok P (Err refused) (Ok verdict) told err ok =
 module _ (command : CommandLine) (changes : effect_of command.applet ≡ Changes) (unique : HaveOne) (leaves : HaveIdle) (v : TreeState) (rest now : History) (a b : Counts) (answer : Answered) (judged : Judged)
     (told : IsToldAs answer judged) (run : IsRunAt command v (v ∷ rest) now a b answer) (nothing : HasNothingWaiting v) where
   abbrev asked : Wanted
-  asked = changed command (reads_in (files_of v)) (files_of v) run.chosen run.clash
+  asked = change_of_command command (reads_in (files_of v)) (files_of v) run.chosen run.clash
 
   abbrev outcome : Outcome
   outcome = change_outcome (files_of v) asked

@@ -9,13 +9,13 @@ use Rattle.base_core.specs.Tree.{TreeState, files_of}
 use Rattle.base_core.specs.declared.tree.TreeFault.{TreeFault}
 use Rattle.base_core.specs.declared.tree.TreeFault.TheVariants as Trees
 use Rattle.change_inputs.specs.Answers.{AgreesUnlessDisk}
-use Rattle.change_inputs.specs.declared.refused.Refused.{Refused}
-use Rattle.change_inputs.specs.declared.refused.Refused.TheVariants.{Disk, Memory, Refusal as IsRefused}
+use Rattle.change_inputs.specs.declared.root.Refused.{Refused}
+use Rattle.change_inputs.specs.declared.root.Refused.TheVariants.{Disk, Memory, Refusal as IsRefused}
 use Rattle.command_core.specs.Command.{CommandLine}
 use Rattle.command_core.specs.declared.command.Applet.{Applet}
 use Rattle.command_core.specs.declared.command.Applet.TheVariants.{Info}
 use Rattle.engine_core.specs.InfoTold.{info_told}
-use Rattle.installed_info.specs.declared.done.InfoDone.{InfoDone}
+use Rattle.installed_info.specs.declared.telling.InfoDone.{InfoDone}
 use Rattle.make_info.specs.Reads.{Reads}
 use Rattle.make_package.specs.Runs.{Explains}
 use Rattle.report_core.specs.declared.refusal.Refusal.{Refusal}

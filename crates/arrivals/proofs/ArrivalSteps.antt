@@ -7,8 +7,8 @@ use Rattle.std.specs.List.{cons_option, slice_get}
 use Rattle.adb_view.specs.Plain.{Plain}
 use Rattle.base_core.specs.Tree.{TreeState, files_of}
 use Rattle.change_inputs.specs.Chains.{and_then}
-use Rattle.change_inputs.specs.declared.refused.Refused.{Refused}
-use Rattle.change_inputs.specs.declared.refused.Refused.TheVariants.{Disk, Memory, Refusal}
+use Rattle.change_inputs.specs.declared.root.Refused.{Refused}
+use Rattle.change_inputs.specs.declared.root.Refused.TheVariants.{Disk, Memory, Refusal}
 use Rattle.change_outcome.specs.MembersAfter.{MemberFound}
 use Rattle.dep_core.specs.Repositories.{Repository}
 use Rattle.make_info.specs.Reads.{Reads}

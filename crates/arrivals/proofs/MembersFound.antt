@@ -7,8 +7,8 @@ use Rattle.base_core.specs.Tree.{TreeState}
 use Rattle.change_inputs.specs.Chains.{and_then}
 use Rattle.change_inputs.specs.Answers.{IsFailure}
 use Rattle.change_inputs.specs.Inputs.{first_index_read}
-use Rattle.change_inputs.specs.declared.refused.Refused.{Refused}
-use Rattle.change_inputs.specs.declared.refused.Refused.TheVariants.{Disk, Memory, Refusal}
+use Rattle.change_inputs.specs.declared.root.Refused.{Refused}
+use Rattle.change_inputs.specs.declared.root.Refused.TheVariants.{Disk, Memory, Refusal}
 use Rattle.change_outcome.specs.MembersAfter.{MemberFound, members_after, name_after, name_by_change, names_after}
 use Rattle.db_core.specs.Packages.{is_package_named}
 use Rattle.db_core.specs.declared.members.TheConstants.{MOST_MEMBERS}

@@ -6,7 +6,7 @@ use Rattle.base_core.specs.Tree.{TreeState}
 use Rattle.base_core.specs.declared.cause.Cause.{Cause}
 use Rattle.change_inputs.specs.Answers.{Agrees, StandsAt}
 use Rattle.change_inputs.specs.Chains.{and_then}
-use Rattle.change_inputs.specs.declared.refused.Refused.{Refused}
+use Rattle.change_inputs.specs.declared.root.Refused.{Refused}
 use Rattle.change_outcome.specs.MembersAfter.{coming_by_path}
 use Rattle.change_outcome.specs.PackageFiles.{ComingPackage, package_file_of, package_found, package_in_file, scripts_of_change, unless_package_bad, unless_different, unless_number, unless_script, first_script_of}
 use Rattle.dep_core.specs.Repositories.{Repository}

@@ -2,8 +2,8 @@
 use Rattle.std.proofs.Common.{◌≡◌, ℕ, Bool, true, false, List, Option, Some, None, Result, Ok, Err, refl, sym, ap, ◌∙◌, subst}
 use Rattle.adb_view.specs.Plain.{Plain}
 use Rattle.change_inputs.specs.Answers.{Agrees}
-use Rattle.change_inputs.specs.declared.refused.Refused.{Refused}
-use Rattle.change_inputs.specs.declared.refused.Refused.TheVariants as Commands
+use Rattle.change_inputs.specs.declared.root.Refused.{Refused}
+use Rattle.change_inputs.specs.declared.root.Refused.TheVariants as Commands
 use Rattle.change_outcome.specs.PackageFiles.{unless_number}
 use Rattle.report_core.specs.declared.refusal.Refusal as Refusals
 use Rattle.report_core.specs.declared.refusal.Refusal.TheVariants.{ScriptNeeded}

@@ -1,7 +1,7 @@
 -- What a call answers, where its answer stands for what a definition gives.
 use Rattle.std.specs.Prelude.{◌≡◌, Result, Ok, Err}
-use Rattle.change_inputs.specs.declared.refused.Refused.{Refused}
-use Rattle.change_inputs.specs.declared.refused.Refused.TheVariants.{Disk, Memory, Refusal}
+use Rattle.change_inputs.specs.declared.root.Refused.{Refused}
+use Rattle.change_inputs.specs.declared.root.Refused.TheVariants.{Disk, Memory, Refusal}
 use Rattle.report_core.specs.declared.refusal.Refusal as Refusals
 
 -- An answer stands for what is wanted, or is the wanted refusal; a tree that failed and want of

@@ -3,8 +3,8 @@ use Rattle.std.specs.Prelude.{◌≡◌, ℕ, Bool, List, [], ◌∷◌, Option,
 use Rattle.adb_view.specs.Plain.{Plain}
 use Rattle.base_core.specs.Tree.{TreeState, files_of}
 use Rattle.change_inputs.specs.Chains.{and_then}
-use Rattle.change_inputs.specs.declared.refused.Refused.{Refused}
-use Rattle.change_inputs.specs.declared.refused.Refused.TheVariants.{Disk, Memory, Refusal}
+use Rattle.change_inputs.specs.declared.root.Refused.{Refused}
+use Rattle.change_inputs.specs.declared.root.Refused.TheVariants.{Disk, Memory, Refusal}
 use Rattle.change_outcome.specs.MembersAfter.{MemberFound, coming_by_path, name_by_change, staying_found}
 use Rattle.change_outcome.specs.PackageFiles.{ComingPackage, package_file_of, package_found, scripts_of_change, unless_script}
 use Rattle.dep_core.specs.Repositories.{Repository}

@@ -1,22 +1,32 @@
-//! The packages after a change, as they are read.
+//! The packages after a change, as they are read, and as members.
+
 ghost use Rattle.arrivals.specs.Answered.{StandsUnlessDisk};
-ghost use Rattle.arrivals.specs.Arrivals.{AreMembersRead, CanBeMembers, arrivals_seen};
+ghost use Rattle.arrivals.specs.Arrivals.{AreMembersRead, CanBeMembers, arrivals_seen, IsPlaced, member_read, members_read, IsFileOfMember, package_in};
 ghost use Rattle.arrivals.specs.NameReads.{IsAnswerByRead, IsNameRead, IsStaying, name_read};
 ghost use Rattle.base_core.specs.Read.{OnlyReads};
 ghost use Rattle.change_inputs.specs.Answers.{Agrees};
-ghost use Rattle.change_outcome.specs.MembersAfter.{members_after, name_that_goes};
-ghost use Rattle.db_core.specs.Seen.{packages_of};
+ghost use Rattle.change_outcome.specs.MembersAfter.{members_after, name_that_goes, MemberFound, members_found};
+ghost use Rattle.db_core.specs.Seen.{packages_of, members_of};
 ghost use Rattle.db_core.specs.declared.members.TheConstants.{MOST_MEMBERS};
 ghost use Rattle.make_package.specs.Runs.{Explains};
 ghost use Rattle.package_changes.specs.Placed.{old_package, placed_names_of, replacement_of};
 ghost use Rattle.package_changes.specs.Seen.{change_seen, placed_name_seen, placed_names_seen, replacement_by};
-ghost use Rattle.std.specs.Prelude.{◌≡◌, ◌≤◌, ◌==◌, ◌++◌, ℕ, List, None, length, IfOk, OnOk, option_copied, option_and_then, option_to_list, slice_get};
+ghost use Rattle.std.specs.Prelude.{◌≡◌, ◌≤◌, ◌==◌, ◌++◌, ℕ, List, None, length, IfOk, OnOk, option_copied, option_and_then, option_to_list, slice_get, ◌<◌, true, Some, ◌+◌, Bool, is_some};
+ghost use Rattle.db_core.specs.Members.{Member, comes_behind, member_name, is_coming};
+ghost use Rattle.adb_view.specs.Plain.{Plain};
+ghost use Rattle.arrivals.specs.declared.arrivals.MemberRead.{MemberRead};
+ghost use Rattle.package_test.specs.declared.package.TestedPackage.{TestedPackage};
+ghost use Rattle.base_core.specs.Tree.{TreeState};
+ghost use Rattle.change_inputs.specs.Inputs.{first_index_read};
+ghost use Rattle.dep_core.specs.Repositories.{Repository};
+ghost use Rattle.make_info.specs.Reads.{Reads};
+ghost use Rattle.package_changes.specs.Changes.{Replacement};
 
 use crate::package::read_coming;
 use crate::scripts::test_scripts;
 use base_core::{Tree, readings_in_a_row_join};
 use change_inputs::Refused;
-use db_core::Db;
+use db_core::{Db, Members};
 use dep_core::Repos;
 use package_changes::{Change, PlacedName, PlacedNames, places_lead_to_packages_and_candidates};
 use package_test::TestedPackage;
@@ -201,3 +211,72 @@ fn test_leaving(
         _ => Ok(()),
     }
 }
+
+/// The packages after a change, in byte order of names: each that stays is lent from the database,
+/// and each that comes from what was read of its file.
+pub fn members_of_change<'a>(
+    alloc: Global,
+    db: &Db<'a>,
+    arrivals: &'a Arrivals,
+) -> Result<Members<'a>, AllocError>
+    requires { CanBeMembers (packages_of db.now) (arrivals_seen arrivals.now) }
+    ensures { IfOk result (λ members. members_of members
+        ≡ members_read (packages_of db.now) (arrivals_seen arrivals.entry.now)) }
+{
+    let mut members = Members::new(alloc);
+    for read in &arrivals.members {
+        push_read(&mut members, db, read)?;
+    }
+    Ok(members)
+}
+
+/// Adds a package that was read.
+fn push_read<'a>(
+    members: &mut Members<'a>,
+    db: &Db<'a>,
+    read: &'a MemberRead,
+) -> Result<(), AllocError>
+    requires behind { (m : Member) → member_read (packages_of db.now) read.now ≡ Some m
+        → comes_behind (member_name m) (members_of members.old) ≡ true }
+    requires placed { IsPlaced (packages_of db.now) read.now }
+    requires few { length (members_of members.old) < MOST_MEMBERS }
+    ensures { OnOk result (members_of members.new ≡ members_of members.old
+        ++ option_to_list (member_read (packages_of db.now) read.entry.now)) }
+{
+    match read {
+        MemberRead::Stays(place) => members.stays(db, *place),
+        MemberRead::Comes(pkg) => members.comes_in_pieces(&pkg.contents()),
+    }
+}
+
+/// Packages that were read are, as members, those that the definition finds.
+pub fn packages_that_were_read_are_those_found()
+    ensures { (history : List TreeState) (before : List Plain) (reads : List MemberRead)
+        (found : List MemberFound) → AreMembersRead history before reads found
+        → members_read before reads ≡ members_found found }
+{}
+
+/// The package that was read for the member at a place is that of the file whose contents the
+/// definition finds for it, and each member that comes has one.
+pub fn a_package_that_was_read_is_that_of_its_file()
+    ensures file { (history : List TreeState) (before : List Plain) (reads : List MemberRead)
+        (found : List MemberFound) → AreMembersRead history before reads found
+        → (place : ℕ) (pkg : TestedPackage)
+        → option_and_then package_in (slice_get reads place) ≡ Some pkg
+        → IsFileOfMember history found place pkg }
+    ensures comes { (history : List TreeState) (before : List Plain) (reads : List MemberRead)
+        (found : List MemberFound) → AreMembersRead history before reads found
+        → (place : ℕ) (m : Member) → slice_get (members_found found) place ≡ Some m
+        → is_coming m ≡ true
+        → is_some (option_and_then package_in (slice_get reads place)) ≡ true }
+{}
+
+/// The packages after a change rest on the reads behind those of the indexes alone: what a command
+/// reads before them is another matter.
+pub fn packages_after_a_change_rest_on_later_reads()
+    ensures { (r : Replacement) (read other : Reads) (repositories : List Repository)
+        (no_scripts : Bool) → ((n : ℕ) (name : List ℕ)
+        → first_index_read + length repositories ≤ n → read n name ≡ other n name)
+        → members_after r read repositories no_scripts
+        ≡ members_after r other repositories no_scripts }
+{}

@@ -9,17 +9,12 @@
 #![tactic(auto)]
 
 mod arrivals;
-mod laws;
-mod members;
 mod package;
 mod path;
-mod same;
 mod scripts;
-mod told;
 
-pub use arrivals::{Arrivals, read_arrivals};
-pub use laws::{
-    a_package_that_was_read_is_that_of_its_file, packages_after_a_change_rest_on_later_reads,
-    packages_that_were_read_are_those_found,
+pub use arrivals::{
+    Arrivals, a_package_that_was_read_is_that_of_its_file, members_of_change,
+    packages_after_a_change_rest_on_later_reads, packages_that_were_read_are_those_found,
+    read_arrivals,
 };
-pub use members::members_of_change;

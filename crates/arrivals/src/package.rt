@@ -1,4 +1,5 @@
-//! The package of a candidate: its file is read and tested once.
+//! The package of a candidate: its file is read and tested once, and has what its index says of it.
+
 ghost use Rattle.arrivals.specs.Arrivals.{IsPackageRead};
 ghost use Rattle.arrivals.specs.NameReads.{IsAnswerByRead, candidate_read, coming_read, file_read};
 ghost use Rattle.package_test.specs.Tested.{tested_id, tested_value};
@@ -9,18 +10,18 @@ ghost use Rattle.change_outcome.specs.PackageFiles.{ComingPackage, scripts_of_ch
 ghost use Rattle.package_changes.specs.Changes.{selected_version};
 ghost use Rattle.package_changes.specs.Seen.{change_seen};
 ghost use Rattle.pool_core.specs.Values.{candidate_value};
-ghost use Rattle.report_core.specs.declared.refusal.Refusal.TheVariants.{PackageBad, PackageMissing};
+ghost use Rattle.report_core.specs.declared.refusal.Refusal.TheVariants.{PackageBad, PackageMissing, PackageDiffers};
 ghost use Rattle.std.specs.Prelude.{◌≡◌, true, IfOk};
+ghost use Rattle.adb_schema.specs.Views.{package_value};
+ghost use Rattle.report_core.specs.declared.refusal.Refusal.{Refusal as RefusalValue};
 
 use crate::path::package_file_of;
-use crate::same::test_same;
 use crate::scripts::test_scripts;
-use crate::told::told;
 use adb_schema::PackageView;
 use base_core::{Cause, Name, Text, Tree};
 use change_inputs::Refused;
 use dep_core::Repos;
-use package_changes::Change;
+use package_changes::{Change, is_same_id};
 use package_test::{PackageRead, TestedPackage, read_package};
 use pool_core::Candidate;
 use report_core::Refusal;
@@ -163,4 +164,77 @@ fn package_bad(alloc: Global, c: &Candidate<'_>, cause: Cause) -> Result<Refusal
         version: Text::of(alloc, c.info.version())?,
         cause,
     })
+}
+
+// The numbers of the fields of a package's information that have to agree with the index.
+const NAME_FIELD: u16 = 1;
+
+const VERSION_FIELD: u16 = 2;
+
+const ID_FIELD: u16 = 3;
+
+/// Tests that a package has the id, the name and the version of its candidate.
+///
+/// # Errors
+///
+/// `PackageDiffers` with the first of these that it has not, or `Memory`.
+pub(crate) fn test_same(
+    alloc: Global,
+    c: &Candidate<'_>,
+    pkg: &PackageView<'_>,
+    id: &[u8],
+) -> Result<(), Refused>
+    ensures { (coming : ComingPackage) → coming.value ≡ package_value pkg.now → coming.id ≡ id.now
+        → Agrees (λ _. coming) result (unless_different (candidate_value c.now) coming) }
+{
+    let info = pkg.info();
+    if !is_same_id(c.info.hashes(), id) {
+        return Err(differs(alloc, c, ID_FIELD, c.info.hashes(), id));
+    }
+    if c.info.name() != info.name() {
+        return Err(differs(alloc, c, NAME_FIELD, c.info.name(), info.name()));
+    }
+    if c.info.version() != info.version() {
+        return Err(differs(alloc, c, VERSION_FIELD, c.info.version(), info.version()));
+    }
+    Ok(())
+}
+
+/// That a package has something else in a field than its index says.
+fn differs(alloc: Global, c: &Candidate<'_>, field: u16, wanted: &[u8], found: &[u8]) -> Refused
+    ensures { IsRefusalTold (PackageDiffers (candidate_value c.now).name
+        (selected_version (candidate_value c.now)) field wanted.now found.now) result }
+{
+    told(package_differs(alloc, c, field, wanted, found))
+}
+
+/// The same with its texts.
+fn package_differs(
+    alloc: Global,
+    c: &Candidate<'_>,
+    field: u16,
+    wanted: &[u8],
+    found: &[u8],
+) -> Result<Refusal, AllocError>
+    ensures { IfOk result (λ refusal. refusal ≡ PackageDiffers (candidate_value c.now).name
+        (selected_version (candidate_value c.now)) field wanted.now found.now) }
+{
+    Ok(Refusal::PackageDiffers {
+        name: Text::of(alloc, c.info.name())?,
+        version: Text::of(alloc, c.info.version())?,
+        field,
+        wanted: Text::of(alloc, wanted)?,
+        found: Text::of(alloc, found)?,
+    })
+}
+
+/// A refusal, or that there was no memory for it.
+pub(crate) fn told(made: Result<Refusal, AllocError>) -> Refused
+    ensures { (wanted : RefusalValue) → IfOk made (λ refusal. refusal ≡ wanted)
+        → IsRefusalTold wanted result }
+{
+    match made {
+        Ok(refusal) => Refused::Refusal(refusal),
+        Err(_) => Refused::Memory,
+    }
 }

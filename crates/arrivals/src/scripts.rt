@@ -9,7 +9,7 @@ ghost use Rattle.package_changes.specs.Seen.{change_seen};
 ghost use Rattle.report_core.specs.declared.refusal.Refusal.TheVariants.{ScriptNeeded};
 ghost use Rattle.std.specs.Prelude.{◌≡◌, ◌<◌, ◌+◌, ◌^◌, ◌==◌, ℕ, true, not, if◌then◌else◌, Some, None, length, IfOk};
 
-use crate::told::told;
+use crate::package::told;
 use adb_schema::{PackageView, ScriptsView};
 use base_core::Text;
 use change_inputs::Refused;

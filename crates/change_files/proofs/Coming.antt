@@ -14,7 +14,7 @@ use Rattle.change_files.specs.FileChange.{FileChange, coming_owner, is_claimed, 
 use Rattle.change_files.specs.FilesAfter.{if_aside, if_in, laid_beside, path_beside, written_as}
 use Rattle.std.specs.Option.{option_or}
 use Rattle.change_files.specs.Touched.{IsNewEntry, IsUsersFile}
-use Rattle.change_files.proofs.Owned.{aside_found, coming_is, nobody_beside}
+use Rattle.change_files.proofs.Owned.{aside_found, claimed_by_owner, coming_is, is_beside, nobody_beside}
 use Rattle.change_files.proofs.Untouched.{users_fate}
 
 -- ---- it goes in
@@ -116,3 +116,19 @@ beside_users_file change files path l laid =
             → ((bytes : List ℕ) × IsUsersFile change files path bytes) × IsNewEntry change path l.entry
         by_tests true tests aside = absurd (cc)
         by_tests false tests aside = ((bytes, users_file change files path bytes l comes present tests), new_entry change path l.entry aside)
+
+-- ---- under the name beside it
+
+no_owner : (change : FileChange) (name : List ℕ) → is_claimed change name ≡ false → coming_owner change name ≡ None
+no_owner change name free = by_owner (coming_owner change name) refl
+  where
+    by_owner : (o : Option Listing) → coming_owner change name ≡ o → o ≡ None
+    by_owner None e = refl
+    by_owner (Some l) e = absurd (true≢false (sym (claimed_by_owner change name l (coming_is change name l e).0) ∙ free))
+
+pub written_beside : (change : FileChange) (files : Files) (path : List ℕ) (l : Listing) → laid_beside change files path ≡ Some l → written_as change files (aside_name path) ≡ Some l
+unfolding written_as
+written_beside change files path l laid =
+    ap (λ (o : Option Listing). option_or (option_and_then (λ l. if_in l (fate_of change files l)) o) (option_and_then (laid_beside change files) (path_beside (aside_name path))))
+    (no_owner change (aside_name path) (nobody_beside change files path l laid))
+    ∙ (ap (option_and_then (laid_beside change files)) (is_beside path) ∙ laid)

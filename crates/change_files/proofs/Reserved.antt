@@ -9,7 +9,7 @@ use Rattle.adb_rules.specs.Reserved.{is_at_or_below, is_below_any, is_reserved, 
 use Rattle.base_core.specs.Files.{Files}
 use Rattle.base_core.proofs.Rising.{IsIn}
 use Rattle.db_core.specs.Members.{Listing}
-use Rattle.list_order.specs.ByteOrder.{precedes, smaller, smallest}
+use Rattle.list_order.specs.ByteOrder.{precedes, smaller_text, smallest_text}
 use Rattle.change_files.specs.Fate.{aside_name}
 use Rattle.change_files.specs.FileChange.{FileChange}
 use Rattle.change_files.specs.FilesAfter.{Records, database_name, text_database_name, world_name, written_as}
@@ -21,15 +21,15 @@ use Rattle.change_files.proofs.Owned.{in_coming_paths, written_is}
 
 -- ---- paths
 
-none_smallest : (xs : List (List ℕ)) → smallest xs ≡ None → (q : List ℕ) → IsIn q xs → ⊥
+none_smallest : (xs : List (List ℕ)) → smallest_text xs ≡ None → (q : List ℕ) → IsIn q xs → ⊥
 none_smallest [] e q here = here
-none_smallest (x ∷ xs) e q here = some_smaller x (smallest xs) e
+none_smallest (x ∷ xs) e q here = some_smaller x (smallest_text xs) e
   where
     some_if : (b : Bool) (a x : List ℕ) → (if b then Some a else Some x) ≡ None → ⊥
     some_if true a x e = (cc)
     some_if false a x e = (cc)
 
-    some_smaller : (x : List ℕ) (o : Option (List ℕ)) → smaller x o ≡ None → ⊥
+    some_smaller : (x : List ℕ) (o : Option (List ℕ)) → smaller_text x o ≡ None → ⊥
     some_smaller x None e = (cc)
     some_smaller x (Some a) e = some_if (precedes a x) a x e
 

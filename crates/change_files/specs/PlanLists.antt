@@ -2,7 +2,7 @@
 use Rattle.std.specs.Prelude.{ℕ, cond, List, [], ◌∷◌, ◌++◌, map, Option, option_map, is_some, bytes_eq}
 use Rattle.std.specs.List.{filter, filter_map}
 use Rattle.base_core.specs.Files.{Files}
-use Rattle.list_order.specs.ByteOrder.{bytes_cmp, smallest}
+use Rattle.list_order.specs.ByteOrder.{bytes_cmp, smallest_text}
 use Rattle.list_order.specs.Sorted.{sorted_by}
 use Rattle.adb_rules.specs.Reserved.{is_reserved}
 use Rattle.db_core.specs.Members.{Listing, Member}
@@ -63,4 +63,4 @@ aside_of change files =
 
 -- the first reserved path that a package which comes lists
 unfoldable pub first_reserved : List Member → Option (List ℕ)
-first_reserved members = smallest (filter is_reserved (coming_paths members))
+first_reserved members = smallest_text (filter is_reserved (coming_paths members))

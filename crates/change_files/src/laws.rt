@@ -45,7 +45,7 @@ pub fn what_comes_takes_its_path()
 
 /// Beside a file that the user changed the new one is laid, where no package listed the path before
 /// or what it listed says something else, and the name beside is one that no package lists; and
-/// only there.
+/// only there. It stands under that name.
 pub fn what_differs_lies_beside_the_users_file()
     ensures beside { (change : FileChange) (files : Files) (path bytes : List ℕ) (l : Listing)
         → coming_owner change path ≡ Some l → IsUsersFile change files path bytes
@@ -56,6 +56,9 @@ pub fn what_differs_lies_beside_the_users_file()
         → laid_beside change files path ≡ Some l
         → ((bytes : List ℕ) × IsUsersFile change files path bytes)
         × IsNewEntry change path l.entry × (is_claimed change (aside_name path) ≡ false) }
+    ensures stands { (change : FileChange) (files : Files) (path : List ℕ) (l : Listing)
+        → laid_beside change files path ≡ Some l
+        → written_as change files (aside_name path) ≡ Some l }
 {}
 
 /// What a package brings under a path is as its entry says: a link's text; contents of its size and

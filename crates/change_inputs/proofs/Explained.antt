@@ -19,7 +19,7 @@ use Rattle.change_inputs.specs.Database.{Database, root_database}
 use Rattle.change_inputs.specs.Indexes.{index_files_from, indexes_in_files, root_indexes}
 use Rattle.change_inputs.specs.Inputs.{Inputs, Root, database_for, index_reads_from, indexes_of, inputs_by, inputs_of, root_for, root_found}
 use Rattle.change_inputs.specs.RootFiles.{StandInRoot}
-use Rattle.change_inputs.specs.declared.refused.Refused.{Refused}
+use Rattle.change_inputs.specs.declared.root.Refused.{Refused}
 use Rattle.change_inputs.specs.declared.root.RootFiles.{RootFiles}
 
 -- ---- reads that find what a list says

@@ -4,8 +4,8 @@ use Rattle.std.specs.Result.{IsErrAnd}
 use Rattle.report_core.specs.declared.refusal.Refusal as Refusals
 use Rattle.change_inputs.specs.Chains.{and_then}
 use Rattle.change_inputs.specs.Answers.{Agrees, AgreesUnlessDisk, IsFailure}
-use Rattle.change_inputs.specs.declared.refused.Refused.{Refused}
-use Rattle.change_inputs.specs.declared.refused.Refused.TheVariants.{Disk, Memory, Refusal}
+use Rattle.change_inputs.specs.declared.root.Refused.{Refused}
+use Rattle.change_inputs.specs.declared.root.Refused.TheVariants.{Disk, Memory, Refusal}
 
 module _ {A B : Type 0} (view : A → B) (wanted : Result B Refusals.Refusal) where
   pub memory_agrees : (r : Result A Refused) → IsErrAnd r (λ e. e ≡ Memory) → Agrees view r wanted

@@ -22,8 +22,8 @@ use Rattle.change_inputs.specs.Answers.{Agrees, AgreesUnlessDisk, IsFailure, Sta
 use Rattle.change_inputs.specs.Chains.{and_then, unless_cause}
 use Rattle.change_inputs.specs.IndexFiles.{are_indexes, bytes_of_each, index_of_file, is_index}
 use Rattle.change_inputs.specs.Indexes.{index_file, index_files_from, index_in_file, indexes_in_files}
-use Rattle.change_inputs.specs.declared.refused.Refused.{Refused}
-use Rattle.change_inputs.specs.declared.refused.Refused.TheVariants.{Disk, Memory, Refusal}
+use Rattle.change_inputs.specs.declared.root.Refused.{Refused}
+use Rattle.change_inputs.specs.declared.root.Refused.TheVariants.{Disk, Memory, Refusal}
 
 -- ---- what was not looked for
 

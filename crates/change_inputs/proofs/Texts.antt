@@ -5,7 +5,7 @@ use Rattle.adb_schema.specs.Soundness.{payload_fault}
 use Rattle.adb_tables.specs.declared.tables.Which.TheVariants.{Idb}
 use Rattle.v2_core.specs.Payload.{payload_of_text, payload_if_sound, unless_bad, written_payload}
 use Rattle.v2_core.specs.Reading.{records_of}
-use Rattle.v2_core.specs.declared.fault.V2Fault.{V2Fault}
+use Rattle.v2_core.specs.declared.read.V2Fault.{V2Fault}
 
 by_fault : (made payload : List ℕ) (fault : Option Cause) → payload_fault Idb made ≡ fault → unless_bad made fault ≡ Ok payload → payload_fault Idb payload ≡ None
 by_fault made payload None tested is = let same : made ≡ payload = cc in subst (λ p. payload_fault Idb p ≡ None) same tested

@@ -4,8 +4,8 @@ use Rattle.base_core.specs.Calls.{IfObservable}
 use Rattle.base_core.specs.Tree.{TreeState, files_of}
 use Rattle.dep_core.specs.Repositories.{Repository}
 use Rattle.report_core.specs.declared.refusal.Refusal as Refusals
-use Rattle.change_inputs.specs.declared.refused.Refused.{Refused}
-use Rattle.change_inputs.specs.declared.refused.Refused.TheVariants.{Disk, Memory, Refusal}
+use Rattle.change_inputs.specs.declared.root.Refused.{Refused}
+use Rattle.change_inputs.specs.declared.root.Refused.TheVariants.{Disk, Memory, Refusal}
 
 -- an answer, seen by a view, is what a definition gives; want of memory says nothing of it
 abbrev pub Agrees :

@@ -1,5 +1,6 @@
 -- The packages that a change chooses from: those of the indexes, and those that are installed.
 use Rattle.std.specs.Prelude.{ℕ, ◌+◌, nat_lt, true, if◌then◌else◌, List, [], ◌∷◌, ◌++◌, length, None, Result, Ok, Err}
+use Rattle.adb_tables.specs.FieldIndexes.{INDEX_PACKAGES, PACKAGE_INFO}
 use Rattle.adb_tables.specs.Values.{entries_in, entry_in}
 use Rattle.adb_view.specs.Plain.{Plain}
 use Rattle.dep_core.specs.Repositories.{Repository}
@@ -15,12 +16,12 @@ abbrev pub candidates_from : ℕ → List Repository → List Plain → List Can
 candidates_from n [] indexes = []
 candidates_from n (repository ∷ repositories) [] = []
 candidates_from n (repository ∷ repositories) (index ∷ indexes) =
-    candidates_of_index n repository.tag (entries_in (entry_in index 1))
+    candidates_of_index n repository.tag (entries_in (entry_in index INDEX_PACKAGES))
     ++ candidates_from (n + 1) repositories indexes
 
 -- an installed package, by the database
 abbrev pub installed_candidate : Plain → Candidate
-installed_candidate pkg = candidate_of (entry_in pkg 0) None None true
+installed_candidate pkg = candidate_of (entry_in pkg PACKAGE_INFO) None None true
 
 -- with the installed packages, in the database's order
 abbrev pub with_all_installed : List Candidate → List Plain → List Candidate

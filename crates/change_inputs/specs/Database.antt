@@ -2,13 +2,14 @@
 use Rattle.std.specs.Prelude.{ℕ, Bool, true, false, List, [], Option, Some, None, Result, Ok, Err}
 use Rattle.adb_fields.specs.Repeated.{entries_at}
 use Rattle.adb_schema.specs.Soundness.{first_fault, payload_in, root_value}
+use Rattle.adb_tables.specs.FieldIndexes.{IDB_PACKAGES}
 use Rattle.adb_tables.specs.declared.tables.Which.TheVariants.{Idb}
 use Rattle.adb_view.specs.Plain.{Plain}
 use Rattle.report_core.specs.declared.refusal.Refusal.{Refusal}
 use Rattle.report_core.specs.declared.refusal.Refusal.TheVariants.{DatabaseBad, NoDatabase, ResultTooLarge}
 use Rattle.v2_core.specs.Payload.{payload_of_text}
-use Rattle.v2_core.specs.declared.fault.V2Fault.{V2Fault}
-use Rattle.v2_core.specs.declared.fault.V2Fault.TheVariants.{Bad, Memory, TooLarge}
+use Rattle.v2_core.specs.declared.read.V2Fault.{V2Fault}
+use Rattle.v2_core.specs.declared.read.V2Fault.TheVariants.{Bad, Memory, TooLarge}
 use Rattle.change_inputs.specs.Chains.{unless_cause}
 
 -- the packages, the bytes of the container that has them, where there is one, and whether a text
@@ -18,6 +19,7 @@ pub record Database : Type 0 where
   pub file : Option (List ℕ)
   pub from_text : Bool
 
+-- the packages, with the bytes of the file or the text that they were taken over from
 abbrev pub database_by : List Plain → Option (List ℕ) → Bool → Database
 database_by packages file from_text =
     record { packages = packages; file = file; from_text = from_text }
@@ -26,11 +28,12 @@ database_by packages file from_text =
 abbrev pub container_database : List ℕ → Result Database Refusal
 container_database file =
     unless_cause DatabaseBad (first_fault Idb file)
-    (database_by (entries_at 0 (root_value Idb (payload_in file))) (Some file) false)
+    (database_by (entries_at IDB_PACKAGES (root_value Idb (payload_in file))) (Some file) false)
 
 -- what a text database says, as a payload
 abbrev pub payload_database : Result (List ℕ) V2Fault → Result Database Refusal
-payload_database (Ok payload) = Ok (database_by (entries_at 0 (root_value Idb payload)) None true)
+payload_database (Ok payload) =
+    Ok (database_by (entries_at IDB_PACKAGES (root_value Idb payload)) None true)
 payload_database (Err (Bad cause)) = Err (DatabaseBad cause)
 payload_database (Err (TooLarge bytes values)) = Err (ResultTooLarge bytes values)
 -- no text gives this

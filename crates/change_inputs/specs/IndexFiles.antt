@@ -10,6 +10,7 @@ use Rattle.adb_view.specs.Plain.{Plain}
 abbrev pub bytes_of_each : List (Vec ℕ Global) → List (List ℕ)
 bytes_of_each files = map (λ file. file.items) files
 
+-- whether all tests of an index pass
 abbrev pub is_index : List ℕ → Bool
 is_index file = is_none (first_fault Index file)
 

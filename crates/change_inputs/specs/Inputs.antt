@@ -56,18 +56,21 @@ inputs_by root indexes = record { root = root; indexes = indexes }
 
 -- ---- the numbers of the reads
 
+-- each read of a root has a number: first the database, then the text database
 abbrev pub database_read : ℕ
 database_read = 0
 
 abbrev pub text_database_read : ℕ
 text_database_read = 1
 
+-- then world, then the list of repositories
 abbrev pub world_read : ℕ
 world_read = 2
 
 abbrev pub repositories_read : ℕ
 repositories_read = 3
 
+-- and then one index for each repository
 abbrev pub first_index_read : ℕ
 first_index_read = 4
 
@@ -85,12 +88,14 @@ database_for command read =
     root_database command.flags.initdb (read database_read database_name)
     (read text_database_read text_database_name)
 
+-- what reads find of a root, for a command
 abbrev pub root_for : CommandLine → Reads → Result Root Refusal
 root_for command read =
     root_found command (read database_read database_name)
     (read text_database_read text_database_name) (read world_read world_name)
     (read repositories_read repositories_name)
 
+-- what reads find of the indexes
 abbrev pub indexes_of : Reads → List Repository → Result (List Plain) Refusal
 indexes_of read repositories =
     root_indexes (index_reads_from read first_index_read repositories)

@@ -2,6 +2,7 @@
 use Rattle.std.specs.Prelude.{true, false, List, [], Some, None, map}
 use Rattle.adb_fields.specs.Repeated.{entries_at}
 use Rattle.adb_schema.specs.Soundness.{payload_in, root_value}
+use Rattle.adb_tables.specs.FieldIndexes.{IDB_PACKAGES}
 use Rattle.adb_tables.specs.declared.tables.Which.TheVariants.{Idb}
 use Rattle.adb_view.specs.Plain.{Plain}
 use Rattle.change_inputs.specs.Database.{Database, database_by}
@@ -10,18 +11,20 @@ use Rattle.change_inputs.specs.Inputs.{Inputs, Root, inputs_by}
 use Rattle.change_inputs.specs.declared.database.DatabaseFile.{DatabaseFile}
 use Rattle.change_inputs.specs.declared.database.DatabaseFile.TheVariants.{Container, New, Payload}
 use Rattle.change_inputs.specs.declared.index.IndexFiles.{IndexFiles}
-use Rattle.change_inputs.specs.declared.installed.Installed.{Installed}
+use Rattle.change_inputs.specs.declared.database.Installed.{Installed}
 use Rattle.change_inputs.specs.declared.loaded.Loaded.{Loaded}
 use Rattle.change_inputs.specs.declared.root.TestedRoot.{TestedRoot}
 
 -- the packages that it has, its bytes, and whether a text says them
 abbrev pub database_seen : DatabaseFile → Database
 database_seen (Container own) =
-    database_by (entries_at 0 (root_value Idb (payload_in own.file.items))) (Some own.file.items) false
+    database_by (entries_at IDB_PACKAGES (root_value Idb (payload_in own.file.items)))
+    (Some own.file.items) false
 database_seen (Payload own) =
-    database_by (entries_at 0 (root_value Idb own.payload.items)) None true
+    database_by (entries_at IDB_PACKAGES (root_value Idb own.payload.items)) None true
 database_seen New = database_by [] None false
 
+-- what contracts see in the values of the program
 abbrev pub installed_seen : Installed → Database
 installed_seen installed = database_seen installed.database
 

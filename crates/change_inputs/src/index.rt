@@ -1,24 +1,28 @@
-//! The indexes of repositories: their files, which are all read before one of them is tested.
+//! The repositories of a root, and their indexes: the files of these are all read before one of
+//! them is tested.
+
+ghost use Rattle.adb_rules.specs.Texts.{text_fault};
 ghost use Rattle.adb_schema.specs.Soundness.{root_value};
 ghost use Rattle.adb_schema.specs.Views.{index_value};
 ghost use Rattle.adb_tables.specs.Values.{is_sound};
 ghost use Rattle.adb_tables.specs.declared.tables.Kind.TheVariants as Kinds;
 ghost use Rattle.adb_tables.specs.declared.tables.Which.TheVariants as Tables;
 ghost use Rattle.adb_view.specs.Head.{head_fault, root_of};
-ghost use Rattle.base_core.specs.Read.{OnlyReads};
+ghost use Rattle.base_core.specs.Read.{OnlyReads, bytes_in};
 ghost use Rattle.change_inputs.specs.Answers.{Agrees, AgreesUnlessDisk, StandAt, StandsAt};
 ghost use Rattle.change_inputs.specs.IndexFiles.{are_indexes, bytes_of_each, index_of_file, is_index};
 ghost use Rattle.change_inputs.specs.Indexes.{index_file, index_files_from, index_in_file, indexes_in_files};
 ghost use Rattle.std.specs.Prelude.{◌≡◌, ◌<◌, ◌++◌, ◌∷◌, [], true, ℕ, List, Option, Some, IfOk, OnOk, is_none, length, slice_get};
+ghost use Rattle.change_inputs.specs.Repositories.{if_trusted, root_repositories};
+ghost use Rattle.change_inputs.specs.World.{text_found};
 
-use crate::opening::{payload_in, test_file};
-use crate::reading::read_file;
-use crate::refused::Refused;
-use adb_schema::{IndexView, ReadFault, View, Which};
+use crate::root::{Refused, payload_in, read_file, test_file};
+use crate::world::text_found;
+use adb_schema::{IndexView, ReadFault, Which};
 use adb_tables::values_of_few_visits_have_no_fault;
 use adb_view::Adb;
 use base_core::{Name, Tree};
-use dep_core::Repos;
+use dep_core::{Repos, ReposFault};
 use report_core::Refusal;
 use std::alloc::{AllocError, Global};
 
@@ -65,6 +69,7 @@ impl IndexFiles {
 fn open_payload(payload: &[u8]) -> IndexView<'_>
     requires head { is_none (head_fault payload.now) ≡ true }
     requires sound { is_sound payload.now (Kinds.Obj Tables.Index) (root_of payload.now) ≡ true }
+    requires texts { is_none (text_fault Tables.Index (root_value Tables.Index payload.now)) ≡ true }
     ensures { index_value result ≡ root_value Tables.Index payload.now }
 {
     let Ok(adb) = Adb::new(payload) else {
@@ -134,4 +139,37 @@ fn test_index_file(alloc: Global, number: u64, file: &[u8]) -> Result<(), Refuse
         })),
         Err(ReadFault::Memory) => Err(Refused::Memory),
     }
+}
+
+/// The repositories of a root, by what was found under the name of their list. They are read only
+/// with leave, since nobody checks who signed them.
+///
+/// # Errors
+///
+/// `RepositoriesBad` with the first bad line; `Untrusted` where there is one and no leave. Or
+/// `Memory`.
+pub(crate) fn repositories_of(
+    alloc: Global,
+    is_allowed: bool,
+    found: Option<Vec<u8>>,
+) -> Result<Repos, Refused>
+    ensures { Agrees (λ repositories. repositories) result
+        (root_repositories is_allowed (text_found (bytes_in found))) }
+{
+    let text = text_found(alloc, found);
+    match Repos::read(alloc, &text) {
+        Ok(repositories) => if_trusted(is_allowed, repositories),
+        Err(ReposFault::Bad { line }) => Err(Refused::Refusal(Refusal::RepositoriesBad { line })),
+        Err(ReposFault::Memory) => Err(Refused::Memory),
+    }
+}
+
+// Refuses repositories that may not be read.
+fn if_trusted(is_allowed: bool, repositories: Repos) -> Result<Repos, Refused>
+    ensures { Agrees (λ repositories. repositories) result (if_trusted is_allowed repositories) }
+{
+    if !is_allowed && !repositories.is_empty() {
+        return Err(Refused::Refusal(Refusal::Untrusted));
+    }
+    Ok(repositories)
 }

@@ -9,17 +9,10 @@
 
 mod database;
 mod index;
-mod installed;
-mod laws;
 mod loaded;
-mod opening;
-mod reading;
-mod refused;
-mod repositories;
 mod root;
 mod world;
 
-pub use installed::Installed;
-pub use laws::inputs_rest_on_their_own_reads;
+pub use database::Installed;
 pub use loaded::Loaded;
-pub use refused::Refused;
+pub use root::{Refused, inputs_rest_on_their_own_reads};

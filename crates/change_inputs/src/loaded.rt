@@ -12,8 +12,7 @@ ghost use Rattle.std.specs.Option.{option_copied};
 ghost use Rattle.std.specs.Prelude.{◌≡◌, ◌≤◌, [], IfErr, IfOk, OnOk, length};
 
 use crate::index::{IndexFiles, read_index_files};
-use crate::refused::Refused;
-use crate::root::{RootFiles, TestedRoot, read_root, test_root};
+use crate::root::{Refused, RootFiles, TestedRoot, read_root, test_root};
 use base_core::{Tree, readings_in_a_row_join};
 use command_core::Command;
 use db_core::Db;

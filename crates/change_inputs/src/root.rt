@@ -1,22 +1,30 @@
-//! The files of a root, and what they say for a command.
+//! The files of a root, and what they say for a command: how they are read, tested and opened
+//! again, and why a command does not come to its end.
+
 ghost use Rattle.base_core.specs.Read.{OnlyReads, bytes_in};
 ghost use Rattle.change_inputs.specs.Answers.{Agrees, IsFailure, StandsAt};
-ghost use Rattle.change_inputs.specs.Inputs.{root_found};
+ghost use Rattle.change_inputs.specs.Inputs.{root_found, Inputs, first_index_read, inputs_of};
 ghost use Rattle.change_inputs.specs.RootFiles.{StandInRoot};
 ghost use Rattle.change_inputs.specs.Seen.{root_seen};
 ghost use Rattle.root_names.specs.RootNames.{database_name, text_database_name};
-ghost use Rattle.std.specs.Prelude.{◌≡◌, IfErr, IfOk, None};
+ghost use Rattle.std.specs.Prelude.{◌≡◌, IfErr, IfOk, None, OnOk, ◌<◌, ◌+◌, ℕ, List, Ok, length};
+ghost use Rattle.adb_schema.specs.ReadFaults.{IsReadFault};
+ghost use Rattle.adb_schema.specs.Soundness.{first_fault, payload_fault, payload_in};
+ghost use Rattle.adb_tables.specs.declared.tables.Which.{Which};
+ghost use Rattle.command_core.specs.Command.{CommandLine};
+ghost use Rattle.make_info.specs.Reads.{Reads};
 
 use crate::database::DatabaseFile;
-use crate::reading::read_file;
-use crate::refused::Refused;
-use crate::repositories::repositories_of;
+use crate::index::repositories_of;
 use crate::world::{Worlds, worlds_of};
-use base_core::{Tree, readings_in_a_row_join};
+use adb_block::Blocks;
+use adb_schema::{ReadFault, Which, read_adb};
+use base_core::{Name, Tree, TreeFault, read_all, readings_in_a_row_join};
 use command_core::Command;
 use dep_core::Repos;
+use report_core::Refusal;
 use root_names::{database_name, repositories_name, text_database_name, world_name};
-use std::alloc::Global;
+use std::alloc::{AllocError, Global};
 
 /// The files of a root, each None where it is absent. The text database is looked for where there
 /// is no other.
@@ -111,3 +119,88 @@ pub(crate) fn test_root(
         repositories,
     })
 }
+
+/// The whole file under a name, or None exactly where it is absent.
+pub(crate) fn read_file<T: Tree>(
+    alloc: Global,
+    tree: &mut T,
+    name: &Name,
+) -> Result<Option<Vec<u8>>, Refused>
+    ensures found { IfOk result (λ found.
+        StandsAt (T.history tree.old) name.now (bytes_in found)) }
+    ensures failed { IfErr result IsFailure }
+    ensures tree { OnlyReads Refused.Disk (T.history tree.old) (T.history tree.new)
+        (T.counts tree.old) (T.counts tree.new) result }
+{
+    Ok(read_all(alloc, tree, name)?)
+}
+
+/// Makes all tests of a file as a container with this table at its root.
+pub(crate) fn test_file(alloc: Global, file: &[u8], which: Which) -> Result<(), ReadFault>
+    ensures bad { IfErr result (λ fault. IsReadFault fault (first_fault which file.now)) }
+    ensures passed { OnOk result (first_fault which file.now ≡ None) }
+    ensures sound { OnOk result (payload_fault which (payload_in file.now) ≡ None) }
+{
+    read_adb(alloc, file, which)?;
+    Ok(())
+}
+
+/// The payload of a file that passed its tests.
+#[tactic(auto, unfolding(adb_schema::specs::Soundness::first_fault, adb_schema::specs::Soundness::payload_in))]
+pub(crate) fn payload_in(file: &[u8]) -> &[u8]
+    requires { (which : Which) × (first_fault which file.now ≡ None) }
+    ensures { result.now ≡ payload_in file.now }
+{
+    let Ok(mut blocks) = Blocks::new(file) else {
+        unreachable!()
+    };
+    match blocks.next() {
+        Ok(Some(block)) => block.payload,
+        _ => unreachable!(),
+    }
+}
+
+/// Why a command does not come to its end.
+#[derive(Drop)]
+pub enum Refused {
+    /// It is refused.
+    Refusal(Refusal),
+    /// The tree failed.
+    Disk,
+    /// There was no memory.
+    Memory,
+}
+
+impl From<AllocError> for Refused {
+    ghost use Rattle.std.specs.Prelude.{◌≡◌};
+    ghost use Rattle.change_inputs.specs.declared.root.Refused.TheVariants.{Memory};
+
+    ghost from_gives = { λ _ refused. refused ≡ Memory };
+
+    fn from(_: AllocError) -> Refused {
+        Refused::Memory
+    }
+}
+
+impl From<TreeFault> for Refused {
+    ghost use Rattle.change_inputs.specs.Faults.{IsRefusedOf};
+
+    ghost from_gives = { λ fault refused. IsRefusedOf fault refused };
+
+    fn from(fault: TreeFault) -> Refused {
+        match fault {
+            TreeFault::Disk => Refused::Disk,
+            TreeFault::Memory => Refused::Memory,
+        }
+    }
+}
+
+/// Inputs rest on the reads of their own files alone: those of a root, and one for each index. What
+/// a command reads behind them is another matter.
+pub fn inputs_rest_on_their_own_reads()
+    ensures { (command : CommandLine) (read other : Reads) (inputs : Inputs)
+        → inputs_of command read ≡ Ok inputs
+        → ((n : ℕ) (name : List ℕ) → n < first_index_read + length inputs.root.repositories
+        → read n name ≡ other n name)
+        → inputs_of command other ≡ Ok inputs }
+{}

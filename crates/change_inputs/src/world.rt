@@ -4,7 +4,7 @@ ghost use Rattle.change_inputs.specs.Answers.{Agrees};
 ghost use Rattle.change_inputs.specs.World.{new_world, root_world, text_found, world_with_operand, world_with_operands, world_without_operands};
 ghost use Rattle.std.specs.Prelude.{◌≡◌, IfOk, OnOk};
 
-use crate::refused::Refused;
+use crate::root::Refused;
 use command_core::{Applet, Command, Operand, Operands};
 use dep_core::{World, WorldFault, read_dep};
 use report_core::Refusal;

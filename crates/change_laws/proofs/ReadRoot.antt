@@ -17,8 +17,8 @@ use Rattle.report_core.specs.declared.refusal.Refusal.{Refusal}
 use Rattle.report_core.specs.declared.refusal.Refusal.TheVariants.{DatabaseBad}
 use Rattle.root_names.specs.RootNames.{database_name, repositories_name, text_database_name, world_name}
 use Rattle.v2_core.specs.Payload.{payload_of_text}
-use Rattle.v2_core.specs.declared.fault.V2Fault.{V2Fault}
-use Rattle.v2_core.specs.declared.fault.V2Fault.TheVariants.{Bad, Memory, TooLarge}
+use Rattle.v2_core.specs.declared.read.V2Fault.{V2Fault}
+use Rattle.v2_core.specs.declared.read.V2Fault.TheVariants.{Bad, Memory, TooLarge}
 use Rattle.change_laws.specs.Premises.{IsRootOfFiles}
 use Rattle.change_laws.proofs.Made.{and_then_ok}
 

@@ -38,6 +38,7 @@ pub record ChangeWishes : Type 0 where
 
 -- ---- the files
 
+-- the change of files, by the packages that were found
 abbrev pub file_change : Inputs → ChangeWishes → List MemberFound → FileChange
 file_change inputs wishes found = record {
   old = inputs.root.database.packages;
@@ -45,6 +46,7 @@ file_change inputs wishes found = record {
   purge = wishes.purge;
 }
 
+-- the first test of a change that fails refuses it
 abbrev pub unless_reserved_path : {A : Type 0} → Option (List ℕ) → Result A Refusal → Result A Refusal
 unless_reserved_path None next = next
 unless_reserved_path (Some path) next = Err (Reserved path)
@@ -87,6 +89,7 @@ new_records inputs database = record {
   takes_text_over = inputs.root.database.from_text;
 }
 
+-- a file of the root, where it has to be written
 abbrev pub name_if_needed : Bool → List ℕ → List (List ℕ)
 name_if_needed true name = name ∷ []
 name_if_needed false name = []
@@ -99,6 +102,7 @@ written_records inputs records =
 
 -- ---- what is done, as two lists of names in byte order
 
+-- the names that a change removes, and those that it writes
 pub record Actions : Type 0 where
   pub removals : List (List ℕ)
   pub writes : List (List ℕ)
@@ -121,9 +125,11 @@ does_something actions = not (length actions.removals == 0) || not (length actio
 
 -- ---- the report
 
+-- the size that a package has when it is installed
 abbrev pub member_size : Member → ℕ
 member_size m = int_in (entry_in (entry_in m.pkg 0) 11)
 
+-- the last line of a report
 abbrev pub member_sum_line : List Member → List ℕ
 member_sum_line members = report_line (sum_text (sum_by member_size members) (length members))
 
@@ -131,6 +137,7 @@ member_sum_line members = report_line (sum_text (sum_by member_size members) (le
 abbrev pub touched_paths : FileChange → Files → List (List ℕ)
 touched_paths change files = map (λ w. w.name) (file_writes_of change files) ++ removals_of change files
 
+-- all lines of a report, in their order
 abbrev pub change_report : Replacement → ChangeWishes → FileChange → Files → List ℕ
 change_report r wishes change files =
     change_lines (changes_of r) ++ stay_lines r.before r.selected wishes.to_go
@@ -145,6 +152,7 @@ pub record ChangeDone : Type 0 where
   pub files : Files
   pub commits : Bool
 
+-- the report, and the files that the change leaves
 abbrev pub change_done :
     Inputs → Replacement → ChangeWishes → List MemberFound → Files → Records → ChangeDone
 change_done inputs r wishes found files records =
@@ -216,6 +224,7 @@ abbrev pub IsClashFound :
 IsClashFound inputs wishes files members clash =
     IsClashFoundOver inputs wishes files files members clash
 
+-- both are the same files
 abbrev pub IsClashOfChange :
     Inputs → Replacement → ChangeWishes → Reads → Files → Option NamePair → Type 0
 IsClashOfChange inputs r wishes read files clash =

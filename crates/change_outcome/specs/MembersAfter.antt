@@ -21,9 +21,11 @@ pub record MemberFound : Type 0 where
   pub member : Member
   pub contents : List Contents
 
+-- a package that stays, whose files nobody reads
 abbrev pub staying_found : Plain → MemberFound
 staying_found pkg = record { member = staying_member pkg; contents = [] }
 
+-- a package that comes, with the contents of its files
 abbrev pub coming_found : ComingPackage → MemberFound
 coming_found pkg = record { member = coming_member pkg.value pkg.id; contents = pkg.contents }
 
@@ -41,6 +43,7 @@ name_that_comes read repositories no_scripts n name change c =
     and_then (coming_by_path read n c (package_file_of repositories c)) (λ pkg.
     unless_script no_scripts name pkg.value (scripts_of_change change) (Some (coming_found pkg)))
 
+-- a package that goes is no member any more; its scripts may refuse that
 abbrev pub name_that_goes :
     Bool → List ℕ → Change → Option Plain → Result (Option MemberFound) Refusal
 name_that_goes no_scripts name change None = Ok None
@@ -90,6 +93,7 @@ members_after r read repositories no_scripts =
     names_after r read repositories no_scripts (first_index_read + length repositories)
     (names_on_both_sides r)
 
+-- the packages themselves
 abbrev pub members_found : List MemberFound → List Member
 members_found found = map (λ m. m.member) found
 

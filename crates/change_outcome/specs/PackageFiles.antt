@@ -2,6 +2,7 @@
 use Rattle.std.specs.Prelude.{ℕ, ◌==◌, ◌-◌, Bool, true, false, not, if◌then◌else◌, List, [], ◌∷◌, ◌++◌, length, codes, Option, Some, None, Result, Ok, Err, bytes_eq, slice_get}
 use Rattle.std.specs.List.{list_any}
 use Rattle.adb_schema.specs.Soundness.{payload_in, root_value}
+use Rattle.adb_tables.specs.FieldIndexes.{PACKAGE_SCRIPTS}
 use Rattle.adb_tables.specs.Values.{entry_in, text_in}
 use Rattle.adb_tables.specs.declared.tables.Which.TheVariants as Tables
 use Rattle.adb_view.specs.Plain.{Plain}
@@ -58,6 +59,7 @@ pub record ComingPackage : Type 0 where
   pub id : List ℕ
   pub contents : List Contents
 
+-- what a container says of its package
 abbrev pub package_in_file : List ℕ → ComingPackage
 package_in_file file = record {
   value = root_value Tables.Package (payload_in file);
@@ -87,7 +89,9 @@ unless_different c pkg =
     (version_text pkg.value))
     else Ok pkg
 
-abbrev pub unless_package_bad : Candidate → Option Cause → ComingPackage → Result ComingPackage Refusal
+-- the package, unless a test of its file fails
+abbrev pub unless_package_bad :
+    Candidate → Option Cause → ComingPackage → Result ComingPackage Refusal
 unless_package_bad c None pkg = unless_different c pkg
 unless_package_bad c (Some cause) pkg = Err (PackageBad c.name (selected_version c) cause)
 
@@ -100,16 +104,18 @@ package_found c (Some file) = unless_package_bad c (package_fault file) (package
 
 -- the script with this number, or no bytes
 abbrev pub script_of : Plain → ℕ → List ℕ
-script_of pkg number = text_in (entry_in (entry_in pkg 2) (number - 1))
+script_of pkg number = text_in (entry_in (entry_in pkg PACKAGE_SCRIPTS) (number - 1))
 
 abbrev pub has_script_of : Plain → ℕ → Bool
 has_script_of pkg number = not (length (script_of pkg number) == 0)
 
+-- the first of some scripts that the package has
 abbrev pub first_script_of : Plain → List ℕ → Option ℕ
 first_script_of pkg [] = None
 first_script_of pkg (number ∷ numbers) =
     if has_script_of pkg number then Some number else first_script_of pkg numbers
 
+-- the numbers of the scripts in their table
 abbrev pub trigger_script : ℕ
 trigger_script = 1
 
@@ -131,6 +137,7 @@ scripts_of_change (Upgrade name old new) = upgrade_scripts
 scripts_of_change (Downgrade name old new) = upgrade_scripts
 scripts_of_change (Replace name old new) = upgrade_scripts
 
+-- a script that would have to run refuses the change
 abbrev pub unless_number : {A : Type 0} → List ℕ → Option ℕ → A → Result A Refusal
 unless_number name None a = Ok a
 unless_number name (Some number) a = Err (ScriptNeeded name number)

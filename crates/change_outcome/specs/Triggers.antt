@@ -3,6 +3,7 @@ use Rattle.std.specs.Prelude.{ℕ, ◌==◌, Bool, true, false, ◌&&◌, if◌t
 use Rattle.std.specs.List.{filter, flat_map, list_any}
 use Rattle.base_core.specs.Name.{parts_of}
 use Rattle.adb_fields.specs.Repeated.{entries_at, package_name}
+use Rattle.adb_tables.specs.FieldIndexes.{PACKAGE_TRIGGERS}
 use Rattle.adb_tables.specs.Values.{text_in}
 use Rattle.adb_view.specs.Plain.{Plain}
 use Rattle.change_files.specs.PlanLists.{names_in_order}
@@ -47,8 +48,9 @@ is_folder_matched folder pattern =
     if length folder == 0 then bytes_eq pattern (codes "/")
     else are_parts_matched (parts_of (without_slash pattern)) (parts_of folder)
 
+-- the folders that a package watches
 abbrev pub patterns_of : Plain → List (List ℕ)
-patterns_of pkg = map text_in (entries_at 3 pkg)
+patterns_of pkg = map text_in (entries_at PACKAGE_TRIGGERS pkg)
 
 -- ---- what is due
 
@@ -75,6 +77,7 @@ due_lines folders pkg = flat_map (due_line pkg) (filter (is_due pkg) folders)
 unfoldable pub trigger_lines : List (List ℕ) → List Member → List ℕ
 trigger_lines paths members = flat_map (λ m. due_lines (folders_of_paths paths) m.pkg) members
 
+-- whether a trigger of the package is due for one of the folders
 abbrev pub has_due_trigger : List (List ℕ) → Plain → Bool
 has_due_trigger folders pkg = list_any (is_due pkg) folders
 

@@ -1,20 +1,20 @@
-//! The whole report.
+//! The whole report, and the sum over the packages after a change.
+
 ghost use Rattle.base_core.specs.Files.{Files};
 ghost use Rattle.change_files.specs.FileChange.{FileChange};
-ghost use Rattle.change_outcome.specs.ChangeOutcome.{ChangeWishes, change_report};
+ghost use Rattle.change_outcome.specs.ChangeOutcome.{ChangeWishes, change_report, member_size, member_sum_line};
 ghost use Rattle.change_outcome.specs.Triggers.{trigger_lines};
 ghost use Rattle.change_report.specs.Reported.{IsReportedOf, replacement_reported};
 ghost use Rattle.db_core.specs.Seen.{members_of};
 ghost use Rattle.due_triggers.specs.Due.{planned_paths};
-ghost use Rattle.std.specs.Prelude.{◌≡◌, ◌++◌, ℕ, List, IfOk, OnOk};
+ghost use Rattle.std.specs.Prelude.{◌≡◌, ◌++◌, ℕ, List, IfOk, OnOk, ◌<◌, length, sum_by, Some, option_map, slice_get};
 
 use crate::configuration::push_configuration_lines;
-use crate::sum::push_member_sum;
 use base_core::Words;
 use db_core::{Db, Members};
 use due_triggers::{push_trigger_lines, touched_folders};
 use own_core::FilePlan;
-use package_changes::{Changes, push_change_lines, push_stay_lines};
+use package_changes::{Changes, push_change_lines, push_stay_lines, push_sum_line};
 use pool_core::Sealed;
 use report_core::Report;
 use solve_core::Trace;
@@ -80,4 +80,32 @@ fn push_planned_triggers(
     let folders = touched_folders(alloc, plan)?;
     push_trigger_lines(report, members, &folders)?;
     Ok(())
+}
+
+/// Adds how many bytes and packages there are after a change, by what the packages say.
+pub(crate) fn push_member_sum(report: &mut Report, members: &Members<'_>) -> Result<(), AllocError>
+    ensures { OnOk result (report.new ≡ report.old ++ member_sum_line (members_of members.now)) }
+{
+    let bytes = installed_bytes(members);
+    push_sum_line(report, bytes, members.len() as u128)?;
+    Ok(())
+}
+
+/// The bytes that the packages take when they are installed.
+fn installed_bytes(members: &Members<'_>) -> u128
+    ensures { result ≡ sum_by member_size (members_of members.now) }
+{
+    let mut sum: u128 = 0;
+    for i in 0..members.len() {
+        sum += size_at(members, i) as u128;
+    }
+    sum
+}
+
+/// The bytes that the package at a place takes.
+fn size_at(members: &Members<'_>, i: usize) -> u64
+    requires { i < length (members_of members.now) }
+    ensures { option_map member_size (slice_get (members_of members.now) i) ≡ Some result }
+{
+    members.view(i).info().installed_size()
 }

@@ -6,10 +6,6 @@
 //! `Once` of `specs/`.
 #![tactic(auto)]
 
-mod find;
-mod names;
-mod once;
+mod claims;
 
-pub use find::{find_claim, find_next_claim};
-pub use names::{name_of_path, names_of_claims};
-pub use once::one_of_each_path;
+pub use claims::{find_claim, find_next_claim, name_of_path, names_of_claims, one_of_each_path};

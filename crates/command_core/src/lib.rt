@@ -7,16 +7,15 @@
 #![tactic(auto)]
 
 mod command;
-mod laws;
 mod operands;
 mod texts;
 mod values;
 
 pub use command::{Applet, Command, Flag, Flags};
-pub use laws::{
-    a_command_has_what_its_applet_may_have, file_operands_are_files, values_are_of_their_kind,
+pub use operands::{
+    Operand, OperandKind, OperandRule, Operands, a_command_has_what_its_applet_may_have,
+    file_operands_are_files, values_are_of_their_kind,
 };
-pub use operands::{Operand, OperandKind, OperandRule, Operands};
 pub use texts::without_dot;
 pub use values::{
     COMPRESSION, DESCRIPTION, FILES, INFO, OUTPUT, OptionValue, SCRIPT, TRIGGER, ValueKind,

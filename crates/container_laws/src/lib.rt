@@ -4,8 +4,26 @@
 //! The functions are laws. They cite the definitions of `specs/`, and those of the readers below.
 #![tactic(auto)]
 
-mod laws;
+ghost use Rattle.adb_block.specs.Header.{header_of};
+ghost use Rattle.adb_tables.specs.declared.tables.Which.{Which};
+ghost use Rattle.base_core.specs.declared.cause.Cause.{Cause};
+ghost use Rattle.container_laws.specs.HeaderFaults.{IsHeaderFault};
+ghost use Rattle.container_laws.specs.TestsInOrder.{IsContainerFault, IsFaultOfTable};
+ghost use Rattle.pkg_core.specs.Whole.{container_fault, whole_fault};
+ghost use Rattle.std.specs.Prelude.{◌≡◌, ℕ, Err, List, Some};
 
-pub use laws::{
-    the_first_fault_of_a_container_is_reported, the_first_fault_of_a_header_is_reported,
-};
+/// The fault that is reported of a header: no four bytes, else a compressed container, else no
+/// container, else no eight bytes.
+pub fn the_first_fault_of_a_header_is_reported()
+    ensures { (file : List ℕ) (c : Cause) → header_of file ≡ Err c → IsHeaderFault file c }
+{}
+
+/// The fault that is reported of a container is the first of its tests that fails, in this order:
+/// the header, the schema, the first block, the head of its payload, the shapes of the values,
+/// their texts, the names that stand twice, and the blocks behind them.
+pub fn the_first_fault_of_a_container_is_reported()
+    ensures table { (which : Which) (file : List ℕ) (c : Cause)
+        → whole_fault which file ≡ Some c → IsFaultOfTable which file c }
+    ensures any { (file : List ℕ) (c : Cause)
+        → container_fault file ≡ Some c → IsContainerFault file c }
+{}

@@ -12,6 +12,7 @@ pub record Member : Type 0 where
   pub pkg : Plain
   pub id : Option (List ℕ)
 
+-- a member without id stays, one with an id comes
 abbrev pub staying_member : Plain → Member
 staying_member pkg = record { pkg = pkg; id = None }
 
@@ -53,6 +54,7 @@ pub record Listing : Type 0 where
   pub folder : ℕ
   pub file : ℕ
 
+-- a file that a member lists, with its places
 abbrev pub member_listing : Member → ℕ → ℕ → ℕ → List ℕ → Plain → Listing
 member_listing m place folder file above entry = record {
   path = path_of above (name_of entry);

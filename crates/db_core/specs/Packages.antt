@@ -6,7 +6,9 @@ use Rattle.adb_view.specs.Plain.{Plain}
 use Rattle.adb_rules.specs.Reserved.{is_reserved}
 use Rattle.adb_fields.specs.Repeated.{entries_at, package_name, paths_in}
 use Rattle.db_core.specs.Members.{Member, is_coming}
+use Rattle.adb_tables.specs.FieldIndexes.{IDB_PACKAGES}
 
+-- whether a package has a name
 abbrev pub is_package_named : List ℕ → Plain → Bool
 is_package_named name pkg = bytes_eq (package_name pkg) name
 
@@ -29,4 +31,4 @@ comes_or_lists_no_reserved m = is_coming m || lists_no_reserved m.pkg
 -- the packages of the value of a database, or of none
 abbrev pub packages_by : Option Plain → List Plain
 packages_by None = []
-packages_by (Some v) = entries_at 0 v
+packages_by (Some v) = entries_at IDB_PACKAGES v

@@ -1,6 +1,7 @@
 -- Members whose packages come out of sound containers, and files that a database may list.
 use Rattle.std.specs.Prelude.{◌≡◌, ℕ, true, false, List, [], ◌∷◌, length, map, Option, Some, None}
 use Rattle.adb_view.specs.Plain.{Plain, IsNormal}
+use Rattle.adb_tables.specs.FieldIndexes.{IDB_PACKAGES}
 use Rattle.adb_tables.specs.declared.tables.Which.TheVariants.{Idb, Package}
 use Rattle.adb_rules.specs.Reserved.{is_reserved}
 use Rattle.adb_rules.specs.Rules.{is_digest_length}
@@ -15,7 +16,7 @@ pub record IsOfSoundDatabase (pkg : Plain) : Type 0 where
   pub database : Plain
   pub sound : IsSoundValue Idb database
   pub normal : IsNormal database
-  pub listed : IsIn pkg (entries_at 0 database)
+  pub listed : IsIn pkg (entries_at IDB_PACKAGES database)
 
 -- the value of a sound package, with a digest as its id
 pub record IsOfSoundPackage (pkg : Plain) (id : List ℕ) : Type 0 where

@@ -7,13 +7,11 @@
 #![tactic(auto)]
 
 mod db;
-mod laws;
 mod listed_paths;
 mod members;
 mod name_places;
 mod owned;
 
 pub use db::{Db, open_idb};
-pub use laws::listings_stand_at_their_places;
-pub use members::{MOST_MEMBERS, Members};
+pub use members::{MOST_MEMBERS, Members, listings_stand_at_their_places};
 pub use owned::Owned;

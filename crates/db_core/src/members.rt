@@ -1,10 +1,11 @@
 //! The packages after a change.
+
 ghost use Rattle.adb_fields.specs.Repeated.{package_name};
 ghost use Rattle.adb_schema.specs.Views.{package_value};
 ghost use Rattle.adb_view.specs.Plain.{Plain};
 ghost use Rattle.base_core.specs.Listed.{IsRising};
 ghost use Rattle.db_core.specs.EntrySeen.{member_by};
-ghost use Rattle.db_core.specs.Members.{Member, comes_behind, coming_member, is_coming, is_place, member_name, staying_member};
+ghost use Rattle.db_core.specs.Members.{Member, comes_behind, coming_member, is_coming, is_place, member_name, staying_member, Listing, member_listings};
 ghost use Rattle.list_order.specs.ByteOrder.{precedes};
 ghost use Rattle.std.specs.List.Sorted.{IsPartitionPoint};
 ghost use Rattle.db_core.specs.Packages.{comes_or_lists_no_reserved, lists_names};
@@ -13,7 +14,8 @@ ghost use Rattle.db_core.specs.declared.members.TheConstants.{MOST_MEMBERS};
 ghost use Rattle.pkg_pieces.specs.Values.{payload_of_contents, value_of_contents};
 ghost use Rattle.sha2.specs.Sha256.{sha256};
 ghost use Rattle.std.specs.List.{list_all};
-ghost use Rattle.std.specs.Prelude.{◌≡◌, ◌<◌, ◌≤◌, ◌++◌, ◌∷◌, [], true, false, ◌==◌, ℕ, All, Some, None, IfSome, bytes_eq, length, map, slice_get, IfOk, OnOk, OnErr};
+ghost use Rattle.std.specs.Prelude.{◌≡◌, ◌<◌, ◌≤◌, ◌++◌, ◌∷◌, [], true, false, ◌==◌, ℕ, All, Some, None, IfSome, bytes_eq, length, map, slice_get, IfOk, OnOk, OnErr, List};
+ghost use Rattle.db_core.specs.ListedAt.{IsListedAt};
 
 use crate::db::Db;
 use adb_schema::PackageView;
@@ -216,3 +218,10 @@ impl<'a> Members<'a> {
         ensures { ∥ AreOfSoundContainers (members_of self.now) ∥₁ }
     {}
 }
+
+/// Each file that members list stands at its places: the member at the one among members, the
+/// folder and the file at those in it. Its path is that of the folder and the file.
+pub fn listings_stand_at_their_places()
+    ensures { (members : List Member) (i : ℕ) (l : Listing)
+        → slice_get (member_listings members) i ≡ Some l → IsListedAt members l }
+{}

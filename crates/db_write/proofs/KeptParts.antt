@@ -14,7 +14,8 @@ use Rattle.adb_tables.proofs.ValueEntries.{nth_obj}
 use Rattle.adb_copy.proofs.WithoutZeros.{int_zeros, text_zeros}
 use Rattle.adb_copy.proofs.Zeros.{at_other, at_same, nth_zeros, zeros_arr, zeros_obj, zeros_twice}
 use Rattle.db_core.specs.Members.{Member}
-use Rattle.db_write.specs.Information.{FILE_SIZE, HASHES, file_size_of, hashes_of}
+use Rattle.adb_tables.specs.FieldIndexes.{INFO_FILE_SIZE, INFO_HASHES}
+use Rattle.db_write.specs.Information.{file_size_of, hashes_of}
 use Rattle.db_write.specs.NewDatabase.{database_container, database_of, database_value, each_by_flags, file_count, folder_after, folders_after, info_after, member_file_count, owned_entries, package_after, packages_after}
 use Rattle.db_write.specs.Unchanged.{all_owned, staying_members}
 use Rattle.db_write.proofs.ReadBack.{Back, is_file}
@@ -49,7 +50,7 @@ size_after m flags =
     ∙ (ap int_in (nth_obj (all_without_zeros vs) 12 ∙ (nth_zeros vs 12 ∙ ap without_zeros (at_same 12 size (with_at 2 hash (entries_in info)))))
     ∙ int_zeros size)
 
-pub others_after : (m : Member) (flags : List Bool) (i : ℕ) → i ≢ HASHES → i ≢ FILE_SIZE → entry_in (entry_in (package_after m flags) 0) i ≡ without_zeros (entry_in (entry_in m.pkg 0) i)
+pub others_after : (m : Member) (flags : List Bool) (i : ℕ) → i ≢ INFO_HASHES → i ≢ INFO_FILE_SIZE → entry_in (entry_in (package_after m flags) 0) i ≡ without_zeros (entry_in (entry_in m.pkg 0) i)
 others_after m flags i a b = ap (λ v. entry_in v i) (package_info m flags) ∙ info_entry m.id (entry_in m.pkg 0) i (λ e. a (sym e)) (λ e. b (sym e))
 
 -- ---- folders

@@ -13,3 +13,4 @@ pub mod RootRules
 pub mod Segments
 pub mod SoundPackages
 pub mod Unchanged
+pub mod Words

@@ -2,6 +2,7 @@
 -- it is 0.
 use Rattle.std.specs.Prelude.{ℕ, ◌+◌, Bool, true, false, List, [], ◌∷◌, Option, length, drop, unwrap_or, Result, Ok, Err}
 use Rattle.adb_view.specs.Plain.{Plain, Plains, none, more, blob_value, arr_value, obj_value}
+use Rattle.adb_tables.specs.FieldIndexes.{DIR_ACL, INFO_FILE_SIZE, INFO_HASHES, PACKAGE_INFO, PACKAGE_REPLACES_PRIORITY, PACKAGE_SCRIPTS, PACKAGE_TRIGGERS}
 use Rattle.adb_tables.specs.Values.{entry_in, int_in, text_in}
 use Rattle.adb_fields.specs.Repeated.{name_of, folders_in, files_in}
 use Rattle.adb_schema.specs.declared.read.TheConstants.{IDB_WORD}
@@ -40,7 +41,7 @@ file_count folder = length (files_in folder)
 -- its name, its access list, and the files that are owned
 abbrev pub folder_after : Plain → List Bool → Plain
 folder_after folder flags =
-    obj_value (more (blob_value (name_of folder)) (more (without_zeros (entry_in folder 1))
+    obj_value (more (blob_value (name_of folder)) (more (without_zeros (entry_in folder DIR_ACL))
     (more (arr_value (owned_entries (files_in folder) flags)) none)))
 
 abbrev pub folders_after : List Plain → List Bool → Plains
@@ -54,21 +55,25 @@ member_file_count m = total_of file_count (folders_in m.pkg)
 -- the information of a package, whose hash is the id where it comes
 abbrev pub info_after : Option (List ℕ) → Plain → Plain
 info_after id info =
-    info_with info (unwrap_or id (text_in (entry_in info 2))) (int_in (entry_in info 12))
+    info_with info (unwrap_or id (text_in (entry_in info INFO_HASHES)))
+    (int_in (entry_in info INFO_FILE_SIZE))
 
 -- its information, its folders, its scripts, its triggers, and its priority in replacing
 abbrev pub package_after : Member → List Bool → Plain
 package_after m flags =
-    obj_value (more (info_after m.id (entry_in m.pkg 0))
+    obj_value (more (info_after m.id (entry_in m.pkg PACKAGE_INFO))
     (more (arr_value (folders_after (folders_in m.pkg) flags))
-    (more (without_zeros (entry_in m.pkg 2)) (more (without_zeros (entry_in m.pkg 3))
-    (more (int_value (int_in (entry_in m.pkg 4))) none)))))
+    (more (without_zeros (entry_in m.pkg PACKAGE_SCRIPTS))
+    (more (without_zeros (entry_in m.pkg PACKAGE_TRIGGERS))
+    (more (int_value (int_in (entry_in m.pkg PACKAGE_REPLACES_PRIORITY))) none)))))
 
+-- the packages, each with the flags of its own files
 abbrev pub packages_after : List Member → List Bool → Plains
 packages_after members flags = each_by_flags member_file_count package_after members flags
 
 -- ---- the database
 
+-- the database after a change, as a value
 unfoldable pub database_value : List Member → List Bool → Plain
 database_value members flags = obj_value (more (arr_value (packages_after members flags)) none)
 

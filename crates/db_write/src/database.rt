@@ -58,12 +58,13 @@ fn database_payload(
     ensures small { IfOk result (λ payload. length payload.items ≤ MOST_BYTES) }
 {
     let mut draft = Draft::new(alloc);
-    write_database(&mut draft, members, flags)?;
+    write_database(alloc, &mut draft, members, flags)?;
     draft.finish()
 }
 
 /// Writes the values of a database.
 fn write_database(
+    alloc: Global,
     draft: &mut Draft,
     members: &Members<'_>,
     flags: &[bool],
@@ -72,6 +73,6 @@ fn write_database(
         (draft.new ≡ draft_with (database_value (members_of members.now) flags.now) draft.old) }
 {
     draft.open_list()?;
-    write_packages(draft, members, flags)?;
+    write_packages(alloc, draft, members, flags)?;
     draft.close_object()
 }

@@ -1,127 +1,158 @@
 //! The folders of a package, and of their files those that it owns.
-ghost use Rattle.adb_copy.specs.Zeros.{without_zeros};
-ghost use Rattle.adb_fields.specs.ListValue.{list_value};
-ghost use Rattle.adb_fields.specs.Repeated.{list_of};
-ghost use Rattle.adb_schema.specs.Views.{dir_value};
-ghost use Rattle.adb_tables.specs.Values.{count_of, entries_in, entry_in};
+ghost use Rattle.adb_copy.specs.Known.{AreBlobsOf};
+ghost use Rattle.adb_fields.specs.Fields.{are_all_sound, array_at};
+ghost use Rattle.adb_fields.specs.Repeated.{folders_in, list_of};
+ghost use Rattle.adb_schema.specs.Views.{package_value};
+ghost use Rattle.adb_tables.specs.Values.{entries_in, is_sound, value_at};
+ghost use Rattle.adb_tables.specs.declared.tables.Kind.TheVariants as Kinds;
+ghost use Rattle.adb_tables.specs.declared.tables.Which.TheVariants as Tables;
 ghost use Rattle.adb_values.specs.Drafts.{draft_with};
+ghost use Rattle.adb_view.specs.Adb.{payload_of};
+ghost use Rattle.adb_view.specs.Entries.{array_entries};
 ghost use Rattle.adb_view.specs.Plain.{arr_value};
 ghost use Rattle.db_write.specs.NewDatabase.{file_count, folder_after, folders_after, owned_entries, total_of};
-ghost use Rattle.std.specs.Prelude.{◌≡◌, ◌<◌, false, OnOk, Some, drop, length, slice_get, unwrap_or};
+ghost use Rattle.std.specs.Prelude.{◌≡◌, ◌<◌, true, false, OnOk, Some, drop, length, slice_get, unwrap_or};
 
-use adb_copy::{write_acl, write_file};
-use adb_schema::{DirInfo, FileInfo, List};
+use adb_copy::{KnownTexts, write_acl, write_file};
+use adb_fields::{field_word, objects_field};
+use adb_schema::PackageView;
+use adb_tables::{Which, entry_word};
 use adb_values::Draft;
-use std::alloc::AllocError;
+use adb_view::{Adb, Arr, Val};
+use std::alloc::{AllocError, Global};
 
-/// Writes folders with the files whose flag is set, by one flag for each.
-pub(crate) fn write_folders<'a>(
+/// The field of a package with its folders.
+const PATHS: usize = 1;
+
+/// The fields of a folder.
+const NAME: usize = 0;
+
+const ACL: usize = 1;
+
+const FILES: usize = 2;
+
+/// Writes the folders of a package with the files whose flag is set, by one flag for each.
+pub(crate) fn write_folders(
+    alloc: Global,
     draft: &mut Draft,
-    folders: &List<'a, DirInfo<'a>>,
+    pkg: &PackageView<'_>,
     flags: &[bool],
 ) -> Result<(), AllocError>
     ensures { OnOk result (draft.new ≡ draft_with
-        (arr_value (folders_after (list_of (entries_in (list_value folders.now))) flags.now))
-        draft.old) }
+        (arr_value (folders_after (folders_in (package_value pkg.now)) flags.now)) draft.old) }
 {
+    let adb = pkg.adb();
+    let folders = objects_field(adb, Which::Package, pkg.word(), PATHS, Which::Dir);
+    write_folder_list(alloc, draft, adb, folders, flags)
+}
+
+/// The flags behind those of the files of a package.
+pub(crate) fn flags_behind<'f>(pkg: &PackageView<'_>, flags: &'f [bool]) -> &'f [bool]
+    ensures { result.now
+        ≡ drop (total_of file_count (folders_in (package_value pkg.now))) flags.entry.now }
+{
+    let adb = pkg.adb();
+    let folders = objects_field(adb, Which::Package, pkg.word(), PATHS, Which::Dir);
+    flags_behind_folders(adb, folders, flags)
+}
+
+/// Writes folders with the files whose flag is set. Many of their places may share a long text.
+fn write_folder_list<'a>(
+    alloc: Global,
+    draft: &mut Draft,
+    adb: Adb<'a>,
+    folders: Arr<'a>,
+    flags: &[bool],
+) -> Result<(), AllocError>
+    requires { are_all_sound (payload_of adb) (Kinds.Obj Tables.Dir) (array_entries folders)
+        ≡ true }
+    ensures { OnOk result (draft.new ≡ draft_with (arr_value (folders_after (list_of (entries_in
+        (array_at (payload_of adb.entry) (Kinds.Obj Tables.Dir) (array_entries folders.entry))))
+        flags.now)) draft.old) }
+{
+    let mut known = KnownTexts::new(alloc);
     draft.open_list()?;
     let mut left = flags;
     for i in 0..folders.len() {
-        write_folder(draft, folders, i, left)?;
-        left = flags_behind_folder(folders, i, left);
+        let folder = entry_word(folders, i);
+        write_folder(draft, adb, &mut known, folder, left)?;
+        left = flags_behind_folder(adb, folder, left);
     }
     draft.close_array()
 }
 
 /// The flags behind those of the files of these folders.
-pub(crate) fn flags_behind<'a, 'f>(folders: &List<'a, DirInfo<'a>>, flags: &'f [bool]) -> &'f [bool]
-    ensures { result.now
-        ≡ drop (total_of file_count (list_of (entries_in (list_value folders.now))))
+fn flags_behind_folders<'a, 'f>(adb: Adb<'a>, folders: Arr<'a>, flags: &'f [bool]) -> &'f [bool]
+    requires { are_all_sound (payload_of adb) (Kinds.Obj Tables.Dir) (array_entries folders)
+        ≡ true }
+    ensures { result.now ≡ drop (total_of file_count (list_of (entries_in
+        (array_at (payload_of adb.entry) (Kinds.Obj Tables.Dir) (array_entries folders.entry)))))
         flags.entry.now }
 {
     let mut left = flags;
     for i in 0..folders.len() {
-        left = flags_behind_folder(folders, i, left);
+        left = flags_behind_folder(adb, entry_word(folders, i), left);
     }
     left
 }
 
-/// The flags behind those of the files of the folder at a place, counted from 0.
-fn flags_behind_folder<'a, 'f>(
-    folders: &List<'a, DirInfo<'a>>,
-    i: usize,
-    flags: &'f [bool],
-) -> &'f [bool]
-    requires { i < count_of (entries_in (list_value folders.now)) }
-    ensures { result.now ≡ drop (file_count (entry_in (list_value folders.now) i)) flags.entry.now }
+/// The flags behind those of the files of the folder of a word.
+fn flags_behind_folder<'f>(adb: Adb<'_>, folder: Val, flags: &'f [bool]) -> &'f [bool]
+    requires { is_sound (payload_of adb) (Kinds.Obj Tables.Dir) folder ≡ true }
+    ensures { result.now ≡ drop
+        (file_count (value_at (payload_of adb.entry) (Kinds.Obj Tables.Dir) folder))
+        flags.entry.now }
 {
-    let folder = folder_at(folders, i);
-    let count = folder.files().len();
+    let files = objects_field(adb, Which::Dir, folder, FILES, Which::File);
+    let count = files.len();
     if count >= flags.len() {
         return &flags[..0];
     }
     &flags[count..]
 }
 
-/// The folder at a place, counted from 0.
-fn folder_at<'a>(folders: &List<'a, DirInfo<'a>>, i: usize) -> DirInfo<'a>
-    requires { i < count_of (entries_in (list_value folders.now)) }
-    ensures { dir_value result ≡ entry_in (list_value folders.now) i }
-{
-    if i >= folders.len() {
-        unreachable!();
-    }
-    folders.get(i + 1)
-}
-
-/// Writes the folder at a place, counted from 0, with the files whose flag is set.
-fn write_folder<'a>(
+/// Writes the folder of a word with the files whose flag is set.
+fn write_folder(
     draft: &mut Draft,
-    folders: &List<'a, DirInfo<'a>>,
-    i: usize,
+    adb: Adb<'_>,
+    known: &mut KnownTexts,
+    folder: Val,
     flags: &[bool],
 ) -> Result<(), AllocError>
-    requires { i < count_of (entries_in (list_value folders.now)) }
-    ensures { OnOk result (draft.new
-        ≡ draft_with (folder_after (entry_in (list_value folders.now) i) flags.now) draft.old) }
+    requires sound { is_sound (payload_of adb) (Kinds.Obj Tables.Dir) folder ≡ true }
+    requires known { AreBlobsOf (payload_of adb) draft.old known.old }
+    ensures folder { OnOk result (draft.new ≡ draft_with (folder_after
+        (value_at (payload_of adb.entry) (Kinds.Obj Tables.Dir) folder) flags.now) draft.old) }
+    ensures known { OnOk result (AreBlobsOf (payload_of adb.entry) draft.new known.new) }
 {
-    let folder = folder_at(folders, i);
     draft.open_list()?;
-    draft.blob(folder.name())?;
-    write_folder_acl(draft, folders, i)?;
-    write_files(draft, &folder.files(), flags)?;
+    known.write_field(draft, adb, Which::Dir, folder, NAME)?;
+    write_acl(draft, adb, known, field_word(adb, Which::Dir, folder, ACL))?;
+    let files = objects_field(adb, Which::Dir, folder, FILES, Which::File);
+    write_files(draft, adb, known, files, flags)?;
     draft.close_object()
-}
-
-/// Writes the access list of the folder at a place, counted from 0.
-fn write_folder_acl<'a>(
-    draft: &mut Draft,
-    folders: &List<'a, DirInfo<'a>>,
-    i: usize,
-) -> Result<(), AllocError>
-    requires { i < count_of (entries_in (list_value folders.now)) }
-    ensures { OnOk result (draft.new ≡ draft_with
-        (without_zeros (entry_in (entry_in (list_value folders.now) i) 1)) draft.old) }
-{
-    let folder = folder_at(folders, i);
-    let acl = folder.acl();
-    write_acl(draft, &acl)
 }
 
 /// Writes the files whose flag is set.
 fn write_files<'a>(
     draft: &mut Draft,
-    files: &List<'a, FileInfo<'a>>,
+    adb: Adb<'a>,
+    known: &mut KnownTexts,
+    files: Arr<'a>,
     flags: &[bool],
 ) -> Result<(), AllocError>
-    ensures { OnOk result (draft.new ≡ draft_with
-        (arr_value (owned_entries (list_of (entries_in (list_value files.now))) flags.now))
-        draft.old) }
+    requires sound { are_all_sound (payload_of adb) (Kinds.Obj Tables.File) (array_entries files)
+        ≡ true }
+    requires known { AreBlobsOf (payload_of adb) draft.old known.old }
+    ensures files { OnOk result (draft.new ≡ draft_with (arr_value (owned_entries (list_of
+        (entries_in (array_at (payload_of adb.entry) (Kinds.Obj Tables.File)
+        (array_entries files.entry)))) flags.now)) draft.old) }
+    ensures known { OnOk result (AreBlobsOf (payload_of adb.entry) draft.new known.new) }
 {
     draft.open_list()?;
     for i in 0..files.len() {
         if is_set(flags, i) {
-            write_file(draft, files, i)?;
+            write_file(draft, adb, known, entry_word(files, i))?;
         }
     }
     draft.close_array()

@@ -17,7 +17,8 @@ ghost use Rattle.adb_view.specs.Shaped.{HasShape};
 ghost use Rattle.adb_write.specs.Canonical.{written_of};
 ghost use Rattle.adb_write.specs.File.{file_of};
 ghost use Rattle.db_core.specs.Members.{AreInOrder, Member, coming_member, member_listings, staying_member};
-ghost use Rattle.db_write.specs.Information.{FILE_SIZE, HASHES, file_size_of, hashes_of};
+ghost use Rattle.adb_tables.specs.FieldIndexes.{INFO_FILE_SIZE, INFO_HASHES, PACKAGE_INFO};
+ghost use Rattle.db_write.specs.Information.{file_size_of, hashes_of};
 ghost use Rattle.db_write.specs.NewDatabase.{database_of, database_value, package_after, packages_after};
 ghost use Rattle.db_core.specs.OwnedListings.{owned_listings, owned_paths};
 ghost use Rattle.db_core.specs.SoundMembers.{AreOfSoundContainers, IsOfSoundContainer, MayBeListed};
@@ -115,9 +116,10 @@ pub fn a_package_keeps_its_information()
         → hashes_of (package_after (staying_member pkg) flags) ≡ hashes_of pkg }
     ensures size { (m : Member) (flags : List Bool)
         → file_size_of (package_after m flags) ≡ file_size_of m.pkg }
-    ensures others { (m : Member) (flags : List Bool) (i : ℕ) → i ≢ HASHES → i ≢ FILE_SIZE
-        → entry_in (entry_in (package_after m flags) 0) i
-        ≡ without_zeros (entry_in (entry_in m.pkg 0) i) }
+    ensures others { (m : Member) (flags : List Bool) (i : ℕ)
+        → i ≢ INFO_HASHES → i ≢ INFO_FILE_SIZE
+        → entry_in (entry_in (package_after m flags) PACKAGE_INFO) i
+        ≡ without_zeros (entry_in (entry_in m.pkg PACKAGE_INFO) i) }
 {}
 
 /// The folders of a package stay in a new database, also where no file of them is owned, each with

@@ -1,9 +1,7 @@
 //! The packages of a database.
 ghost use Rattle.adb_copy.specs.Zeros.{without_zeros};
-ghost use Rattle.adb_fields.specs.ListValue.{list_value};
-ghost use Rattle.adb_fields.specs.Repeated.{folders_in, list_of};
 ghost use Rattle.adb_schema.specs.Views.{package_value};
-ghost use Rattle.adb_tables.specs.Values.{entries_in, entry_in};
+ghost use Rattle.adb_tables.specs.Values.{entry_in};
 ghost use Rattle.adb_values.specs.Drafts.{draft_with};
 ghost use Rattle.adb_view.specs.Plain.{arr_value};
 ghost use Rattle.db_core.specs.Members.{Member};
@@ -12,15 +10,21 @@ ghost use Rattle.db_write.specs.NewDatabase.{file_count, info_after, member_file
 ghost use Rattle.std.specs.Prelude.{◌≡◌, ◌<◌, ◌≤◌, OnOk, Some, drop, length, slice_get};
 
 use crate::folders::{flags_behind, write_folders};
-use adb_copy::{write_info, write_int, write_scripts, write_tags};
+use adb_copy::{KnownTexts, write_info, write_int, write_scripts, write_text_list};
+use adb_fields::texts_field;
 use adb_schema::PackageView;
+use adb_tables::Which;
 use adb_values::Draft;
 use db_core::Members;
-use std::alloc::AllocError;
+use std::alloc::{AllocError, Global};
 use std::marker::PhantomData;
+
+/// The field of a package with the folders that its trigger watches.
+const TRIGGERS: usize = 3;
 
 /// Writes members with the files whose flag is set, by one flag for each.
 pub(crate) fn write_packages(
+    alloc: Global,
     draft: &mut Draft,
     members: &Members<'_>,
     flags: &[bool],
@@ -32,14 +36,15 @@ pub(crate) fn write_packages(
     let mut left = flags;
     for i in 0..members.len() {
         let pkg = members.view(i);
-        write_package(draft, pkg, members.id(i), left)?;
-        left = flags_behind(&pkg.paths(), left);
+        write_package(alloc, draft, pkg, members.id(i), left)?;
+        left = flags_behind(pkg, left);
     }
     draft.close_array()
 }
 
 /// Writes a package with the files whose flag is set; one that comes has an id.
 fn write_package<'a>(
+    alloc: Global,
     draft: &mut Draft,
     pkg: &PackageView<'a>,
     id: Option<[u8; 32]>,
@@ -50,16 +55,17 @@ fn write_package<'a>(
         draft.old) }
 {
     draft.open_list()?;
-    write_member_info(draft, pkg, id)?;
-    write_folders(draft, &pkg.paths(), flags)?;
+    write_member_info(alloc, draft, pkg, id)?;
+    write_folders(alloc, draft, pkg, flags)?;
     write_package_scripts(draft, pkg, PhantomData)?;
-    write_tags(draft, pkg.triggers())?;
+    write_triggers(alloc, draft, pkg)?;
     write_int(draft, pkg.replaces_priority())?;
     draft.close_object()
 }
 
 /// Writes the information of a package, whose hash is the id of one that comes.
 fn write_member_info(
+    alloc: Global,
     draft: &mut Draft,
     pkg: &PackageView<'_>,
     id: Option<[u8; 32]>,
@@ -69,8 +75,8 @@ fn write_member_info(
 {
     let info = pkg.info();
     match &id {
-        Some(id) => write_info(draft, &info, id, info.file_size()),
-        None => write_info(draft, &info, info.hashes(), info.file_size()),
+        Some(id) => write_info(alloc, draft, &info, id, info.file_size()),
+        None => write_info(alloc, draft, &info, info.hashes(), info.file_size()),
     }
 }
 
@@ -87,4 +93,15 @@ fn write_package_scripts<'a>(
 {
     let scripts = pkg.scripts();
     write_scripts(draft, &scripts)
+}
+
+/// Writes the folders that the trigger of a package watches.
+fn write_triggers(alloc: Global, draft: &mut Draft, pkg: &PackageView<'_>) -> Result<(), AllocError>
+    ensures { OnOk result (draft.new
+        ≡ draft_with (without_zeros (entry_in (package_value pkg.now) 3)) draft.old) }
+{
+    let adb = pkg.adb();
+    let mut known = KnownTexts::new(alloc);
+    let triggers = texts_field(adb, Which::Package, pkg.word(), TRIGGERS);
+    write_text_list(draft, adb, &mut known, triggers)
 }

@@ -4,9 +4,7 @@
 #![tactic(auto)]
 
 mod due;
-mod folders;
 mod pattern;
 mod watched;
 
-pub use due::{first_due, push_trigger_lines};
-pub use folders::touched_folders;
+pub use due::{first_due, push_trigger_lines, touched_folders};

@@ -1,5 +1,6 @@
-//! What a package says of its trigger. The marks serve the borrow checker alone, which does not know
-//! the parts of a view that is made and lent in a function unless the signature names the view.
+//! What a package says of its trigger. The marks serve the borrow checker alone, which does not
+//! know the parts of a view that is made and lent in a function unless the signature names the
+//! view.
 ghost use Rattle.adb_fields.specs.ListValue.{list_value};
 ghost use Rattle.adb_fields.specs.Repeated.{package_name};
 ghost use Rattle.adb_schema.specs.Views.{package_value};

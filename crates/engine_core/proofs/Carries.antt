@@ -18,8 +18,8 @@ use Rattle.change_files.specs.PlanLists.{FileWrite, file_writes_of, first_reserv
 use Rattle.change_inputs.specs.Answers.{Agrees}
 use Rattle.change_inputs.specs.Chains.{and_then}
 use Rattle.change_inputs.specs.Inputs.{Inputs}
-use Rattle.change_inputs.specs.declared.refused.Refused.{Refused}
-use Rattle.change_inputs.specs.declared.refused.Refused.TheVariants.{Disk, Memory, Refusal as IsRefused}
+use Rattle.change_inputs.specs.declared.root.Refused.{Refused}
+use Rattle.change_inputs.specs.declared.root.Refused.TheVariants.{Disk, Memory, Refusal as IsRefused}
 use Rattle.change_laws.specs.Premises.{HasNoReservedPath, IsRootOfFiles}
 use Rattle.change_laws.proofs.ChangeLeads.{leads}
 use Rattle.change_laws.proofs.ChangeNames.{change_names}
@@ -46,16 +46,16 @@ use Rattle.report_core.specs.declared.refusal.Refusal.TheVariants.{PackageBad}
 use Rattle.root_names.specs.RootNames.{database_name, text_database_name, world_name}
 use Rattle.stage_files.specs.Carried.{IsCarriedTo}
 use Rattle.stage_files.specs.Sources.{HasFileOf, IsFileAt, StandForEach}
-use Rattle.stage_files.specs.declared.source.Source.{Source}
-use Rattle.stage_files.specs.declared.source.Source.TheVariants.{Bytes, File, Link}
-use Rattle.stage_files.specs.declared.fault.StageFault.{StageFault}
-use Rattle.stage_files.specs.declared.fault.StageFault.TheVariants as Stages
-use Rattle.stage_files.specs.declared.source.StagedWrite.{StagedWrite}
+use Rattle.stage_files.specs.declared.writes.Source.{Source}
+use Rattle.stage_files.specs.declared.writes.Source.TheVariants.{Bytes, File, Link}
+use Rattle.stage_files.specs.declared.writes.StageFault.{StageFault}
+use Rattle.stage_files.specs.declared.writes.StageFault.TheVariants as Stages
+use Rattle.stage_files.specs.declared.writes.StagedWrite.{StagedWrite}
 use Rattle.engine_core.specs.Carrying.{IsRefusedPackage, ready_change}
 use Rattle.engine_core.specs.ChangeRun.{ComesTo, DoesCommit, IsNoneOrCommit, report_in}
 use Rattle.engine_core.specs.Finishing.{AreRecordWrites, AreRecordsOf, IsPlanned, bytes_if, inputs_arrived, members_arrived, replacement_arrived}
 use Rattle.engine_core.specs.Writing.{HasBytes, IsRecordOf, IsSourceOfWrite, IsWriteBy, package_at, record_names, write_name}
-use Rattle.engine_core.specs.declared.arrived.Planned.{Planned}
+use Rattle.engine_core.specs.declared.planning.Planned.{Planned}
 use Rattle.engine_core.specs.declared.finishing.NewRecords.{NewRecords}
 use Rattle.engine_core.specs.declared.writes.RecordWrites.{RecordWrites}
 use Rattle.engine_core.proofs.Early.{comes_to_failure, comes_to_idle, comes_to_refusal, if_told, nothing_read}

@@ -2,8 +2,8 @@
 use Rattle.std.proofs.Common.{◌≡◌, ◌∙◌, Result, Ok, Err, arith}
 use Rattle.std.specs.Prelude.{IfErr, OnOk}
 use Rattle.base_core.specs.Faults.{Counts, GoesOn, HasCause, IsNoFault}
-use Rattle.change_inputs.specs.declared.refused.Refused.{Refused}
-use Rattle.change_inputs.specs.declared.refused.Refused.TheVariants.{Disk}
+use Rattle.change_inputs.specs.declared.root.Refused.{Refused}
+use Rattle.change_inputs.specs.declared.root.Refused.TheVariants.{Disk}
 use Rattle.engine_core.specs.Runs.{IsRunCounted}
 
 goes_on_both : (a b c : Counts) → GoesOn a b → GoesOn b c → GoesOn a c

@@ -16,8 +16,8 @@ use Rattle.change_files.specs.PlanLists.{first_reserved}
 use Rattle.change_inputs.specs.Answers.{IsFailure}
 use Rattle.change_inputs.specs.Chains.{and_then}
 use Rattle.change_inputs.specs.Inputs.{Inputs}
-use Rattle.change_inputs.specs.declared.refused.Refused.{Refused}
-use Rattle.change_inputs.specs.declared.refused.Refused.TheVariants as Commands
+use Rattle.change_inputs.specs.declared.root.Refused.{Refused}
+use Rattle.change_inputs.specs.declared.root.Refused.TheVariants as Commands
 use Rattle.change_outcome.specs.ChangeOutcome.{ChangeDone, ChangeWishes, IsClashFound, change_members, change_with_members, file_change, name_at_place, touched_paths, unless_clash, unless_contested, unless_reserved_path, unless_too_large}
 use Rattle.change_outcome.specs.MembersAfter.{MemberFound, candidates_that_come, members_found}
 use Rattle.change_outcome.specs.Triggers.{unless_trigger}
@@ -39,8 +39,8 @@ use Rattle.engine_core.specs.ChangeRun.{ComesTo}
 use Rattle.engine_core.specs.Finishing.{IsArrived, IsPlanned, inputs_arrived, replacement_arrived}
 use Rattle.engine_core.specs.Making.{IsFoundRun}
 use Rattle.engine_core.specs.Plans.{IsRefusedFor}
-use Rattle.engine_core.specs.declared.arrived.Arrived.{Arrived}
-use Rattle.engine_core.specs.declared.arrived.Planned.{Planned}
+use Rattle.engine_core.specs.declared.planning.Arrived.{Arrived}
+use Rattle.engine_core.specs.declared.planning.Planned.{Planned}
 use Rattle.engine_core.proofs.Early.{HaveClash, IsOnlyRead, comes_to_failure, comes_to_refusal, nothing_within}
 use Rattle.engine_core.proofs.WholeRuns.{comes_behind_reads}
 

@@ -11,8 +11,8 @@ use Rattle.base_core.specs.Tree.{IsWhole, TreeState}
 use Rattle.change_inputs.specs.Candidates.{candidates_of, root_pool}
 use Rattle.change_inputs.specs.Chains.{and_then}
 use Rattle.change_inputs.specs.Inputs.{Inputs}
-use Rattle.change_inputs.specs.declared.refused.Refused.{Refused}
-use Rattle.change_inputs.specs.declared.refused.Refused.TheVariants.{Disk, Memory, Refusal as IsRefused}
+use Rattle.change_inputs.specs.declared.root.Refused.{Refused}
+use Rattle.change_inputs.specs.declared.root.Refused.TheVariants.{Disk, Memory, Refusal as IsRefused}
 use Rattle.change_outcome.specs.ChangeOutcome.{ChangeDone, ChangeWishes, IsClashFoundOver, change_members, change_or_refusal, change_with_members}
 use Rattle.change_outcome.specs.MembersAfter.{MemberFound, candidates_that_come, members_after, members_found}
 use Rattle.command_core.specs.Command.{CommandLine}
@@ -38,7 +38,7 @@ use Rattle.engine_core.specs.Runs.{IsSelectedRun}
 use Rattle.engine_core.specs.Selecting.{pool_by}
 use Rattle.engine_core.specs.SelectionSeen.{HasItsDatabase, inputs_of_selection, replacement_seen, selection_seen}
 use Rattle.engine_core.specs.Wishes.{wishes_of}
-use Rattle.engine_core.specs.declared.selection.Selection.{Selection}
+use Rattle.engine_core.specs.declared.choosing.Selection.{Selection}
 use Rattle.engine_core.proofs.Arriving.{of_candidates}
 use Rattle.engine_core.proofs.Early.{HaveClash, IsOnlyRead, comes_to_refusal, files_seen, selected_failure}
 use Rattle.engine_core.proofs.WholeRuns.{run_behind_reads}

@@ -33,9 +33,9 @@ use Rattle.package_test.specs.Tested.{tested_name}
 use Rattle.package_test.specs.declared.package.TestedPackage.{TestedPackage}
 use Rattle.pkg_core.specs.Contents.{Contents, bytes_of_file}
 use Rattle.stage_files.specs.Sources.{StandForEach, StandsForBytes}
-use Rattle.stage_files.specs.declared.source.Source.{Source}
-use Rattle.stage_files.specs.declared.source.Source.TheVariants.{Bytes, File, Link}
-use Rattle.stage_files.specs.declared.source.StagedWrite.{StagedWrite}
+use Rattle.stage_files.specs.declared.writes.Source.{Source}
+use Rattle.stage_files.specs.declared.writes.Source.TheVariants.{Bytes, File, Link}
+use Rattle.stage_files.specs.declared.writes.StagedWrite.{StagedWrite}
 use Rattle.engine_core.specs.Finishing.{AreRecordWrites, AreRecordsOf, bytes_if}
 use Rattle.engine_core.specs.Writing.{HasBytes, IsRecordOf, IsSourceOfWrite, IsWriteBy, entry_of_write, write_name}
 use Rattle.engine_core.specs.declared.finishing.NewRecords.{NewRecords}

@@ -11,8 +11,8 @@ use Rattle.change_inputs.specs.Chains.{and_then}
 use Rattle.change_inputs.specs.Inputs.{Inputs, first_index_read, inputs_of}
 use Rattle.change_inputs.specs.Seen.{inputs_seen}
 use Rattle.change_inputs.specs.declared.loaded.Loaded.{Loaded}
-use Rattle.change_inputs.specs.declared.refused.Refused.{Refused}
-use Rattle.change_inputs.specs.declared.refused.Refused.TheVariants.{Disk, Memory, Refusal as IsRefused}
+use Rattle.change_inputs.specs.declared.root.Refused.{Refused}
+use Rattle.change_inputs.specs.declared.root.Refused.TheVariants.{Disk, Memory, Refusal as IsRefused}
 use Rattle.change_outcome.specs.ChangeOutcome.{ChangeDone, ChangeWishes, IsClashFoundOver, change_members, change_or_refusal, change_with_members}
 use Rattle.change_outcome.specs.MembersAfter.{MemberFound, members_after}
 use Rattle.command_core.specs.Command.{CommandLine}
@@ -27,7 +27,7 @@ use Rattle.report_core.specs.declared.refusal.Refusal.{Refusal}
 use Rattle.change_laws.specs.Premises.{IsRootOfFiles}
 use Rattle.engine_core.specs.Finishing.{IsRootRead}
 use Rattle.engine_core.specs.ChangeRun.{ComesTo, IsChangeRun, coming_in}
-use Rattle.engine_core.specs.Changed.{IsClashOfSelected, IsClashOfSelectedOver, IsClashUnlessSimulatedOver, Selected, change_of_selected, changed, selected_by, selected_for, selected_of_inputs, simulated_change}
+use Rattle.engine_core.specs.Changed.{IsClashOfSelected, IsClashOfSelectedOver, IsClashUnlessSimulatedOver, Selected, change_of_selected, change_of_command, selected_by, selected_for, selected_of_inputs, simulated_change}
 use Rattle.engine_core.specs.Choice.{IsChoiceFrom}
 use Rattle.engine_core.specs.Runs.{IsRunBy, IsSelectedRun}
 use Rattle.engine_core.specs.Selecting.{pool_by, pool_for}
@@ -181,8 +181,8 @@ module _ (have : HaveOwnReads) (command : CommandLine) (inputs : Inputs) (old no
   by_selected (Ok s) has = selected_same have command inputs read run.read same s run.files run.clash has
   by_selected (Err refusal) has = refl
 
-  changed_is : and_then selected (change_of_selected command run.read run.files run.clash) ≡ changed command read run.files chosen run.clash
-  unfolding changed selected
+  changed_is : and_then selected (change_of_selected command run.read run.files run.clash) ≡ change_of_command command read run.files chosen run.clash
+  unfolding change_of_command selected
   changed_is = sym (ap (λ (s : Result Selected Refusal). and_then s (change_of_selected command read run.files run.clash)) selected_is ∙ by_selected selected (selected_has command chosen inputs))
 
   clash_by : (s : Result Selected Refusal) → HasInputs inputs s → IsClashOfSelectedOver command run.read run.files run.standing s run.clash → IsClashOfSelectedOver command read run.files run.standing s run.clash
@@ -203,7 +203,7 @@ module _ (have : HaveOwnReads) (command : CommandLine) (inputs : Inputs) (old no
     clash = run.clash;
     is_clash = subst (λ (s : Result Selected Refusal). IsClashOfSelectedOver command read run.files run.standing s run.clash) (sym selected_is)
         (clash_by selected (selected_has command chosen inputs) run.is_clash);
-    comes = subst (λ (s : Result Selected Refusal). ComesTo (coming_in s) (changed command read run.files chosen run.clash) old now before after result) (sym selected_is)
+    comes = subst (λ (s : Result Selected Refusal). ComesTo (coming_in s) (change_of_command command read run.files chosen run.clash) old now before after result) (sym selected_is)
         (subst (λ (w : Result ChangeDone Refusal). ComesTo (coming_in selected) w old now before after result) changed_is run.comes);
   }
 
@@ -235,7 +235,7 @@ module _ (choose : HaveChoice) (have : HaveClash) (command : CommandLine) (old n
       }
 
   unread_refusal : (refusal : Refusal) (read : Reads) → AreObserved old read → inputs_of command read ≡ Err refusal → IsChangeRun command old now before after (Err (IsRefused refusal))
-  unfolding changed
+  unfolding change_of_command
   unread_refusal refusal read observed is =
       let seen = files_seen have command (Err refusal) old read whole in
       let selected : selected_for command read None ≡ Err refusal = ap (λ (r : Result Inputs Refusal). and_then r (selected_of_inputs command None)) is in

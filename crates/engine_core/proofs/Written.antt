@@ -13,7 +13,7 @@ use Rattle.list_order.proofs.Sorting.{Each}
 use Rattle.own_core.specs.Planned.{written_names}
 use Rattle.own_core.specs.WritesSeen.{writes_in}
 use Rattle.own_core.specs.declared.planning.FilePlan.{FilePlan}
-use Rattle.stage_files.specs.declared.source.StagedWrite.{StagedWrite}
+use Rattle.stage_files.specs.declared.writes.StagedWrite.{StagedWrite}
 use Rattle.engine_core.specs.Writing.{IsFileWrite, IsRecordOf, IsSourceOfWrite, IsWriteBy, Packages, record_names, record_writes, write_name}
 use Rattle.engine_core.specs.declared.writes.RecordWrites.{RecordWrites}
 use Rattle.engine_core.proofs.Elements.{all_each, contains_at, each_all, each_both, each_weaker, mapped_at}

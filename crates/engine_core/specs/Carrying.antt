@@ -5,8 +5,8 @@ use Rattle.base_core.specs.Files.{Files}
 use Rattle.base_core.specs.Tree.{TreeState}
 use Rattle.base_core.specs.declared.cause.Cause.{Cause}
 use Rattle.change_inputs.specs.Inputs.{Inputs}
-use Rattle.change_inputs.specs.declared.refused.Refused.{Refused}
-use Rattle.change_inputs.specs.declared.refused.Refused.TheVariants.{Disk, Memory, Refusal as IsRefused}
+use Rattle.change_inputs.specs.declared.root.Refused.{Refused}
+use Rattle.change_inputs.specs.declared.root.Refused.TheVariants.{Disk, Memory, Refusal as IsRefused}
 use Rattle.change_outcome.specs.ChangeOutcome.{ChangeDone, ChangeWishes, actions_of, change_done, file_change, new_records, unless_overflow}
 use Rattle.change_outcome.specs.MembersAfter.{MemberFound}
 use Rattle.db_core.specs.Members.{Member, member_name}
@@ -16,7 +16,7 @@ use Rattle.package_changes.specs.Changes.{Replacement}
 use Rattle.report_core.specs.declared.refusal.Refusal.{Refusal}
 use Rattle.report_core.specs.declared.refusal.Refusal.TheVariants.{PackageBad}
 use Rattle.engine_core.specs.Finishing.{IsPlanned}
-use Rattle.engine_core.specs.declared.arrived.Planned.{Planned}
+use Rattle.engine_core.specs.declared.planning.Planned.{Planned}
 
 -- ---- what it comes to
 
@@ -38,6 +38,7 @@ HasPlan history wishes p =
 
 -- ---- a package that was changed
 
+-- the refusal names the member whose file is bad, and the test that failed
 abbrev pub IsPackageBad : List Member → ℕ → Cause → Refusal → Type 0
 IsPackageBad members place cause refusal =
     (m : Member)

@@ -7,8 +7,8 @@ use Rattle.base_core.specs.Tree.{TreeState, files_of}
 use Rattle.base_core.specs.declared.cause.Cause.{Cause}
 use Rattle.change_inputs.specs.Answers.{AgreesUnlessDisk}
 use Rattle.change_inputs.specs.Chains.{and_then}
-use Rattle.change_inputs.specs.declared.refused.Refused.{Refused}
-use Rattle.change_inputs.specs.declared.refused.Refused.TheVariants.{Disk, Refusal as IsRefused}
+use Rattle.change_inputs.specs.declared.root.Refused.{Refused}
+use Rattle.change_inputs.specs.declared.root.Refused.TheVariants.{Disk, Refusal as IsRefused}
 use Rattle.change_outcome.specs.ChangeOutcome.{ChangeDone}
 use Rattle.change_outcome.specs.MembersAfter.{candidates_that_come}
 use Rattle.command_core.specs.Command.{CommandLine}
@@ -22,12 +22,13 @@ use Rattle.pool_core.specs.Candidates.{Candidate}
 use Rattle.report_core.specs.declared.refusal.Refusal.{Refusal}
 use Rattle.report_core.specs.declared.refusal.Refusal.TheVariants.{PackageBad}
 use Rattle.stage_run.specs.StageRun.{IsStageRun, IsStageRunDone}
-use Rattle.engine_core.specs.Changed.{IsClashForOver, Selected, changed, selected_for}
+use Rattle.engine_core.specs.Changed.{IsClashForOver, Selected, change_of_command, selected_for}
 use Rattle.engine_core.specs.Choice.{IsChoiceFrom}
 use Rattle.engine_core.specs.Selecting.{pool_for}
 
 -- ---- what it answers
 
+-- nothing comes behind the report
 abbrev pub report_as_is : List ℕ → List ℕ
 report_as_is report = report
 
@@ -89,6 +90,7 @@ pub record ComesTo (coming : List Candidate) (wanted : Result ChangeDone Refusal
   pub proper : IfObservable old (λ v. v.names intent_name ≡ None → IsEmptyStage (files_of v)
       → (DoesCommit wanted → HasRoomToStage (files_of v)) → after.misuses ≡ before.misuses)
 
+-- the candidates whose packages are read
 abbrev pub coming_in : Result Selected Refusal → List Candidate
 coming_in (Ok s) = candidates_that_come s.replacement
 coming_in (Err refusal) = []
@@ -109,4 +111,4 @@ pub record IsChangeRun (command : CommandLine) (old now : List TreeState) (befor
   pub clash : Option NamePair
   pub is_clash : IsClashForOver command read files standing chosen clash
   pub comes : ComesTo (coming_in (selected_for command read chosen))
-      (changed command read files chosen clash) old now before after result
+      (change_of_command command read files chosen clash) old now before after result

@@ -61,9 +61,9 @@ change_of_selected command read files clash s =
     change_or_refusal s.inputs s.replacement (wishes_of command) read clash files
 
 -- what the command comes to, or its first refusal
-unfoldable pub changed :
+unfoldable pub change_of_command :
     CommandLine → Reads → Files → Option (List ℕ) → Option NamePair → Result ChangeDone Refusal
-changed command read files chosen clash =
+change_of_command command read files chosen clash =
     and_then (selected_for command read chosen) (change_of_selected command read files clash)
 
 -- ---- the first clash

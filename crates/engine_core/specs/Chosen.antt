@@ -1,7 +1,7 @@
 -- What a choice among candidates comes to.
 use Rattle.std.specs.Prelude.{◌≡◌, ℕ, List, Option, Some, None, Result, Ok, Err}
-use Rattle.change_inputs.specs.declared.refused.Refused.{Refused}
-use Rattle.change_inputs.specs.declared.refused.Refused.TheVariants.{Disk, Memory, Refusal as IsRefused}
+use Rattle.change_inputs.specs.declared.root.Refused.{Refused}
+use Rattle.change_inputs.specs.declared.root.Refused.TheVariants.{Disk, Memory, Refusal as IsRefused}
 use Rattle.report_core.specs.declared.refusal.Refusal.TheVariants.{Unsatisfied}
 
 -- these are chosen; or none, and it is refused; want of memory says nothing of it

@@ -26,9 +26,9 @@ use Rattle.root_names.specs.RootNames as Names
 use Rattle.engine_core.specs.SelectionSeen.{HasItsDatabase, inputs_of_selection, replacement_seen}
 use Rattle.arrivals.specs.declared.arrivals.Arrivals.{Arrivals}
 use Rattle.package_changes.specs.declared.placed.PlacedNames.{PlacedNames}
-use Rattle.engine_core.specs.declared.selection.Selection.{Selection}
-use Rattle.engine_core.specs.declared.arrived.Arrived.{Arrived}
-use Rattle.engine_core.specs.declared.arrived.Planned.{Planned}
+use Rattle.engine_core.specs.declared.choosing.Selection.{Selection}
+use Rattle.engine_core.specs.declared.planning.Arrived.{Arrived}
+use Rattle.engine_core.specs.declared.planning.Planned.{Planned}
 use Rattle.engine_core.specs.declared.finishing.NewRecords.{NewRecords}
 use Rattle.engine_core.specs.declared.writes.RecordWrites.{RecordWrites}
 
@@ -45,10 +45,12 @@ pub record IsOfCandidate (coming : List Candidate) (m : Member) : Type 0 where
   pub name : candidate.name ≡ member_name m
   pub version : selected_version candidate ≡ version_text m.pkg
 
+-- each member that comes is of the candidate with its name
 abbrev pub AreOfCandidates : List Candidate → List Member → Type 0
 AreOfCandidates coming members = (place : ℕ) (m : Member) → slice_get members place ≡ Some m
     → is_coming m ≡ true → IsOfCandidate coming m
 
+-- what was read of the root, when the packages have arrived
 abbrev pub inputs_arrived : Arrived → Inputs
 inputs_arrived a = inputs_of_selection a.selection.now
 
@@ -91,6 +93,7 @@ pub record IsPlanned (history : List TreeState) (wishes : ChangeWishes) (p : Pla
 
 -- ---- the database and world
 
+-- the bytes that the database, world and the text database get
 pub record AreRecordsOf (inputs : Inputs) (records : NewRecords) : Type 0 where
   pub world : records.world ≡ world_text inputs.root.new_world
   pub database_name : records.database_name ≡ Names.database_name

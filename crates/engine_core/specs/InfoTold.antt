@@ -4,7 +4,7 @@ use Rattle.change_inputs.specs.Chains.{and_then}
 use Rattle.change_inputs.specs.Inputs.{database_for}
 use Rattle.command_core.specs.Command.{CommandLine}
 use Rattle.installed_info.specs.Info.{info_of}
-use Rattle.installed_info.specs.declared.done.InfoDone.{InfoDone}
+use Rattle.installed_info.specs.declared.telling.InfoDone.{InfoDone}
 use Rattle.make_info.specs.Reads.{Reads}
 use Rattle.report_core.specs.declared.refusal.Refusal.{Refusal}
 

@@ -5,7 +5,7 @@ use Rattle.base_core.specs.Faults.{Counts}
 use Rattle.base_core.specs.Files.{Files}
 use Rattle.base_core.specs.Tree.{TreeState, files_of}
 use Rattle.change_inputs.specs.Inputs.{Inputs}
-use Rattle.change_inputs.specs.declared.refused.Refused.{Refused}
+use Rattle.change_inputs.specs.declared.root.Refused.{Refused}
 use Rattle.change_outcome.specs.ChangeOutcome.{ChangeWishes, IsClashFoundOver, change_members, change_with_members}
 use Rattle.change_outcome.specs.MembersAfter.{MemberFound, candidates_that_come}
 use Rattle.make_info.specs.Reads.{Reads}

@@ -1,11 +1,12 @@
 -- How it is told why there is no plan.
 use Rattle.std.specs.Prelude.{◌≡◌}
-use Rattle.change_inputs.specs.declared.refused.Refused.{Refused}
-use Rattle.change_inputs.specs.declared.refused.Refused.TheVariants as Commands
+use Rattle.change_inputs.specs.declared.root.Refused.{Refused}
+use Rattle.change_inputs.specs.declared.root.Refused.TheVariants as Commands
 use Rattle.own_core.specs.declared.fault.PlanFault.{PlanFault}
 use Rattle.own_core.specs.declared.fault.PlanFault.TheVariants as Plans
 use Rattle.report_core.specs.declared.refusal.Refusal.TheVariants.{Owned, PathClash, Reserved}
 
+-- the refusal that tells why there is no plan
 abbrev pub IsRefusedFor : PlanFault → Refused → Type 0
 IsRefusedFor (Plans.Reserved path) refused = refused ≡ Commands.Refusal (Reserved path)
 IsRefusedFor (Plans.PathClash path other) refused =

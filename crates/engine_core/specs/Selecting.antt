@@ -15,6 +15,7 @@ use Rattle.engine_core.specs.Wishes.{names_to_upgrade}
 abbrev pub pool_by : CommandLine → Inputs → Result SealedPool Refusal
 pool_by command inputs = root_pool inputs (names_to_upgrade command.applet command.operands)
 
+-- the candidates that a command may choose from, by what reads find
 abbrev pub pool_for : CommandLine → Reads → Result SealedPool Refusal
 pool_for command read = and_then (inputs_of command read) (pool_by command)
 

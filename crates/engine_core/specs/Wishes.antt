@@ -32,6 +32,7 @@ abbrev pub names_to_reinstall : Applet → List Operand → List (List ℕ)
 names_to_reinstall Fix operands = operand_texts operands
 names_to_reinstall applet operands = []
 
+-- what a command wishes beside its world
 abbrev pub wishes_of : CommandLine → ChangeWishes
 wishes_of command = record {
   purge = command.flags.purge;
@@ -61,6 +62,7 @@ unknown_place Upgrade inputs operands = first_unknown (is_installed_name inputs)
 unknown_place Fix inputs operands = first_unknown (is_installed_name inputs) operands
 unknown_place applet inputs operands = None
 
+-- an operand that names no known package refuses the command
 abbrev pub unless_place : {A : Type 0} → Option ℕ → Result A Refusal → Result A Refusal
 unless_place None next = next
 unless_place (Some place) next = Err (NotInstalled place)

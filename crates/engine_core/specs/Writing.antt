@@ -10,10 +10,10 @@ use Rattle.db_core.specs.Members.{Member, is_coming}
 use Rattle.file_guard.specs.AsListed.{file_target, has_target}
 use Rattle.own_core.specs.ClaimEntries.{folders_if_any, listed_file_at}
 use Rattle.package_test.specs.declared.package.TestedPackage.{TestedPackage}
-use Rattle.stage_files.specs.declared.source.PackagedFile.{PackagedFile}
-use Rattle.stage_files.specs.declared.source.Source.{Source}
-use Rattle.stage_files.specs.declared.source.Source.TheVariants.{Bytes, File, Link}
-use Rattle.stage_files.specs.declared.source.StagedWrite.{StagedWrite}
+use Rattle.stage_files.specs.declared.writes.PackagedFile.{PackagedFile}
+use Rattle.stage_files.specs.declared.writes.Source.{Source}
+use Rattle.stage_files.specs.declared.writes.Source.TheVariants.{Bytes, File, Link}
+use Rattle.stage_files.specs.declared.writes.StagedWrite.{StagedWrite}
 use Rattle.engine_core.specs.declared.writes.RecordWrites.{RecordWrites}
 
 abbrev pub write_name : StagedWrite → List ℕ
@@ -46,6 +46,7 @@ IsSourceOfWrite members packages w (Link target) =
 IsSourceOfWrite members packages w (File f) =
     (has_target (entry_of_write members w) ≡ false) × IsFileOfWrite packages w f
 
+-- what is staged under a name is the file that the plan writes there
 pub record IsFileWrite (members : List Member) (packages : Packages) (planned : List FileWrite)
     (write : StagedWrite) : Type 0 where
   pub file : FileWrite
@@ -60,6 +61,7 @@ HasBytes bytes (Bytes own) = own.now ≡ bytes
 HasBytes bytes (Link target) = ⊥
 HasBytes bytes (File f) = ⊥
 
+-- what is staged under a name are these bytes
 pub record IsRecordWrite (name bytes : List ℕ) (write : StagedWrite) : Type 0 where
   pub named : write_name write ≡ name
   pub source : HasBytes bytes write.source
@@ -89,6 +91,7 @@ IsWriteBy members packages planned r write =
 
 -- ---- what was read
 
+-- the package that was read for the member at a place
 abbrev pub package_at : Arrivals → ℕ → Option TestedPackage
 package_at arrivals place = option_and_then package_in (slice_get (arrivals_seen arrivals) place)
 

@@ -7,7 +7,7 @@ ghost use Rattle.list_order.specs.ByteOrder.{bytes_cmp};
 ghost use Rattle.list_order.specs.Sorted.{sorted_by};
 ghost use Rattle.own_core.specs.Planned.{HasSources, IsOfComingFile, written_names};
 ghost use Rattle.own_core.specs.WritesSeen.{write_seen, writes_in};
-ghost use Rattle.stage_files.specs.declared.source.StagedWrite.{StagedWrite as StagedWriteValue};
+ghost use Rattle.stage_files.specs.declared.writes.StagedWrite.{StagedWrite as StagedWriteValue};
 ghost use Rattle.std.specs.Ordering.{on};
 ghost use Rattle.std.specs.Prelude.{◌≡◌, ◌++◌, List, All, IfOk, OnOk, map};
 

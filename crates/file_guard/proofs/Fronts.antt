@@ -10,7 +10,7 @@ use Rattle.base_core.specs.Tree.{TreeState, CanRead, files_of}
 use Rattle.base_core.specs.declared.tree.Disk.{Disk}
 use Rattle.file_guard.specs.Listed.{is_as_told}
 use Rattle.file_guard.specs.Watching.{Watches}
-use Rattle.file_guard.specs.declared.listed.ListedFile.{ListedFile}
+use Rattle.file_guard.specs.declared.compare.ListedFile.{ListedFile}
 use Rattle.file_guard.specs.declared.watch.Watch.{Watch}
 
 -- ---- the file

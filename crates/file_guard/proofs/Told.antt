@@ -6,7 +6,7 @@ use Rattle.pkg_core.specs.Contents.{hash_fault}
 use Rattle.adb_view.specs.Plain.{Plain}
 use Rattle.file_guard.specs.AsListed.{file_hash, file_size, is_as_listed, is_as_listed_by}
 use Rattle.file_guard.specs.Listed.{IsOfEntry, is_as_told}
-use Rattle.file_guard.specs.declared.listed.ListedFile.{ListedFile}
+use Rattle.file_guard.specs.declared.compare.ListedFile.{ListedFile}
 use Rattle.file_guard.proofs.Due.{not_zero}
 
 pub told_link : (size : ℕ) (hash target bytes : List ℕ) → (length target == 0) ≡ false → is_as_listed_by size hash target bytes ≡ bytes_eq bytes (codes "!<symlink>" ++ drop 2 target)

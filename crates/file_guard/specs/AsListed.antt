@@ -1,17 +1,18 @@
 -- Whether bytes are what a package's entry of a file says of them.
 use Rattle.std.specs.Prelude.{ℕ, ◌==◌, Bool, not, ◌&&◌, if◌then◌else◌, List, ◌++◌, length, drop, codes, bytes_eq, is_none}
 use Rattle.adb_view.specs.Plain.{Plain}
+use Rattle.adb_tables.specs.FieldIndexes.{FILE_HASHES, FILE_SIZE, FILE_TARGET}
 use Rattle.adb_tables.specs.Values.{entry_in, int_in, text_in}
 use Rattle.pkg_core.specs.Contents.{hash_fault}
 
 abbrev pub file_size : Plain → ℕ
-file_size entry = int_in (entry_in entry 2)
+file_size entry = int_in (entry_in entry FILE_SIZE)
 
 abbrev pub file_hash : Plain → List ℕ
-file_hash entry = text_in (entry_in entry 4)
+file_hash entry = text_in (entry_in entry FILE_HASHES)
 
 abbrev pub file_target : Plain → List ℕ
-file_target entry = text_in (entry_in entry 5)
+file_target entry = text_in (entry_in entry FILE_TARGET)
 
 abbrev pub has_target : Plain → Bool
 has_target entry = not (length (file_target entry) == 0)

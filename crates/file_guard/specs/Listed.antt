@@ -4,7 +4,7 @@ use Rattle.std.specs.Option.{option_map}
 use Rattle.adb_view.specs.Plain.{Plain}
 use Rattle.file_guard.specs.AsListed.{file_hash, file_size, file_target, is_as_listed_by}
 use Rattle.file_guard.specs.declared.compare.Comparison.{Comparison}
-use Rattle.file_guard.specs.declared.listed.ListedFile.{ListedFile}
+use Rattle.file_guard.specs.declared.compare.ListedFile.{ListedFile}
 
 -- it says what the entry says
 pub record IsOfEntry (listed : ListedFile) (entry : Plain) : Type 0 where

@@ -1,14 +1,18 @@
-//! A file of a tree, read once and compared with two entries.
+//! What an entry of a file says of its bytes, and a file of a tree, read once and compared with two
+//! entries.
 
 ghost use Rattle.std.specs.Prelude.{◌≡◌, ℕ, List, length, Option, Some, IfOk};
 ghost use Rattle.std.specs.Option.{option_map};
 ghost use Rattle.base_core.specs.Calls.{IfObservable};
 ghost use Rattle.base_core.specs.Read.{OnlyReads};
 ghost use Rattle.base_core.specs.Tree.{files_of};
-ghost use Rattle.file_guard.specs.Listed.{comparison_by, comparison_of};
+ghost use Rattle.file_guard.specs.Listed.{comparison_by, comparison_of, IsOfEntry};
+ghost use Rattle.adb_schema.specs.Views.{file_value};
+ghost use Rattle.adb_view.specs.Plain.{Plain};
+ghost use Rattle.file_guard.specs.AsListed.{do_entries_agree};
 
-use crate::listed::ListedFile;
 use crate::watch::Watch;
+use adb_schema::FileInfo;
 use base_core::{Disk, Name, Tree};
 use piece_core::PIECE_LEN;
 
@@ -82,4 +86,37 @@ fn compare_present<T: Tree>(
         as_new: for_new.is_met(),
         as_old: for_old.is_met(),
     })
+}
+
+/// What an entry of a file says of its bytes.
+#[derive(Clone, Copy)]
+pub struct ListedFile<'a> {
+    /// How many there are.
+    pub size: u64,
+    /// Their digest, of the function that its length tells; empty where there is none.
+    pub hash: &'a [u8],
+    /// A link's target, behind a number of two bytes; empty where it is no link.
+    pub target: &'a [u8],
+}
+
+impl<'a> ListedFile<'a> {
+    /// Whether both say the same of the bytes.
+    #[tactic(auto, unfolding(crate::specs::AsListed::do_entries_agree))]
+    pub fn agrees(&self, other: &ListedFile<'_>) -> bool
+        ensures { (a b : Plain) → IsOfEntry self.now a → IsOfEntry other.now b
+            → result ≡ do_entries_agree a b }
+    {
+        self.size == other.size && self.hash == other.hash && self.target == other.target
+    }
+}
+
+/// What this entry says.
+pub fn listed_file<'a>(file: &FileInfo<'a>) -> ListedFile<'a>
+    ensures { IsOfEntry result (file_value file.now) }
+{
+    ListedFile {
+        size: file.size(),
+        hash: file.hashes(),
+        target: file.target(),
+    }
 }

@@ -8,8 +8,6 @@
 #![tactic(auto)]
 
 mod compare;
-mod listed;
 mod watch;
 
-pub use compare::{Comparison, compare_file};
-pub use listed::{ListedFile, listed_file};
+pub use compare::{Comparison, ListedFile, compare_file, listed_file};

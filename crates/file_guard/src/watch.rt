@@ -4,7 +4,7 @@ ghost use Rattle.std.specs.Prelude.{◌≡◌, ℕ, Bool, List, [], ◌++◌, dr
 ghost use Rattle.file_guard.specs.Listed.{is_as_told};
 ghost use Rattle.file_guard.specs.Watching.{Watches};
 
-use crate::listed::ListedFile;
+use crate::compare::ListedFile;
 use piece_core::Hasher;
 
 /// What stands in front of a link's text in the file that stands for it.

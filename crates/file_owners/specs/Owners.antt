@@ -5,6 +5,7 @@ use Rattle.path_claims.specs.Claims.{ContestedPath, PathClaim, contested_by, is_
 use Rattle.path_claims.specs.Contest.{winner}
 use Rattle.file_owners.specs.Replaces.{takes_over}
 
+-- whether the member at one place takes over the files of the one at another
 abbrev pub takes_over_if_any : Option Member → Option Member → Bool
 takes_over_if_any None y = false
 takes_over_if_any (Some x) None = false

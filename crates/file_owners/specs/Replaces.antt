@@ -2,6 +2,7 @@
 use Rattle.std.specs.Prelude.{ℕ, ◌==◌, nat_lt, Bool, false, not, ◌&&◌, ◌||◌, List, Option, Some, None}
 use Rattle.std.specs.List.{list_any}
 use Rattle.adb_view.specs.Plain.{Plain}
+use Rattle.adb_tables.specs.FieldIndexes.{INFO_REPLACES, INFO_VERSION, PACKAGE_INFO, PACKAGE_REPLACES_PRIORITY}
 use Rattle.adb_tables.specs.Values.{entry_in, int_in, text_in}
 use Rattle.adb_fields.specs.Repeated.{entries_at, package_name}
 use Rattle.version_core.specs.Order.{is_version}
@@ -10,8 +11,9 @@ use Rattle.dep_core.specs.Meets.{meets}
 use Rattle.adb_rules.specs.Dependencies.{dependency_in}
 use Rattle.list_order.specs.ByteOrder.{precedes}
 
+-- the version of a package, as its information has it
 abbrev pub version_text : Plain → List ℕ
-version_text pkg = text_in (entry_in (entry_in pkg 0) 1)
+version_text pkg = text_in (entry_in (entry_in pkg PACKAGE_INFO) INFO_VERSION)
 
 -- a positive dependency is met by a name and a version
 abbrev pub is_replaced_by : Option Dependency → List ℕ → List ℕ → Bool
@@ -26,10 +28,11 @@ is_named_by entry y =
 
 -- x names y: an entry of what x replaces does
 unfoldable pub names_package : Plain → Plain → Bool
-names_package x y = list_any (λ entry. is_named_by entry y) (entries_at 16 (entry_in x 0))
+names_package x y =
+    list_any (λ entry. is_named_by entry y) (entries_at INFO_REPLACES (entry_in x PACKAGE_INFO))
 
 abbrev pub replacing_priority : Plain → ℕ
-replacing_priority pkg = int_in (entry_in pkg 4)
+replacing_priority pkg = int_in (entry_in pkg PACKAGE_REPLACES_PRIORITY)
 
 -- of two that name each other: the one with the greater priority, and of equal ones the one whose
 -- name is the later in byte order

@@ -8,12 +8,11 @@
 
 mod database;
 mod gather;
-mod laws;
 mod named;
 mod owner;
-mod replaces;
 
 pub use database::claims_in_database;
-pub use laws::{no_path_is_owned_by_two_members, no_two_packages_take_over_from_each_other};
-pub use owner::owners_of_files;
+pub use owner::{
+    no_path_is_owned_by_two_members, no_two_packages_take_over_from_each_other, owners_of_files,
+};
 pub use path_claims::{Claim, Contested, Owners, Rivals};

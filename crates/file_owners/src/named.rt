@@ -14,7 +14,7 @@ ghost use Rattle.file_owners.specs.NamedPlaces.{ArePlacesNamed, ArePlacesOfEach}
 ghost use Rattle.file_owners.specs.Replaces.{is_named_by};
 
 use crate::gather::place_of;
-use crate::replaces::is_named_by;
+use crate::owner::is_named_by;
 use adb_schema::{DepView, List, PackageView};
 use db_core::Members;
 use std::alloc::{AllocError, Global};

@@ -1,7 +1,8 @@
-//! The owners of the files that members list.
+//! The owners of the files that members list, by which of two packages takes over the files of the
+//! other.
 
-ghost use Rattle.std.specs.Prelude.{◌≡◌, ◌<◌, Some, IfOk, length, map, option_map, slice_get};
-ghost use Rattle.db_core.specs.Members.{Member};
+ghost use Rattle.std.specs.Prelude.{◌≡◌, ◌<◌, Some, IfOk, length, map, option_map, slice_get, List, true, false};
+ghost use Rattle.db_core.specs.Members.{Member, member_listings};
 ghost use Rattle.db_core.specs.Seen.{members_of};
 ghost use Rattle.list_order.specs.Sorted.{sorted_by};
 ghost use Rattle.path_claims.specs.Claims.{claim_cmp};
@@ -9,13 +10,20 @@ ghost use Rattle.path_claims.specs.ContestedSeen.{contested_seen};
 ghost use Rattle.path_claims.specs.Seen.{claim_seen};
 ghost use Rattle.file_owners.specs.Owners.{claims_in, contested_of, member_beats, owned_of, owner_of_path};
 ghost use Rattle.file_owners.specs.NamedPlaces.{ArePlacesOfEach};
+ghost use Rattle.adb_schema.specs.Views.{dependency_value, package_value};
+ghost use Rattle.file_owners.specs.Replaces.{is_named_by, is_preferred_to, is_replaced_by, takes_over};
+ghost use Rattle.adb_rules.specs.Dependencies.{dependency_in};
+ghost use Rattle.adb_view.specs.Plain.{Plain};
+ghost use Rattle.db_core.specs.OwnedListings.{HaveOneOwner, owned_listings};
 
 use crate::gather::claims_in;
 use crate::named::{is_among, places_of_each};
-use crate::replaces::is_preferred;
+use adb_schema::{DepView, PackageView};
 use db_core::Members;
+use dep_core::dep_of;
 use path_claims::{Contest, Owners, owners_of};
 use std::alloc::{AllocError, Global};
+use version_core::Version;
 
 /// Members, some of which take over the files of others: for each the places of those that it
 /// names.
@@ -76,3 +84,49 @@ pub fn owners_of_files<'a>(alloc: Global, members: &Members<'a>) -> Result<Owner
     let named = places_of_each(alloc, members)?;
     owners_of(alloc, &Claimants { members, named }, claims)
 }
+
+/// Whether a dependency is positive, and met by a name and a version.
+fn is_replaced(dep: &DepView<'_>, name: &[u8], version: &Version<'_>) -> bool
+    ensures { result
+        ≡ is_replaced_by (dependency_in (dependency_value dep.now)) name.now version.now }
+{
+    match dep_of(dep.name(), dep.version(), dep.matching()) {
+        Some(dep) => !dep.conflict && dep.met_by(name, Some(version)),
+        None => false,
+    }
+}
+
+/// Whether an entry of what a package replaces names another package: it is positive, and met by
+/// that one's own name and version.
+pub(crate) fn is_named_by(entry: &DepView<'_>, pkg: &PackageView<'_>) -> bool
+    ensures { result ≡ is_named_by (dependency_value entry.now) (package_value pkg.now) }
+{
+    let info = pkg.info();
+    match Version::read(info.version()) {
+        Some(version) => is_replaced(entry, info.name(), &version),
+        None => false,
+    }
+}
+
+/// Of two packages that name each other, whether the first is preferred.
+#[tactic(auto, unfolding(crate::specs::Replaces::is_preferred_to))]
+pub(crate) fn is_preferred<'a, 'b>(one: &PackageView<'a>, other: &PackageView<'b>) -> bool
+    ensures { result ≡ is_preferred_to (package_value one.now) (package_value other.now) }
+{
+    if one.replaces_priority() != other.replaces_priority() {
+        return one.replaces_priority() > other.replaces_priority();
+    }
+    other.info().name().cmp(&one.info().name()).is_lt()
+}
+
+/// Of two packages at most one takes over the files of the other.
+pub fn no_two_packages_take_over_from_each_other()
+    ensures { (x y : Plain) → takes_over x y ≡ true → takes_over y x ≡ false }
+{}
+
+/// Of the files that members list and own, none has the path of another member's: so the flags that
+/// tell who owns what may be written into a database.
+pub fn no_path_is_owned_by_two_members()
+    ensures { (members : List Member)
+        → HaveOneOwner (owned_listings (member_listings members) (owned_of members)) }
+{}

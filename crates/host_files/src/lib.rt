@@ -7,15 +7,13 @@
 
 mod failure;
 mod found;
-mod lock;
 mod nearby;
 mod opened;
 
 pub use failure::{Failure, HostFault, Reason};
 pub use found::{Found, LookedAt, look, parent_of, path_text};
-pub use lock::{Lock, lock_root};
 pub use nearby::LastFolder;
-pub use opened::{Opened, close, is_open};
+pub use opened::{Lock, Opened, close, is_open, lock_root};
 use std::fs::{File, Files};
 use std::time::Clock;
 

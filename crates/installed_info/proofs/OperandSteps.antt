@@ -8,7 +8,7 @@ use Rattle.report_core.specs.declared.refusal.Refusal.{Refusal}
 use Rattle.report_core.specs.declared.refusal.Refusal.TheVariants.{NotInstalled}
 use Rattle.installed_info.specs.Info.{info_refusal}
 use Rattle.installed_info.specs.Packages.{package_asked}
-use Rattle.installed_info.specs.declared.form.Form.{Form}
+use Rattle.installed_info.specs.declared.telling.Form.{Form}
 use Rattle.installed_info.proofs.LineSteps.{left_at}
 
 module _ (form : Form) (packages : List Plain) (operands : List Operand) (i : ℕ) (o : Operand) (at : slice_get operands i ≡ Some o) where

@@ -10,9 +10,9 @@ use Rattle.installed_info.specs.Form.{form_of}
 use Rattle.installed_info.specs.Info.{form_info, info_of, info_refusal, info_unless, operands_info}
 use Rattle.installed_info.specs.Packages.{package_asked}
 use Rattle.installed_info.specs.Refusals.{IsOfAnOperand}
-use Rattle.installed_info.specs.declared.done.InfoDone.{InfoDone}
-use Rattle.installed_info.specs.declared.form.Form.{Form}
-use Rattle.installed_info.specs.declared.form.Form.TheVariants.{Contents, Depends, Description, Installed, Owner}
+use Rattle.installed_info.specs.declared.telling.InfoDone.{InfoDone}
+use Rattle.installed_info.specs.declared.telling.Form.{Form}
+use Rattle.installed_info.specs.declared.telling.Form.TheVariants.{Contents, Depends, Description, Installed, Owner}
 
 behind : (o : Operand) (operands : List Operand) (refusal : Refusal) → IsOfAnOperand operands refusal → IsOfAnOperand (o ∷ operands) refusal
 behind o operands refusal is = (is.0, inr is.1, is.2)

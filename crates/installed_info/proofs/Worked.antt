@@ -5,7 +5,7 @@ use Rattle.adb_view.specs.Plain.{Plain, arr, blob, more, none, null, obj}
 use Rattle.command_core.specs.declared.operands.Operand.{Operand}
 use Rattle.report_core.specs.declared.refusal.Refusal.TheVariants.{NotInstalled}
 use Rattle.installed_info.specs.Info.{form_info, info_done}
-use Rattle.installed_info.specs.declared.form.Form.TheVariants.{Contents, Depends, Description, Installed, Owner}
+use Rattle.installed_info.specs.declared.telling.Form.TheVariants.{Contents, Depends, Description, Installed, Owner}
 
 abbrev operand : ℕ → List ℕ → Operand
 operand place text = record { place = place; text = text }

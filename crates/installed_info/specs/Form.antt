@@ -1,8 +1,8 @@
 -- What `info` is asked for by its flags (apk(8)), of which at most one is given.
 use Rattle.std.specs.Prelude.{if◌then◌else◌}
 use Rattle.command_core.specs.declared.command.Flags.{Flags}
-use Rattle.installed_info.specs.declared.form.Form.{Form}
-use Rattle.installed_info.specs.declared.form.Form.TheVariants.{Contents, Depends, Description, Installed, Owner}
+use Rattle.installed_info.specs.declared.telling.Form.{Form}
+use Rattle.installed_info.specs.declared.telling.Form.TheVariants.{Contents, Depends, Description, Installed, Owner}
 
 abbrev pub form_of : Flags → Form
 form_of flags =

@@ -3,6 +3,7 @@ use Rattle.std.specs.Prelude.{ℕ, List, [], ◌∷◌, map, Option, Some, None,
 use Rattle.std.specs.List.{flat_map}
 use Rattle.std.specs.Option.{option_map_or}
 use Rattle.adb_fields.specs.Repeated.{package_name, paths_in}
+use Rattle.adb_tables.specs.FieldIndexes.{INFO_DEPENDS, INFO_DESCRIPTION, PACKAGE_INFO}
 use Rattle.adb_tables.specs.Values.{entry_in, text_in}
 use Rattle.adb_view.specs.Plain.{Plain}
 use Rattle.command_core.specs.Command.{CommandLine}
@@ -18,16 +19,17 @@ use Rattle.report_core.specs.declared.refusal.Refusal.{Refusal}
 use Rattle.report_core.specs.declared.refusal.Refusal.TheVariants.{NotInstalled}
 use Rattle.installed_info.specs.Form.{form_of}
 use Rattle.installed_info.specs.Packages.{package_asked}
-use Rattle.installed_info.specs.declared.done.InfoDone.{InfoDone}
-use Rattle.installed_info.specs.declared.form.Form.{Form}
-use Rattle.installed_info.specs.declared.form.Form.TheVariants.{Contents, Depends, Description, Installed, Owner}
+use Rattle.installed_info.specs.declared.telling.InfoDone.{InfoDone}
+use Rattle.installed_info.specs.declared.telling.Form.{Form}
+use Rattle.installed_info.specs.declared.telling.Form.TheVariants.{Contents, Depends, Description, Installed, Owner}
 
 -- ---- of one package
 
 -- what it is; a package that does not say so has an empty line there
 abbrev pub description_text : Plain → List ℕ
 description_text pkg =
-    description_section (package_name pkg) (version_text pkg) (text_in (entry_in (entry_in pkg 0) 3))
+    description_section (package_name pkg) (version_text pkg)
+    (text_in (entry_in (entry_in pkg PACKAGE_INFO) INFO_DESCRIPTION))
 
 -- the paths that it lists, folder by folder
 abbrev pub contents_text : Plain → List ℕ
@@ -37,7 +39,7 @@ contents_text pkg = contents_section (package_name pkg) (version_text pkg) (path
 abbrev pub depends_text : Plain → List ℕ
 depends_text pkg =
     depends_section (package_name pkg) (version_text pkg)
-    (map dep_text (dependencies_in (entry_in (entry_in pkg 0) 14)))
+    (map dep_text (dependencies_in (entry_in (entry_in pkg PACKAGE_INFO) INFO_DEPENDS)))
 
 -- that it owns a path
 abbrev pub owner_line : List ℕ → Plain → List ℕ

@@ -4,8 +4,8 @@ use Rattle.std.specs.List.{find}
 use Rattle.adb_view.specs.Plain.{Plain}
 use Rattle.db_core.specs.Packages.{is_package_named, lists_path}
 use Rattle.dep_core.specs.LeadingSlash.{without_slash}
-use Rattle.installed_info.specs.declared.form.Form.{Form}
-use Rattle.installed_info.specs.declared.form.Form.TheVariants.{Owner}
+use Rattle.installed_info.specs.declared.telling.Form.{Form}
+use Rattle.installed_info.specs.declared.telling.Form.TheVariants.{Owner}
 
 -- the one with a name; no two packages of a database have one name
 abbrev pub package_named : List Plain → List ℕ → Option Plain

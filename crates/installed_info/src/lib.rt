@@ -5,21 +5,13 @@
 //! (which form a command asks for) and `Packages` (which package an operand asks for).
 #![tactic(auto)]
 
-mod asked;
-mod dependencies;
-mod done;
-mod form;
-mod laws;
-mod lines;
 mod names;
 mod operands;
 mod package;
 mod paths;
 mod telling;
 
-pub use done::InfoDone;
-pub use laws::{
-    info_refuses_an_operand, owners_are_those_that_list_a_path,
-    packages_have_the_names_that_ask_for_them,
+pub use telling::{
+    InfoDone, info_refuses_an_operand, owners_are_those_that_list_a_path,
+    packages_have_the_names_that_ask_for_them, tell,
 };
-pub use telling::tell;

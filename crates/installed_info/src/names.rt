@@ -8,8 +8,8 @@ ghost use Rattle.list_order.specs.Sorted.{sorted_by};
 ghost use Rattle.report_core.specs.Reports.{report_lines};
 ghost use Rattle.std.specs.Prelude.{◌≡◌, ◌<◌, ◌++◌, None, Some, length, map, slice_get, IfOk, OnOk};
 
-use crate::done::InfoDone;
-use crate::lines::push_line;
+use crate::package::push_line;
+use crate::telling::InfoDone;
 use adb_schema::PackageView;
 use base_core::Text;
 use db_core::Db;

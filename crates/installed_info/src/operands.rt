@@ -1,18 +1,21 @@
-//! What is told of the packages that operands ask for.
+//! What is told of the packages that operands ask for, and the place of the package that an operand
+//! asks for.
+
 ghost use Rattle.db_core.specs.Seen.{packages_of};
 ghost use Rattle.installed_info.specs.Info.{info_done, info_refusal, info_unless, operands_info, package_info};
-ghost use Rattle.installed_info.specs.Packages.{package_asked};
+ghost use Rattle.installed_info.specs.Packages.{package_asked, package_named, path_owner};
 ghost use Rattle.report_core.specs.declared.refusal.Refusal.TheVariants.{NotInstalled};
-ghost use Rattle.std.specs.Option.{option_map_or, option_or};
-ghost use Rattle.std.specs.Prelude.{◌≡◌, ◌++◌, [], None, Some, if◌then◌else◌, is_some, IfOk};
+ghost use Rattle.std.specs.Option.{option_map_or, option_or, option_and_then};
+ghost use Rattle.std.specs.Prelude.{◌≡◌, ◌++◌, [], None, Some, if◌then◌else◌, is_some, IfOk, ◌<◌, length, slice_get, IfSome};
+ghost use Rattle.db_core.specs.Packages.{is_package_named, lists_path};
+ghost use Rattle.dep_core.specs.LeadingSlash.{without_slash};
 
-use crate::asked::place_asked;
-use crate::done::InfoDone;
-use crate::form::Form;
 use crate::package::push_package;
-use base_core::Text;
+use crate::telling::{Form, InfoDone};
+use base_core::{Name, Text};
 use command_core::Operands;
 use db_core::Db;
+use dep_core::without_slash;
 use report_core::Refusal;
 use std::alloc::{AllocError, Global};
 use std::marker::PhantomData;
@@ -99,5 +102,46 @@ fn push_operand(
             Ok(true)
         }
         None => Ok(false),
+    }
+}
+
+/// The place of the package that an operand asks for, counted from 0. Memory is taken for the path
+/// alone.
+pub(crate) fn place_asked(
+    alloc: Global,
+    form: Form,
+    db: &Db<'_>,
+    text: &[u8],
+) -> Result<Option<usize>, AllocError>
+    ensures found { IfOk result (λ place. option_and_then (slice_get (packages_of db.now)) place
+        ≡ package_asked form (packages_of db.now) text.now) }
+    ensures within { IfOk result
+        (λ place. IfSome place (λ i. i < length (packages_of db.now))) }
+{
+    match form {
+        Form::Owner => place_of_owner(alloc, db, without_slash(text)),
+        _ => Ok(place_of_name(db, text)),
+    }
+}
+
+// The place of the package with a name.
+fn place_of_name(db: &Db<'_>, name: &[u8]) -> Option<usize>
+    ensures found { option_and_then (slice_get (packages_of db.now)) result
+        ≡ package_named (packages_of db.now) name.now }
+    ensures within { IfSome result (λ i. i < length (packages_of db.now)) }
+{
+    db.find(name)
+}
+
+// The place of the package that lists a path. No package lists what is no name.
+fn place_of_owner(alloc: Global, db: &Db<'_>, path: &[u8]) -> Result<Option<usize>, AllocError>
+    ensures found { IfOk result (λ place. option_and_then (slice_get (packages_of db.now)) place
+        ≡ path_owner (packages_of db.now) path.now) }
+    ensures within { IfOk result
+        (λ place. IfSome place (λ i. i < length (packages_of db.now))) }
+{
+    match Name::read(alloc, path)? {
+        Some(path) => Ok(db.owner_of(&path)),
+        None => Ok(None),
     }
 }

@@ -1,20 +1,23 @@
-//! What is told of a package.
+//! What is told of a package, and what it depends on, a line each.
+
 ghost use Rattle.adb_fields.specs.Repeated.{package_name};
-ghost use Rattle.adb_schema.specs.Views.{package_value};
+ghost use Rattle.adb_schema.specs.Views.{package_value, dependency_value};
 ghost use Rattle.db_core.specs.Seen.{packages_of};
 ghost use Rattle.file_owners.specs.Replaces.{version_text};
 ghost use Rattle.installed_info.specs.Info.{contents_text, depends_text, description_text, owner_line, package_info};
-ghost use Rattle.report_core.specs.Reports.{name_version, report_line};
-ghost use Rattle.std.specs.Option.{option_map_or};
-ghost use Rattle.std.specs.Prelude.{◌≡◌, ◌<◌, ◌++◌, [], length, slice_get, OnOk};
+ghost use Rattle.report_core.specs.Reports.{name_version, report_line, report_lines};
+ghost use Rattle.std.specs.Option.{option_map_or, option_map};
+ghost use Rattle.std.specs.Prelude.{◌≡◌, ◌<◌, ◌++◌, [], length, slice_get, OnOk, map};
+ghost use Rattle.adb_fields.specs.ListValue.{list_value};
+ghost use Rattle.dep_core.specs.DependencyText.{dep_text};
+ghost use Rattle.dep_core.specs.Meets.{dependency};
+ghost use Rattle.pool_core.specs.Candidates.{dependencies_in, dependency_in};
 
-use crate::dependencies::push_dependencies;
-use crate::form::Form;
-use crate::lines::push_line;
 use crate::paths::push_paths;
-use adb_schema::PackageView;
+use crate::telling::Form;
+use adb_schema::{DepView, List, PackageView};
 use db_core::Db;
-use dep_core::without_slash;
+use dep_core::{Dep, dep_of, dep_text, without_slash};
 use std::alloc::{AllocError, Global};
 use std::marker::PhantomData;
 
@@ -118,5 +121,50 @@ fn push_heading(report: &mut Vec<u8>, pkg: &PackageView<'_>, rest: &[u8]) -> Res
     report.push(b'-')?;
     report.extend_from_slice(info.version())?;
     push_line(report, rest)?;
+    Ok(())
+}
+
+/// Adds the dependencies of a list.
+pub(crate) fn push_dependencies<'a>(
+    alloc: Global,
+    report: &mut Vec<u8>,
+    depends: &List<'a, DepView<'a>>,
+) -> Result<(), AllocError>
+    ensures { OnOk result (report.new.items ≡ report.old.items
+        ++ report_lines (map dep_text (dependencies_in (list_value depends.now)))) }
+{
+    for i in 0..depends.len() {
+        push_entry(alloc, report, &depends.get(i + 1))?;
+    }
+    Ok(())
+}
+
+// Adds an entry, unless it is no dependency.
+fn push_entry(alloc: Global, report: &mut Vec<u8>, entry: &DepView<'_>) -> Result<(), AllocError>
+    ensures { OnOk result (report.new.items ≡ report.old.items
+        ++ option_map_or (λ d. report_line (dep_text d))
+        (dependency_in (dependency_value entry.now)) []) }
+{
+    match dep_of(entry.name(), entry.version(), entry.matching()) {
+        Some(needed) => push_dependency(alloc, report, &needed),
+        None => Ok(()),
+    }
+}
+
+// Adds a dependency.
+fn push_dependency(alloc: Global, report: &mut Vec<u8>, needed: &Dep<'_>) -> Result<(), AllocError>
+    ensures { OnOk result (report.new.items
+        ≡ report.old.items ++ report_line (dep_text (dependency needed.now))) }
+{
+    let text = dep_text(alloc, needed)?;
+    push_line(report, text.as_bytes())
+}
+
+/// Adds a line.
+pub(crate) fn push_line(report: &mut Vec<u8>, text: &[u8]) -> Result<(), AllocError>
+    ensures { OnOk result (report.new.items ≡ report.old.items ++ report_line text.now) }
+{
+    report.extend_from_slice(text)?;
+    report.push(b'\n')?;
     Ok(())
 }

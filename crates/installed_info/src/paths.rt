@@ -7,7 +7,7 @@ ghost use Rattle.report_core.specs.Reports.{report_line, report_lines};
 ghost use Rattle.std.specs.List.{flat_map};
 ghost use Rattle.std.specs.Prelude.{◌≡◌, ◌<◌, ◌++◌, map, OnOk};
 
-use crate::lines::push_line;
+use crate::package::push_line;
 use adb_schema::{DirInfo, FileInfo, List};
 use std::alloc::AllocError;
 

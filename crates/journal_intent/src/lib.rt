@@ -8,15 +8,13 @@
 #![tactic(auto)]
 
 mod container;
-mod laws;
 mod lists;
 mod names;
 mod prepared;
 
-pub use laws::{
+pub use names::{
     a_read_intent_has_free_names, an_intent_is_read_from_a_sound_container,
-    each_waiting_file_has_its_own_name, no_taken_name_is_a_folder_of_another,
-    the_names_of_a_change_are_free,
+    each_waiting_file_has_its_own_name, intent_name, no_taken_name_is_a_folder_of_another,
+    stage_folder, the_names_of_a_change_are_free,
 };
-pub use names::{intent_name, stage_folder};
 pub use prepared::PreparedIntent;

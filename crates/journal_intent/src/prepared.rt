@@ -9,9 +9,8 @@ ghost use Rattle.journal_intent.specs.Intent.{AreChangeNames, intent_name, read_
 ghost use Rattle.journal_intent.specs.IntentValue.{intent_of_lists, value_of_intent};
 
 use crate::container::{copy_of_names, intent_file};
-use crate::laws::a_read_intent_has_free_names;
 use crate::lists::{IntentLists, read_lists};
-use crate::names::{intent_name, stage_names};
+use crate::names::{a_read_intent_has_free_names, intent_name, stage_names};
 use adb_schema::ReadFault;
 use adb_write::WriteFault;
 use base_core::{Name, Names};

@@ -4,6 +4,7 @@ use Rattle.std.specs.Ordering.{nat_cmp, is_lt}
 use Rattle.std.specs.declared.cmp.Ordering.{Ordering}
 use Rattle.std.specs.Cmp.Lexicographic.{slice_cmp}
 
+-- how two texts compare by their bytes
 abbrev pub bytes_cmp : List ℕ → List ℕ → Ordering
 bytes_cmp = slice_cmp nat_cmp
 
@@ -11,11 +12,12 @@ bytes_cmp = slice_cmp nat_cmp
 abbrev pub precedes : List ℕ → List ℕ → Bool
 precedes a b = is_lt (bytes_cmp a b)
 
-abbrev pub smaller : List ℕ → Option (List ℕ) → Option (List ℕ)
-smaller a None = Some a
-smaller a (Some b) = if precedes b a then Some b else Some a
+-- the smaller of a text and another one, where there is another one
+abbrev pub smaller_text : List ℕ → Option (List ℕ) → Option (List ℕ)
+smaller_text a None = Some a
+smaller_text a (Some b) = if precedes b a then Some b else Some a
 
 -- the first of several texts
-abbrev pub smallest : List (List ℕ) → Option (List ℕ)
-smallest [] = None
-smallest (a ∷ texts) = smaller a (smallest texts)
+abbrev pub smallest_text : List (List ℕ) → Option (List ℕ)
+smallest_text [] = None
+smallest_text (a ∷ texts) = smaller_text a (smallest_text texts)

@@ -9,10 +9,11 @@ use Rattle.make_index.specs.Entries.{entry_of_package}
 use Rattle.make_index.specs.EntryOrder.{entry_cmp}
 use Rattle.make_info.specs.Reads.{Reads}
 use Rattle.pkg_core.specs.Whole.{package_fault}
+use Rattle.adb_tables.specs.FieldIndexes.{INDEX_PACKAGES}
 
 -- the entries of an index's packages
 abbrev pub packages_in : Plain → List Plain
-packages_in index = entries_at 1 index
+packages_in index = entries_at INDEX_PACKAGES index
 
 -- the read of each operand finds a file that passes all tests of a package; the read of the first
 -- operand has this number

@@ -5,16 +5,18 @@ use Rattle.std.specs.declared.cmp.Ordering.{Ordering}
 use Rattle.list_order.specs.ByteOrder.{bytes_cmp}
 use Rattle.version_core.specs.Order.{version_cmp}
 use Rattle.adb_view.specs.Plain.{Plain}
+use Rattle.adb_tables.specs.FieldIndexes.{INFO_HASHES, INFO_NAME, INFO_VERSION}
 use Rattle.adb_tables.specs.Values.{entry_in, text_in}
 
+-- the fields by which entries are put in order
 abbrev pub name_in : Plain → List ℕ
-name_in entry = text_in (entry_in entry 0)
+name_in entry = text_in (entry_in entry INFO_NAME)
 
 abbrev pub version_in : Plain → List ℕ
-version_in entry = text_in (entry_in entry 1)
+version_in entry = text_in (entry_in entry INFO_VERSION)
 
 abbrev pub id_in : Plain → List ℕ
-id_in entry = text_in (entry_in entry 2)
+id_in entry = text_in (entry_in entry INFO_HASHES)
 
 -- by name, then by version, then by the version's text, then by id
 unfoldable pub entry_cmp : Plain → Plain → Ordering

@@ -4,6 +4,7 @@ use Rattle.base_core.specs.declared.cause.Cause.{Cause}
 use Rattle.adb_view.specs.Head.{head_fault, root_of}
 use Rattle.adb_view.specs.Plain.{Plain}
 use Rattle.adb_schema.specs.Soundness.{root_value}
+use Rattle.adb_tables.specs.FieldIndexes.{INFO_FILE_SIZE, INFO_HASHES}
 use Rattle.adb_tables.specs.Values.{entry_in, int_in, is_sound, text_in}
 use Rattle.adb_tables.specs.declared.tables.Which.TheVariants.{PkgInfo}
 use Rattle.adb_tables.specs.declared.tables.Kind.TheVariants.{Obj}
@@ -20,7 +21,8 @@ use Rattle.make_index.specs.declared.source.EntrySource.TheVariants.{Payload, Fi
 
 -- an entry made once more of its own fields
 abbrev pub copy_of_entry : Plain → Plain
-copy_of_entry entry = info_with entry (text_in (entry_in entry 2)) (int_in (entry_in entry 12))
+copy_of_entry entry = info_with entry (text_in (entry_in entry INFO_HASHES))
+    (int_in (entry_in entry INFO_FILE_SIZE))
 
 -- the entry that is still to be written
 abbrev pub kept_value : EntrySource → Plain

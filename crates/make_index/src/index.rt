@@ -1,10 +1,11 @@
 //! Makes an index of packages (apk(8), `mkndx`): reads the packages that operands name, puts their
 //! entries in order, and writes the container.
-ghost use Rattle.adb_tables.specs.Schema.{shape_of};
+
+ghost use Rattle.adb_tables.specs.Schema.{shape_of, table};
 ghost use Rattle.adb_schema.specs.Soundness.{first_fault};
 ghost use Rattle.adb_tables.specs.declared.tables.Kind.TheVariants as Kinds;
 ghost use Rattle.adb_tables.specs.declared.tables.Which.TheVariants as Tables;
-ghost use Rattle.adb_view.specs.Plain.{Plain, arr_value, IsNormal};
+ghost use Rattle.adb_view.specs.Plain.{Plain, arr_value, IsNormal, Plains, obj_value};
 ghost use Rattle.adb_view.specs.Shaped.{HasShape};
 ghost use Rattle.adb_values.specs.Drafts.{draft_with};
 ghost use Rattle.adb_write.specs.Canonical.{written_of, MOST_BYTES};
@@ -12,7 +13,7 @@ ghost use Rattle.base_core.specs.Calls.{IfObservable};
 ghost use Rattle.base_core.specs.Read.{OnlyReads, bytes_in};
 ghost use Rattle.base_core.specs.Tree.{files_of};
 ghost use Rattle.make_index.specs.Entries.{entry_of_package};
-ghost use Rattle.make_index.specs.EntryOrder.{entry_cmp, version_in};
+ghost use Rattle.make_index.specs.EntryOrder.{entry_cmp, version_in, id_in, name_in};
 ghost use Rattle.list_order.specs.Sorted.{sorted_by};
 ghost use Rattle.base_core.specs.Files.{IsFile};
 ghost use Rattle.make_index.specs.Files.{AreFiles, reads_of};
@@ -23,9 +24,14 @@ ghost use Rattle.make_info.specs.Faults.{IsOverflow};
 ghost use Rattle.make_info.specs.Reads.{Reads};
 ghost use Rattle.make_info.specs.Values.{plains_of_list};
 ghost use Rattle.std.specs.List.Sorted.{IsPermutation, IsSorted, IsStable};
-ghost use Rattle.std.specs.Prelude.{◌≡◌, ◌≤◌, Ok, IfOk, IfErr, OnOk, length, map, ◌<◌, ◌^◌, ℕ, List, All, true, None, ◌++◌, ◌∷◌, [], Option, IfSome, IsTrue};
-ghost use Rattle.version_core.specs.Order.{is_version};
+ghost use Rattle.std.specs.Prelude.{◌≡◌, ◌≤◌, Ok, IfOk, IfErr, OnOk, length, map, ◌<◌, ◌^◌, ℕ, List, All, true, None, ◌++◌, ◌∷◌, [], Option, IfSome, IsTrue, Some, codes};
+ghost use Rattle.version_core.specs.Order.{is_version, version_cmp};
 ghost use Rattle.command_core.specs.Named.{are_files};
+ghost use Rattle.adb_tables.specs.Values.{text_in};
+ghost use Rattle.adb_tables.specs.declared.tables.Which.TheVariants.{PkgInfo};
+ghost use Rattle.list_order.specs.ByteOrder.{bytes_cmp};
+ghost use Rattle.make_info.specs.Named.{value_by_name};
+ghost use Rattle.std.specs.declared.cmp.Ordering.TheVariants.{Equal, Less};
 
 use crate::entry::Entry;
 use adb_schema::{INDEX_WORD, sound_containers_hold_sound_values};
@@ -226,3 +232,33 @@ pub fn an_index_is_in_order()
 {
     order_is_total();
 }
+
+/// Which of two entries stands first in an index: the one of the smaller name; of equal names, the
+/// one of the smaller version; of equal versions, the one whose version is the smaller text; of
+/// equal texts, the one of the smaller id.
+pub fn entries_stand_by_name_version_and_id()
+    ensures name { (a b : Plain) → bytes_cmp (name_in a) (name_in b) ≡ Less
+        → entry_cmp a b ≡ Less }
+    ensures version { (a b : Plain) → bytes_cmp (name_in a) (name_in b) ≡ Equal
+        → version_cmp (version_in a) (version_in b) ≡ Less → entry_cmp a b ≡ Less }
+    ensures text { (a b : Plain) → bytes_cmp (name_in a) (name_in b) ≡ Equal
+        → version_cmp (version_in a) (version_in b) ≡ Equal
+        → bytes_cmp (version_in a) (version_in b) ≡ Less → entry_cmp a b ≡ Less }
+    ensures id { (a b : Plain) → bytes_cmp (name_in a) (name_in b) ≡ Equal
+        → version_cmp (version_in a) (version_in b) ≡ Equal
+        → bytes_cmp (version_in a) (version_in b) ≡ Equal
+        → bytes_cmp (id_in a) (id_in b) ≡ Less → entry_cmp a b ≡ Less }
+{}
+
+/// The name, the version and the id of an entry are its fields of these names in the table.
+pub fn an_entry_is_ordered_by_its_named_fields()
+    ensures name { (fields : Plains) (v : Plain)
+        → value_by_name (codes "name") (table PkgInfo) fields ≡ Some v
+        → name_in (obj_value fields) ≡ text_in v }
+    ensures version { (fields : Plains) (v : Plain)
+        → value_by_name (codes "version") (table PkgInfo) fields ≡ Some v
+        → version_in (obj_value fields) ≡ text_in v }
+    ensures id { (fields : Plains) (v : Plain)
+        → value_by_name (codes "hashes") (table PkgInfo) fields ≡ Some v
+        → id_in (obj_value fields) ≡ text_in v }
+{}

@@ -7,8 +7,9 @@
 
 mod entry;
 mod index;
-mod laws;
 mod source;
 
-pub use index::{an_entry_is_an_info, an_index_is_in_order, make};
-pub use laws::{an_entry_is_ordered_by_its_named_fields, entries_stand_by_name_version_and_id};
+pub use index::{
+    an_entry_is_an_info, an_entry_is_ordered_by_its_named_fields, an_index_is_in_order,
+    entries_stand_by_name_version_and_id, make,
+};

@@ -54,7 +54,7 @@ impl EntrySource {
         ensures { OnOk result (draft.new ≡ draft_with (kept_value self.now) draft.old) }
     {
         match self {
-            EntrySource::Payload(own) => own.write(draft),
+            EntrySource::Payload(own) => own.write(alloc, draft),
             EntrySource::File(own) => own.write(alloc, draft),
         }
     }
@@ -64,7 +64,7 @@ impl EntryPayload {
     ghost use Rattle.make_index.specs.Kept.{copy_of_entry};
 
     /// Writes the entry.
-    fn write(&self, draft: &mut Draft) -> Result<(), AllocError>
+    fn write(&self, alloc: Global, draft: &mut Draft) -> Result<(), AllocError>
         ensures { OnOk result (draft.new ≡ draft_with
             (copy_of_entry (root_value Tables.PkgInfo self.now.payload.items)) draft.old) }
     {
@@ -72,7 +72,7 @@ impl EntryPayload {
             unreachable!()
         };
         let info = PkgInfo::of(adb, adb.root());
-        write_info(draft, &info, info.hashes(), info.file_size())
+        write_info(alloc, draft, &info, info.hashes(), info.file_size())
     }
 }
 
@@ -83,7 +83,7 @@ impl PackageFile {
             (draft.new ≡ draft_with (entry_of_package self.now.file.items) draft.old) }
     {
         match Package::new(alloc, &self.file) {
-            Ok(pkg) => write_package(draft, &pkg, self.file.len() as u64),
+            Ok(pkg) => write_package(alloc, draft, &pkg, self.file.len() as u64),
             Err(PackageFault::Memory) => Err(AllocError),
             Err(PackageFault::Bad(_)) => unreachable!(),
         }
@@ -91,14 +91,19 @@ impl PackageFile {
 }
 
 /// Writes the entry of a package whose file has this length.
-fn write_package(draft: &mut Draft, pkg: &Package<'_>, len: u64) -> Result<(), AllocError>
+fn write_package(
+    alloc: Global,
+    draft: &mut Draft,
+    pkg: &Package<'_>,
+    len: u64,
+) -> Result<(), AllocError>
     ensures { OnOk result (draft.new ≡ draft_with
         (info_with (entry_in (opened_value pkg.now) 0) (sha256 (opened_payload pkg.now)) len)
         draft.old) }
 {
     let id = pkg.id();
     let info = pkg.view().info();
-    write_info(draft, &info, &id, len)
+    write_info(alloc, draft, &info, &id, len)
 }
 
 /// The entry of a package in a payload of its own, or None where it passes a limit of the writer.
@@ -113,7 +118,7 @@ pub(crate) fn entry_payload(
         ≡ Ok payload.items)) }
 {
     let mut draft = Draft::new(alloc);
-    write_package(&mut draft, pkg, len)?;
+    write_package(alloc, &mut draft, pkg, len)?;
     match draft.finish() {
         Ok(payload) => Ok(Some(payload)),
         Err(WriteFault::TooLarge { .. }) => Ok(None),

@@ -1,15 +1,22 @@
 //! The information of a package, read from the values of `-I` of `mkpkg` (apk(8)).
+
 ghost use Rattle.dep_core.specs.Meets.{dependency};
 ghost use Rattle.hex.specs.Hex.{decode_of};
 ghost use Rattle.make_info.specs.Faults.{IsInfoFault};
 ghost use Rattle.make_info.specs.FieldTexts.{field_text_in};
-ghost use Rattle.make_info.specs.Fields.{value_of_digits, kind_of_field, need_in, needs_in, number, decimal_number, nonempty_parts, values_by_kind, text_if, text_values};
+ghost use Rattle.make_info.specs.Fields.{value_of_digits, kind_of_field, need_in, needs_in, number, decimal_number, nonempty_parts, values_by_kind, text_if, text_values, field_word};
 ghost use Rattle.make_info.specs.Reading.{nonempty_part, has_no_name_or_version, items_with};
-ghost use Rattle.make_info.specs.Information.{information, information_of, is_item_for, info_item, with_values};
+ghost use Rattle.make_info.specs.Information.{information, information_of, is_item_for, info_item, with_values, InfoItem, first_offence, information_fields};
 ghost use Rattle.make_info.specs.Views.{field_text_view, item_view, value_view};
 ghost use Rattle.std.specs.List.{find};
 ghost use Rattle.std.specs.Option.{option_map};
-ghost use Rattle.std.specs.Prelude.{◌≡◌, ◌==◌, ◌<◌, length, position, IfSome, Ok, Some, None, IfOk, IfErr, if◌then◌else◌, ◌++◌, ◌∷◌, [], OnOk, map};
+ghost use Rattle.std.specs.Prelude.{◌≡◌, ◌==◌, ◌<◌, length, position, IfSome, Ok, Some, None, IfOk, IfErr, if◌then◌else◌, ◌++◌, ◌∷◌, [], OnOk, map, ℕ, Bool, List};
+ghost use Rattle.adb_tables.specs.Schema.{table};
+ghost use Rattle.adb_tables.specs.declared.tables.Which.TheVariants.{PkgInfo};
+ghost use Rattle.command_core.specs.declared.values.OptionValue.{OptionValue};
+ghost use Rattle.make_info.specs.declared.field.Field.{Field};
+ghost use Rattle.make_info.specs.FirstOffence.{IsFirstOffence, NoneOffends};
+ghost use Rattle.make_info.specs.Named.{value_by_name, value_of_field};
 
 use crate::fault::MakeFault;
 use crate::field::{Field, Kind, read_number};
@@ -310,3 +317,23 @@ pub fn read_need(text: &[u8]) -> Option<Dep<'_>>
     }
     Some(dep)
 }
+
+/// What `-I` gives for a field stands in a package's information at the field whose name in the
+/// table is the field's word: all eighteen but the priority in replacing, which is none of its
+/// fields.
+pub fn an_option_gives_the_field_of_its_name()
+    ensures { (f : Field) (info : List InfoItem) (size : ℕ)
+        → value_by_name (field_word f) (table PkgInfo) (information_fields info size)
+        ≡ value_of_field f info }
+{}
+
+/// The value of `-I` that is reported is the first that offends, in the order given: it is not
+/// allowed, it is a second one of its field, or it is the version with which the output's name is
+/// too long. Where none is reported, none offends.
+pub fn the_first_value_that_offends_is_reported()
+    ensures offends { (too_long : Bool) (values : List OptionValue) (place : ℕ)
+        → first_offence too_long [] values ≡ Some place
+        → IsFirstOffence too_long values place }
+    ensures allowed { (too_long : Bool) (values : List OptionValue)
+        → first_offence too_long [] values ≡ None → NoneOffends too_long values }
+{}

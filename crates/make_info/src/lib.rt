@@ -7,14 +7,15 @@
 mod fault;
 mod field;
 mod information;
-mod laws;
 mod output;
 mod writing;
 
 pub use fault::MakeFault;
 pub use field::{Kind, read_number};
-pub use information::{Information, read_information, read_need};
-pub use laws::{an_option_gives_the_field_of_its_name, the_first_value_that_offends_is_reported};
+pub use information::{
+    Information, an_option_gives_the_field_of_its_name, read_information, read_need,
+    the_first_value_that_offends_is_reported,
+};
 pub use output::{
     a_package_with_information_has_an_output, an_index_has_an_output, an_output_is_short,
     output_name,

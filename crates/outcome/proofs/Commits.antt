@@ -13,7 +13,7 @@ use Rattle.make_info.specs.declared.fault.MakeFault.{MakeFault}
 use Rattle.make_info.specs.declared.fault.MakeFault.TheVariants.{FileMissing, FileBad, InfoBad, TooLarge, Disk, Memory}
 use Rattle.make_package.specs.Making.{made_package}
 use Rattle.change_outcome.specs.ChangeOutcome.{ChangeDone}
-use Rattle.engine_core.specs.Changed.{changed}
+use Rattle.engine_core.specs.Changed.{change_of_command}
 use Rattle.engine_core.specs.InfoTold.{info_told}
 use Rattle.report_core.specs.declared.refusal.Refusal.{Refusal}
 use Rattle.report_core.specs.declared.refusal.Refusal.TheVariants.{Reserved, ResultTooLarge}
@@ -77,7 +77,7 @@ change_commits files (Err refusal) some = refl
 
 applet_changes : (applet : Applet) (command : CommandLine) (given : Given) (files : Files) → effect_of applet ≡ Changes → CommitsNoRefusal (applet_outcome applet command given (reads_in files) files)
 applet_changes applet command given files changes =
-    subst CommitsNoRefusal (change_is applet command given (reads_in files) files changes) (change_commits files (changed command (reads_in files) files given.chosen given.clash))
+    subst CommitsNoRefusal (change_is applet command given (reads_in files) files changes) (change_commits files (change_of_command command (reads_in files) files given.chosen given.clash))
 
 changes_unless : (fault : Option Cause) (command : CommandLine) (files : Files) (o : Outcome) → effect_of command.applet ≡ Changes → IsOutcomeUnless fault command files o → CommitsNoRefusal o
 changes_unless (Some cause) command files o changes is = λ some. ap (λ (p : Outcome). p.commits) is

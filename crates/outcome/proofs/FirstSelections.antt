@@ -12,7 +12,7 @@ use Rattle.change_outcome.specs.ChangeOutcome.{ChangeDone, ChangeWishes, change_
 use Rattle.change_outcome.specs.ConfigurationLines.{configuration_lines}
 use Rattle.change_outcome.specs.Triggers.{trigger_lines}
 use Rattle.command_core.specs.Command.{CommandLine}
-use Rattle.engine_core.specs.Changed.{IsClashFor, Selected, change_of_selected, changed, selected_by, selected_of_inputs, simulated_change}
+use Rattle.engine_core.specs.Changed.{IsClashFor, Selected, change_of_selected, change_of_command, selected_by, selected_of_inputs, simulated_change}
 use Rattle.engine_core.specs.Choice.{IsChoiceFrom}
 use Rattle.engine_core.specs.Selecting.{pool_by, pool_for, replacement_of_choice}
 use Rattle.engine_core.specs.Wishes.{names_to_reinstall, names_to_upgrade, unknown_place, unless_place, wishes_of}
@@ -163,8 +163,8 @@ module _ (known : IsMadeKnown) (command : CommandLine) (files : Files) where
       inl (record { refusal = refusal; stated = subst (HasKnownRefusal is_input_refusal) are (inputs_stated command (reads_in files)); outcome = refl; unchosen = λ other. ap (λ (r : Result Inputs Refusal). and_then r (selected_of_inputs command other)) are })
 
   change_end : (chosen : Option (List ℕ)) (clash : Option NamePair) → IsChoiceFrom (pool_for command (reads_in files)) chosen → IsClashFor command (reads_in files) files chosen clash
-      → IsChangeEnd command files (change_outcome files (changed command (reads_in files) files chosen clash))
-  unfolding changed
+      → IsChangeEnd command files (change_outcome files (change_of_command command (reads_in files) files chosen clash))
+  unfolding change_of_command
   change_end chosen clash choice is_clash = by_inputs (inputs_of command (reads_in files)) chosen clash refl choice is_clash
 
 -- ---- over the files on which it works, and by the words

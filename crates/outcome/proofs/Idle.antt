@@ -14,7 +14,7 @@ use Rattle.command_core.specs.declared.command.Applet.{Applet}
 use Rattle.command_core.specs.declared.command.Applet.TheVariants.{Adbdump, Demo, Info, Mkndx, Mkpkg, Verify, Version}
 use Rattle.command_core.specs.declared.command.Flags.{Flags}
 use Rattle.command_core.specs.declared.operands.Operand.{Operand}
-use Rattle.engine_core.specs.Changed.{Selected, change_of_selected, changed, selected_by, selected_for, selected_of_inputs, simulated_change}
+use Rattle.engine_core.specs.Changed.{Selected, change_of_selected, change_of_command, selected_by, selected_for, selected_of_inputs, simulated_change}
 use Rattle.engine_core.specs.InfoTold.{info_told}
 use Rattle.engine_core.specs.Selecting.{pool_by}
 use Rattle.engine_core.specs.Wishes.{unknown_place, unless_place, wishes_of}
@@ -133,14 +133,14 @@ selected_idle idle command read files clash s done root true is nothing = ap (λ
 selected_idle idle command read files clash s done root false is nothing = idle s.inputs s.replacement (wishes_of command) read clash files done is root nothing
 
 changed_idle : HaveRoot → HaveIdle → (command : CommandLine) (read : Reads) (files : Files) (chosen : Option (List ℕ)) (clash : Option NamePair) (done : ChangeDone)
-    → ((n : ℕ) (name : List ℕ) → read n name ≡ files name) → changed command read files chosen clash ≡ Ok done → done.commits ≡ false → done.files ≡ files
-unfolding changed
+    → ((n : ℕ) (name : List ℕ) → read n name ≡ files name) → change_of_command command read files chosen clash ≡ Ok done → done.commits ≡ false → done.files ≡ files
+unfolding change_of_command
 changed_idle rooted idle command read files chosen clash done reads is nothing =
     let (s, selected, rest) = chain_ok (selected_for command read chosen) (change_of_selected command read files clash) done is in
     selected_idle idle command read files clash s done (rooted command read s.inputs files reads (selected_inputs command read chosen s selected)) command.flags.simulate rest nothing
 
 pub change_idle : HaveRoot → HaveIdle → (command : CommandLine) (files : Files) (chosen : Option (List ℕ)) (clash : Option NamePair) (result : Result ChangeDone Refusal)
-    → changed command (reads_in files) files chosen clash ≡ result → LeavesIdle files (change_outcome files result)
+    → change_of_command command (reads_in files) files chosen clash ≡ result → LeavesIdle files (change_outcome files result)
 change_idle rooted idle command files chosen clash (Ok done) is nothing = changed_idle rooted idle command (reads_in files) files chosen clash done (λ n name. refl) is nothing
 change_idle rooted idle command files chosen clash (Err refusal) is nothing = refl
 
@@ -154,7 +154,7 @@ applet_idle rooted idle Mkpkg command given files = made_idle files (output_name
 applet_idle rooted idle Mkndx command given files = made_idle files (output_name command) (index_line (length command.operands)) (made_index command (reads_in files))
 applet_idle rooted idle Info command given files = λ nothing. told_files files (info_told command (reads_in files))
 applet_idle rooted idle Demo command given files = λ nothing. refl
-applet_idle rooted idle other command given files = change_idle rooted idle command files given.chosen given.clash (changed command (reads_in files) files given.chosen given.clash) refl
+applet_idle rooted idle other command given files = change_idle rooted idle command files given.chosen given.clash (change_of_command command (reads_in files) files given.chosen given.clash) refl
 
 pub over_idle : HaveRoot → HaveIdle → (command : CommandLine) (files : Files) (o : Outcome) → IsOutcomeOver command files o → o.commits ≡ false → o.files ≡ files
 over_idle rooted idle command files o (given, are, is) nothing =

@@ -20,15 +20,15 @@ use Rattle.engine_core.specs.Changed.{Selected, change_of_selected}
 use Rattle.engine_core.specs.InfoTold.{info_told}
 use Rattle.installed_info.specs.Info.{info_of}
 use Rattle.installed_info.specs.Refusals.{IsOfAnOperand}
-use Rattle.installed_info.specs.declared.done.InfoDone.{InfoDone}
+use Rattle.installed_info.specs.declared.telling.InfoDone.{InfoDone}
 use Rattle.make_info.specs.Output.{output_name}
 use Rattle.make_info.specs.Reads.{Reads as Reading}
 use Rattle.make_info.specs.declared.fault.MakeFault.{MakeFault}
 use Rattle.make_info.specs.declared.fault.MakeFault.TheVariants.{FileMissing as NoFile, FileBad as BadFile, InfoBad as BadInfo, TooLarge, Disk, Memory}
 use Rattle.report_core.specs.declared.refusal.Refusal.{Refusal}
 use Rattle.report_core.specs.declared.refusal.Refusal.TheVariants.{DatabaseBad, IntentBad, Reserved, Unsatisfied}
-use Rattle.v2_core.specs.declared.fault.V2Fault.{V2Fault}
-use Rattle.v2_core.specs.declared.fault.V2Fault.TheVariants.{Bad, TooLarge as TextTooLarge, Memory as NoMemory}
+use Rattle.v2_core.specs.declared.read.V2Fault.{V2Fault}
+use Rattle.v2_core.specs.declared.read.V2Fault.TheVariants.{Bad, TooLarge as TextTooLarge, Memory as NoMemory}
 use Rattle.words_core.specs.Grammar.{command_of}
 use Rattle.outcome.specs.ChangeEnd.{IsChangeEnd, IsEndBy, is_input_refusal, is_package_refusal}
 use Rattle.outcome.specs.Commands.{IsOutcomeOf, IsOutcomeOver, IsOutcomeUnless, applet_outcome, reads_in}

@@ -7,7 +7,7 @@ use Rattle.change_inputs.specs.Inputs.{Inputs}
 use Rattle.change_outcome.specs.ChangeOutcome.{ChangeDone, ChangeWishes, IsClashOfChange, change_or_refusal}
 use Rattle.command_core.specs.Command.{CommandLine}
 use Rattle.command_core.specs.declared.command.Applet.{Applet}
-use Rattle.engine_core.specs.Changed.{IsClashFor, IsClashOfSelected, IsClashUnlessSimulated, Selected, change_of_selected, changed, selected_for, simulated_change}
+use Rattle.engine_core.specs.Changed.{IsClashFor, IsClashOfSelected, IsClashUnlessSimulated, Selected, change_of_selected, change_of_command, selected_for, simulated_change}
 use Rattle.engine_core.specs.Wishes.{wishes_of}
 use Rattle.journal_core.specs.Recovery.{Intent, intent_at, intent_name, is_staged, recovered_files, recovered_files_by}
 use Rattle.journal_core.specs.Staged.{HasRoomToReplay, HasRoomToStage, unstaged_files}
@@ -54,14 +54,14 @@ module _ (room : KeepsRoom) (gone : BringsNoIntent) where
       (gone s.inputs s.replacement (wishes_of command) read clash files done is absent, room s.inputs s.replacement (wishes_of command) read clash files done is is_clash stage)
 
   changed_room : (command : CommandLine) (read : Reads) (files : Files) (chosen : Option (List ℕ)) (clash : Option NamePair) (done : ChangeDone)
-      → IsClashFor command read files chosen clash → changed command read files chosen clash ≡ Ok done → HasRoomNow files → HasRoomNow done.files
-  unfolding changed
+      → IsClashFor command read files chosen clash → change_of_command command read files chosen clash ≡ Ok done → HasRoomNow files → HasRoomNow done.files
+  unfolding change_of_command
   changed_room command read files chosen clash done is_clash is now =
       let (s, selected, rest) = chain_ok (selected_for command read chosen) (change_of_selected command read files clash) done is in
       selected_room command read files clash s done command.flags.simulate rest (subst (λ (r : Result Selected Refusal). IsClashOfSelected command read files r clash) selected is_clash) now
 
   change_room : (command : CommandLine) (files : Files) (chosen : Option (List ℕ)) (clash : Option NamePair) (result : Result ChangeDone Refusal)
-      → changed command (reads_in files) files chosen clash ≡ result → IsClashFor command (reads_in files) files chosen clash
+      → change_of_command command (reads_in files) files chosen clash ≡ result → IsClashFor command (reads_in files) files chosen clash
       → (change_outcome files result).refusal ≡ None → HasRoomNow files → HasRoomNow (change_outcome files result).files
   change_room command files chosen clash (Ok done) is is_clash unrefused now = changed_room command (reads_in files) files chosen clash done is_clash is now
   change_room command files chosen clash (Err refusal) is is_clash unrefused now = absurd (cc (unrefused))
@@ -72,7 +72,7 @@ module _ (room : KeepsRoom) (gone : BringsNoIntent) where
       → HasRoomNow (applet_outcome applet command given (reads_in files) files).files
   applet_room applet command given files changes is_clash =
       subst (λ (o : Outcome). o.refusal ≡ None → HasRoomNow files → HasRoomNow o.files) (change_is applet command given (reads_in files) files changes)
-      (change_room command files given.chosen given.clash (changed command (reads_in files) files given.chosen given.clash) refl
+      (change_room command files given.chosen given.clash (change_of_command command (reads_in files) files given.chosen given.clash) refl
       (subst (λ (e : Effect). IsClashBy e command (reads_in files) files given.chosen given.clash) changes is_clash))
 
   over_room : (command : CommandLine) (files : Files) (o : Outcome) → effect_of command.applet ≡ Changes → IsOutcomeOver command files o → o.refusal ≡ None → HasRoomNow files → HasRoomNow o.files

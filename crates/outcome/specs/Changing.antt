@@ -3,7 +3,7 @@ use Rattle.std.specs.Prelude.{ℕ, List, Option, Result, Ok, Err}
 use Rattle.base_core.specs.Files.{Files}
 use Rattle.change_outcome.specs.ChangeOutcome.{ChangeDone}
 use Rattle.command_core.specs.Command.{CommandLine}
-use Rattle.engine_core.specs.Changed.{changed}
+use Rattle.engine_core.specs.Changed.{change_of_command}
 use Rattle.make_info.specs.Reads.{Reads}
 use Rattle.path_clashes.specs.Clash.{NamePair}
 use Rattle.report_core.specs.declared.refusal.Refusal.{Refusal}
@@ -19,4 +19,4 @@ change_outcome files (Err refusal) = just_refusal files refusal
 -- names, if there is one
 abbrev pub change : Reads → Files → CommandLine → Option (List ℕ) → Option NamePair → Outcome
 change read files command chosen clash =
-    change_outcome files (changed command read files chosen clash)
+    change_outcome files (change_of_command command read files chosen clash)

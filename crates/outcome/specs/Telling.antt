@@ -3,7 +3,7 @@ use Rattle.std.specs.Prelude.{Result, Ok, Err}
 use Rattle.base_core.specs.Files.{Files}
 use Rattle.command_core.specs.Command.{CommandLine}
 use Rattle.engine_core.specs.InfoTold.{info_told}
-use Rattle.installed_info.specs.declared.done.InfoDone.{InfoDone}
+use Rattle.installed_info.specs.declared.telling.InfoDone.{InfoDone}
 use Rattle.make_info.specs.Reads.{Reads}
 use Rattle.report_core.specs.declared.refusal.Refusal.{Refusal}
 use Rattle.outcome.specs.Outcome.{Outcome, just_refusal, outcome_of}

@@ -32,6 +32,7 @@ verify_refusal read n (o ∷ operands) =
 abbrev pub sound_line : List ℕ → List ℕ
 sound_line file = file ++ codes ": OK\n"
 
+-- a line for each file that passed
 abbrev pub sound_lines : List Operand → List ℕ
 sound_lines [] = []
 sound_lines (o ∷ operands) = sound_line (without_dot o.text) ++ sound_lines operands

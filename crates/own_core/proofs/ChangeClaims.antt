@@ -16,7 +16,7 @@ use Rattle.path_claims.specs.declared.claim.Claim.{Claim}
 use Rattle.path_claims.proofs.ClaimOrder.{claims_total}
 use Rattle.path_claims.proofs.Places.{map_len, seen_at}
 use Rattle.file_guard.specs.Listed.{IsOfEntry}
-use Rattle.file_guard.specs.declared.listed.ListedFile.{ListedFile}
+use Rattle.file_guard.specs.declared.compare.ListedFile.{ListedFile}
 use Rattle.file_owners.specs.Owners.{claims_in}
 use Rattle.change_files.specs.FileChange.{is_claimed, old_entry, old_listings}
 use Rattle.own_core.specs.ClaimEntries.{claim_entry, members_before}

@@ -8,7 +8,7 @@ use Rattle.path_claims.specs.Claims.{PathClaim}
 use Rattle.file_guard.specs.AsListed.{is_as_listed, is_as_listed_by}
 use Rattle.file_guard.specs.Listed.{IsOfEntry, comparison_of, is_as_told}
 use Rattle.file_guard.specs.declared.compare.Comparison.{Comparison}
-use Rattle.file_guard.specs.declared.listed.ListedFile.{ListedFile}
+use Rattle.file_guard.specs.declared.compare.ListedFile.{ListedFile}
 use Rattle.change_files.specs.Fate as Fates
 use Rattle.change_files.specs.Fate.{fate_beside, fate_by, goes_in, is_as_old, is_guarded}
 use Rattle.change_files.specs.FileChange.{FileChange, old_entry}

@@ -8,7 +8,7 @@ use Rattle.std.specs.Ordering.{is_lt}
 use Rattle.std.specs.declared.cmp.Ordering.{Ordering}
 use Rattle.base_core.specs.Name.{IsName}
 use Rattle.base_core.proofs.Rising as Names
-use Rattle.list_order.specs.ByteOrder.{bytes_cmp, smallest}
+use Rattle.list_order.specs.ByteOrder.{bytes_cmp, smallest_text}
 use Rattle.list_order.specs.Sorted.{sorted_by}
 use Rattle.list_order.proofs.Smallest.{smallest_first}
 use Rattle.list_order.proofs.Sorting.{Each, Rises, one_order, ranks, rises_in_order, sort_seen, sorted_up, stable, stable_in_order}
@@ -69,7 +69,7 @@ first_path : (cs : List PathClaim) → slice_get (map (λ c. c.path) cs) 0 ≡ o
 first_path [] = refl
 first_path (c ∷ cs) = refl
 
-pub first_kept : (p : PathClaim → Bool) (cs : List PathClaim) → option_map (λ c. c.path) (find p (sorted_by claim_cmp cs)) ≡ smallest (map (λ c. c.path) (filter p cs))
+pub first_kept : (p : PathClaim → Bool) (cs : List PathClaim) → option_map (λ c. c.path) (find p (sorted_by claim_cmp cs)) ≡ smallest_text (map (λ c. c.path) (filter p cs))
 first_kept p cs =
     ap (option_map (λ c. c.path)) (found_first p (sorted_by claim_cmp cs) ∙ ap first_of (kept_sorted claim_cmp claims_total p cs))
     ∙ (sym (first_path (sorted_by claim_cmp (filter p cs)))
@@ -97,7 +97,7 @@ pub reserved_is : (members : List Member) (cs : List PathClaim) → cs ≡ sorte
 unfolding claims_in first_reserved
 reserved_is members cs e =
     ap (λ xs. option_map (λ c. c.path) (find (is_reserved_coming members) xs)) e
-    ∙ (first_kept (is_reserved_coming members) (claims_from 0 (member_listings members)) ∙ ap smallest (reserved_listings members 0 (member_listings members) (each_placed members)))
+    ∙ (first_kept (is_reserved_coming members) (claims_from 0 (member_listings members)) ∙ ap smallest_text (reserved_listings members 0 (member_listings members) (each_placed members)))
 
 -- the search claim by claim
 found_none_here : (p : PathClaim → Bool) (cs : List PathClaim) (i : ℕ) (c : PathClaim) → slice_get cs i ≡ Some c → find p (take i cs) ≡ None → p c ≡ true → find p cs ≡ Some c

@@ -2,6 +2,7 @@
 use Rattle.std.specs.Prelude.{◌≡◌, ℕ, ◌-◌, ◌<◌, ◌≤◌, Bool, false, ◌&&◌, List, map, Option, Some, None, slice_get}
 use Rattle.base_core.specs.Name.{IsName}
 use Rattle.adb_view.specs.Plain.{Plain, null}
+use Rattle.adb_tables.specs.FieldIndexes.{DIR_FILES, PACKAGE_PATHS}
 use Rattle.adb_tables.specs.Values.{count_of, entries_in, entry_in}
 use Rattle.adb_rules.specs.Reserved.{is_reserved}
 use Rattle.db_core.specs.Members.{Member, is_coming, staying_member}
@@ -15,19 +16,21 @@ use Rattle.change_files.specs.FileChange.{FileChange}
 
 -- a file of folders, by their positions, which count from 1
 abbrev pub listed_file_at : Plain → ℕ → ℕ → Plain
-listed_file_at folders folder file = entry_in (entry_in (entry_in folders (folder - 1)) 2) (file - 1)
+listed_file_at folders folder file =
+    entry_in (entry_in (entry_in folders (folder - 1)) DIR_FILES) (file - 1)
 
+-- folders have a file with these positions, which count from 1
 pub record HasFileAt (folders : Plain) (folder file : ℕ) : Type 0 where
   pub folder_low : 0 < folder
   pub folder_high : folder ≤ count_of (entries_in folders)
   pub file_low : 0 < file
-  pub file_high : file ≤ count_of (entries_in (entry_in (entry_in folders (folder - 1)) 2))
+  pub file_high : file ≤ count_of (entries_in (entry_in (entry_in folders (folder - 1)) DIR_FILES))
 
 -- ---- claims
 
 abbrev pub folders_if_any : Option Member → Plain
 folders_if_any None = null
-folders_if_any (Some m) = entry_in m.pkg 1
+folders_if_any (Some m) = entry_in m.pkg PACKAGE_PATHS
 
 -- the entry of the file that a claim speaks of
 unfoldable pub claim_entry : List Member → PathClaim → Plain
@@ -37,7 +40,7 @@ claim_entry members c = listed_file_at (folders_if_any (slice_get members c.memb
 pub record IsClaimOf (members : List Member) (c : PathClaim) : Type 0 where
   pub member : Member
   pub at : slice_get members c.member ≡ Some member
-  pub place : HasFileAt (entry_in member.pkg 1) c.folder c.file
+  pub place : HasFileAt (entry_in member.pkg PACKAGE_PATHS) c.folder c.file
   pub name : IsName c.path
 
 abbrev pub AreClaimsOf : List Member → List PathClaim → Type 0

@@ -3,7 +3,7 @@ use Rattle.std.specs.Prelude.{ℕ, Bool, true, false, not, ◌&&◌, nat_le, Lis
 use Rattle.adb_view.specs.Plain.{Plain}
 use Rattle.path_claims.specs.Claims.{PathClaim}
 use Rattle.file_guard.specs.Listed.{IsOfEntry}
-use Rattle.file_guard.specs.declared.listed.ListedFile.{ListedFile}
+use Rattle.file_guard.specs.declared.compare.ListedFile.{ListedFile}
 use Rattle.change_files.specs.Fate as Fates
 use Rattle.change_files.specs.Fate.{aside_name, fate_by, gives_way, goes_aside, goes_in}
 use Rattle.change_files.specs.FileChange.{FileChange, is_claimed}
@@ -11,6 +11,7 @@ use Rattle.own_core.specs.ClaimEntries.{claim_entry}
 use Rattle.own_core.specs.declared.fate.Fate.{Fate}
 use Rattle.own_core.specs.declared.fate.Fate.TheVariants.{GivesWay, GoesAside, GoesIn}
 
+-- what contracts see in a fate
 abbrev pub fate_seen : Fate → Fates.Fate
 fate_seen GoesIn = goes_in
 fate_seen GivesWay = gives_way

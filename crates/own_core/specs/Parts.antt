@@ -19,6 +19,7 @@ use Rattle.own_core.specs.Sides.{claims_after, claims_before, file_change_of}
 use Rattle.own_core.specs.declared.change.Change.{Change}
 use Rattle.own_core.specs.declared.planning.Parts.{Parts}
 
+-- the claims of files that go in, of those laid beside, and of paths removed and kept
 abbrev pub ins_of : Parts → List PathClaim
 ins_of parts = map claim_seen parts.ins.items
 

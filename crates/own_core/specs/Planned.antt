@@ -24,6 +24,7 @@ use Rattle.own_core.specs.declared.fault.PlanFault.{PlanFault}
 use Rattle.own_core.specs.declared.fault.PlanFault.TheVariants.{Disk, Memory, Owned, PathClash, Reserved}
 use Rattle.own_core.specs.declared.planning.FilePlan.{FilePlan}
 
+-- the change of files between a database and some members
 abbrev pub change_by : Db → Members → Bool → FileChange
 change_by old after purge =
     record { old = packages_of old; members = members_of after; purge = purge }
@@ -75,6 +76,7 @@ pub record IsOfComingFile (members : List Member) (w : FileWrite) : Type 0 where
   pub comes : is_coming member ≡ true
   pub place : HasFileAt (entry_in member.pkg 1) w.folder w.file
 
+-- each file that is written is one of a member that comes
 abbrev pub HasSources : List Member → FilePlan → Type 0
 HasSources members plan = All (IsOfComingFile members) (writes_in plan.writes)
 

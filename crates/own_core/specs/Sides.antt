@@ -10,6 +10,7 @@ use Rattle.change_files.specs.FileChange.{FileChange}
 use Rattle.own_core.specs.ClaimEntries.{AreClaimsOf, members_before}
 use Rattle.own_core.specs.declared.change.Change.{Change}
 
+-- the change of files that both sides come to
 abbrev pub file_change_of : Change → FileChange
 file_change_of c =
     record { old = packages_of c.db.now; members = members_of c.members.now; purge = c.purge }

@@ -10,6 +10,7 @@ use Rattle.change_files.specs.PlanLists.{FileWrite}
 use Rattle.own_core.specs.declared.writes.Write.{Write}
 use Rattle.own_core.specs.declared.writes.Writes.{Writes}
 
+-- what contracts see in a write
 abbrev pub write_seen : Write → FileWrite
 write_seen w = record { name = w.name; member = w.member; folder = w.path; file = w.file }
 

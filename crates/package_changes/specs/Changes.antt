@@ -4,6 +4,7 @@ use Rattle.std.specs.List.{filter_map, find, list_any}
 use Rattle.std.specs.declared.cmp.Ordering.{Ordering}
 use Rattle.std.specs.declared.cmp.Ordering.TheVariants.{Less, Equal, Greater}
 use Rattle.adb_view.specs.Plain.{Plain}
+use Rattle.adb_tables.specs.FieldIndexes.{INFO_HASHES, INFO_VERSION, PACKAGE_INFO}
 use Rattle.adb_tables.specs.Values.{entry_in, text_in}
 use Rattle.adb_fields.specs.Repeated.{package_name}
 use Rattle.db_core.specs.Packages.{is_package_named}
@@ -20,11 +21,12 @@ pub record Replacement : Type 0 where
   pub selected : List Candidate
   pub again : List (List ℕ)
 
+-- the id of an installed package: its information keeps it in the field hashes
 abbrev pub installed_id : Plain → List ℕ
-installed_id pkg = text_in (entry_in (entry_in pkg 0) 2)
+installed_id pkg = text_in (entry_in (entry_in pkg PACKAGE_INFO) INFO_HASHES)
 
 abbrev pub selected_version : Candidate → List ℕ
-selected_version c = text_in (entry_in c.info 1)
+selected_version c = text_in (entry_in c.info INFO_VERSION)
 
 abbrev pub is_selected_named : List ℕ → Candidate → Bool
 is_selected_named name c = bytes_eq c.name name
@@ -55,6 +57,7 @@ unless_same name pkg c is_same is_again =
     (version_text_cmp (version_text pkg) (selected_version c)))
     else if is_again then Some (Reinstall name (selected_version c)) else None
 
+-- what becomes of a name, by the package before and the candidate selected
 abbrev pub change_between : Bool → List ℕ → Option Plain → Option Candidate → Option Change
 change_between is_again name None None = None
 change_between is_again name None (Some c) = Some (Install name (selected_version c))

@@ -137,7 +137,7 @@ fn push_line_of(
     match pool.at(id) {
         None => Ok(()),
         Some(details) => {
-            push_line_if_named(alloc, report, pool, trace, details, name)?;
+            push_line_if_named(alloc, report, pool, trace, &details, name)?;
             Ok(())
         }
     }
@@ -210,7 +210,7 @@ fn push_name_in_need<'a>(
     match pool.at(id) {
         None => Ok(()),
         Some(details) => {
-            push_name_if(names, details.name(), is_in_need(needed, details))?;
+            push_name_if(names, details.name(), is_in_need(needed, &details))?;
             Ok(())
         }
     }

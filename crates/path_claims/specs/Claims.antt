@@ -55,6 +55,7 @@ pub record ContestedPath : Type 0 where
   pub path : List ℕ
   pub rivals : Rivals
 
+-- the path with its first rivals, if no member owns it
 abbrev pub contested_at : (ℕ → ℕ → Bool) → List PathClaim → List ℕ → Option ContestedPath
 contested_at beats claims path =
     option_map (λ rivals. record { path = path; rivals = rivals })

@@ -7,6 +7,7 @@ use Rattle.path_claims.specs.declared.contest.Rivals.{Rivals}
 abbrev pub beats_each : (ℕ → ℕ → Bool) → List ℕ → ℕ → Bool
 beats_each beats members x = list_all (λ y. (x == y) || beats x y) members
 
+-- the member that beats each other one
 unfoldable pub winner : (ℕ → ℕ → Bool) → List ℕ → Option ℕ
 winner beats members = find (beats_each beats members) members
 

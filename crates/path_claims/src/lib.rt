@@ -7,10 +7,8 @@
 
 mod claim;
 mod contest;
-mod laws;
 mod owner;
 
 pub use claim::{Claim, begins_path, run_at, sort_claims};
 pub use contest::{Contest, Rivals};
-pub use laws::a_path_has_one_owner;
-pub use owner::{Contested, Owners, owners_of};
+pub use owner::{Contested, Owners, a_path_has_one_owner, owners_of};

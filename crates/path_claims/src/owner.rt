@@ -1,14 +1,14 @@
 //! The owner of each path, and which claims are their owner's.
 
-ghost use Rattle.std.specs.Prelude.{◌≡◌, ◌+◌, ◌<◌, ℕ, Bool, Option, Some, true, IfOk, is_none, length, map, option_and_then, option_map, slice_get};
+ghost use Rattle.std.specs.Prelude.{◌≡◌, ◌+◌, ◌<◌, ℕ, Bool, Option, Some, true, IfOk, is_none, length, map, option_and_then, option_map, slice_get, ◌==◌, List};
 ghost use Rattle.std.specs.List.Sorted.{IsSorted};
 ghost use Rattle.list_order.specs.Sorted.{sorted_by};
 ghost use Rattle.path_claims.specs.Claims.{AreNumbered, PathClaim, claim_cmp, contested_at, contested_by, is_member, is_owner_by, owner_by};
-ghost use Rattle.path_claims.specs.Contest.{IsOneWay};
+ghost use Rattle.path_claims.specs.Contest.{IsOneWay, beats_each};
 ghost use Rattle.path_claims.specs.Runs.{is_first_of_path};
 ghost use Rattle.path_claims.specs.Seen.{claim_seen};
 ghost use Rattle.path_claims.specs.ContestedSeen.{contested_seen};
-ghost use Rattle.std.specs.List.{find};
+ghost use Rattle.std.specs.List.{find, list_any};
 
 use crate::claim::{Claim, begins_path, run_at, sort_claims};
 use crate::contest::{Contest, Rivals, first_rivals, winner};
@@ -214,3 +214,10 @@ pub fn owners_of<'a, C: Contest>(
         contested,
     })
 }
+
+/// Two members that claim a path, each of which beats every other one, are one member.
+pub fn a_path_has_one_owner()
+    ensures { (beats : ℕ → ℕ → Bool) (members : List ℕ) (x y : ℕ) → IsOneWay beats
+        → list_any (λ z. x == z) members ≡ true → list_any (λ z. y == z) members ≡ true
+        → beats_each beats members x ≡ true → beats_each beats members y ≡ true → x ≡ y }
+{}

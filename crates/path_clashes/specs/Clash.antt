@@ -13,6 +13,7 @@ abbrev pub is_name_after : NameChange → Files → List ℕ → Bool
 is_name_after change files name =
     (is_some (files name) && not (change.lets_go name)) || change.counts_as_written name
 
+-- two names, of which the first would be a folder of the second
 pub record NamePair : Type 0 where
   pub path : List ℕ
   pub other : List ℕ

@@ -1,21 +1,20 @@
-//! The first clash of a change.
+//! The first clash of a change, which says under which names it lets a file go.
 
-ghost use Rattle.std.specs.Prelude.{◌≡◌, ◌<◌, ◌≤◌, ℕ, List, true, IfOk, All, length, map, option_map, take};
+ghost use Rattle.std.specs.Prelude.{◌≡◌, ◌<◌, ◌≤◌, ℕ, List, true, IfOk, All, length, map, option_map, take, Bool, Option, IsSome};
 ghost use Rattle.std.specs.List.Sorted.{IsSorted};
 ghost use Rattle.adb_fields.specs.JoinedPath.{joined_path};
 ghost use Rattle.base_core.specs.Calls.{IfObservable};
-ghost use Rattle.base_core.specs.Files.{IsFolderOf};
+ghost use Rattle.base_core.specs.Files.{IsFolderOf, Files, IsFolderLike, NameMap};
 ghost use Rattle.base_core.specs.Name.{IsName};
 ghost use Rattle.base_core.specs.Read.{OnlyReads};
 ghost use Rattle.base_core.specs.Tree.{files_of};
 ghost use Rattle.list_order.specs.ByteOrder.{bytes_cmp};
-ghost use Rattle.path_clashes.specs.Clash.{precedes_pair};
+ghost use Rattle.path_clashes.specs.Clash.{precedes_pair, HasNoClash, NameChange, NamePair, is_name_after};
 ghost use Rattle.path_clashes.specs.ClashSeen.{clash_seen};
 ghost use Rattle.path_clashes.specs.FirstClash.{IsClashOf, MayBeClashOf};
 ghost use Rattle.path_clashes.specs.NearName.{IsClashNear, MayBeClashNear, earlier_pair};
 ghost use Rattle.path_clashes.specs.WrittenPaths.{change_by_paths, is_path_of};
 
-use crate::let_go::LetGo;
 use crate::near::{first_below, first_folder};
 use adb_fields::FilePath;
 use base_core::{Name, Tree, TreeFault};
@@ -155,3 +154,38 @@ pub fn first_clash<T: Tree, G: LetGo>(
     }
     Ok(first)
 }
+
+/// Which files a change lets go of, by their names.
+pub trait LetGo {
+    ghost lets_go: { Self → List ℕ → Bool };
+
+    /// Whether a file under this name goes.
+    fn lets_go(&self, name: &[u8]) -> bool
+        ensures { result ≡ Self.lets_go self.now name.now };
+}
+
+/// Where a change has no clash, none of the names that are there after it is a folder of another.
+pub fn files_without_a_clash_are_folder_like()
+    ensures files { (change : NameChange) (files after : Files) → IsFolderLike files
+        → HasNoClash change files
+        → ((name : List ℕ) → IsSome (after name) → is_name_after change files name ≡ true)
+        → IsFolderLike after }
+    ensures names { (change : NameChange) (files : Files) (after : NameMap) → IsFolderLike files
+        → HasNoClash change files
+        → ((name : List ℕ) → IsSome (after name) → is_name_after change files name ≡ true)
+        → IsFolderLike after }
+{}
+
+/// A change has one first clash, or none.
+pub fn a_change_has_one_first_clash()
+    ensures { (change : NameChange) (files : Files) (one other : Option NamePair)
+        → IsClashOf change files one → IsClashOf change files other → one ≡ other }
+{}
+
+/// Changes that say the same of each name have the same first clash.
+pub fn changes_that_agree_clash_alike()
+    ensures { (one other : NameChange) (files : Files) (found : Option NamePair)
+        → ((name : List ℕ) → one.counts_as_written name ≡ other.counts_as_written name)
+        → ((name : List ℕ) → one.lets_go name ≡ other.lets_go name)
+        → IsClashOf one files found → IsClashOf other files found }
+{}

@@ -6,13 +6,9 @@
 #![tactic(auto)]
 
 mod clash;
-mod laws;
-mod let_go;
 mod near;
 
-pub use clash::{Clash, first_clash};
-pub use laws::{
-    a_change_has_one_first_clash, changes_that_agree_clash_alike,
-    files_without_a_clash_are_folder_like,
+pub use clash::{
+    Clash, LetGo, a_change_has_one_first_clash, changes_that_agree_clash_alike,
+    files_without_a_clash_are_folder_like, first_clash,
 };
-pub use let_go::LetGo;

@@ -13,7 +13,7 @@ ghost use Rattle.path_clashes.specs.Clash.{is_name_after};
 ghost use Rattle.path_clashes.specs.NearName.{IsFolderFound, IsNameFound, files_with, is_standing, name_if};
 ghost use Rattle.path_clashes.specs.WrittenPaths.{change_by_paths, is_path_of};
 
-use crate::let_go::LetGo;
+use crate::clash::LetGo;
 use adb_fields::FilePath;
 use base_core::{Name, Names, Tree, TreeFault};
 use std::alloc::{AllocError, Global};

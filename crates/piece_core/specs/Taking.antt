@@ -6,8 +6,8 @@ use Rattle.pkg_core.specs.Opened.{expected_of}
 use Rattle.piece_core.specs.Hashing.{HoldsFor}
 use Rattle.piece_core.specs.Pieces.{PiecesRead, piece, refusal, part_of, pieces_from, whole_pieces}
 use Rattle.piece_core.specs.declared.file.FileCheck.{FileCheck}
-use Rattle.piece_core.specs.declared.part.Part.{Part}
-use Rattle.piece_core.specs.declared.part.TheConstants.{PIECE_LEN}
+use Rattle.piece_core.specs.declared.file.Part.{Part}
+use Rattle.piece_core.specs.declared.file.TheConstants.{PIECE_LEN}
 
 -- how many bytes are still to be handed in
 abbrev pub file_bytes_left : FileCheck → ℕ

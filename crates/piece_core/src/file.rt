@@ -1,14 +1,15 @@
-//! A file of a package whose contents are handed in piece by piece.
+//! A file of a package whose contents are handed in piece by piece, and what each piece is a part
+//! of.
 
 ghost use Rattle.std.specs.Prelude.{◌≡◌, ◌<◌, ◌≤◌, ◌+◌, ◌-◌, ℕ, List, [], ◌∷◌, ◌++◌, length, take, None, IfNone, IfOk, IfSome};
 ghost use Rattle.adb_schema.specs.Soundness.{file_pair};
-ghost use Rattle.pkg_core.specs.Contents.{Expected, contents_bytes};
+ghost use Rattle.pkg_core.specs.Contents.{Expected, contents_bytes, files_by_blocks};
 ghost use Rattle.pkg_core.specs.Opened.{expected_of, left_in};
-ghost use Rattle.piece_core.specs.Pieces.{PiecesRead, part_of, pieces_of_payload, position_or_size_fault};
+ghost use Rattle.piece_core.specs.Pieces.{PiecesRead, part_of, pieces_of_payload, position_or_size_fault, files_joined, pieces_by_blocks};
 ghost use Rattle.piece_core.specs.Taking.{HasTaken, IsOpened, IsPartOf, IsTaken, IsTested, file_bytes_left, next_len};
+ghost use Rattle.adb_block.specs.Reading.{Reading};
 
 use crate::hasher::Hasher;
-use crate::part::{PIECE_LEN, Part};
 use adb_schema::file_pair;
 use base_core::Cause;
 use pkg_core::{Walk, Wanted};
@@ -158,3 +159,22 @@ fn position_or_size_fault(found: (u32, u32), size: u64, wanted: Wanted<'_>) -> O
     }
     None
 }
+
+/// How many bytes a piece has at most.
+pub const PIECE_LEN: usize = 65536;
+
+/// Which file a piece is a part of, by the position of its folder and its position in the folder,
+/// which count from 1, and whether it is the last piece of the file.
+#[derive(Clone, Copy, Debug, PartialEq, Eq)]
+pub struct Part {
+    pub path: u32,
+    pub file: u32,
+    pub last: bool,
+}
+
+/// The pieces of each file, joined in order, are its contents, and the first failed test is the
+/// same: what the blocks give in pieces is what they give as whole files.
+pub fn the_pieces_of_each_file_joined_are_its_contents()
+    ensures { (expected : List Expected) (r : Reading)
+        → files_joined (pieces_by_blocks expected r) [] ≡ files_by_blocks expected r }
+{}

@@ -17,8 +17,8 @@ use Rattle.piece_core.specs.declared.place.BlockPlace.{BlockPlace}
 use Rattle.adb_block.proofs.Runs.{reading_failed}
 use Rattle.piece_reader.specs.Blocks.{IsBlockRead, IsInBlock, SeesPositions, head_size}
 use Rattle.piece_reader.specs.declared.block.BlockRead.{BlockRead}
-use Rattle.piece_reader.specs.declared.fault.PieceFault.{PieceFault}
-use Rattle.piece_reader.specs.declared.fault.PieceFault.TheVariants.{Bad, Disk}
+use Rattle.piece_reader.specs.declared.piece.PieceFault.{PieceFault}
+use Rattle.piece_reader.specs.declared.piece.PieceFault.TheVariants.{Bad, Disk}
 
 -- ---- the positions
 

@@ -16,8 +16,8 @@ use Rattle.piece_reader.specs.Opened.{IsOpenFile}
 use Rattle.piece_reader.specs.Readers.{IsFileFound}
 use Rattle.piece_reader.specs.declared.block.BlockStep.{BlockStep}
 use Rattle.piece_reader.specs.declared.block.BlockStep.TheVariants.{End, Opened, Passed}
-use Rattle.piece_reader.specs.declared.fault.PieceFault.{PieceFault}
-use Rattle.piece_reader.specs.declared.fault.PieceFault.TheVariants.{Bad, Disk}
+use Rattle.piece_reader.specs.declared.piece.PieceFault.{PieceFault}
+use Rattle.piece_reader.specs.declared.piece.PieceFault.TheVariants.{Bad, Disk}
 use Rattle.piece_reader.specs.declared.open.OpenFile.{OpenFile}
 use Rattle.piece_reader.proofs.BlockSeen.{not_ok, nothing_seen}
 

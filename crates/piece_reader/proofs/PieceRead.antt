@@ -7,10 +7,10 @@ use Rattle.pkg_pieces.proofs.SeenBytes.{drop_further, take_more}
 use Rattle.piece_core.specs.Pieces.{PiecesRead}
 use Rattle.piece_core.specs.Taking.{IsTaken, file_bytes_left, pieces_in}
 use Rattle.piece_core.specs.declared.file.FileCheck.{FileCheck}
-use Rattle.piece_core.specs.declared.part.Part.{Part}
+use Rattle.piece_core.specs.declared.file.Part.{Part}
 use Rattle.piece_reader.specs.Opened.{IsNextPiece, IsOpenFile, NotDisk, bytes_to_come}
-use Rattle.piece_reader.specs.declared.fault.PieceFault.{PieceFault}
-use Rattle.piece_reader.specs.declared.fault.PieceFault.TheVariants.{Bad, Disk}
+use Rattle.piece_reader.specs.declared.piece.PieceFault.{PieceFault}
+use Rattle.piece_reader.specs.declared.piece.PieceFault.TheVariants.{Bad, Disk}
 use Rattle.piece_reader.specs.declared.open.OpenFile.{OpenFile}
 
 -- ---- the tree failed

@@ -11,13 +11,13 @@ use Rattle.adb_block.specs.declared.block.BlockKind.{BlockKind}
 use Rattle.pkg_core.specs.Contents.{Expected}
 use Rattle.piece_core.specs.Pieces.{PiecesRead, piece, pieces_by_blocks, refusal}
 use Rattle.piece_core.specs.Taking.{file_bytes_left, next_len}
-use Rattle.piece_core.specs.declared.part.Part.{Part}
+use Rattle.piece_core.specs.declared.file.Part.{Part}
 use Rattle.piece_core.specs.Places.{pieces_at}
 use Rattle.piece_core.specs.declared.place.BlockPlace.{BlockPlace}
 use Rattle.piece_reader.specs.Opened.{IsNextPiece, IsOpenFile, IsPieceOf, NotDisk}
 use Rattle.piece_reader.specs.Readers.{AreLeft, ArePiecesFrom, IsFileOpened, IsPieceRead, IsReading, offset_in}
-use Rattle.piece_reader.specs.declared.fault.PieceFault.{PieceFault}
-use Rattle.piece_reader.specs.declared.fault.PieceFault.TheVariants.{Bad, Disk}
+use Rattle.piece_reader.specs.declared.piece.PieceFault.{PieceFault}
+use Rattle.piece_reader.specs.declared.piece.PieceFault.TheVariants.{Bad, Disk}
 use Rattle.piece_reader.specs.declared.open.OpenFile.{OpenFile}
 use Rattle.piece_reader.specs.declared.reader.Due.{Due}
 use Rattle.piece_reader.specs.declared.reader.Due.TheVariants.{Files}

@@ -12,8 +12,8 @@ use Rattle.piece_reader.specs.Opened.{IsOpenFile}
 use Rattle.piece_reader.specs.declared.block.BlockRead.{BlockRead}
 use Rattle.piece_reader.specs.declared.block.BlockStep.{BlockStep}
 use Rattle.piece_reader.specs.declared.block.BlockStep.TheVariants.{End, Passed, Opened}
-use Rattle.piece_reader.specs.declared.fault.PieceFault.{PieceFault}
-use Rattle.piece_reader.specs.declared.fault.PieceFault.TheVariants.{Bad, Disk}
+use Rattle.piece_reader.specs.declared.piece.PieceFault.{PieceFault}
+use Rattle.piece_reader.specs.declared.piece.PieceFault.TheVariants.{Bad, Disk}
 
 -- how many bytes stand in front of the payload
 abbrev pub head_size : Option Frame → ℕ

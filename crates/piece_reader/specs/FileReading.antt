@@ -5,8 +5,8 @@ use Rattle.pkg_core.specs.Contents.{Expected, hash_fault}
 use Rattle.pkg_core.specs.Opened.{expected_of}
 use Rattle.piece_core.specs.Taking.{HasTaken, file_bytes_left}
 use Rattle.piece_reader.specs.Opened.{AreToCome}
-use Rattle.piece_reader.specs.declared.fault.PieceFault.{PieceFault}
-use Rattle.piece_reader.specs.declared.fault.PieceFault.TheVariants.{Bad, Disk}
+use Rattle.piece_reader.specs.declared.piece.PieceFault.{PieceFault}
+use Rattle.piece_reader.specs.declared.piece.PieceFault.TheVariants.{Bad, Disk}
 use Rattle.piece_reader.specs.declared.one_file.FilePieces.{FilePieces}
 use Rattle.piece_reader.specs.declared.open.OpenFile.{OpenFile}
 

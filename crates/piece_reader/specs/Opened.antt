@@ -6,9 +6,9 @@ use Rattle.pkg_core.specs.Contents.{Expected, hash_fault}
 use Rattle.pkg_core.specs.Opened.{expected_of}
 use Rattle.piece_core.specs.Pieces.{PiecesRead, part_of, piece, refusal}
 use Rattle.piece_core.specs.Taking.{HasTaken, file_bytes_left, pieces_in}
-use Rattle.piece_core.specs.declared.part.Part.{Part}
-use Rattle.piece_reader.specs.declared.fault.PieceFault.{PieceFault}
-use Rattle.piece_reader.specs.declared.fault.PieceFault.TheVariants.{Bad, Disk}
+use Rattle.piece_core.specs.declared.file.Part.{Part}
+use Rattle.piece_reader.specs.declared.piece.PieceFault.{PieceFault}
+use Rattle.piece_reader.specs.declared.piece.PieceFault.TheVariants.{Bad, Disk}
 use Rattle.piece_reader.specs.declared.open.OpenFile.{OpenFile}
 
 -- the bytes of the file that are still to come

@@ -6,12 +6,12 @@ use Rattle.pkg_core.specs.Opened.{expected_of, left_in}
 use Rattle.pkg_core.specs.declared.walk.Walk.{Walk}
 use Rattle.piece_core.specs.Pieces.{PiecesRead, no_piece, part_of, piece, refusal}
 use Rattle.piece_core.specs.Places.{pieces_at}
-use Rattle.piece_core.specs.declared.part.Part.{Part}
+use Rattle.piece_core.specs.declared.file.Part.{Part}
 use Rattle.piece_core.specs.declared.place.BlockPlace.{BlockPlace}
 use Rattle.pkg_pieces.specs.Seen.{HasAt}
 use Rattle.piece_reader.specs.Opened.{IsOpenFile}
-use Rattle.piece_reader.specs.declared.fault.PieceFault.{PieceFault}
-use Rattle.piece_reader.specs.declared.fault.PieceFault.TheVariants.{Bad, Disk}
+use Rattle.piece_reader.specs.declared.piece.PieceFault.{PieceFault}
+use Rattle.piece_reader.specs.declared.piece.PieceFault.TheVariants.{Bad, Disk}
 use Rattle.piece_reader.specs.declared.open.OpenFile.{OpenFile}
 use Rattle.piece_reader.specs.declared.reader.Due.{Due}
 use Rattle.piece_reader.specs.declared.reader.Due.TheVariants.{Files, Nothing, Refused}

@@ -3,22 +3,17 @@
 //!
 //! `PieceReader` hands out the pieces of all files of a package, one after the other, into a
 //! `Piece` of up to 65,536 bytes. `FilePieces` hands out those of a single file, by the offset at
-//! which it begins. Neither takes memory. The contracts cite `Readers` (which pieces of a package are
-//! still to come), `FileReading` (which bytes of a single file), `Blocks` (what a block comes to) and
-//! `Opened` (the bytes of a file that are still to come) of `specs/`.
+//! which it begins. Neither takes memory. The contracts cite `Readers` (which pieces of a package
+//! are still to come), `FileReading` (which bytes of a single file), `Blocks` (what a block comes
+//! to) and `Opened` (the bytes of a file that are still to come) of `specs/`.
 #![tactic(auto)]
 
 mod block;
-mod fault;
-mod files;
-mod laws;
 mod one_file;
 mod open;
 mod piece;
 mod reader;
 
-pub use fault::PieceFault;
-pub use laws::the_pieces_are_refused_for_the_first_fault_of_the_blocks;
 pub use one_file::FilePieces;
-pub use piece::Piece;
-pub use reader::PieceReader;
+pub use piece::{Piece, PieceFault};
+pub use reader::{PieceReader, the_pieces_are_refused_for_the_first_fault_of_the_blocks};

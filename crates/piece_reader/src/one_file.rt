@@ -5,9 +5,8 @@ ghost use Rattle.std.specs.Prelude.{◌≡◌, ◌<◌, ◌≤◌, Some};
 ghost use Rattle.piece_reader.specs.Opened.{open_end};
 ghost use Rattle.piece_core.specs.Taking.{file_bytes_left};
 
-use crate::fault::PieceFault;
 use crate::open::{OpenFile, open_at};
-use crate::piece::Piece;
+use crate::piece::{Piece, PieceFault};
 use base_core::{Cause, Name, Tree};
 use pkg_core::{Wanted, wanted_file};
 use pkg_pieces::Contents;
@@ -40,7 +39,7 @@ impl<'a> FilePieces<'a> {
     ghost use Rattle.pkg_pieces.specs.Values.{value_of_contents};
     ghost use Rattle.piece_reader.specs.FileReading.{ComesBehind, GivesBytes, HasFewerLeft, HasRefusedFile, HaveCome, IsFileReading, bytes_left_of, file_due, kept_fault, len_around_file, package_of_file};
     ghost use Rattle.piece_reader.specs.Opened.{place_fault};
-    ghost use Rattle.piece_reader.specs.declared.fault.PieceFault.TheVariants.{Bad, Disk as DiskFault};
+    ghost use Rattle.piece_reader.specs.declared.piece.PieceFault.TheVariants.{Bad, Disk as DiskFault};
 
     /// The file with these positions, which begins at this offset in the package of this name and
     /// with so many bytes and these values. No piece comes where it has no contents. Where it has

@@ -8,10 +8,9 @@ ghost use Rattle.pkg_core.specs.Contents.{hash_fault};
 ghost use Rattle.pkg_core.specs.Opened.{expected_of};
 ghost use Rattle.pkg_pieces.specs.Seen.{HasAt, IsSeen, ReadsFile};
 ghost use Rattle.piece_reader.specs.Opened.{AreLeftOf, AreTestedSoFar, IsNextPiece, IsOpenFile, IsPieceOf, NotDisk, place_fault};
-ghost use Rattle.piece_reader.specs.declared.fault.PieceFault.TheVariants.{Disk as DiskFault};
+ghost use Rattle.piece_reader.specs.declared.piece.PieceFault.TheVariants.{Disk as DiskFault};
 
-use crate::fault::PieceFault;
-use crate::piece::Piece;
+use crate::piece::{Piece, PieceFault};
 use base_core::{Cause, Name, Tree};
 use piece_core::{FileCheck, Part};
 use pkg_core::Wanted;

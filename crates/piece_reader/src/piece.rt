@@ -1,13 +1,13 @@
-//! The buffer of a piece.
+//! A piece: the buffer that holds it, and why there is no next one.
 
 ghost use Rattle.std.specs.Prelude.{◌≡◌, ◌≤◌, ◌+◌, ℕ, [], length, IfErr, OnOk};
 ghost use Rattle.pkg_pieces.specs.Seen.{IsSeen, ReadsFile};
-ghost use Rattle.piece_reader.specs.declared.fault.PieceFault.TheVariants.{Disk as DiskFault};
+ghost use Rattle.piece_reader.specs.declared.piece.PieceFault.TheVariants.{Disk as DiskFault};
 
-use crate::fault::PieceFault;
-use base_core::{Name, Tree};
+use base_core::{Cause, Disk, Name, Tree};
 use piece_core::PIECE_LEN;
 use std::marker::Model;
+use thiserror::Error;
 
 /// A buffer for one piece, of up to 65,536 bytes. Contracts see the bytes that it holds.
 #[derive(Drop)]
@@ -66,5 +66,38 @@ impl Piece {
         tree.read_at(name, at, &mut self.bytes[..len])?;
         self.len = len;
         Ok(())
+    }
+}
+
+/// Why there is no next piece.
+#[derive(Clone, Copy, Debug, PartialEq, Eq, Drop, Error)]
+pub enum PieceFault {
+    /// The first test that failed.
+    #[error("bad container")]
+    Bad(Cause),
+    /// The tree failed.
+    #[error("the tree failed")]
+    Disk,
+}
+
+impl From<Cause> for PieceFault {
+    ghost use Rattle.std.specs.Prelude.{◌≡◌};
+    ghost use Rattle.piece_reader.specs.declared.piece.PieceFault.TheVariants.{Bad};
+
+    ghost from_gives = { λ cause fault. fault ≡ Bad cause };
+
+    fn from(cause: Cause) -> PieceFault {
+        PieceFault::Bad(cause)
+    }
+}
+
+impl From<Disk> for PieceFault {
+    ghost use Rattle.std.specs.Prelude.{◌≡◌};
+    ghost use Rattle.piece_reader.specs.declared.piece.PieceFault.TheVariants.{Disk as DiskFault};
+
+    ghost from_gives = { λ _ fault. fault ≡ DiskFault };
+
+    fn from(_: Disk) -> PieceFault {
+        PieceFault::Disk
     }
 }

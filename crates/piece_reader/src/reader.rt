@@ -1,13 +1,15 @@
 //! A reader of the pieces of a package's files, one after the other.
 
 ghost use Rattle.std.specs.Option.{ForSome};
-ghost use Rattle.std.specs.Prelude.{◌≤◌};
+ghost use Rattle.std.specs.Prelude.{◌≤◌, ◌≡◌, List};
 ghost use Rattle.piece_reader.specs.Opened.{open_end};
+ghost use Rattle.adb_block.specs.Reading.{Reading};
+ghost use Rattle.pkg_core.specs.Contents.{Expected, contents_fault};
+ghost use Rattle.piece_core.specs.Pieces.{pieces_by_blocks, refusal_in};
 
-use crate::fault::PieceFault;
-use crate::files::next_file;
+use crate::block::next_file;
 use crate::open::OpenFile;
-use crate::piece::Piece;
+use crate::piece::{Piece, PieceFault};
 use adb_block::BlockKind;
 use base_core::{Cause, Name, Tree};
 use piece_core::{BlockPlace, Part};
@@ -53,7 +55,7 @@ impl<'a> PieceReader<'a> {
     ghost use Rattle.pkg_pieces.specs.Values.{value_of_contents};
     ghost use Rattle.piece_reader.specs.Readers.{AnswersNext, ArePiecesFrom, ComesInOrder, GoesOnBehind, HasRefused, IsFileOpened, IsGoingOn, IsPieceRead, IsReading, IsStartOf, KeepsStart, OpensDue, HasPieceAt, StandsBetween, due_files, due_in, name_in_tree, offset_of, package_len, start_of_file};
     ghost use Rattle.piece_reader.specs.declared.reader.Due.TheVariants.{Files};
-    ghost use Rattle.piece_reader.specs.declared.fault.PieceFault.TheVariants.{Disk as DiskFault};
+    ghost use Rattle.piece_reader.specs.declared.piece.PieceFault.TheVariants.{Disk as DiskFault};
 
     /// A reader in front of the first piece of the package of this name, whose front and values
     /// were read.
@@ -272,3 +274,10 @@ impl<'a> PieceReader<'a> {
         Ok(Some(found))
     }
 }
+
+/// The first failed test of the pieces is that of the blocks: what `verify` of `pkg_core` refuses a
+/// package for that is held whole.
+pub fn the_pieces_are_refused_for_the_first_fault_of_the_blocks()
+    ensures { (expected : List Expected) (r : Reading)
+        → refusal_in (pieces_by_blocks expected r) ≡ contents_fault expected r }
+{}

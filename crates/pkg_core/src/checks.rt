@@ -1,19 +1,27 @@
-//! The tests of a container to its end, and the digests of contents.
+//! The tests of a container to its end, the digests of contents, and what follows of both for every
+//! package.
 
-ghost use Rattle.std.specs.Prelude.{◌≡◌, ◌≢◌, None, IfOk, IfErr, length};
+ghost use Rattle.std.specs.Prelude.{◌≡◌, ◌≢◌, None, IfOk, IfErr, length, ℕ, List, Some};
 ghost use Rattle.adb_view.specs.Gives.{cause_of};
-ghost use Rattle.pkg_core.specs.Contents.{fault_in, digest_fault, hash_fault};
+ghost use Rattle.pkg_core.specs.Contents.{fault_in, digest_fault, hash_fault, contents_fault, contents_in, expected_contents, files_by_blocks, Expected};
 ghost use Rattle.pkg_core.specs.Opened.{opened_files};
-ghost use Rattle.pkg_core.specs.Whole.{container_fault, package_fault, root_of_schema, whole_fault};
+ghost use Rattle.pkg_core.specs.Whole.{container_fault, package_fault, root_of_schema, whole_fault, files_in_file, package_with_contents};
 ghost use Rattle.pkg_core.specs.Refusals.{IsFaultOf};
 ghost use Rattle.sha1.specs.Sha1.{sha1};
 ghost use Rattle.sha2.specs.Sha256.{sha256};
 ghost use Rattle.sha2.specs.Sha512.{sha512};
 ghost use Rattle.adb_tables.specs.declared.tables.Which.TheVariants as Tables;
 ghost use Rattle.base_core.specs.declared.cause.Digest.TheVariants as Digests;
+ghost use Rattle.base_core.specs.declared.cause.Cause.{Cause};
+ghost use Rattle.adb_block.specs.Reading.{Reading};
+ghost use Rattle.adb_schema.specs.Soundness.{first_fault};
+ghost use Rattle.adb_tables.specs.Walk.{or_else};
+ghost use Rattle.pkg_core.specs.FirstContents.{IsFirstContentsFault};
+ghost use Rattle.pkg_core.specs.GoodContents.{AreContentsOf, AreTrueTo};
 
 use crate::pack::{Package, PackageFault};
 use adb_block::Blocks;
+use adb_rules::the_first_bad_text_is_reported;
 use adb_schema::{IDB_WORD, INDEX_WORD, INTENT_WORD, PACKAGE_WORD, Which, read_adb};
 use base_core::{Cause, Digest as FoundDigest};
 use sha1::Sha1;
@@ -159,4 +167,38 @@ pub fn sha512_fault(hash: &[u8], found: [u8; 64]) -> Option<Cause>
         wanted: FoundDigest::Sha512(wanted),
         found: FoundDigest::Sha512(found),
     })
+}
+
+/// Where no test of the blocks fails, they give the contents of each file that is expected, in
+/// order, and no others: each with the positions, the size and the digest of its file.
+pub fn good_blocks_give_the_contents_of_each_file()
+    ensures { (expected : List Expected) (r : Reading) → contents_fault expected r ≡ None
+        → AreContentsOf expected (contents_in (files_by_blocks expected r)) }
+{}
+
+/// The fault of the blocks that is reported is the first: each block of contents in its turn is
+/// tested against the next file that is expected, then the framing behind them, and at the end that
+/// no file is left.
+pub fn the_first_fault_of_contents_is_reported()
+    ensures { (expected : List Expected) (r : Reading) (c : Cause)
+        → contents_fault expected r ≡ Some c → IsFirstContentsFault expected r c }
+{}
+
+/// The first failed test of a package is that of its values, and where they are good that of the
+/// blocks behind them.
+pub fn a_package_is_tested_by_its_values_and_then_its_files()
+    ensures { (file : List ℕ)
+        → package_fault file
+        ≡ or_else (first_fault Tables.Package file) (fault_in (files_in_file file)) }
+{}
+
+/// A package in which no test fails has the contents of each of its files without target and with a
+/// size above 0, in order, and no others: their length is the file's size, and their SHA-1, SHA-256
+/// or SHA-512 (FIPS 180-4) its digest.
+pub fn a_package_has_the_contents_of_its_files()
+    ensures { (file : List ℕ) → package_fault file ≡ None
+        → AreTrueTo (expected_contents (package_with_contents file).value)
+        (package_with_contents file).contents }
+{
+    the_first_bad_text_is_reported();
 }

@@ -9,14 +9,13 @@
 #![tactic(auto)]
 
 mod checks;
-mod laws;
 mod pack;
 mod walk;
 
-pub use checks::{root_of_schema, sha1_fault, sha256_fault, sha512_fault, verify};
-pub use laws::{
+pub use checks::{
     a_package_has_the_contents_of_its_files, a_package_is_tested_by_its_values_and_then_its_files,
-    good_blocks_give_the_contents_of_each_file, the_first_fault_of_contents_is_reported,
+    good_blocks_give_the_contents_of_each_file, root_of_schema, sha1_fault, sha256_fault,
+    sha512_fault, the_first_fault_of_contents_is_reported, verify,
 };
 pub use pack::{Package, PackageFault};
 pub use walk::{FileContents, Walk, Wanted, wanted_file};

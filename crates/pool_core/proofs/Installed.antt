@@ -2,13 +2,13 @@
 use Rattle.std.proofs.Common.{◌≡◌, inl, inr, ℕ, zero, suc, ◌+◌, Bool, true, false, List, [], ◌∷◌, ◌++◌, length, length-append, append_assoc, refl, sym, subst, ap, ◌∙◌, arith}
 use Rattle.std.specs.Prelude.{Option, Some, slice_get, if◌then◌else◌, ◌&&◌, is_some}
 use Rattle.std.specs.Option.{option_map_or}
-use Rattle.std.proofs.Math.ListN.{set}
 use Rattle.std.specs.Cmp.Lexicographic.{bytes_decides}
 use Rattle.std.specs.List.{list_any}
 use Rattle.std.specs.Str.{bytes_eq}
 use Rattle.pool_core.specs.Candidates.{Candidate, as_installed, as_installed_where_same, is_same_package, offers_name, with_installed}
 use Rattle.pool_core.specs.CandidateList.{is_same_at, marked_at}
 use Rattle.pool_core.specs.Options.{places_from}
+use Rattle.pool_core.specs.Packages.{installed_at}
 use Rattle.pool_core.proofs.OptionLists.{bool_cases}
 
 pub length-as_installed_where_same : (installed : Candidate) (cs : List Candidate) → length (as_installed_where_same installed cs) ≡ length cs
@@ -129,13 +129,13 @@ marked_at-other installed c zero (d ∷ cs) h e =
     rw (subst (λ (z : Candidate). is_same_package installed z ≡ false) s e) refl
 marked_at-other installed c (suc k) (d ∷ cs) h e = ap (λ (z : List Candidate). d ∷ z) (marked_at-other installed c k cs h e)
 
-pub marked_at-same : (installed c : Candidate) (k : ℕ) (cs : List Candidate) → slice_get cs k ≡ Some c → is_same_package installed c ≡ true → marked_at installed k cs ≡ set cs k (as_installed c)
-marked_at-same installed c zero [] h e = absurd (cc)
-marked_at-same installed c (suc k) [] h e = absurd (cc)
-marked_at-same installed c zero (d ∷ cs) h e =
+pub marked_at-installed : (installed c : Candidate) (k : ℕ) (cs : List Candidate) → slice_get cs k ≡ Some c → is_same_package installed c ≡ true → marked_at installed k cs ≡ installed_at k cs
+marked_at-installed installed c zero [] h e = refl
+marked_at-installed installed c (suc k) [] h e = refl
+marked_at-installed installed c zero (d ∷ cs) h e =
     let s : c ≡ d = cc in
-    rw (subst (λ (z : Candidate). is_same_package installed z ≡ true) s e) (ap (λ (z : Candidate). as_installed z ∷ cs) (sym s))
-marked_at-same installed c (suc k) (d ∷ cs) h e = ap (λ (z : List Candidate). d ∷ z) (marked_at-same installed c k cs h e)
+    rw (subst (λ (z : Candidate). is_same_package installed z ≡ true) s e) refl
+marked_at-installed installed c (suc k) (d ∷ cs) h e = ap (λ (z : List Candidate). d ∷ z) (marked_at-installed installed c k cs h e)
 
 length-marked_at : (installed : Candidate) (k : ℕ) (cs : List Candidate) → length (marked_at installed k cs) ≡ length cs
 length-marked_at installed k [] = refl

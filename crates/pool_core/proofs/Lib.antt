@@ -1,5 +1,6 @@
 pub mod RankOrder
 pub mod DependencyLists
+pub mod JudgedLists
 pub mod OptionLists
 pub mod OfferLists
 pub mod Anyone
@@ -17,5 +18,6 @@ pub mod TableAdding
 pub mod CandidateLists
 pub mod MarksThroughTable
 pub mod SearchedWords
-pub mod WantedLists
 pub mod ReadWords
+pub mod PackageLists
+pub mod RankedOptions

@@ -1,19 +1,13 @@
 -- What it takes for the table of names to lead to the offers of one more candidate.
 use Rattle.std.proofs.Common.{◌≡◌, inl, inr, ℕ, suc, ◌-◌, ◌<◌, Bool, true, false, List, [], ◌∷◌, ◌++◌, length, refl, sym, subst, ap, ◌∙◌, arith}
 use Rattle.std.specs.Prelude.{Option, Some, None, slice_get, if◌then◌else◌, ◌==◌, ◌||◌}
-use Rattle.std.specs.Borrow.{Bor}
-use Rattle.std.specs.Map.{lookup}
-use Rattle.indexmap.specs.IndexMap.{insert_entry}
-use Rattle.std.specs.Map.{set_value}
-use Rattle.std.specs.Cmp.Lexicographic.{bytes_decides}
 use Rattle.std.specs.Option.{option_map_or}
 use Rattle.std.specs.List.{last_or, list_any}
-use Rattle.std.specs.Str.{bytes_eq}
 use Rattle.std.proofs.lemmas.Bool.Decides.{eqb_tells}
 use Rattle.dep_core.specs.Dependency.{Dependency}
 use Rattle.pool_core.specs.Candidates.{Candidate, offers_name}
 use Rattle.pool_core.specs.Options.{IsMember, places_offering}
-use Rattle.pool_core.specs.Table.{LeadsToOffers, ids_of, names_and_ids, with_last, with_last_where}
+use Rattle.pool_core.specs.Table.{LeadsToOffers, Offered, ids_of, with_last, with_last_where}
 use Rattle.pool_core.proofs.OptionLists.{bool_cases}
 use Rattle.pool_core.proofs.OfferLists.{places_snoc, places_below}
 use Rattle.pool_core.proofs.Steps.{any_snoc}
@@ -65,7 +59,7 @@ not_last n (Some k) below = elim (eqb_tells k n) [
 above_last : (ids : List ℕ) (n : ℕ) → ((j : ℕ) → IsMember j ids → j < n) → with_last ids n ≡ ids ++ n ∷ []
 above_last ids n below = rw (not_last n (last_or None ids) (λ k e. last_member None ids n k (λ j bad. absurd (cc)) below e)) refl
 
-pub leads_on : (table more : List (List ℕ × List ℕ)) (cs : List Candidate) (d : Candidate) → LeadsToOffers table cs → ((name : List ℕ) → ids_of more name ≡ with_last_where (offers_name name d) (ids_of table name) (length cs)) → LeadsToOffers more (cs ++ d ∷ [])
+pub leads_on : (table more : Offered) (cs : List Candidate) (d : Candidate) → LeadsToOffers table cs → ((name : List ℕ) → ids_of more name ≡ with_last_where (offers_name name d) (ids_of table name) (length cs)) → LeadsToOffers more (cs ++ d ∷ [])
 leads_on table more cs d leads added name =
     let places = places_offering name cs in
     let step : with_last_where (offers_name name d) places (length cs) ≡ places ++ (if offers_name name d then length cs ∷ [] else []) =
@@ -89,58 +83,3 @@ last_is (x ∷ ids) = from None x ids
     from o x (y ∷ ids) =
         let e : suc (suc (length ids)) - 1 ≡ suc (suc (length ids) - 1) = omega arith in
         ap (slice_get (x ∷ (y ∷ ids))) e ∙ from (Some x) y ids
-
--- ---- the table after one write
-
-abbrev pub Entries : Type 0
-Entries = List (Bor (List ℕ) × List ℕ)
-
-abbrev pub is_key : List ℕ → Bor (List ℕ) → Bool
-is_key name k = bytes_eq name k.now
-
-same_name : (a b c : List ℕ) → bytes_eq a b ≡ true → bytes_eq c a ≡ bytes_eq c b
-same_name a b c h = ap (bytes_eq c) ((bytes_decides a b).0 h)
-
-other_name : (a b c : List ℕ) → bytes_eq a b ≡ false → bytes_eq c b ≡ true → bytes_eq c a ≡ false
-other_name a b c h e = elim (bool_cases (bytes_eq c a)) [
-  | inl g ↦ let bad : bytes_eq a b ≡ true = (bytes_decides a b).1 (sym ((bytes_decides c a).0 g) ∙ (bytes_decides c b).0 e) in let no : true ≡ false = sym bad ∙ h in absurd (cc)
-  | inr g ↦ g
-]
-
--- where the ids of a name are replaced
-pub ids_of-set_value : (name other : List ℕ) (v old : List ℕ) (es : Entries) → lookup (is_key name) es ≡ Some old → ids_of (names_and_ids (set_value (is_key name) es v)) other ≡ (if bytes_eq other name then v else ids_of (names_and_ids es) other)
-ids_of-set_value name other v old [] h = absurd (cc)
-ids_of-set_value name other v old (e ∷ es) h = elim (bool_cases (bytes_eq name e.0.now)) [
-  | inl t ↦ elim (bool_cases (bytes_eq other e.0.now)) [
-    | inl g ↦ rw (t, g, same_name name e.0.now other t ∙ g) refl
-    | inr g ↦ rw (t, g, same_name name e.0.now other t ∙ g) refl
-  ]
-  | inr t ↦
-      let rest = ids_of-set_value name other v old es (rw t at h) in
-      elim (bool_cases (bytes_eq other e.0.now)) [
-        | inl g ↦ rw (t, g, other_name name e.0.now other t g) refl
-        | inr g ↦ rw (t, g) rest
-      ]
-]
-
--- where a name is new
-pub ids_of-insert_entry : (key : Bor (List ℕ)) (other : List ℕ) (v : List ℕ) (es : Entries) → lookup (is_key key.now) es ≡ None → ids_of (names_and_ids (insert_entry (λ (a b : Bor (List ℕ)). bytes_eq a.now b.now) es key v)) other ≡ (if bytes_eq other key.now then v else ids_of (names_and_ids es) other)
-ids_of-insert_entry key other v [] h = refl
-ids_of-insert_entry key other v (e ∷ es) h = elim (bool_cases (bytes_eq key.now e.0.now)) [
-  | inl t ↦ let bad : Some e.1 ≡ None = rw t at h in absurd (cc)
-  | inr t ↦
-      let rest = ids_of-insert_entry key other v es (rw t at h) in
-      elim (bool_cases (bytes_eq other e.0.now)) [
-        | inl g ↦ rw (t, g, other_name key.now e.0.now other t g) refl
-        | inr g ↦ rw (t, g) rest
-      ]
-]
-
--- the ids of a name with one more
-pub one_more_id : (name other : List ℕ) (id : ℕ) (table : List (List ℕ × List ℕ)) (old new result : List ℕ) → ids_of table name ≡ old → new ≡ with_last old id → result ≡ (if bytes_eq other name then new else ids_of table other) → result ≡ with_last_where (bytes_eq other name) (ids_of table other) id
-one_more_id name other id table old new result was is found = elim (bool_cases (bytes_eq other name)) [
-  | inl e ↦
-      let same : ids_of table other ≡ old = ap (ids_of table) ((bytes_decides other name).0 e) ∙ was in
-      found ∙ rw e (is ∙ ap (λ (z : List ℕ). with_last z id) (sym same))
-  | inr e ↦ found ∙ rw e refl
-]

@@ -4,17 +4,18 @@ use Rattle.std.specs.Option.{option_map_or}
 use Rattle.pool_core.specs.declared.pool.CandidateList.{CandidateList}
 use Rattle.pool_core.specs.declared.pool.TheConstants.{MOST_CANDIDATES}
 use Rattle.pool_core.specs.Candidates.{Candidate, as_installed, is_same_package}
+use Rattle.pool_core.specs.Packages.{candidates_of_packages}
 use Rattle.pool_core.specs.Table.{LeadsToOffers}
 
 -- the table leads each name to the candidates that offer it, and they are not too many
 pub record IsCandidateList (list : CandidateList) : Type 0 where
-  pub leads : LeadsToOffers list.table list.details.items
-  pub fits : length list.details.items ≤ MOST_CANDIDATES
+  pub leads : LeadsToOffers list.table (candidates_of_packages list.packages)
+  pub fits : length (candidates_of_packages list.packages) ≤ MOST_CANDIDATES
 
 -- after a refusal there is no list
 abbrev pub candidates_in : Option CandidateList → List Candidate
 candidates_in None = []
-candidates_in (Some list) = list.details.items
+candidates_in (Some list) = candidates_of_packages list.packages
 
 -- whether the candidate at a place is the installed package
 abbrev pub is_same_at : Candidate → List Candidate → ℕ → Bool

@@ -1,4 +1,4 @@
--- what the contract of `solve` cites
+-- what the contract of `apk` says
 pub mod Candidates
 pub mod Rank
 pub mod Options
@@ -8,7 +8,9 @@ pub mod PlainCode
 pub mod FieldNames
 pub mod Table
 pub mod World
-pub mod Wanted
+pub mod SoundTexts
+pub mod PackageWords
+pub mod Packages
 pub mod CandidateList
 pub mod Marks
-pub mod RankWith
+pub mod Ranking

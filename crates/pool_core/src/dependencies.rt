@@ -1,270 +1,156 @@
-//! What is read of the dependencies of a package's information. Conflicts, provides and install-ifs
-//! are compared again and again, and are read once; most dependencies are none of these, and are
-//! read when their package is chosen.
-ghost use Rattle.std.specs.Prelude.{◌≡◌, ◌++◌, true, Some, map, IfOk, OnOk, option_to_list, length};
+//! The dependencies of a package's information: read from it one by one, and judged where they are
+//! not known to keep their rules.
+ghost use Rattle.std.specs.Prelude.{◌≡◌, ◌<◌, ◌==◌, true, length, slice_get, Some};
 ghost use Rattle.std.specs.Option.{option_map};
-ghost use Rattle.std.specs.List.{filter};
-ghost use Rattle.adb_view.specs.Adb.{payload_of};
-ghost use Rattle.adb_view.specs.Entries.{array_entries};
-ghost use Rattle.adb_schema.specs.Views.{dependency_value};
-ghost use Rattle.adb_fields.specs.Fields.{are_all_sound, array_at};
-ghost use Rattle.adb_tables.specs.Values.{entry_in, is_sound, kind_at, value_at};
-ghost use Rattle.adb_tables.specs.declared.tables.Kind.TheVariants as Kinds;
-ghost use Rattle.adb_tables.specs.declared.tables.Which.TheVariants as Tables;
+ghost use Rattle.adb_fields.specs.ListValue.{list_value};
+ghost use Rattle.adb_rules.specs.SoundValues.{IsSoundDependency};
+ghost use Rattle.adb_schema.specs.Views.{dependency_value, info_value};
 ghost use Rattle.dep_core.specs.Meets.{dependency};
 ghost use Rattle.pool_core.specs.Candidates.{dependencies_in, dependency_in};
-ghost use Rattle.pool_core.specs.Wanted.{is_conflict, is_wanted, wanted_among};
+ghost use Rattle.pool_core.specs.SoundTexts.{HasSoundEntries, HasSoundTexts};
 
-use crate::texts::text_if_kept;
-use adb_fields::{int_field, objects_field};
-use adb_rules::{Judged, TextRule};
-use adb_schema::DepView;
-use adb_tables::{Which, entry_word};
-use adb_view::{Arr, Val};
+use adb_schema::{DepView, List, PkgInfo};
 use dep_core::{Dep, dep_of, dep_of_parts};
-use std::alloc::{AllocError, Global};
 use std::marker::Model;
+use version_core::Version;
 
-/// The field of a package's information with its dependencies.
-const DEPENDS: usize = 14;
-
-/// That with its provides.
-const PROVIDES: usize = 15;
-
-/// That with its install-if.
-const INSTALL_IF: usize = 17;
-
-/// The field of a dependency with its name.
-const NAME: usize = 0;
-
-/// That with its version.
-const VERSION: usize = 1;
-
-/// That with its match number.
-const MATCHING: usize = 2;
-
-/// What a match number says of a conflict, above the bits of the operator.
-const CONFLICT: u64 = 16;
-
-/// Which dependencies of a field are wanted.
-#[derive(Clone, Copy)]
-pub(crate) enum Wanted {
-    /// Each of them.
-    All,
-    /// Those that exclude what meets them.
-    Conflicts,
-}
-
-/// The conflicts, the provides and the install-if of a candidate, one behind the other in one piece
-/// of memory.
+/// Dependencies of a package, in the order of its information, which are read when they are asked
+/// for.
 #[derive(Drop)]
-pub(crate) struct DependencyLists<'a> {
-    deps: Vec<Dep<'a>>,
-    provides_at: u32,
-    install_if_at: u32,
+pub struct Deps<'a> {
+    list: List<'a, DepView<'a>>,
+    // Whether each entry is known to be a dependency.
+    are_sound: bool,
 }
 
-impl<'a> Model for DependencyLists<'a> {
-    ghost use Rattle.std.specs.Prelude.{◌≡◌, ◌≤◌, ◌-◌, length, map, take, drop, List as Items};
+impl<'a> Model for Deps<'a> {
+    ghost use Rattle.std.specs.Prelude.{◌≡◌, true, List as Items};
+    ghost use Rattle.adb_fields.specs.ListValue.{list_value};
     ghost use Rattle.dep_core.specs.Dependency.{Dependency};
-    ghost use Rattle.dep_core.specs.Meets.{dependency};
-    ghost use Rattle.pool_core.specs.Wanted.{three_lists};
+    ghost use Rattle.pool_core.specs.Candidates.{dependencies_in};
+    ghost use Rattle.pool_core.specs.SoundTexts.{HasSoundEntries};
 
-    ghost Value = { Items Dependency × (Items Dependency × Items Dependency) };
+    ghost Value = { Items Dependency };
 
-    ghost view = { λ lists. three_lists lists.provides_at lists.install_if_at
-        (map dependency lists.deps.items) };
+    ghost view = { λ deps. dependencies_in (list_value deps.list) };
 
-    ghost invariant = { λ lists. (lists.provides_at ≤ lists.install_if_at)
-        × (lists.install_if_at ≤ length lists.deps.items) };
+    ghost invariant = { λ deps. deps.are_sound ≡ true → HasSoundEntries (list_value deps.list) };
 }
 
-impl<'a> DependencyLists<'a> {
-    /// The lists of the package whose information has this word. A long text is judged once,
-    /// however many places share it.
-    pub(crate) fn read(
-        alloc: Global,
-        judged: &mut Judged<'a>,
-        word: Val,
-    ) -> Result<DependencyLists<'a>, AllocError>
-        requires { is_sound (payload_of judged.old.adb) (Kinds.Obj Tables.PkgInfo) word ≡ true }
-        ensures conflicts { IfOk result (λ lists. lists.0 ≡ filter is_conflict (dependencies_in
-            (entry_in (value_at (payload_of judged.old.adb) (Kinds.Obj Tables.PkgInfo) word) 14))) }
-        ensures provides { IfOk result (λ lists. lists.1.0 ≡ dependencies_in
-            (entry_in (value_at (payload_of judged.old.adb) (Kinds.Obj Tables.PkgInfo) word) 15)) }
-        ensures install_if { IfOk result (λ lists. lists.1.1 ≡ dependencies_in
-            (entry_in (value_at (payload_of judged.old.adb) (Kinds.Obj Tables.PkgInfo) word) 17)) }
-        ensures payload { judged.new.adb ≡ judged.old.adb }
+impl<'a> Deps<'a> {
+    /// The dependencies of a list; an entry that is none is passed over.
+    pub(crate) fn of(list: List<'a, DepView<'a>>, are_sound: bool) -> Deps<'a>
+        requires { are_sound ≡ true → HasSoundEntries (list_value list) }
+        ensures { result ≡ dependencies_in (list_value list.entry) }
     {
-        let mut deps = Vec::new(alloc);
-        let provides_at = push_field(&mut deps, judged, word, DEPENDS, Wanted::Conflicts)?;
-        let install_if_at = push_field(&mut deps, judged, word, PROVIDES, Wanted::All)?;
-        push_field(&mut deps, judged, word, INSTALL_IF, Wanted::All)?;
-        deps.shrink_to_fit();
-        Ok(DependencyLists {
-            deps,
-            provides_at,
-            install_if_at,
-        })
+        Deps { list, are_sound }
     }
 
-    /// The dependencies that are conflicts.
-    pub(crate) fn conflicts(&self) -> &[Dep<'a>]
-        ensures { map dependency result.now ≡ self.now.0 }
+    /// How many there are.
+    pub fn len(&self) -> usize
+        ensures { result ≡ length self.now }
     {
-        &self.deps[..self.provides_at as usize]
+        if self.are_sound {
+            self.list.len()
+        } else {
+            count_judged(&self.list)
+        }
     }
 
-    /// What is provided.
-    pub(crate) fn provides(&self) -> &[Dep<'a>]
-        ensures { map dependency result.now ≡ self.now.1.0 }
+    /// Whether there is none.
+    pub fn is_empty(&self) -> bool
+        ensures { result ≡ (length self.now == 0) }
     {
-        &self.deps[self.provides_at as usize..self.install_if_at as usize]
+        self.len() == 0
     }
 
-    /// The install-if.
-    pub(crate) fn install_if(&self) -> &[Dep<'a>]
-        ensures { map dependency result.now ≡ self.now.1.1 }
+    /// The one at a place, counted from 0.
+    pub fn get(&self, place: usize) -> Dep<'a>
+        requires { place < length self.now }
+        ensures { slice_get self.now place ≡ Some (dependency result) }
     {
-        &self.deps[self.install_if_at as usize..]
+        // An array has less than 2^32 entries.
+        let _count = self.list.len();
+        if self.are_sound {
+            read_sound(&self.list.get(place + 1))
+        } else {
+            read_judged(&self.list, place)
+        }
     }
 }
 
-// Adds those dependencies of a field that are wanted, and answers how many there are then.
-fn push_field<'a>(
-    deps: &mut Vec<Dep<'a>>,
-    judged: &mut Judged<'a>,
-    word: Val,
-    field: usize,
-    wanted: Wanted,
-) -> Result<u32, AllocError>
-    requires sound { is_sound (payload_of judged.old.adb) (Kinds.Obj Tables.PkgInfo) word ≡ true }
-    requires kind { kind_at Tables.PkgInfo field ≡ Some (Kinds.ObjArr Tables.Dep) }
-    ensures deps { OnOk result (map dependency deps.new.items ≡ map dependency deps.old.items
-        ++ wanted_among wanted (dependencies_in (entry_in
-        (value_at (payload_of judged.old.adb) (Kinds.Obj Tables.PkgInfo) word) field))) }
-    ensures len { IfOk result (λ len. len ≡ length deps.new.items) }
-    ensures payload { judged.new.adb ≡ judged.old.adb }
-{
-    let words = objects_field(judged.adb(), Which::PkgInfo, word, field, Which::Dep);
-    push_wanted(deps, judged, words, wanted)?;
-    len_of(deps)
-}
-
-// How many dependencies there are. More than 32 bits count would have no memory.
-fn len_of(deps: &[Dep<'_>]) -> Result<u32, AllocError>
-    ensures { IfOk result (λ len. len ≡ length deps.now) }
-{
-    if deps.len() > u32::MAX as usize {
-        return Err(AllocError);
-    }
-    Ok(deps.len() as u32)
-}
-
-/// All dependencies of the package whose information has this word.
-pub(crate) fn read_depends<'a>(
-    alloc: Global,
-    judged: &mut Judged<'a>,
-    word: Val,
-) -> Result<Vec<Dep<'a>>, AllocError>
-    requires { is_sound (payload_of judged.old.adb) (Kinds.Obj Tables.PkgInfo) word ≡ true }
-    ensures { IfOk result (λ deps. map dependency deps.items ≡ dependencies_in
-        (entry_in (value_at (payload_of judged.old.adb) (Kinds.Obj Tables.PkgInfo) word) 14)) }
-{
-    let words = objects_field(judged.adb(), Which::PkgInfo, word, DEPENDS, Which::Dep);
-    let mut deps = Vec::with_capacity(alloc, words.len())?;
-    push_wanted(&mut deps, judged, words, Wanted::All)?;
-    Ok(deps)
-}
-
-// Adds those dependencies that are wanted of a field whose words these are.
-#[tactic(auto, using(adb_fields::proofs::FieldReads::entry_sound))]
-fn push_wanted<'a>(
-    deps: &mut Vec<Dep<'a>>,
-    judged: &mut Judged<'a>,
-    words: Arr<'a>,
-    wanted: Wanted,
-) -> Result<(), AllocError>
-    requires { are_all_sound (payload_of judged.old.adb) (Kinds.Obj Tables.Dep)
-        (array_entries words) ≡ true }
-    ensures deps { OnOk result (map dependency deps.new.items ≡ map dependency deps.old.items
-        ++ wanted_among wanted (dependencies_in (array_at (payload_of judged.old.adb)
-        (Kinds.Obj Tables.Dep) (array_entries words.entry)))) }
-    ensures payload { judged.new.adb ≡ judged.old.adb }
-{
-    for i in 0..words.len() {
-        push_one(deps, judged, entry_word(words, i), wanted)?;
-    }
-    Ok(())
-}
-
-// Adds the dependency of a word, if there is one and it is wanted.
-fn push_one<'a>(
-    deps: &mut Vec<Dep<'a>>,
-    judged: &mut Judged<'a>,
-    word: Val,
-    wanted: Wanted,
-) -> Result<(), AllocError>
-    requires { is_sound (payload_of judged.old.adb) (Kinds.Obj Tables.Dep) word ≡ true }
-    ensures deps { OnOk result (map dependency deps.new.items ≡ map dependency deps.old.items
-        ++ wanted_among wanted (option_to_list (dependency_in
-        (value_at (payload_of judged.old.adb) (Kinds.Obj Tables.Dep) word)))) }
-    ensures payload { judged.new.adb ≡ judged.old.adb }
-{
-    let matching = int_field(judged.adb(), Which::Dep, word, MATCHING);
-    if !is_wanted(wanted, matching) {
-        return Ok(());
-    }
-    let found = read_judged(judged, word)?;
-    push_found(deps, found)
-}
-
-// The dependency of a word, if it is one.
+// An entry that is known to be a dependency.
 #[tactic(auto, unfolding(dep_core::specs::ValueReading::dependency_of_value))]
-fn read_judged<'a>(judged: &mut Judged<'a>, word: Val) -> Result<Option<Dep<'a>>, AllocError>
-    requires { is_sound (payload_of judged.old.adb) (Kinds.Obj Tables.Dep) word ≡ true }
-    ensures found { IfOk result (λ found. option_map dependency found ≡ dependency_in
-        (value_at (payload_of judged.old.adb) (Kinds.Obj Tables.Dep) word)) }
-    ensures payload { judged.new.adb ≡ judged.old.adb }
+fn read_sound<'a>(view: &DepView<'a>) -> Dep<'a>
+    requires { IsSoundDependency (dependency_value view.now) }
+    ensures { dependency_in (dependency_value view.entry.now) ≡ Some (dependency result) }
 {
-    let Some(name) = text_if_kept(judged, Which::Dep, word, NAME, TextRule::DependencyName)? else {
-        return Ok(None);
-    };
-    let Some(version) = text_if_kept(judged, Which::Dep, word, VERSION, TextRule::VersionOrEmpty)?
-    else {
-        return Ok(None);
-    };
-    let matching = int_field(judged.adb(), Which::Dep, word, MATCHING);
-    Ok(dep_of_parts(name, version, matching))
-}
-
-// Whether a dependency of this match number is wanted.
-fn is_wanted(wanted: Wanted, matching: u64) -> bool
-    ensures { result ≡ is_wanted wanted matching }
-{
-    match wanted {
-        Wanted::All => true,
-        Wanted::Conflicts => matching >= CONFLICT,
+    match dep_of_parts(view.name(), view.version(), view.matching()) {
+        Some(dep) => dep,
+        None => unreachable!(),
     }
 }
 
-/// The dependency of a view, if it is one.
-pub(crate) fn read_one<'a>(view: &DepView<'a>) -> Option<Dep<'a>>
+// An entry, if it is a dependency.
+fn read_if_sound<'a>(view: &DepView<'a>) -> Option<Dep<'a>>
     ensures { option_map dependency result ≡ dependency_in (dependency_value view.now) }
 {
     dep_of(view.name(), view.version(), view.matching())
 }
 
-// Adds a dependency, if there is one.
-fn push_found<'a>(deps: &mut Vec<Dep<'a>>, found: Option<Dep<'a>>) -> Result<(), AllocError>
-    ensures { OnOk result (map dependency deps.new.items
-        ≡ map dependency deps.old.items ++ option_to_list (option_map dependency found.entry)) }
+// How many entries of a list are dependencies.
+fn count_judged<'a>(list: &List<'a, DepView<'a>>) -> usize
+    ensures { result ≡ length (dependencies_in (list_value list.now)) }
 {
-    match found {
-        None => Ok(()),
-        Some(dep) => {
-            deps.push(dep)?;
-            Ok(())
+    let mut count = 0;
+    for i in 0..list.len() {
+        if let Some(_) = read_if_sound(&list.get(i + 1)) {
+            count += 1;
         }
     }
+    count
+}
+
+// The dependency behind so many others of a list.
+fn read_judged<'a>(list: &List<'a, DepView<'a>>, place: usize) -> Dep<'a>
+    requires { place < length (dependencies_in (list_value list.now)) }
+    ensures { slice_get (dependencies_in (list_value list.now)) place
+        ≡ Some (dependency result) }
+{
+    let mut passed = 0;
+    for i in 0..list.len() {
+        if let Some(dep) = read_if_sound(&list.get(i + 1)) {
+            if passed == place {
+                return dep;
+            }
+            passed += 1;
+        }
+    }
+    unreachable!()
+}
+
+/// Whether the texts of a package are known to keep their rules: its version is one, and so is each
+/// of its dependencies.
+pub(crate) fn has_sound_texts(info: &PkgInfo<'_>) -> bool
+    ensures { result ≡ true → HasSoundTexts (info_value info.now) }
+{
+    if Version::read(info.version()).is_none() {
+        return false;
+    }
+    if !are_sound(info.depends()) || !are_sound(info.provides()) {
+        return false;
+    }
+    are_sound(info.install_if())
+}
+
+// Whether each entry of a list is a dependency.
+fn are_sound<'a>(list: List<'a, DepView<'a>>) -> bool
+    ensures { result ≡ true → HasSoundEntries (list_value list.entry) }
+{
+    for i in 0..list.len() {
+        if read_if_sound(&list.get(i + 1)).is_none() {
+            return false;
+        }
+    }
+    true
 }

@@ -2,11 +2,13 @@
 //! does not upgrade. The names that it upgrades are put into order once, and each candidate is
 //! marked.
 ghost use Rattle.std.specs.Prelude.{◌≡◌, ◌&&◌, map, not, IfOk};
+ghost use Rattle.pool_core.specs.Packages.{candidates_of_packages};
 ghost use Rattle.pool_core.specs.Rank.{is_kept_installed, listed_names};
 ghost use Rattle.pool_core.specs.Values.{names_upgraded_by};
 
 use crate::candidate::Details;
 use crate::need::Upgrade;
+use crate::packages::Packages;
 use crate::sorted::SortedWords;
 use base_core::Words;
 use std::alloc::{AllocError, Global};
@@ -14,60 +16,62 @@ use std::alloc::{AllocError, Global};
 /// For each candidate, whether it is installed and the command does not upgrade its name.
 pub(crate) fn kept_marks(
     alloc: Global,
-    details: &[Details<'_>],
+    packages: &Packages<'_>,
     upgrade: Upgrade<'_>,
 ) -> Result<Vec<bool>, AllocError>
     ensures { IfOk result (λ marks. marks.items
-        ≡ map (is_kept_installed (names_upgraded_by upgrade.entry)) details.now) }
+        ≡ map (is_kept_installed (names_upgraded_by upgrade.entry)) (candidates_of_packages packages.now)) }
 {
     match upgrade {
-        Upgrade::Nothing => marks_with_all(alloc, details, false),
-        Upgrade::All => marks_with_all(alloc, details, true),
-        Upgrade::Listed(words) => marks_with_listed(alloc, details, words),
+        Upgrade::Nothing => marks_with_all(alloc, packages, false),
+        Upgrade::All => marks_with_all(alloc, packages, true),
+        Upgrade::Listed(words) => marks_with_listed(alloc, packages, words),
     }
 }
 
 // The marks where the command upgrades every name, or none.
 fn marks_with_all(
     alloc: Global,
-    details: &[Details<'_>],
+    packages: &Packages<'_>,
     is_upgraded: bool,
 ) -> Result<Vec<bool>, AllocError>
     ensures { IfOk result (λ marks. marks.items
-        ≡ map (λ one. one.installed && not is_upgraded) details.now) }
+        ≡ map (λ one. one.installed && not is_upgraded) (candidates_of_packages packages.now)) }
 {
-    details
-        .iter()
-        .map(|one| is_kept(one, is_upgraded))
-        .collect(alloc)
+    let mut marks = Vec::with_capacity(alloc, packages.len())?;
+    for place in 0..packages.len() {
+        marks.push(is_kept(&packages.get(place), is_upgraded))?;
+    }
+    Ok(marks)
 }
 
 // The marks where the command upgrades some names.
 fn marks_with_listed(
     alloc: Global,
-    details: &[Details<'_>],
+    packages: &Packages<'_>,
     names: &Words,
 ) -> Result<Vec<bool>, AllocError>
     ensures { IfOk result (λ marks. marks.items
-        ≡ map (is_kept_installed (listed_names names.now)) details.now) }
+        ≡ map (is_kept_installed (listed_names names.now)) (candidates_of_packages packages.now)) }
 {
     let sorted = SortedWords::of(alloc, names)?;
-    let marks = marks_with_sorted(alloc, details, &sorted)?;
+    let marks = marks_with_sorted(alloc, packages, &sorted)?;
     Ok(marks)
 }
 
 fn marks_with_sorted(
     alloc: Global,
-    details: &[Details<'_>],
+    packages: &Packages<'_>,
     names: &SortedWords<'_>,
 ) -> Result<Vec<bool>, AllocError>
     ensures { IfOk result (λ marks. marks.items
-        ≡ map (is_kept_installed (listed_names names.now)) details.now) }
+        ≡ map (is_kept_installed (listed_names names.now)) (candidates_of_packages packages.now)) }
 {
-    details
-        .iter()
-        .map(|one| is_kept_beside(one, names))
-        .collect(alloc)
+    let mut marks = Vec::with_capacity(alloc, packages.len())?;
+    for place in 0..packages.len() {
+        marks.push(is_kept_beside(&packages.get(place), names))?;
+    }
+    Ok(marks)
 }
 
 fn is_kept_beside(one: &Details<'_>, names: &SortedWords<'_>) -> bool

@@ -11,14 +11,15 @@ mod keeping;
 mod laws;
 mod marks;
 mod need;
+mod packages;
 mod pool;
 mod rank;
 mod sealed;
 mod sorted;
 mod table;
-mod texts;
 
 pub use candidate::{CandId, Candidate, Details};
+pub use dependencies::Deps;
 pub use laws::{
     a_candidate_is_read_by_field_names, an_installed_package_is_known_by_text_and_id,
     installed_candidates_count_once, offers_are_the_places, offers_hold_what_meets,

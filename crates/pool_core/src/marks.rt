@@ -9,10 +9,12 @@ ghost use Rattle.dep_core.specs.Meets.{dependency};
 ghost use Rattle.pool_core.specs.Candidates.{is_allowed, is_barred_by, uses_tag};
 ghost use Rattle.pool_core.specs.Marks.{affects, is_affected, mark_at, marks_with};
 ghost use Rattle.pool_core.specs.Options.{places_offering};
+ghost use Rattle.pool_core.specs.Packages.{candidates_of_packages};
 ghost use Rattle.pool_core.specs.Rank.{is_pinned};
 ghost use Rattle.pool_core.specs.Table.{LeadsToOffers};
 
 use crate::candidate::{CandId, Details};
+use crate::packages::Packages;
 use crate::table::Table;
 use dep_core::Dep;
 use std::alloc::{AllocError, Global};
@@ -29,56 +31,61 @@ pub(crate) enum Effect {
 /// For each candidate, whether it may be selected.
 pub(crate) fn eligible_marks(
     alloc: Global,
-    details: &[Details<'_>],
+    packages: &Packages<'_>,
     table: &Table<'_>,
     tagged: &[Dep<'_>],
     conflicts: &[Dep<'_>],
 ) -> Result<Vec<bool>, AllocError>
-    requires { LeadsToOffers table.now details.now }
+    requires { LeadsToOffers table.now (candidates_of_packages packages.now) }
     ensures { IfOk result (λ marks. marks.items ≡ map (λ one.
         is_allowed (map dependency tagged.now) one
-        && not (is_barred_by (map dependency conflicts.now) one)) details.now) }
+        && not (is_barred_by (map dependency conflicts.now) one)) (candidates_of_packages packages.now)) }
 {
-    let mut ineligible = disallowed_marks(alloc, details, tagged)?;
-    mark_affected(&mut ineligible, details, table, conflicts, Effect::Bar);
+    let mut ineligible = disallowed_marks(alloc, packages, tagged)?;
+    mark_affected(&mut ineligible, packages, table, conflicts, Effect::Bar);
     opposite_marks(alloc, &ineligible)
 }
 
 /// For each candidate, whether world pins its name to its tag.
 pub(crate) fn pinned_marks(
     alloc: Global,
-    details: &[Details<'_>],
+    packages: &Packages<'_>,
     table: &Table<'_>,
     tagged: &[Dep<'_>],
 ) -> Result<Vec<bool>, AllocError>
-    requires { LeadsToOffers table.now details.now }
+    requires { LeadsToOffers table.now (candidates_of_packages packages.now) }
     ensures { IfOk result (λ marks. marks.items
-        ≡ map (λ one. is_pinned (map dependency tagged.now) one) details.now) }
+        ≡ map (λ one. is_pinned (map dependency tagged.now) one) (candidates_of_packages packages.now)) }
 {
-    let mut marks = no_marks(alloc, details)?;
-    mark_affected(&mut marks, details, table, tagged, Effect::Pin);
+    let mut marks = no_marks(alloc, packages)?;
+    mark_affected(&mut marks, packages, table, tagged, Effect::Pin);
     Ok(marks)
 }
 
 // For each candidate, whether it is of a repository whose tag world does not use.
 fn disallowed_marks(
     alloc: Global,
-    details: &[Details<'_>],
+    packages: &Packages<'_>,
     tagged: &[Dep<'_>],
 ) -> Result<Vec<bool>, AllocError>
     ensures { IfOk result (λ marks. marks.items
-        ≡ map (λ one. not (is_allowed (map dependency tagged.now) one)) details.now) }
+        ≡ map (λ one. not (is_allowed (map dependency tagged.now) one)) (candidates_of_packages packages.now)) }
 {
-    details
-        .iter()
-        .map(|one| !is_allowed(one, tagged))
-        .collect(alloc)
+    let mut marks = Vec::with_capacity(alloc, packages.len())?;
+    for place in 0..packages.len() {
+        marks.push(!is_allowed(&packages.get(place), tagged))?;
+    }
+    Ok(marks)
 }
 
-fn no_marks(alloc: Global, details: &[Details<'_>]) -> Result<Vec<bool>, AllocError>
-    ensures { IfOk result (λ marks. marks.items ≡ map (λ one. false) details.now) }
+fn no_marks(alloc: Global, packages: &Packages<'_>) -> Result<Vec<bool>, AllocError>
+    ensures { IfOk result (λ marks. marks.items ≡ map (λ one. false) (candidates_of_packages packages.now)) }
 {
-    details.iter().map(|_| false).collect(alloc)
+    let mut marks = Vec::with_capacity(alloc, packages.len())?;
+    for _place in 0..packages.len() {
+        marks.push(false)?;
+    }
+    Ok(marks)
 }
 
 fn opposite_marks(alloc: Global, marks: &[bool]) -> Result<Vec<bool>, AllocError>
@@ -90,53 +97,53 @@ fn opposite_marks(alloc: Global, marks: &[bool]) -> Result<Vec<bool>, AllocError
 // Marks each candidate on which one of some entries has an effect. Other marks stay.
 fn mark_affected(
     marks: &mut Vec<bool>,
-    details: &[Details<'_>],
+    packages: &Packages<'_>,
     table: &Table<'_>,
     entries: &[Dep<'_>],
     effect: Effect,
 )
-    requires leads { LeadsToOffers table.now details.now }
-    requires each { length marks.old.items ≡ length details.now }
+    requires leads { LeadsToOffers table.now (candidates_of_packages packages.now) }
+    requires each { length marks.old.items ≡ length (candidates_of_packages packages.now) }
     ensures { marks.new.items ≡ marks_with (is_affected effect (map dependency entries.now))
-        marks.old.items details.now }
+        marks.old.items (candidates_of_packages packages.now) }
 {
     for entry in entries {
-        mark_among(marks, details, table.get(entry.name), entry, effect);
+        mark_among(marks, packages, table.get(entry.name), entry, effect);
     }
 }
 
 // Marks those of the candidates that offer an entry's name on which it has the effect.
 fn mark_among(
     marks: &mut Vec<bool>,
-    details: &[Details<'_>],
+    packages: &Packages<'_>,
     ids: &[CandId],
     entry: &Dep<'_>,
     effect: Effect,
 )
-    requires offers { ids.now ≡ places_offering (dependency entry.now).name details.now }
-    requires each { length marks.old.items ≡ length details.now }
+    requires offers { ids.now ≡ places_offering (dependency entry.now).name (candidates_of_packages packages.now) }
+    requires each { length marks.old.items ≡ length (candidates_of_packages packages.now) }
     ensures { marks.new.items ≡ marks_with (affects effect (dependency entry.now))
-        marks.old.items details.now }
+        marks.old.items (candidates_of_packages packages.now) }
 {
     for id in ids {
-        mark_one(marks, details, *id, entry, effect);
+        mark_one(marks, packages, *id, entry, effect);
     }
 }
 
 fn mark_one(
     marks: &mut Vec<bool>,
-    details: &[Details<'_>],
+    packages: &Packages<'_>,
     id: CandId,
     entry: &Dep<'_>,
     effect: Effect,
 )
-    requires within { id < length details.now }
-    requires each { length marks.old.items ≡ length details.now }
+    requires within { id < length (candidates_of_packages packages.now) }
+    requires each { length marks.old.items ≡ length (candidates_of_packages packages.now) }
     ensures { marks.new.items ≡ mark_at (affects effect (dependency entry.now)) id
-        marks.old.items details.now }
+        marks.old.items (candidates_of_packages packages.now) }
 {
     let place = id.place as usize;
-    if !affects(effect, entry, &details[place]) {
+    if !affects(effect, entry, &packages.get(place)) {
         return;
     }
     marks[place] = true;

@@ -1,6 +1,6 @@
 //! The list of candidates in the making: the packages of each index, then the installed ones that
 //! no index has.
-ghost use Rattle.std.specs.Prelude.{◌≡◌, ◌≤◌, ◌<◌, ◌+◌, ℕ, [], ◌∷◌, ◌++◌, length, false, true, None, Some, IfOk, OnOk, OnErr, IfErr, option_copied};
+ghost use Rattle.std.specs.Prelude.{◌≡◌, ◌≤◌, ◌<◌, ◌+◌, ℕ, [], ◌∷◌, ◌++◌, length, true, None, Some, slice_get, IfOk, OnOk, OnErr, IfErr, option_copied};
 ghost use Rattle.std.specs.List.{list_any};
 ghost use Rattle.adb_schema.specs.Views.{index_value, info_value};
 ghost use Rattle.adb_fields.specs.Fields.{are_all_sound, array_at};
@@ -10,21 +10,25 @@ ghost use Rattle.adb_view.specs.Adb.{payload_of};
 ghost use Rattle.adb_view.specs.Entries.{array_entries};
 ghost use Rattle.adb_tables.specs.Values.{count_of, entries_in, entry_in};
 ghost use Rattle.pool_core.specs.Candidates.{as_installed_where_same, candidate_of, candidates_of_index, is_same_package, with_installed};
-ghost use Rattle.pool_core.specs.Options.{IsMember, places_offering};
+ghost use Rattle.pool_core.specs.Options.{places_offering};
 ghost use Rattle.pool_core.specs.CandidateList.{IsCandidateList, is_same_at, marked_at};
+ghost use Rattle.pool_core.specs.PackageWords.{IsPackageOf};
+ghost use Rattle.pool_core.specs.Packages.{candidate_in_source, candidates_of_packages, candidates_of_source};
 ghost use Rattle.pool_core.specs.Rank.{sealed_pool_by};
-ghost use Rattle.pool_core.specs.Table.{LeadsToOffers};
+ghost use Rattle.pool_core.specs.SoundTexts.{HasSoundTexts};
 ghost use Rattle.pool_core.specs.Values.{IsPoolFault, names_upgraded_by};
 
 use crate::candidate::{CandId, Details};
+use crate::dependencies::has_sound_texts;
 use crate::need::Upgrade;
+use crate::packages::{Packages, Source};
 use crate::sealed::{Sealed, seal_list};
 use crate::table::Table;
 use adb_fields::objects_field;
-use adb_rules::Judged;
+use adb_rules::entries_keep_the_rule_of_their_list;
 use adb_schema::{IndexView, PkgInfo};
 use adb_tables::{Which, entry_word};
-use adb_view::{Adb, Arr};
+use adb_view::{Arr, Val};
 use dep_core::World;
 use std::alloc::{AllocError, Global};
 use std::marker::Model;
@@ -55,7 +59,7 @@ pub const MOST_CANDIDATES: usize = 65536;
 /// The candidates so far, and the table of the names that they offer.
 #[derive(Drop)]
 pub(crate) struct CandidateList<'a> {
-    pub(crate) details: Vec<Details<'a>>,
+    pub(crate) packages: Packages<'a>,
     pub(crate) table: Table<'a>,
 }
 
@@ -63,24 +67,34 @@ impl<'a> CandidateList<'a> {
     /// No candidates.
     fn new(alloc: Global) -> CandidateList<'a>
         ensures list { IsCandidateList result }
-        ensures none { result.details.items ≡ [] }
+        ensures none { candidates_of_packages result.packages ≡ [] }
     {
         CandidateList {
-            details: Vec::new(alloc),
+            packages: Packages::new(alloc),
             table: Table::new(alloc),
         }
     }
 
-    // Puts a candidate behind the others. After a refusal the list may only be dropped.
-    fn push(&mut self, details: Details<'a>) -> Result<(), PoolFault>
-        requires { IsCandidateList self.old }
+    // Puts the package of a source behind the others. After a refusal the list may only be dropped.
+    fn push(
+        &mut self,
+        source: &Source<'a>,
+        source_place: u32,
+        word: Val,
+        installed: bool,
+    ) -> Result<(), PoolFault>
+        requires list { IsCandidateList self.old }
+        requires source { slice_get self.old.packages.sources.items source_place ≡ Some source.now }
+        requires word { IsPackageOf source.now word }
         ensures list { OnOk result (IsCandidateList self.new) }
-        ensures pushed { OnOk result (self.new.details.items
-            ≡ self.old.details.items ++ details.entry ∷ []) }
-        ensures fault { IfErr result (λ fault.
-            IsPoolFault fault (length self.old.details.items + 1)) }
+        ensures sources { OnOk result (self.new.packages.sources ≡ self.old.packages.sources) }
+        ensures pushed { OnOk result (candidates_of_packages self.new.packages
+            ≡ candidates_of_packages self.old.packages
+            ++ candidate_in_source (Some source.now) word installed ∷ []) }
+        ensures fault { IfErr result (λ fault. IsPoolFault fault
+            (length (candidates_of_packages self.old.packages) + 1)) }
     {
-        let place = self.details.len();
+        let place = self.packages.len();
         if place >= MOST_CANDIDATES {
             return Err(PoolFault::TooMany {
                 count: place as u64 + 1,
@@ -89,40 +103,37 @@ impl<'a> CandidateList<'a> {
         let id = CandId {
             place: place as u32,
         };
-        self.table.add_all(&details, id)?;
-        append(&mut self.details, details)?;
+        self.table
+            .add_all(&Details::of(source, word, installed), id)?;
+        self.packages.push(source_place, word, installed)?;
         Ok(())
     }
 
-    // Puts the packages of an index, whose words these are, behind the others. A long text is
-    // judged once, however many of them share it.
+    // Puts the packages of an index, whose words these are, behind the others.
     #[tactic(auto, using(adb_fields::proofs::FieldReads::entry_sound))]
-    fn push_all(
-        &mut self,
-        alloc: Global,
-        adb: Adb<'a>,
-        packages: Arr<'a>,
-        repo: u64,
-        tag: Option<&'a [u8]>,
-    ) -> Result<(), PoolFault>
+    fn push_all(&mut self, source: Source<'a>, packages: Arr<'a>) -> Result<(), PoolFault>
         requires list { IsCandidateList self.old }
-        requires sound { are_all_sound (payload_of adb) (Kinds.Obj Tables.PkgInfo)
+        requires sound { are_all_sound (payload_of source.adb) (Kinds.Obj Tables.PkgInfo)
             (array_entries packages) ≡ true }
+        requires texts { source.has_sound_texts ≡ true → (i : ℕ)
+            → i < count_of (entries_in (array_at (payload_of source.adb)
+            (Kinds.Obj Tables.PkgInfo) (array_entries packages))) → HasSoundTexts
+            (entry_in (array_at (payload_of source.adb) (Kinds.Obj Tables.PkgInfo)
+            (array_entries packages)) i) }
         ensures list { OnOk result (IsCandidateList self.new) }
-        ensures pushed { OnOk result (self.new.details.items ≡ self.old.details.items
-            ++ candidates_of_index repo (option_copied tag.entry) (entries_in
-            (array_at (payload_of adb.entry) (Kinds.Obj Tables.PkgInfo)
+        ensures pushed { OnOk result (candidates_of_packages self.new.packages
+            ≡ candidates_of_packages self.old.packages ++ candidates_of_source source.entry
+            (entries_in (array_at (payload_of source.entry.adb) (Kinds.Obj Tables.PkgInfo)
             (array_entries packages.entry)))) }
         ensures fault { IfErr result (λ fault. IsPoolFault fault
-            (length self.old.details.items + count_of (entries_in
-            (array_at (payload_of adb.entry) (Kinds.Obj Tables.PkgInfo)
+            (length (candidates_of_packages self.old.packages) + count_of (entries_in
+            (array_at (payload_of source.entry.adb) (Kinds.Obj Tables.PkgInfo)
             (array_entries packages.entry))))) }
     {
-        let mut judged = Judged::new(alloc, adb);
+        let source_place = self.packages.add_source(source)?;
         for i in 0..packages.len() {
             let word = entry_word(packages, i);
-            let details = Details::read(alloc, &mut judged, word, Some(repo), tag, false)?;
-            match self.push(details) {
+            match self.push(&source, source_place, word, false) {
                 Ok(()) => {}
                 Err(fault) => return Err(fault),
             }
@@ -132,31 +143,27 @@ impl<'a> CandidateList<'a> {
 
     // Adds an installed package, or lets the candidates that are the same package count as
     // installed.
-    fn push_installed(&mut self, alloc: Global, info: PkgInfo<'a>) -> Result<(), PoolFault>
+    fn push_installed(&mut self, info: PkgInfo<'a>) -> Result<(), PoolFault>
         requires { IsCandidateList self.old }
         ensures list { OnOk result (IsCandidateList self.new) }
-        ensures pushed { OnOk result (self.new.details.items ≡ with_installed
-            self.old.details.items (candidate_of (info_value info.entry) None None true)) }
+        ensures pushed { OnOk result (candidates_of_packages self.new.packages ≡ with_installed
+            (candidates_of_packages self.old.packages)
+            (candidate_of (info_value info.entry) None None true)) }
         ensures fault { IfErr result (λ fault. IsPoolFault fault (length (with_installed
-            self.old.details.items (candidate_of (info_value info.entry) None None true)))) }
+            (candidates_of_packages self.old.packages)
+            (candidate_of (info_value info.entry) None None true)))) }
     {
-        let mut judged = Judged::new(alloc, info.adb());
-        let installed = Details::read(alloc, &mut judged, info.word(), None, None, true)?;
-        self.push_or_mark(installed)
-    }
-
-    fn push_or_mark(&mut self, installed: Details<'a>) -> Result<(), PoolFault>
-        requires { IsCandidateList self.old }
-        ensures list { OnOk result (IsCandidateList self.new) }
-        ensures pushed { OnOk result (self.new.details.items
-            ≡ with_installed self.old.details.items installed.entry) }
-        ensures fault { IfErr result (λ fault. IsPoolFault fault
-            (length (with_installed self.old.details.items installed.entry))) }
-    {
-        if self.mark_same(&installed) {
+        let source = Source {
+            adb: info.adb(),
+            repo: None,
+            tag: None,
+            has_sound_texts: has_sound_texts(&info),
+        };
+        if self.mark_same(&Details::of(&source, info.word(), true)) {
             return Ok(());
         }
-        self.push(installed)
+        let source_place = self.packages.add_source(source)?;
+        self.push(&source, source_place, info.word(), true)
     }
 
     // Lets the candidates that are an installed package count as installed, and answers whether
@@ -164,52 +171,48 @@ impl<'a> CandidateList<'a> {
     fn mark_same(&mut self, installed: &Details<'a>) -> bool
         requires { IsCandidateList self.old }
         ensures list { IsCandidateList self.new }
-        ensures some { result ≡ list_any (is_same_package installed.now) self.old.details.items }
-        ensures same { self.new.details.items
-            ≡ as_installed_where_same installed.now self.old.details.items }
+        ensures some { result ≡ list_any (is_same_package installed.now)
+            (candidates_of_packages self.old.packages) }
+        ensures same { candidates_of_packages self.new.packages ≡ as_installed_where_same
+            installed.now (candidates_of_packages self.old.packages) }
     {
         mark_among(
-            &mut self.details,
+            &mut self.packages,
             self.table.get(installed.name()),
             installed,
         )
     }
 }
 
-// Puts a candidate behind the others.
-fn append<'a>(details: &mut Vec<Details<'a>>, one: Details<'a>) -> Result<(), AllocError>
-    ensures { OnOk result (details.new.items ≡ details.old.items ++ one.entry ∷ []) }
-{
-    details.push(one)?;
-    Ok(())
-}
-
 // Lets each of some candidates that is an installed package count as installed, and answers whether
 // one is.
-fn mark_among<'a>(details: &mut Vec<Details<'a>>, ids: &[CandId], installed: &Details<'a>) -> bool
-    requires { ids.now ≡ places_offering installed.now.name details.old.items }
-    ensures some { result ≡ list_any (is_same_package installed.now) details.old.items }
-    ensures same { details.new.items
-        ≡ as_installed_where_same installed.now details.old.items }
+fn mark_among<'a>(packages: &mut Packages<'a>, ids: &[CandId], installed: &Details<'a>) -> bool
+    requires { ids.now
+        ≡ places_offering installed.now.name (candidates_of_packages packages.old) }
+    ensures some { result ≡ list_any (is_same_package installed.now)
+        (candidates_of_packages packages.old) }
+    ensures same { candidates_of_packages packages.new ≡ as_installed_where_same installed.now
+        (candidates_of_packages packages.old) }
 {
     let mut found = false;
     for id in ids {
-        found |= mark_one(details, *id, installed);
+        found |= mark_one(packages, *id, installed);
     }
     found
 }
 
 // Lets a candidate that is an installed package count as installed, and answers whether it is one.
-fn mark_one<'a>(details: &mut Vec<Details<'a>>, id: CandId, installed: &Details<'a>) -> bool
-    requires { id < length details.old.items }
-    ensures same { result ≡ is_same_at installed.now details.old.items id }
-    ensures marked { details.new.items ≡ marked_at installed.now id details.old.items }
+fn mark_one<'a>(packages: &mut Packages<'a>, id: CandId, installed: &Details<'a>) -> bool
+    requires { id < length (candidates_of_packages packages.old) }
+    ensures same { result ≡ is_same_at installed.now (candidates_of_packages packages.old) id }
+    ensures marked { candidates_of_packages packages.new
+        ≡ marked_at installed.now id (candidates_of_packages packages.old) }
 {
     let place = id.place as usize;
-    if !details[place].is_same_package(installed) {
+    if !packages.get(place).is_same_package(installed) {
         return false;
     }
-    details[place].set_installed();
+    packages.mark_installed(place);
     true
 }
 
@@ -250,7 +253,7 @@ impl<'a> Pool<'a> {
     // The candidates so far, taken out.
     fn take_list(&mut self) -> CandidateList<'a>
         ensures list { IsCandidateList result }
-        ensures taken { result.details.items ≡ self.old }
+        ensures taken { candidates_of_packages result.packages ≡ self.old }
         ensures rest { self.new ≡ [] }
     {
         match self.list.take() {
@@ -268,7 +271,7 @@ impl<'a> Pool<'a> {
         requires list { OnOk added (IsCandidateList list) }
         requires none { self.old ≡ [] }
         ensures answer { result ≡ added }
-        ensures ok { OnOk added (self.new ≡ list.entry.details.items) }
+        ensures ok { OnOk added (self.new ≡ candidates_of_packages list.entry.packages) }
         ensures err { OnErr added (self.new ≡ []) }
     {
         match added {
@@ -299,7 +302,15 @@ impl<'a> Pool<'a> {
     {
         let mut list = self.take_list();
         let packages = objects_field(index.adb(), Which::Index, index.word(), 1, Which::PkgInfo);
-        let added = list.push_all(self.alloc, index.adb(), packages, repo, tag);
+        index.values_keep_their_rules();
+        entries_keep_the_rule_of_their_list();
+        let source = Source {
+            adb: index.adb(),
+            repo: Some(repo),
+            tag,
+            has_sound_texts: true,
+        };
+        let added = list.push_all(source, packages);
         self.keep(list, added)
     }
 
@@ -316,7 +327,7 @@ impl<'a> Pool<'a> {
         ensures err { OnErr result (self.new ≡ []) }
     {
         let mut list = self.take_list();
-        let added = list.push_installed(self.alloc, info);
+        let added = list.push_installed(info);
         self.keep(list, added)
     }
 

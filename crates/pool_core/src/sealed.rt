@@ -1,6 +1,6 @@
 //! The candidates under a world: which of them may be selected, which offer a name, and the options
 //! of a need, best first.
-ghost use Rattle.std.specs.Prelude.{◌≡◌, ◌<◌, ◌^◌, ◌==◌, ◌++◌, ◌∷◌, [], map, length, slice_get, Some, IfOk, OnOk, filter, ◌&&◌, not, option_copied, if◌then◌else◌, true, false};
+ghost use Rattle.std.specs.Prelude.{◌≡◌, ◌<◌, ◌^◌, ◌==◌, ◌++◌, ◌∷◌, [], map, length, slice_get, All, Some, IfOk, OnOk, filter, ◌&&◌, not, if◌then◌else◌, true, false};
 ghost use Rattle.std.specs.Option.{option_cmp, option_map_or};
 ghost use Rattle.std.specs.List.{list_all, list_any};
 ghost use Rattle.std.specs.Ordering.{bool_cmp, flip_args};
@@ -10,7 +10,9 @@ ghost use Rattle.dep_core.specs.Meets.{dependency};
 ghost use Rattle.pool_core.specs.Candidates.{Candidate as CandidateValue, has_usable_install_if, is_allowed, is_eligible, is_barred_by, meets_dependency, uses_tag};
 ghost use Rattle.pool_core.specs.CandidateList.{IsCandidateList};
 ghost use Rattle.pool_core.specs.Options.{may_meet, places_offering, options_for, places_from};
+ghost use Rattle.pool_core.specs.Packages.{candidates_of_packages};
 ghost use Rattle.pool_core.specs.Rank.{candidate_at, candidate_cmp, is_at, is_eligible_at, is_kept_installed, is_pinned, is_pinned_at, is_pinned_to, rank_cmp, sealed_pool_by};
+ghost use Rattle.pool_core.specs.Ranking.{IsRankingIn};
 ghost use Rattle.pool_core.specs.Values.{candidate_value, names_upgraded_by, need_by, need_of};
 ghost use Rattle.pool_core.specs.World.{entries_of_kind, has_positive_install_if, is_entry_of_kind, places_marked};
 
@@ -19,18 +21,19 @@ use crate::keeping::kept_marks;
 use crate::laws::rank_is_total;
 use crate::marks::{eligible_marks, pinned_marks};
 use crate::need::{Need, NeedRef, Options, Upgrade};
+use crate::packages::Packages;
 use crate::pool::CandidateList;
-use crate::rank::by_details;
+use crate::rank::RankedOption;
 use crate::table::Table;
 use dep_core::{Dep, World};
 use std::alloc::{AllocError, Global};
-use std::cmp::Ordering;
 use std::marker::Model;
+use version_core::order_is_total;
 
 /// The candidates under a world. What is asked of each candidate again and again is marked once.
 #[derive(Drop)]
 pub struct Sealed<'a> {
-    details: Vec<Details<'a>>,
+    packages: Packages<'a>,
     table: Table<'a>,
     world: &'a World,
     upgrade: Upgrade<'a>,
@@ -46,6 +49,7 @@ impl<'a> Model for Sealed<'a> {
     ghost use Rattle.std.specs.Prelude.{◌≡◌, map};
     ghost use Rattle.pool_core.specs.Candidates.{has_usable_install_if, is_eligible};
     ghost use Rattle.pool_core.specs.Options.{places_from};
+    ghost use Rattle.pool_core.specs.Packages.{candidates_of_packages};
     ghost use Rattle.pool_core.specs.Rank.{SealedPool, is_kept_installed, is_pinned, sealed_pool_by};
     ghost use Rattle.pool_core.specs.Table.{LeadsToOffers};
     ghost use Rattle.pool_core.specs.Values.{names_upgraded_by};
@@ -55,14 +59,14 @@ impl<'a> Model for Sealed<'a> {
     ghost coded = { Prim.hlevel (codes, plain_code) };
 
     ghost view = { λ s.
-        sealed_pool_by s.details.items s.world.now (names_upgraded_by s.upgrade) };
+        sealed_pool_by (candidates_of_packages s.packages) s.world.now (names_upgraded_by s.upgrade) };
 
-    ghost invariant = { λ s. LeadsToOffers s.table s.details.items
-        × (s.eligible.items ≡ map (is_eligible s.world.now) s.details.items)
-        × (s.pinned.items ≡ map (is_pinned s.world.now) s.details.items)
-        × (s.kept.items ≡ map (is_kept_installed (names_upgraded_by s.upgrade)) s.details.items)
+    ghost invariant = { λ s. LeadsToOffers s.table (candidates_of_packages s.packages)
+        × (s.eligible.items ≡ map (is_eligible s.world.now) (candidates_of_packages s.packages))
+        × (s.pinned.items ≡ map (is_pinned s.world.now) (candidates_of_packages s.packages))
+        × (s.kept.items ≡ map (is_kept_installed (names_upgraded_by s.upgrade)) (candidates_of_packages s.packages))
         × (s.install_ifs.items
-        ≡ places_from 0 (has_usable_install_if s.world.now) s.details.items) };
+        ≡ places_from 0 (has_usable_install_if s.world.now) (candidates_of_packages s.packages)) };
 }
 
 impl<'a> Sealed<'a> {
@@ -70,14 +74,14 @@ impl<'a> Sealed<'a> {
     pub fn len(&self) -> usize
         ensures { result ≡ length self.now.candidates }
     {
-        self.details.len()
+        self.packages.len()
     }
 
     /// Whether there is no candidate.
     pub fn is_empty(&self) -> bool
         ensures { result ≡ (length self.now.candidates == 0) }
     {
-        self.details.is_empty()
+        self.packages.len() == 0
     }
 
     /// A candidate, with all that its index, or the database, says of it.
@@ -89,18 +93,22 @@ impl<'a> Sealed<'a> {
     }
 
     /// What is compared of a candidate.
-    pub fn details(&self, id: CandId) -> &Details<'a>
+    pub fn details(&self, id: CandId) -> Details<'a>
         requires { id < length self.now.candidates }
-        ensures { slice_get self.now.candidates id ≡ Some result.now }
+        ensures { slice_get self.now.candidates id ≡ Some result }
     {
-        &self.details[id.place as usize]
+        self.packages.get(id.place as usize)
     }
 
     /// What is compared of a candidate, if there is one at the place.
-    pub fn at(&self, id: CandId) -> Option<&Details<'a>>
-        ensures { option_copied result ≡ candidate_at self.now id }
+    pub fn at(&self, id: CandId) -> Option<Details<'a>>
+        ensures { result ≡ candidate_at self.now id }
     {
-        self.details.get(id.place as usize)
+        let place = id.place as usize;
+        if place >= self.packages.len() {
+            return None;
+        }
+        Some(self.packages.get(place))
     }
 
     /// The places of the candidates that are named so or have an entry of provides of that name
@@ -134,10 +142,71 @@ impl<'a> Sealed<'a> {
     pub fn options_for(&self, alloc: Global, need: &NeedRef<'_>) -> Result<Options, AllocError>
         ensures { IfOk result (λ options. options ≡ options_for self.now (need_by need.now)) }
     {
+        let ids = self.fitting(alloc, need)?;
+        if ids.len() < 2 {
+            return Ok(Options::of(ids));
+        }
+        self.ranked(alloc, need, &ids)
+    }
+
+    // The options that have these places, best first. What each is ranked by is read once.
+    fn ranked(
+        &self,
+        alloc: Global,
+        need: &NeedRef<'_>,
+        ids: &[CandId],
+    ) -> Result<Options, AllocError>
+        requires { ids.now
+            ≡ places_from 0 (may_meet self.now (need_by need.now)) self.now.candidates }
+        ensures { IfOk result (λ options. options ≡ options_for self.now (need_by need.now)) }
+    {
         rank_is_total();
-        let mut ids = self.fitting(alloc, need)?;
-        ids.sort_by(|a, b| self.rank(need, *a, *b))?;
+        order_is_total();
+        let mut rankings = self.rankings(alloc, need, ids)?;
+        rankings.sort_by(|one, other| one.compare(other))?;
+        let ids = places_of(alloc, &rankings)?;
         Ok(Options::of(ids))
+    }
+
+    // What each of some candidates is ranked by.
+    fn rankings(
+        &self,
+        alloc: Global,
+        need: &NeedRef<'_>,
+        ids: &[CandId],
+    ) -> Result<Vec<RankedOption<'a>>, AllocError>
+        requires { ids.now
+            ≡ places_from 0 (may_meet self.now (need_by need.now)) self.now.candidates }
+        ensures each { IfOk result (λ rankings.
+            All (IsRankingIn self.now (need_by need.now)) rankings.items) }
+        ensures places { IfOk result (λ rankings. map (λ r. r.place) rankings.items ≡ ids.now) }
+    {
+        let mut rankings = Vec::with_capacity(alloc, ids.len())?;
+        for id in ids {
+            rankings.push(self.ranking(need, *id))?;
+        }
+        Ok(rankings)
+    }
+
+    // What a candidate is ranked by.
+    fn ranking(&self, need: &NeedRef<'_>, id: CandId) -> RankedOption<'a>
+        requires { id < length self.now.candidates }
+        ensures place { result.place ≡ id }
+        ensures ranking { IsRankingIn self.now (need_by need.now) result }
+    {
+        let details = self.details(id);
+        RankedOption {
+            pinned: self.is_pinned(id),
+            untagged: details.is_untagged(),
+            named: need.name() == details.name(),
+            kept: self.is_kept(id),
+            under: details.version_under(need),
+            priority: details.priority(),
+            name: details.name(),
+            version: details.version(),
+            repo: details.repo(),
+            id,
+        }
     }
 
     // The candidates that may be selected and meet a need, in rising order.
@@ -171,46 +240,13 @@ impl<'a> Sealed<'a> {
         ensures { result ≡ is_at self.now (may_meet self.now (need_by need.now)) id }
     {
         let place = id.place as usize;
-        if place >= self.details.len() {
+        if place >= self.packages.len() {
             return false;
         }
         if !self.eligible[place] {
             return false;
         }
-        self.details[place].meets_need(need)
-    }
-
-    // The rank of two candidates for a need.
-    #[tactic(auto, unfolding(crate::specs::Rank::rank_cmp))]
-    fn rank(&self, need: &NeedRef<'_>, a: CandId, b: CandId) -> Ordering
-        ensures { result ≡ rank_cmp self.now (need_by need.now) a b }
-    {
-        let by_candidate = self.by_candidate(need, a, b);
-        by_candidate.then(a.place.cmp(&b.place))
-    }
-
-    // The rank of two candidates without their places.
-    fn by_candidate(&self, need: &NeedRef<'_>, a: CandId, b: CandId) -> Ordering
-        ensures { result ≡ option_cmp (candidate_cmp self.now (need_by need.now))
-            (candidate_at self.now a) (candidate_at self.now b) }
-    {
-        match (self.at(a), self.at(b)) {
-            (None, None) => Ordering::Equal,
-            (None, Some(_)) => Ordering::Less,
-            (Some(_), None) => Ordering::Greater,
-            (Some(one), Some(other)) => {
-                let pin = self.by_pin(a, b);
-                let kept = self.by_kept(a, b);
-                pin.then(by_details(need, one, other, kept))
-            }
-        }
-    }
-
-    // The order by world's pins.
-    fn by_pin(&self, a: CandId, b: CandId) -> Ordering
-        ensures { result ≡ flip_args bool_cmp (is_pinned_at self.now a) (is_pinned_at self.now b) }
-    {
-        self.is_pinned(b).cmp(&self.is_pinned(a))
+        self.packages.get(place).meets_need(need)
     }
 
     // Whether world pins the candidate's name to its tag.
@@ -224,15 +260,6 @@ impl<'a> Sealed<'a> {
         self.pinned[place]
     }
 
-    // The order by what is installed and stays.
-    fn by_kept(&self, a: CandId, b: CandId) -> Ordering
-        ensures { result ≡ flip_args bool_cmp
-            (is_at self.now (is_kept_installed self.now.upgraded) a)
-            (is_at self.now (is_kept_installed self.now.upgraded) b) }
-    {
-        self.is_kept(b).cmp(&self.is_kept(a))
-    }
-
     // Whether the candidate is installed and the command does not upgrade its name.
     fn is_kept(&self, id: CandId) -> bool
         ensures { result ≡ is_at self.now (is_kept_installed self.now.upgraded) id }
@@ -243,6 +270,13 @@ impl<'a> Sealed<'a> {
         }
         self.kept[place]
     }
+}
+
+// The places of ranked options.
+fn places_of(alloc: Global, rankings: &[RankedOption<'_>]) -> Result<Vec<CandId>, AllocError>
+    ensures { IfOk result (λ ids. ids.items ≡ map (λ r. r.place) rankings.now) }
+{
+    rankings.iter().map(|ranking| ranking.id).collect(alloc)
 }
 
 /// What an entry of world does.
@@ -263,13 +297,13 @@ pub(crate) fn seal_list<'a>(
 ) -> Result<Sealed<'a>, AllocError>
     requires { IsCandidateList list }
     ensures { IfOk result (λ sealed. sealed
-        ≡ sealed_pool_by list.entry.details.items world.entry.now
+        ≡ sealed_pool_by (candidates_of_packages list.entry.packages) world.entry.now
         (names_upgraded_by upgrade.entry)) }
 {
     let marks = marks_by_world(alloc, &list, world)?;
-    let kept = kept_marks(alloc, &list.details, upgrade)?;
+    let kept = kept_marks(alloc, &list.packages, upgrade)?;
     Ok(Sealed {
-        details: list.details,
+        packages: list.packages,
         table: list.table,
         world,
         upgrade,
@@ -296,17 +330,17 @@ fn marks_by_world(
 ) -> Result<WorldMarks, AllocError>
     requires { IsCandidateList list.now }
     ensures eligible { IfOk result (λ marks. marks.eligible.items
-        ≡ map (is_eligible world.now) list.now.details.items) }
+        ≡ map (is_eligible world.now) (candidates_of_packages list.now.packages)) }
     ensures pinned { IfOk result (λ marks. marks.pinned.items
-        ≡ map (is_pinned world.now) list.now.details.items) }
+        ≡ map (is_pinned world.now) (candidates_of_packages list.now.packages)) }
     ensures install_ifs { IfOk result (λ marks. marks.install_ifs.items
-        ≡ places_from 0 (has_usable_install_if world.now) list.now.details.items) }
+        ≡ places_from 0 (has_usable_install_if world.now) (candidates_of_packages list.now.packages)) }
 {
     let conflicts = entries_of_kind(alloc, world, EntryKind::Conflict)?;
     let tagged = entries_of_kind(alloc, world, EntryKind::Tagged)?;
-    let eligible = eligible_marks(alloc, &list.details, &list.table, &tagged, &conflicts)?;
-    let pinned = pinned_marks(alloc, &list.details, &list.table, &tagged)?;
-    let install_ifs = install_ifs_among(alloc, &list.details, &eligible)?;
+    let eligible = eligible_marks(alloc, &list.packages, &list.table, &tagged, &conflicts)?;
+    let pinned = pinned_marks(alloc, &list.packages, &list.table, &tagged)?;
+    let install_ifs = install_ifs_among(alloc, &list.packages, &eligible)?;
     Ok(WorldMarks {
         eligible,
         pinned,
@@ -354,17 +388,18 @@ fn is_entry_of_kind(kind: EntryKind, dep: &Dep<'_>) -> bool
 // The places of the candidates that may be selected and have an install-if without conflict.
 fn install_ifs_among(
     alloc: Global,
-    details: &[Details<'_>],
+    packages: &Packages<'_>,
     eligible: &[bool],
 ) -> Result<Vec<CandId>, AllocError>
-    requires few { length details.now < 2 ^ 32 }
-    requires marked { length eligible.now ≡ length details.now }
+    requires few { length (candidates_of_packages packages.now) < 2 ^ 32 }
+    requires marked { length eligible.now ≡ length (candidates_of_packages packages.now) }
     ensures { IfOk result (λ ids. ids.items
-        ≡ places_marked 0 eligible.now details.now) }
+        ≡ places_marked 0 eligible.now
+        (candidates_of_packages packages.now)) }
 {
     let mut ids = Vec::new(alloc);
-    for place in 0..details.len() {
-        push_if_marked(&mut ids, place, eligible[place], &details[place])?;
+    for place in 0..packages.len() {
+        push_if_marked(&mut ids, place, eligible[place], &packages.get(place))?;
     }
     Ok(ids)
 }

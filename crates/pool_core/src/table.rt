@@ -1,105 +1,50 @@
 //! The table of names: for each name the candidates that are named so or provide it, in rising
-//! order and each once. It borrows the names.
-ghost use Rattle.std.specs.Prelude.{◌≡◌, ◌||◌, ◌&&◌, ℕ, List, [], ◌∷◌, ◌++◌, OnOk, if◌then◌else◌, not, map};
+//! order and each once. It borrows the names. Most names have one candidate, which takes no memory
+//! of its own.
+ghost use Rattle.std.specs.Prelude.{◌≡◌, ◌&&◌, ℕ, List, [], ◌∷◌, ◌++◌, IfOk, OnOk, None, Some, unwrap_or, not};
 ghost use Rattle.std.specs.List.{list_any};
 ghost use Rattle.std.specs.Str.{bytes_eq};
+ghost use Rattle.indexmap.specs.IndexMap.{insert_entry};
 ghost use Rattle.dep_core.specs.Dependency.{Dependency};
 ghost use Rattle.dep_core.specs.Meets.{dependency};
 ghost use Rattle.pool_core.specs.Candidates.{offers_name};
-ghost use Rattle.pool_core.specs.Table.{ids_of, is_last_id, with_last, with_last_where};
+ghost use Rattle.pool_core.specs.Table.{first_under, ids_of, is_last_id, with_last, with_last_where};
 
 use crate::candidate::{CandId, Details};
+use crate::dependencies::Deps;
 use dep_core::Dep;
 use indexmap::IndexMap;
 use std::alloc::{AllocError, Global};
 use std::marker::Model;
 use std::slice;
 
-/// The candidates that offer a name. Most names have one, which takes no memory of its own.
-#[derive(Drop)]
-struct Offers {
-    first: CandId,
-    // All of them, where there are more than one.
-    all: Vec<CandId>,
-}
-
-impl Model for Offers {
-    ghost use Rattle.std.specs.Prelude.{ℕ, List};
-    ghost use Rattle.pool_core.specs.Table.{one_or_all};
-
-    ghost Value = { List ℕ };
-
-    ghost view = { λ offers. one_or_all offers.first offers.all.items };
-}
-
-impl Offers {
-    // One candidate.
-    fn of(alloc: Global, first: CandId) -> Offers
-        ensures { result ≡ first ∷ [] }
-    {
-        Offers {
-            first,
-            all: Vec::new(alloc),
-        }
-    }
-
-    // The candidates, in rising order.
-    fn as_slice(&self) -> &[CandId]
-        ensures { result.now ≡ self.now }
-    {
-        if self.all.is_empty() {
-            slice::from_ref(&self.first)
-        } else {
-            self.all.as_slice()
-        }
-    }
-
-    // Puts a candidate behind the others, unless it is the last of them.
-    fn push_once(&mut self, id: CandId) -> Result<(), AllocError>
-        ensures { OnOk result (self.new ≡ with_last self.old id) }
-    {
-        if is_last_id(self.as_slice(), id) {
-            return Ok(());
-        }
-        self.push(id)
-    }
-
-    // Puts a candidate behind the others.
-    fn push(&mut self, id: CandId) -> Result<(), AllocError>
-        ensures { OnOk result (self.new ≡ self.old ++ id ∷ []) }
-    {
-        if self.all.is_empty() {
-            self.all.push(self.first)?;
-        }
-        self.all.push(id)?;
-        Ok(())
-    }
-}
-
 /// The candidates that offer each name.
 #[derive(Drop)]
 pub(crate) struct Table<'a> {
     alloc: Global,
-    by_name: IndexMap<&'a [u8], Offers>,
+    // The first candidate of each name.
+    singles: IndexMap<&'a [u8], CandId>,
+    // All of them, where there are more.
+    lists: IndexMap<&'a [u8], Vec<CandId>>,
 }
 
 impl<'a> Model for Table<'a> {
-    ghost use Rattle.std.specs.Prelude.{ℕ, List};
-    ghost use Rattle.pool_core.specs.Table.{names_and_ids};
+    ghost use Rattle.pool_core.specs.Table.{Offered, offered_by};
 
-    ghost Value = { List (List ℕ × List ℕ) };
+    ghost Value = { Offered };
 
-    ghost view = { λ t. names_and_ids t.by_name.entries };
+    ghost view = { λ t. offered_by t.singles.entries t.lists.entries };
 }
 
 impl<'a> Table<'a> {
     /// No names.
     pub(crate) fn new(alloc: Global) -> Table<'a>
-        ensures { result ≡ [] }
+        ensures { (name : List ℕ) → ids_of result name ≡ [] }
     {
         Table {
             alloc,
-            by_name: IndexMap::new(alloc),
+            singles: IndexMap::new(alloc),
+            lists: IndexMap::new(alloc),
         }
     }
 
@@ -107,8 +52,18 @@ impl<'a> Table<'a> {
     pub(crate) fn get(&self, name: &[u8]) -> &[CandId]
         ensures { result.now ≡ ids_of self.now name.now }
     {
-        match self.by_name.get(name) {
+        match self.lists.get(name) {
             Some(ids) => ids.as_slice(),
+            None => self.single(name),
+        }
+    }
+
+    // The candidate of a name that one offers.
+    fn single(&self, name: &[u8]) -> &[CandId]
+        ensures { result.now ≡ unwrap_or (first_under self.now.singles name.now) [] }
+    {
+        match self.singles.get(name) {
+            Some(id) => slice::from_ref(id),
             None => &[],
         }
     }
@@ -119,19 +74,19 @@ impl<'a> Table<'a> {
             ≡ with_last_where (offers_name name details.now) (ids_of self.old name) id) }
     {
         self.add(details.name(), id)?;
-        self.add_provided(details.provides(), id)?;
+        self.add_provided(&details.provides(), id)?;
         Ok(())
     }
 
     // Adds a candidate to each name that it provides.
-    fn add_provided(&mut self, provides: &[Dep<'a>], id: CandId) -> Result<(), AllocError>
+    fn add_provided(&mut self, provides: &Deps<'a>, id: CandId) -> Result<(), AllocError>
         ensures { OnOk result ((name : List ℕ) → ids_of self.new name
             ≡ with_last_where (list_any
             (λ (p : Dependency). not p.conflict && bytes_eq name p.name)
-            (map dependency provides.now)) (ids_of self.old name) id) }
+            provides.now) (ids_of self.old name) id) }
     {
-        for entry in provides {
-            self.add_entry(entry, id)?;
+        for i in 0..provides.len() {
+            self.add_entry(&provides.get(i), id)?;
         }
         Ok(())
     }
@@ -154,17 +109,88 @@ impl<'a> Table<'a> {
         ensures { OnOk result ((other : List ℕ) → ids_of self.new other
             ≡ with_last_where (bytes_eq other name.entry.now) (ids_of self.old other) id) }
     {
-        match self.by_name.get_mut(name) {
-            Some(ids) => {
-                ids.push_once(id)?;
-                Ok(())
-            }
-            None => {
-                self.by_name.insert(name, Offers::of(self.alloc, id))?;
-                Ok(())
-            }
+        match self.lists.get_mut(name) {
+            Some(ids) => push_once(ids, id),
+            None => self.add_to_single(name, id),
         }
     }
+
+    // The same for a name that has no list.
+    fn add_to_single(&mut self, name: &'a [u8], id: CandId) -> Result<(), AllocError>
+        requires { first_under self.old.lists name.now ≡ None }
+        ensures { OnOk result ((other : List ℕ) → ids_of self.new other
+            ≡ with_last_where (bytes_eq other name.entry.now) (ids_of self.old other) id) }
+    {
+        match self.singles.get(name).copied() {
+            Some(first) => self.add_second(name, first, id),
+            None => insert_single(&mut self.singles, name, id),
+        }
+    }
+
+    // The same for a name that has one candidate.
+    fn add_second(&mut self, name: &'a [u8], first: CandId, id: CandId) -> Result<(), AllocError>
+        requires list { first_under self.old.lists name.now ≡ None }
+        requires single { first_under self.old.singles name.now ≡ Some (first ∷ []) }
+        ensures { OnOk result ((other : List ℕ) → ids_of self.new other
+            ≡ with_last_where (bytes_eq other name.entry.now) (ids_of self.old other) id) }
+    {
+        if first == id {
+            return Ok(());
+        }
+        let ids = pair(self.alloc, first, id)?;
+        insert_list(&mut self.lists, name, ids)
+    }
+}
+
+// Leads a name that has no candidate to one.
+fn insert_single<'a>(
+    singles: &mut IndexMap<&'a [u8], CandId>,
+    name: &'a [u8],
+    id: CandId,
+) -> Result<(), AllocError>
+    ensures { OnOk result (singles.new.entries
+        ≡ insert_entry (λ one other. bytes_eq one.now other.now) singles.old.entries name.entry
+        id) }
+{
+    match singles.insert(name, id) {
+        Ok(_) => Ok(()),
+        Err(_) => Err(AllocError),
+    }
+}
+
+// Leads a name to a list of candidates.
+fn insert_list<'a>(
+    lists: &mut IndexMap<&'a [u8], Vec<CandId>>,
+    name: &'a [u8],
+    ids: Vec<CandId>,
+) -> Result<(), AllocError>
+    ensures { OnOk result (lists.new.entries
+        ≡ insert_entry (λ one other. bytes_eq one.now other.now) lists.old.entries name.entry
+        ids) }
+{
+    lists.insert(name, ids)?;
+    Ok(())
+}
+
+// Two candidates.
+fn pair(alloc: Global, first: CandId, second: CandId) -> Result<Vec<CandId>, AllocError>
+    ensures { IfOk result (λ ids. ids.items ≡ first ∷ second ∷ []) }
+{
+    let mut ids = Vec::with_capacity(alloc, 2)?;
+    ids.push(first)?;
+    ids.push(second)?;
+    Ok(ids)
+}
+
+// Puts a candidate behind others, unless it is the last of them.
+fn push_once(ids: &mut Vec<CandId>, id: CandId) -> Result<(), AllocError>
+    ensures { OnOk result (ids.new.items ≡ with_last ids.old.items id) }
+{
+    if is_last_id(ids, id) {
+        return Ok(());
+    }
+    ids.push(id)?;
+    Ok(())
 }
 
 fn is_last_id(ids: &[CandId], id: CandId) -> bool

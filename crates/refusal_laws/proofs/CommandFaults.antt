@@ -13,7 +13,7 @@ use Rattle.command_core.specs.declared.command.Applet.{Applet}
 use Rattle.command_core.specs.declared.command.Applet.TheVariants.{Del, Fix, Upgrade}
 use Rattle.command_core.specs.declared.operands.Operand.{Operand}
 use Rattle.dep_core.specs.World.{has_name}
-use Rattle.engine_core.specs.Changed.{IsClashFor, IsClashOfSelected, IsClashUnlessSimulated, Selected, change_of_selected, changed, selected_by, selected_for, selected_of_inputs, simulated_change}
+use Rattle.engine_core.specs.Changed.{IsClashFor, IsClashOfSelected, IsClashUnlessSimulated, Selected, change_of_selected, change_of_command, selected_by, selected_for, selected_of_inputs, simulated_change}
 use Rattle.engine_core.specs.Choice.{IsChoiceFrom}
 use Rattle.engine_core.specs.Selecting.{pool_by, pool_for}
 use Rattle.engine_core.specs.Wishes.{first_unknown, is_installed_name, is_known_name, names_to_upgrade, unknown_place, unless_place, wishes_of}
@@ -115,8 +115,8 @@ module _ (command : CommandLine) (read : Reads) (chosen : Option (List ℕ)) (ch
       by_flag false off e =
           (s, is, off, change_fault s.inputs s.replacement (wishes_of command) read clash files refusal e (subst (λ b. IsClashUnlessSimulated b (wishes_of command) read files s clash) off clashes))
 
-  pub command_fault : (files : Files) (clash : Option NamePair) (refusal : Refusal) → IsClashFor command read files chosen clash → changed command read files chosen clash ≡ Err refusal → IsFaultOfCommand command read files chosen refusal
-  unfolding changed
+  pub command_fault : (files : Files) (clash : Option NamePair) (refusal : Refusal) → IsClashFor command read files chosen clash → change_of_command command read files chosen clash ≡ Err refusal → IsFaultOfCommand command read files chosen refusal
+  unfolding change_of_command
   command_fault files clash refusal clashes e =
       elim (and_then_err (selected_for command read chosen) (change_of_selected command read files clash) refusal e) [
         | inl first ↦ elim (and_then_err (inputs_of command read) (selected_of_inputs command chosen) refusal first) [

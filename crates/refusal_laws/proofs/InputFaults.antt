@@ -23,8 +23,8 @@ use Rattle.v2_core.specs.Database.{value_of_records}
 use Rattle.v2_core.specs.Payload.{or_too_large, payload_if_sound, payload_of_text, unless_bad, written_payload}
 use Rattle.v2_core.specs.Reading.{records_of}
 use Rattle.v2_core.specs.Records.{Record}
-use Rattle.v2_core.specs.declared.fault.V2Fault.{V2Fault}
-use Rattle.v2_core.specs.declared.fault.V2Fault.TheVariants.{Bad, Memory, TooLarge}
+use Rattle.v2_core.specs.declared.read.V2Fault.{V2Fault}
+use Rattle.v2_core.specs.declared.read.V2Fault.TheVariants.{Bad, Memory, TooLarge}
 use Rattle.refusal_laws.specs.InputFaults.{IsFaultOfInput, IsIndexRead, repositories_found}
 use Rattle.refusal_laws.proofs.Lists.{and_then_err, and_then_ok}
 
@@ -46,7 +46,7 @@ tested_remembers : (r : Result (List ℕ) V2Fault) → (r ≡ Err Memory → ⊥
 tested_remembers (Ok payload) h e = bad_remembers payload (payload_fault Idb payload) e
 tested_remembers (Err fault) h e = h e
 
-text_remembers : (text : List ℕ) → payload_of_text text ≡ Err Memory → ⊥
+pub text_remembers : (text : List ℕ) → payload_of_text text ≡ Err Memory → ⊥
 unfolding payload_of_text
 text_remembers text e = tested_remembers (written_payload (records_of text)) (written_remembers (records_of text)) e
 

@@ -18,7 +18,7 @@ use Rattle.db_core.specs.Members.{Listing, Member, member_listings, member_name}
 use Rattle.file_owners.specs.Owners.{claim_by, claims_from, claims_in, contested_of, member_beats, owner_of_path, takes_over_if_any}
 use Rattle.file_owners.specs.Replaces.{takes_over}
 use Rattle.file_owners.proofs.Claiming.{owner_is}
-use Rattle.list_order.specs.ByteOrder.{bytes_cmp, precedes, smallest}
+use Rattle.list_order.specs.ByteOrder.{bytes_cmp, precedes, smallest_text}
 use Rattle.list_order.specs.Sorted.{sorted_by}
 use Rattle.list_order.proofs.Smallest.{smallest_first}
 use Rattle.list_order.proofs.Sorting.{Each, Rises, ranks, rises_in_order}
@@ -50,7 +50,7 @@ found_is_first test (y ∷ ys) x up e q here t = by_test (test y) refl e here (�
     by_test false f e (inl is) rest = absurd (true≢false (sym t ∙ (ap test is ∙ f)))
     by_test false f e (inr more) rest = rest e more
 
-smallest_is : (xs : List (List ℕ)) (x : List ℕ) → smallest xs ≡ Some x → Names.IsIn x xs × ((q : List ℕ) → Names.IsIn q xs → precedes q x ≡ false)
+smallest_is : (xs : List (List ℕ)) (x : List ℕ) → smallest_text xs ≡ Some x → Names.IsIn x xs × ((q : List ℕ) → Names.IsIn q xs → precedes q x ≡ false)
 smallest_is xs x e = by_list (sorted_by bytes_cmp xs) refl (sym (smallest_first xs) ∙ e) (rises_in_order bytes_cmp nat_list_cmp_total xs)
   where
     by_list : (ys : List (List ℕ)) → sorted_by bytes_cmp xs ≡ ys → slice_get ys zero ≡ Some x → RisesWeakly ys → Names.IsIn x xs × ((q : List ℕ) → Names.IsIn q xs → precedes q x ≡ false)
@@ -72,7 +72,7 @@ first_reserved_is members path e =
       first = λ other here reserved. is.1 other (in_filter is_reserved (coming_paths members) other (in_names other (coming_paths members) here) reserved);
     }
 
-none_smallest : (xs : List (List ℕ)) (q : List ℕ) → smallest xs ≡ None → Names.IsIn q xs → ⊥
+none_smallest : (xs : List (List ℕ)) (q : List ℕ) → smallest_text xs ≡ None → Names.IsIn q xs → ⊥
 none_smallest xs q e here = by_list (sorted_by bytes_cmp xs) (sym (smallest_first xs) ∙ e) (sorted_names_in q xs here)
   where
     by_list : (ys : List (List ℕ)) → slice_get ys zero ≡ None → Names.IsIn q ys → ⊥

@@ -16,8 +16,8 @@ use Rattle.report_core.specs.declared.refusal.Refusal.{Refusal}
 use Rattle.report_core.specs.declared.refusal.Refusal.TheVariants.{DatabaseBad, IndexBad, IndexMissing, NoDatabase, RepositoriesBad, ResultTooLarge, Untrusted, WorldBad}
 use Rattle.root_names.specs.RootNames.{database_name, text_database_name, world_name}
 use Rattle.v2_core.specs.Payload.{payload_of_text}
-use Rattle.v2_core.specs.declared.fault.V2Fault.{V2Fault}
-use Rattle.v2_core.specs.declared.fault.V2Fault.TheVariants.{Bad, Memory, TooLarge}
+use Rattle.v2_core.specs.declared.read.V2Fault.{V2Fault}
+use Rattle.v2_core.specs.declared.read.V2Fault.TheVariants.{Bad, Memory, TooLarge}
 use Rattle.refusal_laws.specs.InputFaults.{repositories_found}
 use Rattle.refusal_laws.specs.ReadBefore.{HasBoth, HasDatabase, HasReadBefore, HasRepositories}
 use Rattle.refusal_laws.proofs.InputFaults.{as_err, cause_err, no_refusal, root_listed, world_then}

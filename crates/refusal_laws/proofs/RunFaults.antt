@@ -4,7 +4,7 @@ use Rattle.base_core.specs.Files.{Files}
 use Rattle.base_core.specs.declared.cause.Cause.{Cause}
 use Rattle.change_outcome.specs.ChangeOutcome.{ChangeDone}
 use Rattle.command_core.specs.Command.{CommandLine}
-use Rattle.engine_core.specs.Changed.{IsClashFor, changed}
+use Rattle.engine_core.specs.Changed.{IsClashFor, change_of_command}
 use Rattle.engine_core.specs.Choice.{IsChoiceFrom}
 use Rattle.engine_core.specs.Selecting.{pool_for}
 use Rattle.journal_core.specs.Recovery.{intent_name}
@@ -33,12 +33,12 @@ pub over_fault : (command : CommandLine) (files : Files) (o : Outcome) (refusal 
 over_fault command files o refusal changes (given, is, outcome) e =
     let choice : IsChoiceFrom (pool_for command (reads_in files)) given.chosen = subst (λ (x : Effect). IsChosenFor x command (reads_in files) given.chosen) changes is.chosen in
     let clash : IsClashFor command (reads_in files) files given.chosen given.clash = subst (λ (x : Effect). IsClashBy x command (reads_in files) files given.chosen given.clash) changes is.clash in
-    let same : change_outcome files (changed command (reads_in files) files given.chosen given.clash) ≡ o = change_is command.applet command given (reads_in files) files changes ∙ sym outcome in
+    let same : change_outcome files (change_of_command command (reads_in files) files given.chosen given.clash) ≡ o = change_is command.applet command given (reads_in files) files changes ∙ sym outcome in
     record {
       chosen = given.chosen;
       choice = choice;
       fault = command_fault command (reads_in files) given.chosen choice files given.clash refusal clash
-          (refused_is files (changed command (reads_in files) files given.chosen given.clash) refusal (ap (λ (x : Outcome). x.refusal) same ∙ e));
+          (refused_is files (change_of_command command (reads_in files) files given.chosen given.clash) refusal (ap (λ (x : Outcome). x.refusal) same ∙ e));
     }
 
 -- by whether the intent is bad

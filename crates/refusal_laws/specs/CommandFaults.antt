@@ -63,6 +63,7 @@ IsChangeRefused command read files chosen refusal =
     (s : Selected) × (selected_for command read chosen ≡ Ok s) × (command.flags.simulate ≡ false)
     × IsFaultOfChange s.inputs s.replacement (wishes_of command) read files refusal
 
+-- the refusal is due by what the command finds
 abbrev pub IsFaultOfCommand : CommandLine → Reads → Files → Option (List ℕ) → Refusal → Type 0
 IsFaultOfCommand command read files chosen refusal =
     IsFaultOfInput command read refusal

@@ -6,8 +6,9 @@ ghost use Rattle.change_inputs.specs.Inputs.{Inputs, inputs_of};
 ghost use Rattle.change_outcome.specs.ChangeOutcome.{ChangeDone, ChangeWishes, IsClashOfChange, change_members, change_or_refusal, file_change};
 ghost use Rattle.change_outcome.specs.MembersAfter.{MemberFound};
 ghost use Rattle.command_core.specs.Command.{CommandLine};
-ghost use Rattle.engine_core.specs.Changed.{IsClashFor, changed, selected_of_inputs};
+ghost use Rattle.engine_core.specs.Changed.{IsClashFor, change_of_command, selected_of_inputs};
 ghost use Rattle.engine_core.specs.Choice.{IsChoiceFrom};
+ghost use Rattle.engine_core.specs.InfoTold.{info_told};
 ghost use Rattle.engine_core.specs.Selecting.{pool_for};
 ghost use Rattle.make_info.specs.Reads.{Reads};
 ghost use Rattle.make_info.specs.declared.fault.MakeFault.TheVariants.{TooLarge};
@@ -22,6 +23,7 @@ ghost use Rattle.report_core.specs.declared.refusal.Refusal.{Refusal};
 ghost use Rattle.refusal_laws.specs.ChangeFaults.{IsFaultOfChange, IsFaultOfPackage};
 ghost use Rattle.refusal_laws.specs.CommandFaults.{IsFaultOfCommand};
 ghost use Rattle.refusal_laws.specs.FirstPackage.{IsFirstRefused};
+ghost use Rattle.refusal_laws.specs.InfoFaults.{IsFaultOfInfo};
 ghost use Rattle.refusal_laws.specs.InputFaults.{IsFaultOfInput};
 ghost use Rattle.refusal_laws.specs.MadeTooLarge.{IsPackageTooLarge};
 ghost use Rattle.refusal_laws.specs.OperandsKnown.{HasPassedBeforeSelection};
@@ -41,6 +43,13 @@ pub fn a_refused_input_has_its_fault()
         → inputs_of command read ≡ Err refusal → IsFaultOfInput command read refusal }
     ensures order { (command : CommandLine) (read : Reads) (refusal : Refusal)
         → inputs_of command read ≡ Err refusal → HasReadBefore command read refusal }
+{}
+
+/// Where `info` is refused, the database is, for its fault; or an operand asks for what is not
+/// installed.
+pub fn a_refused_info_has_its_fault()
+    ensures { (command : CommandLine) (read : Reads) (refusal : Refusal)
+        → info_told command read ≡ Err refusal → IsFaultOfInfo command read refusal }
 {}
 
 /// Where a change is refused, what the refusal says is so: of a package that comes or goes, or of
@@ -72,7 +81,7 @@ pub fn a_refused_run_has_its_fault()
 pub fn a_refused_command_has_its_fault()
     ensures { (command : CommandLine) (read : Reads) (files : Files) (chosen : Option (List ℕ))
         (clash : Option NamePair) (refusal : Refusal)
-        → changed command read files chosen clash ≡ Err refusal
+        → change_of_command command read files chosen clash ≡ Err refusal
         → IsChoiceFrom (pool_for command read) chosen
         → IsClashFor command read files chosen clash
         → IsFaultOfCommand command read files chosen refusal }

@@ -7,9 +7,7 @@
 
 mod lines;
 mod refusal;
-mod report;
 mod sentence;
 
-pub use lines::write_error;
+pub use lines::{Report, write_error};
 pub use refusal::Refusal;
-pub use report::Report;

@@ -1,5 +1,7 @@
-//! The lines of refusals: texts put together from pieces, and written to a sink without memory.
-ghost use Rattle.std.specs.Prelude.{◌≡◌, [], ◌∷◌, decimal};
+//! What a command prints: its report, made whole in memory before the first byte is printed, and
+//! the line of a refusal, put together from pieces and written to a sink without memory.
+
+ghost use Rattle.std.specs.Prelude.{◌≡◌, [], ◌∷◌, decimal, ◌++◌, OnOk, OnErr};
 ghost use Rattle.base_core.specs.Sink.{sink_change};
 ghost use Rattle.base_core.specs.Write.{Writes};
 ghost use Rattle.hex.specs.Hex.{encode_lower};
@@ -10,6 +12,8 @@ use crate::refusal::Refusal;
 use crate::sentence::{Sentence, cause_pieces, sentence_of};
 use base_core::{Cause, Digest, Sink, SinkFault, write_all};
 use itoa::Buffer;
+use std::alloc::{AllocError, Global};
+use std::marker::Model;
 
 /// Writes the line of a refusal. After a fault a front of it was written.
 pub fn write_error<E: Sink>(refusal: &Refusal, err: &mut E) -> Result<(), SinkFault>
@@ -129,5 +133,55 @@ fn digest_bytes(digest: &Digest) -> &[u8]
         Digest::Sha1(bytes) => bytes,
         Digest::Sha256(bytes) => bytes,
         Digest::Sha512(bytes) => bytes,
+    }
+}
+
+/// What a command prints on standard output.
+#[derive(Drop)]
+pub struct Report {
+    bytes: Vec<u8>,
+}
+
+impl Model for Report {
+    ghost use Rattle.std.specs.Prelude.{ℕ, List};
+
+    ghost Value = { List ℕ };
+
+    ghost view = { λ report. report.bytes.items };
+}
+
+impl Report {
+    /// An empty report.
+    pub fn new(alloc: Global) -> Report
+        ensures { result ≡ [] }
+    {
+        Report {
+            bytes: Vec::new(alloc),
+        }
+    }
+
+    /// Adds bytes. A refused push changes nothing.
+    pub fn push(&mut self, piece: &[u8]) -> Result<(), AllocError>
+        ensures ok { OnOk result (self.new ≡ self.old ++ piece.now) }
+        ensures err { OnErr result (self.new ≡ self.old) }
+    {
+        self.bytes.extend_from_slice(piece)?;
+        Ok(())
+    }
+
+    /// Adds a number in decimal digits. A refused push changes nothing.
+    pub fn number(&mut self, n: u128) -> Result<(), AllocError>
+        ensures ok { OnOk result (self.new ≡ self.old ++ decimal n) }
+        ensures err { OnErr result (self.new ≡ self.old) }
+    {
+        let mut digits = Buffer::new();
+        self.push(digits.format(n).as_bytes())
+    }
+
+    /// The bytes of the report.
+    pub fn bytes(&self) -> &[u8]
+        ensures { result.now ≡ self.now }
+    {
+        &self.bytes
     }
 }

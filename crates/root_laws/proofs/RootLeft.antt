@@ -13,7 +13,7 @@ use Rattle.change_laws.proofs.Made.{and_then_ok, made}
 use Rattle.change_outcome.specs.ChangeOutcome.{ChangeDone, change_or_refusal, file_change, new_records}
 use Rattle.change_outcome.specs.MembersAfter.{contents_found, members_found}
 use Rattle.command_core.specs.Command.{CommandLine}
-use Rattle.engine_core.specs.Changed.{Selected, change_of_selected, changed, selected_by, selected_for, selected_of_inputs, simulated_change}
+use Rattle.engine_core.specs.Changed.{Selected, change_of_selected, change_of_command, selected_by, selected_for, selected_of_inputs, simulated_change}
 use Rattle.engine_core.specs.Selecting.{pool_by}
 use Rattle.engine_core.specs.Wishes.{unknown_place, unless_place, wishes_of}
 use Rattle.make_info.specs.Reads.{Reads}
@@ -102,8 +102,8 @@ module _ (laws : Laws) (command : CommandLine) (read : Reads) (files : Files) (c
   not_simulated s true off e = absurd (cc (off))
   not_simulated s false off e = e
 
-  pub root_left : changed command read files chosen clash ≡ Ok done → command.flags.simulate ≡ false → IsRootLeft command read chosen done
-  unfolding changed
+  pub root_left : change_of_command command read files chosen clash ≡ Ok done → command.flags.simulate ≡ false → IsRootLeft command read chosen done
+  unfolding change_of_command
   root_left e off =
       let s = and_then_ok (selected_for command read chosen) (change_of_selected command read files clash) done e in
       with_made s.0 s.1 (made s.0.inputs s.0.replacement (wishes_of command) read clash files done (not_simulated s.0 command.flags.simulate off s.2))

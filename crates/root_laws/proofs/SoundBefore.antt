@@ -27,8 +27,8 @@ use Rattle.report_core.specs.declared.refusal.Refusal.TheVariants.{DatabaseBad}
 use Rattle.root_names.specs.RootNames.{database_name, repositories_name, text_database_name, world_name}
 use Rattle.change_inputs.proofs.Texts.{text_passes}
 use Rattle.v2_core.specs.Payload.{payload_of_text}
-use Rattle.v2_core.specs.declared.fault.V2Fault.{V2Fault}
-use Rattle.v2_core.specs.declared.fault.V2Fault.TheVariants.{Bad, Memory, TooLarge}
+use Rattle.v2_core.specs.declared.read.V2Fault.{V2Fault}
+use Rattle.v2_core.specs.declared.read.V2Fault.TheVariants.{Bad, Memory, TooLarge}
 use Rattle.root_laws.specs.RootLeft.{FindBytes}
 use Rattle.root_laws.proofs.TextNormal.{Exact, ReadBack, text_normal}
 use Rattle.root_laws.proofs.NewWorld.{new_world_is, read_world_is}

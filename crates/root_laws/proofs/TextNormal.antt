@@ -17,7 +17,7 @@ use Rattle.v2_core.specs.Database.{value_of_records}
 use Rattle.v2_core.specs.Payload.{or_too_large, payload_of_text, payload_if_sound, unless_bad, written_payload}
 use Rattle.v2_core.specs.Reading.{records_of}
 use Rattle.v2_core.specs.Records.{Record}
-use Rattle.v2_core.specs.declared.fault.V2Fault.{V2Fault}
+use Rattle.v2_core.specs.declared.read.V2Fault.{V2Fault}
 use Rattle.root_laws.proofs.TextLines.{IsFit}
 use Rattle.root_laws.proofs.TextRecords.{AreGoodIfRead, records_fit, records_good}
 

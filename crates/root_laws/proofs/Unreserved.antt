@@ -15,7 +15,7 @@ use Rattle.change_files.specs.PlanLists.{first_reserved}
 use Rattle.db_core.specs.Members.{Listing, Member, is_coming, listings_by, listings_from, listings_in_folder, listings_in_folders, member_listings}
 use Rattle.db_core.specs.OwnedListings.{HaveOneOwner, owned_listings}
 use Rattle.db_core.specs.SoundMembers.{AreOfSoundContainers, IsOfSoundContainer, IsOfSoundDatabase, MayBeListed, NoneReserved}
-use Rattle.list_order.specs.ByteOrder.{precedes, smaller, smallest}
+use Rattle.list_order.specs.ByteOrder.{precedes, smaller_text, smallest_text}
 
 -- ---- a property of each listing
 
@@ -99,7 +99,7 @@ members_free place (m ∷ ms) h = each_appended IsFreeIfStays (listings_by place
 
 -- ---- of members, where none that comes lists a reserved path
 
-smaller_some : (a : List ℕ) (o : Option (List ℕ)) → smaller a o ≡ None → ⊥
+smaller_some : (a : List ℕ) (o : Option (List ℕ)) → smaller_text a o ≡ None → ⊥
 smaller_some a None e = absurd (cc (e))
 smaller_some a (Some b) e = by_test (precedes b a) e
   where
@@ -110,18 +110,18 @@ smaller_some a (Some b) e = by_test (precedes b a) e
 abbrev reserved_of : List Listing → List (List ℕ)
 reserved_of ls = filter is_reserved (map (λ l. l.path) (filter (λ l. is_coming l.member) ls))
 
-all_free : (ls : List Listing) → smallest (reserved_of ls) ≡ None → EachListing IsFreeIfStays ls → EachListing IsFree ls
+all_free : (ls : List Listing) → smallest_text (reserved_of ls) ≡ None → EachListing IsFreeIfStays ls → EachListing IsFree ls
 all_free [] free h = tt
 all_free (l ∷ ls) free h = by_member (is_coming l.member) refl free (λ rest. all_free ls rest h.1)
   where
-    by_path : (b : Bool) → is_reserved l.path ≡ b → smallest (cond b (l.path ∷ reserved_of ls) (reserved_of ls)) ≡ None
-        → (smallest (reserved_of ls) ≡ None → EachListing IsFree ls) → EachListing IsFree (l ∷ ls)
-    by_path true e free others = absurd (smaller_some l.path (smallest (reserved_of ls)) free)
+    by_path : (b : Bool) → is_reserved l.path ≡ b → smallest_text (cond b (l.path ∷ reserved_of ls) (reserved_of ls)) ≡ None
+        → (smallest_text (reserved_of ls) ≡ None → EachListing IsFree ls) → EachListing IsFree (l ∷ ls)
+    by_path true e free others = absurd (smaller_some l.path (smallest_text (reserved_of ls)) free)
     by_path false e free others = (e, others free)
 
     by_member : (b : Bool) → is_coming l.member ≡ b
-        → smallest (filter is_reserved (map (λ l. l.path) (cond b (l ∷ filter (λ l. is_coming l.member) ls) (filter (λ l. is_coming l.member) ls)))) ≡ None
-        → (smallest (reserved_of ls) ≡ None → EachListing IsFree ls) → EachListing IsFree (l ∷ ls)
+        → smallest_text (filter is_reserved (map (λ l. l.path) (cond b (l ∷ filter (λ l. is_coming l.member) ls) (filter (λ l. is_coming l.member) ls)))) ≡ None
+        → (smallest_text (reserved_of ls) ≡ None → EachListing IsFree ls) → EachListing IsFree (l ∷ ls)
     by_member true e free others = by_path (is_reserved l.path) refl free others
     by_member false e free others = (h.0 e, others free)
 

@@ -6,7 +6,7 @@ ghost use Rattle.base_core.specs.Files.{AreNamedFiles, Files};
 ghost use Rattle.change_inputs.specs.Inputs.{Inputs, inputs_of};
 ghost use Rattle.change_outcome.specs.ChangeOutcome.{ChangeDone};
 ghost use Rattle.command_core.specs.Command.{CommandLine};
-ghost use Rattle.engine_core.specs.Changed.{changed};
+ghost use Rattle.engine_core.specs.Changed.{change_of_command};
 ghost use Rattle.make_info.specs.Reads.{Reads};
 ghost use Rattle.path_clashes.specs.Clash.{NamePair};
 ghost use Rattle.report_core.specs.declared.refusal.Refusal.{Refusal};
@@ -32,7 +32,8 @@ use pkg_core::a_package_is_tested_by_its_values_and_then_its_files;
 pub fn what_a_change_leaves_is_read_by_the_next_run()
     ensures { (command : CommandLine) (read : Reads) (files : Files) (chosen : Option (List ℕ))
         (clash : Option NamePair) (done : ChangeDone) → FindBytes read
-        → changed command read files chosen clash ≡ Ok done → command.flags.simulate ≡ false
+        → change_of_command command read files chosen clash ≡ Ok done
+        → command.flags.simulate ≡ false
         → IsRootLeft command read chosen done }
 {
     values_of_few_visits_have_no_fault();

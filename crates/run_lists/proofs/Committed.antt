@@ -15,7 +15,7 @@ use Rattle.change_outcome.specs.ChangeOutcome.{ChangeDone, ChangeWishes, change_
 use Rattle.command_core.specs.Command.{CommandLine}
 use Rattle.command_core.specs.declared.command.Applet.{Applet}
 use Rattle.command_core.specs.declared.command.Applet.TheVariants.{Demo, Mkndx, Mkpkg}
-use Rattle.engine_core.specs.Changed.{Selected, change_of_selected, changed, selected_for, simulated_change}
+use Rattle.engine_core.specs.Changed.{Selected, change_of_selected, change_of_command, selected_for, simulated_change}
 use Rattle.engine_core.specs.Wishes.{wishes_of}
 use Rattle.journal_core.specs.Recovery.{Intent, intent_at, intent_in, intent_name, intent_of, read_intent, recovered_files_by}
 use Rattle.journal_core.specs.Replacing.{replaced_files, scratch_of}
@@ -72,12 +72,12 @@ module _ (gone : BringsNoIntent) where
   by_selected command read files clash (Err refusal) done is absent = cc
 
   changed_none : (command : CommandLine) (read : Reading) (files : Files) (chosen : Option (List ℕ)) (clash : Option NamePair) (done : ChangeDone)
-      → changed command read files chosen clash ≡ Ok done → files intent_name ≡ None → done.files intent_name ≡ None
-  unfolding changed
+      → change_of_command command read files chosen clash ≡ Ok done → files intent_name ≡ None → done.files intent_name ≡ None
+  unfolding change_of_command
   changed_none command read files chosen clash done is absent = by_selected command read files clash (selected_for command read chosen) done is absent
 
   change_none : (command : CommandLine) (files : Files) (chosen : Option (List ℕ)) (clash : Option NamePair) (result : Result ChangeDone Refusal)
-      → changed command (reads_in files) files chosen clash ≡ result → files intent_name ≡ None → Brings (change_outcome files result)
+      → change_of_command command (reads_in files) files chosen clash ≡ result → files intent_name ≡ None → Brings (change_outcome files result)
   change_none command files chosen clash (Ok done) is absent commits = changed_none command (reads_in files) files chosen clash done is absent
   change_none command files chosen clash (Err refusal) is absent commits = absent
 
@@ -162,7 +162,7 @@ module _ (gone : BringsNoIntent) (sound : ReadSound) where
       let absent = ap (λ (f : Files). f intent_name) work ∙ absent_now sound files (files intent_name) refl good in
       let here = work_files (effect_of command.applet) files in
       subst Brings (change_is command.applet command given (reads_in here) here changes ∙ sym is)
-      (change_none gone command here given.chosen given.clash (changed command (reads_in here) here given.chosen given.clash) refl absent) commits
+      (change_none gone command here given.chosen given.clash (change_of_command command (reads_in here) here given.chosen given.clash) refl absent) commits
 
   by_command : (read : Result CommandLine ℕ) (files : Files) (o : Outcome) (effect : Effect) → effect_by read ≡ effect → (effect ≡ Computes → ⊥) → (effect ≡ Reads → ⊥) → (effect ≡ Tells → ⊥) → IsOutcomeBy read files o → Brings o
   by_command (Err place) files o effect is works reads tells one = absurd (works (sym is))

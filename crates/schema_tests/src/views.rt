@@ -2,8 +2,8 @@
 use crate::payloads::{payload_of, table_of};
 use crate::words::add_cause;
 use adb_schema::{
-    AclView, DepView, DirInfo, FileInfo, IdbView, IndexView, IntentView, List, PackageView,
-    PkgInfo, ScriptsView, View, Which, shape,
+    AclView, Checked, DepView, DirInfo, FileInfo, IdbView, IndexView, IntentView, List,
+    PackageView, PkgInfo, ReadFault, ScriptsView, View, Which, shape,
 };
 use adb_view::Adb;
 use base_core::Words;
@@ -184,10 +184,18 @@ fn add_package(alloc: Global, adb: Adb<'_>, answer: &mut Vec<u8>) -> Result<(), 
 }
 
 fn add_index(alloc: Global, adb: Adb<'_>, answer: &mut Vec<u8>) -> Result<(), AllocError> {
-    if let Err(cause) = shape(adb, Which::Index) {
-        return add_cause(alloc, cause, answer);
+    let shaped = match shape(adb, Which::Index) {
+        Ok(shaped) => shaped,
+        Err(cause) => return add_cause(alloc, cause, answer),
+    };
+    match Checked::new(alloc, shaped) {
+        Ok(checked) => add_index_fields(checked.index(), answer),
+        Err(ReadFault::Bad(cause)) => add_cause(alloc, cause, answer),
+        Err(ReadFault::Memory) => Err(AllocError),
     }
-    let index = IndexView::of(adb, adb.root());
+}
+
+fn add_index_fields(index: IndexView<'_>, answer: &mut Vec<u8>) -> Result<(), AllocError> {
     add_word(answer, index.description())?;
     add_word(answer, b"[")?;
     let packages = index.packages();

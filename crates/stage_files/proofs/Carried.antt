@@ -6,7 +6,7 @@ use Rattle.journal_core.specs.Recovery.{intent_name}
 use Rattle.journal_core.specs.Staged.{IsEmptyStage, Staging, new_stage}
 use Rattle.journal_core.proofs.History.{History}
 use Rattle.stage_files.specs.Sources.{StandForEach}
-use Rattle.stage_files.specs.declared.source.StagedWrite.{StagedWrite}
+use Rattle.stage_files.specs.declared.writes.StagedWrite.{StagedWrite}
 use Rattle.stage_run.specs.StageRun.{IsStaging}
 
 -- what `a_new_stage_is_staging` says

@@ -6,7 +6,7 @@ use Rattle.base_core.specs.Tree.{TreeState, files_of}
 use Rattle.journal_core.specs.Staged.{HasRoomBeside, Staging}
 use Rattle.journal_core.proofs.History.{History}
 use Rattle.stage_files.specs.Sources.{MayStandFor, MayStandForEach, StandForEach, StandsForBytes}
-use Rattle.stage_files.specs.declared.source.StagedWrite.{StagedWrite}
+use Rattle.stage_files.specs.declared.writes.StagedWrite.{StagedWrite}
 use Rattle.stage_run.specs.StageRun.{IsStaging, IsStagingRun}
 
 -- so many of the writes have their files

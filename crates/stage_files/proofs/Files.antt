@@ -1,6 +1,6 @@
 -- A file of a package is read while others come to wait.
 use Rattle.std.proofs.Common.{◌≡◌, ℕ, List, Result, Ok, Err, refl, ap, sym, subst, ◌∙◌, Bor}
-use Rattle.std.specs.Prelude.{OnOk}
+use Rattle.std.specs.Prelude.{◌∷◌, drop, OnOk}
 use Rattle.base_core.specs.Files.{Files}
 use Rattle.package_test.specs.Tested.{IsTestedOf, tested_len, tested_name}
 use Rattle.piece_reader.specs.FileReading.{IsFileReading, len_around_file, package_of_file}
@@ -9,9 +9,9 @@ use Rattle.pkg_core.specs.Contents.{bytes_of_file, contents_in}
 use Rattle.pkg_core.specs.Whole.{files_in_file}
 use Rattle.stage_files.specs.Reading.{IsReadingIn}
 use Rattle.stage_files.specs.Sources.{AreListedFor, IsFileSource, MayStandFor, StandsForBytes}
-use Rattle.stage_files.specs.declared.source.PackagedFile.{PackagedFile}
-use Rattle.stage_files.specs.declared.source.Source.{Source}
-use Rattle.stage_files.specs.declared.source.Source.TheVariants.{Bytes, File, Link}
+use Rattle.stage_files.specs.declared.writes.PackagedFile.{PackagedFile}
+use Rattle.stage_files.specs.declared.writes.Source.{Source}
+use Rattle.stage_files.specs.declared.writes.Source.TheVariants.{Bytes, File, Link}
 use Rattle.file_guard.specs.AsListed.{link_to}
 
 pub source_reading : (files : Files) (f : PackagedFile) (bytes : List ℕ) (file : FilePieces)
@@ -32,6 +32,10 @@ given_stands files source own bytes is s = subst (λ (x : Source). StandsForByte
 
 pub link_stands : (files : Files) (source : Source) (target : Bor (List ℕ)) (bytes : List ℕ) → source ≡ Link target → StandsForBytes files source bytes → bytes ≡ link_to target.now
 link_stands files source target bytes is s = subst (λ (x : Source). StandsForBytes files x bytes) is s
+
+pub link_waits : (text target : List ℕ) (Waits : List ℕ → Type 0) → text ≡ drop 2 target
+    → Waits (33 ∷ 60 ∷ 115 ∷ 121 ∷ 109 ∷ 108 ∷ 105 ∷ 110 ∷ 107 ∷ 62 ∷ text) → Waits (link_to target)
+link_waits text target Waits is waits = subst (λ (t : List ℕ). Waits (33 ∷ 60 ∷ 115 ∷ 121 ∷ 109 ∷ 108 ∷ 105 ∷ 110 ∷ 107 ∷ 62 ∷ t)) is waits
 
 pub file_stands : (files : Files) (source : Source) (f : PackagedFile) (bytes : List ℕ) → source ≡ File f → StandsForBytes files source bytes → IsFileSource files f bytes
 file_stands files source f bytes is s = subst (λ (x : Source). StandsForBytes files x bytes) is s

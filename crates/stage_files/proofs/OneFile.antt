@@ -12,8 +12,8 @@ use Rattle.journal_core.specs.Staged.{HasRoomBeside, IsEmptyStage, Staging}
 use Rattle.journal_core.proofs.Chain.{by_now}
 use Rattle.journal_core.proofs.History.{History, now_map, now_since}
 use Rattle.piece_reader.specs.FileReading.{AreAsDue, ComesBehind, GivesBytes, HaveCome, IsFileReading, file_due, len_around_file, package_of_file}
-use Rattle.piece_reader.specs.declared.fault.PieceFault.{PieceFault}
-use Rattle.piece_reader.specs.declared.fault.PieceFault.TheVariants.{Bad, Disk}
+use Rattle.piece_reader.specs.declared.piece.PieceFault.{PieceFault}
+use Rattle.piece_reader.specs.declared.piece.PieceFault.TheVariants.{Bad, Disk}
 use Rattle.piece_reader.specs.declared.one_file.FilePieces.{FilePieces}
 use Rattle.pkg_core.specs.Contents.{Expected}
 use Rattle.pkg_pieces.specs.Seen.{IsSoLong}

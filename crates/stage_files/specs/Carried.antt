@@ -2,8 +2,8 @@
 use Rattle.std.specs.Prelude.{◌≡◌, List, Result, OnOk, IfErr}
 use Rattle.base_core.specs.Files.{Files}
 use Rattle.base_core.specs.Tree.{TreeState}
-use Rattle.stage_files.specs.declared.fault.StageFault.{StageFault}
-use Rattle.stage_files.specs.declared.fault.StageFault.TheVariants.{Disk}
+use Rattle.stage_files.specs.declared.writes.StageFault.{StageFault}
+use Rattle.stage_files.specs.declared.writes.StageFault.TheVariants.{Disk}
 use Rattle.stage_run.specs.StageRun.{IsStageRun, IsStageRunDone}
 
 -- to these files, or the tree failed on the way

@@ -7,10 +7,10 @@ use Rattle.piece_reader.specs.FileReading.{AreAsDue}
 use Rattle.pkg_core.specs.Contents.{bytes_of_file, contents_in, expected_contents}
 use Rattle.pkg_core.specs.Opened.{expected_with_positions}
 use Rattle.pkg_core.specs.Whole.{files_in_file}
-use Rattle.stage_files.specs.declared.source.PackagedFile.{PackagedFile}
-use Rattle.stage_files.specs.declared.source.Source.{Source}
-use Rattle.stage_files.specs.declared.source.Source.TheVariants.{Bytes, File, Link}
-use Rattle.stage_files.specs.declared.source.StagedWrite.{StagedWrite}
+use Rattle.stage_files.specs.declared.writes.PackagedFile.{PackagedFile}
+use Rattle.stage_files.specs.declared.writes.Source.{Source}
+use Rattle.stage_files.specs.declared.writes.Source.TheVariants.{Bytes, File, Link}
+use Rattle.stage_files.specs.declared.writes.StagedWrite.{StagedWrite}
 
 -- ---- one source
 

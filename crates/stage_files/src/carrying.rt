@@ -9,12 +9,10 @@ ghost use Rattle.journal_core.specs.Recovery.{after_actions, intent_name};
 ghost use Rattle.journal_core.specs.Staged.{HasRoomBeside, IsEmptyStage, new_stage, with_staged};
 ghost use Rattle.stage_files.specs.Carried.{IsCarriedTo};
 ghost use Rattle.stage_files.specs.Sources.{HasFileOf, MayStandForEach, StandForEach};
-ghost use Rattle.stage_files.specs.declared.fault.StageFault.TheVariants.{Bad, Disk as DiskFault};
+ghost use Rattle.stage_files.specs.declared.writes.StageFault.TheVariants.{Bad, Disk as DiskFault};
 ghost use Rattle.stage_run.specs.StageRun.{IsStageRun, IsStageRunDone, IsStaging, IsStagingRun};
 
-use crate::fault::StageFault;
-use crate::source::StagedWrite;
-use crate::writes::stage_write;
+use crate::writes::{StageFault, StagedWrite, stage_write};
 use base_core::{Disk, Name, Tree, readings_in_a_row_join};
 use journal_core::Stage;
 use piece_reader::Piece;

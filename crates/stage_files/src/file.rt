@@ -4,7 +4,7 @@ ghost use Rattle.base_core.specs.Faults.{GoesOn, HasCause, IsNoFault};
 ghost use Rattle.base_core.specs.Tree.{TreeState, files_of};
 ghost use Rattle.journal_core.specs.Staged.{HasRoomBeside};
 ghost use Rattle.piece_reader.specs.FileReading.{AreAsDue, HaveCome, file_due};
-ghost use Rattle.piece_reader.specs.declared.fault.PieceFault.TheVariants.{Disk as DiskFault};
+ghost use Rattle.piece_reader.specs.declared.piece.PieceFault.TheVariants.{Disk as DiskFault};
 ghost use Rattle.stage_files.specs.Reading.{IsReadingIn};
 ghost use Rattle.stage_run.specs.StageRun.{IsStaging, IsStagingRun};
 

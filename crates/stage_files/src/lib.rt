@@ -1,16 +1,13 @@
-//! The files of a change are staged, from given bytes, as links, and out of packages piece by piece,
-//! and the change is carried through.
+//! The files of a change are staged, from given bytes, as links, and out of packages piece by
+//! piece, and the change is carried through.
 //!
 //! `carry_out` does this from a stage that is begun on. The contracts cite `Sources` (which bytes a
 //! source stands for) and `Carried` of `specs/`, and `StageRun` of `stage_run`.
 #![tactic(auto)]
 
 mod carrying;
-mod fault;
 mod file;
-mod source;
 mod writes;
 
 pub use carrying::carry_out;
-pub use fault::StageFault;
-pub use source::{PackagedFile, Source, StagedWrite};
+pub use writes::{PackagedFile, Source, StageFault, StagedWrite};

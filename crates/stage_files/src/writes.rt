@@ -1,22 +1,22 @@
-//! The writes of a change are staged, one after another.
+//! The writes of a change are staged, one after another: where their bytes come from, and why a
+//! change is not carried through.
+
 ghost use Rattle.std.specs.Prelude.{◌≡◌, ◌<◌, ◌+◌, ◌++◌, ◌∷◌, [], ℕ, false, List, None, drop, length, IfErr, IsErrOf, OnOk, OnErr};
 ghost use Rattle.base_core.specs.Faults.{GoesOn, HasCause, IsNoFault};
 ghost use Rattle.base_core.specs.Files.{Files};
 ghost use Rattle.base_core.specs.Tree.{TreeState, files_of};
 ghost use Rattle.base_core.specs.declared.cause.Cause.{Cause};
-ghost use Rattle.file_guard.specs.AsListed.{link_to};
 ghost use Rattle.journal_core.specs.Staged.{HasRoomBeside};
 ghost use Rattle.stage_files.specs.Sources.{AreListedFor, IsFileAt, IsFileSource, MayStandFor, StandsForBytes};
-ghost use Rattle.stage_files.specs.declared.fault.StageFault.TheVariants.{Bad, Disk as DiskFault};
+ghost use Rattle.stage_files.specs.declared.writes.StageFault.TheVariants.{Bad, Disk as DiskFault};
 ghost use Rattle.stage_run.specs.StageRun.{IsStaging, IsStagingRun};
 
-use crate::fault::StageFault;
 use crate::file::stage_file;
-use crate::source::{PackagedFile, Source, StagedWrite};
-use base_core::{Disk, Tree};
+use base_core::{Cause, Disk, Name, Tree};
 use journal_core::Stage;
+use package_test::TestedPackage;
 use piece_reader::{Piece, PieceFault};
-use stage_run::{append_piece, begin_file, end_file, stage_bytes};
+use stage_run::{stage_bytes, stage_pieces};
 
 /// What stands in front of a link's text.
 const LINK_MARK: &[u8] = b"!<symlink>";
@@ -29,32 +29,6 @@ fn link_text(target: &[u8]) -> &[u8]
         return &[];
     }
     &target[2..]
-}
-
-/// Stages the bytes that stand for a link.
-fn stage_link<T: Tree>(stage: &mut Stage, tree: &mut T, target: &[u8]) -> Result<(), Disk>
-    requires closed { stage.old.is_open ≡ false }
-    requires more { stage.old.staged < length stage.old.intent.writes }
-    ensures run { (contents : List (List ℕ)) (v : TreeState) (first : List TreeState)
-        → IsStaging stage.old contents None v first (T.history tree.old)
-        → IsStagingRun v first (T.history tree.new) }
-    ensures staging { (contents : List (List ℕ)) (v : TreeState) (first : List TreeState)
-        → IsStaging stage.old contents None v first (T.history tree.old)
-        → OnOk result (IsStaging stage.new (contents ++ link_to target.now ∷ []) None v first
-        (T.history tree.new)) }
-    ensures view { OnOk result (stage.new ≡ record stage.old { staged = stage.old.staged + 1 }) }
-    ensures goes_on { GoesOn (T.counts tree.old) (T.counts tree.new) }
-    ensures cause { OnErr result (HasCause (T.counts tree.old) (T.counts tree.new)) }
-    ensures kept { OnOk result (IsNoFault (T.counts tree.old) (T.counts tree.new)) }
-    ensures proper { (contents : List (List ℕ)) (v : TreeState) (first : List TreeState)
-        → IsStaging stage.old contents None v first (T.history tree.old)
-        → HasRoomBeside (files_of v)
-        → (T.counts tree.new).misuses ≡ (T.counts tree.old).misuses }
-{
-    begin_file(stage, tree)?;
-    append_piece(stage, tree, LINK_MARK)?;
-    append_piece(stage, tree, link_text(target))?;
-    end_file(stage, tree)
 }
 
 /// Stages a file of a package.
@@ -148,7 +122,56 @@ pub(crate) fn stage_write<T: Tree>(
 {
     match source {
         Source::Bytes(bytes) => Ok(stage_bytes(stage, tree, bytes)?),
-        Source::Link(target) => Ok(stage_link(stage, tree, target)?),
+        Source::Link(target) => Ok(stage_pieces(stage, tree, LINK_MARK, link_text(target))?),
         Source::File(f) => stage_packaged(stage, tree, f, piece),
+    }
+}
+
+/// A file of a package that was tested. `member` is the place of the package among those after the
+/// change, counted from 0; the folder and the file in it count from 1.
+#[derive(Clone, Copy)]
+pub struct PackagedFile<'a> {
+    pub package: &'a TestedPackage,
+    pub member: u32,
+    pub folder: u32,
+    pub file: u32,
+}
+
+/// Where the bytes of a write come from.
+#[derive(Clone, Copy)]
+pub enum Source<'a> {
+    /// They are given.
+    Bytes(&'a [u8]),
+    /// They stand for a link to this target, which is behind a number of two bytes.
+    Link(&'a [u8]),
+    /// They are read from a package.
+    File(PackagedFile<'a>),
+}
+
+/// A name, and where the bytes come from that it gets.
+#[derive(Clone, Copy)]
+pub struct StagedWrite<'a> {
+    pub name: &'a Name,
+    pub source: Source<'a>,
+}
+
+/// Why a change is not carried through.
+#[derive(Clone, Copy, Debug, PartialEq, Eq, Drop)]
+pub enum StageFault {
+    /// A file of the package at this place does not have its digest any more. Nothing is published
+    /// yet.
+    Bad { member: u32, cause: Cause },
+    /// The tree failed.
+    Disk,
+}
+
+impl From<Disk> for StageFault {
+    ghost use Rattle.std.specs.Prelude.{◌≡◌};
+    ghost use Rattle.stage_files.specs.declared.writes.StageFault.TheVariants.{Disk as DiskFault};
+
+    ghost from_gives = { λ _ fault. fault ≡ DiskFault };
+
+    fn from(_: Disk) -> StageFault {
+        StageFault::Disk
     }
 }

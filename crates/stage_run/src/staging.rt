@@ -1,9 +1,15 @@
-//! Files come to wait, one after another.
+//! Files come to wait, one after another. Laws say where the run of a change begins, and what it
+//! leaves.
+
 ghost use Rattle.std.specs.Prelude.{◌≡◌, ◌<◌, ◌+◌, ◌++◌, ◌∷◌, [], ℕ, true, false, List, Some, None, length, OnOk, OnErr};
 ghost use Rattle.base_core.specs.Faults.{GoesOn, HasCause, IsNoFault};
 ghost use Rattle.base_core.specs.Tree.{TreeState, files_of};
-ghost use Rattle.journal_core.specs.Staged.{HasRoomBeside};
-ghost use Rattle.stage_run.specs.StageRun.{IsStaging, IsStagingRun};
+ghost use Rattle.journal_core.specs.Staged.{HasRoomBeside, IsEmptyStage, new_stage, with_staged};
+ghost use Rattle.stage_run.specs.StageRun.{IsStaging, IsStagingRun, IsStageRun};
+ghost use Rattle.base_core.specs.Calls.{IfObservable};
+ghost use Rattle.base_core.specs.Files.{Files};
+ghost use Rattle.journal_core.specs.Recovery.{Intent, after_actions, intent_name};
+ghost use Rattle.journal_intent.specs.FreeNames.{HasFreeNames};
 
 use base_core::{Disk, Tree};
 use journal_core::Stage;
@@ -107,3 +113,54 @@ pub fn stage_bytes<T: Tree>(stage: &mut Stage, tree: &mut T, bytes: &[u8]) -> Re
     append_piece(stage, tree, bytes)?;
     end_file(stage, tree)
 }
+
+/// Stages one whole file of two pieces, one behind the other.
+pub fn stage_pieces<T: Tree>(
+    stage: &mut Stage,
+    tree: &mut T,
+    first_piece: &[u8],
+    last_piece: &[u8],
+) -> Result<(), Disk>
+    requires closed { stage.old.is_open ≡ false }
+    requires more { stage.old.staged < length stage.old.intent.writes }
+    ensures run { (contents : List (List ℕ)) (v : TreeState) (first : List TreeState)
+        → IsStaging stage.old contents None v first (T.history tree.old)
+        → IsStagingRun v first (T.history tree.new) }
+    ensures staging { (contents : List (List ℕ)) (v : TreeState) (first : List TreeState)
+        → IsStaging stage.old contents None v first (T.history tree.old)
+        → OnOk result (IsStaging stage.new (contents ++ (first_piece.now ++ last_piece.now) ∷ [])
+        None v first (T.history tree.new)) }
+    ensures view { OnOk result (stage.new ≡ record stage.old { staged = stage.old.staged + 1 }) }
+    ensures goes_on { GoesOn (T.counts tree.old) (T.counts tree.new) }
+    ensures cause { OnErr result (HasCause (T.counts tree.old) (T.counts tree.new)) }
+    ensures kept { OnOk result (IsNoFault (T.counts tree.old) (T.counts tree.new)) }
+    ensures proper { (contents : List (List ℕ)) (v : TreeState) (first : List TreeState)
+        → IsStaging stage.old contents None v first (T.history tree.old)
+        → HasRoomBeside (files_of v)
+        → (T.counts tree.new).misuses ≡ (T.counts tree.old).misuses }
+{
+    begin_file(stage, tree)?;
+    append_piece(stage, tree, first_piece)?;
+    append_piece(stage, tree, last_piece)?;
+    end_file(stage, tree)
+}
+
+/// With a new stage files may come to wait, where no intent is read and nothing waits.
+pub fn a_new_stage_is_staging()
+    ensures { (removals writes : List (List ℕ)) (now : List TreeState) → IfObservable now (λ v.
+        v.names intent_name ≡ None → IsEmptyStage (files_of v)
+        → IsStaging (new_stage removals writes) [] None v now now) }
+{}
+
+/// As long as files only come to wait, a change goes on, whatever files it is to lead to.
+pub fn a_staging_run_is_a_stage_run()
+    ensures { (files : Files) (v : TreeState) (first now : List TreeState)
+        → IsStagingRun v first now → IsStageRun files v first now }
+{}
+
+/// Once all actions are done nothing waits, where nothing waited but the files of the writes.
+pub fn a_change_leaves_nothing_waiting()
+    ensures { (intent : Intent) (contents : List (List ℕ)) (files : Files)
+        → HasFreeNames intent → length contents ≡ length intent.writes → IsEmptyStage files
+        → IsEmptyStage (after_actions intent (with_staged 1 contents files)) }
+{}

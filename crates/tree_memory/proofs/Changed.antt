@@ -15,9 +15,9 @@ use Rattle.tree_memory.proofs.AtName.{name_cases, off_name, drop_name-off, put-a
 use Rattle.tree_memory.proofs.Folders.{folder_like_fewer, folder_like_number, fewer_dropped}
 use Rattle.tree_memory.proofs.Growing.{front_is, Grows, grows_not, grows_set, IsPushed}
 use Rattle.tree_memory.proofs.Keeping.{length-contents, kept_set, named_drop, named_put, sound_changed, sound_one, sound_with, store_pushed, store_sound, history_pushed, leads_within}
-use Rattle.tree_memory.specs.declared.changes.Change.{Change}
-use Rattle.tree_memory.specs.declared.changes.Change.TheVariants.{Append, Sync, Rename, Remove, SyncNames, Stay}
-use Rattle.tree_memory.specs.declared.changes.Stored.{Stored}
+use Rattle.tree_memory.specs.declared.store.Change.{Change}
+use Rattle.tree_memory.specs.declared.store.Change.TheVariants.{Append, Sync, Rename, Remove, SyncNames, Stay}
+use Rattle.tree_memory.specs.declared.store.Stored.{Stored}
 use Rattle.tree_memory.specs.declared.table.NameAndFile.{NameAndFile}
 
 -- a store's newest state, and the states that it shows

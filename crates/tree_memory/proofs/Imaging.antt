@@ -19,8 +19,8 @@ use Rattle.tree_memory.proofs.Keeping.{read-after_put, stored_bytes}
 use Rattle.tree_memory.proofs.Picking.{among_at}
 use Rattle.tree_memory.proofs.Placed.{apart, lookup_named, lookup_off, lookup_insert, looked_up}
 use Rattle.tree_memory.proofs.Folders.{entry_at}
-use Rattle.tree_memory.specs.declared.changes.Change.{Change}
-use Rattle.tree_memory.specs.declared.changes.Stored.{Stored}
+use Rattle.tree_memory.specs.declared.store.Change.{Change}
+use Rattle.tree_memory.specs.declared.store.Stored.{Stored}
 use Rattle.tree_memory.specs.declared.table.NameAndFile.{NameAndFile}
 
 -- ---- the names so far, and the next one

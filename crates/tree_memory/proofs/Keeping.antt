@@ -21,9 +21,9 @@ use Rattle.tree_memory.specs.WholeLaw.{AreBounded, bounded_state}
 use Rattle.tree_memory.proofs.AtName.{name_cases, off_name, put-at, put-off}
 use Rattle.tree_memory.proofs.Growing.{front_is, Grows, grows_push, IsPushed, pushed_state, pushed_record, pushed_history}
 use Rattle.tree_memory.proofs.Placed.{stands, looked_up}
-use Rattle.tree_memory.specs.declared.changes.Change.{Change}
-use Rattle.tree_memory.specs.declared.changes.Change.TheVariants.{Put, Create}
-use Rattle.tree_memory.specs.declared.changes.Stored.{Stored}
+use Rattle.tree_memory.specs.declared.store.Change.{Change}
+use Rattle.tree_memory.specs.declared.store.Change.TheVariants.{Put, Create}
+use Rattle.tree_memory.specs.declared.store.Stored.{Stored}
 use Rattle.tree_memory.specs.declared.table.NameAndFile.{NameAndFile}
 
 -- ---- the bytes and the flags, one file more or another one

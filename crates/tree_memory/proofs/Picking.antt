@@ -9,8 +9,8 @@ use Rattle.tree_memory.specs.Images.{newest_first, adds_map, maps_on, HasNames}
 use Rattle.tree_memory.specs.Table.{lookup}
 use Rattle.tree_memory.proofs.AtName.{is_name}
 use Rattle.tree_memory.proofs.Growing.{state_on-push, record_front}
-use Rattle.tree_memory.specs.declared.changes.Change.{Change}
-use Rattle.tree_memory.specs.declared.changes.Change.TheVariants.{Put, Create, Append, Sync, Rename, Remove, SyncNames, Stay}
+use Rattle.tree_memory.specs.declared.store.Change.{Change}
+use Rattle.tree_memory.specs.declared.store.Change.TheVariants.{Put, Create, Append, Sync, Rename, Remove, SyncNames, Stay}
 use Rattle.tree_memory.specs.declared.table.NameAndFile.{NameAndFile}
 
 -- ---- a front of a record

@@ -2,9 +2,9 @@
 use Rattle.std.specs.Prelude.{ℕ, ◌+◌, Bool, true, false, ◌&&◌, is_some, nat_lt, nat_le, List, [], ◌∷◌, map, length, slice_index_or, take, Some}
 use Rattle.base_core.specs.Files.{no_names, put_name}
 use Rattle.base_core.specs.Tree.{TreeState, File, set_file, change_at, after_create, after_rename, after_remove, after_sync_names}
-use Rattle.tree_memory.specs.declared.changes.Change.{Change}
-use Rattle.tree_memory.specs.declared.changes.Change.TheVariants.{Put, Create, Append, Sync, Rename, Remove, SyncNames, Stay}
-use Rattle.tree_memory.specs.declared.changes.Stored.{Stored}
+use Rattle.tree_memory.specs.declared.store.Change.{Change}
+use Rattle.tree_memory.specs.declared.store.Change.TheVariants.{Put, Create, Append, Sync, Rename, Remove, SyncNames, Stay}
+use Rattle.tree_memory.specs.declared.store.Stored.{Stored}
 
 abbrev pub no_file : File
 no_file = record { bytes = []; synced = false }

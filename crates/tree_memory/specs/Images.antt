@@ -4,9 +4,9 @@ use Rattle.std.specs.Option.{option_map}
 use Rattle.base_core.specs.Files.{Files, NameMap, no_names}
 use Rattle.base_core.specs.Tree.{TreeState, File}
 use Rattle.tree_memory.specs.Table.{lookup}
-use Rattle.tree_memory.specs.declared.changes.Change.{Change}
-use Rattle.tree_memory.specs.declared.changes.Change.TheVariants.{Put, Create, Append, Sync, Rename, Remove, SyncNames, Stay}
-use Rattle.tree_memory.specs.declared.changes.Stored.{Stored}
+use Rattle.tree_memory.specs.declared.store.Change.{Change}
+use Rattle.tree_memory.specs.declared.store.Change.TheVariants.{Put, Create, Append, Sync, Rename, Remove, SyncNames, Stay}
+use Rattle.tree_memory.specs.declared.store.Stored.{Stored}
 use Rattle.tree_memory.specs.declared.table.NameAndFile.{NameAndFile}
 
 -- ---- by a number

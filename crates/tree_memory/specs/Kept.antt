@@ -5,8 +5,8 @@ use Rattle.base_core.specs.Files.{NameMap, put_name, AreNames, IsFile, IsFolderL
 use Rattle.base_core.specs.Tree.{TreeState, IsMapOf}
 use Rattle.tree_memory.specs.Changes.{contents_of, synced_flags, empty_state, state_on, earlier_on, is_record}
 use Rattle.tree_memory.specs.Table.{lookup}
-use Rattle.tree_memory.specs.declared.changes.Change.{Change}
-use Rattle.tree_memory.specs.declared.changes.Stored.{Stored}
+use Rattle.tree_memory.specs.declared.store.Change.{Change}
+use Rattle.tree_memory.specs.declared.store.Stored.{Stored}
 use Rattle.tree_memory.specs.declared.table.NameAndFile.{NameAndFile}
 
 -- a table and the files by number are those of a state

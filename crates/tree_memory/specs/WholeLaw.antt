@@ -9,8 +9,8 @@ use Rattle.base_core.specs.Tree.{TreeState, File, IsWhole, IsMapOf, change_at, w
 use Rattle.tree_memory.specs.Changes.{empty_state, after_put, step, front_of, state_on, earlier_on, contents_of}
 use Rattle.tree_memory.specs.Kept.{IsSoundState}
 use Rattle.tree_memory.specs.Memory.{history_of}
-use Rattle.tree_memory.specs.declared.changes.Change.{Change}
-use Rattle.tree_memory.specs.declared.changes.Change.TheVariants.{Put, Create, Append, Sync, Rename, Remove, SyncNames, Stay}
+use Rattle.tree_memory.specs.declared.store.Change.{Change}
+use Rattle.tree_memory.specs.declared.store.Change.TheVariants.{Put, Create, Append, Sync, Rename, Remove, SyncNames, Stay}
 use Rattle.tree_memory.specs.declared.tree.MemoryTree.{MemoryTree}
 
 -- a map has finitely many names, and leads to numbers below one

@@ -1,8 +1,12 @@
 //! The calls of a tree in memory: which are to fail, and how many there were.
-ghost use Rattle.std.specs.Prelude.{◌≡◌, [], None, Some, OnOk, OnErr, is_ok, if◌then◌else◌};
-ghost use Rattle.base_core.specs.Faults.{next_count};
-ghost use Rattle.tree_memory.specs.Plans.{PlanState, no_plan, is_next, is_listed, one_on, listed_on};
+
+ghost use Rattle.std.specs.Prelude.{◌≡◌, [], None, Some, OnOk, OnErr, is_ok, if◌then◌else◌, ◌⊎◌, ◌+◌, ℕ, false};
+ghost use Rattle.base_core.specs.Faults.{next_count, HasCause, Rose};
+ghost use Rattle.tree_memory.specs.Plans.{PlanState, no_plan, is_next, is_listed, one_on, listed_on, has_more, is_to_fail, plan_after};
 ghost use Rattle.tree_memory.specs.Tallies.{no_calls, with_call, with_fault, with_misuse, with_want, with_begun_call, goes_on, HasGrown};
+ghost use Rattle.tree_memory.specs.Memory.{plan_of, counts_of};
+ghost use Rattle.tree_memory.specs.Sink.{SinkState, sink_counts};
+ghost use Rattle.tree_memory.specs.declared.tree.MemoryTree.{MemoryTree};
 
 use base_core::Disk;
 use std::alloc::{AllocError, Global};
@@ -216,3 +220,24 @@ impl Calls {
         }
     }
 }
+
+/// Where no failure of a tree in memory is planned, a fault is a misuse, or comes for want of its
+/// own memory.
+pub fn an_unplanned_fault_has_its_reason()
+    ensures { (before now : MemoryTree) → has_more (plan_of before) ≡ false
+        → HasCause (counts_of before) (counts_of now)
+        → Rose (counts_of before).misuses (counts_of now).misuses
+        ⊎ Rose (counts_of before).wants (counts_of now).wants }
+{}
+
+/// Where no end of a sink in memory is planned, a fault comes for want of its own memory.
+pub fn an_endless_sink_fails_for_want_of_memory()
+    ensures { (before now : SinkState) → before.room ≡ None
+        → HasCause (sink_counts before) (sink_counts now) → Rose before.wants now.wants }
+{}
+
+/// Of the calls from now on, call k fails, apart from misuses and want of memory, exactly where it
+/// is listed or behind the stop.
+pub fn a_call_fails_where_it_is_planned()
+    ensures { (plan : PlanState) (k : ℕ) → is_next (plan_after k plan) ≡ is_to_fail plan (k + 1) }
+{}

@@ -8,8 +8,7 @@ ghost use Rattle.tree_memory.specs.Images.{maps_of, newest_first, adds_map, maps
 ghost use Rattle.tree_memory.specs.Stores.{store_state};
 ghost use Rattle.tree_memory.specs.Table.{lookup};
 
-use crate::changes::{Change, Stored};
-use crate::store::Store;
+use crate::store::{Change, Store, Stored};
 use crate::table::NameTable;
 use std::alloc::{AllocError, Global};
 

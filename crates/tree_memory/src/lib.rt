@@ -8,15 +8,13 @@
 #![tactic(auto)]
 
 mod calls;
-mod changes;
 mod image;
-mod laws;
 mod sink;
 mod store;
 mod table;
 mod tree;
 
-pub use laws::{
+pub use calls::{
     a_call_fails_where_it_is_planned, an_endless_sink_fails_for_want_of_memory,
     an_unplanned_fault_has_its_reason,
 };

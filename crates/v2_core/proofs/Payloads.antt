@@ -9,8 +9,8 @@ use Rattle.v2_core.specs.Database.{array_of, record_value, value_of_records}
 use Rattle.v2_core.specs.Payload.{IsV2Fault, or_too_large, payload_if_sound, written_payload}
 use Rattle.v2_core.specs.Records.{Record}
 use Rattle.v2_core.specs.Writing.{IsLineFault, draft_with_database, draft_with_read}
-use Rattle.v2_core.specs.declared.fault.V2Fault.{V2Fault}
-use Rattle.v2_core.specs.declared.fault.V2Fault.TheVariants.{Bad, TooLarge, Memory}
+use Rattle.v2_core.specs.declared.read.V2Fault.{V2Fault}
+use Rattle.v2_core.specs.declared.read.V2Fault.TheVariants.{Bad, TooLarge, Memory}
 use Rattle.make_info.proofs.Mapped.{with_list}
 
 -- what a draft of the database ends with is the payload, or the counts at which it overflows

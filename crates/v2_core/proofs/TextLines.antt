@@ -6,8 +6,8 @@ use Rattle.std.proofs.lemmas.List.{at_drop_more, at_drop_all}
 use Rattle.adb_values.specs.Drafts.{DraftState}
 use Rattle.v2_core.specs.Reading.{at_record_end, records_from, with_text}
 use Rattle.v2_core.specs.Records.{Record, empty_record}
-use Rattle.v2_core.specs.declared.fault.V2Fault.{V2Fault}
-use Rattle.v2_core.specs.declared.fault.V2Fault.TheVariants.{Bad, TooLarge, Memory}
+use Rattle.v2_core.specs.declared.read.V2Fault.{V2Fault}
+use Rattle.v2_core.specs.declared.read.V2Fault.TheVariants.{Bad, TooLarge, Memory}
 use Rattle.v2_core.specs.Writing.{IsLineFault, draft_with_read}
 
 -- the next line of a text

@@ -6,12 +6,13 @@ use Rattle.base_core.specs.declared.cause.Cause.TheVariants.{TextLine}
 use Rattle.adb_write.specs.Canonical.{PayloadCounts, written_of}
 use Rattle.adb_schema.specs.Soundness.{payload_fault}
 use Rattle.adb_tables.specs.declared.tables.Which.TheVariants.{Idb}
-use Rattle.v2_core.specs.declared.fault.V2Fault.{V2Fault}
-use Rattle.v2_core.specs.declared.fault.V2Fault.TheVariants.{Bad, TooLarge, Memory}
+use Rattle.v2_core.specs.declared.read.V2Fault.{V2Fault}
+use Rattle.v2_core.specs.declared.read.V2Fault.TheVariants.{Bad, TooLarge, Memory}
 use Rattle.v2_core.specs.Database.{value_of_records}
 use Rattle.v2_core.specs.Reading.{records_of}
 use Rattle.v2_core.specs.Records.{Record}
 
+-- a test that fails, or a limit that is passed, refuses the text
 abbrev pub unless_bad : List ℕ → Option Cause → Result (List ℕ) V2Fault
 unless_bad payload None = Ok payload
 unless_bad payload (Some cause) = Err (Bad cause)

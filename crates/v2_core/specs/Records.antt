@@ -14,6 +14,7 @@ pub record InfoLine : Type 0 where
   pub field : InfoField
   pub values : List FieldValue
 
+-- a file and a folder, as the lines of a record say of them
 pub record ListedFile : Type 0 where
   pub name : List ℕ
   pub access : Option Access

@@ -6,12 +6,11 @@
 //! `Database` (the value of records) of `specs/`, and what the lines say, which `v2_lines` defines.
 #![tactic(auto)]
 
-mod fault;
-mod laws;
 mod read;
 mod record;
 mod writing;
 
-pub use fault::V2Fault;
-pub use laws::{the_reported_line_is_the_first_that_no_text_has, the_text_of_records_is_read_back};
-pub use read::read_v2;
+pub use read::{
+    V2Fault, read_v2, the_reported_line_is_the_first_that_no_text_has,
+    the_text_of_records_is_read_back,
+};

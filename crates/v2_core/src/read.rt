@@ -1,16 +1,20 @@
-//! Reads a text line by line, and writes each package at the end of its record.
-ghost use Rattle.std.specs.Prelude.{◌≡◌, ◌<◌, ◌-◌, ◌∷◌, IfErr, IfOk, List, None, OnOk, Ok, Result, ℕ};
+//! Reads a text line by line, and writes each package at the end of its record; or tells why a text
+//! database is not taken over.
+
+ghost use Rattle.std.specs.Prelude.{◌≡◌, ◌<◌, ◌-◌, ◌∷◌, IfErr, IfOk, List, None, OnOk, Ok, Result, ℕ, Err};
 ghost use Rattle.base_core.specs.declared.cause.Cause.TheVariants.{TextLine};
 ghost use Rattle.adb_schema.specs.ReadFaults.{IsReadFault};
-ghost use Rattle.v2_core.specs.declared.fault.V2Fault.TheVariants.{Bad};
+ghost use Rattle.v2_core.specs.declared.read.V2Fault.TheVariants.{Bad};
 ghost use Rattle.adb_schema.specs.Soundness.{payload_fault};
 ghost use Rattle.adb_tables.specs.declared.tables.Which.TheVariants as Tables;
 ghost use Rattle.v2_core.specs.Payload.{IsV2Fault, payload_of_text, written_payload};
 ghost use Rattle.v2_core.specs.Reading.{at_record_end, records_from, records_of};
 ghost use Rattle.v2_core.specs.Records.{Record as RecordModel, empty_record};
 ghost use Rattle.v2_core.specs.Writing.{IsLineFault, draft_with_database, draft_with_read};
+ghost use Rattle.dep_core.specs.World.{lines_of};
+ghost use Rattle.v2_core.specs.FirstBadLine.{IsReportedLine};
+ghost use Rattle.v2_core.specs.Spelling.{SpellsText};
 
-use crate::fault::V2Fault;
 use crate::record::Record;
 use crate::writing::write_package;
 use adb_schema::{Checked, ReadFault, Which, repeated, shape};
@@ -18,7 +22,8 @@ use adb_values::Draft;
 use adb_view::Adb;
 use adb_write::WriteFault;
 use base_core::Cause;
-use std::alloc::Global;
+use std::alloc::{AllocError, Global};
+use thiserror::Error;
 
 /// Reads a text database (`lib/apk/db/installed` of apk-tools 2): the payload of the installed
 /// database that it says.
@@ -162,3 +167,57 @@ fn bad_line(line: u64) -> V2Fault
 {
     V2Fault::Bad(Cause::TextLine { line })
 }
+
+/// Why there is no payload of a text.
+#[derive(Clone, Copy, Debug, PartialEq, Eq, Drop, Error)]
+pub enum V2Fault {
+    /// The first bad line; or the first test of an installed database that its value fails.
+    #[error("bad text database")]
+    Bad(Cause),
+    /// The payload would pass a limit of the writer. The counts are those just behind the value
+    /// that does: the payload's bytes, and its values with the root.
+    #[error("a payload of {bytes} bytes and {values} values is too large")]
+    TooLarge { bytes: u64, values: u64 },
+    /// There was no memory.
+    #[error("out of memory")]
+    Memory,
+}
+
+impl From<AllocError> for V2Fault {
+    ghost use Rattle.std.specs.Prelude.{◌≡◌};
+    ghost use Rattle.v2_core.specs.declared.read.V2Fault.TheVariants.{Memory};
+
+    ghost from_gives = { λ _ fault. fault ≡ Memory };
+
+    fn from(_: AllocError) -> V2Fault {
+        V2Fault::Memory
+    }
+}
+
+impl From<Cause> for V2Fault {
+    ghost use Rattle.std.specs.Prelude.{◌≡◌};
+    ghost use Rattle.v2_core.specs.declared.read.V2Fault.TheVariants.{Bad};
+
+    ghost from_gives = { λ cause fault. fault ≡ Bad cause };
+
+    fn from(cause: Cause) -> V2Fault {
+        V2Fault::Bad(cause)
+    }
+}
+
+/// The line that is reported is the first that no text has: whatever stands behind the end of its
+/// record, the lines up to it are refused with its number; and any fewer of them begin a text that
+/// is read.
+pub fn the_reported_line_is_the_first_that_no_text_has()
+    ensures { (text : List ℕ) (number : ℕ) → records_of text ≡ Err number
+        → IsReportedLine (lines_of text) number }
+{}
+
+/// The text of records is read as these records, whatever text each value has; so a text is that of
+/// one list of records alone.
+pub fn the_text_of_records_is_read_back()
+    ensures back { (text : List ℕ) (records : List RecordModel)
+        → SpellsText text records → records_of text ≡ Ok records }
+    ensures one { (text : List ℕ) (records others : List RecordModel)
+        → SpellsText text records → SpellsText text others → records ≡ others }
+{}

@@ -1,4 +1,5 @@
 pub mod Digits
+pub mod EqualFront
 pub mod Fits
 pub mod HashDigits
 pub mod Lexemes

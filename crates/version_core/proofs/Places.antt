@@ -3,7 +3,7 @@ use Rattle.std.proofs.Common.{◌≡◌, ℕ, ◌+◌, ◌-◌, ◌<◌, ◌≤�
 use Rattle.std.specs.Prelude.{not, slice_range}
 use Rattle.std.specs.Char.{is_ascii_digit, is_ascii_lowercase}
 use Rattle.std.proofs.lemmas.Bool.{false≢true}
-use Rattle.std.proofs.lemmas.List.{drop-take, drop-drop, length-drop, length-take-le}
+use Rattle.std.proofs.lemmas.List.{length-drop, length-take-le}
 use Rattle.version_core.specs.declared.token.Class.{Class}
 use Rattle.version_core.specs.declared.token.Class.TheVariants as Classes
 use Rattle.version_core.specs.declared.overlapping.Place.{Place}
@@ -65,14 +65,14 @@ behind_first bytes last at end found is token plain fits =
 -- ---- no token but at the end of the text is the end
 
 -- a last class that is not the end's
-abbrev NoEnd : Lexeme → Type 0
+abbrev pub NoEnd : Lexeme → Type 0
 NoEnd found = is_last found.token.class ≡ true → is_stray found.token.class ≡ true
 
 cond_no_end : (b : Bool) (x y : Lexeme) → NoEnd x → NoEnd y → NoEnd (cond b x y)
 cond_no_end true x y f g = f
 cond_no_end false x y f g = g
 
-number_no_end : (class : Class) (mark : ℕ) (ds : List ℕ) → (is_last class ≡ true → is_stray class ≡ true) → NoEnd (number_lexeme class mark ds)
+pub number_no_end : (class : Class) (mark : ℕ) (ds : List ℕ) → (is_last class ≡ true → is_stray class ≡ true) → NoEnd (number_lexeme class mark ds)
 unfolding number_lexeme
 number_no_end class mark ds h = cond_no_end (is_number ds) _ stray_lexeme h (λ _. refl)
 
@@ -107,7 +107,7 @@ next_no_end last b rest =
     (cond_no_end (eqb b 126 && is_before_hash last) (hash_lexeme (leading_hex_digits rest)) _ (hash_no_end (leading_hex_digits rest))
     (cond_no_end (eqb b 45 && is_before_revision last) (revision_lexeme rest) stray_lexeme (revision_no_end rest) (λ _. refl))))))
 
-some_no_end : (last : Class) (text : List ℕ) → 0 < length text → NoEnd (next_lexeme last text)
+pub some_no_end : (last : Class) (text : List ℕ) → 0 < length text → NoEnd (next_lexeme last text)
 some_no_end last [] long = absurd (omega arith)
 some_no_end last (b ∷ rest) long = next_no_end last b rest
 
@@ -115,7 +115,7 @@ stray_by : (stray : Bool) (ts : List Token) → stray ≡ true → (not stray &&
 stray_by true ts h = refl
 stray_by false ts h = absurd (false≢true h)
 
-stray_first : (last : Option Class) (text : List ℕ) → NoEnd (lexeme_at last text) → is_last (lexeme_at last text).token.class ≡ true → are_in_grammar (tokens_behind last 0 text) ≡ false
+pub stray_first : (last : Option Class) (text : List ℕ) → NoEnd (lexeme_at last text) → is_last (lexeme_at last text).token.class ≡ true → are_in_grammar (tokens_behind last 0 text) ≡ false
 stray_first last text no_end h =
     ap are_in_grammar (tokens_behind-step last text) ∙ stray_by (is_stray (lexeme_at last text).token.class) (after text (lexeme_at last text)) (no_end h)
 

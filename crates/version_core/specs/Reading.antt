@@ -1,13 +1,17 @@
 -- What the code's tokens stand for.
-use Rattle.std.specs.Prelude.{ℕ, ◌+◌, Bool, true, false, if◌then◌else◌, List, length, drop, slice_get, slice_index, EachIndex, IsTrue, Option, Some, None}
+use Rattle.std.specs.Prelude.{◌≡◌, ℕ, ◌+◌, ◌≤◌, ◌==◌, ◌||◌, Bool, true, false, not, if◌then◌else◌, List, [], ◌∷◌, length, take, drop, slice_get, slice_index, EachIndex, IsTrue, Option, Some, None}
 use Rattle.std.specs.Char.{is_ascii_digit}
+use Rattle.std.specs.List.{list_all}
+use Rattle.std.specs.Ordering.{nat_cmp, ordering_then}
+use Rattle.std.specs.declared.cmp.Ordering.{Ordering}
+use Rattle.std.specs.Cmp.Lexicographic.{slice_cmp}
 use Rattle.version_core.specs.declared.token.Class.{Class}
 use Rattle.version_core.specs.declared.token.Class.TheVariants.{Hash}
 use Rattle.version_core.specs.declared.token.TokenAt.{TokenAt}
 use Rattle.version_core.specs.declared.token.Tokens.{Tokens}
 use Rattle.version_core.specs.declared.lexeme.Lexeme.{Lexeme as LexemeAt}
 use Rattle.version_core.specs.Token.{Token, Lexeme, lexeme, is_hex_digit, leading_hex_digits}
-use Rattle.version_core.specs.Order.{tokens_behind}
+use Rattle.version_core.specs.Order.{token_cmp, tokens_behind}
 
 -- the text of a token ends before the first byte that is no hexadecimal digit
 abbrev pub token_view : TokenAt → Token
@@ -52,3 +56,28 @@ hex_digit_at text at = hex_digit_by (slice_get text at)
 -- how many bytes are not read yet
 abbrev pub bytes_left : Tokens → ℕ
 bytes_left left = length (drop (unread_len left.last left.rest.now) left.rest.now)
+
+-- the bytes that begin a token wherever they stand in a version
+abbrev pub is_token_mark : ℕ → Bool
+is_token_mark b = (b == 46) || (b == 95) || (b == 126) || (b == 45)
+
+abbrev pub begins_with_mark : List ℕ → Bool
+begins_with_mark [] = false
+begins_with_mark (b ∷ rest) = is_token_mark b
+
+-- the last of these bytes in a text stands there
+pub record IsLastMark (text : List ℕ) (at : ℕ) : Type 0 where
+  pub mark : begins_with_mark (drop at text) ≡ true
+  pub last : list_all (λ b. not (is_token_mark b)) (drop (at + 1) text) ≡ true
+
+-- two texts are equal up to a place
+pub record AreEqualUpTo (left right : List ℕ) (len : ℕ) : Type 0 where
+  pub within : (len ≤ length left) × (len ≤ length right)
+  pub same : take len left ≡ take len right
+
+-- the order of what is left of two versions within the hash of both
+abbrev pub hash_cmp : List ℕ → List ℕ → Ordering
+hash_cmp left right =
+    ordering_then (slice_cmp nat_cmp (leading_hex_digits left) (leading_hex_digits right))
+    (slice_cmp token_cmp (tokens_behind (Some Hash) (length (leading_hex_digits left)) left)
+    (tokens_behind (Some Hash) (length (leading_hex_digits right)) right))

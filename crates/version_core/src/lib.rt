@@ -9,6 +9,7 @@
 
 mod laws;
 mod lexeme;
+mod order;
 mod overlapping;
 mod token;
 mod version;

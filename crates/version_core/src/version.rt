@@ -5,6 +5,7 @@ ghost use Rattle.version_core.specs.Op.{is_op};
 ghost use Rattle.version_core.specs.Order.{is_version, tokens, version_cmp};
 ghost use Rattle.version_core.specs.Matching.{has_bit, op_of, all_fit, is_fuzzy_match, matches};
 
+use crate::order::compare;
 use crate::token::{Class, Tokens};
 use std::cmp::Ordering;
 use std::marker::Model;
@@ -116,7 +117,8 @@ impl<'a> Version<'a> {
     }
 
     /// The order of two versions: the first tokens that differ decide. Versions that are equal here
-    /// may have different texts, as `01` and `1`. It takes time in proportion to the shorter text.
+    /// may have different texts, as `01` and `1`. It takes time in proportion to the shorter text;
+    /// what both begin with is compared at the speed of plain bytes.
     pub fn compare(&self, other: &Version<'_>) -> Ordering
         ensures { result ≡ version_cmp self.now other.now }
     {
@@ -153,21 +155,6 @@ fn is_version(text: &[u8]) -> bool
             Class::End => return true,
             Class::Stray => return false,
             _ => {}
-        }
-    }
-}
-
-#[tactic(auto, unfolding(crate::specs::Order::version_cmp))]
-fn compare(left: &[u8], right: &[u8]) -> Ordering
-    ensures { result ≡ version_cmp left.now right.now }
-{
-    let mut left_tokens = Tokens::of(left);
-    let mut right_tokens = Tokens::of(right);
-    loop {
-        let token = left_tokens.next();
-        let order = token.compare(&right_tokens.next());
-        if order.is_ne() || token.class.is_last() {
-            return order;
         }
     }
 }

@@ -115,6 +115,7 @@ start_from words (Err place) = Err place
 start_from words (Ok site) =
     start_with site (early_flags (options_of site.applet) no_flags 1 (take (site.read - 1) words))
 
+-- the applet of the line, and the flags that stand before it
 abbrev pub line_start : List (List ℕ) → Result Start ℕ
 line_start words = start_from words (applet_site 1 words)
 
@@ -254,6 +255,7 @@ verdict behind applet reading =
     unless_at (option_or (refused_operand rule reading.operands) reading.unread)
     (if lacks_word applet rule reading then Err behind else Ok (command_read behind applet reading))
 
+-- the command that the words behind the applet give
 abbrev pub command_from : List (List ℕ) → Result Start ℕ → Result CommandLine ℕ
 command_from words (Err place) = Err place
 command_from words (Ok start) = verdict (length words + 1) start.applet (reading_behind start words)

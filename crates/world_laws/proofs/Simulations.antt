@@ -11,7 +11,7 @@ use Rattle.change_outcome.specs.ChangeOutcome.{ChangeDone, ChangeWishes, change_
 use Rattle.change_outcome.specs.ConfigurationLines.{configuration_lines}
 use Rattle.change_outcome.specs.Triggers.{trigger_lines}
 use Rattle.command_core.specs.Command.{CommandLine}
-use Rattle.engine_core.specs.Changed.{Selected, change_of_selected, changed, selected_for, simulated_change}
+use Rattle.engine_core.specs.Changed.{Selected, change_of_selected, change_of_command, selected_for, simulated_change}
 use Rattle.engine_core.specs.Choice.{IsChoiceFrom}
 use Rattle.engine_core.specs.Selecting.{pool_for}
 use Rattle.engine_core.specs.Wishes.{wishes_of}
@@ -80,8 +80,8 @@ module _ (one : IsOneChoice) (command : CommandLine) (read : Reads) (files : Fil
 
   pub foretold : IsMadeKnown → (simulation done : ChangeDone) → command.flags.simulate ≡ false
       → IsChoiceFrom (pool_for (with_simulation command) read) expected → IsChoiceFrom (pool_for command read) chosen
-      → changed (with_simulation command) read files expected other ≡ Ok simulation → changed command read files chosen clash ≡ Ok done → IsForetold simulation.report done.report
-  unfolding changed
+      → change_of_command (with_simulation command) read files expected other ≡ Ok simulation → change_of_command command read files chosen clash ≡ Ok done → IsForetold simulation.report done.report
+  unfolding change_of_command
   foretold known simulation done real a b e d =
       let first = and_then_ok (selected_for (with_simulation command) read expected) (change_of_selected (with_simulation command) read files other) simulation e in
       let second = and_then_ok (selected_for command read chosen) (change_of_selected command read files clash) done d in
@@ -96,8 +96,8 @@ module _ (one : IsOneChoice) (command : CommandLine) (read : Reads) (files : Fil
       ap (λ (z : Result Selected Refusal). and_then z (change_of_selected command read files clash)) (sym same) ∙ (let is : first ≡ refusal = cc in ap (λ (r : Refusal). Err r) is)
 
   pub refused_alike : (refusal : Refusal) → IsChoiceFrom (pool_for (with_simulation command) read) expected → IsChoiceFrom (pool_for command read) chosen
-      → changed (with_simulation command) read files expected other ≡ Err refusal → changed command read files chosen clash ≡ Err refusal
-  unfolding changed
+      → change_of_command (with_simulation command) read files expected other ≡ Err refusal → change_of_command command read files chosen clash ≡ Err refusal
+  unfolding change_of_command
   refused_alike refusal a b e =
       refused_both (selected_for (with_simulation command) read expected) (selected_for command read chosen)
       (selects_alike command read expected ∙ ap (selected_for command read) (chosen_alike a b)) refusal e

@@ -5,12 +5,86 @@
 //! `solve_core` and `engine_core` that they speak of.
 #![tactic(auto)]
 
-mod needs;
-mod simulation;
-mod worlds;
+ghost use Rattle.std.specs.Prelude.{◌≡◌, ℕ, List, Option, false, Err, Ok};
+ghost use Rattle.pool_core.specs.Candidates.{Need};
+ghost use Rattle.pool_core.specs.Rank.{SealedPool};
+ghost use Rattle.solve_core.specs.Selection.{next_need};
+ghost use Rattle.world_laws.specs.NextNeed.{IsNextOrNone};
+ghost use Rattle.base_core.specs.Files.{Files};
+ghost use Rattle.change_files.specs.FileChange.{FileChange};
+ghost use Rattle.change_outcome.specs.ChangeOutcome.{ChangeDone, ChangeWishes, change_report};
+ghost use Rattle.command_core.specs.Command.{CommandLine};
+ghost use Rattle.engine_core.specs.Changed.{change_of_command};
+ghost use Rattle.engine_core.specs.Choice.{IsChoiceFrom};
+ghost use Rattle.engine_core.specs.Selecting.{pool_for};
+ghost use Rattle.make_info.specs.Reads.{Reads};
+ghost use Rattle.package_changes.specs.Changes.{Replacement};
+ghost use Rattle.package_changes.specs.Report.{simulated_report};
+ghost use Rattle.path_clashes.specs.Clash.{NamePair};
+ghost use Rattle.report_core.specs.declared.refusal.Refusal.{Refusal};
+ghost use Rattle.world_laws.specs.Simulation.{IsForetold, with_simulation};
+ghost use Rattle.change_inputs.specs.Inputs.{Inputs, inputs_of};
+ghost use Rattle.change_inputs.specs.World.{new_world};
+ghost use Rattle.command_core.specs.declared.command.Applet.{Applet};
+ghost use Rattle.command_core.specs.declared.operands.Operand.{Operand};
+ghost use Rattle.dep_core.specs.Dependency.{Dependency};
+ghost use Rattle.dep_core.specs.World.{IsWorld};
+ghost use Rattle.world_laws.specs.NewWorld.{HoldsWhatWasAsked, IsReadWorld};
 
-pub use needs::the_next_need_is_the_first_that_is_unmet;
-pub use simulation::{
-    a_refused_simulation_refuses_the_change, a_simulation_tells_what_the_change_does,
-};
-pub use worlds::the_new_world_holds_what_was_asked;
+use change_laws::a_change_that_is_made_passes_each_test;
+use engine_core::a_choice_is_unique;
+
+/// Behind some choices the next need is the first entry of world that no choice meets; where all
+/// are met, the first such dependency of the first choice that has one; where these are met too,
+/// the first name in byte order that a candidate's install-if asks for and no choice meets. There
+/// is none where all this is met, and never more than one.
+pub fn the_next_need_is_the_first_that_is_unmet()
+    ensures next { (pool : SealedPool) (chosen : List ℕ)
+        → IsNextOrNone pool chosen (next_need pool chosen) }
+    ensures one { (pool : SealedPool) (chosen : List ℕ) (need other : Option Need)
+        → IsNextOrNone pool chosen need → IsNextOrNone pool chosen other → need ≡ other }
+{}
+
+/// A simulation tells what the change does, by the same candidates: which packages come and go,
+/// and which stay that were to go. The change tells this first, and in the same bytes. So it is
+/// with a command and the same command with `--simulate`, over the same reads and files.
+pub fn a_simulation_tells_what_the_change_does()
+    ensures reports { (r : Replacement) (wishes : ChangeWishes) (change : FileChange) (files : Files)
+        → IsForetold (simulated_report r wishes.to_go) (change_report r wishes change files) }
+    ensures commands { (command : CommandLine) (read : Reads) (files : Files)
+        (expected chosen : Option (List ℕ)) (other clash : Option NamePair)
+        (simulation done : ChangeDone) → command.flags.simulate ≡ false
+        → IsChoiceFrom (pool_for (with_simulation command) read) expected
+        → IsChoiceFrom (pool_for command read) chosen
+        → change_of_command (with_simulation command) read files expected other ≡ Ok simulation
+        → change_of_command command read files chosen clash ≡ Ok done
+        → IsForetold simulation.report done.report }
+{
+    a_change_that_is_made_passes_each_test();
+    a_choice_is_unique();
+}
+
+/// Where a simulation is refused, the command without `--simulate` is refused alike.
+pub fn a_refused_simulation_refuses_the_change()
+    ensures { (command : CommandLine) (read : Reads) (files : Files)
+        (expected chosen : Option (List ℕ)) (other clash : Option NamePair) (refusal : Refusal)
+        → IsChoiceFrom (pool_for (with_simulation command) read) expected
+        → IsChoiceFrom (pool_for command read) chosen
+        → change_of_command (with_simulation command) read files expected other ≡ Err refusal
+        → change_of_command command read files chosen clash ≡ Err refusal }
+{
+    a_choice_is_unique();
+}
+
+/// World after `add` has the operands, of each name the last one, and the entries of all other
+/// names; after `del` it has the entries of all names but the operands. Any other command leaves
+/// it. Just one world holds what was asked. So it is with what a change reads of a root.
+pub fn the_new_world_holds_what_was_asked()
+    ensures world { (applet : Applet) (operands : List Operand) (world : List Dependency)
+        → IsWorld world → HoldsWhatWasAsked applet operands world (new_world applet operands world) }
+    ensures read { (command : CommandLine) (read : Reads) (inputs : Inputs)
+        → inputs_of command read ≡ Ok inputs → IsReadWorld command read inputs.root }
+    ensures one { (applet : Applet) (operands : List Operand) (world after other : List Dependency)
+        → HoldsWhatWasAsked applet operands world after
+        → HoldsWhatWasAsked applet operands world other → after ≡ other }
+{}

@@ -1,19 +1,37 @@
-use Rattle.std.proofs.Common.{refl}
+use Rattle.std.proofs.Common.{◌≡◌, refl}
 use Rattle.adb_view.specs.Adb.{payload_of}
-use Rattle.adb_view.specs.Plain.{Plain, none, more, blob_value, obj_value}
-use Rattle.adb_copy.specs.Zeros.{int_value, without_zeros}
-use Rattle.adb_schema.specs.Views.{dependency_value}
+use Rattle.adb_view.specs.Plain.{Plain, Plains, none, more, blob_value, obj_value}
+use Rattle.adb_tables.specs.Values.{entry_in, text_in, value_at}
 use Rattle.adb_tables.specs.declared.tables.Which.TheVariants as Tables
 use Rattle.adb_tables.specs.declared.tables.Kind.TheVariants as Kinds
-use Rattle.adb_values.proofs.Lists.{closed_as}
-use Rattle.adb_copy.proofs.Shapes.{value_shape}
+use Rattle.adb_values.specs.Drafts.{draft_with_all, draft_with_open_list}
+use Rattle.adb_values.proofs.Lists.{closed_as, on_ok}
+use Rattle.adb_copy.specs.Zeros.{int_value, without_zeros}
 use Rattle.adb_copy.proofs.Fields.{dep_written}
+use Rattle.adb_copy.proofs.Known.{known_closed_object, known_more, known_opened}
+use Rattle.adb_copy.proofs.Shapes.{value_shape}
 use Rattle.adb_copy.proofs.copy.write_dep.Goals as goal
 
-pub returns : goal.returns
-returns c =
-    let v : Plain = dependency_value c.args.dep.now in
-    closed_as obj_value (without_zeros v) (more (blob_value c.name.result.now) (more (blob_value c.version.result.now) (more (int_value c.matching.result) none))) c.args.draft.now _ _ c.close_object.result
-    (dep_written v c.name.result.now c.version.result.now c.matching.result (value_shape c.values_have_their_shape.ensures.word (payload_of c.args.dep.now.adb) (Kinds.Obj Tables.Dep) c.args.dep.now.word) c.name.ensures c.version.ensures c.matching.ensures)
+pub write_field-requires-clause-known : goal.write_field-requires-clause-known
+write_field-requires-clause-known c = known_opened (payload_of c.args.adb) c.args.known.now c.args.draft.now c.open_list.new.self c.requires.known c.in_ok-open_list.ensures.ok
+
+pub returns-clause-dep : goal.returns-clause-dep
+returns-clause-dep c =
+    let v : Plain = value_at (payload_of c.args.adb) (Kinds.Obj Tables.Dep) c.args.dep in
+    closed_as obj_value (without_zeros v) (more (blob_value (text_in (entry_in v 0))) (more (blob_value (text_in (entry_in v 1))) (more (int_value c.int_field.result) none))) c.args.draft.now _ _ c.close_object.result
+    (dep_written v _ _ _ (value_shape c.values_have_their_shape.ensures.word (payload_of c.args.adb) (Kinds.Obj Tables.Dep) c.args.dep) refl refl c.int_field.ensures)
     c.close_object.ensures.ok
-    (rw (c.in_ok-write_int.ensures, c.in_ok-blob-2.ensures.ok, c.in_ok-blob.ensures.ok, c.in_ok-open_list.ensures.ok) refl)
+    (rw (c.in_ok-write_int.ensures, c.in_ok-write_field-2.ensures.text, c.in_ok-write_field.ensures.text, c.in_ok-open_list.ensures.ok) refl)
+
+pub returns-clause-known : goal.returns-clause-known
+returns-clause-known c =
+    let p = payload_of c.args.adb in
+    let v : Plain = value_at p (Kinds.Obj Tables.Dep) c.args.dep in
+    let vs : Plains = more (blob_value (text_in (entry_in v 0))) (more (blob_value (text_in (entry_in v 1))) (more (int_value c.int_field.result) none)) in
+    let given : c.write_int.new.draft ≡ draft_with_all vs (draft_with_open_list c.args.draft.now) =
+    rw (c.in_ok-write_int.ensures, c.in_ok-write_field-2.ensures.text, c.in_ok-write_field.ensures.text, c.in_ok-open_list.ensures.ok) refl in
+    on_ok _ _
+    (λ closed. known_closed_object p c.write_field-2.new.self c.write_int.new.draft c.close_object.new.self
+    (known_more p c.write_field-2.new.self c.write_field-2.new.draft c.write_int.new.draft c.in_ok-write_field-2.ensures.known (int_value c.int_field.result) c.in_ok-write_int.ensures)
+    vs c.args.draft.now given (closed vs c.args.draft.now given))
+    c.close_object.result c.close_object.ensures.ok

@@ -1,25 +1,51 @@
-use Rattle.std.proofs.Common.{ap, refl, sym, ◌∙◌}
+use Rattle.std.proofs.Common.{◌≡◌, List, ℕ, refl, ap, ◌∙◌}
 use Rattle.adb_view.specs.Adb.{payload_of}
-use Rattle.adb_view.specs.Plain.{Plain, none, more, blob_value, obj_value}
-use Rattle.adb_copy.specs.Zeros.{int_value, without_zeros}
-use Rattle.adb_fields.specs.ListValue.{list_value}
-use Rattle.adb_schema.specs.Views.{file_value}
-use Rattle.adb_tables.specs.Values.{entry_in}
+use Rattle.adb_view.specs.Plain.{Plain, Plains, none, more, blob_value, obj_value}
+use Rattle.adb_tables.specs.Values.{entry_in, text_in, value_at}
 use Rattle.adb_tables.specs.declared.tables.Which.TheVariants as Tables
 use Rattle.adb_tables.specs.declared.tables.Kind.TheVariants as Kinds
-use Rattle.adb_values.proofs.Lists.{closed_as}
+use Rattle.adb_values.specs.Drafts.{draft_with, draft_with_all, draft_with_open_list}
+use Rattle.adb_values.proofs.Lists.{closed_as, on_ok}
+use Rattle.adb_copy.specs.Zeros.{int_value, without_zeros}
+use Rattle.adb_copy.proofs.Known.{known_closed_object, known_more, known_opened}
 use Rattle.adb_copy.proofs.Shapes.{value_shape}
 use Rattle.adb_copy.proofs.Entries.{file_written}
 use Rattle.adb_copy.proofs.entry.write_file.Goals as goal
 
+pub write_field-requires-clause-known : goal.write_field-requires-clause-known
+write_field-requires-clause-known c =
+    known_opened (payload_of c.args.adb) c.args.known.now c.args.draft.now c.open_list.new.self c.requires.known c.in_ok-open_list.ensures.ok
+
+pub write_field-requires-2-clause-known : goal.write_field-requires-2-clause-known
+write_field-requires-2-clause-known c =
+    let p : List ℕ = payload_of c.args.adb in
+    let texts = c.write_acl.new.known in
+    known_more p texts c.write_int-2.new.draft c.blob.new.self
+    (known_more p texts c.write_int.new.draft c.write_int-2.new.draft
+    (known_more p texts c.write_acl.new.draft c.write_int.new.draft c.in_ok-write_acl.ensures.known (int_value c.int_field.result) c.in_ok-write_int.ensures)
+    (int_value c.int_field-2.result) c.in_ok-write_int-2.ensures)
+    (blob_value c.hash_field.result.now) c.in_ok-blob.ensures.ok
+
 pub returns : goal.returns
 returns c =
-    let v : Plain = file_value c.file_at-file.result in
-    closed_as obj_value (without_zeros (entry_in (list_value c.args.files.now) c.args.i))
-    (more (blob_value c.name.result.now) (more (without_zeros (entry_in v 1)) (more (int_value c.size.result) (more (int_value c.mtime.result) (more (blob_value c.hashes.result.now) (more (blob_value c.target.result.now) (more (int_value c.unused.result) none)))))))
-    c.args.draft.now _ _ c.close_object.result
-    (ap without_zeros (sym c.file_at-file.ensures) ∙ file_written v c.name.result.now (entry_in v 1) c.size.result c.mtime.result c.hashes.result.now c.target.result.now c.unused.result
-    (value_shape c.values_have_their_shape.ensures.word (payload_of c.file_at-file.result.adb) (Kinds.Obj Tables.File) c.file_at-file.result.word)
-    c.name.ensures refl c.size.ensures c.mtime.ensures c.hashes.ensures c.target.ensures c.unused.ensures)
-    c.close_object.ensures.ok
-    (rw (c.in_ok-write_int-3.ensures, c.in_ok-blob-3.ensures.ok, c.in_ok-blob-2.ensures.ok, c.in_ok-write_int-2.ensures, c.in_ok-write_int.ensures, c.in_ok-write_file_acl.ensures, c.in_ok-blob.ensures.ok, c.in_ok-open_list.ensures.ok) refl)
+    let p : List ℕ = payload_of c.args.adb in
+    let v : Plain = value_at p (Kinds.Obj Tables.File) c.args.file in
+    let vs : Plains = more (blob_value (text_in (entry_in v 0))) (more (without_zeros (entry_in v 1)) (more (int_value c.int_field.result) (more (int_value c.int_field-2.result)
+    (more (blob_value c.hash_field.result.now) (more (blob_value (text_in (entry_in v 5))) (more (int_value c.int_field-3.result) none)))))) in
+    let acl : c.write_acl.new.draft ≡ draft_with (without_zeros (entry_in v 1)) c.write_field.new.draft =
+    c.in_ok-write_acl.ensures.acl ∙ ap (λ (u : Plain). draft_with (without_zeros u) c.write_field.new.draft) (c.field_word.ensures (Kinds.Obj Tables.Acl) refl).1 in
+    let given : c.write_int-3.new.draft ≡ draft_with_all vs (draft_with_open_list c.args.draft.now) =
+    rw (c.in_ok-write_int-3.ensures, c.in_ok-write_field-2.ensures.text, c.in_ok-blob.ensures.ok, c.in_ok-write_int-2.ensures, c.in_ok-write_int.ensures, acl, c.in_ok-write_field.ensures.text, c.in_ok-open_list.ensures.ok) refl in
+    let texts = c.write_field-2.new.self in
+    record {
+      file =
+          closed_as obj_value (without_zeros v) vs c.args.draft.now _ _ c.close_object.result
+          (file_written v _ _ _ _ _ _ _ (value_shape c.values_have_their_shape.ensures.word p (Kinds.Obj Tables.File) c.args.file) refl refl c.int_field.ensures c.int_field-2.ensures c.hash_field.ensures refl c.int_field-3.ensures)
+          c.close_object.ensures.ok given;
+      known =
+          on_ok _ _
+          (λ closed. known_closed_object p texts c.write_int-3.new.draft c.close_object.new.self
+          (known_more p texts c.write_field-2.new.draft c.write_int-3.new.draft c.in_ok-write_field-2.ensures.known (int_value c.int_field-3.result) c.in_ok-write_int-3.ensures)
+          vs c.args.draft.now given (closed vs c.args.draft.now given))
+          c.close_object.result c.close_object.ensures.ok;
+    }

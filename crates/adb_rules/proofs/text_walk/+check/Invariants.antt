@@ -31,6 +31,6 @@ invariant-check_entries-loop-i l = record {
 abbrev pub invariant-check_fields-loop-i : goal.invariant-check_fields-loop-i
 invariant-check_fields-loop-i l = record {
   payload : l.judged.adb ≡ l.fn.judged.adb;
-  field_number : l.field_number ≡ 100 * schema_number l.which + l.i;
-  so_far : first_bad (field_leaves (shapes_of (drop l.i (table l.which))) (l.field_number + 1) (surroundings_of l.around) (behind l.i (entries_in (value_at (payload_of l.adb) (Obj l.which) l.object)))) ≡ first_bad (field_leaves (shapes_of (table l.which)) (100 * schema_number l.which + 1) (surroundings_of l.around) (entries_in (value_at (payload_of l.adb) (Obj l.which) l.object)));
+  field_number : l.field_number ≡ 100 * schema_number l.fn.which + l.i;
+  so_far : first_bad (field_leaves (shapes_of (drop l.i (table l.fn.which))) (l.field_number + 1) (surroundings_of l.around) (behind l.i (entries_in (value_at (payload_of l.adb) (Obj l.fn.which) l.fn.object)))) ≡ first_bad (field_leaves (shapes_of (table l.fn.which)) (100 * schema_number l.fn.which + 1) (surroundings_of l.around) (entries_in (value_at (payload_of l.adb) (Obj l.fn.which) l.fn.object)));
 }

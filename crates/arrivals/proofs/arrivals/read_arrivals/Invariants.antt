@@ -1,8 +1,8 @@
 use Rattle.std.proofs.Common.{ℕ, ◌+◌, length, Ok}
 use Rattle.base_core.specs.Read.{OnlyReads}
 use Rattle.change_inputs.specs.Inputs.{first_index_read}
-use Rattle.change_inputs.specs.declared.refused.Refused.{Refused}
-use Rattle.change_inputs.specs.declared.refused.Refused.TheVariants.{Disk}
+use Rattle.change_inputs.specs.declared.root.Refused.{Refused}
+use Rattle.change_inputs.specs.declared.root.Refused.TheVariants.{Disk}
 use Rattle.db_core.specs.Seen.{packages_of}
 use Rattle.package_changes.specs.Seen.{placed_names_seen}
 use Rattle.arrivals.proofs.ArrivalSteps.{IsReadTo}

@@ -1,4 +1,4 @@
-use Rattle.change_files.proofs.Coming.{beside_users_file, lies_beside}
+use Rattle.change_files.proofs.Coming.{beside_users_file, lies_beside, written_beside}
 use Rattle.change_files.proofs.laws.what_differs_lies_beside_the_users_file.Goals as goal
 
 pub returns-clause-beside : goal.returns-clause-beside
@@ -6,3 +6,6 @@ returns-clause-beside c = lies_beside
 
 pub returns-clause-only : goal.returns-clause-only
 returns-clause-only c = beside_users_file
+
+pub returns-clause-stands : goal.returns-clause-stands
+returns-clause-stands c = written_beside

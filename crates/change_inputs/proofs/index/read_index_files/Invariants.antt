@@ -1,8 +1,8 @@
 use Rattle.std.proofs.Common.{◌≡◌, ℕ, length, Ok}
 use Rattle.base_core.specs.Read.{OnlyReads}
 use Rattle.change_inputs.specs.IndexFiles.{bytes_of_each}
-use Rattle.change_inputs.specs.declared.refused.Refused.{Refused}
-use Rattle.change_inputs.specs.declared.refused.Refused.TheVariants.{Disk}
+use Rattle.change_inputs.specs.declared.root.Refused.{Refused}
+use Rattle.change_inputs.specs.declared.root.Refused.TheVariants.{Disk}
 use Rattle.change_inputs.proofs.IndexSteps.{IsReadTo}
 use Rattle.change_inputs.proofs.index.read_index_files.Given as goal
 

@@ -10,7 +10,7 @@ use Rattle.change_inputs.specs.Inputs.{root_found}
 use Rattle.change_inputs.specs.Repositories.{root_repositories}
 use Rattle.change_inputs.specs.Seen.{root_seen}
 use Rattle.change_inputs.specs.World.{root_world, text_found}
-use Rattle.change_inputs.specs.declared.refused.Refused.{Refused}
+use Rattle.change_inputs.specs.declared.root.Refused.{Refused}
 use Rattle.change_inputs.proofs.root.test_root.Goals as goal
 
 repositories_refused : (command : CommandLine) (file text world_file repositories_file : Option (List ℕ)) (database : Database) (world : List Dependency) (fault : Refused)

@@ -1,21 +1,35 @@
-use Rattle.std.proofs.Common.{ap, refl, sym, ◌∙◌}
-use Rattle.adb_view.specs.Plain.{none, more, blob_value, arr_value, obj_value}
-use Rattle.adb_fields.specs.ListValue.{list_value}
-use Rattle.adb_fields.specs.Repeated.{list_of, name_of}
-use Rattle.adb_tables.specs.Values.{entries_in, entry_in}
+use Rattle.std.proofs.Common.{◌≡◌, ℕ, List, ap, refl, ◌∙◌}
+use Rattle.adb_view.specs.Adb.{payload_of}
+use Rattle.adb_tables.specs.declared.tables.Kind.TheVariants as Kinds
+use Rattle.adb_tables.specs.declared.tables.Which.TheVariants as Tables
+use Rattle.adb_view.specs.Plain.{Plain, Plains, none, more, blob_value, arr_value, obj_value}
+use Rattle.adb_fields.specs.Repeated.{files_in, list_of, name_of}
+use Rattle.adb_tables.specs.Values.{entries_in, entry_in, value_at}
 use Rattle.adb_copy.specs.Zeros.{without_zeros}
-use Rattle.adb_values.proofs.Lists.{closed_as}
-use Rattle.db_write.specs.NewDatabase.{folder_after, owned_entries}
+use Rattle.adb_copy.proofs.Known.{known_closed_object, known_opened}
+use Rattle.adb_values.specs.Drafts.{draft_with, draft_with_all, draft_with_open_list}
+use Rattle.adb_values.proofs.Lists.{closed, on_ok}
+use Rattle.db_write.specs.NewDatabase.{owned_entries}
 use Rattle.db_write.proofs.folders.write_folder.Goals as goal
+
+pub write_field-requires-clause-known : goal.write_field-requires-clause-known
+write_field-requires-clause-known c =
+    known_opened (payload_of c.args.adb) c.args.known.now c.args.draft.now c.open_list.new.self c.requires.known c.in_ok-open_list.ensures.ok
 
 pub returns : goal.returns
 returns c =
-    let d = entry_in (list_value c.args.folders.now) c.args.i in
-    let name = c.name.ensures ∙ ap name_of c.folder_at-folder.ensures in
-    let files = c.files.ensures ∙ ap (λ v. entry_in v 2) c.folder_at-folder.ensures in
-    closed_as obj_value (folder_after d c.args.flags.now)
-    (more (blob_value c.name.result.now) (more (without_zeros (entry_in d 1)) (more (arr_value (owned_entries (list_of (entries_in (list_value c.files.result))) c.args.flags.now)) none)))
-    c.args.draft.now _ _ c.close_object.result
-    (sym (λ j. obj_value (more (blob_value (name j)) (more (without_zeros (entry_in d 1)) (more (arr_value (owned_entries (list_of (entries_in (files j))) c.args.flags.now)) none)))))
-    c.close_object.ensures.ok
-    (rw (c.in_ok-write_files.ensures, c.in_ok-write_folder_acl.ensures, c.in_ok-blob.ensures.ok, c.in_ok-open_list.ensures.ok) refl)
+    let p : List ℕ = payload_of c.args.adb in
+    let v : Plain = value_at p (Kinds.Obj Tables.Dir) c.args.folder in
+    let vs : Plains = more (blob_value (name_of v)) (more (without_zeros (entry_in v 1)) (more (arr_value (owned_entries (files_in v) c.args.flags.now)) none)) in
+    let acl : c.write_acl.new.draft ≡ draft_with (without_zeros (entry_in v 1)) c.write_field.new.draft =
+    c.in_ok-write_acl.ensures.acl ∙ ap (λ (u : Plain). draft_with (without_zeros u) c.write_field.new.draft) (c.field_word.ensures (Kinds.Obj Tables.Acl) refl).1 in
+    let files : c.write_files.new.draft ≡ draft_with (arr_value (owned_entries (files_in v) c.args.flags.now)) c.write_acl.new.draft =
+    c.in_ok-write_files.ensures.files ∙ ap (λ (u : Plain). draft_with (arr_value (owned_entries (list_of (entries_in u)) c.args.flags.now)) c.write_acl.new.draft) c.objects_field-files.ensures.value in
+    let given : c.write_files.new.draft ≡ draft_with_all vs (draft_with_open_list c.args.draft.now) =
+    rw (files, acl, c.in_ok-write_field.ensures.text, c.in_ok-open_list.ensures.ok) refl in
+    record {
+      folder = closed obj_value vs c.args.draft.now _ _ c.close_object.result c.close_object.ensures.ok given;
+      known =
+          on_ok _ _ (λ closed. known_closed_object p c.write_files.new.known c.write_files.new.draft c.close_object.new.self c.in_ok-write_files.ensures.known vs c.args.draft.now given (closed vs c.args.draft.now given))
+          c.close_object.result c.close_object.ensures.ok;
+    }

@@ -1,12 +1,10 @@
-use Rattle.std.proofs.Common.{arith, ap, drop, ◌∙◌}
+use Rattle.std.proofs.Common.{arith}
 use Rattle.adb_view.specs.Plain.{arr_value}
-use Rattle.adb_fields.specs.Repeated.{list_of}
 use Rattle.adb_schema.specs.Views.{package_value}
-use Rattle.adb_tables.specs.Values.{entries_in}
 use Rattle.adb_values.proofs.Lists.{closed}
 use Rattle.db_core.specs.Members.{Member}
 use Rattle.db_core.specs.Seen.{members_of}
-use Rattle.db_write.specs.NewDatabase.{file_count, member_file_count, package_after, packages_after, total_of}
+use Rattle.db_write.specs.NewDatabase.{member_file_count, package_after, packages_after}
 use Rattle.db_write.proofs.Listed.{member_there}
 use Rattle.db_write.proofs.Segments.{all_given, given_more}
 use Rattle.db_write.proofs.packages.write_packages.Goals as goal
@@ -17,7 +15,7 @@ loop-i-preserved c =
     let at = member_there (members_of c.args.members.now) c.loop-i.i (package_value c.view-pkg.result.now) c.id.result (omega (arith, c.len-i-end.ensures.value, c.loop-i-test.true)) c.view-pkg.ensures c.id.ensures in
     given_more member_file_count package_after (members_of c.args.members.now) c.loop-i.i m c.loop-i.left.now _ _ _ _
     at c.loop-i.invariant c.in_ok-write_package.ensures
-    (c.flags_behind-left.ensures ∙ ap (λ v. drop (total_of file_count (list_of (entries_in v))) c.loop-i.left.now) c.paths.ensures)
+    c.flags_behind-left.ensures
 
 pub returns : goal.returns
 returns c =

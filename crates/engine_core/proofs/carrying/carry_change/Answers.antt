@@ -10,7 +10,7 @@ use Rattle.journal_core.specs.Staged.{new_stage}
 use Rattle.root_names.specs.RootNames.{text_database_name}
 use Rattle.stage_files.specs.Carried.{IsCarriedTo}
 use Rattle.stage_files.specs.Sources.{HasFileOf}
-use Rattle.stage_files.specs.declared.source.StagedWrite.{StagedWrite}
+use Rattle.stage_files.specs.declared.writes.StagedWrite.{StagedWrite}
 use Rattle.engine_core.specs.Carrying.{ready_change}
 use Rattle.engine_core.specs.ChangeRun.{ComesTo}
 use Rattle.engine_core.specs.Finishing.{inputs_arrived, replacement_arrived}

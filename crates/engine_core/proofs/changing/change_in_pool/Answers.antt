@@ -1,6 +1,6 @@
 use Rattle.std.proofs.Common.{◌∙◌, ℕ, List, Ok, sym, subst}
 use Rattle.change_inputs.specs.Seen.{inputs_seen}
-use Rattle.change_inputs.specs.declared.refused.Refused.TheVariants.{Memory}
+use Rattle.change_inputs.specs.declared.root.Refused.TheVariants.{Memory}
 use Rattle.engine_core.specs.Runs.{IsRunBy, IsSelectedRun}
 use Rattle.engine_core.specs.Selecting.{replacement_of_choice}
 use Rattle.engine_core.proofs.Early.{HaveClash, nothing_read}

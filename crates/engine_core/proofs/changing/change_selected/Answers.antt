@@ -1,4 +1,4 @@
-use Rattle.change_inputs.specs.declared.refused.Refused.TheVariants.{Memory}
+use Rattle.change_inputs.specs.declared.root.Refused.TheVariants.{Memory}
 use Rattle.std.proofs.Common.{◌∙◌, sym, ap, Ok}
 use Rattle.command_core.specs.declared.command.Flags.{Flags}
 use Rattle.engine_core.specs.Runs.{IsSelectedRun}

@@ -1,4 +1,4 @@
-use Rattle.change_inputs.specs.declared.refused.Refused.TheVariants.{Memory}
+use Rattle.change_inputs.specs.declared.root.Refused.TheVariants.{Memory}
 use Rattle.engine_core.specs.Making.{IsFoundRun}
 use Rattle.engine_core.specs.SelectionSeen.{inputs_of_selection, replacement_seen}
 use Rattle.engine_core.specs.Wishes.{wishes_of}

@@ -1,4 +1,4 @@
-use Rattle.change_inputs.specs.declared.refused.Refused.TheVariants.{Memory}
+use Rattle.change_inputs.specs.declared.root.Refused.TheVariants.{Memory}
 use Rattle.std.specs.Prelude.{Ok}
 use Rattle.engine_core.specs.Runs.{IsSelectedRun}
 use Rattle.engine_core.specs.SelectionSeen.{inputs_of_selection, selection_seen}

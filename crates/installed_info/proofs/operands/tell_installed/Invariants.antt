@@ -7,7 +7,7 @@ use Rattle.command_core.specs.declared.operands.Operand.{Operand}
 use Rattle.db_core.specs.Seen.{packages_of}
 use Rattle.report_core.specs.declared.refusal.Refusal.{Refusal}
 use Rattle.installed_info.specs.Info.{info_refusal, operands_info}
-use Rattle.installed_info.specs.declared.form.Form.{Form}
+use Rattle.installed_info.specs.declared.telling.Form.{Form}
 use Rattle.installed_info.proofs.operands.tell_installed.Given as goal
 
 pub record IsToldSoFar (form : Form) (packages : List Plain) (operands : List Operand) (i : ℕ) (bytes : List ℕ) (late : Option Refusal) : Type 0 where

@@ -4,7 +4,7 @@ use Rattle.adb_view.specs.Plain.{Plain}
 use Rattle.command_core.specs.declared.operands.Operand.{Operand}
 use Rattle.db_core.specs.Seen.{packages_of}
 use Rattle.installed_info.specs.Info.{info_refusal, operands_info}
-use Rattle.installed_info.specs.declared.form.Form.{Form}
+use Rattle.installed_info.specs.declared.telling.Form.{Form}
 use Rattle.installed_info.proofs.operands.tell_operands.Given as goal
 
 pub record IsToldSoFar (form : Form) (packages : List Plain) (operands : List Operand) (i : ℕ) (bytes : List ℕ) : Type 0 where

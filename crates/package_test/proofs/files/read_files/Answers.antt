@@ -10,8 +10,8 @@ use Rattle.pkg_pieces.specs.Values.{value_of_contents}
 use Rattle.pkg_pieces.proofs.SeenBytes.{reads_bad, reads_in_a_row}
 use Rattle.piece_reader.proofs.Readings.{renamed}
 use Rattle.piece_reader.specs.Readers.{handed_out_from, name_in_tree, package_len, start_of_file}
-use Rattle.piece_reader.specs.declared.fault.PieceFault.{PieceFault}
-use Rattle.piece_reader.specs.declared.fault.PieceFault.TheVariants.{Bad, Disk as PieceDisk}
+use Rattle.piece_reader.specs.declared.piece.PieceFault.{PieceFault}
+use Rattle.piece_reader.specs.declared.piece.PieceFault.TheVariants.{Bad, Disk as PieceDisk}
 use Rattle.package_test.specs.Places.{AreFilesTested}
 use Rattle.package_test.specs.declared.files.FilesTest.TheVariants as Tests
 use Rattle.package_test.specs.declared.places.FilePlace.{FilePlace}

@@ -1,32 +1,21 @@
-use Rattle.std.proofs.Common.{◌≡◌, ◌∙◌, Bool, sym, ap, arith}
-use Rattle.std.specs.Prelude.{◌&&◌, not}
-use Rattle.std.specs.List.{list_any}
-use Rattle.adb_view.specs.Plain.{Plains}
-use Rattle.adb_schema.specs.Views.{dependency_value}
-use Rattle.adb_fields.specs.ListValue.{list_value}
-use Rattle.adb_tables.specs.Values.{count_of, entries_in}
+use Rattle.std.proofs.Common.{◌∙◌, Bool, sym, refl}
+use Rattle.std.specs.Prelude.{not, ◌&&◌}
 use Rattle.dep_core.specs.Dependency.{Dependency}
+use Rattle.dep_core.specs.Meets.{dependency}
 use Rattle.pool_core.specs.Candidates.{Candidate, meets_dependency}
-use Rattle.pool_core.proofs.DependencyLists.{all_dependencies, dependencies_to}
-use Rattle.pool_core.proofs.WantedLists.{found_among, none_more}
+use Rattle.pool_core.proofs.LoopTests.{any_at, none_next}
 use Rattle.pool_core.proofs.candidate.any_met_by.Goals as goal
+use Rattle.pool_core.proofs.candidate.any_met_by.Goals.{else-not-dep-via-then-not-dep+else-meets, else-not-dep-via-else-not-dep}
 
 abbrev is_needed : Candidate → Dependency → Bool
 is_needed candidate d = not d.conflict && meets_dependency d candidate
 
-pub returns-then-is_met_by : goal.returns-then-is_met_by
-returns-then-is_met_by c =
-    let values : Plains = entries_in (list_value c.args.list) in
-    sym (found_among (is_needed c.args.candidate.now) c.loop-i.i values (dependency_value c.get-view.result) (omega arith) c.get-view.ensures (sym c.is_met_by.ensures ∙ c.if-is_met_by.true))
+pub returns-then-meets : goal.returns-then-meets
+returns-then-meets c = sym (any_at (is_needed c.args.candidate.now) c.args.deps.now c.loop-i.i (dependency c.get-dep.result) c.get-dep.ensures (rw (c.if-not-dep.true, sym c.meets.ensures ∙ c.if-meets.true) refl))
 
 pub loop-i-preserved : goal.loop-i-preserved
-loop-i-preserved c =
-    let values : Plains = entries_in (list_value c.args.list) in
-    none_more (is_needed c.args.candidate.now) c.loop-i.i values (dependency_value c.get-view.result) (omega arith) c.get-view.ensures c.loop-i.invariant (sym c.is_met_by.ensures ∙ c.if-is_met_by.false)
-
-pub returns : goal.returns
-returns c =
-    let values : Plains = entries_in (list_value c.args.list) in
-    let last : c.loop-i.i ≡ count_of values = omega arith in
-    sym c.loop-i.invariant
-    ∙ ap (list_any (is_needed c.args.candidate.now)) (ap (λ n. dependencies_to n values) last ∙ all_dependencies values)
+loop-i-preserved c = none_next (is_needed c.args.candidate.now) c.args.deps.now c.loop-i.i (dependency c.get-dep.result) c.loop-i.invariant c.get-dep.ensures
+    (elim c.else-not-dep.branch [
+      | else-not-dep-via-then-not-dep+else-meets w ↦ rw (w.if-not-dep.true, sym w.meets.ensures ∙ w.if-meets.false) refl
+      | else-not-dep-via-else-not-dep w ↦ rw w.if-not-dep.false refl
+    ])

@@ -1,12 +1,9 @@
-use Rattle.std.proofs.Common.{◌≡◌, false}
-use Rattle.std.specs.Prelude.{◌&&◌, not}
+use Rattle.std.proofs.Common.{◌≡◌, false, take}
+use Rattle.std.specs.Prelude.{not, ◌&&◌}
 use Rattle.std.specs.List.{list_any}
-use Rattle.adb_tables.specs.Values.{entries_in}
-use Rattle.adb_fields.specs.ListValue.{list_value}
 use Rattle.dep_core.specs.Dependency.{Dependency}
 use Rattle.pool_core.specs.Candidates.{meets_dependency}
-use Rattle.pool_core.proofs.DependencyLists.{dependencies_to}
 use Rattle.pool_core.proofs.candidate.any_met_by.Given as goal
 
 abbrev pub invariant-loop-i : goal.invariant-loop-i
-invariant-loop-i l = list_any (λ (d : Dependency). not d.conflict && meets_dependency d l.candidate) (dependencies_to l.i (entries_in (list_value l.list))) ≡ false
+invariant-loop-i l = list_any (λ (d : Dependency). not d.conflict && meets_dependency d l.candidate) (take l.i l.deps) ≡ false

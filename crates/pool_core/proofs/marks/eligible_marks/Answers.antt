@@ -4,13 +4,14 @@ use Rattle.std.specs.Global.{Global}
 use Rattle.dep_core.specs.Dependency.{Dependency}
 use Rattle.dep_core.specs.Meets.{dependency}
 use Rattle.pool_core.specs.Candidates.{Candidate, is_allowed, is_barred_by}
+use Rattle.pool_core.specs.Packages.{candidates_of_packages}
 use Rattle.pool_core.proofs.MarksThroughTable.{eligible_by_marks}
 use Rattle.pool_core.proofs.Steps.{if_ok}
 use Rattle.pool_core.proofs.marks.eligible_marks.Goals as goal
 
 pub returns : goal.returns
 returns c =
-    let cs : List Candidate = c.args.details.now in
+    let cs : List Candidate = candidates_of_packages c.args.packages.now in
     let tagged : List Dependency = map dependency c.args.tagged.now in
     let conflicts : List Dependency = map dependency c.args.conflicts.now in
     if_ok c.opposite_marks.result (λ (marks : Vec Bool Global). marks.items ≡ map not c.deref.result.now)

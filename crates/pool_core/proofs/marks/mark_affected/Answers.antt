@@ -4,20 +4,21 @@ use Rattle.dep_core.specs.Dependency.{Dependency}
 use Rattle.dep_core.specs.Meets.{dependency}
 use Rattle.pool_core.specs.Candidates.{Candidate}
 use Rattle.pool_core.specs.Marks.{affects, is_affected, marks_with}
+use Rattle.pool_core.specs.Packages.{candidates_of_packages}
 use Rattle.pool_core.proofs.MarksThroughTable.{length-marks_with, map-snoc, no_entry, one_entry_more}
 use Rattle.pool_core.proofs.marks.mark_affected.Goals as goal
 
 pub loop-entry-init : goal.loop-entry-init
-loop-entry-init c = sym (no_entry c.args.effect c.args.marks.now.items c.args.details.now)
+loop-entry-init c = sym (no_entry c.args.effect c.args.marks.now.items (candidates_of_packages c.args.packages.now))
 
 pub mark_among-requires-clause-each : goal.mark_among-requires-clause-each
 mark_among-requires-clause-each c =
     let before : List Dependency = map dependency (take c.loop-entry.entry-index c.args.entries.now) in
-    ap length c.loop-entry.invariant ∙ (length-marks_with (is_affected c.args.effect before) c.args.marks.now.items c.args.details.now ∙ c.requires.each)
+    ap length c.loop-entry.invariant ∙ (length-marks_with (is_affected c.args.effect before) c.args.marks.now.items (candidates_of_packages c.args.packages.now) ∙ c.requires.each)
 
 pub loop-entry-preserved : goal.loop-entry-preserved
 loop-entry-preserved c =
-    let cs : List Candidate = c.args.details.now in
+    let cs : List Candidate = candidates_of_packages c.args.packages.now in
     let ms : List Bool = c.args.marks.now.items in
     let i : ℕ = c.loop-entry.entry-index in
     let d : Dependency = dependency c.entry-item.result in

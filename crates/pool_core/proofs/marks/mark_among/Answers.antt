@@ -5,6 +5,7 @@ use Rattle.dep_core.specs.Meets.{dependency}
 use Rattle.pool_core.specs.Candidates.{Candidate, offers_name}
 use Rattle.pool_core.specs.Marks.{affects, mark_at}
 use Rattle.pool_core.specs.Options.{IsMember}
+use Rattle.pool_core.specs.Packages.{candidates_of_packages}
 use Rattle.pool_core.proofs.MarksThroughTable.{length-marks_among, marks_among, marks_among-snoc, marks_at_offers}
 use Rattle.pool_core.proofs.OfferLists.{places_below}
 use Rattle.pool_core.proofs.Steps.{member_at}
@@ -12,7 +13,7 @@ use Rattle.pool_core.proofs.marks.mark_among.Goals as goal
 
 pub mark_one-requires-clause-within : goal.mark_one-requires-clause-within
 mark_one-requires-clause-within c =
-    let cs : List Candidate = c.args.details.now in
+    let cs : List Candidate = candidates_of_packages c.args.packages.now in
     let d : Dependency = dependency c.args.entry.now in
     let there = member_at c.args.ids.now c.loop-id.id-index c.id-item.result (omega arith) c.id-item.is in
     let below = places_below 0 (offers_name d.name) cs c.id-item.result (subst (λ (z : List ℕ). IsMember c.id-item.result z) c.requires.offers there) in
@@ -21,11 +22,11 @@ mark_one-requires-clause-within c =
 pub mark_one-requires-clause-each : goal.mark_one-requires-clause-each
 mark_one-requires-clause-each c =
     let d : Dependency = dependency c.args.entry.now in
-    ap length c.loop-id.invariant ∙ (length-marks_among (affects c.args.effect d) (take c.loop-id.id-index c.args.ids.now) c.args.marks.now.items c.args.details.now ∙ c.requires.each)
+    ap length c.loop-id.invariant ∙ (length-marks_among (affects c.args.effect d) (take c.loop-id.id-index c.args.ids.now) c.args.marks.now.items (candidates_of_packages c.args.packages.now) ∙ c.requires.each)
 
 pub loop-id-preserved : goal.loop-id-preserved
 loop-id-preserved c =
-    let cs : List Candidate = c.args.details.now in
+    let cs : List Candidate = candidates_of_packages c.args.packages.now in
     let d : Dependency = dependency c.args.entry.now in
     let ids : List ℕ = c.args.ids.now in
     let i : ℕ = c.loop-id.id-index in
@@ -38,7 +39,7 @@ loop-id-preserved c =
 
 pub returns : goal.returns
 returns c =
-    let cs : List Candidate = c.args.details.now in
+    let cs : List Candidate = candidates_of_packages c.args.packages.now in
     let d : Dependency = dependency c.args.entry.now in
     let past : length c.args.ids.now ≤ c.loop-id.id-index = omega arith in
     c.loop-id.invariant

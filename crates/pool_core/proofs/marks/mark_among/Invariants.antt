@@ -1,9 +1,10 @@
 use Rattle.std.proofs.Common.{◌≡◌, take}
 use Rattle.dep_core.specs.Meets.{dependency}
 use Rattle.pool_core.specs.Marks.{affects}
+use Rattle.pool_core.specs.Packages.{candidates_of_packages}
 use Rattle.pool_core.proofs.MarksThroughTable.{marks_among}
 use Rattle.pool_core.proofs.marks.mark_among.Given as goal
 
 abbrev pub invariant-loop-id : goal.invariant-loop-id
 invariant-loop-id l =
-    l.marks.items ≡ marks_among (affects l.effect (dependency l.entry)) (take l.id-index l.ids) l.initial.marks.items l.details
+    l.marks.items ≡ marks_among (affects l.effect (dependency l.entry)) (take l.id-index l.ids) l.initial.marks.items (candidates_of_packages l.packages)

@@ -5,6 +5,7 @@ use Rattle.std.proofs.lemmas.List.{take_all, take_more}
 use Rattle.pool_core.specs.Candidates.{Candidate, offers_name}
 use Rattle.pool_core.specs.CandidateList.{is_same_at, marked_at}
 use Rattle.pool_core.specs.Options.{IsMember}
+use Rattle.pool_core.specs.Packages.{candidates_of_packages}
 use Rattle.pool_core.proofs.Installed.{any_same, length-marked_among, marked_all, marked_among, marked_more, same_among_still}
 use Rattle.pool_core.proofs.OfferLists.{places_below}
 use Rattle.pool_core.proofs.Steps.{any_snoc, member_at}
@@ -12,16 +13,16 @@ use Rattle.pool_core.proofs.pool.mark_among.Goals as goal
 
 pub mark_one-found-requires : goal.mark_one-found-requires
 mark_one-found-requires c =
-    let cs : List Candidate = c.args.details.now.items in
+    let cs : List Candidate = candidates_of_packages c.args.packages.now in
     let installed : Candidate = c.args.installed.now in
     let there = member_at c.args.ids.now c.loop-id.id-index c.id-item.result (omega arith) c.id-item.is in
     let below = places_below 0 (offers_name installed.name) cs c.id-item.result (subst (λ (z : List ℕ). IsMember c.id-item.result z) c.requires there) in
-    let same : length c.loop-id.details.items ≡ length cs = ap length c.loop-id.invariant.0 ∙ length-marked_among installed (take c.loop-id.id-index c.args.ids.now) cs in
+    let same : length (candidates_of_packages c.loop-id.packages) ≡ length cs = ap length c.loop-id.invariant.0 ∙ length-marked_among installed (take c.loop-id.id-index c.args.ids.now) cs in
     omega (arith, below, same)
 
 pub loop-id-preserved : goal.loop-id-preserved
 loop-id-preserved c =
-    let cs : List Candidate = c.args.details.now.items in
+    let cs : List Candidate = candidates_of_packages c.args.packages.now in
     let installed : Candidate = c.args.installed.now in
     let ids : List ℕ = c.args.ids.now in
     let i : ℕ = c.loop-id.id-index in
@@ -36,14 +37,14 @@ loop-id-preserved c =
 
 pub returns-clause-some : goal.returns-clause-some
 returns-clause-some c =
-    let cs : List Candidate = c.args.details.now.items in
+    let cs : List Candidate = candidates_of_packages c.args.packages.now in
     let installed : Candidate = c.args.installed.now in
     let past : length c.args.ids.now ≤ c.loop-id.id-index = omega arith in
     c.loop-id.invariant.1 ∙ (ap (list_any (is_same_at installed cs)) (take_all c.loop-id.id-index c.args.ids.now past ∙ c.requires) ∙ any_same installed cs)
 
 pub returns-clause-same : goal.returns-clause-same
 returns-clause-same c =
-    let cs : List Candidate = c.args.details.now.items in
+    let cs : List Candidate = candidates_of_packages c.args.packages.now in
     let installed : Candidate = c.args.installed.now in
     let past : length c.args.ids.now ≤ c.loop-id.id-index = omega arith in
     c.loop-id.invariant.0 ∙ (ap (λ (ks : List ℕ). marked_among installed ks cs) (take_all c.loop-id.id-index c.args.ids.now past ∙ c.requires) ∙ marked_all installed cs)

@@ -1,24 +1,24 @@
-use Rattle.std.proofs.Common.{◌≤◌, ◌<◌, ◌∙◌, List, ℕ, Bool, false, length, take, get_or, ap, sym, arith}
-use Rattle.std.specs.Prelude.{Some}
+use Rattle.std.proofs.Common.{◌≤◌, ◌<◌, ◌∙◌, List, ℕ, Bool, false, length, take, get_or, ap, arith}
 use Rattle.std.proofs.lemmas.List.{take_all}
 use Rattle.pool_core.specs.Candidates.{Candidate}
 use Rattle.pool_core.specs.World.{places_marked}
+use Rattle.pool_core.specs.Packages.{candidates_of_packages}
 use Rattle.pool_core.proofs.Steps.{marked_step, get_at}
 use Rattle.pool_core.proofs.sealed.install_ifs_among.Goals as goal
 
 pub loop-place-preserved : goal.loop-place-preserved
 loop-place-preserved c =
     let i : ℕ = c.loop-place.place in
-    let cs : List Candidate = c.args.details.now in
+    let cs : List Candidate = candidates_of_packages c.args.packages.now in
     let ms : List Bool = c.args.eligible.now in
-    let one : Candidate = c.index-details-place.result in
+    let one : Candidate = c.get.result in
     let here : i < length cs = omega arith in
     let mark_here : i < length ms = omega (arith, c.requires.marked) in
     marked_step i ms cs (get_or ms i false) one c.loop-place.ids.items c.push_if_marked.new.ids.items
-    (get_at ms i false mark_here) (get_at cs i one here ∙ ap Some (sym c.index-details-place.is)) c.loop-place.invariant c.in_ok-push_if_marked.ensures
+    (get_at ms i false mark_here) c.get.ensures c.loop-place.invariant c.in_ok-push_if_marked.ensures
 
 pub returns : goal.returns
 returns c =
-    let past : length c.args.details.now ≤ c.loop-place.place = omega arith in
+    let past : length (candidates_of_packages c.args.packages.now) ≤ c.loop-place.place = omega arith in
     let past_marks : length c.args.eligible.now ≤ c.loop-place.place = omega (arith, c.requires.marked) in
-    c.loop-place.invariant ∙ (ap (λ (ms : List Bool). places_marked 0 ms (take c.loop-place.place c.args.details.now)) (take_all c.loop-place.place c.args.eligible.now past_marks) ∙ ap (λ (cs : List Candidate). places_marked 0 c.args.eligible.now cs) (take_all c.loop-place.place c.args.details.now past))
+    c.loop-place.invariant ∙ (ap (λ (ms : List Bool). places_marked 0 ms (take c.loop-place.place (candidates_of_packages c.args.packages.now))) (take_all c.loop-place.place c.args.eligible.now past_marks) ∙ ap (λ (cs : List Candidate). places_marked 0 c.args.eligible.now cs) (take_all c.loop-place.place (candidates_of_packages c.args.packages.now) past))

@@ -1,31 +1,29 @@
 use Rattle.std.proofs.Common.{◌≡◌, ◌∙◌, List, Bool, map, ap}
 use Rattle.dep_core.specs.Dependency.{Dependency}
 use Rattle.dep_core.specs.Meets.{dependency}
-use Rattle.pool_core.specs.Candidates.{Candidate, is_eligible}
-use Rattle.pool_core.specs.Rank.{is_pinned}
+use Rattle.pool_core.specs.Candidates.{Candidate}
 use Rattle.pool_core.specs.World.{places_marked}
+use Rattle.pool_core.specs.Packages.{candidates_of_packages}
 use Rattle.pool_core.proofs.Sealing.{eligible_marked, pinned_marked, install_ifs_marked}
 use Rattle.pool_core.proofs.sealed.marks_by_world.Goals as goal
 
 pub returns-clause-eligible : goal.returns-clause-eligible
 returns-clause-eligible c =
     let world : List Dependency = c.args.world.now in
-    eligible_marked world (map dependency c.deref-2.result.now) (map dependency c.deref-3.result.now) c.in_ok-eligible.eligible.items c.deref.result.now
-    (ap (map dependency) c.deref-2.ensures.value ∙ c.in_ok-tagged.ensures) (ap (map dependency) c.deref-3.ensures.value ∙ c.in_ok-conflicts.ensures) c.in_ok-eligible.ensures
-    ∙ ap (map (is_eligible world)) c.deref.ensures.value
+    eligible_marked world (map dependency c.deref.result.now) (map dependency c.deref-2.result.now) c.in_ok-eligible.eligible.items (candidates_of_packages c.args.list.now.packages)
+    (ap (map dependency) c.deref.ensures.value ∙ c.in_ok-tagged.ensures) (ap (map dependency) c.deref-2.ensures.value ∙ c.in_ok-conflicts.ensures) c.in_ok-eligible.ensures
 
 pub returns-clause-pinned : goal.returns-clause-pinned
 returns-clause-pinned c =
     let world : List Dependency = c.args.world.now in
-    pinned_marked world (map dependency c.deref-5.result.now) c.in_ok-pinned.pinned.items c.deref-4.result.now
-    (ap (map dependency) c.deref-5.ensures.value ∙ c.in_ok-tagged.ensures) c.in_ok-pinned.ensures
-    ∙ ap (map (is_pinned world)) c.deref-4.ensures.value
+    pinned_marked world (map dependency c.deref-3.result.now) c.in_ok-pinned.pinned.items (candidates_of_packages c.args.list.now.packages)
+    (ap (map dependency) c.deref-3.ensures.value ∙ c.in_ok-tagged.ensures) c.in_ok-pinned.ensures
 
 pub returns-clause-install_ifs : goal.returns-clause-install_ifs
 returns-clause-install_ifs c =
     let world : List Dependency = c.args.world.now in
-    let cs : List Candidate = c.args.list.now.details.items in
+    let cs : List Candidate = candidates_of_packages c.args.list.now.packages in
     let marks : List Bool = c.in_ok-eligible.eligible.items in
     let found : c.in_ok-install_ifs.install_ifs.items ≡ places_marked 0 marks cs =
-    c.in_ok-install_ifs.ensures ∙ (ap (λ (ms : List Bool). places_marked 0 ms c.deref-6.result.now) c.deref-7.ensures.value ∙ ap (places_marked 0 marks) c.deref-6.ensures.value) in
+    c.in_ok-install_ifs.ensures ∙ ap (λ (ms : List Bool). places_marked 0 ms cs) c.deref-4.ensures.value in
     install_ifs_marked world marks cs c.in_ok-install_ifs.install_ifs.items (returns-clause-eligible c) found

@@ -6,7 +6,7 @@ use Rattle.journal_core.specs.Recovery.{after_actions}
 use Rattle.journal_core.specs.Staged.{HasRoomBeside, Staging, with_staged}
 use Rattle.stage_files.specs.Carried.{IsCarriedTo}
 use Rattle.stage_files.specs.Sources.{MayStandForEach}
-use Rattle.stage_files.specs.declared.fault.StageFault.TheVariants.{Bad, Disk}
+use Rattle.stage_files.specs.declared.writes.StageFault.TheVariants.{Bad, Disk}
 use Rattle.stage_files.proofs.Carried.{carried, carried_on, of_each, where_seen}
 use Rattle.stage_files.proofs.OneFile.{same_fault, if_disk, not_ok, on_err}
 use Rattle.stage_run.specs.StageRun.{IsStageRun, IsStageRunDone, IsStagingRun}

@@ -1,7 +1,7 @@
 use Rattle.std.proofs.Common.{◌++◌, ◌∷◌, [], ℕ, List, None, sym, subst}
 use Rattle.stage_run.specs.StageRun.{IsStaging}
 use Rattle.base_core.specs.Tree.{files_of}
-use Rattle.stage_files.proofs.Files.{file_listed, given_listed, given_stands, link_listed, link_stands}
+use Rattle.stage_files.proofs.Files.{file_listed, given_listed, given_stands, link_listed, link_stands, link_waits}
 use Rattle.stage_files.proofs.writes.stage_write.Goals as goal
 
 pub returns-in_ok-stage_bytes-in-Bytes-clause-staging : goal.returns-in_ok-stage_bytes-in-Bytes-clause-staging
@@ -9,20 +9,23 @@ returns-in_ok-stage_bytes-in-Bytes-clause-staging g c = λ contents v first byte
     subst (λ (b : List ℕ). IsStaging c.stage_bytes.new.stage (contents ++ b ∷ []) None v first (g.T.Tree.history c.stage_bytes.new.tree))
     (sym (given_stands (files_of v) c.args.source.now _ bytes c.in-Bytes.is is)) (c.in_ok-stage_bytes-in-Bytes.ensures.staging contents v first staging)
 
-pub returns-in_ok-stage_link-in-Link-clause-staging : goal.returns-in_ok-stage_link-in-Link-clause-staging
-returns-in_ok-stage_link-in-Link-clause-staging g c = λ contents v first bytes staging is.
-    subst (λ (b : List ℕ). IsStaging c.stage_link.new.stage (contents ++ b ∷ []) None v first (g.T.Tree.history c.stage_link.new.tree))
-    (sym (link_stands (files_of v) c.args.source.now _ bytes c.in-Link.is is)) (c.in_ok-stage_link-in-Link.ensures.staging contents v first staging)
+pub returns-in_ok-stage_pieces-in-Link-clause-staging : goal.returns-in_ok-stage_pieces-in-Link-clause-staging
+returns-in_ok-stage_pieces-in-Link-clause-staging g c = λ contents v first bytes staging is.
+    subst (λ (b : List ℕ). IsStaging c.stage_pieces.new.stage (contents ++ b ∷ []) None v first (g.T.Tree.history c.stage_pieces.new.tree))
+    (sym (link_stands (files_of v) c.args.source.now _ bytes c.in-Link.is is))
+    (link_waits c.link_text.result.now _ (λ b. IsStaging c.stage_pieces.new.stage (contents ++ b ∷ []) None v first (g.T.Tree.history c.stage_pieces.new.tree))
+    c.link_text.ensures (c.in_ok-stage_pieces-in-Link.ensures.staging contents v first staging))
 
 pub returns-in_ok-stage_bytes-in-Bytes-clause-listed : goal.returns-in_ok-stage_bytes-in-Bytes-clause-listed
 returns-in_ok-stage_bytes-in-Bytes-clause-listed g c = λ contents v first staging.
     given_listed c.args.source.now _ (λ b. IsStaging c.stage_bytes.new.stage (contents ++ b ∷ []) None v first (g.T.Tree.history c.stage_bytes.new.tree)) c.in-Bytes.is
     (c.in_ok-stage_bytes-in-Bytes.ensures.staging contents v first staging)
 
-pub returns-in_ok-stage_link-in-Link-clause-listed : goal.returns-in_ok-stage_link-in-Link-clause-listed
-returns-in_ok-stage_link-in-Link-clause-listed g c = λ contents v first staging.
-    link_listed c.args.source.now _ (λ b. IsStaging c.stage_link.new.stage (contents ++ b ∷ []) None v first (g.T.Tree.history c.stage_link.new.tree)) c.in-Link.is
-    (c.in_ok-stage_link-in-Link.ensures.staging contents v first staging)
+pub returns-in_ok-stage_pieces-in-Link-clause-listed : goal.returns-in_ok-stage_pieces-in-Link-clause-listed
+returns-in_ok-stage_pieces-in-Link-clause-listed g c = λ contents v first staging.
+    link_listed c.args.source.now _ (λ b. IsStaging c.stage_pieces.new.stage (contents ++ b ∷ []) None v first (g.T.Tree.history c.stage_pieces.new.tree)) c.in-Link.is
+    (link_waits c.link_text.result.now _ (λ b. IsStaging c.stage_pieces.new.stage (contents ++ b ∷ []) None v first (g.T.Tree.history c.stage_pieces.new.tree))
+    c.link_text.ensures (c.in_ok-stage_pieces-in-Link.ensures.staging contents v first staging))
 
 pub returns-in-File-clause-listed : goal.returns-in-File-clause-listed
 returns-in-File-clause-listed g c = λ contents v first staging.

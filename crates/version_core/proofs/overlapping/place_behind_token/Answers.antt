@@ -1,4 +1,4 @@
-use Rattle.std.proofs.Common.{Some, arith, sym, ◌∙◌}
+use Rattle.std.proofs.Common.{arith, sym, ◌∙◌}
 use Rattle.version_core.proofs.Places.{comes_behind, none_follows}
 use Rattle.version_core.proofs.overlapping.place_behind_token.Goals as goal
 

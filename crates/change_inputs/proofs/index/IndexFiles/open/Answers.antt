@@ -1,12 +1,13 @@
 use Rattle.std.proofs.Common.{◌≡◌, ap, sym, ◌∙◌, Some, None}
 use Rattle.std.specs.Prelude.{is_none}
+use Rattle.adb_rules.specs.Texts.{text_fault}
 use Rattle.adb_schema.specs.Soundness.{first_fault, root_value}
 use Rattle.adb_tables.specs.Values.{is_sound}
 use Rattle.adb_tables.specs.declared.tables.Kind.TheVariants as Kinds
 use Rattle.adb_tables.specs.declared.tables.Which.TheVariants.{Index}
 use Rattle.adb_view.specs.Head.{head_fault, root_of}
 use Rattle.change_inputs.proofs.IndexSteps.{few_seen, in_list, passes_at, seen_at}
-use Rattle.adb_schema.proofs.SoundPayload.{file_head, file_sound}
+use Rattle.adb_schema.proofs.SoundPayload.{file_head, file_sound, file_texts}
 use Rattle.change_inputs.specs.IndexFiles.{bytes_of_each}
 use Rattle.change_inputs.proofs.index.IndexFiles.open.Goals as goal
 
@@ -26,6 +27,12 @@ open_payload-requires-clause-sound c =
     let own = c.args.self.now in
     let passed : first_fault Index c.deref.result.now ≡ None = passes_at (bytes_of_each own.files.items) c.args.i c.deref.result.now own.sound (in_list own.files.items c.args.i c.index.result.now c.deref.result.now (few_seen own.files.items c.args.i c.requires) c.index.ensures c.deref.ensures.value) in
     ap (λ p. is_sound p (Kinds.Obj Index) (root_of p)) c.payload_in.ensures ∙ file_sound c.values_of_few_visits_have_no_fault.ensures Index c.deref.result.now passed
+
+pub open_payload-requires-clause-texts : goal.open_payload-requires-clause-texts
+open_payload-requires-clause-texts c =
+    let own = c.args.self.now in
+    let passed : first_fault Index c.deref.result.now ≡ None = passes_at (bytes_of_each own.files.items) c.args.i c.deref.result.now own.sound (in_list own.files.items c.args.i c.index.result.now c.deref.result.now (few_seen own.files.items c.args.i c.requires) c.index.ensures c.deref.ensures.value) in
+    ap (λ p. is_none (text_fault Index (root_value Index p))) c.payload_in.ensures ∙ ap is_none (file_texts Index c.deref.result.now passed)
 
 pub returns : goal.returns
 returns c =

@@ -4,7 +4,7 @@ use Rattle.std.proofs.lemmas.List.{length-append}
 use Rattle.pkg_core.specs.Contents.{hash_fault}
 use Rattle.pkg_core.specs.Opened.{expected_of}
 use Rattle.piece_core.specs.Pieces.{piece, pieces_from, whole_pieces}
-use Rattle.piece_core.specs.declared.part.Part.{Part}
+use Rattle.piece_core.specs.declared.file.Part.{Part}
 use Rattle.piece_core.proofs.Taken.{more_left}
 use Rattle.piece_core.proofs.file.FileCheck.take.Goals as goal
 

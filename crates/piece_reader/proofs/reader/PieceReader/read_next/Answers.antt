@@ -3,7 +3,7 @@ use Rattle.std.proofs.Common.{◌≡◌, ◌≤◌, ◌+◌, ℕ, subst, length,
 use Rattle.piece_core.specs.Taking.{file_bytes_left}
 use Rattle.pkg_pieces.specs.Seen.{HasAt}
 use Rattle.piece_reader.specs.Readers.{offset_of, package_len}
-use Rattle.piece_reader.specs.declared.fault.PieceFault.TheVariants.{Disk as DiskFault}
+use Rattle.piece_reader.specs.declared.piece.PieceFault.TheVariants.{Disk as DiskFault}
 use Rattle.pkg_pieces.proofs.SeenBytes.{reads_err, reads_in_a_row, reads_ok}
 use Rattle.piece_reader.proofs.BlockSeen.{not_ok}
 use Rattle.piece_reader.proofs.FilesFound.{seen_up_to}

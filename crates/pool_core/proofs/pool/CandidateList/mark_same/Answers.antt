@@ -1,14 +1,15 @@
 use Rattle.std.proofs.Common.{◌≡◌, ◌∙◌, List, length, sym, ap, arith}
 use Rattle.pool_core.specs.Candidates.{Candidate}
 use Rattle.pool_core.specs.Options.{places_offering}
+use Rattle.pool_core.specs.Packages.{candidates_of_packages}
 use Rattle.pool_core.proofs.Installed.{length-as_installed_where_same, places_still}
 use Rattle.pool_core.proofs.pool.CandidateList.mark_same.Goals as goal
 
 pub returns-clause-list : goal.returns-clause-list
 returns-clause-list c =
-    let old : List Candidate = c.args.self.now.details.items in
+    let old : List Candidate = candidates_of_packages c.args.self.now.packages in
     let installed : Candidate = c.args.installed.now in
-    let same : length c.mark_among.new.details.items ≡ length old = ap length c.mark_among.ensures.same ∙ length-as_installed_where_same installed old in
+    let same : length (candidates_of_packages c.mark_among.new.packages) ≡ length old = ap length c.mark_among.ensures.same ∙ length-as_installed_where_same installed old in
     record {
       leads = λ name. c.requires.leads name ∙ sym (ap (places_offering name) c.mark_among.ensures.same ∙ places_still name installed 0 old);
       fits = omega (arith, same, c.requires.fits);

@@ -1,5 +1,5 @@
 use Rattle.std.proofs.Common.{◌≡◌, ◌++◌}
-use Rattle.std.specs.Prelude.{option_copied}
+use Rattle.std.specs.Prelude.{Some, slice_get}
 use Rattle.adb_view.specs.Adb.{payload_of}
 use Rattle.adb_view.specs.Entries.{array_entries}
 use Rattle.adb_fields.specs.Fields.{array_at}
@@ -7,12 +7,13 @@ use Rattle.adb_tables.specs.Values.{entries_in}
 use Rattle.adb_tables.specs.declared.tables.Kind.TheVariants as Kinds
 use Rattle.adb_tables.specs.declared.tables.Which.TheVariants as Tables
 use Rattle.pool_core.specs.CandidateList.{IsCandidateList}
+use Rattle.pool_core.specs.Packages.{candidates_of_packages}
 use Rattle.pool_core.proofs.CandidateLists.{candidates_to}
 use Rattle.pool_core.proofs.pool.CandidateList.push_all.Given as goal
 
 abbrev pub invariant-loop-i : goal.invariant-loop-i
 invariant-loop-i l = record {
   list : IsCandidateList l.self;
-  pushed : l.self.details.items ≡ l.initial.self.details.items ++ candidates_to l.repo (option_copied l.tag) l.i (entries_in (array_at (payload_of l.adb) (Kinds.Obj Tables.PkgInfo) (array_entries l.packages)));
-  payload : l.judged.adb ≡ l.adb;
+  source : slice_get l.self.packages.sources.items l.source_place ≡ Some l.source;
+  pushed : candidates_of_packages l.self.packages ≡ candidates_of_packages l.fn.self.packages ++ candidates_to l.source l.i (entries_in (array_at (payload_of l.source.adb) (Kinds.Obj Tables.PkgInfo) (array_entries l.packages)));
 }

@@ -4,9 +4,9 @@ use Rattle.std.specs.Vec.{vec_len}
 use Rattle.tree_memory.specs.Changes.{contents_of}
 use Rattle.tree_memory.specs.Kept.{IsStore}
 use Rattle.tree_memory.specs.Table.{lookup}
-use Rattle.tree_memory.specs.declared.changes.Change.{Change}
-use Rattle.tree_memory.specs.declared.changes.Change.TheVariants.{Append}
-use Rattle.tree_memory.specs.declared.changes.Stored.{Stored}
+use Rattle.tree_memory.specs.declared.store.Change.{Change}
+use Rattle.tree_memory.specs.declared.store.Change.TheVariants.{Append}
+use Rattle.tree_memory.specs.declared.store.Stored.{Stored}
 use Rattle.tree_memory.proofs.Keeping.{leads_within, stored_bytes}
 use Rattle.tree_memory.proofs.Changed.{states_of, IsOther, store_append, history_append, store_same, states_same}
 use Rattle.tree_memory.proofs.Outcomes.{on_any_err}

@@ -1,6 +1,6 @@
 use Rattle.std.proofs.Common.{◌≡◌, ◌<◌, List, length, get_or, ap, arith, ◌∙◌}
 use Rattle.tree_memory.specs.Changes.{contents_of}
-use Rattle.tree_memory.specs.declared.changes.Change.{Change}
+use Rattle.tree_memory.specs.declared.store.Change.{Change}
 use Rattle.tree_memory.proofs.Picking.{count_more}
 use Rattle.tree_memory.proofs.store.Store.maps.Goals as goal
 

@@ -2,8 +2,8 @@ use Rattle.std.proofs.Common.{◌≡◌, true, List, [], ◌∷◌, ◌++◌, le
 use Rattle.base_core.specs.Files.{put_name}
 use Rattle.base_core.specs.Name.{IsName}
 use Rattle.tree_memory.specs.Table.{lookup}
-use Rattle.tree_memory.specs.declared.changes.Change.TheVariants.{Put}
-use Rattle.tree_memory.specs.declared.changes.Stored.{Stored}
+use Rattle.tree_memory.specs.declared.store.Change.TheVariants.{Put}
+use Rattle.tree_memory.specs.declared.store.Stored.{Stored}
 use Rattle.tree_memory.proofs.Keeping.{IsMore, store_put, history_put}
 use Rattle.tree_memory.proofs.store.Store.put.Goals as goal
 

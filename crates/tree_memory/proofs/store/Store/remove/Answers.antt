@@ -1,8 +1,8 @@
 use Rattle.std.proofs.Common.{ℕ, List, [], ◌∷◌, ◌++◌, ap, ◌∙◌}
 use Rattle.base_core.specs.Files.{drop_name}
 use Rattle.tree_memory.specs.Table.{lookup}
-use Rattle.tree_memory.specs.declared.changes.Change.{Change}
-use Rattle.tree_memory.specs.declared.changes.Change.TheVariants.{Remove, Stay}
+use Rattle.tree_memory.specs.declared.store.Change.{Change}
+use Rattle.tree_memory.specs.declared.store.Change.TheVariants.{Remove, Stay}
 use Rattle.tree_memory.proofs.Changed.{store_remove, history_remove, store_stay, history_stay}
 use Rattle.tree_memory.proofs.store.Store.remove.Goals as goal
 

@@ -2,7 +2,7 @@ use Rattle.std.proofs.Common.{ℕ, List, [], ◌∷◌, ◌++◌, ap, sym, ◌�
 use Rattle.base_core.specs.Files.{put_name, drop_name}
 use Rattle.base_core.specs.Name.{IsName}
 use Rattle.tree_memory.specs.Table.{lookup}
-use Rattle.tree_memory.specs.declared.changes.Change.TheVariants.{Rename}
+use Rattle.tree_memory.specs.declared.store.Change.TheVariants.{Rename}
 use Rattle.tree_memory.proofs.Changed.{store_rename, history_rename}
 use Rattle.tree_memory.proofs.store.Store.rename.Goals as goal
 

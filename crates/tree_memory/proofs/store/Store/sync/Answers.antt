@@ -1,7 +1,7 @@
 use Rattle.std.proofs.Common.{true, [], ◌∷◌, ◌++◌, set, ap, sym, refl, ◌∙◌, arith}
 use Rattle.tree_memory.specs.Table.{lookup}
-use Rattle.tree_memory.specs.declared.changes.Change.TheVariants.{Sync}
-use Rattle.tree_memory.specs.declared.changes.Stored.{Stored}
+use Rattle.tree_memory.specs.declared.store.Change.TheVariants.{Sync}
+use Rattle.tree_memory.specs.declared.store.Stored.{Stored}
 use Rattle.tree_memory.proofs.Keeping.{leads_within, stored_bytes}
 use Rattle.tree_memory.proofs.Changed.{IsOther, store_sync, history_sync}
 use Rattle.tree_memory.proofs.store.Store.sync.Goals as goal

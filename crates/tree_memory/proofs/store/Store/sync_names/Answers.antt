@@ -1,6 +1,6 @@
 use Rattle.std.proofs.Common.{ap, ◌∙◌, ◌++◌, ◌∷◌, [], List}
-use Rattle.tree_memory.specs.declared.changes.Change.{Change}
-use Rattle.tree_memory.specs.declared.changes.Change.TheVariants.{SyncNames}
+use Rattle.tree_memory.specs.declared.store.Change.{Change}
+use Rattle.tree_memory.specs.declared.store.Change.TheVariants.{SyncNames}
 use Rattle.tree_memory.proofs.Changed.{store_sync_names, history_sync_names}
 use Rattle.tree_memory.proofs.store.Store.sync_names.Goals as goal
 

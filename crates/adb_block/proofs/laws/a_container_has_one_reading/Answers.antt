@@ -1,5 +1,0 @@
-use Rattle.adb_block.proofs.WholeFiles.{one_reading}
-use Rattle.adb_block.proofs.laws.a_container_has_one_reading.Goals as goal
-
-pub returns : goal.returns
-returns c = one_reading

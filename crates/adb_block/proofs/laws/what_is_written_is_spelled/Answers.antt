@@ -1,5 +1,0 @@
-use Rattle.adb_block.proofs.WrittenBlocks.{container_spells}
-use Rattle.adb_block.proofs.laws.what_is_written_is_spelled.Goals as goal
-
-pub returns : goal.returns
-returns c = container_spells

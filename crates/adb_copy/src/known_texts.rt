@@ -1,0 +1,102 @@
+//! The long texts of a payload that were written into a draft. Many places may share a text, so a
+//! long one is compared with what the draft has once, and then written by its word.
+
+ghost use Rattle.std.specs.Prelude.{◌≡◌, ℕ, List, true, Some, OnOk};
+ghost use Rattle.std.specs.BTreeMap.{get};
+ghost use Rattle.std.specs.Ordering.{nat_cmp};
+ghost use Rattle.adb_view.specs.Adb.{payload_of};
+ghost use Rattle.adb_view.specs.Plain.{blob_value};
+ghost use Rattle.adb_tables.specs.Values.{entry_in, is_sound, kind_at, text_in, value_at};
+ghost use Rattle.adb_tables.specs.declared.tables.Kind.TheVariants as Kinds;
+ghost use Rattle.adb_values.specs.Drafts.{DraftState, draft_with};
+
+use adb_fields::{field_word, text_word};
+use adb_tables::Which;
+use adb_values::Draft;
+use adb_view::{Adb, Val};
+use std::alloc::{AllocError, Global};
+use std::collections::BTreeMap;
+
+/// How many bytes a text has at most that is compared at each place where it stands.
+const SHORT: usize = 64;
+
+/// The words that long texts of a payload have in a draft, by their words in the payload.
+#[derive(Drop)]
+pub struct KnownTexts {
+    words: BTreeMap<u32, u32>,
+}
+
+impl KnownTexts {
+    ghost use Rattle.adb_copy.specs.Known.{AreBlobsOf};
+
+    /// None is known.
+    pub fn new(alloc: Global) -> KnownTexts
+        ensures { (payload : List ℕ) (draft : DraftState) → AreBlobsOf payload draft result }
+    {
+        KnownTexts {
+            words: BTreeMap::new(alloc),
+        }
+    }
+
+    /// Writes the text of a word. Only long texts take memory, each once.
+    pub(crate) fn write(
+        &mut self,
+        draft: &mut Draft,
+        adb: Adb<'_>,
+        word: Val,
+    ) -> Result<(), AllocError>
+        requires sound { is_sound (payload_of adb) Kinds.Text word ≡ true }
+        requires known { AreBlobsOf (payload_of adb) draft.old self.old }
+        ensures text { OnOk result (draft.new ≡ draft_with
+            (blob_value (text_in (value_at (payload_of adb.entry) Kinds.Text word))) draft.old) }
+        ensures known { OnOk result (AreBlobsOf (payload_of adb.entry) draft.new self.new) }
+    {
+        let text = text_word(adb, word);
+        if text.len() <= SHORT {
+            return draft.blob(text);
+        }
+        match self.known_word(word) {
+            Some(known) => draft.blob_again(Val::of(known)),
+            None => self.write_new(draft, adb, word),
+        }
+    }
+
+    /// Writes the text of an object's field.
+    pub fn write_field(
+        &mut self,
+        draft: &mut Draft,
+        adb: Adb<'_>,
+        which: Which,
+        object: Val,
+        field: usize,
+    ) -> Result<(), AllocError>
+        requires sound { is_sound (payload_of adb) (Kinds.Obj which) object ≡ true }
+        requires kind { kind_at which field ≡ Some Kinds.Text }
+        requires known { AreBlobsOf (payload_of adb) draft.old self.old }
+        ensures text { OnOk result (draft.new ≡ draft_with (blob_value (text_in (entry_in
+            (value_at (payload_of adb.entry) (Kinds.Obj which) object) field))) draft.old) }
+        ensures known { OnOk result (AreBlobsOf (payload_of adb.entry) draft.new self.new) }
+    {
+        self.write(draft, adb, field_word(adb, which, object, field))
+    }
+
+    /// The word that the text of a word has in the draft, if it is known.
+    fn known_word(&self, word: Val) -> Option<u32>
+        ensures { result ≡ get nat_cmp self.now.words word }
+    {
+        self.words.get(&word.word()).copied()
+    }
+
+    /// Writes a text that is not known, and keeps its word.
+    fn write_new(&mut self, draft: &mut Draft, adb: Adb<'_>, word: Val) -> Result<(), AllocError>
+        requires sound { is_sound (payload_of adb) Kinds.Text word ≡ true }
+        requires known { AreBlobsOf (payload_of adb) draft.old self.old }
+        ensures text { OnOk result (draft.new ≡ draft_with
+            (blob_value (text_in (value_at (payload_of adb.entry) Kinds.Text word))) draft.old) }
+        ensures known { OnOk result (AreBlobsOf (payload_of adb.entry) draft.new self.new) }
+    {
+        let known = draft.blob_word(text_word(adb, word))?;
+        self.words.insert(word.word(), known.word())?;
+        Ok(())
+    }
+}

@@ -1,0 +1,77 @@
+//! The readers of words, as the walk asks them: a cause is made only where there is one.
+
+ghost use Rattle.std.specs.Prelude.{◌≡◌, IfErr, IfOk, Err, Ok};
+ghost use Rattle.adb_view.specs.Adb.{payload_of};
+ghost use Rattle.adb_view.specs.Entries.{array_entries};
+ghost use Rattle.adb_view.specs.Readers.{ARRAY, OBJECT, blob_of, int_of, run_of};
+ghost use Rattle.adb_tables.specs.VisitFault.{cause_of_fault};
+
+use crate::visit_fault::VisitFault;
+use crate::walk::object_entries;
+use adb_view::{Adb, Arr, Val};
+
+/// The integer that a word is.
+#[tactic(auto, using(crate::proofs::ReaderFaults::int_fault, crate::proofs::ReaderFaults::read_ok))]
+pub(crate) fn read_int(adb: Adb<'_>, word: Val) -> Result<u64, VisitFault>
+    ensures ok { IfOk result (λ n. int_of (payload_of adb.entry) word ≡ Ok n) }
+    ensures err { IfErr result (λ fault. int_of (payload_of adb.entry) word
+        ≡ Err (cause_of_fault fault)) }
+{
+    if let Some(n) = adb.find_int(word) {
+        return Ok(n);
+    }
+    match adb.int(word) {
+        Ok(n) => Ok(n),
+        Err(cause) => Err(VisitFault::of_reader(cause)),
+    }
+}
+
+/// The bytes of the blob that a word is.
+#[tactic(auto, using(crate::proofs::ReaderFaults::blob_fault, crate::proofs::ReaderFaults::read_ok))]
+pub(crate) fn read_blob<'a>(adb: Adb<'a>, word: Val) -> Result<&'a [u8], VisitFault>
+    ensures ok { IfOk result (λ bytes. blob_of (payload_of adb.entry) word ≡ Ok bytes.now) }
+    ensures err { IfErr result (λ fault. blob_of (payload_of adb.entry) word
+        ≡ Err (cause_of_fault fault)) }
+{
+    if let Some(bytes) = adb.find_blob(word) {
+        return Ok(bytes);
+    }
+    match adb.blob(word) {
+        Ok(bytes) => Ok(bytes),
+        Err(cause) => Err(VisitFault::of_reader(cause)),
+    }
+}
+
+/// The entries of the array that a word is.
+#[tactic(auto, using(crate::proofs::ReaderFaults::run_fault, crate::proofs::ReaderFaults::read_ok))]
+pub(crate) fn read_array<'a>(adb: Adb<'a>, word: Val) -> Result<Arr<'a>, VisitFault>
+    ensures ok { IfOk result (λ words. run_of ARRAY (payload_of adb.entry) word
+        ≡ Ok (array_entries words)) }
+    ensures err { IfErr result (λ fault. run_of ARRAY (payload_of adb.entry) word
+        ≡ Err (cause_of_fault fault)) }
+{
+    if let Some(words) = adb.find_arr(word) {
+        return Ok(words);
+    }
+    match adb.arr(word) {
+        Ok(words) => Ok(words),
+        Err(cause) => Err(VisitFault::of_reader(cause)),
+    }
+}
+
+/// The entries of the object that a word is, those past its fields too.
+#[tactic(auto, using(crate::proofs::ReaderFaults::run_fault, crate::proofs::ReaderFaults::read_ok))]
+pub(crate) fn read_object<'a>(adb: Adb<'a>, word: Val) -> Result<Arr<'a>, VisitFault>
+    ensures ok { IfOk result (λ words. run_of OBJECT (payload_of adb.entry) word
+        ≡ Ok (array_entries words)) }
+    ensures err { IfErr result (λ fault. run_of OBJECT (payload_of adb.entry) word
+        ≡ Err (cause_of_fault fault)) }
+{
+    if let Some(words) = adb.find_entries(word) {
+        return Ok(words);
+    }
+    match object_entries(adb, word) {
+        Ok(words) => Ok(words),
+        Err(cause) => Err(VisitFault::of_reader(cause)),
+    }
+}

@@ -1,0 +1,118 @@
+//! What the process gives a run: the words of its command line, and its standard streams as sinks.
+
+ghost use Rattle.std.specs.Prelude.{◌≤◌, IfOk, IfSome, ◌≡◌, ◌<◌, None, length};
+ghost use Rattle.std.specs.Vec.{vec_len};
+ghost use Rattle.base_core.specs.Faults.{next_count};
+ghost use Rattle.host_tree.specs.Host.{host_counts};
+
+use base_core::{Sink, SinkFault, Words};
+use std::alloc::{AllocError, Global};
+use std::env::{Env, FillError};
+use std::io::{ErrorKind, Write};
+
+/// The most words that a command line may have.
+const MOST_WORDS: usize = 4294967294;
+
+/// How often the buffer for a word is doubled before it counts as want of memory: a word may have
+/// some gigabytes.
+const MOST_DOUBLINGS: u32 = 20;
+
+/// Why the words are not read.
+#[derive(Drop)]
+pub enum WordsFault {
+    TooMany,
+    Memory,
+}
+
+impl From<AllocError> for WordsFault {
+    fn from(_: AllocError) -> WordsFault {
+        WordsFault::Memory
+    }
+}
+
+/// The words of the command line, without the program's name, as the bytes that the host handed
+/// over.
+pub fn words_of(rt: &impl Env, alloc: Global) -> Result<Words, WordsFault> {
+    let mut words = Words::new(alloc);
+    let mut buffer = vec![in alloc; 0u8; 4096]?;
+    for i in 1..=MOST_WORDS + 1 {
+        let Some(len) = read_word(rt, i, &mut buffer)? else {
+            return Ok(words);
+        };
+        if words.len() == MOST_WORDS {
+            return Err(WordsFault::TooMany);
+        }
+        words.push(&buffer[..len])?;
+    }
+    Err(WordsFault::TooMany)
+}
+
+// Reads a word into the buffer, which grows until it fits, and tells its length, or None where
+// there is no such word.
+fn read_word(rt: &impl Env, i: usize, buffer: &mut Vec<u8>) -> Result<Option<usize>, AllocError>
+    ensures { IfOk result (λ found. IfSome found (λ len. len ≤ vec_len buffer.new)) }
+{
+    for _doubling in 0..MOST_DOUBLINGS {
+        match rt.arg(i, buffer) {
+            Ok(len) => return Ok(Some(len)),
+            Err(FillError::NotPresent) => return Ok(None),
+            Err(FillError::TooLong) => buffer.resize(2 * buffer.len() + 1, 0)?,
+        }
+    }
+    Err(AllocError)
+}
+
+/// A stream of the host. It tells nothing of its bytes; each write that answers a fault counts it.
+#[derive(Drop)]
+pub struct HostSink<W: Write + Drop> {
+    inner: W,
+    faults: u64,
+}
+
+impl<W: Write + Drop> HostSink<W> {
+    pub fn new(inner: W) -> HostSink<W>
+        ensures { result.faults ≡ 0 }
+    {
+        HostSink { inner, faults: 0 }
+    }
+
+    fn fault(&mut self) -> SinkFault
+        ensures faults { self.new.faults ≡ next_count self.old.faults }
+        ensures later { self.old.faults ≤ self.new.faults }
+    {
+        self.faults = self.faults.saturating_add(1);
+        SinkFault
+    }
+}
+
+impl<W: Write + Drop> Sink for HostSink<W> {
+    ghost bytes = { λ sink. None };
+
+    ghost counts = { λ sink. host_counts sink.faults };
+
+    fn write(&mut self, piece: &[u8]) -> Result<usize, SinkFault> {
+        if piece.is_empty() {
+            return Ok(0);
+        }
+        match write_some(&mut self.inner, piece) {
+            Some(n) => Ok(n),
+            None => Err(self.fault()),
+        }
+    }
+}
+
+/// How much of a piece the host took, at least one byte, or None where it failed. A write that a
+/// signal interrupts is tried again.
+fn write_some<W: Write>(inner: &mut W, piece: &[u8]) -> Option<usize>
+    ensures { IfSome result (λ n. (0 < n) × (n ≤ length piece.now)) }
+{
+    for _ in 0..u64::MAX {
+        match inner.write(piece) {
+            Ok(0) => return None,
+            Ok(n) => return Some(n),
+            Err(e) if e.kind() == ErrorKind::Interrupted => {}
+            Err(_) => return None,
+        }
+    }
+    None
+}

@@ -1,0 +1,5 @@
+use Rattle.adb_schema.proofs.Sound.{sound_payload}
+use Rattle.change_inputs.proofs.root.test_file.Goals as goal
+
+pub returns-clause-sound : goal.returns-clause-sound
+returns-clause-sound c = sound_payload c.args.which c.args.file.now c.in_ok-read_adb.ensures.sound

@@ -1,0 +1,20 @@
+-- With the folders that are left, by the flags that are left, it has all.
+use Rattle.std.proofs.Common.{◌≡◌, drop}
+use Rattle.adb_view.specs.Adb.{payload_of}
+use Rattle.adb_view.specs.Entries.{array_entries}
+use Rattle.adb_fields.specs.Fields.{array_at}
+use Rattle.adb_tables.specs.declared.tables.Kind.TheVariants as Kinds
+use Rattle.adb_tables.specs.declared.tables.Which.TheVariants as Tables
+use Rattle.adb_fields.specs.Repeated.{list_of}
+use Rattle.adb_tables.specs.Values.{entries_in}
+use Rattle.adb_values.specs.Drafts.{draft_with_all}
+use Rattle.adb_copy.specs.Known.{AreBlobsOf}
+use Rattle.db_write.specs.NewDatabase.{each_by_flags, file_count, folder_after}
+use Rattle.db_write.proofs.folders.write_folder_list.Given as goal
+
+abbrev pub invariant-loop-i : goal.invariant-loop-i
+invariant-loop-i l = record {
+  left : draft_with_all (each_by_flags file_count folder_after (drop l.i (list_of (entries_in (array_at (payload_of l.adb) (Kinds.Obj Tables.Dir) (array_entries l.folders))))) l.left) l.draft
+      ≡ draft_with_all (each_by_flags file_count folder_after (list_of (entries_in (array_at (payload_of l.adb) (Kinds.Obj Tables.Dir) (array_entries l.folders)))) l.flags) l.initial.draft;
+  known : AreBlobsOf (payload_of l.adb) l.draft l.known;
+}

@@ -1,5 +1,0 @@
-use Rattle.file_owners.proofs.OneOwner.{owned_once}
-use Rattle.file_owners.proofs.laws.no_path_is_owned_by_two_members.Goals as goal
-
-pub returns : goal.returns
-returns c = owned_once

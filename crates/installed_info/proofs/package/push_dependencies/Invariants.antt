@@ -1,0 +1,12 @@
+-- The lines of the entries that are left are still to be added.
+use Rattle.std.proofs.Common.{◌≡◌, ◌++◌, drop}
+use Rattle.adb_fields.specs.ListValue.{list_value}
+use Rattle.adb_fields.specs.Repeated.{list_of}
+use Rattle.adb_tables.specs.Values.{entries_in}
+use Rattle.installed_info.proofs.LineSteps.{dependency_lines}
+use Rattle.installed_info.proofs.package.push_dependencies.Given as goal
+
+abbrev pub invariant-loop-i : goal.invariant-loop-i
+invariant-loop-i l =
+    l.report.items ++ dependency_lines (drop l.i (list_of (entries_in (list_value l.depends))))
+    ≡ l.fn.report.items ++ dependency_lines (list_of (entries_in (list_value l.depends)))

@@ -1,0 +1,12 @@
+use Rattle.std.proofs.lemmas.Slice.Eq.{bytes_eq-Decides}
+use Rattle.adb_fields.specs.Repeated.{entries_at, package_name}
+use Rattle.db_core.specs.Packages.{is_package_named}
+use Rattle.installed_info.proofs.Listers.{found_is, named_is}
+use Rattle.installed_info.proofs.telling.packages_have_the_names_that_ask_for_them.Goals as goal
+
+pub returns-clause-asked : goal.returns-clause-asked
+returns-clause-asked c packages name pkg e =
+    let found = found_is (is_package_named name) pkg packages e in (found.0, (bytes_eq-Decides (package_name pkg) name).0 found.1)
+
+pub returns-clause-named : goal.returns-clause-named
+returns-clause-named c database pkg once among = named_is pkg (entries_at 0 database) once.1.packages_once among

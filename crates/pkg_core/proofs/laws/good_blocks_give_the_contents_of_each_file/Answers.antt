@@ -1,6 +1,0 @@
--- Block by block.
-use Rattle.pkg_core.proofs.Given.{files_right}
-use Rattle.pkg_core.proofs.laws.good_blocks_give_the_contents_of_each_file.Goals as goal
-
-pub returns : goal.returns
-returns c = files_right

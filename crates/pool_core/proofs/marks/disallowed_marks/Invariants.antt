@@ -1,0 +1,9 @@
+use Rattle.std.proofs.Common.{◌≡◌, take, map}
+use Rattle.std.specs.Prelude.{not}
+use Rattle.dep_core.specs.Meets.{dependency}
+use Rattle.pool_core.specs.Packages.{candidates_of_packages}
+use Rattle.pool_core.specs.Candidates.{Candidate, is_allowed}
+use Rattle.pool_core.proofs.marks.disallowed_marks.Given as goal
+
+abbrev pub invariant-loop-place : goal.invariant-loop-place
+invariant-loop-place l = l.marks.items ≡ map (λ (one : Candidate). not (is_allowed (map dependency l.tagged) one)) (take l.place (candidates_of_packages l.packages))

@@ -1,0 +1,7 @@
+use Rattle.std.proofs.Common.{◌≡◌, false, take, map}
+use Rattle.pool_core.specs.Packages.{candidates_of_packages}
+use Rattle.pool_core.specs.Candidates.{Candidate}
+use Rattle.pool_core.proofs.marks.no_marks.Given as goal
+
+abbrev pub invariant-loop-place : goal.invariant-loop-place
+invariant-loop-place l = l.marks.items ≡ map (λ (one : Candidate). false) (take l._place (candidates_of_packages l.packages))

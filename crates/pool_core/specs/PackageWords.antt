@@ -1,0 +1,28 @@
+-- What words of packages keep.
+use Rattle.std.specs.Prelude.{◌≡◌, ◌<◌, ℕ, true, List, length, Some, slice_get}
+use Rattle.adb_view.specs.Adb.{payload_of}
+use Rattle.adb_view.specs.Plain.{Plain}
+use Rattle.adb_tables.specs.Values.{is_sound, value_at}
+use Rattle.adb_tables.specs.declared.tables.Kind.TheVariants.{Obj}
+use Rattle.adb_tables.specs.declared.tables.Which.TheVariants.{PkgInfo}
+use Rattle.pool_core.specs.SoundTexts.{HasSoundTexts}
+use Rattle.pool_core.specs.declared.packages.PackageWord.{PackageWord}
+use Rattle.pool_core.specs.declared.packages.Source.{Source}
+
+-- the information of the package with a word in a source
+abbrev pub info_in_source : Source → ℕ → Plain
+info_in_source source word = value_at (payload_of source.adb) (Obj PkgInfo) word
+
+-- the word is a package's, whose texts keep their rules where those of the source do
+pub record IsPackageOf (source : Source) (word : ℕ) : Type 0 where
+  pub sound : is_sound (payload_of source.adb) (Obj PkgInfo) word ≡ true
+  pub texts : source.has_sound_texts ≡ true → HasSoundTexts (info_in_source source word)
+
+-- there is a source at the place, and the word is a package's of it
+pub record IsPackageAt (sources : List Source) (place word : ℕ) : Type 0 where
+  pub within : place < length sources
+  pub of_source : (source : Source) → slice_get sources place ≡ Some source
+      → IsPackageOf source word
+
+abbrev pub IsPackageAmong : List Source → PackageWord → Type 0
+IsPackageAmong sources kept = IsPackageAt sources kept.source kept.word

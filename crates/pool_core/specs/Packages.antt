@@ -1,0 +1,34 @@
+-- Packages that are kept by their words, and the candidates that they are.
+use Rattle.std.specs.Prelude.{ℕ, zero, suc, Bool, false, List, [], ◌∷◌, map, Option, Some, None, option_copied, slice_get}
+use Rattle.adb_view.specs.Plain.{null, Plains, none, more}
+use Rattle.pool_core.specs.Candidates.{Candidate, as_installed, candidate_of}
+use Rattle.pool_core.specs.PackageWords.{info_in_source}
+use Rattle.pool_core.specs.declared.packages.Packages.{Packages}
+use Rattle.pool_core.specs.declared.packages.PackageWord.{PackageWord}
+use Rattle.pool_core.specs.declared.packages.Source.{Source}
+
+-- the candidate with a word in a source, installed or not
+abbrev pub candidate_in_source : Option Source → ℕ → Bool → Candidate
+candidate_in_source None word installed = candidate_of null None None installed
+candidate_in_source (Some source) word installed =
+    candidate_of (info_in_source source word) source.repo (option_copied source.tag) installed
+
+-- the candidates with these values in a source, none of them installed
+abbrev pub candidates_of_source : Source → Plains → List Candidate
+candidates_of_source source none = []
+candidates_of_source source (more info infos) =
+    candidate_of info source.repo (option_copied source.tag) false
+    ∷ candidates_of_source source infos
+
+abbrev pub candidate_among : List Source → PackageWord → Candidate
+candidate_among sources kept =
+    candidate_in_source (slice_get sources kept.source) kept.word kept.installed
+
+abbrev pub candidates_of_packages : Packages → List Candidate
+candidates_of_packages packages = map (candidate_among packages.sources.items) packages.words.items
+
+-- the list, where the candidate at a place counts as installed
+abbrev pub installed_at : ℕ → List Candidate → List Candidate
+installed_at place [] = []
+installed_at zero (c ∷ cs) = as_installed c ∷ cs
+installed_at (suc place) (c ∷ cs) = c ∷ installed_at place cs

@@ -1,0 +1,113 @@
+//! Packages, each kept as its word and the number of its source: an index, or an installed package.
+//! What is said of a package is read from its source when it is asked for.
+ghost use Rattle.std.specs.Prelude.{All};
+ghost use Rattle.pool_core.specs.PackageWords.{IsPackageAmong};
+
+use crate::candidate::Details;
+use adb_view::{Adb, Val};
+use std::alloc::{AllocError, Global};
+
+/// Where packages come from: an index, or the database, for one package.
+#[derive(Clone, Copy)]
+pub(crate) struct Source<'a> {
+    /// The payload that they are read from.
+    pub(crate) adb: Adb<'a>,
+    /// The repository, counted from 1; none for the database.
+    pub(crate) repo: Option<u64>,
+    /// The tag of the repository.
+    pub(crate) tag: Option<&'a [u8]>,
+    /// Whether the texts of its packages are known to keep their rules.
+    pub(crate) has_sound_texts: bool,
+}
+
+/// A package of a source.
+#[derive(Clone, Copy)]
+pub(crate) struct PackageWord {
+    /// The word of its information in the source's payload.
+    word: u32,
+    /// The place of its source, counted from 0.
+    source: u32,
+    installed: bool,
+}
+
+/// The packages of some sources.
+#[derive(Drop)]
+pub(crate) struct Packages<'a> {
+    sources: Vec<Source<'a>>,
+    words: Vec<PackageWord>,
+    ghost sound: { All (IsPackageAmong sources.items) words.items },
+}
+
+impl<'a> Packages<'a> {
+    ghost use Rattle.std.specs.Prelude.{◌≡◌, ◌<◌, ◌∷◌, [], ◌++◌, length, Some, slice_get, IfOk, OnOk, OnErr};
+    ghost use Rattle.pool_core.specs.PackageWords.{IsPackageAt};
+    ghost use Rattle.pool_core.specs.Packages.{candidate_in_source, candidates_of_packages, installed_at};
+
+    /// No packages.
+    pub(crate) fn new(alloc: Global) -> Packages<'a>
+        ensures { candidates_of_packages result ≡ [] }
+    {
+        Packages {
+            sources: Vec::new(alloc),
+            words: Vec::new(alloc),
+        }
+    }
+
+    /// How many there are.
+    pub(crate) fn len(&self) -> usize
+        ensures { result ≡ length (candidates_of_packages self.now) }
+    {
+        self.words.len()
+    }
+
+    /// What is read of the package at a place, counted from 0.
+    pub(crate) fn get(&self, place: usize) -> Details<'a>
+        requires { place < length (candidates_of_packages self.now) }
+        ensures { slice_get (candidates_of_packages self.now) place ≡ Some result }
+    {
+        let package = self.words[place];
+        let source = self.sources[package.source as usize];
+        Details::of(&source, Val::of(package.word), package.installed)
+    }
+
+    /// Adds a source, and answers its place. After an error the packages are as before.
+    pub(crate) fn add_source(&mut self, source: Source<'a>) -> Result<u32, AllocError>
+        ensures place { IfOk result (λ place.
+            slice_get self.new.sources.items place ≡ Some source.entry) }
+        ensures same { candidates_of_packages self.new ≡ candidates_of_packages self.old }
+    {
+        if self.sources.len() >= u32::MAX as usize {
+            return Err(AllocError);
+        }
+        let place = self.sources.len() as u32;
+        self.sources.push(source)?;
+        Ok(place)
+    }
+
+    /// Adds a package of the source at a place behind the others.
+    pub(crate) fn push(&mut self, source: u32, word: Val, installed: bool) -> Result<(), AllocError>
+        requires { IsPackageAt self.old.sources.items source word }
+        ensures sources { self.new.sources ≡ self.old.sources }
+        ensures pushed { OnOk result (candidates_of_packages self.new
+            ≡ candidates_of_packages self.old ++ candidate_in_source
+            (slice_get self.old.sources.items source) word installed ∷ []) }
+        ensures same { OnErr result (candidates_of_packages self.new
+            ≡ candidates_of_packages self.old) }
+    {
+        self.words.push(PackageWord {
+            word: word.word(),
+            source,
+            installed,
+        })?;
+        Ok(())
+    }
+
+    /// Lets the package at a place count as installed.
+    pub(crate) fn mark_installed(&mut self, place: usize)
+        requires { place < length (candidates_of_packages self.old) }
+        ensures { candidates_of_packages self.new
+            ≡ installed_at place (candidates_of_packages self.old) }
+    {
+        self.words[place].installed = true;
+    }
+}

@@ -1,0 +1,316 @@
+-- Two versions that are equal up to a mark compare by what stands from the mark on.
+use Rattle.std.proofs.Common.{◌≡◌, ℕ, zero, suc, ◌+◌, ◌-◌, ◌<◌, ◌≤◌, Bool, true, false, ◌&&◌, ◌||◌, cond, eqb, ltb, List, [], ◌∷◌, ◌++◌, take, drop, get_or, length, Option, Some, None, refl, ap, sym, ◌∙◌, subst, arith, Ordering}
+use Rattle.std.specs.Prelude.{not}
+use Rattle.std.specs.Char.{is_ascii_digit, is_ascii_lowercase}
+use Rattle.std.specs.List.{take_while, list_all}
+use Rattle.std.specs.Ordering.{nat_cmp, ordering_then}
+use Rattle.std.specs.Cmp.Lexicographic.{slice_cmp}
+use Rattle.std.proofs.lemmas.Bool.{false≢true}
+use Rattle.std.proofs.lemmas.Bool.Decides.{Decides-eqb}
+use Rattle.std.proofs.lemmas.Cmp.{tied_itself, nat_cmp_total}
+use Rattle.std.proofs.lemmas.List.{append_assoc, drop-append-le, drop-drop, drop_more, length-drop, length-take, take-append-drop}
+use Rattle.std.proofs.Math.Seq.{take-add}
+use Rattle.std.proofs.lemmas.List.Sums.{take_while-cons}
+use Rattle.version_core.specs.declared.token.Class.{Class}
+use Rattle.version_core.specs.declared.token.Class.TheVariants.{Revision, Hash, SuffixNumber, Letter, Component}
+use Rattle.version_core.specs.Token.{Token, Lexeme, number_token, text_token, lexeme, stray_lexeme, is_component, is_suffix, is_before_hash, is_before_revision, is_hex_digit, leading_digits, leading_hex_digits, leading_letters, number_lexeme, component_lexeme, suffix_lexeme, hash_lexeme, revision_lexeme, next_lexeme, lexeme_at}
+use Rattle.version_core.specs.Order.{are_in_grammar, is_last, is_stray, is_version, token_cmp, tokens, tokens_behind, version_cmp}
+use Rattle.version_core.specs.Reading.{AreEqualUpTo, IsLastMark, begins_with_mark, hash_cmp, is_token_mark}
+use Rattle.version_core.proofs.OrderLaws.{token_cmp-total}
+use Rattle.version_core.proofs.Places.{NoEnd, number_no_end, some_no_end, stray_first}
+use Rattle.version_core.proofs.Walk.{lexeme_at_within}
+
+-- ---- the four marks
+
+or_cases : {P : Type 0} (a b : Bool) → (a || b) ≡ true → (a ≡ true → P) → (b ≡ true → P) → P
+or_cases true b h f g = f refl
+or_cases false b h f g = g h
+
+by_mark : (P : ℕ → Type 0) (m : ℕ) → is_token_mark m ≡ true → P 46 → P 95 → P 126 → P 45 → P m
+by_mark P m h dot line tilde dash =
+    let at : (n : ℕ) → P n → eqb m n ≡ true → P m = λ n p e. subst P (sym ((Decides-eqb m n).0 e)) p in
+    or_cases (eqb m 46 || eqb m 95 || eqb m 126) (eqb m 45) h
+    (λ h. or_cases (eqb m 46 || eqb m 95) (eqb m 126) h (λ h. or_cases (eqb m 46) (eqb m 95) h (at 46 dot) (at 95 line)) (at 126 tilde))
+    (at 45 dash)
+
+no_digit : (m : ℕ) → is_token_mark m ≡ true → is_ascii_digit m ≡ false
+no_digit m h = by_mark (λ m. is_ascii_digit m ≡ false) m h refl refl refl refl
+
+no_letter : (m : ℕ) → is_token_mark m ≡ true → is_ascii_lowercase m ≡ false
+no_letter m h = by_mark (λ m. is_ascii_lowercase m ≡ false) m h refl refl refl refl
+
+no_hex : (m : ℕ) → is_token_mark m ≡ true → is_hex_digit m ≡ false
+no_hex m h = by_mark (λ m. is_hex_digit m ≡ false) m h refl refl refl refl
+
+no_r : (m : ℕ) → is_token_mark m ≡ true → eqb m 114 ≡ false
+no_r m h = by_mark (λ m. eqb m 114 ≡ false) m h refl refl refl refl
+
+-- ---- no token goes over a mark behind its first byte
+
+run_front : (q : ℕ → Bool) (a : List ℕ) (m : ℕ) (x : List ℕ) → q m ≡ false → take_while q (a ++ m ∷ x) ≡ take_while q a
+run_front q [] m x h = take_while-cons q m x ∙ ap (λ b. cond b (m ∷ take_while q x) []) h
+run_front q (b ∷ a) m x h =
+    take_while-cons q b (a ++ m ∷ x) ∙ ap (λ r. cond (q b) (b ∷ r) []) (run_front q a m x h) ∙ sym (take_while-cons q b a)
+
+revision_front : (a : List ℕ) (m : ℕ) (x : List ℕ) → is_token_mark m ≡ true → revision_lexeme (a ++ m ∷ x) ≡ revision_lexeme a
+unfolding revision_lexeme
+revision_front [] m x h = ap (λ b. cond b (number_lexeme Revision 2 (leading_digits x)) stray_lexeme) (no_r m h)
+revision_front (b ∷ a) m x h = ap (λ ds. cond (eqb b 114) (number_lexeme Revision 2 ds) stray_lexeme) (run_front is_ascii_digit a m x (no_digit m h))
+
+abbrev next_by : Class → ℕ → List ℕ → List ℕ → List ℕ → List ℕ → Lexeme → Lexeme
+next_by last b digits letters number hash revision =
+    cond (eqb b 46 && is_component last) (component_lexeme digits)
+    (cond (is_ascii_lowercase b && is_component last) (lexeme (number_token Letter b) 1)
+    (cond (eqb b 95 && is_before_hash last) (suffix_lexeme letters)
+    (cond (is_ascii_digit b && is_suffix last) (number_lexeme SuffixNumber 0 number)
+    (cond (eqb b 126 && is_before_hash last) (hash_lexeme hash)
+    (cond (eqb b 45 && is_before_revision last) revision
+    stray_lexeme)))))
+
+lexeme_front : (last : Option Class) (b : ℕ) (a : List ℕ) (m : ℕ) (x : List ℕ) → is_token_mark m ≡ true → lexeme_at last (b ∷ (a ++ m ∷ x)) ≡ lexeme_at last (b ∷ a)
+unfolding next_lexeme
+lexeme_front None b a m x h = ap (number_lexeme Component 0) (run_front is_ascii_digit (b ∷ a) m x (no_digit m h))
+lexeme_front (Some last) b a m x h = λ i.
+    next_by last b (run_front is_ascii_digit a m x (no_digit m h) i) (run_front is_ascii_lowercase a m x (no_letter m h) i)
+    (run_front is_ascii_digit (b ∷ a) m x (no_digit m h) i) (run_front is_hex_digit a m x (no_hex m h) i) (revision_front a m x h i)
+
+-- ---- what a version has from a mark on does not depend on the token before
+
+plain_by : (b : Bool) (x : Lexeme) → is_last (cond b x stray_lexeme).token.class ≡ false → cond b x stray_lexeme ≡ x
+plain_by true x h = refl
+plain_by false x h = absurd (false≢true (sym h))
+
+mark_lexeme : (last : Option Class) (m : ℕ) (x : List ℕ) → is_token_mark m ≡ true → is_last (lexeme_at last (m ∷ x)).token.class ≡ false → lexeme_at last (m ∷ x) ≡ lexeme_at (Some Component) (m ∷ x)
+unfolding next_lexeme number_lexeme
+mark_lexeme None m x mark h =
+    let none : number_lexeme Component 0 (leading_digits (m ∷ x)) ≡ stray_lexeme = ap (number_lexeme Component 0) (run_front is_ascii_digit [] m x (no_digit m mark)) in
+    absurd (false≢true (sym h ∙ ap (λ (l : Lexeme). is_last l.token.class) none))
+mark_lexeme (Some last) m x mark h =
+    by_mark (λ m. is_last (next_lexeme last (m ∷ x)).token.class ≡ false → next_lexeme last (m ∷ x) ≡ next_lexeme Component (m ∷ x)) m mark
+    (plain_by (is_component last) (component_lexeme (leading_digits x)))
+    (plain_by (is_before_hash last) (suffix_lexeme (leading_letters x)))
+    (plain_by (is_before_hash last) (hash_lexeme (leading_hex_digits x)))
+    (plain_by (is_before_revision last) (revision_lexeme x))
+    h
+
+-- ---- the tokens of a text that is in the grammar
+
+abbrev IsGood : Option Class → ℕ → List ℕ → Type 0
+IsGood last inside text = are_in_grammar (tokens_behind last inside text) ≡ true
+
+no_end : (last : Option Class) (b : ℕ) (rest : List ℕ) → NoEnd (lexeme_at last (b ∷ rest))
+no_end None b rest = number_no_end Component 0 (leading_digits (b ∷ rest)) (λ h. h)
+no_end (Some last) b rest = some_no_end last (b ∷ rest) (omega arith)
+
+bool_by : (b : Bool) → (b ≡ true → false ≡ true) → b ≡ false
+bool_by true f = sym (f refl)
+bool_by false f = refl
+
+goes_on : (last : Option Class) (b : ℕ) (rest : List ℕ) → IsGood last 0 (b ∷ rest) → is_last (lexeme_at last (b ∷ rest)).token.class ≡ false
+goes_on last b rest good = bool_by _ (λ h. sym (stray_first last (b ∷ rest) (no_end last b rest) h) ∙ good)
+
+-- the tokens behind a token, where it begins a text of which so much stands behind its first byte
+abbrev tokens_by : List ℕ → Lexeme → List Token
+tokens_by rest found = found.token ∷ cond (is_last found.token.class) [] (tokens_behind (Some found.token.class) (found.width - 1) rest)
+
+good_behind : (rest : List ℕ) (found : Lexeme) (stray : Bool) (last : Bool) → last ≡ false → (not stray && are_in_grammar (cond last [] (tokens_behind (Some found.token.class) (found.width - 1) rest))) ≡ true → IsGood (Some found.token.class) (found.width - 1) rest
+good_behind rest found true last e h = absurd (false≢true h)
+good_behind rest found false true e h = absurd (false≢true (sym e))
+good_behind rest found false false e h = h
+
+-- two texts that begin with one token compare by what stands behind it
+same_token : (found : Lexeme) (x y : List ℕ) → is_last found.token.class ≡ false → slice_cmp token_cmp (tokens_by x found) (tokens_by y found) ≡ slice_cmp token_cmp (tokens_behind (Some found.token.class) (found.width - 1) x) (tokens_behind (Some found.token.class) (found.width - 1) y)
+same_token found x y h =
+    ap (λ b. ordering_then (token_cmp found.token found.token) (slice_cmp token_cmp (cond b [] (tokens_behind (Some found.token.class) (found.width - 1) x)) (cond b [] (tokens_behind (Some found.token.class) (found.width - 1) y)))) h
+    ∙ ap (λ o. ordering_then o (slice_cmp token_cmp (tokens_behind (Some found.token.class) (found.width - 1) x) (tokens_behind (Some found.token.class) (found.width - 1) y))) (tied_itself token_cmp-total found.token)
+
+abbrev compare_at : Option Class → ℕ → List ℕ → List ℕ → Ordering
+compare_at last inside left right = slice_cmp token_cmp (tokens_behind last inside left) (tokens_behind last inside right)
+
+-- the same with an equal front, behind which both go on with a mark
+cmp_front : (last : Option Class) (inside : ℕ) (a : List ℕ) (m : ℕ) (x y : List ℕ) → is_token_mark m ≡ true → inside ≤ length a → IsGood last inside (a ++ m ∷ x) → IsGood last inside (a ++ m ∷ y) → compare_at last inside (a ++ m ∷ x) (a ++ m ∷ y) ≡ compare_at (Some Component) 0 (m ∷ x) (m ∷ y)
+cmp_front last zero [] m x y mark room left right = λ i.
+    slice_cmp token_cmp (tokens_by x (mark_lexeme last m x mark (goes_on last m x left) i)) (tokens_by y (mark_lexeme last m y mark (goes_on last m y right) i))
+cmp_front last (suc inside) [] m x y mark room left right = absurd (omega arith)
+cmp_front last (suc inside) (b ∷ a) m x y mark room left right = cmp_front last inside a m x y mark (omega arith) left right
+cmp_front last zero (b ∷ a) m x y mark room left right =
+    let found = lexeme_at last (b ∷ a) in
+    let e = lexeme_front last b a m x mark in
+    let f = lexeme_front last b a m y mark in
+    let on : is_last found.token.class ≡ false = ap (λ (l : Lexeme). is_last l.token.class) (sym e) ∙ goes_on last b (a ++ m ∷ x) left in
+    let most = (lexeme_at_within last (b ∷ a)).most in
+    (λ i. slice_cmp token_cmp (tokens_by (a ++ m ∷ x) (e i)) (tokens_by (a ++ m ∷ y) (f i)))
+    ∙ same_token found (a ++ m ∷ x) (a ++ m ∷ y) on
+    ∙ cmp_front (Some found.token.class) (found.width - 1) a m x y mark (omega arith)
+    (good_behind (a ++ m ∷ x) found (is_stray found.token.class) (is_last found.token.class) on (ap (λ (l : Lexeme). are_in_grammar (tokens_by (a ++ m ∷ x) l)) (sym e) ∙ left))
+    (good_behind (a ++ m ∷ y) found (is_stray found.token.class) (is_last found.token.class) on (ap (λ (l : Lexeme). are_in_grammar (tokens_by (a ++ m ∷ y) l)) (sym f) ∙ right))
+
+-- and each is in the grammar from the mark on
+good_front : (last : Option Class) (inside : ℕ) (a : List ℕ) (m : ℕ) (x : List ℕ) → is_token_mark m ≡ true → inside ≤ length a → IsGood last inside (a ++ m ∷ x) → IsGood (Some Component) 0 (m ∷ x)
+good_front last zero [] m x mark room good =
+    ap (λ (l : Lexeme). are_in_grammar (tokens_by x l)) (sym (mark_lexeme last m x mark (goes_on last m x good))) ∙ good
+good_front last (suc inside) [] m x mark room good = absurd (omega arith)
+good_front last (suc inside) (b ∷ a) m x mark room good = good_front last inside a m x mark (omega arith) good
+good_front last zero (b ∷ a) m x mark room good =
+    let found = lexeme_at last (b ∷ a) in
+    let e = lexeme_front last b a m x mark in
+    let on : is_last found.token.class ≡ false = ap (λ (l : Lexeme). is_last l.token.class) (sym e) ∙ goes_on last b (a ++ m ∷ x) good in
+    let most = (lexeme_at_within last (b ∷ a)).most in
+    good_front (Some found.token.class) (found.width - 1) a m x mark (omega arith)
+    (good_behind (a ++ m ∷ x) found (is_stray found.token.class) (is_last found.token.class) on (ap (λ (l : Lexeme). are_in_grammar (tokens_by (a ++ m ∷ x) l)) (sym e) ∙ good))
+
+-- ---- within the hash of both
+
+abbrev is_unmarked : List ℕ → Bool
+is_unmarked text = list_all (λ b. not (is_token_mark b)) text
+
+and_false : (b : Bool) → (b && false) ≡ false
+and_false true = refl
+and_false false = refl
+
+and_left : (a b : Bool) → (a && b) ≡ true → a ≡ true
+and_left true b h = refl
+and_left false b h = absurd (false≢true h)
+
+and_right : (a b : Bool) → (a && b) ≡ true → b ≡ true
+and_right true b h = h
+and_right false b h = absurd (false≢true h)
+
+or_right : (a b : Bool) → not (a || b) ≡ true → b ≡ false
+or_right true b h = absurd (false≢true h)
+or_right false true h = absurd (false≢true h)
+or_right false false h = refl
+
+no_hash_byte : (b : ℕ) (rest : List ℕ) → not (is_token_mark b) ≡ true → next_lexeme Hash (b ∷ rest) ≡ stray_lexeme
+unfolding next_lexeme
+no_hash_byte b rest h = λ i.
+    cond (and_false (eqb b 46) i) (component_lexeme (leading_digits rest))
+    (cond (and_false (is_ascii_lowercase b) i) (lexeme (number_token Letter b) 1)
+    (cond (and_false (eqb b 95) i) (suffix_lexeme (leading_letters rest))
+    (cond (and_false (is_ascii_digit b) i) (number_lexeme SuffixNumber 0 (leading_digits (b ∷ rest)))
+    (cond (and_false (eqb b 126) i) (hash_lexeme (leading_hex_digits rest))
+    (cond (or_right (eqb b 46 || eqb b 95 || eqb b 126) (eqb b 45) h i && true) (revision_lexeme rest) stray_lexeme)))))
+
+-- the digits of a hash up to a place within it
+record AreHashDigits (digits rest : List ℕ) : Type 0 where
+  text : leading_hex_digits (digits ++ rest) ≡ digits ++ leading_hex_digits rest
+  behind : tokens_behind (Some Hash) (length (leading_hex_digits (digits ++ rest))) (digits ++ rest) ≡ tokens_behind (Some Hash) (length (leading_hex_digits rest)) rest
+
+hash_digits_by : (b : ℕ) (digits rest : List ℕ) (hex : Bool) → is_hex_digit b ≡ hex → not (is_token_mark b) ≡ true → IsGood (Some Hash) (length (leading_hex_digits (b ∷ (digits ++ rest)))) (b ∷ (digits ++ rest))
+    → (IsGood (Some Hash) (length (leading_hex_digits (digits ++ rest))) (digits ++ rest) → AreHashDigits digits rest) → AreHashDigits (b ∷ digits) rest
+hash_digits_by b digits rest true h plain good later =
+    let run : leading_hex_digits (b ∷ (digits ++ rest)) ≡ b ∷ leading_hex_digits (digits ++ rest) = take_while-cons is_hex_digit b (digits ++ rest) ∙ ap (λ c. cond c (b ∷ leading_hex_digits (digits ++ rest)) []) h in
+    let there : tokens_behind (Some Hash) (length (leading_hex_digits (b ∷ (digits ++ rest)))) (b ∷ (digits ++ rest)) ≡ tokens_behind (Some Hash) (length (leading_hex_digits (digits ++ rest))) (digits ++ rest) = ap (λ ds. tokens_behind (Some Hash) (length ds) (b ∷ (digits ++ rest))) run in
+    let more = later (ap are_in_grammar (sym there) ∙ good) in
+    record { text = run ∙ ap (λ ds. b ∷ ds) more.text; behind = there ∙ more.behind }
+hash_digits_by b digits rest false h plain good later =
+    let run : leading_hex_digits (b ∷ (digits ++ rest)) ≡ [] = take_while-cons is_hex_digit b (digits ++ rest) ∙ ap (λ c. cond c (b ∷ leading_hex_digits (digits ++ rest)) []) h in
+    let here : IsGood (Some Hash) 0 (b ∷ (digits ++ rest)) = ap (λ ds. are_in_grammar (tokens_behind (Some Hash) (length ds) (b ∷ (digits ++ rest)))) (sym run) ∙ good in
+    let stray : is_last (lexeme_at (Some Hash) (b ∷ (digits ++ rest))).token.class ≡ true = ap (λ (l : Lexeme). is_last l.token.class) (no_hash_byte b (digits ++ rest) plain) in
+    absurd (false≢true (sym (goes_on (Some Hash) b (digits ++ rest) here) ∙ stray))
+
+hash_digits : (digits rest : List ℕ) → is_unmarked digits ≡ true → IsGood (Some Hash) (length (leading_hex_digits (digits ++ rest))) (digits ++ rest) → AreHashDigits digits rest
+hash_digits [] rest plain good = record { text = refl; behind = refl }
+hash_digits (b ∷ digits) rest plain good =
+    hash_digits_by b digits rest (is_hex_digit b) refl (and_left (not (is_token_mark b)) (is_unmarked digits) plain) good (hash_digits digits rest (and_right (not (is_token_mark b)) (is_unmarked digits) plain))
+
+hash_first : (rest : List ℕ) → IsGood (Some Component) 0 (126 ∷ rest) → tokens_behind (Some Component) 0 (126 ∷ rest) ≡ text_token Hash (leading_hex_digits rest) ∷ tokens_behind (Some Hash) (length (leading_hex_digits rest)) rest
+unfolding next_lexeme hash_lexeme
+hash_first rest good =
+    let len = length (leading_hex_digits rest) in
+    let less : 1 + len - 1 ≡ len = omega arith in
+    ap (tokens_by rest) (plain_by (ltb 0 len) (lexeme (text_token Hash (leading_hex_digits rest)) (1 + len)) (goes_on (Some Component) 126 rest good))
+    ∙ ap (λ n. text_token Hash (leading_hex_digits rest) ∷ tokens_behind (Some Hash) n rest) less
+
+same_digits : (a x y : List ℕ) → slice_cmp nat_cmp (a ++ x) (a ++ y) ≡ slice_cmp nat_cmp x y
+same_digits [] x y = refl
+same_digits (b ∷ a) x y = ap (λ o. ordering_then o (slice_cmp nat_cmp (a ++ x) (a ++ y))) (tied_itself nat_cmp_total b) ∙ same_digits a x y
+
+abbrev compare_behind_hash : List ℕ → List ℕ → Ordering
+compare_behind_hash x y = slice_cmp token_cmp (tokens_behind (Some Hash) (length (leading_hex_digits x)) x) (tokens_behind (Some Hash) (length (leading_hex_digits y)) y)
+
+hash_front : (digits x y : List ℕ) → is_unmarked digits ≡ true → IsGood (Some Component) 0 (126 ∷ (digits ++ x)) → IsGood (Some Component) 0 (126 ∷ (digits ++ y)) → compare_at (Some Component) 0 (126 ∷ (digits ++ x)) (126 ∷ (digits ++ y)) ≡ hash_cmp x y
+hash_front digits x y plain left right =
+    let e = hash_first (digits ++ x) left in
+    let f = hash_first (digits ++ y) right in
+    let a = hash_digits digits x plain (ap are_in_grammar (sym e) ∙ left) in
+    let b = hash_digits digits y plain (ap are_in_grammar (sym f) ∙ right) in
+    (λ i. slice_cmp token_cmp (e i) (f i))
+    ∙ (λ i. ordering_then (slice_cmp nat_cmp (a.text i) (b.text i)) (slice_cmp token_cmp (a.behind i) (b.behind i)))
+    ∙ ap (λ o. ordering_then o (compare_behind_hash x y)) (same_digits digits (leading_hex_digits x) (leading_hex_digits y))
+
+-- ---- what the code passes over
+
+-- a text with the mark at which it is cut, and what stands up to the place that was compared
+record IsCut (text front : List ℕ) (len at m : ℕ) (plain : List ℕ) : Type 0 where
+  whole : text ≡ take at front ++ m ∷ (plain ++ drop len text)
+  rest : drop at text ≡ m ∷ (plain ++ drop len text)
+
+cut_text : (text front : List ℕ) (len at m : ℕ) (plain : List ℕ) → front ≡ take len text → drop at front ≡ m ∷ plain → IsCut text front len at m plain
+cut_text text front len at m plain e h =
+    let joined : front ++ drop len text ≡ text = ap (λ f. f ++ drop len text) e ∙ take-append-drop len text in
+    let some : at ≤ length front = omega (arith, length-drop at front, ap length h) in
+    record {
+      whole = sym joined ∙ ap (λ f. f ++ drop len text) (sym (take-append-drop at front)) ∙ append_assoc (take at front) (drop at front) (drop len text) ∙ ap (λ d. take at front ++ (d ++ drop len text)) h;
+      rest = ap (drop at) (sym joined) ∙ drop-append-le at front (drop len text) some ∙ ap (λ d. d ++ drop len text) h;
+    }
+
+-- the mark and what stands behind it in a front
+with_mark : (P : Type 0) (text : List ℕ) → begins_with_mark text ≡ true → ((m : ℕ) (rest : List ℕ) → text ≡ m ∷ rest → is_token_mark m ≡ true → P) → P
+with_mark P [] h f = absurd (false≢true h)
+with_mark P (m ∷ rest) h f = f m rest refl h
+
+pub more_equal : (left right : List ℕ) (len n : ℕ) → AreEqualUpTo left right len → len + n ≤ length left → len + n ≤ length right → take n (drop len left) ≡ take n (drop len right) → AreEqualUpTo left right (len + n)
+more_equal left right len n known one two e = record {
+  within = (one, two);
+  same = take-add len n left ∙ (λ i. known.same i ++ e i) ∙ sym (take-add len n right);
+}
+
+pub cmp_whole : (left right : List ℕ) → slice_cmp token_cmp (tokens left) (tokens right) ≡ version_cmp left right
+unfolding version_cmp
+cmp_whole left right = refl
+
+cmp_behind : (left right : List ℕ) → version_cmp left right ≡ compare_at None 0 left right
+unfolding version_cmp tokens
+cmp_behind left right = refl
+
+good_whole : (text : List ℕ) → is_version text ≡ true → IsGood None 0 text
+unfolding is_version tokens
+good_whole text h = h
+
+pub cmp_from_mark : (left right : List ℕ) (len at : ℕ) → AreEqualUpTo left right len → IsLastMark (take len left) at → is_version left ≡ true → is_version right ≡ true → version_cmp left right ≡ compare_at (Some Component) 0 (drop at left) (drop at right)
+cmp_from_mark left right len at equal found one two =
+    let front = take len left in
+    with_mark _ (drop at front) found.mark (λ m plain h mark.
+    let l = cut_text left front len at m plain refl h in
+    let r = cut_text right front len at m plain equal.same h in
+    let x = plain ++ drop len left in
+    let y = plain ++ drop len right in
+    cmp_behind left right
+    ∙ (λ i. compare_at None 0 (l.whole i) (r.whole i))
+    ∙ cmp_front None 0 (take at front) m x y mark (omega arith) (subst (IsGood None 0) l.whole (good_whole left one)) (subst (IsGood None 0) r.whole (good_whole right two))
+    ∙ (λ i. compare_at (Some Component) 0 (sym l.rest i) (sym r.rest i)))
+
+pub cmp_from_hash : (left right : List ℕ) (len at : ℕ) → AreEqualUpTo left right len → IsLastMark (take len left) at → is_version left ≡ true → is_version right ≡ true → at < length left → get_or left at 0 ≡ 126 → version_cmp left right ≡ hash_cmp (drop len left) (drop len right)
+cmp_from_hash left right len at equal found one two within tilde =
+    let front = take len left in
+    with_mark _ (drop at front) found.mark (λ m plain h mark.
+    let l = cut_text left front len at m plain refl h in
+    let r = cut_text right front len at m plain equal.same h in
+    let x = plain ++ drop len left in
+    let y = plain ++ drop len right in
+    let is : m ≡ 126 = ap (λ t. get_or t 0 0) (sym l.rest ∙ drop_more left at 0 within) ∙ tilde in
+    let digits : is_unmarked plain ≡ true = ap is_unmarked (sym (sym (drop-drop 1 at front) ∙ ap (drop 1) h)) ∙ found.last in
+    let good_l = subst (λ m. IsGood (Some Component) 0 (m ∷ x)) is (good_front None 0 (take at front) m x mark (omega arith) (subst (IsGood None 0) l.whole (good_whole left one))) in
+    let good_r = subst (λ m. IsGood (Some Component) 0 (m ∷ y)) is (good_front None 0 (take at front) m y mark (omega arith) (subst (IsGood None 0) r.whole (good_whole right two))) in
+    cmp_from_mark left right len at equal found one two
+    ∙ (λ i. compare_at (Some Component) 0 (l.rest i) (r.rest i))
+    ∙ (λ i. compare_at (Some Component) 0 (is i ∷ x) (is i ∷ y))
+    ∙ hash_front plain (drop len left) (drop len right) digits good_l good_r)
+
+pub mark_within : (text : List ℕ) (len at : ℕ) → IsLastMark (take len text) at → at < length text
+mark_within text len at found =
+    with_mark _ (drop at (take len text)) found.mark (λ m plain h mark. omega (arith, length-drop at (take len text), ap length h, length-take-most len text))
+  where
+    length-take-most : (n : ℕ) (xs : List ℕ) → length (take n xs) ≤ length xs
+    length-take-most n xs = omega (arith, length-take n xs)
