@@ -18,7 +18,7 @@ use crate::line::{
     LineStart, write_dash, write_hash_line, write_hex, write_name, write_number_line,
     write_text_line,
 };
-use crate::out::{BlobOut, Count, Out};
+use crate::text_out::{BlobOut, Count, Out, Room};
 use crate::words::{is_null, object_words};
 use adb_fields::{hash_word, int_word, objects_word, text_word, texts_word};
 use adb_schema::{Field, Kind, Shaped, Which, fields_of, schema_word};
@@ -28,9 +28,37 @@ use base_core::Text;
 use std::alloc::{AllocError, Global};
 
 /// The text of a payload that was walked as a package, an index, an installed database or an
-/// intent: a line for its schema, and then the fields of its root that are not Null. Its bytes are
-/// counted first, and memory is taken once and for all of them.
+/// intent: a line for its schema, and then the fields of its root that are not Null. A text of at
+/// most four times the payload's bytes is written at once; of a longer one the bytes are counted
+/// first, and memory is taken once and for all of them.
 pub fn dump(alloc: Global, shaped: &Shaped<'_>) -> Result<Text, AllocError>
+    requires { is_some (schema_word (table_of shaped.now)) ≡ true }
+    ensures { IfOk result
+        (λ text. text ≡ dump_text (table_of shaped.now) (shaped_value shaped.now)) }
+{
+    match short_dump(alloc, shaped) {
+        Ok(text) => Ok(text),
+        Err(_) => counted_dump(alloc, shaped),
+    }
+}
+
+/// How many times as many bytes as its payload a text may have that is not counted first.
+const MOST_TIMES: usize = 4;
+
+/// The text, where there is memory for so many bytes and it has no more.
+fn short_dump(alloc: Global, shaped: &Shaped<'_>) -> Result<Text, AllocError>
+    requires { is_some (schema_word (table_of shaped.now)) ≡ true }
+    ensures { IfOk result
+        (λ text. text ≡ dump_text (table_of shaped.now) (shaped_value shaped.now)) }
+{
+    let room = shaped.adb().payload().len().saturating_mul(MOST_TIMES);
+    let mut out = Room::new(alloc, room)?;
+    write_dump(&mut out, shaped)?;
+    Ok(Text::from_vec(out.bytes))
+}
+
+/// The text, whose bytes are counted first.
+fn counted_dump(alloc: Global, shaped: &Shaped<'_>) -> Result<Text, AllocError>
     requires { is_some (schema_word (table_of shaped.now)) ≡ true }
     ensures { IfOk result
         (λ text. text ≡ dump_text (table_of shaped.now) (shaped_value shaped.now)) }

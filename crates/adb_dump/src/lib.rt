@@ -8,9 +8,10 @@
 //! and else between quotes with the escapes `\n`, `\\`, `\"` and `\x`. So the text tells the value,
 //! and no other.
 //!
-//! The values are read where they stand, and the text is written from front to end: once into a
-//! count of its bytes, for which each long text is looked at once, and once into memory for so
-//! many. The contracts cite `Dump` (the lines of a value, and the text), `Values` (what a text can
+//! The values are read where they stand, and the text is written from front to end, into memory for
+//! four times the payload's bytes. Where that does not suffice it is written once into a count of
+//! its bytes, for which each long text is looked at once, and once into memory for so many. The
+//! contracts cite `Dump` (the lines of a value, and the text), `Values` (what a text can
 //! stand for) and `ReadBack` (the value of lines) of `specs/`; `Words`, `Margin` and `Out` are what
 //! the code in between speaks of.
 #![tactic(auto)]
@@ -18,7 +19,7 @@
 mod block;
 mod laws;
 mod line;
-mod out;
+mod text_out;
 mod words;
 
 pub use block::dump;

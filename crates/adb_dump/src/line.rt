@@ -12,7 +12,7 @@ ghost use Rattle.adb_tables.specs.declared.tables.Kind.TheVariants as Kinds;
 ghost use Rattle.adb_view.specs.Adb.{payload_of};
 ghost use Rattle.adb_tables.specs.Schema.{field_name_text};
 
-use crate::out::{BlobOut, Out};
+use crate::text_out::{BlobOut, Out};
 use adb_schema::FieldName;
 use adb_view::{Adb, Val};
 use itoa::Buffer;

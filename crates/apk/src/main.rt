@@ -6,7 +6,7 @@
 
 mod process;
 
-use apk_front::{Access, Answer, access_for, apk, status};
+use apk_front::{Answer, RootAccess, access_for, apk, status};
 use host_files::Lock;
 use host_tree::HostTree;
 use process::{HostSink, WordsFault, words_of};
@@ -48,10 +48,10 @@ fn out_of_memory(rt: &HostRuntime) -> ExitCode {
 }
 
 /// A run that writes has the root alone.
-fn lock_for(access: Access) -> Lock {
+fn lock_for(access: RootAccess) -> Lock {
     match access {
-        Access::Read => Lock::Shared,
-        Access::Write => Lock::Exclusive,
+        RootAccess::Read => Lock::Shared,
+        RootAccess::Write => Lock::Exclusive,
     }
 }
 

@@ -49,8 +49,8 @@ use Rattle.apk_front.specs.Verdicts.{IsPrinted, IsShown, Reports, ReportsOne, as
 use Rattle.apk_front.specs.declared.answer.Answer.{Answer}
 use Rattle.apk_front.specs.declared.answer.Answer.TheVariants.{Ok as Done, Refused, TreeFault as TreeFailed, OutFault, Memory}
 use Rattle.apk_front.specs.declared.answer.Verdict.{Verdict}
-use Rattle.apk_front.specs.declared.effect.Access.{Access}
-use Rattle.apk_front.specs.declared.effect.Access.TheVariants.{Read, Write}
+use Rattle.apk_front.specs.declared.judge.RootAccess.{RootAccess}
+use Rattle.apk_front.specs.declared.judge.RootAccess.TheVariants.{Read, Write}
 use Rattle.apk_front.proofs.Judged.{Runs, found_at, none_by_some, none_given, of_over, over_of, reads_without}
 use Rattle.apk_front.proofs.AfterRecovery.{LeavesAll, whole_idle}
 use Rattle.apk_front.proofs.Runs.{History, Judged, Leaves, ok_always, run_among}
@@ -393,7 +393,7 @@ usage_reported words [] verdict is = tt
 usage_reported words (v ∷ rest) verdict is = (as_outcome (files_of v) verdict, is v, refl)
 
 -- whether an applet only reads, by what it does below its root
-by_access : (command : CommandLine) (applet : Applet) (access this : Access) → applet ≡ command.applet → access ≡ access_of (does_only_read (effect_of applet)) → access ≡ this → this ≡ access_of (does_only_read (effect_of command.applet))
+by_access : (command : CommandLine) (applet : Applet) (access this : RootAccess) → applet ≡ command.applet → access ≡ access_of (does_only_read (effect_of applet)) → access ≡ this → this ≡ access_of (does_only_read (effect_of command.applet))
 by_access command applet access this same of is = sym is ∙ (of ∙ ap (λ (a : Applet). access_of (does_only_read (effect_of a))) same)
 
 read_is : (b : Bool) → Read ≡ access_of b → b ≡ true
@@ -404,10 +404,10 @@ write_is : (b : Bool) → Write ≡ access_of b → b ≡ false
 write_is true is = absurd (cc (is))
 write_is false is = refl
 
-pub reads_by_access : (command : CommandLine) (applet : Applet) (access : Access) → applet ≡ command.applet → access ≡ access_of (does_only_read (effect_of applet)) → access ≡ Read → does_only_read (effect_of command.applet) ≡ true
+pub reads_by_access : (command : CommandLine) (applet : Applet) (access : RootAccess) → applet ≡ command.applet → access ≡ access_of (does_only_read (effect_of applet)) → access ≡ Read → does_only_read (effect_of command.applet) ≡ true
 reads_by_access command applet access same of is = read_is (does_only_read (effect_of command.applet)) (by_access command applet access Read same of is)
 
-pub writes_by_access : (command : CommandLine) (applet : Applet) (access : Access) → applet ≡ command.applet → access ≡ access_of (does_only_read (effect_of applet)) → access ≡ Write → does_only_read (effect_of command.applet) ≡ false
+pub writes_by_access : (command : CommandLine) (applet : Applet) (access : RootAccess) → applet ≡ command.applet → access ≡ access_of (does_only_read (effect_of applet)) → access ≡ Write → does_only_read (effect_of command.applet) ≡ false
 writes_by_access command applet access same of is = write_is (does_only_read (effect_of command.applet)) (by_access command applet access Write same of is)
 
 -- what does not only read recovers, and does not rest on the words alone

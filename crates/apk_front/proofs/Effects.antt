@@ -9,8 +9,8 @@ use Rattle.words_core.specs.Grammar.{command_of}
 use Rattle.words_core.specs.declared.read.WordsFault.{WordsFault}
 use Rattle.words_core.specs.declared.read.WordsFault.TheVariants.{Usage}
 use Rattle.apk_front.specs.Effects.{access_of}
-use Rattle.apk_front.specs.declared.effect.Access.{Access}
-use Rattle.apk_front.specs.declared.effect.Access.TheVariants.{Read, Write}
+use Rattle.apk_front.specs.declared.judge.RootAccess.{RootAccess}
+use Rattle.apk_front.specs.declared.judge.RootAccess.TheVariants.{Read, Write}
 
 of_applet : (a applet : Applet) → applet ≡ a → access_of (does_only_read (effect_of a)) ≡ access_of (does_only_read (effect_of applet))
 of_applet a applet is = ap (λ (x : Applet). access_of (does_only_read (effect_of x))) (sym is)
@@ -30,7 +30,7 @@ writes_one applet (inr (inr (inr (inr (inl is))))) = of_applet Del applet is
 writes_one applet (inr (inr (inr (inr (inr (inl is)))))) = of_applet Upgrade applet is
 writes_one applet (inr (inr (inr (inr (inr (inr is)))))) = of_applet Fix applet is
 
-pub access_by : (words : List (List ℕ)) (command : CommandLine) (applet : Applet) (access : Access) → command_of words ≡ Ok command → applet ≡ command.applet → access ≡ access_of (does_only_read (effect_of applet))
+pub access_by : (words : List (List ℕ)) (command : CommandLine) (applet : Applet) (access : RootAccess) → command_of words ≡ Ok command → applet ≡ command.applet → access ≡ access_of (does_only_read (effect_of applet))
     → access ≡ access_of (reads_only (command_of words))
 access_by words command applet access is same a =
     a ∙ ap (λ (x : Applet). access_of (does_only_read (effect_of x))) same ∙ ap (λ (r : Result CommandLine ℕ). access_of (reads_only r)) (sym is)

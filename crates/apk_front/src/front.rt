@@ -150,7 +150,8 @@ pub fn apk<T: Tree, O: Sink, E: Sink>(
         → Since (IsStill ignored v) (T.history tree.old) (T.history tree.new)) }
 
     // Of each run: so it is, or the run has an outcome that commits, and at each moment a crash
-    // leaves the old files or the outcome's; OUTPUT.apk-tmp may be left too.
+    // leaves the old files or the outcome's; OUTPUT.apk-tmp may be left too. A state shows a bad
+    // intent: so where no crash left one before, none does.
     ensures crash { IfObservable (T.history tree.old) (λ v. (ignored : List ℕ → Bool)
         → IsOrderly (RestsOn ignored) v → HidesScratchOf (output words.now) ignored
         → AreSafe (IsOutcome words.now (files_of v)) (is_some (output words.now)) ignored v

@@ -1,4 +1,6 @@
-//! A command line is judged: its words are read, and its applet is run.
+//! A command line is judged: its words are read, and its applet is run. What it may do below its
+//! root is known before, as a host wants it.
+
 ghost use Rattle.std.specs.Prelude.{◌≡◌, [], None, Ok, IfOk, IsErrOf, IsTrue, MatchResult, OnOk};
 ghost use Rattle.apk_front.specs.Answers.{name_an_applet};
 ghost use Rattle.apk_front.specs.Moments.{LeavesRoom, LeavesRoomFor};
@@ -15,18 +17,18 @@ ghost use Rattle.outcome.specs.Given.{nothing_given};
 ghost use Rattle.outcome.specs.Effect.{does_only_read, does_rest_on_words, effect_by, effect_of, output, output_if, reads_only, rests_on_words};
 ghost use Rattle.outcome.specs.Words.{IsFoundOutcome, IsFoundOutcomeBy, IsOutcome, IsOutcomeBy};
 ghost use Rattle.words_core.specs.Grammar.{command_of};
+ghost use Rattle.apk_front.specs.Effects.{access_of};
 
 use crate::answer::Verdict;
 use crate::demo::demo;
 use crate::dump::adbdump;
-use crate::effect::{Access, applet_access};
 use crate::recovered::recover_and_run;
 use crate::verify::verify;
 use crate::version::version;
 use base_core::{Tree, TreeFault, Words};
 use command_core::{Applet, Command};
 use report_core::Refusal;
-use std::alloc::Global;
+use std::alloc::{AllocError, Global};
 use words_core::{WordsFault, read_words};
 
 /// Judges a command line over a tree, and carries it out.
@@ -142,8 +144,8 @@ pub(crate) fn run<T: Tree>(
         → (T.counts tree.new).misuses ≡ (T.counts tree.old).misuses) }
 {
     match applet_access(command.applet()) {
-        Access::Write => recover_and_run(alloc, command, tree),
-        Access::Read => look(alloc, command, tree),
+        RootAccess::Write => recover_and_run(alloc, command, tree),
+        RootAccess::Read => look(alloc, command, tree),
     }
 }
 
@@ -176,5 +178,39 @@ fn look<T: Tree>(alloc: Global, command: &Command, tree: &mut T) -> Result<Verdi
         Applet::Adbdump => adbdump(alloc, command.operands(), tree),
         // `demo` is not run here.
         _ => Ok(Verdict::empty(alloc)),
+    }
+}
+
+/// What a run does below its root: it only reads there, or it writes too.
+#[derive(Clone, Copy, PartialEq, Eq)]
+pub enum RootAccess {
+    Read,
+    Write,
+}
+
+/// What the run of a command line does. Words that are no command do nothing, so they only read.
+pub fn access_for(alloc: Global, words: &Words) -> Result<RootAccess, AllocError>
+    ensures { IfOk result (λ access. access ≡ access_of (reads_only (command_of words.now))) }
+{
+    match read_words(alloc, words) {
+        Ok(command) => Ok(applet_access(command.applet())),
+        Err(WordsFault::Usage { .. }) => Ok(RootAccess::Read),
+        Err(WordsFault::Memory) => Err(AllocError),
+    }
+}
+
+/// What an applet does: one that recovers the root first writes, whatever it does then.
+pub(crate) fn applet_access(applet: Applet) -> RootAccess
+    ensures { result ≡ access_of (does_only_read (effect_of applet)) }
+{
+    match applet {
+        Applet::Verify | Applet::Adbdump | Applet::Version | Applet::Demo => RootAccess::Read,
+        Applet::Info
+        | Applet::Mkpkg
+        | Applet::Mkndx
+        | Applet::Add
+        | Applet::Del
+        | Applet::Upgrade
+        | Applet::Fix => RootAccess::Write,
     }
 }

@@ -12,7 +12,6 @@ mod answer;
 mod change;
 mod demo;
 mod dump;
-mod effect;
 mod front;
 mod info;
 mod judge;
@@ -23,8 +22,8 @@ mod verify;
 mod version;
 
 pub use answer::{Answer, status};
-pub use effect::{Access, access_for};
 pub use front::apk;
+pub use judge::{RootAccess, access_for};
 pub use laws::{
     a_crash_leaves_the_old_files_or_those_of_the_outcome, what_is_carried_out_lasts,
     where_nothing_is_recovered_the_files_are_the_old_ones,

@@ -55,7 +55,7 @@ use Rattle.engine_core.specs.Carrying.{IsRefusedPackage, ready_change}
 use Rattle.engine_core.specs.ChangeRun.{ComesTo, DoesCommit, IsNoneOrCommit, report_in}
 use Rattle.engine_core.specs.Finishing.{AreRecordWrites, AreRecordsOf, IsPlanned, bytes_if, inputs_arrived, members_arrived, replacement_arrived}
 use Rattle.engine_core.specs.Writing.{HasBytes, IsRecordOf, IsSourceOfWrite, IsWriteBy, package_at, record_names, write_name}
-use Rattle.engine_core.specs.declared.arrived.Planned.{Planned}
+use Rattle.engine_core.specs.declared.planning.Planned.{Planned}
 use Rattle.engine_core.specs.declared.finishing.NewRecords.{NewRecords}
 use Rattle.engine_core.specs.declared.writes.RecordWrites.{RecordWrites}
 use Rattle.engine_core.proofs.Early.{comes_to_failure, comes_to_idle, comes_to_refusal, if_told, nothing_read}

@@ -39,8 +39,8 @@ use Rattle.engine_core.specs.ChangeRun.{ComesTo}
 use Rattle.engine_core.specs.Finishing.{IsArrived, IsPlanned, inputs_arrived, replacement_arrived}
 use Rattle.engine_core.specs.Making.{IsFoundRun}
 use Rattle.engine_core.specs.Plans.{IsRefusedFor}
-use Rattle.engine_core.specs.declared.arrived.Arrived.{Arrived}
-use Rattle.engine_core.specs.declared.arrived.Planned.{Planned}
+use Rattle.engine_core.specs.declared.planning.Arrived.{Arrived}
+use Rattle.engine_core.specs.declared.planning.Planned.{Planned}
 use Rattle.engine_core.proofs.Early.{HaveClash, IsOnlyRead, comes_to_failure, comes_to_refusal, nothing_within}
 use Rattle.engine_core.proofs.WholeRuns.{comes_behind_reads}
 

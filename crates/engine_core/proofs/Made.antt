@@ -38,7 +38,7 @@ use Rattle.engine_core.specs.Runs.{IsSelectedRun}
 use Rattle.engine_core.specs.Selecting.{pool_by}
 use Rattle.engine_core.specs.SelectionSeen.{HasItsDatabase, inputs_of_selection, replacement_seen, selection_seen}
 use Rattle.engine_core.specs.Wishes.{wishes_of}
-use Rattle.engine_core.specs.declared.selection.Selection.{Selection}
+use Rattle.engine_core.specs.declared.choosing.Selection.{Selection}
 use Rattle.engine_core.proofs.Arriving.{of_candidates}
 use Rattle.engine_core.proofs.Early.{HaveClash, IsOnlyRead, comes_to_refusal, files_seen, selected_failure}
 use Rattle.engine_core.proofs.WholeRuns.{run_behind_reads}

@@ -16,7 +16,7 @@ use Rattle.package_changes.specs.Changes.{Replacement}
 use Rattle.report_core.specs.declared.refusal.Refusal.{Refusal}
 use Rattle.report_core.specs.declared.refusal.Refusal.TheVariants.{PackageBad}
 use Rattle.engine_core.specs.Finishing.{IsPlanned}
-use Rattle.engine_core.specs.declared.arrived.Planned.{Planned}
+use Rattle.engine_core.specs.declared.planning.Planned.{Planned}
 
 -- ---- what it comes to
 

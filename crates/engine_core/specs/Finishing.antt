@@ -26,9 +26,9 @@ use Rattle.root_names.specs.RootNames as Names
 use Rattle.engine_core.specs.SelectionSeen.{HasItsDatabase, inputs_of_selection, replacement_seen}
 use Rattle.arrivals.specs.declared.arrivals.Arrivals.{Arrivals}
 use Rattle.package_changes.specs.declared.placed.PlacedNames.{PlacedNames}
-use Rattle.engine_core.specs.declared.selection.Selection.{Selection}
-use Rattle.engine_core.specs.declared.arrived.Arrived.{Arrived}
-use Rattle.engine_core.specs.declared.arrived.Planned.{Planned}
+use Rattle.engine_core.specs.declared.choosing.Selection.{Selection}
+use Rattle.engine_core.specs.declared.planning.Arrived.{Arrived}
+use Rattle.engine_core.specs.declared.planning.Planned.{Planned}
 use Rattle.engine_core.specs.declared.finishing.NewRecords.{NewRecords}
 use Rattle.engine_core.specs.declared.writes.RecordWrites.{RecordWrites}
 

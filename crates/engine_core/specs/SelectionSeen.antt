@@ -6,7 +6,7 @@ use Rattle.db_core.specs.Seen.{packages_of}
 use Rattle.package_changes.specs.Changes.{Replacement}
 use Rattle.engine_core.specs.Changed.{Selected}
 use Rattle.engine_core.specs.Selecting.{replacement_of_choice}
-use Rattle.engine_core.specs.declared.selection.Selection.{Selection}
+use Rattle.engine_core.specs.declared.choosing.Selection.{Selection}
 
 -- what was read of the root for a selection
 abbrev pub inputs_of_selection : Selection → Inputs

@@ -11,11 +11,10 @@ ghost use Rattle.engine_core.specs.Runs.{IsRunCounted};
 ghost use Rattle.engine_core.specs.Wishes.{wishes_of};
 ghost use Rattle.std.specs.Prelude.{◌≡◌, List};
 
-use crate::arrived::Planned;
 use crate::finishing::{
     NewRecords, is_idle, new_records, record_writes_of, refused_package, report_of,
 };
-use crate::planning::test_triggers;
+use crate::planning::{Planned, test_triggers};
 use crate::records::begin_stage;
 use crate::removals::removals_of;
 use crate::writes::{names_of, writes_of};

@@ -1,27 +1,29 @@
-//! A change of what is installed, from the words to its end.
+//! A change of what is installed, from the words to its end, or only simulated.
+
 ghost use Rattle.change_inputs.specs.Seen.{inputs_seen};
 ghost use Rattle.engine_core.specs.ChangeRun.{IsChangeRun};
 ghost use Rattle.engine_core.specs.Finishing.{IsRootRead};
 ghost use Rattle.engine_core.specs.Runs.{IsRunBy, IsRunCounted, IsSelectedRun};
 ghost use Rattle.engine_core.specs.Selecting.{pool_by};
-ghost use Rattle.engine_core.specs.SelectionSeen.{HasItsDatabase, inputs_of_selection, selection_seen};
-ghost use Rattle.engine_core.specs.Wishes.{names_to_reinstall};
-ghost use Rattle.std.specs.Prelude.{◌≡◌, Ok};
+ghost use Rattle.engine_core.specs.SelectionSeen.{HasItsDatabase, inputs_of_selection, selection_seen, replacement_seen};
+ghost use Rattle.engine_core.specs.Wishes.{names_to_reinstall, names_to_go};
+ghost use Rattle.std.specs.Prelude.{◌≡◌, Ok, IfOk};
+ghost use Rattle.package_changes.specs.Report.{simulated_report};
 
-use crate::choosing::choose;
-use crate::laws::a_choice_exists;
+use crate::choosing::{Selection, a_choice_exists, choose};
 use crate::making::make_change;
-use crate::selection::Selection;
-use crate::simulating::simulate;
-use crate::wishes::{names_to_reinstall, names_to_upgrade, operand_texts, unknown_operand};
+use crate::wishes::{
+    names_to_go, names_to_reinstall, names_to_upgrade, operand_texts, unknown_operand,
+};
 use arrivals::packages_after_a_change_rest_on_later_reads;
 use base_core::{Text, Tree, Words};
 use change_inputs::{Loaded, Refused, inputs_rest_on_their_own_reads};
 use change_laws::{a_change_has_a_first_clash_or_none, what_is_read_of_a_root_stands_there};
 use command_core::Command;
+use package_changes::{Changes, simulated_report};
 use pool_core::Sealed;
 use report_core::Refusal;
-use std::alloc::Global;
+use std::alloc::{AllocError, Global};
 
 /// Changes what is installed, as `add`, `del`, `upgrade` or `fix` asks for it, and reports it; with
 /// `--simulate` it only reports what would change. All is read, tested and made ready first, then
@@ -124,4 +126,27 @@ fn change_selected<T: Tree>(
         return Ok(report);
     }
     make_change(alloc, command, selection, tree)
+}
+
+/// Reports what would change.
+pub(crate) fn simulate(
+    alloc: Global,
+    command: &Command,
+    selection: &Selection<'_, '_>,
+) -> Result<Text, AllocError>
+    requires { HasItsDatabase selection.now }
+    ensures { IfOk result (λ report. report ≡ simulated_report (replacement_seen selection.now)
+        (names_to_go command.now.applet command.now.operands)) }
+{
+    let to_go = names_to_go(alloc, command)?;
+    let Selection {
+        db,
+        pool,
+        trace,
+        again,
+        ..
+    } = *selection;
+    let changes = Changes::of(alloc, db, pool, trace, again)?;
+    let report = simulated_report(alloc, db, pool, trace, &changes, &to_go)?;
+    Text::of(alloc, report.bytes())
 }

@@ -14,7 +14,7 @@ ghost use Rattle.engine_core.specs.Wishes.{wishes_of};
 ghost use Rattle.std.specs.Option.{option_copied};
 ghost use Rattle.std.specs.Prelude.{◌≡◌, ◌<◌, List, not, length, IfOk};
 
-use crate::arrived::Planned;
+use crate::planning::Planned;
 use crate::records::{is_other_file, new_database};
 use crate::wishes::names_to_go;
 use crate::writes::RecordWrites;

@@ -7,18 +7,14 @@
 //! `info`, which tells of what is installed, cites `InfoTold`.
 #![tactic(auto)]
 
-mod arrived;
 mod carrying;
 mod changing;
 mod choosing;
 mod finishing;
-mod laws;
 mod making;
 mod planning;
 mod records;
 mod removals;
-mod selection;
-mod simulating;
 mod targets;
 mod telling;
 mod wishes;
@@ -26,6 +22,6 @@ mod writes;
 
 pub use change_inputs::Refused;
 pub use changing::change;
+pub use choosing::{a_choice_exists, a_choice_is_unique};
 pub use installed_info::InfoDone;
-pub use laws::{a_choice_exists, a_choice_is_unique};
 pub use telling::info;

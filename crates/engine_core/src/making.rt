@@ -13,10 +13,9 @@ ghost use Rattle.engine_core.specs.Wishes.{wishes_of};
 ghost use Rattle.make_info.specs.Reads.{Reads};
 ghost use Rattle.std.specs.Prelude.{◌≡◌, List, false, Ok};
 
-use crate::arrived::{Arrived, Planned};
 use crate::carrying::finish_change;
-use crate::planning::refused_plan;
-use crate::selection::Selection;
+use crate::choosing::Selection;
+use crate::planning::{Arrived, Planned, refused_plan};
 use arrivals::{
     Arrivals, members_of_change, packages_that_were_read_are_those_found, read_arrivals,
 };

@@ -1,4 +1,5 @@
-//! The files of a change are planned, and its triggers tested.
+//! The packages after a change, and the plan of its files, by which its triggers are tested.
+
 ghost use Rattle.change_inputs.specs.Answers.{Agrees};
 ghost use Rattle.change_outcome.specs.ChangeOutcome.{name_at_place};
 ghost use Rattle.change_outcome.specs.Triggers.{unless_trigger};
@@ -7,11 +8,14 @@ ghost use Rattle.due_triggers.specs.Due.{planned_paths};
 ghost use Rattle.engine_core.specs.Plans.{IsRefusedFor};
 ghost use Rattle.std.specs.Prelude.{◌≡◌, ◌<◌, IfOk, length};
 
+use crate::choosing::Selection;
+use arrivals::Arrivals;
 use base_core::Text;
 use change_inputs::Refused;
 use db_core::Members;
 use due_triggers::{first_due, touched_folders};
 use own_core::{FilePlan, PlanFault};
+use package_changes::PlacedNames;
 use report_core::Refusal;
 use std::alloc::{AllocError, Global};
 
@@ -72,4 +76,20 @@ fn member_name(alloc: Global, members: &Members<'_>, place: usize) -> Result<Tex
 {
     let view = members.view(place);
     Text::of(alloc, view.info().name())
+}
+
+/// The packages after a change, with what they were selected from and read of.
+#[derive(Clone, Copy)]
+pub(crate) struct Arrived<'r, 'a, 'm, 'x> {
+    pub selection: &'r Selection<'r, 'a>,
+    pub names: &'r PlacedNames<'a>,
+    pub arrivals: &'m Arrivals,
+    pub members: &'r Members<'x>,
+}
+
+/// And the plan of the change's files.
+#[derive(Clone, Copy)]
+pub(crate) struct Planned<'r, 'a, 'm, 'x> {
+    pub arrived: &'r Arrived<'r, 'a, 'm, 'x>,
+    pub plan: &'m FilePlan,
 }

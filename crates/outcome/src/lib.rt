@@ -10,7 +10,7 @@
 //! their contracts say what follows from the definitions, for all words and files.
 #![tactic(auto)]
 
-ghost use Rattle.std.specs.Prelude.{◌≡◌, ◌⊎◌, ℕ, false, List, None, Some, Result, Ok, Err, IsSome, IsTrue, is_some, not};
+ghost use Rattle.std.specs.Prelude.{◌≡◌, ◌⊎◌, ℕ, true, false, List, None, Some, Result, Ok, Err, IsSome, IsTrue, is_some, not};
 ghost use Rattle.base_core.specs.Files.{Files, IsWithin};
 ghost use Rattle.base_core.specs.Listed.{IsListOf, IsNamesOf};
 ghost use Rattle.base_core.specs.Tree.{IsWhole, TreeState, files_of};
@@ -28,7 +28,7 @@ ghost use Rattle.outcome.specs.Outcome.{Outcome, just_refusal, outcome_of};
 ghost use Rattle.outcome.specs.Recovers.{must_recover};
 ghost use Rattle.outcome.specs.Sound.{IsSoundAt};
 ghost use Rattle.outcome.specs.Words.{IsOutcome};
-ghost use Rattle.outcome.specs.Work.{fault_of_intent, work_files};
+ghost use Rattle.outcome.specs.Work.{fault_of_intent, recovery_fault, work_files};
 ghost use Rattle.report_core.specs.declared.refusal.Refusal.TheVariants.{IntentBad, NoDatabase};
 ghost use Rattle.root_names.specs.RootNames.{database_name, text_database_name};
 ghost use Rattle.words_core.specs.Grammar.{command_of};
@@ -41,6 +41,7 @@ use change_laws::{
     what_is_read_of_a_root_stands_there,
 };
 use engine_core::{a_choice_exists, a_choice_is_unique};
+use installed_info::info_refuses_an_operand;
 use journal_intent::an_intent_is_read_from_a_sound_container;
 use make_core::{a_made_index_is_sound, a_made_package_is_sound};
 
@@ -157,6 +158,18 @@ pub fn a_command_recovers()
     a_command_that_reads_leaves_the_files();
     what_is_read_of_a_root_stands_there();
     a_change_that_writes_nothing_leaves_the_files();
+}
+
+/// A command that recovers is refused for a bad intent only where the intent is bad, and tells the
+/// first test that it fails.
+pub fn only_a_bad_intent_is_refused_as_one()
+    ensures { (words : List (List ℕ)) (files : Files) (o : Outcome) (cause : Cause)
+        → does_recover (effect_by (command_of words)) ≡ true → IsOutcome words files o
+        → o.refusal ≡ Some (IntentBad cause)
+        → recovery_fault (effect_by (command_of words)) files ≡ Some cause }
+{
+    info_refuses_an_operand();
+    a_change_takes_the_first_selection_or_is_refused();
 }
 
 /// A root is refused for having no database only where neither file of one stands there, and the

@@ -20,3 +20,4 @@ pub mod MarksThroughTable
 pub mod SearchedWords
 pub mod ReadWords
 pub mod PackageLists
+pub mod RankedOptions

@@ -1,15 +1,13 @@
 -- What it takes for the table of names to lead to the offers of one more candidate.
 use Rattle.std.proofs.Common.{◌≡◌, inl, inr, ℕ, suc, ◌-◌, ◌<◌, Bool, true, false, List, [], ◌∷◌, ◌++◌, length, refl, sym, subst, ap, ◌∙◌, arith}
 use Rattle.std.specs.Prelude.{Option, Some, None, slice_get, if◌then◌else◌, ◌==◌, ◌||◌}
-use Rattle.std.specs.Cmp.Lexicographic.{bytes_decides}
 use Rattle.std.specs.Option.{option_map_or}
 use Rattle.std.specs.List.{last_or, list_any}
-use Rattle.std.specs.Str.{bytes_eq}
 use Rattle.std.proofs.lemmas.Bool.Decides.{eqb_tells}
 use Rattle.dep_core.specs.Dependency.{Dependency}
 use Rattle.pool_core.specs.Candidates.{Candidate, offers_name}
 use Rattle.pool_core.specs.Options.{IsMember, places_offering}
-use Rattle.pool_core.specs.Table.{LeadsToOffers, Offered, ids_of, is_last_id, with_last, with_last_where}
+use Rattle.pool_core.specs.Table.{LeadsToOffers, Offered, ids_of, with_last, with_last_where}
 use Rattle.pool_core.proofs.OptionLists.{bool_cases}
 use Rattle.pool_core.proofs.OfferLists.{places_snoc, places_below}
 use Rattle.pool_core.proofs.Steps.{any_snoc}
@@ -85,26 +83,3 @@ last_is (x ∷ ids) = from None x ids
     from o x (y ∷ ids) =
         let e : suc (suc (length ids)) - 1 ≡ suc (suc (length ids) - 1) = omega arith in
         ap (slice_get (x ∷ (y ∷ ids))) e ∙ from (Some x) y ids
-
--- ---- one candidate for one name
-
-abbrev pub appended_where : Bool → List ℕ → ℕ → List ℕ
-appended_where added ids id = if added then ids ++ id ∷ [] else ids
-
--- it is the last already
-pub added_before : (table : Offered) (name other : List ℕ) (id : ℕ) → is_last_id id (ids_of table name) ≡ true → ids_of table other ≡ with_last_where (bytes_eq other name) (ids_of table other) id
-added_before table name other id h = elim (bool_cases (bytes_eq other name)) [
-  | inl e ↦
-      let last : is_last_id id (ids_of table other) ≡ true = ap (λ (n : List ℕ). is_last_id id (ids_of table n)) ((bytes_decides other name).0 e) ∙ h in
-      rw (e, last) refl
-  | inr e ↦ rw e refl
-]
-
--- it is not the last
-pub added_now : (table : Offered) (name other : List ℕ) (id : ℕ) (result : List ℕ) → is_last_id id (ids_of table name) ≡ false → result ≡ appended_where (bytes_eq other name) (ids_of table other) id → result ≡ with_last_where (bytes_eq other name) (ids_of table other) id
-added_now table name other id result h is = elim (bool_cases (bytes_eq other name)) [
-  | inl e ↦
-      let last : is_last_id id (ids_of table other) ≡ false = ap (λ (n : List ℕ). is_last_id id (ids_of table n)) ((bytes_decides other name).0 e) ∙ h in
-      is ∙ rw (e, last) refl
-  | inr e ↦ is ∙ rw e refl
-]

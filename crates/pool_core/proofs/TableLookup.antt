@@ -1,13 +1,13 @@
 -- What look-ups in the table of names find, before and after a write.
-use Rattle.std.proofs.Common.{◌≡◌, ◌⊎◌, inl, inr, List, [], ◌∷◌, ◌++◌, ℕ, Bool, true, false, Option, map, refl, sym, ap, ◌∙◌}
-use Rattle.std.specs.Prelude.{Some, None, unwrap_or, if◌then◌else◌}
+use Rattle.std.proofs.Common.{◌≡◌, ◌⊎◌, inl, inr, List, [], ◌∷◌, ℕ, Bool, true, false, Option, map, refl, sym, ap, ◌∙◌}
+use Rattle.std.specs.Prelude.{Some, None, unwrap_or, if◌then◌else◌, ◌==◌}
 use Rattle.std.specs.Borrow.{Bor}
 use Rattle.std.specs.Cmp.Lexicographic.{bytes_decides}
 use Rattle.std.specs.Map.{lookup, set_value}
 use Rattle.std.specs.Option.{option_map}
 use Rattle.std.specs.Str.{bytes_eq}
 use Rattle.indexmap.specs.IndexMap.{insert_entry}
-use Rattle.pool_core.specs.Table.{first_under}
+use Rattle.pool_core.specs.Table.{first_under, with_last, with_last_where}
 
 bool_cases : (b : Bool) → (b ≡ true) ⊎ (b ≡ false)
 bool_cases true = inl refl
@@ -78,33 +78,41 @@ none_mapped f (Some x) h = absurd (cc)
 abbrev ids_with : Option (List ℕ) → Option (List ℕ) → List ℕ
 ids_with all one = unwrap_or all (unwrap_or one [])
 
-pub more_in_list : (lists : List ℕ → Option (List ℕ)) (singles : List ℕ → Option (List ℕ)) (name other : List ℕ) (ids : List ℕ) (id : ℕ) (all : Option (List ℕ)) → lists name ≡ Some ids → all ≡ (if bytes_eq other name then Some (ids ++ id ∷ []) else lists other) → ids_with all (singles other) ≡ (if bytes_eq other name then ids_with (lists other) (singles other) ++ id ∷ [] else ids_with (lists other) (singles other))
-more_in_list lists singles name other ids id all was is = elim (bool_cases (bytes_eq other name)) [
-  | inl e ↦
-      let here : lists other ≡ Some ids = ap lists ((bytes_decides other name).0 e) ∙ was in
-      let now : all ≡ Some (ids ++ id ∷ []) = rw e at is in
-      rw (e, now, here) refl
-  | inr e ↦ let now : all ≡ lists other = rw e at is in rw (e, now) refl
-]
+module _ (lists singles : List ℕ → Option (List ℕ)) (name other : List ℕ) where
+  pub last_in_list : (ids : List ℕ) (id : ℕ) (all : Option (List ℕ)) → lists name ≡ Some ids → all ≡ (if bytes_eq other name then Some (with_last ids id) else lists other) → ids_with all (singles other) ≡ with_last_where (bytes_eq other name) (ids_with (lists other) (singles other)) id
+  last_in_list ids id all was is = elim (bool_cases (bytes_eq other name)) [
+    | inl e ↦
+        let here : lists other ≡ Some ids = ap lists ((bytes_decides other name).0 e) ∙ was in
+        let now : all ≡ Some (with_last ids id) = rw e at is in
+        rw (e, now, here) refl
+    | inr e ↦ let now : all ≡ lists other = rw e at is in rw (e, now) refl
+  ]
 
-pub second_of_name : (lists : List ℕ → Option (List ℕ)) (singles : List ℕ → Option (List ℕ)) (name other : List ℕ) (first id : ℕ) (all : Option (List ℕ)) → lists name ≡ None → singles name ≡ Some (first ∷ []) → all ≡ (if bytes_eq other name then Some (first ∷ (id ∷ [])) else lists other) → ids_with all (singles other) ≡ (if bytes_eq other name then ids_with (lists other) (singles other) ++ id ∷ [] else ids_with (lists other) (singles other))
-second_of_name lists singles name other first id all none one is = elim (bool_cases (bytes_eq other name)) [
-  | inl e ↦
-      let same = (bytes_decides other name).0 e in
-      let here : lists other ≡ None = ap lists same ∙ none in
-      let alone : singles other ≡ Some (first ∷ []) = ap singles same ∙ one in
-      let now : all ≡ Some (first ∷ (id ∷ [])) = rw e at is in
-      rw (e, now, here, alone) refl
-  | inr e ↦ let now : all ≡ lists other = rw e at is in rw (e, now) refl
-]
+  pub same_as_first : (first id : ℕ) → lists name ≡ None → singles name ≡ Some (first ∷ []) → (first == id) ≡ true → ids_with (lists other) (singles other) ≡ with_last_where (bytes_eq other name) (ids_with (lists other) (singles other)) id
+  same_as_first first id none one same = elim (bool_cases (bytes_eq other name)) [
+    | inl e ↦
+        let here : lists other ≡ None = ap lists ((bytes_decides other name).0 e) ∙ none in
+        let alone : singles other ≡ Some (first ∷ []) = ap singles ((bytes_decides other name).0 e) ∙ one in
+        rw (e, here, alone, same) refl
+    | inr e ↦ rw e refl
+  ]
 
-pub first_of_name : (lists : List ℕ → Option (List ℕ)) (singles : List ℕ → Option (List ℕ)) (name other : List ℕ) (id : ℕ) (one : Option (List ℕ)) → lists name ≡ None → singles name ≡ None → one ≡ (if bytes_eq other name then Some (id ∷ []) else singles other) → ids_with (lists other) one ≡ (if bytes_eq other name then ids_with (lists other) (singles other) ++ id ∷ [] else ids_with (lists other) (singles other))
-first_of_name lists singles name other id one none nobody is = elim (bool_cases (bytes_eq other name)) [
-  | inl e ↦
-      let same = (bytes_decides other name).0 e in
-      let here : lists other ≡ None = ap lists same ∙ none in
-      let alone : singles other ≡ None = ap singles same ∙ nobody in
-      let now : one ≡ Some (id ∷ []) = rw e at is in
-      rw (e, now, here, alone) refl
-  | inr e ↦ let now : one ≡ singles other = rw e at is in rw (e, now) refl
-]
+  pub second_of_name : (first id : ℕ) (all : Option (List ℕ)) → lists name ≡ None → singles name ≡ Some (first ∷ []) → (first == id) ≡ false → all ≡ (if bytes_eq other name then Some (first ∷ (id ∷ [])) else lists other) → ids_with all (singles other) ≡ with_last_where (bytes_eq other name) (ids_with (lists other) (singles other)) id
+  second_of_name first id all none one apart is = elim (bool_cases (bytes_eq other name)) [
+    | inl e ↦
+        let here : lists other ≡ None = ap lists ((bytes_decides other name).0 e) ∙ none in
+        let alone : singles other ≡ Some (first ∷ []) = ap singles ((bytes_decides other name).0 e) ∙ one in
+        let now : all ≡ Some (first ∷ (id ∷ [])) = rw e at is in
+        rw (e, now, here, alone, apart) refl
+    | inr e ↦ let now : all ≡ lists other = rw e at is in rw (e, now) refl
+  ]
+
+  pub first_of_name : (id : ℕ) (one : Option (List ℕ)) → lists name ≡ None → singles name ≡ None → one ≡ (if bytes_eq other name then Some (id ∷ []) else singles other) → ids_with (lists other) one ≡ with_last_where (bytes_eq other name) (ids_with (lists other) (singles other)) id
+  first_of_name id one none nobody is = elim (bool_cases (bytes_eq other name)) [
+    | inl e ↦
+        let here : lists other ≡ None = ap lists ((bytes_decides other name).0 e) ∙ none in
+        let alone : singles other ≡ None = ap singles ((bytes_decides other name).0 e) ∙ nobody in
+        let now : one ≡ Some (id ∷ []) = rw e at is in
+        rw (e, now, here, alone) refl
+    | inr e ↦ let now : one ≡ singles other = rw e at is in rw (e, now) refl
+  ]

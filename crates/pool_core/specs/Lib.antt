@@ -13,4 +13,4 @@ pub mod PackageWords
 pub mod Packages
 pub mod CandidateList
 pub mod Marks
-pub mod RankWith
+pub mod Ranking

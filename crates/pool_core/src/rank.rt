@@ -1,73 +1,149 @@
-//! Which of two candidates is taken first for a need, key by key. The pin to a tag comes before
-//! these keys and the place in the list behind them: both are of a place, so they stand with the
-//! sealed pool.
+//! Which of two candidates is taken first for a need. Each key of an option is read once, and the
+//! first that differs decides.
 ghost use Rattle.std.specs.Prelude.{◌≡◌};
 ghost use Rattle.std.specs.Option.{option_cmp};
-ghost use Rattle.std.specs.Str.{bytes_eq};
-ghost use Rattle.pool_core.specs.Rank.{byte_cmp, earlier_repository, greater_version, merit_cmp, text_cmp};
-ghost use Rattle.pool_core.specs.RankWith.{quality_cmp_with, unpinned_cmp_with};
-ghost use Rattle.pool_core.specs.Values.{need_by};
+ghost use Rattle.std.specs.Ordering.{bool_cmp, flip_args, then_cmp};
+ghost use Rattle.pool_core.specs.Rank.{byte_cmp, earlier_repository, greater_version};
+ghost use Rattle.pool_core.specs.Ranking.{candidate_ranking_cmp, merit_ranking_cmp, name_ranking_cmp, priority_ranking_cmp, quality_ranking_cmp, ranking_cmp, text_ranking_cmp, unpinned_ranking_cmp};
 
-use crate::candidate::Details;
-use crate::need::NeedRef;
+use crate::candidate::CandId;
 use std::cmp::Ordering;
+use std::marker::Model;
 use version_core::Version;
 
-/// The order by all keys but the pin and the place. The order by what is installed and stays is
-/// given, since that is marked once for each candidate.
-pub(crate) fn by_details(
-    need: &NeedRef<'_>,
-    one: &Details<'_>,
-    other: &Details<'_>,
-    kept: Ordering,
-) -> Ordering
-    ensures { result ≡ unpinned_cmp_with kept (need_by need.now) one.now other.now }
-{
-    let quality = by_quality(need, one, other, kept);
-    let merit = by_merit(need, one, other);
-    let text = by_text(one, other);
-    quality.then(merit.then(text))
+/// What an option is ranked by.
+#[derive(Drop)]
+pub(crate) struct RankedOption<'a> {
+    pub(crate) pinned: bool,
+    pub(crate) untagged: bool,
+    /// Whether it has the name that is needed.
+    pub(crate) named: bool,
+    /// Whether it is installed and stays.
+    pub(crate) kept: bool,
+    /// The version under which it meets the need.
+    pub(crate) under: Option<Version<'a>>,
+    pub(crate) priority: u64,
+    pub(crate) name: &'a [u8],
+    pub(crate) version: Option<Version<'a>>,
+    pub(crate) repo: Option<u64>,
+    pub(crate) id: CandId,
 }
 
-// The order by where a candidate comes from and what it is called: an untagged repository, the name
-// that is needed, what is installed and stays.
-fn by_quality(
-    need: &NeedRef<'_>,
-    one: &Details<'_>,
-    other: &Details<'_>,
-    kept: Ordering,
-) -> Ordering
-    ensures { result ≡ quality_cmp_with kept (need_by need.now) one.now other.now }
-{
-    let untagged = other.is_untagged().cmp(&one.is_untagged());
-    let named = has_name(other, need.name()).cmp(&has_name(one, need.name()));
-    untagged.then(named.then(kept))
+impl<'a> Model for RankedOption<'a> {
+    ghost use Rattle.pool_core.specs.Ranking.{Ranking, ranking_by};
+
+    ghost Value = { Ranking };
+
+    ghost view = { λ r. ranking_by r.pinned r.untagged r.named r.kept r.under r.priority r.name.now
+        r.version r.repo r.id };
 }
 
-fn has_name(details: &Details<'_>, name: &[u8]) -> bool
-    ensures { result ≡ bytes_eq name.now details.now.name }
-{
-    name == details.name()
+impl<'a> RankedOption<'a> {
+    /// The order of two options.
+    #[tactic(auto, unfolding(crate::specs::Ranking::ranking_cmp))]
+    pub(crate) fn compare(&self, other: &RankedOption<'_>) -> Ordering
+        ensures { result ≡ ranking_cmp self.now other.now }
+    {
+        match self.by_candidate(other) {
+            Ordering::Less => Ordering::Less,
+            Ordering::Greater => Ordering::Greater,
+            Ordering::Equal => self.id.place.cmp(&other.id.place),
+        }
+    }
+
+    // The order by all keys but the place.
+    fn by_candidate(&self, other: &RankedOption<'_>) -> Ordering
+        ensures { result ≡ candidate_ranking_cmp self.now other.now }
+    {
+        match truth_first(self.pinned, other.pinned) {
+            Ordering::Less => Ordering::Less,
+            Ordering::Greater => Ordering::Greater,
+            Ordering::Equal => self.by_unpinned(other),
+        }
+    }
+
+    // The same without the pin.
+    fn by_unpinned(&self, other: &RankedOption<'_>) -> Ordering
+        ensures { result ≡ unpinned_ranking_cmp self.now other.now }
+    {
+        match self.by_quality(other) {
+            Ordering::Less => Ordering::Less,
+            Ordering::Greater => Ordering::Greater,
+            Ordering::Equal => self.by_merit_and_text(other),
+        }
+    }
+
+    // The order by where an option comes from and what it is called.
+    fn by_quality(&self, other: &RankedOption<'_>) -> Ordering
+        ensures { result ≡ quality_ranking_cmp self.now other.now }
+    {
+        let untagged = truth_first(self.untagged, other.untagged);
+        let named = truth_first(self.named, other.named);
+        let kept = truth_first(self.kept, other.kept);
+        untagged.then(named.then(kept))
+    }
+
+    // The order by how well the need is met, and then by what is left to tell two options apart.
+    fn by_merit_and_text(&self, other: &RankedOption<'_>) -> Ordering
+        ensures { result ≡ then_cmp merit_ranking_cmp text_ranking_cmp self.now other.now }
+    {
+        match self.by_merit(other) {
+            Ordering::Less => Ordering::Less,
+            Ordering::Greater => Ordering::Greater,
+            Ordering::Equal => self.by_text(other),
+        }
+    }
+
+    // The order by how well the need is met.
+    fn by_merit(&self, other: &RankedOption<'_>) -> Ordering
+        ensures { result ≡ merit_ranking_cmp self.now other.now }
+    {
+        match by_version(&self.under, &other.under) {
+            Ordering::Less => Ordering::Less,
+            Ordering::Greater => Ordering::Greater,
+            Ordering::Equal => self.by_priority(other),
+        }
+    }
+
+    // The order by priority, name and version.
+    fn by_priority(&self, other: &RankedOption<'_>) -> Ordering
+        ensures { result ≡ priority_ranking_cmp self.now other.now }
+    {
+        match other.priority.cmp(&self.priority) {
+            Ordering::Less => Ordering::Less,
+            Ordering::Greater => Ordering::Greater,
+            Ordering::Equal => self.by_name(other),
+        }
+    }
+
+    // The order by name and version.
+    fn by_name(&self, other: &RankedOption<'_>) -> Ordering
+        ensures { result ≡ name_ranking_cmp self.now other.now }
+    {
+        match self.name.cmp(other.name) {
+            Ordering::Less => Ordering::Less,
+            Ordering::Greater => Ordering::Greater,
+            Ordering::Equal => by_version(&self.version, &other.version),
+        }
+    }
+
+    // The order by what is left to tell two options apart.
+    fn by_text(&self, other: &RankedOption<'_>) -> Ordering
+        ensures { result ≡ text_ranking_cmp self.now other.now }
+    {
+        match by_version_text(&self.version, &other.version) {
+            Ordering::Less => Ordering::Less,
+            Ordering::Greater => Ordering::Greater,
+            Ordering::Equal => by_repo(self.repo, other.repo),
+        }
+    }
 }
 
-// The order by how well a need is met: the version that meets it, the priority, the name, the
-// version.
-fn by_merit(need: &NeedRef<'_>, one: &Details<'_>, other: &Details<'_>) -> Ordering
-    ensures { result ≡ merit_cmp (need_by need.now) one.now other.now }
+// The order by a quality: what has it comes first.
+fn truth_first(one: bool, other: bool) -> Ordering
+    ensures { result ≡ flip_args bool_cmp one other }
 {
-    let under = by_version(&one.version_under(need), &other.version_under(need));
-    let priority = other.priority().cmp(&one.priority());
-    let name = one.name().cmp(&other.name());
-    let version = by_version(&one.version(), &other.version());
-    under.then(priority.then(name.then(version)))
-}
-
-// The order by what is left to tell two candidates apart.
-fn by_text(one: &Details<'_>, other: &Details<'_>) -> Ordering
-    ensures { result ≡ text_cmp one.now other.now }
-{
-    let version = by_version_text(&one.version(), &other.version());
-    version.then(by_repo(one.repo(), other.repo()))
+    other.cmp(&one)
 }
 
 // The order of two versions: the greater first, none last.

@@ -1,6 +1,6 @@
 //! The candidates under a world: which of them may be selected, which offer a name, and the options
 //! of a need, best first.
-ghost use Rattle.std.specs.Prelude.{◌≡◌, ◌<◌, ◌^◌, ◌==◌, ◌++◌, ◌∷◌, [], map, length, slice_get, Some, IfOk, OnOk, filter, ◌&&◌, not, if◌then◌else◌, true, false};
+ghost use Rattle.std.specs.Prelude.{◌≡◌, ◌<◌, ◌^◌, ◌==◌, ◌++◌, ◌∷◌, [], map, length, slice_get, All, Some, IfOk, OnOk, filter, ◌&&◌, not, if◌then◌else◌, true, false};
 ghost use Rattle.std.specs.Option.{option_cmp, option_map_or};
 ghost use Rattle.std.specs.List.{list_all, list_any};
 ghost use Rattle.std.specs.Ordering.{bool_cmp, flip_args};
@@ -12,6 +12,7 @@ ghost use Rattle.pool_core.specs.CandidateList.{IsCandidateList};
 ghost use Rattle.pool_core.specs.Options.{may_meet, places_offering, options_for, places_from};
 ghost use Rattle.pool_core.specs.Packages.{candidates_of_packages};
 ghost use Rattle.pool_core.specs.Rank.{candidate_at, candidate_cmp, is_at, is_eligible_at, is_kept_installed, is_pinned, is_pinned_at, is_pinned_to, rank_cmp, sealed_pool_by};
+ghost use Rattle.pool_core.specs.Ranking.{IsRankingIn};
 ghost use Rattle.pool_core.specs.Values.{candidate_value, names_upgraded_by, need_by, need_of};
 ghost use Rattle.pool_core.specs.World.{entries_of_kind, has_positive_install_if, is_entry_of_kind, places_marked};
 
@@ -22,12 +23,12 @@ use crate::marks::{eligible_marks, pinned_marks};
 use crate::need::{Need, NeedRef, Options, Upgrade};
 use crate::packages::Packages;
 use crate::pool::CandidateList;
-use crate::rank::by_details;
+use crate::rank::RankedOption;
 use crate::table::Table;
 use dep_core::{Dep, World};
 use std::alloc::{AllocError, Global};
-use std::cmp::Ordering;
 use std::marker::Model;
+use version_core::order_is_total;
 
 /// The candidates under a world. What is asked of each candidate again and again is marked once.
 #[derive(Drop)]
@@ -141,10 +142,71 @@ impl<'a> Sealed<'a> {
     pub fn options_for(&self, alloc: Global, need: &NeedRef<'_>) -> Result<Options, AllocError>
         ensures { IfOk result (λ options. options ≡ options_for self.now (need_by need.now)) }
     {
+        let ids = self.fitting(alloc, need)?;
+        if ids.len() < 2 {
+            return Ok(Options::of(ids));
+        }
+        self.ranked(alloc, need, &ids)
+    }
+
+    // The options that have these places, best first. What each is ranked by is read once.
+    fn ranked(
+        &self,
+        alloc: Global,
+        need: &NeedRef<'_>,
+        ids: &[CandId],
+    ) -> Result<Options, AllocError>
+        requires { ids.now
+            ≡ places_from 0 (may_meet self.now (need_by need.now)) self.now.candidates }
+        ensures { IfOk result (λ options. options ≡ options_for self.now (need_by need.now)) }
+    {
         rank_is_total();
-        let mut ids = self.fitting(alloc, need)?;
-        ids.sort_by(|a, b| self.rank(need, *a, *b))?;
+        order_is_total();
+        let mut rankings = self.rankings(alloc, need, ids)?;
+        rankings.sort_by(|one, other| one.compare(other))?;
+        let ids = places_of(alloc, &rankings)?;
         Ok(Options::of(ids))
+    }
+
+    // What each of some candidates is ranked by.
+    fn rankings(
+        &self,
+        alloc: Global,
+        need: &NeedRef<'_>,
+        ids: &[CandId],
+    ) -> Result<Vec<RankedOption<'a>>, AllocError>
+        requires { ids.now
+            ≡ places_from 0 (may_meet self.now (need_by need.now)) self.now.candidates }
+        ensures each { IfOk result (λ rankings.
+            All (IsRankingIn self.now (need_by need.now)) rankings.items) }
+        ensures places { IfOk result (λ rankings. map (λ r. r.place) rankings.items ≡ ids.now) }
+    {
+        let mut rankings = Vec::with_capacity(alloc, ids.len())?;
+        for id in ids {
+            rankings.push(self.ranking(need, *id))?;
+        }
+        Ok(rankings)
+    }
+
+    // What a candidate is ranked by.
+    fn ranking(&self, need: &NeedRef<'_>, id: CandId) -> RankedOption<'a>
+        requires { id < length self.now.candidates }
+        ensures place { result.place ≡ id }
+        ensures ranking { IsRankingIn self.now (need_by need.now) result }
+    {
+        let details = self.details(id);
+        RankedOption {
+            pinned: self.is_pinned(id),
+            untagged: details.is_untagged(),
+            named: need.name() == details.name(),
+            kept: self.is_kept(id),
+            under: details.version_under(need),
+            priority: details.priority(),
+            name: details.name(),
+            version: details.version(),
+            repo: details.repo(),
+            id,
+        }
     }
 
     // The candidates that may be selected and meet a need, in rising order.
@@ -187,39 +249,6 @@ impl<'a> Sealed<'a> {
         self.packages.get(place).meets_need(need)
     }
 
-    // The rank of two candidates for a need.
-    #[tactic(auto, unfolding(crate::specs::Rank::rank_cmp))]
-    fn rank(&self, need: &NeedRef<'_>, a: CandId, b: CandId) -> Ordering
-        ensures { result ≡ rank_cmp self.now (need_by need.now) a b }
-    {
-        let by_candidate = self.by_candidate(need, a, b);
-        by_candidate.then(a.place.cmp(&b.place))
-    }
-
-    // The rank of two candidates without their places.
-    fn by_candidate(&self, need: &NeedRef<'_>, a: CandId, b: CandId) -> Ordering
-        ensures { result ≡ option_cmp (candidate_cmp self.now (need_by need.now))
-            (candidate_at self.now a) (candidate_at self.now b) }
-    {
-        match (self.at(a), self.at(b)) {
-            (None, None) => Ordering::Equal,
-            (None, Some(_)) => Ordering::Less,
-            (Some(_), None) => Ordering::Greater,
-            (Some(one), Some(other)) => {
-                let pin = self.by_pin(a, b);
-                let kept = self.by_kept(a, b);
-                pin.then(by_details(need, &one, &other, kept))
-            }
-        }
-    }
-
-    // The order by world's pins.
-    fn by_pin(&self, a: CandId, b: CandId) -> Ordering
-        ensures { result ≡ flip_args bool_cmp (is_pinned_at self.now a) (is_pinned_at self.now b) }
-    {
-        self.is_pinned(b).cmp(&self.is_pinned(a))
-    }
-
     // Whether world pins the candidate's name to its tag.
     fn is_pinned(&self, id: CandId) -> bool
         ensures { result ≡ is_pinned_at self.now id }
@@ -229,15 +258,6 @@ impl<'a> Sealed<'a> {
             return false;
         }
         self.pinned[place]
-    }
-
-    // The order by what is installed and stays.
-    fn by_kept(&self, a: CandId, b: CandId) -> Ordering
-        ensures { result ≡ flip_args bool_cmp
-            (is_at self.now (is_kept_installed self.now.upgraded) a)
-            (is_at self.now (is_kept_installed self.now.upgraded) b) }
-    {
-        self.is_kept(b).cmp(&self.is_kept(a))
     }
 
     // Whether the candidate is installed and the command does not upgrade its name.
@@ -250,6 +270,13 @@ impl<'a> Sealed<'a> {
         }
         self.kept[place]
     }
+}
+
+// The places of ranked options.
+fn places_of(alloc: Global, rankings: &[RankedOption<'_>]) -> Result<Vec<CandId>, AllocError>
+    ensures { IfOk result (λ ids. ids.items ≡ map (λ r. r.place) rankings.now) }
+{
+    rankings.iter().map(|ranking| ranking.id).collect(alloc)
 }
 
 /// What an entry of world does.

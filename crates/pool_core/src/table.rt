@@ -1,14 +1,14 @@
 //! The table of names: for each name the candidates that are named so or provide it, in rising
 //! order and each once. It borrows the names. Most names have one candidate, which takes no memory
 //! of its own.
-ghost use Rattle.std.specs.Prelude.{◌≡◌, ◌&&◌, ℕ, List, [], ◌∷◌, ◌++◌, IfOk, OnOk, None, unwrap_or, not, if◌then◌else◌};
+ghost use Rattle.std.specs.Prelude.{◌≡◌, ◌&&◌, ℕ, List, [], ◌∷◌, ◌++◌, IfOk, OnOk, None, Some, unwrap_or, not};
 ghost use Rattle.std.specs.List.{list_any};
 ghost use Rattle.std.specs.Str.{bytes_eq};
 ghost use Rattle.indexmap.specs.IndexMap.{insert_entry};
 ghost use Rattle.dep_core.specs.Dependency.{Dependency};
 ghost use Rattle.dep_core.specs.Meets.{dependency};
 ghost use Rattle.pool_core.specs.Candidates.{offers_name};
-ghost use Rattle.pool_core.specs.Table.{first_under, ids_of, is_last_id, with_last_where};
+ghost use Rattle.pool_core.specs.Table.{first_under, ids_of, is_last_id, with_last, with_last_where};
 
 use crate::candidate::{CandId, Details};
 use crate::dependencies::Deps;
@@ -109,38 +109,36 @@ impl<'a> Table<'a> {
         ensures { OnOk result ((other : List ℕ) → ids_of self.new other
             ≡ with_last_where (bytes_eq other name.entry.now) (ids_of self.old other) id) }
     {
-        if is_last_id(self.get(name), id) {
-            return Ok(());
-        }
-        self.append(name, id)
-    }
-
-    // Puts a candidate behind those of a name.
-    fn append(&mut self, name: &'a [u8], id: CandId) -> Result<(), AllocError>
-        ensures { OnOk result ((other : List ℕ) → ids_of self.new other
-            ≡ if bytes_eq other name.entry.now then ids_of self.old other ++ id ∷ []
-            else ids_of self.old other) }
-    {
         match self.lists.get_mut(name) {
-            Some(ids) => push(ids, id),
-            None => self.append_to_single(name, id),
+            Some(ids) => push_once(ids, id),
+            None => self.add_to_single(name, id),
         }
     }
 
     // The same for a name that has no list.
-    fn append_to_single(&mut self, name: &'a [u8], id: CandId) -> Result<(), AllocError>
+    fn add_to_single(&mut self, name: &'a [u8], id: CandId) -> Result<(), AllocError>
         requires { first_under self.old.lists name.now ≡ None }
         ensures { OnOk result ((other : List ℕ) → ids_of self.new other
-            ≡ if bytes_eq other name.entry.now then ids_of self.old other ++ id ∷ []
-            else ids_of self.old other) }
+            ≡ with_last_where (bytes_eq other name.entry.now) (ids_of self.old other) id) }
     {
         match self.singles.get(name).copied() {
-            Some(first) => {
-                let ids = pair(self.alloc, first, id)?;
-                insert_list(&mut self.lists, name, ids)
-            }
+            Some(first) => self.add_second(name, first, id),
             None => insert_single(&mut self.singles, name, id),
         }
+    }
+
+    // The same for a name that has one candidate.
+    fn add_second(&mut self, name: &'a [u8], first: CandId, id: CandId) -> Result<(), AllocError>
+        requires list { first_under self.old.lists name.now ≡ None }
+        requires single { first_under self.old.singles name.now ≡ Some (first ∷ []) }
+        ensures { OnOk result ((other : List ℕ) → ids_of self.new other
+            ≡ with_last_where (bytes_eq other name.entry.now) (ids_of self.old other) id) }
+    {
+        if first == id {
+            return Ok(());
+        }
+        let ids = pair(self.alloc, first, id)?;
+        insert_list(&mut self.lists, name, ids)
     }
 }
 
@@ -184,10 +182,13 @@ fn pair(alloc: Global, first: CandId, second: CandId) -> Result<Vec<CandId>, All
     Ok(ids)
 }
 
-// Puts a candidate behind others.
-fn push(ids: &mut Vec<CandId>, id: CandId) -> Result<(), AllocError>
-    ensures { OnOk result (ids.new.items ≡ ids.old.items ++ id ∷ []) }
+// Puts a candidate behind others, unless it is the last of them.
+fn push_once(ids: &mut Vec<CandId>, id: CandId) -> Result<(), AllocError>
+    ensures { OnOk result (ids.new.items ≡ with_last ids.old.items id) }
 {
+    if is_last_id(ids, id) {
+        return Ok(());
+    }
     ids.push(id)?;
     Ok(())
 }

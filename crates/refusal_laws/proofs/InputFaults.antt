@@ -46,7 +46,7 @@ tested_remembers : (r : Result (List ℕ) V2Fault) → (r ≡ Err Memory → ⊥
 tested_remembers (Ok payload) h e = bad_remembers payload (payload_fault Idb payload) e
 tested_remembers (Err fault) h e = h e
 
-text_remembers : (text : List ℕ) → payload_of_text text ≡ Err Memory → ⊥
+pub text_remembers : (text : List ℕ) → payload_of_text text ≡ Err Memory → ⊥
 unfolding payload_of_text
 text_remembers text e = tested_remembers (written_payload (records_of text)) (written_remembers (records_of text)) e
 

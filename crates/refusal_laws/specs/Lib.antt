@@ -1,6 +1,7 @@
 -- what laws of changes say
 pub mod InputFaults
 pub mod ReadBefore
+pub mod InfoFaults
 pub mod ComingPackages
 pub mod PackageFaults
 pub mod ChangeFaults

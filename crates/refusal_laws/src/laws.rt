@@ -8,6 +8,7 @@ ghost use Rattle.change_outcome.specs.MembersAfter.{MemberFound};
 ghost use Rattle.command_core.specs.Command.{CommandLine};
 ghost use Rattle.engine_core.specs.Changed.{IsClashFor, change_of_command, selected_of_inputs};
 ghost use Rattle.engine_core.specs.Choice.{IsChoiceFrom};
+ghost use Rattle.engine_core.specs.InfoTold.{info_told};
 ghost use Rattle.engine_core.specs.Selecting.{pool_for};
 ghost use Rattle.make_info.specs.Reads.{Reads};
 ghost use Rattle.make_info.specs.declared.fault.MakeFault.TheVariants.{TooLarge};
@@ -22,6 +23,7 @@ ghost use Rattle.report_core.specs.declared.refusal.Refusal.{Refusal};
 ghost use Rattle.refusal_laws.specs.ChangeFaults.{IsFaultOfChange, IsFaultOfPackage};
 ghost use Rattle.refusal_laws.specs.CommandFaults.{IsFaultOfCommand};
 ghost use Rattle.refusal_laws.specs.FirstPackage.{IsFirstRefused};
+ghost use Rattle.refusal_laws.specs.InfoFaults.{IsFaultOfInfo};
 ghost use Rattle.refusal_laws.specs.InputFaults.{IsFaultOfInput};
 ghost use Rattle.refusal_laws.specs.MadeTooLarge.{IsPackageTooLarge};
 ghost use Rattle.refusal_laws.specs.OperandsKnown.{HasPassedBeforeSelection};
@@ -41,6 +43,13 @@ pub fn a_refused_input_has_its_fault()
         → inputs_of command read ≡ Err refusal → IsFaultOfInput command read refusal }
     ensures order { (command : CommandLine) (read : Reads) (refusal : Refusal)
         → inputs_of command read ≡ Err refusal → HasReadBefore command read refusal }
+{}
+
+/// Where `info` is refused, the database is, for its fault; or an operand asks for what is not
+/// installed.
+pub fn a_refused_info_has_its_fault()
+    ensures { (command : CommandLine) (read : Reads) (refusal : Refusal)
+        → info_told command read ≡ Err refusal → IsFaultOfInfo command read refusal }
 {}
 
 /// Where a change is refused, what the refusal says is so: of a package that comes or goes, or of

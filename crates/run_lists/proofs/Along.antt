@@ -22,7 +22,7 @@ use Rattle.run_lists.proofs.OneRun.{answered, atomic, idle_end, idle_moment, mor
 -- ---- the order
 
 -- a tree that is synced is what a crash leaves of it
-as_crash : Facts → (w : TreeState) → IsAllSynced w → IsCrashOf w w
+pub as_crash : Facts → (w : TreeState) → IsAllSynced w → IsCrashOf w w
 as_crash facts w synced = record { left = facts.read_left w; one_map = synced.one_map; synced = synced.files }
 
 abbrev InOrder : Ignored → TreeState → Type 0

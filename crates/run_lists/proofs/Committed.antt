@@ -1,4 +1,4 @@
--- An outcome that commits holds no intent.
+-- An outcome that commits leaves no intent, neither a good nor a bad one.
 use Rattle.std.proofs.Common.{◌≡◌, ◌∙◌, ℕ, Bool, true, false, List, [], length, Option, Some, None, Result, Ok, Err, refl, sym, ap, subst}
 use Rattle.std.specs.Prelude.{if◌then◌else◌, IsTrue}
 use Rattle.std.specs.Str.{bytes_eq}
@@ -42,7 +42,6 @@ use Rattle.outcome.specs.Words.{IsOutcome, IsOutcomeBy, IsOutcomeFor}
 use Rattle.outcome.specs.Work.{fault_of_intent, recovery_fault, work_files}
 use Rattle.run_lists.proofs.BadIntent.{only_reads}
 use Rattle.run_lists.proofs.Names.{no_scratch}
-use Rattle.run_lists.proofs.Unstaged.{none_found}
 
 abbrev pub BringsNoIntent : Type 0
 BringsNoIntent = (inputs : Inputs) (r : Replacement) (wishes : ChangeWishes) (read : Reading) (clash : Option NamePair) (files : Files) (done : ChangeDone)
@@ -52,7 +51,7 @@ abbrev pub ReadSound : Type 0
 ReadSound = (file : List ℕ) → first_fault IntentTable file ≡ None → read_intent file ≡ Some (intent_in (root_value IntentTable (payload_in file)))
 
 abbrev Brings : Outcome → Type 0
-Brings o = o.commits ≡ true → intent_of o.files ≡ None
+Brings o = o.commits ≡ true → o.files intent_name ≡ None
 
 -- ---- a change
 
@@ -79,8 +78,8 @@ module _ (gone : BringsNoIntent) where
 
   change_none : (command : CommandLine) (files : Files) (chosen : Option (List ℕ)) (clash : Option NamePair) (result : Result ChangeDone Refusal)
       → change_of_command command (reads_in files) files chosen clash ≡ result → files intent_name ≡ None → Brings (change_outcome files result)
-  change_none command files chosen clash (Ok done) is absent commits = ap intent_at (changed_none command (reads_in files) files chosen clash done is absent)
-  change_none command files chosen clash (Err refusal) is absent commits = ap intent_at absent
+  change_none command files chosen clash (Ok done) is absent commits = changed_none command (reads_in files) files chosen clash done is absent
+  change_none command files chosen clash (Err refusal) is absent commits = absent
 
 -- ---- what is made
 
@@ -99,12 +98,12 @@ with_other name bytes files free =
     ap (λ (b : Bool). if b then Some bytes else (if bytes_eq intent_name (scratch_of name) then None else files intent_name)) (not_same intent_name name (not_reserved name free))
     ∙ ap (λ (b : Bool). if b then None else files intent_name) (not_same intent_name (scratch_of name) (no_scratch name))
 
-made_by : (name bytes report : List ℕ) (files : Files) → intent_of files ≡ None → (b : Bool) → is_reserved name ≡ b
+made_by : (name bytes report : List ℕ) (files : Files) → files intent_name ≡ None → (b : Bool) → is_reserved name ≡ b
     → Brings (if b then just_refusal files (Reserved name) else commit_report (files_with_output (Some name) bytes files) report)
 made_by name bytes report files none true is commits = absurd (false≢true commits)
-made_by name bytes report files none false is commits = ap intent_at (with_other name bytes files is) ∙ none
+made_by name bytes report files none false is commits = with_other name bytes files is ∙ none
 
-made_unless : (output : Option (List ℕ)) (bytes report : List ℕ) (files : Files) → intent_of files ≡ None → Brings (unless_reserved files output (commit_report (files_with_output output bytes files) report))
+made_unless : (output : Option (List ℕ)) (bytes report : List ℕ) (files : Files) → files intent_name ≡ None → Brings (unless_reserved files output (commit_report (files_with_output output bytes files) report))
 made_unless None bytes report files none commits = none
 made_unless (Some name) bytes report files none commits = made_by name bytes report files none (is_reserved name) refl commits
 
@@ -116,7 +115,7 @@ refused_unless : (output : Option (List ℕ)) (files : Files) (refusal : Refusal
 refused_unless None files refusal commits = absurd (false≢true commits)
 refused_unless (Some name) files refusal commits = refused_by name files refusal (is_reserved name) commits
 
-made_none : (output : Option (List ℕ)) (report : List ℕ) (files : Files) → intent_of files ≡ None → (made : Result (List ℕ) MakeFault) → Brings (make_outcome files output report made)
+made_none : (output : Option (List ℕ)) (report : List ℕ) (files : Files) → files intent_name ≡ None → (made : Result (List ℕ) MakeFault) → Brings (make_outcome files output report made)
 made_none output report files none (Ok bytes) commits = made_unless output bytes report files none commits
 made_none output report files none (Err (NoFile place)) commits = absurd (false≢true commits)
 made_none output report files none (Err (BadFile place cause)) commits = absurd (false≢true commits)
@@ -125,14 +124,14 @@ made_none output report files none (Err (TooLarge bytes values)) commits = refus
 made_none output report files none (Err Disk) commits = absurd (false≢true commits)
 made_none output report files none (Err Memory) commits = absurd (false≢true commits)
 
-maker_none : (applet : Applet) (command : CommandLine) (given : Given) (files : Files) → effect_of applet ≡ Makes → intent_of files ≡ None → Brings (applet_outcome applet command given (reads_in files) files)
+maker_none : (applet : Applet) (command : CommandLine) (given : Given) (files : Files) → effect_of applet ≡ Makes → files intent_name ≡ None → Brings (applet_outcome applet command given (reads_in files) files)
 maker_none Mkpkg command given files makes none = made_none (output_name command) [] files none (made_package command given.names (reads_in files))
 maker_none Mkndx command given files makes none = made_none (output_name command) (index_line (length command.operands)) files none (made_index command (reads_in files))
 maker_none other command given files makes none = absurd (cc (makes))
 
 -- ---- by the words
 
-absent_now : ReadSound → (files : Files) (found : Option (List ℕ)) → files intent_name ≡ found → fault_of_intent found ≡ None → unstaged_files files intent_name ≡ None
+pub absent_now : ReadSound → (files : Files) (found : Option (List ℕ)) → files intent_name ≡ found → fault_of_intent found ≡ None → unstaged_files files intent_name ≡ None
 absent_now sound files None is good = ap (λ (o : Option (List ℕ)). recovered_files_by (intent_at o) files intent_name) is ∙ is
 absent_now sound files (Some file) is good =
     ap (λ (o : Option (List ℕ)). recovered_files_by (intent_at o) files intent_name) is
@@ -144,14 +143,16 @@ no_demo other command files o works is = is
 
 -- each outcome that commits
 abbrev pub CommitsNoIntent : Type 0
-CommitsNoIntent = (words : List (List ℕ)) (files : Files) (o : Outcome) → IsOutcome words files o → o.commits ≡ true → intent_of o.files ≡ None
+CommitsNoIntent = (words : List (List ℕ)) (files : Files) (o : Outcome) → IsOutcome words files o → o.commits ≡ true → o.files intent_name ≡ None
 
 module _ (gone : BringsNoIntent) (sound : ReadSound) where
-  makes_none : (fault : Option Cause) (command : CommandLine) (files : Files) (o : Outcome) → effect_of command.applet ≡ Makes → IsOutcomeUnless fault command files o → Brings o
-  makes_none (Some cause) command files o makes is commits = absurd (false≢true (sym (ap (λ (p : Outcome). p.commits) is) ∙ commits))
-  makes_none None command files o makes (given, are, is) commits =
+  makes_none : (fault : Option Cause) (command : CommandLine) (files : Files) (o : Outcome) → effect_of command.applet ≡ Makes → recovery_fault (effect_of command.applet) files ≡ fault → IsOutcomeUnless fault command files o → Brings o
+  makes_none (Some cause) command files o makes at is commits = absurd (false≢true (sym (ap (λ (p : Outcome). p.commits) is) ∙ commits))
+  makes_none None command files o makes at (given, are, is) commits =
       let work : work_files (effect_of command.applet) files ≡ unstaged_files files = ap (λ (e : Effect). work_files e files) makes in
-      subst Brings (sym is) (maker_none command.applet command given (work_files (effect_of command.applet) files) makes (ap intent_of work ∙ none_found files)) commits
+      let good = subst (λ (e : Effect). recovery_fault e files ≡ None) makes at in
+      let absent = ap (λ (f : Files). f intent_name) work ∙ absent_now sound files (files intent_name) refl good in
+      subst Brings (sym is) (maker_none command.applet command given (work_files (effect_of command.applet) files) makes absent) commits
 
   changes_none : (fault : Option Cause) (command : CommandLine) (files : Files) (o : Outcome) → effect_of command.applet ≡ Changes → recovery_fault (effect_of command.applet) files ≡ fault → IsOutcomeUnless fault command files o → Brings o
   changes_none (Some cause) command files o changes at is commits = absurd (false≢true (sym (ap (λ (p : Outcome). p.commits) is) ∙ commits))
@@ -169,7 +170,7 @@ module _ (gone : BringsNoIntent) (sound : ReadSound) where
   by_command (Ok command) files o Reads is works reads tells one = absurd (reads refl)
   by_command (Ok command) files o Tells is works reads tells one = absurd (tells refl)
   by_command (Ok command) files o Makes is works reads tells one =
-      makes_none (recovery_fault (effect_of command.applet) files) command files o is (no_demo command.applet command files o (λ computes. works (sym is ∙ computes)) one)
+      makes_none (recovery_fault (effect_of command.applet) files) command files o is refl (no_demo command.applet command files o (λ computes. works (sym is ∙ computes)) one)
   by_command (Ok command) files o Changes is works reads tells one =
       changes_none (recovery_fault (effect_of command.applet) files) command files o is refl (no_demo command.applet command files o (λ computes. works (sym is ∙ computes)) one)
 
@@ -178,7 +179,7 @@ module _ (gone : BringsNoIntent) (sound : ReadSound) where
     pub committed_none : CommitsNoIntent
     committed_none words files o one commits = by (effect_by (command_of words)) refl
       where
-        by : (effect : Effect) → effect_by (command_of words) ≡ effect → intent_of o.files ≡ None
+        by : (effect : Effect) → effect_by (command_of words) ≡ effect → o.files intent_name ≡ None
         by Computes is = absurd (false≢true (sym (reading words files o (only_reads (command_of words) Computes is refl) one) ∙ commits))
         by Reads is = absurd (false≢true (sym (reading words files o (only_reads (command_of words) Reads is refl) one) ∙ commits))
         by Tells is = absurd (false≢true (sym (telling words files o is one) ∙ commits))

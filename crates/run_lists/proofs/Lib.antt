@@ -9,5 +9,6 @@ pub mod Idle
 pub mod Moments
 pub mod Names
 pub mod OneRun
+pub mod Recoverable
 pub mod Recovered
 pub mod Unstaged

@@ -158,14 +158,14 @@ module _ (no_intent : CommitsNoIntent) (test : Option (List ℕ) → Bool) (q : 
       read = one_of_two (work_files (effect_by (command_of run.words)) (files_of v) q) (o.files q) (files_of m q) worked_at.read (leaves.outcomes o one commits) (p.bytes q stays);
       recovered = subst Passes (sym (ap (λ (f : Files). f q) p.leads)) (leaves.outcomes o one commits);
     }
-    stands_true (inr (inr (o, one, commits, inr (inr (inr is))))) = subst At (sym is) (plain o.files (no_intent run.words (files_of v) o one commits) (leaves.outcomes o one commits))
+    stands_true (inr (inr (o, one, commits, inr (inr (inr is))))) = subst At (sym is) (plain o.files (ap intent_at (no_intent run.words (files_of v) o one commits)) (leaves.outcomes o one commits))
 
 -- the last state of a run is one of its moments
 last_by : (run : Run) (w : TreeState) (added : List TreeState) → run.now ≡ added ++ run.old → HasNow run.now (λ u. u ≡ w) → IsMomentOf run w
 last_by run w [] is ends = inl (now_map run.old (λ u. u ≡ w) (λ u. w ≡ u) (λ u same. sym same) (subst (λ (h : History). HasNow h (λ u. u ≡ w)) is ends))
 last_by run w (u ∷ added) is ends = inr (u ∷ added, is, (0, omega arith, subst (λ (h : History). HasNow h (λ u. u ≡ w)) is ends))
 
-last_moment : (run : Run) (v w : TreeState) → IsRunFrom v run → HasNow run.now (λ u. u ≡ w) → IsMomentOf run w
+pub last_moment : (run : Run) (v w : TreeState) → IsRunFrom v run → HasNow run.now (λ u. u ≡ w) → IsMomentOf run w
 last_moment run v w is_run ends = by is_run.reads
   where
     by : AreReadOnTheWay (IsOutcomeFrom v run) (effect_by (command_of run.words)) (output run.words) v run.old run.now → IsMomentOf run w

@@ -2,3 +2,4 @@
 pub mod Events
 pub mod Safety
 pub mod Reading
+pub mod Recovered

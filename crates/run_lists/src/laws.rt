@@ -6,26 +6,29 @@ ghost use Rattle.base_core.specs.Crash.{IsOrderly};
 ghost use Rattle.base_core.specs.Files.{Files};
 ghost use Rattle.base_core.specs.Tree.{TreeState, files_of};
 ghost use Rattle.journal_core.specs.Kept.{IsWaitingName};
-ghost use Rattle.journal_core.specs.Recovery.{RestsOn, intent_name, intent_of, state_of};
+ghost use Rattle.journal_core.specs.Recovery.{IsSettled, RestsOn, intent_name, state_of};
 ghost use Rattle.journal_core.specs.Staged.{unstaged_files};
 ghost use Rattle.outcome.specs.Effect.{does_recover, effect_by, output, reads_only};
 ghost use Rattle.outcome.specs.Outcome.{Outcome};
 ghost use Rattle.outcome.specs.Words.{IsOutcome};
 ghost use Rattle.outcome.specs.Work.{recovery_fault};
-ghost use Rattle.run_lists.specs.Events.{Event, HasNoPendingOutput, HasSeen, HasSeenIdly, HasSeenToOneState, IsIdleRun, IsMomentOf, IsOutcomeFrom, IsRunFrom, Run, ignored_behind, nothing_ignored, with_scratch};
+ghost use Rattle.run_lists.specs.Events.{Event, HasNoPendingOutput, HasSeen, HasSeenIdly, HasSeenToOneState, IsIdleRun, IsMomentOf, IsOutcomeFrom, IsRunFrom, Run, ignored_behind, ignored_in, nothing_ignored, with_scratch};
 ghost use Rattle.run_lists.specs.Reading.{HasBadIntent, HasBytesOfRun, HasSeenRuns, IsAnyRun, IsDoneForGood, IsLastingName, IsNoDraft, IsTrueAt, LeavesTrueAt};
-ghost use Rattle.run_lists.specs.Safety.{IsAtomicBehindAll, IsSafeBehindAll};
+ghost use Rattle.run_lists.specs.Recovered.{HasSeenNoBadIntent, HasStateBeforeOrOutcome, IsRecoveredBy, IsUnrefused, LeavesNoBadIntent};
+ghost use Rattle.run_lists.specs.Safety.{HasOldOrOutcome, IsAtomicBehindAll, IsSafeBehindAll};
 ghost use Rattle.words_core.specs.Grammar.{command_of};
 
 use apk_front::a_crash_leaves_the_old_files_or_those_of_the_outcome;
 use base_core::a_crash_may_leave_the_files_as_read;
 use change_laws::a_change_keeps_room;
-use journal_core::{a_crash_leaves_an_orderly_settled_tree, more_names_may_be_ignored};
+use journal_core::{
+    a_crash_leaves_an_orderly_settled_tree, a_state_shows_a_bad_intent, more_names_may_be_ignored,
+};
 use journal_intent::an_intent_is_read_from_a_sound_container;
 use outcome::{
     a_command_that_commits_nothing_leaves_the_files, a_command_that_makes_commits_unless_refused,
     a_command_that_reads_leaves_the_files, a_command_that_tells_leaves_the_files,
-    an_outcome_is_unique,
+    an_outcome_is_unique, only_a_bad_intent_is_refused_as_one,
 };
 
 /// Whatever list of runs, stops, crashes and changes by others a root has seen from an orderly tree
@@ -124,9 +127,9 @@ pub fn each_name_keeps_old_recovered_or_new_bytes()
     ensures moments { (v m : TreeState) (run : Run) (q : List ℕ) → IsRunFrom v run
         → IsMomentOf run m → IsNoDraft run q → HasBytesOfRun v run m q }
 
-    // An outcome that commits leaves no intent to be done.
+    // An outcome that commits leaves nothing under the intent's name.
     ensures commits { (words : List (List ℕ)) (files : Files) (o : Outcome)
-        → IsOutcome words files o → o.commits ≡ true → intent_of o.files ≡ None }
+        → IsOutcome words files o → o.commits ≡ true → o.files intent_name ≡ None }
 
     // What holds of a name at first, as read and as a recovery leaves it, and in the files of each
     // outcome that commits, holds of it behind each of the runs, and at each moment at which one is
@@ -169,4 +172,61 @@ pub fn what_an_intent_said_is_done_for_good()
     an_outcome_is_unique();
     a_command_that_makes_commits_unless_refused();
     a_crash_leaves_the_old_files_or_those_of_the_outcome();
+}
+
+/// A root that has no bad intent gets none: whatever list of runs, stops and crashes it has seen, and
+/// of changes by others that put none there, no crash leaves one. So nothing keeps the next run from
+/// recovering, and it is not refused for an intent.
+pub fn no_list_leaves_a_bad_intent()
+    ensures along { (ignored : List ℕ → Bool) (first v : TreeState) (events : List Event)
+        → ignored intent_name ≡ false → IsOrderly (RestsOn ignored) first
+        → LeavesNoBadIntent first → HasSeenNoBadIntent first events v → LeavesNoBadIntent v }
+
+    // A run that is stopped at a moment is such an event.
+    ensures recovers { (v : TreeState) (words : List (List ℕ)) → LeavesNoBadIntent v
+        → recovery_fault (effect_by (command_of words)) (files_of v) ≡ None }
+    ensures unrefused { (v : TreeState) (run : Run) → IsRunFrom v run
+        → does_recover (effect_by (command_of run.words)) ≡ true → LeavesNoBadIntent v
+        → IsUnrefused run }
+{
+    a_crash_leaves_an_orderly_settled_tree();
+    a_crash_may_leave_the_files_as_read();
+    more_names_may_be_ignored();
+    a_state_shows_a_bad_intent();
+    an_outcome_is_unique();
+    a_command_that_makes_commits_unless_refused();
+    a_crash_leaves_the_old_files_or_those_of_the_outcome();
+    each_name_keeps_old_recovered_or_new_bytes();
+    only_a_bad_intent_is_refused_as_one();
+}
+
+/// A run that is stopped at any moment is recovered: whatever list of runs, stops and crashes the
+/// root had seen, and however often crashes and stopped recoveries followed, the next run that
+/// recovers is not refused for an intent. It works on files in which nothing is left to do, and which
+/// have a state from before the stopped run, or that of its outcome.
+pub fn a_stopped_run_is_recovered()
+    ensures recovered { (ignored : List ℕ → Bool) (first v m w : TreeState) (events later : List Event)
+        (run next : Run) → ignored intent_name ≡ false → IsOrderly (RestsOn ignored) first
+        → LeavesNoBadIntent first → HasSeenNoBadIntent first events v
+        → IsRunFrom v run → IsMomentOf run m → HasSeenIdly m later w
+        → IsRunFrom w next → does_recover (effect_by (command_of next.words)) ≡ true
+        → IsRecoveredBy (ignored_in run (ignored_behind ignored events)) v run w next }
+
+    // Where the root had one state when the run began, these are two: the old one and the
+    // outcome's.
+    ensures two { (ignored : List ℕ → Bool) (v : TreeState) (run : Run) (files : Files)
+        → IsSettled ignored (files_of v) v → HasStateBeforeOrOutcome ignored v run files
+        → HasOldOrOutcome ignored v run files }
+{
+    a_crash_leaves_an_orderly_settled_tree();
+    a_crash_may_leave_the_files_as_read();
+    more_names_may_be_ignored();
+    a_state_shows_a_bad_intent();
+    an_intent_is_read_from_a_sound_container();
+    an_outcome_is_unique();
+    a_command_that_makes_commits_unless_refused();
+    a_crash_leaves_the_old_files_or_those_of_the_outcome();
+    each_name_keeps_old_recovered_or_new_bytes();
+    only_a_bad_intent_is_refused_as_one();
+    a_root_that_commits_nothing_keeps_its_state();
 }

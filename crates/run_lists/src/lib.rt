@@ -12,7 +12,8 @@ mod root;
 
 pub use laws::{
     a_bad_intent_and_all_files_stay, a_root_that_commits_nothing_keeps_its_state,
-    each_name_keeps_old_recovered_or_new_bytes, what_an_intent_said_is_done_for_good,
+    a_stopped_run_is_recovered, each_name_keeps_old_recovered_or_new_bytes,
+    no_list_leaves_a_bad_intent, what_an_intent_said_is_done_for_good,
     whatever_a_root_has_seen_a_run_is_safe,
 };
 pub use root::run_on_a_root;

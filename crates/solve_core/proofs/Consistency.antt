@@ -15,13 +15,17 @@ use Rattle.solve_core.specs.Selection.{AreMembers, names_by_install_if, depends_
 use Rattle.solve_core.specs.Reasons.{FrameValue, IsFrameOf}
 use Rattle.solve_core.specs.InstallIf.{AreInstallIfs, AreUnasked}
 use Rattle.solve_core.specs.Queue.{AreMet, RaisedDepValue, is_unmet_dep, queue_of, raised_deps_at, raised_deps}
-use Rattle.solve_core.specs.Choices.{AreCheckpoints, AreListed, HasOptions, IsConsistent, choices_of, install_ifs_of, pool_of}
+use Rattle.solve_core.specs.Conflicts.{conflicts_among, conflicts_named}
+use Rattle.solve_core.specs.Excluders.{AreListed}
+use Rattle.solve_core.specs.NameTable.{items_of}
+use Rattle.solve_core.specs.Choices.{AreCheckpoints, HasOptions, IsConsistent, choices_of, install_ifs_of, pool_of}
 use Rattle.solve_core.specs.declared.conflicts.Conflicts.{Conflicts}
 use Rattle.solve_core.specs.declared.install_ifs.InstallIfs.{InstallIfs}
 use Rattle.solve_core.specs.declared.choices.Choices.{Choices}
 use Rattle.solve_core.specs.declared.queue.Checkpoint.{Checkpoint}
 use Rattle.solve_core.proofs.Theory.{in_left, in_right, in_append}
-use Rattle.solve_core.proofs.PoolFacts.{bool_cases, find_in, map_in, in_map}
+use Rattle.solve_core.proofs.PoolFacts.{bool_cases, find_in, map_in, in_map, pool_facts}
+use Rattle.solve_core.proofs.ConflictTables.{listed_more}
 use Rattle.solve_core.proofs.Queued.{find_here, past_end, met_more, met_next, queue_more}
 
 module _ (pool : SealedPool) (install_ifs : List ℕ) where
@@ -80,11 +84,10 @@ pub consistent_by : (old new : Choices) (t : List ℕ) → IsStep old new t
     → new.queue.items ≡ queue_of (pool_of old) t
     → AreMet (pool_of old) t new.cursor
     → AreUnasked (pool_of old) t (install_ifs_of old) new.asking_cursor
-    → AreListed (depends_at (pool_of old)) new.conflicts
-    → AreMembers t new.conflicts.added
+    → AreListed (pool_of old) t new.conflicts
     → AreCheckpoints (pool_of old) (install_ifs_of old) [] t new.checkpoints.items
     → IsConsistent new
-consistent_by old new t step are within queue met unasked listed added checkpoints =
+consistent_by old new t step are within queue met unasked listed checkpoints =
     let p = sym step.pool in
     let s = sym step.choices in
     let i : install_ifs_of old ≡ install_ifs_of new = ap (λ (z : InstallIfs). z.by_name.items) (sym step.install_ifs) in
@@ -98,15 +101,14 @@ consistent_by old new t step are within queue met unasked listed added checkpoin
           (subst (λ (z : List ℕ). AreInstallIfs (pool_of old) z new.install_ifs.waiting) i (subst (λ (z : List (List ℕ × List ℕ)). AreInstallIfs (pool_of old) (install_ifs_of old) z) same_waiting are));
       unasked = subst (λ (q : SealedPool). AreUnasked q (choices_of new) (install_ifs_of new) new.asking_cursor) p
           (subst (λ (z : List ℕ). AreUnasked (pool_of old) z (install_ifs_of new) new.asking_cursor) s (subst (λ (z : List ℕ). AreUnasked (pool_of old) t z new.asking_cursor) i unasked));
-      listed = subst (λ (q : SealedPool). AreListed (depends_at q) new.conflicts) p listed;
-      added = subst (λ (z : List ℕ). AreMembers z new.conflicts.added) s added;
+      listed = subst (λ (q : SealedPool). AreListed q (choices_of new) new.conflicts) p (subst (λ (z : List ℕ). AreListed (pool_of old) z new.conflicts) s listed);
       checkpoints = subst (λ (q : SealedPool). AreCheckpoints q (install_ifs_of new) [] (choices_of new) new.checkpoints.items) p
           (subst (λ (z : List ℕ). AreCheckpoints (pool_of old) (install_ifs_of new) [] z new.checkpoints.items) s (subst (λ (z : List ℕ). AreCheckpoints (pool_of old) z [] t new.checkpoints.items) i checkpoints));
     }
 
 pub consistent_more : (old new : Choices) (c : ℕ) (deps : List Dependency) (b : Checkpoint) → IsConsistent old → c < length (pool_of old).candidates → deps ≡ depends_at (pool_of old) c → IsStep old new (choices_of old ++ c ∷ []) → new.queue.items ≡ old.queue.items ++ raised_deps (Some c) deps → new.cursor ≡ old.cursor → new.checkpoints.items ≡ old.checkpoints.items ++ b ∷ [] → b.queue_len ≡ length old.queue.items → b.cursor ≡ old.cursor → b.asking_cursor ≡ old.asking_cursor
-    → AreUnasked (pool_of old) (choices_of old ++ c ∷ []) (install_ifs_of old) new.asking_cursor → AreListed (depends_at (pool_of old)) new.conflicts → AreMembers old.conflicts.added new.conflicts.added → IsMember c new.conflicts.added → IsConsistent new
-consistent_more old new c deps b consistent small is step queue at checkpoints b_queue b_at b_asking unasked listed kept here =
+    → AreUnasked (pool_of old) (choices_of old ++ c ∷ []) (install_ifs_of old) new.asking_cursor → ((name : List ℕ) → items_of new.conflicts.by_name name ≡ items_of old.conflicts.by_name name ++ conflicts_named name c deps) → IsConsistent new
+consistent_more old new c deps b consistent small is step queue at checkpoints b_queue b_at b_asking unasked conflicts =
     let p = pool_of old in
     let t = choices_of old in
     let t' = t ++ c ∷ [] in
@@ -121,11 +123,7 @@ consistent_more old new c deps b consistent small is step queue at checkpoints b
       | inl a ↦ consistent.within k a
       | inr d ↦ elim d [ inl e ↦ subst (λ (z : ℕ). z < length p.candidates) (sym e) small | inr bad ↦ absurd bad ]
     ] in
-    let all_added : AreMembers t' new.conflicts.added = λ k h. elim (in_append k t (c ∷ []) h) [
-      | inl a ↦ kept k (consistent.added k a)
-      | inr d ↦ elim d [ inl e ↦ subst (λ (z : ℕ). IsMember z new.conflicts.added) (sym e) here | inr bad ↦ absurd bad ]
-    ] in
-    consistent_by old new t' step consistent.install_ifs all_within all_queue all_met unasked listed all_added all_saved
+    consistent_by old new t' step consistent.install_ifs all_within all_queue all_met unasked (listed_more p t c deps old.conflicts new.conflicts is consistent.listed conflicts) all_saved
 
 take_none : {X : Type 0} (xs : List X) → take 0 xs ≡ []
 take_none [] = refl
@@ -139,8 +137,8 @@ met_start pool t = (omega arith, ap (find (is_unmet_dep pool t)) (take_none (que
 none_below : (k : ℕ) → k < 0 → ⊥
 none_below k h = absurd (omega (arith, h))
 
-pub consistent_start : (chosen : Choices) → choices_of chosen ≡ [] → chosen.queue.items ≡ [] ++ raised_deps None (pool_of chosen).world → chosen.cursor ≡ 0 → chosen.asking_cursor ≡ 0 → AreInstallIfs (pool_of chosen) (install_ifs_of chosen) chosen.install_ifs.waiting → chosen.conflicts.added ≡ [] → chosen.checkpoints.items ≡ [] → IsConsistent chosen
-consistent_start chosen none queue at asking are added checkpoints =
+pub consistent_start : (chosen : Choices) → choices_of chosen ≡ [] → chosen.queue.items ≡ [] ++ raised_deps None (pool_of chosen).world → chosen.cursor ≡ 0 → chosen.asking_cursor ≡ 0 → AreInstallIfs (pool_of chosen) (install_ifs_of chosen) chosen.install_ifs.waiting → chosen.conflicts.by_name ≡ [] → chosen.checkpoints.items ≡ [] → IsConsistent chosen
+consistent_start chosen none queue at asking are conflicts checkpoints =
     let p = pool_of chosen in
     let all : raised_deps None p.world ≡ queue_of p [] = sym (append-nil (raised_deps None p.world)) in
     record {
@@ -149,8 +147,7 @@ consistent_start chosen none queue at asking are added checkpoints =
       met = subst (λ (k : ℕ). AreMet p (choices_of chosen) k) (sym at) (met_start p (choices_of chosen));
       install_ifs = are;
       unasked = subst (λ (k : ℕ). AreUnasked p (choices_of chosen) (install_ifs_of chosen) k) (sym asking) (λ rank low. absurd (none_below rank low));
-      listed = λ c d h there conflict. absurd (subst (λ (z : List ℕ). IsMember c z) added h);
-      added = λ k h. absurd (subst (λ (z : List ℕ). IsMember k z) none h);
+      listed = λ name. ap (λ (z : List (List ℕ × List (ℕ × Dependency))). items_of z name) conflicts ∙ ap (λ (z : List ℕ). conflicts_among p z name) (sym none);
       checkpoints = subst (λ (z : List ℕ). AreCheckpoints p (install_ifs_of chosen) [] z chosen.checkpoints.items) (sym none) (subst (λ (z : List Checkpoint). AreCheckpoints p (install_ifs_of chosen) [] [] z) (sym checkpoints) tt);
     }
 
@@ -159,8 +156,7 @@ consistent_start chosen none queue at asking are added checkpoints =
 pub consistent_on : (old new : Choices) → IsConsistent old → IsStep old new (choices_of old) → new.queue.items ≡ old.queue.items → new.conflicts ≡ old.conflicts → new.checkpoints.items ≡ old.checkpoints.items → AreMet (pool_of old) (choices_of old) new.cursor → AreUnasked (pool_of old) (choices_of old) (install_ifs_of old) new.asking_cursor → IsConsistent new
 consistent_on old new consistent step queue conflicts checkpoints met unasked =
     consistent_by old new (choices_of old) step consistent.install_ifs consistent.within (queue ∙ consistent.queue) met unasked
-    (subst (λ (z : Conflicts). AreListed (depends_at (pool_of old)) z) (sym conflicts) consistent.listed)
-    (subst (λ (z : Conflicts). AreMembers (choices_of old) z.added) (sym conflicts) consistent.added)
+    (subst (λ (z : Conflicts). AreListed (pool_of old) (choices_of old) z) (sym conflicts) consistent.listed)
     (subst (λ (z : List Checkpoint). AreCheckpoints (pool_of old) (install_ifs_of old) [] (choices_of old) z) (sym checkpoints) consistent.checkpoints)
 
 get_within : {X : Type 0} (xs : List X) (i : ℕ) (x : X) → slice_get xs i ≡ Some x → i < length xs
@@ -272,6 +268,12 @@ pub taken_within : (pool : SealedPool) → ((need : Need) → HasOptions pool ne
 taken_within pool has t f id taken =
     let there : IsMember id (options_for pool taken.0) = subst (λ (z : List ℕ). IsMember id z) (sym taken.2) (in_right id (options_in f.0) (id ∷ f.1) (inl refl)) in
     passing_is_within pool (is_eligible pool.world) id ((has taken.0).those id there).0
+
+-- an option of an unmet need is no choice
+pub taken_once : (pool : SealedPool) → ((need : Need) → HasOptions pool need) → (t : List ℕ) (f : FrameValue) (id : ℕ) → IsFrameTaking pool t f id → IsMember id t → ⊥
+taken_once pool has t f id taken h =
+    let there : IsMember id (options_for pool taken.0) = subst (λ (z : List ℕ). IsMember id z) (sym taken.2) (in_right id (options_in f.0) (id ∷ f.1) (inl refl)) in
+    ((pool_facts pool has).next_some t taken.0 taken.1).1 (id, h, ((has taken.0).those id there).1)
 
 pub item_in : (xs : List ℕ) (i x : ℕ) → i < length xs → x ≡ get_or xs i x → IsMember x xs
 item_in [] i x h e = absurd (omega arith)

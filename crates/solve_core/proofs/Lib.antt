@@ -10,9 +10,8 @@ pub mod FirstFound
 pub mod Offered
 pub mod Queued
 pub mod Consistency
-pub mod OccupiedNames
 pub mod NameTables
-pub mod ConflictNames
+pub mod ConflictTables
 pub mod Asking
 pub mod ByteOrder
 pub mod Raisers

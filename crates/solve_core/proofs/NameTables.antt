@@ -9,7 +9,7 @@ use Rattle.std.specs.Option.{option_map_or}
 use Rattle.std.specs.Str.{bytes_eq}
 use Rattle.indexmap.specs.IndexMap.{insert_entry}
 use Rattle.pool_core.specs.Options.{AreMembers, IsMember}
-use Rattle.solve_core.specs.NameTable.{items_of, names_and_items}
+use Rattle.solve_core.specs.NameTable.{items_of, names_and_items, without_last}
 use Rattle.solve_core.proofs.PoolFacts.{bool_cases}
 use Rattle.solve_core.proofs.Theory.{in_left, in_right}
 
@@ -91,3 +91,21 @@ item_there {X} old new name item is =
 -- nothing is lost over two steps
 pub members_on : {X : Type 0} (old mid new : List (List ℕ × List X)) → ((name : List ℕ) → AreMembers (items_of old name) (items_of mid name)) → ((name : List ℕ) → AreMembers (items_of mid name) (items_of new name)) → (name : List ℕ) → AreMembers (items_of old name) (items_of new name)
 members_on old mid new first second name k h = second name k (first name k h)
+
+-- the items of a name without the last
+pub popped_item : {X : Type 0} (name other : List ℕ) (table : List (List ℕ × List X)) (new result : List X) → new ≡ without_last (items_of table name) → result ≡ (if bytes_eq other name then new else items_of table other) → result ≡ (if bytes_eq other name then without_last (items_of table other) else items_of table other)
+popped_item {X} name other table new result is found = elim (bool_cases (bytes_eq other name)) [
+  | inl e ↦
+      let same : items_of table other ≡ items_of table name = ap (items_of table) ((bytes_decides other name).0 e) in
+      let here : result ≡ new = rw e at found in
+      rw e (here ∙ (is ∙ ap without_last (sym same)))
+  | inr e ↦ let there : result ≡ items_of table other = rw e at found in rw e there
+]
+
+pub popped_none : {X : Type 0} (name other : List ℕ) (table : List (List ℕ × List X)) (result : List X) → items_of table name ≡ [] → result ≡ items_of table other → result ≡ (if bytes_eq other name then without_last (items_of table other) else items_of table other)
+popped_none {X} name other table result none is = elim (bool_cases (bytes_eq other name)) [
+  | inl e ↦
+      let same : items_of table other ≡ [] = ap (items_of table) ((bytes_decides other name).0 e) ∙ none in
+      rw e (is ∙ (same ∙ ap without_last (sym same)))
+  | inr e ↦ rw e is
+]

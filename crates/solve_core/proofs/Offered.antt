@@ -1,13 +1,15 @@
 -- What meets a need offers its name.
-use Rattle.std.proofs.Common.{◌≡◌, inl, inr, ℕ, ◌+◌, Bool, true, false, List, [], ◌∷◌, ◌++◌, sym, subst, arith}
-use Rattle.std.specs.Prelude.{Option, Some, None, slice_get, not, ◌&&◌}
+use Rattle.std.proofs.Common.{◌≡◌, ◌≤◌, inl, inr, ℕ, ◌+◌, Bool, true, false, List, [], ◌∷◌, ◌++◌, length, take, sym, subst, arith}
+use Rattle.std.proofs.lemmas.List.{take_all}
+use Rattle.pool_core.proofs.Steps.{take_one_more}
+use Rattle.std.specs.Prelude.{Option, Some, None, slice_get, not, ◌&&◌, is_some}
 use Rattle.std.specs.Option.{option_map_or}
 use Rattle.std.specs.List.{list_any}
 use Rattle.std.specs.Str.{bytes_eq}
 use Rattle.dep_core.specs.Dependency.{Dependency}
 use Rattle.dep_core.specs.Meets.{is_wanted}
-use Rattle.pool_core.specs.Candidates.{Candidate, Need, entry, is_met_by_entry, named, need_name, meets_dependency, meets_by_own_name, offers_name}
-use Rattle.pool_core.specs.Rank.{SealedPool, meets_at}
+use Rattle.pool_core.specs.Candidates.{Candidate, Need, entry, entry_occupies, is_met_by_entry, named, need_name, meets_dependency, meets_by_own_name, occupies_name, offers_name}
+use Rattle.pool_core.specs.Rank.{SealedPool, is_at, meets_at}
 use Rattle.pool_core.specs.Options.{IsMember, places_offering}
 use Rattle.solve_core.specs.Selection.{is_met}
 use Rattle.pool_core.proofs.OptionLists.{in_places}
@@ -68,4 +70,37 @@ pub unmet_among_offers : (pool : SealedPool) (chosen : List ℕ) (need : Need) �
 unmet_among_offers pool chosen need none = elim (bool_cases (is_met pool chosen need)) [
   | inl e ↦ let r = any_in (λ c. meets_at pool c need) chosen e in absurd (not_both (meets_at pool r.0 need) (none r.0 (need_offered pool need r.0 r.2) r.1) r.2)
   | inr e ↦ e
+]
+
+-- a step of a loop over a list, and its end
+pub each_on : {X : Type 0} (P : X → Type 0) (xs : List X) (i : ℕ) (x : X) → slice_get xs i ≡ Some x → ((y : X) → IsMember y (take i xs) → P y) → P x → (y : X) → IsMember y (take (i + 1) xs) → P y
+each_on {X} P xs i x here done one y h = elim (in_append y (take i xs) (x ∷ []) (subst (λ (z : List X). IsMember y z) (take_one_more xs i x here) h)) [
+  | inl a ↦ done y a
+  | inr b ↦ elim b [ inl e ↦ subst P (sym e) one | inr bad ↦ absurd bad ]
+]
+
+pub each_all : {X : Type 0} (P : X → Type 0) (xs : List X) (i : ℕ) → length xs ≤ i → ((y : X) → IsMember y (take i xs) → P y) → (y : X) → IsMember y xs → P y
+each_all {X} P xs i past done y h = done y (subst (λ (z : List X). IsMember y z) (sym (take_all i xs past)) h)
+
+-- a candidate that occupies a name offers it
+occupied_offers : (name : List ℕ) (c : Candidate) → occupies_name name c ≡ true → offers_name name c ≡ true
+occupied_offers name c h = elim (or_true (bytes_eq name c.name) (list_any (entry_occupies name) c.provides) h) [
+  | inl e ↦ true_or (bytes_eq name c.name) _ (inl e)
+  | inr e ↦
+      let a = any_one (entry_occupies name) c.provides e in
+      let b = and_true (not a.0.conflict) (is_some a.0.version && bytes_eq name a.0.name) a.2 in
+      let n = and_true (is_some a.0.version) (bytes_eq name a.0.name) b.1 in
+      true_or (bytes_eq name c.name) (list_any (λ (p : Dependency). not p.conflict && bytes_eq name p.name) c.provides)
+      (inr (one_any (λ (p : Dependency). not p.conflict && bytes_eq name p.name) c.provides a.0 a.1 (rw b.0 n.1)))
+]
+
+-- no choice occupies the name, looked for among those that offer it
+pub occupied_among_offers : (pool : SealedPool) (chosen : List ℕ) (name : List ℕ) → ((k : ℕ) → IsMember k (places_offering name pool.candidates) → IsMember k chosen → is_at pool (occupies_name name) k ≡ false) → (k : ℕ) → IsMember k chosen → is_at pool (occupies_name name) k ≡ false
+occupied_among_offers pool chosen name none k there = elim (bool_cases (is_at pool (occupies_name name) k)) [
+  | inr e ↦ e
+  | inl e ↦
+      let z : 0 + k ≡ k = omega arith in
+      let offered : IsMember k (places_offering name pool.candidates) = subst (λ (o : ℕ). IsMember o (places_offering name pool.candidates)) z
+      (in_places 0 (offers_name name) pool.candidates k (mono_at (occupies_name name) (offers_name name) (slice_get pool.candidates k) (occupied_offers name) e)) in
+      none k offered there
 ]

@@ -1,6 +1,6 @@
 -- The queue of raised dependencies, a choice at a time.
 use Rattle.std.proofs.Common.{◌≡◌, inl, inr, ℕ, zero, suc, ◌+◌, ◌≤◌, ◌<◌, Bool, true, false, List, [], ◌∷◌, ◌++◌, length, take, map, refl, sym, subst, ap, ◌∙◌, arith, append_assoc, append-nil, length-append}
-use Rattle.std.specs.Prelude.{Option, Some, None, not, ◌&&◌, ◌||◌, slice_get}
+use Rattle.std.specs.Prelude.{Option, Some, None, not, ◌||◌, slice_get}
 use Rattle.std.specs.List.{filter, find, flat_map, list_any}
 use Rattle.dep_core.specs.Dependency.{Dependency}
 use Rattle.pool_core.specs.Candidates.{entry}
@@ -21,11 +21,6 @@ pub filtered : {X : Type 0} (p : X → Bool) (xs ys : List X) → filter p (xs +
 filtered p [] ys = refl
 filtered {X} p (x ∷ xs) ys = elim (bool_cases (p x)) [ inl t ↦ rw t (ap (λ (z : List X). x ∷ z) (filtered p xs ys)) | inr t ↦ rw t (filtered p xs ys) ]
 
--- one of those that pass a test
-pub any_filter : {X : Type 0} (q p : X → Bool) (xs : List X) → list_any p (filter q xs) ≡ list_any (λ x. q x && p x) xs
-any_filter q p [] = refl
-any_filter q p (x ∷ xs) = elim (bool_cases (q x)) [ inl t ↦ rw t (ap (λ b. p x || b) (any_filter q p xs)) | inr t ↦ rw t (any_filter q p xs) ]
-
 pub mapped : {X Y : Type 0} (f : X → Y) (xs ys : List X) → map f (xs ++ ys) ≡ map f xs ++ map f ys
 mapped f [] ys = refl
 mapped {X} {Y} f (x ∷ xs) ys = ap (λ (z : List Y). f x ∷ z) (mapped f xs ys)
@@ -45,9 +40,9 @@ queued_more by start before after done more d was is e =
     ∙ (append_assoc start (raised_deps by done) (raised_deps by (d ∷ []))
     ∙ ap (λ (z : List RaisedDepValue). start ++ z) (sym (raised_needs-append by done (d ∷ [])) ∙ ap (raised_deps by) (sym e))))
 
-flat_more : (f : ℕ → List RaisedDepValue) (t : List ℕ) (c : ℕ) → flat_map f (t ++ c ∷ []) ≡ flat_map f t ++ f c
+pub flat_more : {X : Type 0} (f : ℕ → List X) (t : List ℕ) (c : ℕ) → flat_map f (t ++ c ∷ []) ≡ flat_map f t ++ f c
 flat_more f [] c = append-nil (f c)
-flat_more f (x ∷ t) c = ap (λ (z : List RaisedDepValue). f x ++ z) (flat_more f t c) ∙ sym (append_assoc (f x) (flat_map f t) (f c))
+flat_more {X} f (x ∷ t) c = ap (λ (z : List X). f x ++ z) (flat_more f t c) ∙ sym (append_assoc (f x) (flat_map f t) (f c))
 
 pub queue_more : (pool : SealedPool) (t : List ℕ) (c : ℕ) → queue_of pool (t ++ c ∷ []) ≡ queue_of pool t ++ raised_deps_at pool c
 queue_more pool t c =

@@ -1,7 +1,7 @@
 -- Choices that meet the entries of an install-if.
-use Rattle.std.proofs.Common.{◌≡◌, inl, inr, ℕ, Bool, true, false, List, [], ◌∷◌, ◌++◌, map, refl, sym, subst, ap, ◌∙◌}
-use Rattle.std.specs.Prelude.{Option, Some, None, ◌&&◌, is_some, MatchOption}
-use Rattle.std.specs.List.{list_all}
+use Rattle.std.proofs.Common.{◌≡◌, inl, inr, ℕ, zero, suc, ◌+◌, true, false, List, [], ◌∷◌, ◌++◌, take, refl, sym, subst, ap, ◌∙◌}
+use Rattle.std.specs.Prelude.{Option, Some, None, is_some, slice_get, MatchOption}
+use Rattle.pool_core.proofs.Steps.{take_one_more}
 use Rattle.dep_core.specs.Dependency.{Dependency}
 use Rattle.pool_core.specs.Candidates.{Need, entry}
 use Rattle.pool_core.specs.Rank.{SealedPool, meets_at}
@@ -9,12 +9,8 @@ use Rattle.pool_core.specs.Options.{IsMember}
 use Rattle.solve_core.specs.Selection.{AreMembers, is_met}
 use Rattle.solve_core.specs.InstallIf.{all_met}
 use Rattle.solve_core.proofs.Theory.{in_left, in_right, in_append}
-use Rattle.solve_core.proofs.PoolFacts.{met_mono}
+use Rattle.solve_core.proofs.PoolFacts.{bool_cases, met_mono}
 use Rattle.solve_core.proofs.Satisfying.{and_true, one_any}
-
-pub all_map : {X Y : Type 0} (p : Y → Bool) (f : X → Y) (xs : List X) → list_all p (map f xs) ≡ list_all (λ x. p (f x)) xs
-all_map p f [] = refl
-all_map p f (x ∷ xs) = ap (λ b. p (f x) && b) (all_map p f xs)
 
 module _ (pool : SealedPool) where
   pub is_met_by : (t : List ℕ) (need : Need) (o : Option ℕ) → MatchOption o (is_met pool t need ≡ false) (λ id. IsMember id t × (meets_at pool id need ≡ true)) → is_some o ≡ is_met pool t need
@@ -41,16 +37,28 @@ module _ (pool : SealedPool) where
       rw (met_mono pool (entry x) t u sub b.0) (all_mono t u xs sub b.1)
 
   -- one more entry is met by those chosen of the choices
-  pub raisers_more : (X : Type 0) (seen : X → Dependency) (t before after : List ℕ) (done more : List X) (x : X) → more ≡ done ++ x ∷ [] → (all_met pool t (map seen done) ≡ true → all_met pool before (map seen done) ≡ true) → AreMembers before after → (is_met pool t (entry (seen x)) ≡ true → is_met pool after (entry (seen x)) ≡ true) → all_met pool t (map seen more) ≡ true → all_met pool after (map seen more) ≡ true
-  raisers_more X seen t before after done more x is was sub one h =
-      let e : map seen more ≡ map seen done ++ seen x ∷ [] = ap (map seen) is ∙ map_one done in
-      let s = all_split t (map seen done) (seen x ∷ []) (ap (all_met pool t) (sym e) ∙ h) in
-      let last = and_true (is_met pool t (entry (seen x))) true s.1 in
-      ap (all_met pool after) e ∙ all_join after (map seen done) (seen x ∷ []) (all_mono before after (map seen done) sub (was s.0)) (rw (one last.0) refl)
-    where
-      map_one : (xs : List X) → map seen (xs ++ x ∷ []) ≡ map seen xs ++ seen x ∷ []
-      map_one [] = refl
-      map_one (y ∷ xs) = ap (λ (z : List Dependency). seen y ∷ z) (map_one xs)
+  pub raisers_more : (t before after : List ℕ) (deps : List Dependency) (i : ℕ) (d : Dependency) → slice_get deps i ≡ Some d → (all_met pool t (take i deps) ≡ true → all_met pool before (take i deps) ≡ true) → AreMembers before after → (is_met pool t (entry d) ≡ true → is_met pool after (entry d) ≡ true) → all_met pool t (take (i + 1) deps) ≡ true → all_met pool after (take (i + 1) deps) ≡ true
+  raisers_more t before after deps i d here was sub one h =
+      let e : take (i + 1) deps ≡ take i deps ++ d ∷ [] = take_one_more deps i d here in
+      let s = all_split t (take i deps) (d ∷ []) (ap (all_met pool t) (sym e) ∙ h) in
+      let last = and_true (is_met pool t (entry d)) true s.1 in
+      ap (all_met pool after) e ∙ all_join after (take i deps) (d ∷ []) (all_mono before after (take i deps) sub (was s.0)) (rw (one last.0) refl)
+
+  -- a step of a loop in which each is met, and one that is not
+  pub all_met_on : (t : List ℕ) (deps : List Dependency) (i : ℕ) (d : Dependency) → slice_get deps i ≡ Some d → all_met pool t (take i deps) ≡ true → is_met pool t (entry d) ≡ true → all_met pool t (take (i + 1) deps) ≡ true
+  all_met_on t deps i d here was one = ap (all_met pool t) (take_one_more deps i d here) ∙ all_join t (take i deps) (d ∷ []) was (rw one refl)
+
+  pub one_not_met : (t : List ℕ) (deps : List Dependency) (i : ℕ) (d : Dependency) → slice_get deps i ≡ Some d → is_met pool t (entry d) ≡ false → all_met pool t deps ≡ false
+  one_not_met t [] zero d here unmet = absurd (cc)
+  one_not_met t [] (suc i) d here unmet = absurd (cc)
+  one_not_met t (x ∷ xs) zero d here unmet =
+      let e : x ≡ d = cc in
+      let n : is_met pool t (entry x) ≡ false = subst (λ (z : Dependency). is_met pool t (entry z) ≡ false) (sym e) unmet in
+      rw n refl
+  one_not_met t (x ∷ xs) (suc i) d here unmet = elim (bool_cases (is_met pool t (entry x))) [
+    | inl e ↦ rw e (one_not_met t xs i d here unmet)
+    | inr e ↦ rw e refl
+  ]
 
   pub pushed_within : (by new t : List ℕ) (id : ℕ) → new ≡ by ++ id ∷ [] → IsMember id t → AreMembers by t → AreMembers new t
   pushed_within by new t id is there sub c h = elim (in_append c by (id ∷ []) (subst (λ (z : List ℕ). IsMember c z) is h)) [

@@ -1,17 +1,14 @@
 -- What a search keeps.
-use Rattle.std.specs.Prelude.{◌≡◌, ◌⊎◌, ◌<◌, length, ℕ, Bool, true, List, [], ◌∷◌, ◌++◌}
-use Rattle.dep_core.specs.Dependency.{Dependency}
+use Rattle.std.specs.Prelude.{◌≡◌, ◌<◌, length, ℕ, true, List, [], ◌∷◌, ◌++◌}
 use Rattle.pool_core.specs.Candidates.{Need}
 use Rattle.pool_core.specs.Rank.{SealedPool, is_eligible_at, is_better, meets_at}
-use Rattle.pool_core.specs.Options.{IsMember, IsBestFirst, options_for, places_offering}
+use Rattle.pool_core.specs.Options.{IsMember, IsBestFirst, options_for}
+use Rattle.solve_core.specs.Excluders.{AreListed}
 use Rattle.solve_core.specs.InstallIf.{AreInstallIfs, AreUnasked}
-use Rattle.solve_core.specs.NameTable.{items_of}
 use Rattle.solve_core.specs.Queue.{AreMet, queue_of}
-use Rattle.solve_core.specs.Selection.{AreMembers, depends_at}
 use Rattle.solve_core.specs.declared.queue.Checkpoint.{Checkpoint}
 use Rattle.solve_core.specs.Reasons.{FrameValue, AreCompatible, AreTurnsFrom, choices_in}
 use Rattle.solve_core.specs.declared.choices.Choices.{Choices}
-use Rattle.solve_core.specs.declared.conflicts.Conflicts.{Conflicts}
 
 abbrev pub pool_of : Choices → SealedPool
 pool_of chosen = chosen.pool.now
@@ -32,11 +29,6 @@ AreCheckpoints pool install_ifs u (c ∷ cs) (b ∷ bs) =
     × AreUnasked pool u install_ifs b.asking_cursor
     × AreCheckpoints pool install_ifs (u ++ c ∷ []) cs bs
 
--- the name of each conflict of a candidate that was added leads to the candidate
-abbrev pub AreListed : (ℕ → List Dependency) → Conflicts → Type 0
-AreListed depends conflicts = (c : ℕ) (d : Dependency) → IsMember c conflicts.added →
-    IsMember d (depends c) → d.conflict ≡ true → IsMember c (items_of conflicts.by_name d.name)
-
 -- the queue is of the choices, those in front of the cursors are met and do not ask, the conflicts
 -- of the choices are listed, and each choice can be taken back
 pub record IsConsistent (chosen : Choices) : Type 0 where
@@ -47,16 +39,10 @@ pub record IsConsistent (chosen : Choices) : Type 0 where
       AreInstallIfs (pool_of chosen) (install_ifs_of chosen) chosen.install_ifs.waiting
   pub unasked :
       AreUnasked (pool_of chosen) (choices_of chosen) (install_ifs_of chosen) chosen.asking_cursor
-  pub listed : AreListed (depends_at (pool_of chosen)) chosen.conflicts
-  pub added : AreMembers (choices_of chosen) chosen.conflicts.added
+  pub listed : AreListed (pool_of chosen) (choices_of chosen) chosen.conflicts
   pub checkpoints :
       AreCheckpoints (pool_of chosen) (install_ifs_of chosen) [] (choices_of chosen)
       chosen.checkpoints.items
-
--- it is listed under the name as one that has a conflict, or, where the name is occupied, offers it
-abbrev pub IsAtHand : Choices → List ℕ → Bool → ℕ → Type 0
-IsAtHand chosen name is_occupied k = IsMember k (items_of chosen.conflicts.by_name name)
-    ⊎ ((is_occupied ≡ true) × IsMember k (places_offering name (pool_of chosen).candidates))
 
 -- the turns are those of the choices, each of which was taken from its frame
 pub record IsSearch (chosen : Choices) (turns : List (FrameValue × ℕ)) : Type 0 where

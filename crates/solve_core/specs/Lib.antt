@@ -5,6 +5,8 @@ pub mod Reasons
 pub mod Queue
 pub mod NameTable
 pub mod InstallIf
+pub mod Conflicts
+pub mod Excluders
 pub mod Choices
 pub mod Measure
 pub mod CandidateSet

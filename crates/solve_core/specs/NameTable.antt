@@ -1,5 +1,5 @@
 -- Items by name.
-use Rattle.std.specs.Prelude.{ℕ, List, [], ◌∷◌, map, if◌then◌else◌, Vec}
+use Rattle.std.specs.Prelude.{ℕ, ◌-◌, List, [], ◌∷◌, length, map, take, if◌then◌else◌, Vec}
 use Rattle.std.specs.Global.{Global}
 use Rattle.std.specs.Borrow.{Bor}
 use Rattle.std.specs.Str.{bytes_eq}
@@ -13,3 +13,7 @@ names_and_items {X} entries = map (λ (e : Bor (List ℕ) × Vec X Global). (e.0
 abbrev pub items_of : {X : Type 0} → List (List ℕ × List X) → List ℕ → List X
 items_of [] name = []
 items_of (e ∷ es) name = if bytes_eq name e.0 then e.1 else items_of es name
+
+-- all but the last
+abbrev pub without_last : {X : Type 0} → List X → List X
+without_last xs = take (length xs - 1) xs

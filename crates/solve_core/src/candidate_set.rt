@@ -1,5 +1,5 @@
 //! A list of candidates, each once, that answers at once whether it has one.
-ghost use Rattle.std.specs.Prelude.{◌≡◌, ◌<◌, ◌^◌, ℕ, List, [], ◌∷◌, ◌++◌, false, length, MatchBool, OnOk, vec_len, slice_index_or};
+ghost use Rattle.std.specs.Prelude.{◌≡◌, ◌<◌, ◌^◌, ℕ, List, [], ◌∷◌, ◌++◌, false, length, MatchBool, OnOk, Some, vec_len, slice_index_or};
 ghost use Rattle.pool_core.specs.Options.{IsMember};
 ghost use Rattle.solve_core.specs.Reasons.{HasSameMembers};
 
@@ -103,6 +103,14 @@ impl CandidateSet {
                 self.marks[place] = false;
             }
         }
+    }
+
+    /// The last one.
+    pub(crate) fn last(&self) -> Option<CandId>
+        ensures { (rest : List ℕ) (last : ℕ) → self.now ≡ rest ++ last ∷ [] →
+            result ≡ Some last }
+    {
+        self.ids.last().copied()
     }
 
     /// The candidates, in the order in which they came.

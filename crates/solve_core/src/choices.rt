@@ -1,28 +1,30 @@
-//! The choices so far: the first need that none of them meets, and what excludes a further choice.
-ghost use Rattle.std.specs.Prelude.{◌≡◌, ◌≤◌, ℕ, List, [], ◌∷◌, ◌++◌, ◌<◌, ◌^◌, length, map, IfSome, false, true, IfOk, OnOk, MatchOption, MatchBool, None, Some, ◌+◌, option_copied, slice_get, option_to_list, is_some};
+//! The choices so far: what they raise, and the first need that none of them meets.
+ghost use Rattle.std.specs.Prelude.{◌≡◌, ◌≤◌, ℕ, List, [], ◌∷◌, ◌++◌, ◌<◌, ◌^◌, length, IfSome, false, true, IfOk, OnOk, MatchOption, MatchBool, None, Some, ◌+◌, option_copied, slice_get, option_to_list};
 ghost use Rattle.std.specs.List.{find};
 ghost use Rattle.dep_core.specs.Dependency.{Dependency};
 ghost use Rattle.dep_core.specs.Meets.{dependency};
 ghost use Rattle.pool_core.specs.Candidates.{entry};
 ghost use Rattle.pool_core.specs.Candidates.{offers_name};
-ghost use Rattle.pool_core.specs.Options.{IsMember, options_for, places_offering};
+ghost use Rattle.pool_core.specs.Options.{IsMember, options_for};
 ghost use Rattle.solve_core.specs.InstallIf.{AreUnasked, IsLeastAsking, IsNoneAsking, rank_asks};
 ghost use Rattle.solve_core.specs.NameTable.{items_of};
 ghost use Rattle.solve_core.specs.Queue.{AreMet, is_unmet_dep, queue_of};
-ghost use Rattle.solve_core.specs.Selection.{exclude_each_other, next_need};
+ghost use Rattle.solve_core.specs.Selection.{next_need};
 ghost use Rattle.solve_core.specs.Reasons.{IsFrameOf};
-ghost use Rattle.solve_core.specs.Choices.{IsAtHand, IsConsistent, choices_of, install_ifs_of, pool_of};
+ghost use Rattle.solve_core.specs.Choices.{IsConsistent, choices_of, install_ifs_of, pool_of};
+ghost use Rattle.solve_core.specs.Excluders.{AreListed};
+
+mod excluders;
 
 use crate::candidate_set::CandidateSet;
 use crate::conflicts::Conflicts;
-use crate::exclusion::keeps_out;
 use crate::frame::Frame;
 use crate::install_ifs::InstallIfs;
 use crate::needs::{asks_for_name, is_met_by_latest_or_other, raisers};
 use crate::queue::{Checkpoint, RaisedDep, queue_all, queue_world};
 use crate::selection::Trace;
-use dep_core::{Dep, World};
-use pool_core::{CandId, Details, NeedRef, Sealed};
+use dep_core::World;
+use pool_core::{CandId, Deps, Details, NeedRef, Sealed};
 use std::alloc::{AllocError, Global};
 use std::marker::Model;
 
@@ -86,12 +88,12 @@ impl<'p> Choices<'p> {
             asking_cursor: self.asking_cursor,
         };
         let details = self.pool.details(id);
-        let deps = details.depends(self.alloc)?;
-        queue_all(&mut self.queue, deps, id)?;
-        self.conflicts.add(details.conflicts(), id)?;
+        let depends = details.depends();
+        queue_all(&mut self.queue, &depends, id)?;
+        self.conflicts.add(&depends, id)?;
         self.checkpoints.push(before)?;
         self.choices.push(id)?;
-        self.asking_cursor = self.least_rank_asking(details);
+        self.asking_cursor = self.least_rank_asking(&details);
         Ok(())
     }
 
@@ -104,10 +106,25 @@ impl<'p> Choices<'p> {
             choices_of self.new ≡ rest }
     {
         if let Some(before) = self.checkpoints.pop() {
+            self.take_conflicts_away();
             self.choices.pop();
             self.queue.truncate(before.queue_len);
             self.cursor = before.cursor;
             self.asking_cursor = before.asking_cursor;
+        }
+    }
+
+    // Takes the conflicts of the latest choice away.
+    fn take_conflicts_away(&mut self)
+        requires { AreListed (pool_of self.old) (choices_of self.old) self.old.conflicts }
+        ensures others { self.new ≡ record self.old { conflicts = self.new.conflicts } }
+        ensures listed { (rest : List ℕ) (last : ℕ) → choices_of self.old ≡ rest ++ last ∷ [] →
+            AreListed (pool_of self.old) rest self.new.conflicts }
+    {
+        if let Some(id) = self.choices.last() {
+            if let Some(details) = self.pool.at(id) {
+                self.conflicts.take_away(&details.depends());
+            }
         }
     }
 
@@ -224,7 +241,7 @@ impl<'p> Choices<'p> {
     {
         match self.install_ifs.at(self.asking_cursor) {
             None => false,
-            Some(id) => !asks_for_name(self.pool, &self.choices, self.pool.at(id)),
+            Some(id) => !asks_for_name(self.pool, &self.choices, id),
         }
     }
 
@@ -238,7 +255,7 @@ impl<'p> Choices<'p> {
             (choices_of self.now) frame) }
     {
         let details = self.pool.details(id);
-        let by = raisers(self.alloc, self.pool, &self.choices, details.install_if())?;
+        let by = raisers(self.alloc, self.pool, &self.choices, &details.install_if())?;
         let options = self
             .pool
             .options_for(self.alloc, &NeedRef::Named(details.name()))?;
@@ -252,7 +269,7 @@ impl<'p> Choices<'p> {
     {
         match self.install_ifs.at(rank) {
             None => false,
-            Some(id) => asks_for_name(self.pool, &self.choices, self.pool.at(id)),
+            Some(id) => asks_for_name(self.pool, &self.choices, id),
         }
     }
 
@@ -266,20 +283,20 @@ impl<'p> Choices<'p> {
             ≡ false }
     {
         let own = self.least_rank_waiting(details.name(), self.asking_cursor);
-        self.least_rank_provided(details.provides(), own)
+        self.least_rank_provided(&details.provides(), own)
     }
 
     // A rank, or the least one in front of it that asks and waits for a name of these entries.
-    fn least_rank_provided(&self, provides: &[Dep<'_>], cursor: usize) -> usize
+    fn least_rank_provided(&self, provides: &Deps<'_>, cursor: usize) -> usize
         ensures less { result ≤ cursor }
-        ensures unasked { (d : Dependency) (rank : ℕ) → IsMember d (map dependency provides.now) →
+        ensures unasked { (d : Dependency) (rank : ℕ) → IsMember d provides.now →
             IsMember rank (items_of self.now.install_ifs.waiting d.name) → rank < result →
             rank_asks (pool_of self.now) (choices_of self.now) (install_ifs_of self.now) rank
             ≡ false }
     {
         let mut least = cursor;
-        for entry in provides {
-            least = self.least_rank_waiting(entry.name, least);
+        for i in 0..provides.len() {
+            least = self.least_rank_waiting(provides.get(i).name, least);
         }
         least
     }
@@ -309,148 +326,6 @@ impl<'p> Choices<'p> {
             return rank;
         }
         least
-    }
-
-    /// A choice that no satisfying selection holds beside the candidate. It is looked for among
-    /// those that have a conflict of a name which the candidate offers, that offer a name which it
-    /// occupies, or that offer the name of one of its conflicts.
-    pub(crate) fn excluder(&self, id: CandId) -> Option<CandId>
-        requires consistent { IsConsistent self.now }
-        requires within { id < length (pool_of self.now).candidates }
-        ensures { MatchOption result ((other : ℕ) → IsMember other (choices_of self.now) →
-            exclude_each_other (pool_of self.now) other id
-            ≡ false) (λ other. IsMember other (choices_of self.now)
-            × (exclude_each_other (pool_of self.now) other id ≡ true)) }
-    {
-        let details = self.pool.details(id);
-        if let Some(excluder) = self.excluder_named(details.name(), true, id) {
-            return Some(excluder);
-        }
-        if let Some(excluder) = self.excluder_provided(details.provides(), id) {
-            return Some(excluder);
-        }
-        self.excluder_offering(details.conflicts(), id)
-    }
-
-    // One of some candidates that is a choice and excludes another, or is excluded by it. It is
-    // looked for among all choices where these are fewer.
-    fn excluder_among(&self, ids: &[CandId], id: CandId) -> Option<CandId>
-        requires consistent { IsConsistent self.now }
-        requires within { id < length (pool_of self.now).candidates }
-        ensures { MatchOption result ((k : ℕ) → IsMember k ids.now →
-            IsMember k (choices_of self.now) → exclude_each_other (pool_of self.now) k id
-            ≡ false) (λ other. IsMember other (choices_of self.now)
-            × (exclude_each_other (pool_of self.now) other id ≡ true)) }
-    {
-        let choices = self.choices.as_slice();
-        if choices.len() < ids.len() {
-            return self.first_excluder(choices, id);
-        }
-        self.first_excluder(ids, id)
-    }
-
-    fn first_excluder(&self, ids: &[CandId], id: CandId) -> Option<CandId>
-        requires consistent { IsConsistent self.now }
-        requires within { id < length (pool_of self.now).candidates }
-        ensures { MatchOption result ((k : ℕ) → IsMember k ids.now →
-            IsMember k (choices_of self.now) → exclude_each_other (pool_of self.now) k id
-            ≡ false) (λ other. IsMember other (choices_of self.now)
-            × (exclude_each_other (pool_of self.now) other id ≡ true)) }
-    {
-        for other in ids {
-            if self.is_excluding_choice(*other, id) {
-                return Some(*other);
-            }
-        }
-        None
-    }
-
-    // The same among the candidates that have a conflict of a name, and, where it is occupied,
-    // those that offer it.
-    fn excluder_named(&self, name: &[u8], is_occupied: bool, id: CandId) -> Option<CandId>
-        requires consistent { IsConsistent self.now }
-        requires within { id < length (pool_of self.now).candidates }
-        ensures { MatchOption result ((k : ℕ) → IsAtHand self.now name.now is_occupied k →
-            IsMember k (choices_of self.now) → exclude_each_other (pool_of self.now) k id
-            ≡ false) (λ other. IsMember other (choices_of self.now)
-            × (exclude_each_other (pool_of self.now) other id ≡ true)) }
-    {
-        if let Some(excluder) = self.excluder_among(self.conflicts.get(name), id) {
-            return Some(excluder);
-        }
-        if is_occupied {
-            return self.excluder_among(self.pool.offers(name), id);
-        }
-        None
-    }
-
-    // The same at the names of some entries of provides: those with a version are occupied.
-    fn excluder_provided(&self, provides: &[Dep<'_>], id: CandId) -> Option<CandId>
-        requires consistent { IsConsistent self.now }
-        requires within { id < length (pool_of self.now).candidates }
-        ensures { MatchOption result ((p : Dependency) (k : ℕ) →
-            IsMember p (map dependency provides.now) →
-            IsAtHand self.now p.name (is_some p.version) k →
-            IsMember k (choices_of self.now) → exclude_each_other (pool_of self.now) k id
-            ≡ false) (λ other. IsMember other (choices_of self.now)
-            × (exclude_each_other (pool_of self.now) other id ≡ true)) }
-    {
-        for entry in provides {
-            match self.excluder_named(entry.name, entry.version.is_some(), id) {
-                Some(excluder) => return Some(excluder),
-                None => {}
-            }
-        }
-        None
-    }
-
-    // The same among the candidates that offer the name of a conflict.
-    fn excluder_offering(&self, conflicts: &[Dep<'_>], id: CandId) -> Option<CandId>
-        requires consistent { IsConsistent self.now }
-        requires within { id < length (pool_of self.now).candidates }
-        ensures { MatchOption result ((d : Dependency) (k : ℕ) →
-            IsMember d (map dependency conflicts.now) →
-            IsMember k (places_offering d.name (pool_of self.now).candidates) →
-            IsMember k (choices_of self.now) → exclude_each_other (pool_of self.now) k id
-            ≡ false) (λ other. IsMember other (choices_of self.now)
-            × (exclude_each_other (pool_of self.now) other id ≡ true)) }
-    {
-        for dep in conflicts {
-            match self.excluder_among(self.pool.offers(dep.name), id) {
-                Some(excluder) => return Some(excluder),
-                None => {}
-            }
-        }
-        None
-    }
-
-    fn is_excluding_choice(&self, other: CandId, id: CandId) -> bool
-        requires consistent { IsConsistent self.now }
-        requires within { id < length (pool_of self.now).candidates }
-        ensures { MatchBool result (IsMember other (choices_of self.now)
-            × (exclude_each_other (pool_of self.now) other id
-            ≡ true)) (IsMember other (choices_of self.now) →
-            exclude_each_other (pool_of self.now) other id ≡ false) }
-    {
-        if self.choices.has(other) {
-            return self.is_excluder(other, id);
-        }
-        false
-    }
-
-    // Whether no satisfying selection has both.
-    fn is_excluder(&self, other: CandId, id: CandId) -> bool
-        requires other { other < length (pool_of self.now).candidates }
-        requires within { id < length (pool_of self.now).candidates }
-        ensures { result ≡ exclude_each_other (pool_of self.now) other id }
-    {
-        if other == id {
-            return false;
-        }
-        let one = self.pool.details(other);
-        let two = self.pool.details(id);
-        let first = keeps_out(one, two);
-        first || keeps_out(two, one)
     }
 
     /// The choices, in their order.

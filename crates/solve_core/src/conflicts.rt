@@ -1,56 +1,132 @@
-//! The candidates that have conflicts, by the names of these.
-ghost use Rattle.std.specs.Prelude.{◌≡◌, ℕ, List, [], filter, map, OnOk};
+//! The conflicts of the choices by their names, and what excludes a further candidate: a choice
+//! that has a conflict which it meets, that meets one of its own, or that occupies a name of its.
+ghost use Rattle.std.specs.Prelude.{◌≡◌, ◌∷◌, ◌++◌, ℕ, List, [], OnOk, find};
+ghost use Rattle.std.specs.Option.{option_map};
 ghost use Rattle.dep_core.specs.Dependency.{Dependency};
 ghost use Rattle.dep_core.specs.Meets.{dependency};
-ghost use Rattle.pool_core.specs.Options.{AreMembers, IsMember};
-ghost use Rattle.pool_core.specs.Wanted.{is_conflict};
-ghost use Rattle.solve_core.specs.Choices.{AreListed};
+ghost use Rattle.pool_core.specs.Candidates.{meets_dependency};
+ghost use Rattle.solve_core.specs.Conflicts.{conflicts_named};
 ghost use Rattle.solve_core.specs.NameTable.{items_of};
 
-use crate::candidate_set::CandidateSet;
 use crate::name_table::NameTable;
 use dep_core::Dep;
-use pool_core::CandId;
+use pool_core::{CandId, Deps, Details, Sealed};
 use std::alloc::{AllocError, Global};
+use std::marker::Model;
 
-/// The candidates that were added, and, for each name, those of them that have a conflict of it.
+/// A conflict, and the choice that has it.
+#[derive(Drop)]
+pub(crate) struct ListedConflict<'p> {
+    by: CandId,
+    dep: Dep<'p>,
+}
+
+impl<'p> Model for ListedConflict<'p> {
+    ghost use Rattle.std.specs.Prelude.{ℕ};
+    ghost use Rattle.dep_core.specs.Dependency.{Dependency};
+    ghost use Rattle.dep_core.specs.Meets.{dependency};
+
+    ghost Value = { ℕ × Dependency };
+
+    ghost view = { λ listed. (listed.by, dependency listed.dep) };
+}
+
+impl<'p> ListedConflict<'p> {
+    // The choice that has it.
+    fn by(&self) -> CandId
+        ensures { result ≡ self.now.0 }
+    {
+        self.by
+    }
+
+    // Whether a candidate meets it.
+    fn is_met_by(&self, details: &Details<'_>) -> bool
+        ensures { result ≡ meets_dependency self.now.1 details.now }
+    {
+        details.meets(&self.dep)
+    }
+}
+
+/// The conflicts of the choices, by their names, in the order of the choices.
 #[derive(Drop)]
 pub(crate) struct Conflicts<'p> {
-    by_name: NameTable<'p, CandId>,
-    added: CandidateSet,
+    by_name: NameTable<'p, ListedConflict<'p>>,
 }
 
 impl<'p> Conflicts<'p> {
-    /// No candidates.
+    /// No conflicts.
     pub(crate) fn new(alloc: Global) -> Conflicts<'p>
-        ensures none { result.added ≡ [] }
+        ensures { result.by_name ≡ [] }
     {
         Conflicts {
             by_name: NameTable::new(alloc),
-            added: CandidateSet::new(alloc),
         }
     }
 
-    /// Adds a candidate with these conflicts, unless it was added before.
-    pub(crate) fn add(&mut self, conflicts: &'p [Dep<'p>], id: CandId) -> Result<(), AllocError>
-        ensures more { OnOk result (AreMembers self.old.added self.new.added) }
-        ensures one { OnOk result (IsMember id self.new.added) }
-        ensures listed { OnOk result ((depends : ℕ → List Dependency) →
-            filter is_conflict (depends id) ≡ map dependency conflicts.entry.now →
-            AreListed depends self.old → AreListed depends self.new) }
+    /// Adds the conflicts of a candidate.
+    pub(crate) fn add(&mut self, depends: &Deps<'p>, by: CandId) -> Result<(), AllocError>
+        ensures { OnOk result ((name : List ℕ) → items_of self.new.by_name name
+            ≡ items_of self.old.by_name name ++ conflicts_named name by depends.now) }
     {
-        if self.added.has(id) {
-            return Ok(());
+        for i in 0..depends.len() {
+            self.add_one(depends.get(i), by)?;
         }
-        self.by_name.add_all(conflicts, id)?;
-        self.added.push(id)?;
         Ok(())
     }
 
-    /// The candidates that have a conflict of a name.
-    pub(crate) fn get(&self, name: &[u8]) -> &[CandId]
-        ensures { result.now ≡ items_of self.now.by_name name.now }
+    // Adds a dependency of a candidate, if it is a conflict.
+    fn add_one(&mut self, dep: Dep<'p>, by: CandId) -> Result<(), AllocError>
+        ensures { OnOk result ((name : List ℕ) → items_of self.new.by_name name
+            ≡ items_of self.old.by_name name
+            ++ conflicts_named name by (dependency dep.entry ∷ [])) }
     {
-        self.by_name.get(name)
+        if !dep.conflict {
+            return Ok(());
+        }
+        self.by_name.add(dep.name, ListedConflict { by, dep })?;
+        Ok(())
+    }
+
+    /// Takes the conflicts of the candidate away that was added last.
+    pub(crate) fn take_away(&mut self, depends: &Deps<'_>)
+        ensures { (by : ℕ) (front : List ℕ → List (ℕ × Dependency)) →
+            ((name : List ℕ) → items_of self.old.by_name name
+            ≡ front name ++ conflicts_named name by depends.now) →
+            (name : List ℕ) → items_of self.new.by_name name ≡ front name }
+    {
+        let mut left = depends.len();
+        while left > 0 {
+            left -= 1;
+            self.take_one_away(&depends.get(left));
+        }
+    }
+
+    // Takes the last conflict of a name away, if the dependency is a conflict.
+    fn take_one_away(&mut self, dep: &Dep<'_>)
+        ensures { (by : ℕ) (front : List ℕ → List (ℕ × Dependency)) →
+            ((name : List ℕ) → items_of self.old.by_name name
+            ≡ front name ++ conflicts_named name by (dependency dep.now ∷ [])) →
+            (name : List ℕ) → items_of self.new.by_name name ≡ front name }
+    {
+        if dep.conflict {
+            self.by_name.pop(dep.name);
+        }
+    }
+
+    /// A choice that has a conflict of a name which a candidate meets.
+    pub(crate) fn choice_against(&self, name: &[u8], details: &Details<'_>) -> Option<CandId>
+        ensures { result ≡ option_map (λ (c : ℕ × Dependency). c.0)
+            (find (λ (c : ℕ × Dependency). meets_dependency c.1 details.now)
+            (items_of self.now.by_name name.now)) }
+    {
+        let found = self
+            .by_name
+            .get(name)
+            .iter()
+            .find(|listed| listed.is_met_by(details));
+        match found {
+            None => None,
+            Some(listed) => Some(listed.by()),
+        }
     }
 }

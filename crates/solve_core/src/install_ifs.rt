@@ -7,7 +7,7 @@ ghost use Rattle.solve_core.specs.InstallIf.{AreInstallIfs, has_lesser_name, ins
 ghost use Rattle.solve_core.specs.NameTable.{items_of};
 
 use crate::name_table::NameTable;
-use pool_core::{CandId, Sealed};
+use pool_core::{CandId, Deps, Sealed};
 use std::alloc::{AllocError, Global};
 use std::cmp::Ordering;
 
@@ -91,7 +91,24 @@ fn add_install_if<'p>(
         IsMember rank (items_of waiting.new d.name)) }
 {
     if let Some(details) = pool.at(id) {
-        waiting.add_all(details.install_if(), rank)?;
+        add_entries(waiting, &details.install_if(), rank)?;
+    }
+    Ok(())
+}
+
+// Adds a rank behind those of the name of each of some dependencies.
+fn add_entries<'p>(
+    waiting: &mut NameTable<'p, usize>,
+    deps: &Deps<'p>,
+    rank: usize,
+) -> Result<(), AllocError>
+    ensures more { OnOk result ((name : List ℕ) →
+        AreMembers (items_of waiting.old name) (items_of waiting.new name)) }
+    ensures each { OnOk result ((d : Dependency) → IsMember d deps.now →
+        IsMember rank (items_of waiting.new d.name)) }
+{
+    for i in 0..deps.len() {
+        waiting.add(deps.get(i).name, rank)?;
     }
     Ok(())
 }

@@ -7,7 +7,6 @@
 mod candidate_set;
 mod choices;
 mod conflicts;
-mod exclusion;
 mod frame;
 mod install_ifs;
 mod laws;

@@ -1,12 +1,8 @@
 //! Items by name, each name's in the order in which they were added. It borrows the names.
-ghost use Rattle.std.specs.Prelude.{◌≡◌, ℕ, List, [], ◌∷◌, ◌++◌, map, OnOk, if◌then◌else◌};
+ghost use Rattle.std.specs.Prelude.{◌≡◌, ℕ, List, [], ◌∷◌, ◌++◌, OnOk, if◌then◌else◌};
 ghost use Rattle.std.specs.Str.{bytes_eq};
-ghost use Rattle.dep_core.specs.Dependency.{Dependency};
-ghost use Rattle.dep_core.specs.Meets.{dependency};
-ghost use Rattle.pool_core.specs.Options.{AreMembers, IsMember};
-ghost use Rattle.solve_core.specs.NameTable.{items_of};
+ghost use Rattle.solve_core.specs.NameTable.{items_of, without_last};
 
-use dep_core::Dep;
 use indexmap::IndexMap;
 use std::alloc::{AllocError, Global};
 use std::marker::Model;
@@ -27,7 +23,7 @@ impl<'p, T> Model for NameTable<'p, T> {
     ghost view = { λ t. names_and_items t.by_name.entries };
 }
 
-impl<'p, T: Copy> NameTable<'p, T> {
+impl<'p, T: Drop> NameTable<'p, T> {
     /// No items.
     pub(crate) fn new(alloc: Global) -> NameTable<'p, T>
         ensures { result ≡ [] }
@@ -68,16 +64,15 @@ impl<'p, T: Copy> NameTable<'p, T> {
         }
     }
 
-    /// Adds an item behind those of the name of each of some dependencies.
-    pub(crate) fn add_all(&mut self, deps: &'p [Dep<'p>], item: T) -> Result<(), AllocError>
-        ensures more { OnOk result ((name : List ℕ) →
-            AreMembers (items_of self.old name) (items_of self.new name)) }
-        ensures each { OnOk result ((d : Dependency) → IsMember d (map dependency deps.entry.now) →
-            IsMember item (items_of self.new d.name)) }
+    /// Takes the last item of a name away.
+    pub(crate) fn pop(&mut self, name: &[u8])
+        ensures { (other : List ℕ) → items_of self.new other
+            ≡ (if bytes_eq other name.now then without_last (items_of self.old other)
+            else items_of self.old other) }
     {
-        for dep in deps {
-            self.add(dep.name, item)?;
-        }
-        Ok(())
+        let Some(items) = self.by_name.get_mut(name) else {
+            return;
+        };
+        items.pop();
     }
 }

@@ -1,18 +1,16 @@
 //! Which choices meet a need, and which install-if applies.
-ghost use Rattle.std.specs.Prelude.{◌≡◌, ℕ, false, true, MatchBool, MatchOption, map, IfOk, OnOk, option_copied};
+ghost use Rattle.std.specs.Prelude.{◌≡◌, ℕ, false, true, MatchBool, MatchOption, IfOk, OnOk};
 ghost use Rattle.dep_core.specs.Meets.{dependency};
-ghost use Rattle.pool_core.specs.Candidates.{entry, meets_need, need_name};
+ghost use Rattle.pool_core.specs.Candidates.{entry, meets_need, need_name, occupies_name};
 ghost use Rattle.pool_core.specs.Options.{IsMember, places_offering};
-ghost use Rattle.pool_core.specs.Rank.{meets_at};
+ghost use Rattle.pool_core.specs.Rank.{is_at, meets_at};
 ghost use Rattle.pool_core.specs.Values.{need_by};
 ghost use Rattle.solve_core.specs.Selection.{is_met, AreMembers};
-ghost use Rattle.std.specs.Option.{option_map_or};
-ghost use Rattle.std.specs.List.{list_all};
-ghost use Rattle.solve_core.specs.InstallIf.{all_met, asks_for_name};
+ghost use Rattle.solve_core.specs.InstallIf.{all_met, asks_at, asks_for_name};
 
 use crate::candidate_set::CandidateSet;
 use dep_core::Dep;
-use pool_core::{CandId, Details, NeedRef, Sealed};
+use pool_core::{CandId, Deps, Details, NeedRef, Sealed};
 use std::alloc::{AllocError, Global};
 
 /// A choice that meets a need. It is looked for among all choices where these are fewer than the
@@ -84,7 +82,7 @@ fn meets(pool: &Sealed<'_>, id: CandId, need: &NeedRef<'_>) -> bool
 {
     match pool.at(id) {
         None => false,
-        Some(details) => meets_need(details, need),
+        Some(details) => meets_need(&details, need),
     }
 }
 
@@ -128,42 +126,34 @@ fn latest_meets(pool: &Sealed<'_>, choices: &[CandId], need: &NeedRef<'_>) -> bo
 }
 
 /// Whether each entry of a candidate's install-if is met, and no choice has its name.
-pub(crate) fn asks_for_name(
-    pool: &Sealed<'_>,
-    choices: &CandidateSet,
-    details: Option<&Details<'_>>,
-) -> bool
-    ensures { result ≡ option_map_or (asks_for_name pool.now choices.now)
-        (option_copied details.entry) false }
+pub(crate) fn asks_for_name(pool: &Sealed<'_>, choices: &CandidateSet, id: CandId) -> bool
+    ensures { result ≡ asks_at pool.now choices.now id }
 {
-    match details {
+    match pool.at(id) {
         None => false,
-        Some(details) => wants(pool, choices, details),
+        Some(details) => wants(pool, choices, &details),
     }
 }
 
 fn wants(pool: &Sealed<'_>, choices: &CandidateSet, details: &Details<'_>) -> bool
     ensures { result ≡ asks_for_name pool.now choices.now details.now }
 {
-    if !all_met(pool, choices, details.install_if()) {
+    if !all_met(pool, choices, &details.install_if()) {
         return false;
     }
     !is_met(pool, choices, &NeedRef::Named(details.name()))
 }
 
 // Whether each of some dependencies is met.
-#[tactic(auto, using(crate::proofs::Raisers::all_map))]
-fn all_met(pool: &Sealed<'_>, choices: &CandidateSet, deps: &[Dep<'_>]) -> bool
-    ensures { result ≡ all_met pool.now choices.now (map dependency deps.now) }
+fn all_met(pool: &Sealed<'_>, choices: &CandidateSet, deps: &Deps<'_>) -> bool
+    ensures { result ≡ all_met pool.now choices.now deps.now }
 {
-    each_met(pool, choices, deps)
-}
-
-fn each_met(pool: &Sealed<'_>, choices: &CandidateSet, deps: &[Dep<'_>]) -> bool
-    ensures { result ≡ list_all (λ dep. is_met pool.now choices.now (entry
-        (dependency dep))) deps.now }
-{
-    deps.iter().all(|dep| is_dep_met(pool, choices, dep))
+    for i in 0..deps.len() {
+        if !is_dep_met(pool, choices, &deps.get(i)) {
+            return false;
+        }
+    }
+    true
 }
 
 fn is_dep_met(pool: &Sealed<'_>, choices: &CandidateSet, dep: &Dep<'_>) -> bool
@@ -177,15 +167,15 @@ pub(crate) fn raisers(
     alloc: Global,
     pool: &Sealed<'_>,
     choices: &CandidateSet,
-    deps: &[Dep<'_>],
+    deps: &Deps<'_>,
 ) -> Result<Vec<CandId>, AllocError>
     ensures within { IfOk result (λ by. AreMembers by.items choices.now) }
-    ensures met { IfOk result (λ by. all_met pool.now choices.now (map dependency deps.now)
-        ≡ true → all_met pool.now by.items (map dependency deps.now) ≡ true) }
+    ensures met { IfOk result (λ by. all_met pool.now choices.now deps.now ≡ true →
+        all_met pool.now by.items deps.now ≡ true) }
 {
     let mut by = Vec::new(alloc);
-    for dep in deps {
-        push_met(&mut by, pool, choices, dep)?;
+    for i in 0..deps.len() {
+        push_met(&mut by, pool, choices, &deps.get(i))?;
     }
     Ok(by)
 }
@@ -208,5 +198,58 @@ fn push_met(
             by.push(id)?;
             Ok(())
         }
+    }
+}
+
+/// A choice that occupies a name. It is looked for among all choices where these are fewer than
+/// the candidates that offer the name.
+pub(crate) fn occupant(pool: &Sealed<'_>, choices: &CandidateSet, name: &[u8]) -> Option<CandId>
+    ensures { MatchOption result ((k : ℕ) → IsMember k choices.now →
+        is_at pool.now (occupies_name name.now) k ≡ false) (λ id. IsMember id choices.now
+        × (is_at pool.now (occupies_name name.now) id ≡ true)) }
+{
+    let offers = pool.offers(name);
+    if choices.as_slice().len() < offers.len() {
+        return occupant_among(pool, choices, choices.as_slice(), name);
+    }
+    occupant_among(pool, choices, offers, name)
+}
+
+// The first of some candidates that is a choice and occupies a name.
+fn occupant_among(
+    pool: &Sealed<'_>,
+    choices: &CandidateSet,
+    ids: &[CandId],
+    name: &[u8],
+) -> Option<CandId>
+    ensures { MatchOption result ((k : ℕ) → IsMember k ids.now → IsMember k choices.now →
+        is_at pool.now (occupies_name name.now) k ≡ false) (λ id. IsMember id choices.now
+        × (is_at pool.now (occupies_name name.now) id ≡ true)) }
+{
+    for id in ids {
+        if is_choice_occupying(pool, choices, *id, name) {
+            return Some(*id);
+        }
+    }
+    None
+}
+
+fn is_choice_occupying(pool: &Sealed<'_>, choices: &CandidateSet, id: CandId, name: &[u8]) -> bool
+    ensures { MatchBool result (IsMember id choices.now
+        × (is_at pool.now (occupies_name name.now) id ≡ true)) (IsMember id choices.now →
+        is_at pool.now (occupies_name name.now) id ≡ false) }
+{
+    if choices.has(id) {
+        return occupies(pool, id, name);
+    }
+    false
+}
+
+fn occupies(pool: &Sealed<'_>, id: CandId, name: &[u8]) -> bool
+    ensures { result ≡ is_at pool.now (occupies_name name.now) id }
+{
+    match pool.at(id) {
+        None => false,
+        Some(details) => details.occupies(name),
     }
 }

@@ -1,10 +1,10 @@
 //! The dependencies that world and the choices raise, in the order in which they are to be met.
-ghost use Rattle.std.specs.Prelude.{◌≡◌, ◌∷◌, ◌++◌, [], map, OnOk, None, Some};
+ghost use Rattle.std.specs.Prelude.{◌≡◌, ◌∷◌, ◌++◌, [], OnOk, None, Some};
 ghost use Rattle.dep_core.specs.Meets.{dependency};
 ghost use Rattle.solve_core.specs.Queue.{raised_deps};
 
 use dep_core::{Dep, World};
-use pool_core::CandId;
+use pool_core::{CandId, Deps};
 use std::alloc::AllocError;
 use std::marker::Model;
 
@@ -65,14 +65,14 @@ pub(crate) fn queue_world<'p>(
 /// Queues the dependencies of a choice that are no conflicts.
 pub(crate) fn queue_all<'p>(
     queue: &mut Vec<RaisedDep<'p>>,
-    deps: Vec<Dep<'p>>,
+    deps: &Deps<'p>,
     by: CandId,
 ) -> Result<(), AllocError>
     ensures { OnOk result (queue.new.items ≡ queue.old.items
-        ++ raised_deps (Some by) (map dependency deps.entry.items)) }
+        ++ raised_deps (Some by) deps.now) }
 {
-    for dep in deps {
-        queue_one(queue, dep, Some(by))?;
+    for i in 0..deps.len() {
+        queue_one(queue, deps.get(i), Some(by))?;
     }
     Ok(())
 }

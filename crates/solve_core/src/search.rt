@@ -2,7 +2,7 @@
 ghost use Rattle.std.specs.Prelude.{◌≡◌, ◌<◌, ◌^◌, ◌≤◌, ◌==◌, not, filter, ℕ, [], ◌∷◌, ◌++◌, false, true, length, IfOk, OnOk, IfSome, MatchOption, None, Some, slice_get};
 ghost use Rattle.pool_core.specs.Options.{IsMember};
 ghost use Rattle.solve_core.specs.Selection.{AreMembers, exclude_each_other, next_need};
-ghost use Rattle.solve_core.specs.Reasons.{AreCompatible, IsReason, HasSameMembers, RulesOut, IsFrameOf, IsSpentFrame, IsFrameTaking, dead_end_reason};
+ghost use Rattle.solve_core.specs.Reasons.{AreCompatible, FrameValue, IsReason, HasSameMembers, RulesOut, IsFrameOf, IsSpentFrame, IsFrameTaking, dead_end_reason};
 ghost use Rattle.solve_core.specs.Measure.{weight_of};
 ghost use Rattle.solve_core.specs.Choices.{IsSearch, choices_of, pool_of};
 
@@ -107,6 +107,7 @@ impl<'p> Search<'p> {
     fn reason_against(&self, id: CandId) -> Result<Option<Vec<CandId>>, AllocError>
         requires search { IsSearch self.now.chosen self.now.turns.items }
         requires within { id < length (pool_of self.now.chosen).candidates }
+        requires once { IsMember id (choices_of self.now.chosen) → ⊥ }
         ensures { IfOk result (λ found. MatchOption found ((other : ℕ) →
             IsMember other (choices_of self.now.chosen) →
             exclude_each_other (pool_of self.now.chosen) other id ≡ false)
@@ -217,20 +218,35 @@ impl<'p> Search<'p> {
     {
         options_are_as_promised();
         let last = std::mem::replace(&mut self.reason, CandidateSet::new(self.alloc));
-        let found = reason_of(last, &spent)?;
-        let members = &found;
+        self.reason = reason_of(last, &spent)?;
+        self.step_back_for_reason()
+    }
+
+    // Steps back to the latest choice in the reason, and rules that out.
+    fn step_back_for_reason(&mut self) -> Result<Option<Frame>, AllocError>
+        requires search { IsSearch self.old.chosen self.old.turns.items }
+        requires within { AreMembers self.old.reason (choices_of self.old.chosen) }
+        requires dead { IsReason (pool_of self.old.chosen) self.old.reason }
+        ensures pool { pool_of self.new.chosen ≡ pool_of self.old.chosen }
+        ensures found { IfOk result (λ found. MatchOption found (IsReason
+            (pool_of self.old.chosen) [])
+            (λ frame. IsSearch self.new.chosen self.new.turns.items
+            × IsFrameOf (pool_of self.new.chosen) (choices_of self.new.chosen) frame)) }
+        ensures lighter { (spent : FrameValue) → IfOk result (λ found. IfSome found
+            (λ frame. weight_of self.new.turns.items frame < weight_of self.old.turns.items
+            spent)) }
+    {
         while let Some(turn) = self.turns.pop() {
             self.chosen.pop();
             let Turn { mut frame, choice } = turn;
-            if members.has(choice) {
-                let others = without(self.alloc, members, choice)?;
+            if self.reason.has(choice) {
+                let others = without(self.alloc, &self.reason, choice)?;
                 let hint = Hint {
                     turn: self.turns.len(),
                     place: frame.ruled_out().len(),
                 };
                 remember(&mut self.hints, choice, hint)?;
                 frame.rule_out(choice, others)?;
-                self.reason = found;
                 return Ok(Some(frame));
             }
         }

@@ -1,5 +1,4 @@
-use Rattle.std.proofs.Common.{◌≡◌, ◌∙◌, ℕ, List, [], true, map, sym, ap}
-use Rattle.dep_core.specs.Meets.{dependency}
+use Rattle.std.proofs.Common.{◌≡◌, ◌∙◌, ℕ, List, [], true, sym, ap}
 use Rattle.pool_core.specs.Candidates.{named}
 use Rattle.pool_core.specs.Options.{options_for}
 use Rattle.solve_core.specs.InstallIf.{all_met}
@@ -14,9 +13,9 @@ pub returns-clause-frame : goal.returns-clause-frame
 returns-clause-frame c =
     let pool = pool_of c.args.self.now in
     let t : List ℕ = choices_of c.args.self.now in
-    let details = c.details-details.result.now in
+    let details = c.details-details.result in
     let by : List ℕ = c.in_ok-by.by.items in
-    let deps : map dependency c.install_if.result.now ≡ details.install_if = c.install_if.ensures in
+    let deps : c.install_if.result ≡ details.install_if = c.install_if.ensures in
     let all : all_met pool by details.install_if ≡ true =
     ap (all_met pool by) (sym deps) ∙ c.in_ok-by.ensures.met (ap (all_met pool t) deps ∙ asks_all pool t c.args.id details c.requires.least c.details-details.ensures) in
     let options : c.into_ids.result.items ≡ options_for pool (named details.name) =

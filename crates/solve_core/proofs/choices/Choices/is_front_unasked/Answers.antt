@@ -1,8 +1,4 @@
-use Rattle.std.proofs.Common.{◌∙◌, false, ap, sym}
-use Rattle.std.specs.Prelude.{Option}
-use Rattle.std.specs.Option.{option_map_or}
-use Rattle.pool_core.specs.Candidates.{Candidate}
-use Rattle.solve_core.specs.InstallIf.{asks_for_name}
+use Rattle.std.proofs.Common.{sym}
 use Rattle.solve_core.specs.Choices.{choices_of, install_ifs_of, pool_of}
 use Rattle.solve_core.proofs.Asking.{front_of, front_past}
 use Rattle.solve_core.proofs.choices.Choices.is_front_unasked.Goals as goal
@@ -10,7 +6,7 @@ use Rattle.solve_core.proofs.choices.Choices.is_front_unasked.Goals as goal
 pub returns-in-Some : goal.returns-in-Some
 returns-in-Some c =
     front_of (pool_of c.args.self.now) (choices_of c.args.self.now) (install_ifs_of c.args.self.now) c.args.self.now.install_ifs.waiting c.args.self.now.asking_cursor c.in-Some.id c.asks_for_name.result
-    c.requires.install_ifs c.requires.unasked (sym c.in-Some.ensures) (c.asks_for_name.ensures ∙ ap (λ (o : Option Candidate). option_map_or (asks_for_name (pool_of c.args.self.now) (choices_of c.args.self.now)) o false) c.at-in-Some.ensures)
+    c.requires.install_ifs c.requires.unasked (sym c.in-Some.ensures) c.asks_for_name.ensures
 
 pub returns-in-None : goal.returns-in-None
 returns-in-None c =

@@ -9,4 +9,4 @@ pub returns-clause-consistent : goal.returns-clause-consistent
 returns-clause-consistent c =
     consistent_start _ c.new-2.ensures
     (c.in_ok-queue_world.ensures ∙ (ap (λ (z : List RaisedDepValue). z ++ raised_deps None c.args.world.now) c.new-queue.ensures.items ∙ ap (λ (d : List Dependency). [] ++ raised_deps None d) c.requires))
-    refl refl c.in_ok-install_ifs.ensures c.new-3.ensures.none c.new-4.ensures.items
+    refl refl c.in_ok-install_ifs.ensures c.new-3.ensures c.new-4.ensures.items

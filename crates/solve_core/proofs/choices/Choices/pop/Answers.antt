@@ -1,6 +1,7 @@
-use Rattle.std.proofs.Common.{◌≡◌, ◌∙◌, ℕ, List, [], ◌∷◌, take, subst, sym, ap, refl, arith}
+use Rattle.std.proofs.Common.{◌≡◌, ◌∙◌, ℕ, List, [], ◌∷◌, take, subst, sym, ap, arith}
 use Rattle.solve_core.specs.Queue.{queue_of, raised_deps_at}
 use Rattle.solve_core.specs.Choices.{AreCheckpoints, choices_of, install_ifs_of, pool_of}
+use Rattle.solve_core.specs.declared.choices.Choices.{Choices}
 use Rattle.solve_core.specs.declared.queue.Checkpoint.{Checkpoint}
 use Rattle.solve_core.proofs.Theory.{in_left}
 use Rattle.solve_core.proofs.Steps.{empty_list}
@@ -17,12 +18,20 @@ returns-in-Some-clause-consistent c =
     let before = c.in-Some.before in
     let less = checkpoints_less pool order [] old c.pop.new.self.items before (subst (λ (z : List Checkpoint). AreCheckpoints pool order [] old z) c.in-Some.ensures.items c.requires.checkpoints) in
     let rest = less.0 in
-    let is : c.pop-in-Some.new.self ≡ rest = c.pop-in-Some.ensures.last rest less.1 less.2 in
+    let others = c.take_conflicts_away.ensures.others in
+    let is : c.pop-in-Some.new.self ≡ rest = c.pop-in-Some.ensures.last rest less.1 (ap choices_of others ∙ less.2) in
     let queue : c.truncate.new.self.items ≡ queue_of pool rest =
-    c.truncate.ensures.items ∙ (ap (take before.queue_len) (c.requires.queue ∙ (ap (queue_of pool) less.2 ∙ queue_more pool rest less.1)) ∙ take_front (queue_of pool rest) (raised_deps_at pool less.1) before.queue_len less.4.0) in
+    c.truncate.ensures.items ∙ (ap (take before.queue_len) (ap (λ (z : Choices). z.queue.items) others ∙ (c.requires.queue ∙ (ap (queue_of pool) less.2 ∙ queue_more pool rest less.1))) ∙ take_front (queue_of pool rest) (raised_deps_at pool less.1) before.queue_len less.4.0) in
     let front : (k : ℕ) → IsMember k rest → IsMember k old = λ k h. subst (λ (z : List ℕ). IsMember k z) (sym less.2) (in_left k rest (less.1 ∷ []) h) in
-    consistent_by c.args.self.now _ rest (record { pool = refl; choices = is; install_ifs = refl }) c.requires.install_ifs
-    (λ k h. c.requires.within k (front k h)) queue less.4.1 less.4.2 c.requires.listed (λ k h. c.requires.added k (front k h)) less.3
+    consistent_by c.args.self.now _ rest (record { pool = ap pool_of others; choices = is; install_ifs = ap (λ (z : Choices). z.install_ifs) others }) c.requires.install_ifs
+    (λ k h. c.requires.within k (front k h)) queue less.4.1 less.4.2 (c.take_conflicts_away.ensures.listed rest less.1 less.2)
+    (subst (λ (z : List Checkpoint). AreCheckpoints pool order [] rest z) (sym (ap (λ (z : Choices). z.checkpoints.items) others)) less.3)
+
+pub returns-in-Some-clause-pool : goal.returns-in-Some-clause-pool
+returns-in-Some-clause-pool c = ap pool_of c.take_conflicts_away.ensures.others
+
+pub returns-in-Some-clause-choices : goal.returns-in-Some-clause-choices
+returns-in-Some-clause-choices c = λ rest last e. c.pop-in-Some.ensures.last rest last (ap choices_of c.take_conflicts_away.ensures.others ∙ e)
 
 pub returns-in_default-clause-choices : goal.returns-in_default-clause-choices
 returns-in_default-clause-choices c = λ rest last e.

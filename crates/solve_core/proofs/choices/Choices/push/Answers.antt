@@ -1,11 +1,8 @@
-use Rattle.std.proofs.Common.{◌≡◌, ◌∙◌, List, ℕ, [], false, sym, subst, ap, refl, arith, map}
+use Rattle.std.proofs.Common.{◌≡◌, ◌∙◌, List, ℕ, [], false, sym, subst, ap, refl, arith}
 use Rattle.std.specs.Prelude.{Option}
-use Rattle.std.specs.List.{filter}
 use Rattle.std.specs.Option.{option_map_or}
 use Rattle.dep_core.specs.Dependency.{Dependency}
-use Rattle.dep_core.specs.Meets.{dependency}
 use Rattle.pool_core.specs.Candidates.{Candidate}
-use Rattle.pool_core.specs.Wanted.{is_conflict}
 use Rattle.solve_core.specs.InstallIf.{rank_asks}
 use Rattle.solve_core.specs.Selection.{depends_at}
 use Rattle.solve_core.specs.Choices.{choices_of, install_ifs_of, pool_of}
@@ -17,12 +14,11 @@ pub returns-clause-consistent : goal.returns-clause-consistent
 returns-clause-consistent c =
     let pool = pool_of c.args.self.now in
     let order : List ℕ = install_ifs_of c.args.self.now in
-    let deps : List Dependency = map dependency c.in_ok-deps.deps.items in
-    let read : depends_at pool c.args.id ≡ c.details-details.result.now.depends = ap (λ (o : Option Candidate). option_map_or (λ (k : Candidate). k.depends) o []) c.details-details.ensures in
-    let is : deps ≡ depends_at pool c.args.id = c.in_ok-deps.ensures ∙ sym read in
-    let conflicts : filter is_conflict (depends_at pool c.args.id) ≡ map dependency c.conflicts.result.now = ap (filter is_conflict) read ∙ sym c.conflicts.ensures in
-    let unasked = unasked_more pool (choices_of c.args.self.now) c.args.id c.details-details.result.now order c.args.self.now.install_ifs.waiting c.args.self.now.asking_cursor c.least_rank_asking-self.result
+    let details : Candidate = c.details-details.result in
+    let deps : List Dependency = c.depends-depends.result in
+    let is : deps ≡ depends_at pool c.args.id = c.depends-depends.ensures ∙ sym (ap (λ (o : Option Candidate). option_map_or (λ (k : Candidate). k.depends) o []) c.details-details.ensures) in
+    let unasked = unasked_more pool (choices_of c.args.self.now) c.args.id details order c.args.self.now.install_ifs.waiting c.args.self.now.asking_cursor c.least_rank_asking-self.result
     c.requires.consistent.install_ifs c.details-details.ensures c.requires.consistent.unasked c.least_rank_asking-self.ensures.less
     (λ name rank offers waits low. subst (λ (z : List ℕ). rank_asks pool z order rank ≡ false) c.in_ok-push-2.ensures (c.least_rank_asking-self.ensures.unasked name rank offers waits low)) in
     consistent_more c.args.self.now _ c.args.id deps _ c.requires.consistent c.requires.within is (record { pool = refl; choices = c.in_ok-push-2.ensures; install_ifs = refl }) c.in_ok-queue_all.ensures refl c.in_ok-push.ensures.items
-    (omega (arith, c.len.ensures, c.args.self.now.queue.ok)) refl refl unasked (c.in_ok-add.ensures.listed (depends_at pool) conflicts c.requires.consistent.listed) c.in_ok-add.ensures.more c.in_ok-add.ensures.one
+    (omega (arith, c.len.ensures, c.args.self.now.queue.ok)) refl refl unasked c.in_ok-add.ensures

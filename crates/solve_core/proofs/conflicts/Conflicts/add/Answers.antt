@@ -1,16 +1,22 @@
-use Rattle.std.proofs.Common.{[], ◌∷◌, inl, refl, ℕ, List, map, subst, sym}
+use Rattle.std.proofs.Common.{◌≡◌, ◌≤◌, ◌++◌, List, length, subst, sym, arith, append-nil}
+use Rattle.std.proofs.lemmas.List.{take_all}
+use Rattle.dep_core.specs.Dependency.{Dependency}
 use Rattle.dep_core.specs.Meets.{dependency}
-use Rattle.pool_core.specs.Options.{IsMember}
-use Rattle.solve_core.proofs.ConflictNames.{listed_more}
-use Rattle.solve_core.proofs.Theory.{in_left, in_right}
+use Rattle.solve_core.specs.Conflicts.{conflicts_named}
+use Rattle.solve_core.specs.NameTable.{items_of}
+use Rattle.solve_core.proofs.ConflictTables.{listed_on}
 use Rattle.solve_core.proofs.conflicts.Conflicts.add.Goals as goal
 
-pub returns-clause-more : goal.returns-clause-more
-returns-clause-more c = λ k h. subst (λ (z : List ℕ). IsMember k z) (sym c.in_ok-push.ensures) (in_left k c.args.self.now.added (c.args.id ∷ []) h)
+pub loop-i-init : goal.loop-i-init
+loop-i-init c = λ name. sym (append-nil (items_of c.args.self.now.by_name name))
 
-pub returns-clause-one : goal.returns-clause-one
-returns-clause-one c = subst (λ (z : List ℕ). IsMember c.args.id z) (sym c.in_ok-push.ensures) (in_right c.args.id c.args.self.now.added (c.args.id ∷ []) (inl refl))
+pub loop-i-preserved : goal.loop-i-preserved
+loop-i-preserved c = λ name.
+    listed_on name c.args.by c.args.depends.now c.loop-i.i (dependency c.get.result) (items_of c.args.self.now.by_name name) (items_of c.loop-i.self.by_name name) (items_of c.add_one.new.self.by_name name)
+    c.get.ensures (c.loop-i.invariant name) (c.in_ok-add_one.ensures name)
 
-pub returns-clause-listed : goal.returns-clause-listed
-returns-clause-listed c = λ depends is was.
-    listed_more depends c.args.self.now _ c.args.id (map dependency c.args.conflicts.now) is was c.in_ok-push.ensures c.in_ok-add_all.ensures.more c.in_ok-add_all.ensures.each
+pub returns : goal.returns
+returns c =
+    let deps : List Dependency = c.args.depends.now in
+    let past : length deps ≤ c.loop-i.i = omega arith in
+    λ name. subst (λ (z : List Dependency). items_of c.loop-i.self.by_name name ≡ items_of c.args.self.now.by_name name ++ conflicts_named name c.args.by z) (take_all c.loop-i.i deps past) (c.loop-i.invariant name)

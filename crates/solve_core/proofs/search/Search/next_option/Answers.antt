@@ -4,7 +4,7 @@ use Rattle.solve_core.specs.declared.choices.Choices.{Choices}
 use Rattle.solve_core.specs.Reasons.{FrameValue, AreCompatible, IsFrameOf, IsSpentFrame, IsFrameTaking}
 use Rattle.solve_core.proofs.Steps.{taken_of_open, spent_of_open, fits_in}
 use Rattle.solve_core.proofs.Turns.{passed_over}
-use Rattle.solve_core.proofs.Consistency.{taken_within}
+use Rattle.solve_core.proofs.Consistency.{taken_once, taken_within}
 use Rattle.solve_core.proofs.search.Search.next_option.Goals as goal
 
 pub returns-in-None-clause-found : goal.returns-in-None-clause-found
@@ -41,4 +41,11 @@ reason_against-requires-clause-within c =
     let pool = pool_of c.loop-id.self.chosen in
     let chosen = choices_of c.loop-id.self.chosen in
     taken_within pool (λ need. c.options_are_as_promised.ensures pool need) chosen c.take_next.new.self c.in-Some.id
+    (taken_of_open pool chosen c.loop-id.top c.take_next.new.self c.in-Some.id c.loop-id.invariant.open_now c.in-Some.ensures.ruled_out c.in-Some.ensures.left c.in-Some.ensures.by)
+
+pub reason_against-requires-clause-once : goal.reason_against-requires-clause-once
+reason_against-requires-clause-once c =
+    let pool = pool_of c.loop-id.self.chosen in
+    let chosen = choices_of c.loop-id.self.chosen in
+    taken_once pool (λ need. c.options_are_as_promised.ensures pool need) chosen c.take_next.new.self c.in-Some.id
     (taken_of_open pool chosen c.loop-id.top c.take_next.new.self c.in-Some.id c.loop-id.invariant.open_now c.in-Some.ensures.ruled_out c.in-Some.ensures.left c.in-Some.ensures.by)

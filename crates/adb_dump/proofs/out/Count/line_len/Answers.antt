@@ -1,7 +1,0 @@
-use Rattle.std.proofs.Common.{ℕ, List, length, sym, ap, ◌∙◌}
-use Rattle.adb_dump.specs.Dump.{text_form}
-use Rattle.adb_dump.proofs.out.Count.line_len.Goals as goal
-
-pub returns-in-Some-clause-len : goal.returns-in-Some-clause-len
-returns-in-Some-clause-len c payload text kept =
-    kept c.args.word c.in-Some.len (sym c.kept_len.ensures ∙ c.in-Some.is) ∙ ap (λ (bytes : List ℕ). length (text_form bytes)) (sym text)

@@ -1,0 +1,241 @@
+//! What the text is put into: its bytes, or only a count of them.
+
+ghost use Rattle.std.specs.Prelude.{◌≡◌, ℕ, ◌+◌, List, [], IfOk, OnOk, length};
+ghost use Rattle.std.specs.BTreeMap.{get};
+ghost use Rattle.std.specs.Ordering.{nat_cmp};
+ghost use Rattle.hex.specs.Hex.{encode_lower};
+ghost use Rattle.adb_view.specs.Adb.{payload_of};
+ghost use Rattle.adb_dump.specs.Dump.{text_form};
+ghost use Rattle.adb_dump.specs.Out.{AreLineLengths, Puts, PutsForAny};
+ghost use Rattle.adb_tables.specs.Values.{text_in, value_at};
+ghost use Rattle.adb_tables.specs.declared.tables.Kind.TheVariants as Kinds;
+
+use crate::line::{write_hex, write_text};
+use adb_view::{Adb, Val};
+use std::alloc::{AllocError, Global};
+use std::collections::BTreeMap;
+
+/// How many bytes a text has at most whose length in a line is counted at each place.
+const SHORT: usize = 64;
+
+/// What bytes are put into, one piece behind another.
+pub(crate) trait Out {
+    ghost use Rattle.std.specs.Prelude.{ℕ, List};
+
+    /// Whether just these bytes may have been put in, where texts are those of a payload.
+    ghost holds: { List ℕ → Self → List ℕ → Type 0 };
+
+    /// Puts bytes behind those that were put in before.
+    fn put(&mut self, bytes: &[u8]) -> Result<(), AllocError>
+        ensures { OnOk result (PutsForAny holds self.old self.new bytes.now) };
+}
+
+/// What the blobs of a payload are put into, as they stand in lines.
+pub(crate) trait BlobOut: Out {
+    /// Puts the text of a word.
+    fn put_text(&mut self, adb: Adb<'_>, word: Val, text: &[u8]) -> Result<(), AllocError>
+        requires { text.now ≡ text_in (value_at (payload_of adb) Kinds.Text word) }
+        ensures { OnOk result (Puts (Self.holds (payload_of adb.entry)) self.old self.new
+            (text_form text.now)) };
+
+    /// Puts a hash.
+    fn put_hash(&mut self, hash: &[u8]) -> Result<(), AllocError>
+        ensures { OnOk result (PutsForAny Self.holds self.old self.new (encode_lower hash.now)) };
+}
+
+/// The bytes themselves.
+impl Out for Vec<u8> {
+    ghost use Rattle.std.specs.Prelude.{◌≡◌};
+
+    ghost holds = { λ _ out bytes. out.items ≡ bytes };
+
+    fn put(&mut self, bytes: &[u8]) -> Result<(), AllocError> {
+        self.extend_from_slice(bytes)
+    }
+}
+
+impl BlobOut for Vec<u8> {
+    fn put_text(&mut self, _adb: Adb<'_>, _word: Val, text: &[u8]) -> Result<(), AllocError> {
+        write_text(self, text)
+    }
+
+    fn put_hash(&mut self, hash: &[u8]) -> Result<(), AllocError> {
+        write_hex(self, hash)
+    }
+}
+
+/// The bytes themselves, as long as there is room.
+#[derive(Drop)]
+pub(crate) struct Room {
+    pub(crate) bytes: Vec<u8>,
+    /// How many bytes more may come.
+    left: usize,
+}
+
+impl Room {
+    /// Memory for so many bytes.
+    pub(crate) fn new(alloc: Global, bytes: usize) -> Result<Room, AllocError>
+        ensures { IfOk result (λ room. room.bytes.items ≡ []) }
+    {
+        Ok(Room {
+            bytes: Vec::with_capacity(alloc, bytes)?,
+            left: bytes,
+        })
+    }
+}
+
+impl Out for Room {
+    ghost use Rattle.std.specs.Prelude.{◌≡◌};
+
+    ghost holds = { λ _ out bytes. out.bytes.items ≡ bytes };
+
+    fn put(&mut self, bytes: &[u8]) -> Result<(), AllocError> {
+        self.left = self.left.checked_sub(bytes.len()).ok_or(AllocError)?;
+        self.bytes.extend_from_slice(bytes)
+    }
+}
+
+impl BlobOut for Room {
+    fn put_text(&mut self, _adb: Adb<'_>, _word: Val, text: &[u8]) -> Result<(), AllocError> {
+        write_text(self, text)
+    }
+
+    fn put_hash(&mut self, hash: &[u8]) -> Result<(), AllocError> {
+        write_hex(self, hash)
+    }
+}
+
+/// How many bytes were put in.
+#[derive(Drop)]
+pub(crate) struct Length {
+    pub(crate) bytes: usize,
+}
+
+impl Length {
+    /// So many bytes more.
+    fn add(&mut self, bytes: usize) -> Result<(), AllocError>
+        ensures { OnOk result (self.new.bytes ≡ self.old.bytes + bytes) }
+    {
+        self.bytes = self.bytes.checked_add(bytes).ok_or(AllocError)?;
+        Ok(())
+    }
+}
+
+impl Out for Length {
+    ghost use Rattle.std.specs.Prelude.{◌≡◌, length};
+
+    ghost holds = { λ _ out bytes. out.bytes ≡ length bytes };
+
+    fn put(&mut self, bytes: &[u8]) -> Result<(), AllocError> {
+        self.add(bytes.len())
+    }
+}
+
+/// How many bytes are counted before memory for so many is tried.
+const MUCH: usize = 1 << 30;
+
+/// How many bytes were put in, and how long the long texts are in lines, by their words. Many
+/// places may share a text, so a long one is counted once.
+#[derive(Drop)]
+pub(crate) struct Count {
+    pub(crate) len: Length,
+    lens: BTreeMap<u32, usize>,
+    alloc: Global,
+    /// Up to how many bytes no memory is tried.
+    room: usize,
+}
+
+impl Count {
+    ghost use Rattle.adb_dump.specs.Out.{AreLineLengths, StayLineLengths};
+
+    /// Nothing was put in.
+    pub(crate) fn new(alloc: Global) -> Count
+        ensures none { result.len.bytes ≡ 0 }
+        ensures lens { (payload : List ℕ) → AreLineLengths payload result.lens }
+    {
+        Count {
+            len: Length { bytes: 0 },
+            lens: BTreeMap::new(alloc),
+            alloc,
+            room: MUCH,
+        }
+    }
+
+    /// So many bytes more. Where much was counted, memory for it is tried and given back: without
+    /// it the count need not go on.
+    fn add(&mut self, bytes: usize) -> Result<(), AllocError>
+        ensures len { OnOk result (self.new.len.bytes ≡ self.old.len.bytes + bytes) }
+        ensures lens { self.new.lens ≡ self.old.lens }
+    {
+        self.len.add(bytes)?;
+        if self.len.bytes > self.room {
+            let _tried: Vec<u8> = Vec::with_capacity(self.alloc, self.len.bytes)?;
+            self.room = self.len.bytes.saturating_mul(2);
+        }
+        Ok(())
+    }
+
+    /// How long the text of a word is in a line. The length of each text is kept.
+    fn line_len(&mut self, word: Val, text: &[u8]) -> Result<usize, AllocError>
+        ensures len { IfOk result (λ len. (payload : List ℕ)
+            → text.now ≡ text_in (value_at payload Kinds.Text word)
+            → AreLineLengths payload self.old.lens → len ≡ length (text_form text.now)) }
+        ensures kept { StayLineLengths self.old.lens self.new.lens word text.now }
+        ensures put { self.new.len ≡ self.old.len }
+    {
+        if let Some(len) = self.kept_len(word) {
+            return Ok(len);
+        }
+        let len = line_len(text)?;
+        self.lens.insert(word.word(), len)?;
+        Ok(len)
+    }
+
+    /// The length that is kept of the text of a word, if it is.
+    fn kept_len(&self, word: Val) -> Option<usize>
+        ensures { result ≡ get nat_cmp self.now.lens word }
+    {
+        self.lens.get(&word.word()).copied()
+    }
+}
+
+/// How long a text is in a line.
+fn line_len(text: &[u8]) -> Result<usize, AllocError>
+    ensures { IfOk result (λ len. len ≡ length (text_form text.now)) }
+{
+    let mut len = Length { bytes: 0 };
+    write_text(&mut len, text)?;
+    Ok(len.bytes)
+}
+
+impl Out for Count {
+    ghost use Rattle.std.specs.Prelude.{◌≡◌, length};
+    ghost use Rattle.adb_dump.specs.Out.{AreLineLengths};
+
+    ghost holds = { λ payload out bytes. (out.len.bytes ≡ length bytes)
+        × AreLineLengths payload out.lens };
+
+    fn put(&mut self, bytes: &[u8]) -> Result<(), AllocError> {
+        self.add(bytes.len())?;
+        Ok(())
+    }
+}
+
+impl BlobOut for Count {
+    fn put_text(&mut self, _adb: Adb<'_>, word: Val, text: &[u8]) -> Result<(), AllocError> {
+        if text.len() <= SHORT {
+            write_text(self, text)?;
+            return Ok(());
+        }
+        let len = self.line_len(word, text)?;
+        self.add(len)?;
+        Ok(())
+    }
+
+    fn put_hash(&mut self, hash: &[u8]) -> Result<(), AllocError> {
+        // Two digits for each byte.
+        self.add(hash.len())?;
+        self.add(hash.len())?;
+        Ok(())
+    }
+}

@@ -1,0 +1,173 @@
+-- Only a bad intent is refused as one.
+use Rattle.std.proofs.Common.{◌≡◌, ◌⊎◌, inl, inr, ◌∙◌, ℕ, Bool, true, false, List, Option, Some, None, Result, Ok, Err, refl, sym, ap, subst}
+use Rattle.std.specs.Prelude.{if◌then◌else◌}
+use Rattle.std.proofs.lemmas.Bool.{false≢true}
+use Rattle.adb_rules.specs.Reserved.{is_reserved}
+use Rattle.adb_schema.specs.Soundness.{first_fault, payload_in, root_value}
+use Rattle.adb_fields.specs.Repeated.{entries_at}
+use Rattle.adb_tables.specs.declared.tables.Which.TheVariants.{Idb}
+use Rattle.adb_view.specs.Plain.{Plain}
+use Rattle.base_core.specs.Files.{Files}
+use Rattle.base_core.specs.declared.cause.Cause.{Cause}
+use Rattle.change_inputs.specs.Chains.{and_then, unless_cause}
+use Rattle.change_inputs.specs.Database.{Database, container_database, database_by, new_database, payload_database, root_database}
+use Rattle.change_inputs.specs.Inputs.{database_for}
+use Rattle.change_outcome.specs.ChangeOutcome.{ChangeDone}
+use Rattle.command_core.specs.Command.{CommandLine}
+use Rattle.command_core.specs.declared.command.Applet.{Applet}
+use Rattle.command_core.specs.declared.command.Applet.TheVariants.{Demo, Mkndx, Mkpkg}
+use Rattle.engine_core.specs.Changed.{Selected, change_of_selected}
+use Rattle.engine_core.specs.InfoTold.{info_told}
+use Rattle.installed_info.specs.Info.{info_of}
+use Rattle.installed_info.specs.Refusals.{IsOfAnOperand}
+use Rattle.installed_info.specs.declared.telling.InfoDone.{InfoDone}
+use Rattle.make_info.specs.Output.{output_name}
+use Rattle.make_info.specs.Reads.{Reads as Reading}
+use Rattle.make_info.specs.declared.fault.MakeFault.{MakeFault}
+use Rattle.make_info.specs.declared.fault.MakeFault.TheVariants.{FileMissing as NoFile, FileBad as BadFile, InfoBad as BadInfo, TooLarge, Disk, Memory}
+use Rattle.report_core.specs.declared.refusal.Refusal.{Refusal}
+use Rattle.report_core.specs.declared.refusal.Refusal.TheVariants.{DatabaseBad, IntentBad, Reserved, Unsatisfied}
+use Rattle.v2_core.specs.declared.read.V2Fault.{V2Fault}
+use Rattle.v2_core.specs.declared.read.V2Fault.TheVariants.{Bad, TooLarge as TextTooLarge, Memory as NoMemory}
+use Rattle.words_core.specs.Grammar.{command_of}
+use Rattle.outcome.specs.ChangeEnd.{IsChangeEnd, IsEndBy, is_input_refusal, is_package_refusal}
+use Rattle.outcome.specs.Commands.{IsOutcomeOf, IsOutcomeOver, IsOutcomeUnless, applet_outcome, reads_in}
+use Rattle.outcome.specs.Effect.{Effect, Computes, Reads, Tells, Makes, Changes, does_recover, effect_by, effect_of}
+use Rattle.outcome.specs.Given.{Given}
+use Rattle.outcome.specs.Make.{make_outcome, unless_reserved}
+use Rattle.outcome.specs.Outcome.{Outcome, just_refusal}
+use Rattle.outcome.specs.Telling.{told_outcome}
+use Rattle.outcome.specs.Words.{IsOutcome, IsOutcomeBy, IsOutcomeFor}
+use Rattle.outcome.specs.Work.{recovery_fault, work_files}
+use Rattle.outcome.proofs.Applets.{info_is}
+
+-- it tells something else than a bad intent
+abbrev IsOther : Refusal → Type 0
+IsOther refusal = (cause : Cause) → refusal ≡ IntentBad cause → ⊥
+
+abbrev NamesNoIntent : Outcome → Type 0
+NamesNoIntent o = (cause : Cause) → o.refusal ≡ Some (IntentBad cause) → ⊥
+
+some_same : (a b : Refusal) → Some a ≡ Some b → a ≡ b
+some_same a b is = cc
+
+refused_other : (files : Files) (refusal : Refusal) → IsOther refusal → NamesNoIntent (just_refusal files refusal)
+refused_other files refusal other cause is = other cause (some_same refusal (IntentBad cause) is)
+
+-- ---- a change
+
+input_other : (refusal : Refusal) → is_input_refusal refusal ≡ true → IsOther refusal
+input_other refusal stated cause is = false≢true (sym (ap is_input_refusal is) ∙ stated)
+
+package_other : (refusal : Refusal) → is_package_refusal refusal ≡ true → IsOther refusal
+package_other refusal stated cause is = false≢true (sym (ap is_package_refusal is) ∙ stated)
+
+end_other : (command : CommandLine) (files : Files) (s : Selected) (o : Outcome) (result : Result ChangeDone Refusal) → IsEndBy command files s result o → NamesNoIntent o
+end_other command files s o (Ok done) reported = subst NamesNoIntent (sym reported.outcome) (λ cause is. cc (is))
+end_other command files s o (Err refusal) (stated, is) = subst NamesNoIntent (sym is) (refused_other files refusal (package_other refusal stated))
+
+change_other : (command : CommandLine) (files : Files) (o : Outcome) → IsChangeEnd command files o → NamesNoIntent o
+change_other command files o (inl r) = subst NamesNoIntent (sym r.outcome) (refused_other files r.refusal (input_other r.refusal r.stated))
+change_other command files o (inr (inl none)) = subst NamesNoIntent (sym none.outcome) (refused_other files Unsatisfied (λ cause is. cc (is)))
+change_other command files o (inr (inr takes)) = end_other command files takes.selected o (change_of_selected command (reads_in files) files takes.clash takes.selected) takes.end
+
+-- ---- what is made
+
+reserved_by : (files : Files) (name : List ℕ) (otherwise : Outcome) (b : Bool) → NamesNoIntent otherwise → NamesNoIntent (if b then just_refusal files (Reserved name) else otherwise)
+reserved_by files name otherwise true other = refused_other files (Reserved name) (λ cause is. cc (is))
+reserved_by files name otherwise false other = other
+
+reserved_other : (files : Files) (output : Option (List ℕ)) (otherwise : Outcome) → NamesNoIntent otherwise → NamesNoIntent (unless_reserved files output otherwise)
+reserved_other files None otherwise other = other
+reserved_other files (Some name) otherwise other = reserved_by files name otherwise (is_reserved name) other
+
+made_other : (output : Option (List ℕ)) (report : List ℕ) (files : Files) (made : Result (List ℕ) MakeFault) → NamesNoIntent (make_outcome files output report made)
+made_other output report files (Ok bytes) = reserved_other files output _ (λ cause is. cc (is))
+made_other output report files (Err (NoFile place)) = refused_other files _ (λ cause is. cc (is))
+made_other output report files (Err (BadFile place fault)) = refused_other files _ (λ cause is. cc (is))
+made_other output report files (Err (BadInfo place)) = refused_other files _ (λ cause is. cc (is))
+made_other output report files (Err (TooLarge bytes values)) = reserved_other files output _ (refused_other files _ (λ cause is. cc (is)))
+made_other output report files (Err Disk) = λ cause is. cc (is)
+made_other output report files (Err Memory) = λ cause is. cc (is)
+
+maker_other : (applet : Applet) (command : CommandLine) (given : Given) (read : Reading) (files : Files) → effect_of applet ≡ Makes → NamesNoIntent (applet_outcome applet command given read files)
+maker_other Mkpkg command given read files makes = made_other (output_name command) _ files _
+maker_other Mkndx command given read files makes = made_other (output_name command) _ files _
+maker_other other command given read files makes = absurd (cc (makes))
+
+-- ---- what is told
+
+abbrev ErrIsOther : Result Database Refusal → Type 0
+ErrIsOther (Ok database) = Unit {0}
+ErrIsOther (Err refusal) = IsOther refusal
+
+cause_other : (fault : Option Cause) (database : Database) → ErrIsOther (unless_cause DatabaseBad fault database)
+cause_other None database = tt
+cause_other (Some cause) database = λ other is. cc (is)
+
+payload_other : (payload : Result (List ℕ) V2Fault) → ErrIsOther (payload_database payload)
+payload_other (Ok payload) = tt
+payload_other (Err (Bad cause)) = λ other is. cc (is)
+payload_other (Err (TextTooLarge bytes values)) = λ other is. cc (is)
+payload_other (Err NoMemory) = λ other is. cc (is)
+
+new_other : (may_begin : Bool) → ErrIsOther (new_database may_begin)
+new_other true = tt
+new_other false = λ other is. cc (is)
+
+root_other : (may_begin : Bool) (file text : Option (List ℕ)) → ErrIsOther (root_database may_begin file text)
+root_other may_begin (Some file) text = cause_other (first_fault Idb file) (database_by (entries_at 0 (root_value Idb (payload_in file))) (Some file) false)
+root_other may_begin None (Some text) = payload_other _
+root_other may_begin None None = new_other may_begin
+
+module _ (refused : (c : CommandLine) (packages : List Plain) (refusal : Refusal) → info_of c packages ≡ Err refusal → IsOfAnOperand c.operands refusal)
+    (late : (c : CommandLine) (packages : List Plain) (done : InfoDone) (refusal : Refusal) → info_of c packages ≡ Ok done → done.late ≡ Some refusal → (c.flags.installed ≡ true) × IsOfAnOperand c.operands refusal) where
+  operand_other : (command : CommandLine) (refusal : Refusal) → IsOfAnOperand command.operands refusal → IsOther refusal
+  operand_other command refusal (operand, among, told) cause is = cc (told, is)
+
+  told_other : (command : CommandLine) (packages : List Plain) (files : Files) (told : Result InfoDone Refusal) → info_of command packages ≡ told → NamesNoIntent (told_outcome files told)
+  told_other command packages files (Ok done) is cause behind = operand_other command (IntentBad cause) (late command packages done (IntentBad cause) is behind).1 cause refl
+  told_other command packages files (Err refusal) is = refused_other files refusal (operand_other command refusal (refused command packages refusal is))
+
+  database_other : (command : CommandLine) (files : Files) (database : Result Database Refusal) → ErrIsOther database → NamesNoIntent (told_outcome files (and_then database (λ d. info_of command d.packages)))
+  database_other command files (Ok database) other = told_other command database.packages files (info_of command database.packages) refl
+  database_other command files (Err refusal) other = refused_other files refusal other
+
+  info_other : (command : CommandLine) (read : Reading) (files : Files) → NamesNoIntent (told_outcome files (info_told command read))
+  info_other command read files = database_other command files (database_for command read) (root_other command.flags.initdb _ _)
+
+  -- ---- by the words
+
+  module _ (ends : (command : CommandLine) (files : Files) (o : Outcome) → effect_of command.applet ≡ Changes → IsOutcomeOver command files o → IsChangeEnd command files o) where
+    over_other : (command : CommandLine) (files : Files) (o : Outcome) (effect : Effect) → effect_of command.applet ≡ effect → does_recover effect ≡ true → IsOutcomeOver command files o → NamesNoIntent o
+    over_other command files o Computes at recovers over = absurd (false≢true recovers)
+    over_other command files o Reads at recovers over = absurd (false≢true recovers)
+    over_other command files o Tells at recovers (given, are, is) =
+        subst NamesNoIntent (info_is command.applet command given (reads_in files) files at ∙ sym is) (info_other command (reads_in files) files)
+    over_other command files o Makes at recovers (given, are, is) = subst NamesNoIntent (sym is) (maker_other command.applet command given (reads_in files) files at)
+    over_other command files o Changes at recovers over = change_other command files o (ends command files o at over)
+
+    same_cause : (a b : Cause) → IntentBad a ≡ IntentBad b → a ≡ b
+    same_cause a b is = cc
+
+    unless_other : (command : CommandLine) (files : Files) (o : Outcome) (cause : Cause) (fault : Option Cause) → does_recover (effect_of command.applet) ≡ true → IsOutcomeUnless fault command files o
+        → o.refusal ≡ Some (IntentBad cause) → fault ≡ Some cause
+    unless_other command files o cause (Some bad) recovers is refusal =
+        ap (λ (c : Cause). Some c) (same_cause bad cause (some_same (IntentBad bad) (IntentBad cause) (sym (ap (λ (p : Outcome). p.refusal) is) ∙ refusal)))
+    unless_other command files o cause None recovers over refusal =
+        absurd (over_other command (work_files (effect_of command.applet) files) o (effect_of command.applet) refl recovers over cause refusal)
+
+    -- `demo` does not recover
+    no_demo : (applet : Applet) (command : CommandLine) (files : Files) (o : Outcome) → does_recover (effect_of applet) ≡ true → IsOutcomeFor applet command files o → IsOutcomeOf (Ok command) files o
+    no_demo Demo command files o recovers one = absurd (false≢true recovers)
+    no_demo other command files o recovers one = one
+
+    by_command : (read : Result CommandLine ℕ) (files : Files) (o : Outcome) (cause : Cause) → does_recover (effect_by read) ≡ true → IsOutcomeBy read files o → o.refusal ≡ Some (IntentBad cause)
+        → recovery_fault (effect_by read) files ≡ Some cause
+    by_command (Ok command) files o cause recovers one =
+        unless_other command files o cause (recovery_fault (effect_of command.applet) files) recovers (no_demo command.applet command files o recovers one)
+    by_command (Err place) files o cause recovers one refusal = absurd (false≢true recovers)
+
+    pub refused_bad : (words : List (List ℕ)) (files : Files) (o : Outcome) (cause : Cause) → does_recover (effect_by (command_of words)) ≡ true → IsOutcome words files o → o.refusal ≡ Some (IntentBad cause)
+        → recovery_fault (effect_by (command_of words)) files ≡ Some cause
+    refused_bad words = by_command (command_of words)

@@ -1,0 +1,57 @@
+-- An `info` that is refused is refused for its fault.
+use Rattle.std.proofs.Common.{◌≡◌, inl, inr, ℕ, Bool, true, false, List, Option, Some, None, Result, Ok, Err, refl, subst}
+use Rattle.adb_schema.specs.Soundness.{first_fault}
+use Rattle.adb_tables.specs.declared.tables.Which.TheVariants.{Idb}
+use Rattle.change_inputs.specs.Database.{payload_database, root_database}
+use Rattle.change_inputs.specs.Inputs.{database_for, database_read, text_database_read}
+use Rattle.command_core.specs.Command.{CommandLine}
+use Rattle.engine_core.specs.InfoTold.{info_told}
+use Rattle.installed_info.specs.Info.{info_of}
+use Rattle.installed_info.proofs.Refusing.{info_refused}
+use Rattle.make_info.specs.Reads.{Reads}
+use Rattle.report_core.specs.declared.refusal.Refusal.{Refusal}
+use Rattle.report_core.specs.declared.refusal.Refusal.TheVariants.{DatabaseBad, NoDatabase, ResultTooLarge}
+use Rattle.root_names.specs.RootNames.{database_name, text_database_name}
+use Rattle.v2_core.specs.Payload.{payload_of_text}
+use Rattle.v2_core.specs.declared.read.V2Fault.{V2Fault}
+use Rattle.v2_core.specs.declared.read.V2Fault.TheVariants.{Bad, Memory, TooLarge}
+use Rattle.refusal_laws.specs.InfoFaults.{IsFaultOfDatabase, IsFaultOfInfo}
+use Rattle.refusal_laws.proofs.InputFaults.{cause_err, text_remembers}
+use Rattle.refusal_laws.proofs.Lists.{and_then_err}
+
+module _ (command : CommandLine) (read : Reads) where
+  abbrev IsSo : Refusal → Type 0
+  IsSo refusal = IsFaultOfDatabase command read refusal
+
+  text_fault : (text : List ℕ) (refusal : Refusal) → read database_read database_name ≡ None → read text_database_read text_database_name ≡ Some text
+      → (payload : Result (List ℕ) V2Fault) → payload_of_text text ≡ payload → payload_database payload ≡ Err refusal → IsSo refusal
+  text_fault text refusal none some (Ok payload) is e = absurd (cc (e))
+  text_fault text refusal none some (Err (Bad cause)) is e =
+      let same : DatabaseBad cause ≡ refusal = cc in
+      subst IsSo same (inr (record { container = none; text = text; is_text = some; refused = is }))
+  text_fault text refusal none some (Err (TooLarge bytes values)) is e =
+      let same : ResultTooLarge bytes values ≡ refusal = cc in
+      subst IsSo same (record { container = none; text = text; is_text = some; refused = is })
+  text_fault text refusal none some (Err Memory) is e = absurd (text_remembers text is)
+
+  none_fault : (may_begin : Bool) (refusal : Refusal) → command.flags.initdb ≡ may_begin → read database_read database_name ≡ None → read text_database_read text_database_name ≡ None
+      → root_database may_begin None None ≡ Err refusal → IsSo refusal
+  none_fault true refusal begun none neither e = absurd (cc (e))
+  none_fault false refusal begun none neither e =
+      let same : NoDatabase ≡ refusal = cc in
+      subst IsSo same (record { container = none; text = neither; not_begun = begun })
+
+  database_fault : (file text : Option (List ℕ)) (refusal : Refusal) → read database_read database_name ≡ file → read text_database_read text_database_name ≡ text
+      → root_database command.flags.initdb file text ≡ Err refusal → IsSo refusal
+  database_fault (Some file) text refusal is other e =
+      let why = cause_err DatabaseBad (first_fault Idb file) _ refusal e in
+      subst IsSo why.2 (inl (record { file = file; is_file = is; fault = why.1 }))
+  database_fault None (Some text) refusal is other e = text_fault text refusal is other (payload_of_text text) refl e
+  database_fault None None refusal is other e = none_fault command.flags.initdb refusal refl is other e
+
+  pub info_fault : (refusal : Refusal) → info_told command read ≡ Err refusal → IsFaultOfInfo command read refusal
+  info_fault refusal e =
+      elim (and_then_err (database_for command read) (λ database. info_of command database.packages) refusal e) [
+        | inl first ↦ inl (database_fault (read database_read database_name) (read text_database_read text_database_name) refusal refl refl first)
+        | inr next ↦ inr ((next.0, next.1), info_refused command next.0.packages refusal next.2)
+      ]

@@ -1,0 +1,5 @@
+use Rattle.refusal_laws.proofs.InfoFaults.{info_fault}
+use Rattle.refusal_laws.proofs.laws.a_refused_info_has_its_fault.Goals as goal
+
+pub returns : goal.returns
+returns c = info_fault

@@ -1,0 +1,236 @@
+-- No list leaves a bad intent, and a run that was stopped is recovered by the next one.
+use Rattle.std.proofs.Common.{◌≡◌, ◌≢◌, ◌⊎◌, inl, inr, ⊎_elim, ℕ, Bool, true, false, cond, ◌||◌, List, [], ◌∷◌, Option, Some, None, refl, sym, ap, subst, ◌∙◌}
+use Rattle.std.specs.Prelude.{if◌then◌else◌}
+use Rattle.adb_schema.specs.Soundness.{first_fault}
+use Rattle.adb_tables.specs.declared.tables.Which.TheVariants.{Intent as IntentTable}
+use Rattle.apk_front.specs.Answers.{answer_by}
+use Rattle.apk_front.specs.Moments.{AnswersOutcome, HasIdleOutcome}
+use Rattle.apk_front.specs.declared.answer.Answer.{Answer}
+use Rattle.apk_front.specs.declared.answer.Answer.TheVariants.{Refused, OutFault}
+use Rattle.base_core.specs.Calls.{HasNow}
+use Rattle.base_core.specs.Crash.{IsImage, IsOrderly}
+use Rattle.base_core.specs.Files.{Files}
+use Rattle.base_core.specs.Restart.{IsCrashOf}
+use Rattle.base_core.specs.Tree.{TreeState, files_of}
+use Rattle.base_core.specs.declared.cause.Cause.{Cause}
+use Rattle.journal_core.specs.Quiet.{IsQuiet, IsStill}
+use Rattle.journal_core.specs.Recovery.{IsSettled, RestsOn, intent_name, is_staged, recovered_files, state_of}
+use Rattle.journal_core.specs.Staged.{IsIntentFault, unstaged_files}
+use Rattle.outcome.specs.Effect.{Effect, Computes, Reads, Tells, Makes, Changes, does_recover, effect_by, output}
+use Rattle.outcome.specs.Outcome.{Outcome}
+use Rattle.outcome.specs.Words.{IsOutcome}
+use Rattle.outcome.specs.Work.{fault_of_intent, recovery_fault}
+use Rattle.report_core.specs.declared.refusal.Refusal.{Refusal}
+use Rattle.report_core.specs.declared.refusal.Refusal.TheVariants.{IntentBad}
+use Rattle.words_core.specs.Grammar.{command_of}
+use Rattle.run_lists.specs.Events.{Crashes, Edits, Ends, Event, HasSeen, HasSeenIdly, IsIdle, IsIdleRun, IsMomentOf, IsOutcomeFrom, IsRunFrom, LeadsOn, Run, Stops, ignored_behind, ignored_in, nothing_ignored}
+use Rattle.run_lists.specs.Reading.{HasBadIntent}
+use Rattle.run_lists.specs.Recovered.{HasSeenNoBadIntent, HasStateBeforeOrOutcome, IsRecoveredBy, IsUnrefused, LeavesNoBadIntent, PutsNoBadIntent}
+use Rattle.run_lists.specs.Safety.{HasOldOrOutcome, IsOldOrOutcome}
+use Rattle.run_lists.proofs.Along.{as_crash, seen_orderly}
+use Rattle.run_lists.proofs.Committed.{CommitsNoIntent, ReadSound, absent_now}
+use Rattle.run_lists.proofs.Facts.{Facts, Ignored}
+use Rattle.run_lists.proofs.Idle.{state_read}
+use Rattle.run_lists.proofs.Moments.{last_moment}
+use Rattle.run_lists.proofs.Names.{behind_hides, scratch_hides}
+use Rattle.run_lists.proofs.OneRun.{Told, idle_end, idle_moment, now_hides, now_orderly, orderly_at, quiet_self, safe, told}
+use Rattle.run_lists.proofs.Unstaged.{again_at}
+
+-- ---- laws of the crates below
+
+abbrev pub HasSameBadIntent : Type 0
+HasSameBadIntent = (ignored : Ignored) (a b : Files) (cause : Cause) → ignored intent_name ≡ false → state_of ignored a ≡ state_of ignored b → IsIntentFault a cause → IsIntentFault b cause
+
+abbrev pub OnlyBadRefused : Type 0
+OnlyBadRefused = (words : List (List ℕ)) (files : Files) (o : Outcome) (cause : Cause) → does_recover (effect_by (command_of words)) ≡ true → IsOutcome words files o → o.refusal ≡ Some (IntentBad cause) → recovery_fault (effect_by (command_of words)) files ≡ Some cause
+
+-- ---- files with a bad intent
+
+none_bad : (files : Files) → files intent_name ≡ None → HasBadIntent files → ⊥
+none_bad files none (cause, (file, is, bad)) = cc (none, is)
+
+-- where there is none, nothing keeps a command from recovering
+good_fault : (files : Files) → (HasBadIntent files → ⊥) → fault_of_intent (files intent_name) ≡ None
+good_fault files good = by (files intent_name) refl
+  where
+    by_fault : (file : List ℕ) (fault : Option Cause) → files intent_name ≡ Some file → first_fault IntentTable file ≡ fault → fault ≡ None
+    by_fault file None is at = refl
+    by_fault file (Some cause) is at = absurd (good (cause, (file, is, at)))
+
+    by : (found : Option (List ℕ)) → files intent_name ≡ found → fault_of_intent found ≡ None
+    by None is = refl
+    by (Some file) is = by_fault file (first_fault IntentTable file) is refl
+
+no_fault : (effect : Effect) (files : Files) → (HasBadIntent files → ⊥) → recovery_fault effect files ≡ None
+no_fault Computes files good = refl
+no_fault Reads files good = refl
+no_fault Tells files good = good_fault files good
+no_fault Makes files good = good_fault files good
+no_fault Changes files good = good_fault files good
+
+module _ (same : HasSameBadIntent) where
+  bad_both : (ignored : Ignored) (a b : Files) → ignored intent_name ≡ false → state_of ignored a ≡ state_of ignored b → HasBadIntent a → HasBadIntent b
+  bad_both ignored a b shown is (cause, fault) = (cause, same ignored a b cause shown is fault)
+
+  quiet_good : (ignored : Ignored) (v m : TreeState) → ignored intent_name ≡ false → IsQuiet ignored v m → LeavesNoBadIntent v → LeavesNoBadIntent m
+  quiet_good ignored v m shown quiet good = λ image is bad.
+      let was = quiet image is in
+      good was.0 was.1 (bad_both ignored image was.0 shown was.2 bad)
+
+  module _ (committed : CommitsNoIntent) where
+    moment_good : (ignored : Ignored) (v : TreeState) (run : Run) (m : TreeState) → ignored intent_name ≡ false → LeavesNoBadIntent v → IsOldOrOutcome ignored v run m → LeavesNoBadIntent m
+    moment_good ignored v run m shown good (inl quiet) = quiet_good ignored v m shown quiet good
+    moment_good ignored v run m shown good (inr (o, one, commits, old_or_new)) = λ image is bad. ⊎_elim
+        (λ was. good was.0 was.1 (bad_both ignored image was.0 shown was.2 bad))
+        (λ new. none_bad o.files (committed run.words (files_of v) o one commits) (bad_both ignored image o.files shown new bad))
+        (old_or_new image is)
+
+    module _ (facts : Facts) where
+      run_good : (names : Ignored) (v : TreeState) (run : Run) → IsRunFrom v run → names intent_name ≡ false → IsOrderly (RestsOn names) v → LeavesNoBadIntent v → (m : TreeState) → IsMomentOf run m → LeavesNoBadIntent m
+      run_good names v run is_run shown orderly good m moment =
+          let all = safe facts names v run is_run shown orderly in
+          moment_good (ignored_in run names) v run m (scratch_hides (output run.words) names shown) good (all.moments m moment)
+
+      led_good : (names : Ignored) (event : Event) (v w : TreeState) → names intent_name ≡ false → IsOrderly (RestsOn names) v → LeavesNoBadIntent v → LeadsOn v event w → PutsNoBadIntent event w → LeavesNoBadIntent w
+      led_good names (Ends run) v w shown orderly good (is_run, ends) puts = run_good names v run is_run shown orderly good w (last_moment run v w is_run ends)
+      led_good names (Stops run) v w shown orderly good (is_run, moment) puts = run_good names v run is_run shown orderly good w moment
+      led_good names Crashes v w shown orderly good crash puts = λ image is bad.
+          good (files_of w) crash.left (bad_both nothing_ignored image (files_of w) refl (facts.crash_settled nothing_ignored v w crash image is) bad)
+      led_good names Edits v w shown orderly good synced puts = λ image is bad.
+          puts (bad_both nothing_ignored image (files_of w) refl (facts.crash_settled nothing_ignored w w (as_crash facts w synced) image is) bad)
+
+      pub seen_plainly : (first v : TreeState) (events : List Event) → HasSeenNoBadIntent first events v → HasSeen first events v
+      seen_plainly first v [] is = is
+      seen_plainly first v (event ∷ earlier) (u, seen, leads, puts) = (u, seen_plainly first u earlier seen, leads)
+
+      module _ (start : Ignored) (off : start intent_name ≡ false) (first : TreeState) (orderly : IsOrderly (RestsOn start) first) (good : LeavesNoBadIntent first) where
+        pub seen_good : (v : TreeState) (events : List Event) → HasSeenNoBadIntent first events v → LeavesNoBadIntent v
+        seen_good v [] is = subst LeavesNoBadIntent (sym is) good
+        seen_good v (event ∷ earlier) (u, seen, leads, puts) =
+            led_good (ignored_behind start earlier) event u v (behind_hides start off earlier) (seen_orderly facts start off first u earlier orderly (seen_plainly first u earlier seen)) (seen_good u earlier seen) leads puts
+
+-- ---- the next run
+
+refused_by : (refusal : Option Refusal) (cause : Cause) → Refused (IntentBad cause) ≡ answer_by refusal → refusal ≡ Some (IntentBad cause)
+refused_by None cause is = cc
+refused_by (Some refusal) cause is = cc
+
+none_some : (a : Option Cause) (cause : Cause) → a ≡ None → a ≡ Some cause → ⊥
+none_some a cause none some = cc (none, some)
+
+module _ (facts : Facts) (only : OnlyBadRefused) where
+  told_bad : (answer : Answer) (o : Outcome) (cause : Cause) → answer ≡ Refused (IntentBad cause) → Told answer o → o.refusal ≡ Some (IntentBad cause)
+  told_bad answer o cause is (inl by) = refused_by o.refusal cause (sym is ∙ by)
+  told_bad answer o cause is (inr by) = absurd (cc (is, by))
+
+  pub good_unrefused : (v : TreeState) (run : Run) → IsRunFrom v run → does_recover (effect_by (command_of run.words)) ≡ true → LeavesNoBadIntent v → IsUnrefused run
+  good_unrefused v run is_run recovers good = λ cause is.
+      let t = told (IsOutcomeFrom v run) (facts.unique run.words (files_of v)) _ _ run.answer run.out run.err is_run.stated (subst AnswersOutcome (sym is) tt) in
+      none_some (recovery_fault (effect_by (command_of run.words)) (files_of v)) cause
+      (no_fault (effect_by (command_of run.words)) (files_of v) (good (files_of v) (facts.read_left v)))
+      (only run.words (files_of v) t.0 cause recovers t.1 (told_bad run.answer t.0 cause is t.2))
+
+pub good_recovers : Facts → (v : TreeState) (words : List (List ℕ)) → LeavesNoBadIntent v → recovery_fault (effect_by (command_of words)) (files_of v) ≡ None
+good_recovers facts v words good = no_fault (effect_by (command_of words)) (files_of v) (good (files_of v) (facts.read_left v))
+
+-- ---- behind a run that was stopped
+
+staged_none : (files : Files) (q : List ℕ) → is_staged q ≡ true → unstaged_files files q ≡ None
+staged_none files q staged = ap (λ (b : Bool). if b then None else recovered_files files q) staged
+
+hidden_none : (b c : Bool) (file : Option (List ℕ)) → c ≡ true → cond (b || c) None file ≡ None
+hidden_none true c file is = refl
+hidden_none false true file is = refl
+hidden_none false false file is = cc
+
+-- a recovery leaves the state as it is
+state_again : (ignored : Ignored) (files : Files) → state_of ignored (unstaged_files files) ≡ state_of ignored files
+state_again ignored files i q = by (ignored q) refl i
+  where
+    again : (b : Bool) → is_staged q ≡ b → unstaged_files (unstaged_files files) q ≡ unstaged_files files q
+    again true staged = staged_none (unstaged_files files) q staged ∙ sym (staged_none files q staged)
+    again false shown = again_at files q shown
+
+    by : (b : Bool) → ignored q ≡ b → state_of ignored (unstaged_files files) q ≡ state_of ignored files q
+    by true hidden =
+        hidden_none (is_staged q) (ignored q) (recovered_files (unstaged_files files) q) hidden
+        ∙ sym (hidden_none (is_staged q) (ignored q) (recovered_files files q) hidden)
+    by false shown = state_read ignored (unstaged_files files) q shown ∙ (again (is_staged q) refl ∙ sym (state_read ignored files q shown))
+
+module _ (names : Ignored) (v : TreeState) (run : Run) where
+  state_on : (a b : Files) → state_of names a ≡ state_of names b → HasStateBeforeOrOutcome names v run b → HasStateBeforeOrOutcome names v run a
+  state_on a b is (inl (was, left, same)) = inl (was, left, is ∙ same)
+  state_on a b is (inr (o, one, commits, same)) = inr (o, one, commits, is ∙ same)
+
+  left_state : (m : TreeState) → IsOldOrOutcome names v run m → (image : Files) → IsImage m image → HasStateBeforeOrOutcome names v run image
+  left_state m (inl quiet) image is = let was = quiet image is in inl (was.0, was.1, was.2)
+  left_state m (inr (o, one, commits, old_or_new)) image is =
+      ⊎_elim (λ was. inl (was.0, was.1, was.2)) (λ new. inr (o, one, commits, new)) (old_or_new image is)
+
+pub one_of_two : (names : Ignored) (v : TreeState) (run : Run) (files : Files) → IsSettled names (files_of v) v → HasStateBeforeOrOutcome names v run files → HasOldOrOutcome names v run files
+one_of_two names v run files settled (inl (was, left, same)) = inl (same ∙ settled was left)
+one_of_two names v run files settled (inr (o, one, commits, same)) = inr (o, one, commits, same)
+
+quiet_on : (ignored : Ignored) (a b c : TreeState) → IsQuiet ignored a b → IsQuiet ignored b c → IsQuiet ignored a c
+quiet_on ignored a b c first second image is =
+    let mid = second image is in
+    let was = first mid.0 mid.1 in
+    (was.0, was.1, mid.2 ∙ was.2)
+
+record QuietOn (ignored : Ignored) (m w : TreeState) : Type 0 where
+  quiet : IsQuiet ignored m w
+  orderly : IsOrderly (RestsOn ignored) w
+
+module _ (facts : Facts) (crash_quiet : (ignored : Ignored) (v w : TreeState) → IsCrashOf v w → IsQuiet ignored v w) (names : Ignored) where
+  led_quiet : (m v : TreeState) (event : Event) (w : TreeState) → QuietOn names m v → IsIdle v event → LeadsOn v event w → QuietOn names m w
+  led_quiet m v (Ends run) w on idle (is_run, ends) =
+      let still = idle_end names v run is_run on.orderly idle w ends in
+      record { quiet = quiet_on names m v w on.quiet still.quiet; orderly = still.orderly }
+  led_quiet m v (Stops run) w on idle (is_run, moment) =
+      let still = idle_moment names v run is_run on.orderly idle w moment in
+      record { quiet = quiet_on names m v w on.quiet still.quiet; orderly = still.orderly }
+  led_quiet m v Crashes w on idle crash =
+      record { quiet = quiet_on names m v w on.quiet (crash_quiet names v w crash); orderly = facts.crash_orderly names v w crash }
+  led_quiet m v Edits w on idle synced = absurd idle
+
+  seen_quiet : (m w : TreeState) (later : List Event) → IsOrderly (RestsOn names) m → HasSeenIdly m later w → QuietOn names m w
+  seen_quiet m w [] orderly is = subst (QuietOn names m) (sym is) (record { quiet = quiet_self names m; orderly = orderly })
+  seen_quiet m w (event ∷ earlier) orderly (v, seen, idle, leads) = led_quiet m v event w (seen_quiet m v earlier orderly seen) idle leads
+
+  module _ (same : HasSameBadIntent) (shown : names intent_name ≡ false) (only : OnlyBadRefused) (sound : ReadSound)
+      (recovered : (v : TreeState) (run : Run) → IsRunFrom v run → does_recover (effect_by (command_of run.words)) ≡ true → recovery_fault (effect_by (command_of run.words)) (files_of v) ≡ None
+      → AnswersOutcome run.answer → HasIdleOutcome (IsOutcomeFrom v run) → HasNow run.now (λ w. files_of w ≡ unstaged_files (files_of v))) where
+    -- from a moment of a run on, over what crashes and idle runs leave
+    pub next_recovers : (v : TreeState) (run : Run) (m w : TreeState) (later : List Event) (next : Run) → IsOldOrOutcome names v run m → IsOrderly (RestsOn names) m → LeavesNoBadIntent m
+        → HasSeenIdly m later w → IsRunFrom w next → does_recover (effect_by (command_of next.words)) ≡ true → IsRecoveredBy names v run w next
+    next_recovers v run m w later next either orderly good seen is_next recovers =
+        let on = seen_quiet m w later orderly seen in
+        let here : LeavesNoBadIntent w = quiet_good same names m w shown on.quiet good in
+        let fault = good_recovers facts w next.words here in
+        let was = on.quiet (files_of w) (facts.read_left w) in
+        record {
+          unrefused = good_unrefused facts only w next is_next recovers here;
+          works = fault;
+          files = record {
+            intent = absent_now sound (files_of w) (files_of w intent_name) refl (good_fault (files_of w) (here (files_of w) (facts.read_left w)));
+            stage = staged_none (files_of w);
+            state = state_on names v run (unstaged_files (files_of w)) was.0 (state_again names (files_of w) ∙ was.2) (left_state names v run m either was.0 was.1);
+          };
+          read = recovered w next is_next recovers fault;
+        }
+
+-- behind a list
+pub stopped_recovers : (facts : Facts) → HasSameBadIntent → CommitsNoIntent → OnlyBadRefused → ReadSound → ((ignored : Ignored) (v w : TreeState) → IsCrashOf v w → IsQuiet ignored v w)
+    → ((v : TreeState) (run : Run) → IsRunFrom v run → does_recover (effect_by (command_of run.words)) ≡ true → recovery_fault (effect_by (command_of run.words)) (files_of v) ≡ None
+    → AnswersOutcome run.answer → HasIdleOutcome (IsOutcomeFrom v run) → HasNow run.now (λ w. files_of w ≡ unstaged_files (files_of v)))
+    → (start : Ignored) → start intent_name ≡ false → (first : TreeState) → IsOrderly (RestsOn start) first → LeavesNoBadIntent first
+    → (v m w : TreeState) (events later : List Event) (run next : Run) → HasSeenNoBadIntent first events v → IsRunFrom v run → IsMomentOf run m → HasSeenIdly m later w
+    → IsRunFrom w next → does_recover (effect_by (command_of next.words)) ≡ true → IsRecoveredBy (ignored_in run (ignored_behind start events)) v run w next
+stopped_recovers facts same committed only sound crash_quiet recovered start off first orderly good v m w events later run next seen is_run moment idly is_next recovers =
+    let names = ignored_behind start events in
+    let shown = behind_hides start off events in
+    let here = seen_orderly facts start off first v events orderly (seen_plainly same committed facts first v events seen) in
+    let all_safe = safe facts names v run is_run shown here in
+    let moment_order = orderly_at facts names v run is_run shown here (is_run.crash (ignored_in run names) (now_orderly facts names v run is_run shown here) (now_hides facts names v run is_run shown here)) m moment in
+    let moment_good = run_good same committed facts names v run is_run shown here (seen_good same committed facts start off first orderly good v events seen) m moment in
+    next_recovers facts crash_quiet (ignored_in run names) same (scratch_hides (output run.words) names shown) only sound recovered v run m w later next (all_safe.moments m moment) moment_order moment_good idly is_next recovers

@@ -1,0 +1,74 @@
+-- What keeps a root recoverable, and what a run that was stopped comes to.
+use Rattle.std.specs.Prelude.{◌≡◌, ◌≢◌, ◌⊎◌, ℕ, Bool, true, List, [], ◌∷◌, None}
+use Rattle.apk_front.specs.Moments.{AnswersOutcome, HasIdleOutcome}
+use Rattle.apk_front.specs.declared.answer.Answer.TheVariants.{Refused}
+use Rattle.base_core.specs.Calls.{HasNow}
+use Rattle.base_core.specs.Crash.{IsImage}
+use Rattle.base_core.specs.Files.{Files}
+use Rattle.base_core.specs.Tree.{TreeState, files_of}
+use Rattle.base_core.specs.declared.cause.Cause.{Cause}
+use Rattle.journal_core.specs.Recovery.{intent_name, state_of}
+use Rattle.journal_core.specs.Staged.{IsEmptyStage, unstaged_files}
+use Rattle.outcome.specs.Effect.{effect_by}
+use Rattle.outcome.specs.Outcome.{Outcome}
+use Rattle.outcome.specs.Work.{recovery_fault}
+use Rattle.report_core.specs.declared.refusal.Refusal.TheVariants.{IntentBad}
+use Rattle.words_core.specs.Grammar.{command_of}
+use Rattle.run_lists.specs.Events.{Crashes, Edits, Ends, Event, IsOutcomeFrom, LeadsOn, Run, Stops}
+use Rattle.run_lists.specs.Reading.{HasBadIntent}
+
+-- ---- no bad intent
+
+-- no crash leaves a bad intent, so none is read either
+abbrev pub LeavesNoBadIntent : TreeState → Type 0
+LeavesNoBadIntent v = (image : Files) → IsImage v image → HasBadIntent image → ⊥
+
+-- where others change files, they put no bad intent there
+abbrev pub PutsNoBadIntent : Event → TreeState → Type 0
+PutsNoBadIntent (Ends run) w = Unit {0}
+PutsNoBadIntent (Stops run) w = Unit {0}
+PutsNoBadIntent Crashes w = Unit {0}
+PutsNoBadIntent Edits w = HasBadIntent (files_of w) → ⊥
+
+-- a root has seen events, and others put no bad intent there
+abbrev pub HasSeenNoBadIntent : TreeState → List Event → TreeState → Type 0
+HasSeenNoBadIntent first [] w = w ≡ first
+HasSeenNoBadIntent first (event ∷ earlier) w =
+    (v : TreeState)
+    × HasSeenNoBadIntent first earlier v
+    × LeadsOn v event w
+    × PutsNoBadIntent event w
+
+-- a run is not refused for its intent
+abbrev pub IsUnrefused : Run → Type 0
+IsUnrefused run = (cause : Cause) → run.answer ≢ Refused (IntentBad cause)
+
+-- ---- behind a run that was stopped
+
+-- the files have a state that a crash might have left when the run began, or that of an outcome of
+-- the run, which commits
+abbrev pub HasStateBeforeOrOutcome : (List ℕ → Bool) → TreeState → Run → Files → Type 0
+HasStateBeforeOrOutcome ignored v run files =
+    ((was : Files) × IsImage v was × (state_of ignored files ≡ state_of ignored was))
+    ⊎ ((outcome : Outcome)
+    × IsOutcomeFrom v run outcome
+    × (outcome.commits ≡ true)
+    × (state_of ignored files ≡ state_of ignored outcome.files))
+
+-- nothing is left to do in these files, and they have the state before the run or that of its outcome
+pub record AreRecovered (ignored : List ℕ → Bool) (v : TreeState) (run : Run)
+    (files : Files) : Type 0 where
+  pub intent : files intent_name ≡ None
+  pub stage : IsEmptyStage files
+  pub state : HasStateBeforeOrOutcome ignored v run files
+
+-- The next run, which finds the root in the state w, is not refused for an intent: nothing keeps it
+-- from working on the files that a recovery leaves, and these are recovered. If its outcome commits
+-- nothing, they are what is read once this is answered.
+pub record IsRecoveredBy (ignored : List ℕ → Bool) (v : TreeState) (run : Run)
+    (w : TreeState) (next : Run) : Type 0 where
+  pub unrefused : IsUnrefused next
+  pub works : recovery_fault (effect_by (command_of next.words)) (files_of w) ≡ None
+  pub files : AreRecovered ignored v run (unstaged_files (files_of w))
+  pub read : AnswersOutcome next.answer → HasIdleOutcome (IsOutcomeFrom w next)
+      → HasNow next.now (λ u. files_of u ≡ unstaged_files (files_of w))

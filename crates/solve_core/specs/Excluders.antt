@@ -1,0 +1,27 @@
+-- What excludes a further candidate.
+use Rattle.std.specs.Prelude.{◌≡◌, ℕ, Bool, true, false, List}
+use Rattle.dep_core.specs.Dependency.{Dependency}
+use Rattle.pool_core.specs.Candidates.{Candidate, meets_dependency, occupies_name}
+use Rattle.pool_core.specs.Options.{IsMember}
+use Rattle.pool_core.specs.Rank.{SealedPool, is_at}
+use Rattle.solve_core.specs.Conflicts.{conflicts_among}
+use Rattle.solve_core.specs.NameTable.{items_of}
+use Rattle.solve_core.specs.Selection.{depends_at, exclude_each_other}
+use Rattle.solve_core.specs.declared.conflicts.Conflicts.{Conflicts}
+
+-- the table has just the conflicts of the choices
+abbrev pub AreListed : SealedPool → List ℕ → Conflicts → Type 0
+AreListed pool chosen conflicts =
+    (name : List ℕ) → items_of conflicts.by_name name ≡ conflicts_among pool chosen name
+
+-- a choice that excludes the candidate
+abbrev pub IsExcluder : SealedPool → List ℕ → ℕ → ℕ → Type 0
+IsExcluder pool chosen id k = IsMember k chosen × (exclude_each_other pool k id ≡ true)
+
+-- at a name of the candidate: it meets no conflict of the choices, and, where it occupies the name,
+-- no choice does
+abbrev pub IsFreeAt : SealedPool → List ℕ → Candidate → List ℕ → Bool → Type 0
+IsFreeAt pool chosen details name is_occupied =
+    ((k : ℕ) (d : Dependency) → IsMember k chosen → IsMember d (depends_at pool k) →
+    d.conflict ≡ true → d.name ≡ name → meets_dependency d details ≡ false)
+    × (is_occupied ≡ true → (k : ℕ) → IsMember k chosen → is_at pool (occupies_name name) k ≡ false)
