@@ -188,16 +188,23 @@ fn ends_with_byte(byte: u8, text: &[u8]) -> bool
     }
 }
 
-#[tactic(auto, using(crate::proofs::Pieces::printable_more, crate::proofs::Pieces::printable_done))]
+/// Whether every byte is printable. There is no way out in between, so that the compiler can test
+/// many bytes at once.
+#[tactic(auto, using(crate::proofs::Pieces::printable_next, crate::proofs::Pieces::printable_over))]
 fn is_printable(text: &[u8]) -> bool
     ensures { result ≡ list_all is_printable text.now }
 {
+    let mut all = true;
     for byte in text {
-        if *byte < 0x20 || *byte > 0x7e {
-            return false;
-        }
+        all &= is_printable_byte(*byte);
     }
-    true
+    all
+}
+
+fn is_printable_byte(byte: u8) -> bool
+    ensures { result ≡ is_printable byte }
+{
+    byte >= 0x20 && byte <= 0x7e
 }
 
 /// Where the next line stands.
