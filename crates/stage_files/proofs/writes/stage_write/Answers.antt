@@ -13,7 +13,7 @@ pub returns-in_ok-stage_pieces-in-Link-clause-staging : goal.returns-in_ok-stage
 returns-in_ok-stage_pieces-in-Link-clause-staging g c = λ contents v first bytes staging is.
     subst (λ (b : List ℕ). IsStaging c.stage_pieces.new.stage (contents ++ b ∷ []) None v first (g.T.Tree.history c.stage_pieces.new.tree))
     (sym (link_stands (files_of v) c.args.source.now _ bytes c.in-Link.is is))
-    (link_waits c.link_text.result.now _ (λ b. IsStaging c.stage_pieces.new.stage (contents ++ b ∷ []) None v first (g.T.Tree.history c.stage_pieces.new.tree))
+    (link_waits c.link_text.result.now c.in-Link.target.now (λ b. IsStaging c.stage_pieces.new.stage (contents ++ b ∷ []) None v first (g.T.Tree.history c.stage_pieces.new.tree))
     c.link_text.ensures (c.in_ok-stage_pieces-in-Link.ensures.staging contents v first staging))
 
 pub returns-in_ok-stage_bytes-in-Bytes-clause-listed : goal.returns-in_ok-stage_bytes-in-Bytes-clause-listed
@@ -24,7 +24,7 @@ returns-in_ok-stage_bytes-in-Bytes-clause-listed g c = λ contents v first stagi
 pub returns-in_ok-stage_pieces-in-Link-clause-listed : goal.returns-in_ok-stage_pieces-in-Link-clause-listed
 returns-in_ok-stage_pieces-in-Link-clause-listed g c = λ contents v first staging.
     link_listed c.args.source.now _ (λ b. IsStaging c.stage_pieces.new.stage (contents ++ b ∷ []) None v first (g.T.Tree.history c.stage_pieces.new.tree)) c.in-Link.is
-    (link_waits c.link_text.result.now _ (λ b. IsStaging c.stage_pieces.new.stage (contents ++ b ∷ []) None v first (g.T.Tree.history c.stage_pieces.new.tree))
+    (link_waits c.link_text.result.now c.in-Link.target.now (λ b. IsStaging c.stage_pieces.new.stage (contents ++ b ∷ []) None v first (g.T.Tree.history c.stage_pieces.new.tree))
     c.link_text.ensures (c.in_ok-stage_pieces-in-Link.ensures.staging contents v first staging))
 
 pub returns-in-File-clause-listed : goal.returns-in-File-clause-listed
