@@ -153,6 +153,18 @@ def overlapping_tags(count):
     return b"ADB.indx" + block(0, payload.done(payload.object([0, packages])))
 
 
+def package_of(payload, fields, folders=()):
+    """A package with these fields of its information, and these folders."""
+    return b"ADB.pckg" + block(0, payload.done(payload.object([payload.object(fields), payload.array(list(folders))])))
+
+
+def shared_tags(size, places):
+    """A package in which so many tags share a text of this size."""
+    payload = Payload()
+    info = [payload.blob(b"a"), payload.blob(b"1")] + [0] * 18
+    return package_of(payload, info + [payload.array([payload.blob(b"t" * size)] * places)])
+
+
 def write(path, *pieces):
     """Writes a file of these pieces, and the folders above it."""
     os.makedirs(os.path.dirname(path), exist_ok=True)

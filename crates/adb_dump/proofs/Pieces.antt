@@ -1,5 +1,5 @@
 -- What is written piece by piece.
-use Rattle.std.proofs.Common.{◌≡◌, ℕ, zero, suc, ◌+◌, ◌-◌, ◌<◌, ◌≤◌, true, false, eqb, List, [], ◌∷◌, ◌++◌, length, get_or, drop, Some, None, refl, ap, ◌∙◌, arith}
+use Rattle.std.proofs.Common.{◌≡◌, ℕ, zero, suc, ◌+◌, ◌-◌, ◌<◌, ◌≤◌, Bool, true, false, eqb, List, [], ◌∷◌, ◌++◌, length, get_or, drop, Some, None, refl, ap, ◌∙◌, arith}
 use Rattle.std.specs.Prelude.{codes, ◌&&◌, slice_get}
 use Rattle.std.specs.List.{flat_map, list_all}
 use Rattle.std.proofs.lemmas.List.{drop_more, drop_all}
@@ -22,11 +22,16 @@ escapes_more text i lt = ap (flat_map escape_of) (drop_more text i 0 lt) ∙ fla
 pub escapes_over : (text : List ℕ) (i : ℕ) → length text ≤ i → flat_map escape_of (drop i text) ≡ []
 escapes_over text i le = ap (flat_map escape_of) (drop_all i text le)
 
-pub printable_more : (text : List ℕ) (i : ℕ) → i < length text → list_all is_printable (drop i text) ≡ (is_printable (get_or text i 0) && list_all is_printable (drop (i + 1) text))
+printable_more : (text : List ℕ) (i : ℕ) → i < length text → list_all is_printable (drop i text) ≡ (is_printable (get_or text i 0) && list_all is_printable (drop (i + 1) text))
 printable_more text i lt = ap (list_all is_printable) (drop_more text i 0 lt)
 
-pub printable_done : (text : List ℕ) (i : ℕ) → length text ≤ i → list_all is_printable (drop i text) ≡ true
-printable_done text i le = ap (list_all is_printable) (drop_all i text le)
+pub printable_next : (all : Bool) (text : List ℕ) (i : ℕ) → i < length text → (all && list_all is_printable (drop i text)) ≡ ((all && is_printable (get_or text i 0)) && list_all is_printable (drop (i + 1) text))
+printable_next true text i lt = printable_more text i lt
+printable_next false text i lt = refl
+
+pub printable_over : (all : Bool) (text : List ℕ) (i : ℕ) → length text ≤ i → (all && list_all is_printable (drop i text)) ≡ all
+printable_over true text i le = ap (list_all is_printable) (drop_all i text le)
+printable_over false text i le = refl
 
 pub margin_more : (depth i : ℕ) → i < depth → margin (depth - i) ≡ codes "  " ++ margin (depth - (i + 1))
 margin_more depth i lt = let same : depth - i ≡ suc (depth - (i + 1)) = omega arith in rw same refl

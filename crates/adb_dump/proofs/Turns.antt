@@ -76,13 +76,13 @@ several_lines (Obj w) d b name v h = laid_below d b name _
 several_lines TextArr d b name v h = laid_below d b name _
 several_lines (ObjArr w) d b name v h = laid_below d b name _
 
-pub field_behind : (k : Kind) (d : ℕ) (b : Bool) (name : Line) (v : Plain) → has_one_line k ≡ true → (((lead d b ++ name) ++ codes ":") ++ codes " ") ++ lines_at d true (block_lines (shape_of k) v) ≡ lines_at d b (named_lines (shape_of k) name v)
-field_behind k d b name v h = sym (one_line k d b name v h)
+pub field_behind : (k : Kind) (d : ℕ) (b : Bool) (name : Line) (v : Plain) → has_one_line k ≡ true → ((lead d b ++ name) ++ codes ": ") ++ lines_at d true (block_lines (shape_of k) v) ≡ lines_at d b (named_lines (shape_of k) name v)
+field_behind k d b name v h = ap (λ (t : List ℕ). t ++ lines_at d true (block_lines (shape_of k) v)) (sym (append_assoc (lead d b ++ name) (codes ":") (codes " "))) ∙ sym (one_line k d b name v h)
 
-pub field_below : (k : Kind) (d : ℕ) (b : Bool) (name : Line) (v : Plain) → has_one_line k ≡ false → (((lead d b ++ name) ++ codes ":") ++ codes "\n") ++ lines_at (d + 1) false (block_lines (shape_of k) v) ≡ lines_at d b (named_lines (shape_of k) name v)
+pub field_below : (k : Kind) (d : ℕ) (b : Bool) (name : Line) (v : Plain) → has_one_line k ≡ false → ((lead d b ++ name) ++ codes ":\n") ++ lines_at (d + 1) false (block_lines (shape_of k) v) ≡ lines_at d b (named_lines (shape_of k) name v)
 field_below k d b name v h =
     let e : d + 1 ≡ suc d = omega arith in
-    rw e (sym (several_lines k d b name v h))
+    rw e (ap (λ (t : List ℕ). t ++ lines_at (suc d) false (block_lines (shape_of k) v)) (sym (append_assoc (lead d b ++ name) (codes ":") (codes "\n"))) ∙ sym (several_lines k d b name v h))
 
 behind_named : (d : ℕ) (b : Bool) (xs ys : List Line) → HasLine xs → lines_at d b (xs ++ ys) ≡ lines_at d b xs ++ lines_at d false ys
 behind_named d b xs ys h = rw h.is (laid_behind d b h.first h.others ys)

@@ -28,14 +28,6 @@ found_is w f r x y at_null is_null e =
       | inr t ↦ rw (t, e) refl
     ]
 
--- it does not fail where there is a value
-found_fails : {A : Type 0} (w : ℕ) (f : A → Option Plain) (r : ℕ → Result A Cause) (c : Cause) (y : A) → r 0 ≡ Ok y → is_some (unless_null w (from_answer f (r w))) ≡ true → r w ≡ Err c → ⊥
-found_fails w f r c y at_null some e =
-    elim (null_or_not w) [
-      | inl z ↦ let zero_is : r 0 ≡ Err c = ap r (sym z) ∙ e in absurd (let no : Ok y ≡ Err c = sym at_null ∙ zero_is in cc)
-      | inr t ↦ absurd (let no : false ≡ true = (rw (t, e) at some) in cc)
-    ]
-
 -- ---- integers, texts and hashes
 
 -- a value that is found as an integer, unless it is Null
@@ -88,7 +80,3 @@ object_value_is p which w ws e = ap (λ o. unwrap_or o null) (object_plain p whi
 pub object_sound : (p : List ℕ) (which : Which) (w : ℕ) (ws : List ℕ) → run_of OBJECT p w ≡ Ok ws → is_sound p (Obj which) w ≡ true → fields_sound p (table which) ws ≡ true
 unfolding is_sound fields_sound
 object_sound p which w ws e h = sym (some-map obj_value (plains_of p (shapes_of (table which)) ws)) ∙ ap is_some (sym (object_plain p which w ws e)) ∙ h
-
-pub object_fails : (p : List ℕ) (which : Which) (w : ℕ) (c : Cause) → is_sound p (Obj which) w ≡ true → run_of OBJECT p w ≡ Err c → ⊥
-unfolding is_sound plain_of run_of
-object_fails p which w c h e = found_fails w (λ ws. option_map obj_value (plains_of p (shapes_of (table which)) ws)) (run_of OBJECT p) c [] refl (ap (λ s. is_some (plain_of p s w)) (sym (object_shape which)) ∙ h) e

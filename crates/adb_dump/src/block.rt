@@ -19,7 +19,7 @@ use crate::line::{
     write_text_line,
 };
 use crate::text_out::{BlobOut, Count, Out, Room};
-use crate::words::{is_null, object_words};
+use crate::words::{field_words, is_null};
 use adb_fields::{hash_word, int_word, objects_word, text_word, texts_word};
 use adb_schema::{Field, Kind, Shaped, Which, fields_of, schema_word};
 use adb_tables::entry_word;
@@ -90,7 +90,7 @@ fn write_dump<O: BlobOut>(out: &mut O, shaped: &Shaped<'_>) -> Result<(), AllocE
 {
     let adb = shaped.adb();
     let which = shaped.which();
-    let root = object_words(adb, which, adb.root());
+    let root = field_words(adb, which, adb.root());
     let start = LineStart {
         depth: 0,
         begun: false,
@@ -144,7 +144,7 @@ fn write_block<O: BlobOut>(
             write_entries(out, adb, Kind::Obj(which), words, start)
         }
         Kind::Obj(which) => {
-            let words = object_words(adb, which, word);
+            let words = field_words(adb, which, word);
             write_fields(out, adb, fields_of(which), words, start)
         }
     }
@@ -251,12 +251,11 @@ fn write_field<O: BlobOut>(
         (value_at (payload_of adb.entry) field.kind word)))) }
 {
     let LineStart { depth, .. } = start;
-    write_name(out, start, field.name)?;
     if has_one_line(field.kind) {
-        out.put(b" ")?;
+        write_name(out, start, field.name, b": ")?;
         write_block(out, adb, field.kind, word, LineStart { depth, begun: true })
     } else {
-        out.put(b"\n")?;
+        write_name(out, start, field.name, b":\n")?;
         write_block(
             out,
             adb,

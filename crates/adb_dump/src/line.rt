@@ -1,6 +1,6 @@
 //! Lines: what stands in front of them, names of fields, and values on one line.
 
-ghost use Rattle.std.specs.Prelude.{◌≡◌, [], ◌∷◌, ◌++◌, OnOk, codes, false};
+ghost use Rattle.std.specs.Prelude.{◌≡◌, [], ◌∷◌, ◌++◌, OnOk, codes, false, length};
 ghost use Rattle.std.specs.Fmt.{decimal};
 ghost use Rattle.std.specs.List.{flat_map, list_all};
 ghost use Rattle.hex.specs.Hex.{encode_lower};
@@ -17,6 +17,9 @@ use adb_schema::FieldName;
 use adb_view::{Adb, Val};
 use itoa::Buffer;
 use std::alloc::AllocError;
+
+/// How many bytes a SHA-256 has: most of what is written in hexadecimal digits.
+const HASH_LEN: usize = 32;
 
 /// Puts a line of a number.
 pub(crate) fn write_number_line<O: Out>(
@@ -78,10 +81,23 @@ fn write_number<O: Out>(out: &mut O, number: u64) -> Result<(), AllocError>
 pub(crate) fn write_hex<O: Out>(out: &mut O, bytes: &[u8]) -> Result<(), AllocError>
     ensures { OnOk result (PutsForAny O.holds out.old out.new (encode_lower bytes.now)) }
 {
+    if bytes.len() == HASH_LEN {
+        return out.put(&hash_digits(bytes));
+    }
     for byte in bytes {
         out.put(&hex_digits(*byte))?;
     }
     Ok(())
+}
+
+/// The digits of as many bytes as a hash has.
+fn hash_digits(hash: &[u8]) -> [u8; 2 * HASH_LEN]
+    requires { length hash.now ≡ 32 }
+    ensures { result ≡ encode_lower hash.now }
+{
+    let mut digits = [0; 2 * HASH_LEN];
+    let _ = hex::encode_to_slice(hash, &mut digits);
+    digits
 }
 
 fn hex_digits(byte: u8) -> [u8; 2]
@@ -172,16 +188,23 @@ fn ends_with_byte(byte: u8, text: &[u8]) -> bool
     }
 }
 
-#[tactic(auto, using(crate::proofs::Pieces::printable_more, crate::proofs::Pieces::printable_done))]
+/// Whether every byte is printable. There is no way out in between, so that the compiler can test
+/// many bytes at once.
+#[tactic(auto, using(crate::proofs::Pieces::printable_next, crate::proofs::Pieces::printable_over))]
 fn is_printable(text: &[u8]) -> bool
     ensures { result ≡ list_all is_printable text.now }
 {
+    let mut all = true;
     for byte in text {
-        if *byte < 0x20 || *byte > 0x7e {
-            return false;
-        }
+        all &= is_printable_byte(*byte);
     }
-    true
+    all
+}
+
+fn is_printable_byte(byte: u8) -> bool
+    ensures { result ≡ is_printable byte }
+{
+    byte >= 0x20 && byte <= 0x7e
 }
 
 /// Where the next line stands.
@@ -203,8 +226,22 @@ pub(crate) fn write_lead<O: Out>(out: &mut O, start: LineStart) -> Result<(), Al
     write_margin(out, start.depth)
 }
 
-/// Puts two spaces for each level.
+/// Puts two spaces for each level, at once where most lines stand.
 fn write_margin<O: Out>(out: &mut O, depth: u32) -> Result<(), AllocError>
+    ensures { OnOk result (PutsForAny O.holds out.old out.new (lead depth false)) }
+{
+    match depth {
+        0 => Ok(()),
+        1 => out.put(b"  "),
+        2 => out.put(b"    "),
+        3 => out.put(b"      "),
+        4 => out.put(b"        "),
+        _ => write_levels(out, depth),
+    }
+}
+
+/// Puts two spaces for each level, one level behind another.
+fn write_levels<O: Out>(out: &mut O, depth: u32) -> Result<(), AllocError>
     ensures { OnOk result (PutsForAny O.holds out.old out.new (lead depth false)) }
 {
     for _level in 0..depth {
@@ -222,17 +259,18 @@ pub(crate) fn write_dash<O: Out>(out: &mut O, depth: u32, begun: bool) -> Result
     Ok(())
 }
 
-/// Puts the name of a field.
+/// Puts the name of a field, and what stands behind it.
 pub(crate) fn write_name<O: Out>(
     out: &mut O,
     start: LineStart,
     name: FieldName,
+    behind: &[u8],
 ) -> Result<(), AllocError>
     ensures { OnOk result (PutsForAny O.holds out.old out.new
-        (lead start.depth start.begun ++ field_name_text name ++ codes ":")) }
+        (lead start.depth start.begun ++ field_name_text name ++ behind.now)) }
 {
     write_lead(out, start)?;
     out.put(name.text().as_bytes())?;
-    out.put(b":")?;
+    out.put(behind)?;
     Ok(())
 }

@@ -12,21 +12,21 @@ ghost use Rattle.adb_tables.specs.declared.tables.Kind.TheVariants as Kinds;
 
 use adb_fields::{hash_word, objects_word, text_word, texts_word};
 use adb_schema::{Field, Kind, Which, fields_of};
-use adb_tables::{entry_word, object_entries};
+use adb_tables::entry_word;
 use adb_view::{Adb, Arr, Val};
 
 /// The words of an object, those past its fields too.
-#[tactic(auto, using(crate::proofs::WordReads::object_value_is, crate::proofs::WordReads::object_sound, crate::proofs::WordReads::object_fails))]
-pub(crate) fn object_words<'a>(adb: Adb<'a>, which: Which, word: Val) -> Arr<'a>
+#[tactic(auto, using(crate::proofs::WordReads::object_value_is, crate::proofs::WordReads::object_sound, adb_fields::proofs::FieldReads::object_runs, adb_fields::proofs::FieldReads::read_ok))]
+pub(crate) fn field_words<'a>(adb: Adb<'a>, which: Which, word: Val) -> Arr<'a>
     requires { is_sound (payload_of adb) (Kinds.Obj which) word ≡ true }
     ensures sound { fields_sound (payload_of adb.entry) (table which) (array_entries result)
         ≡ true }
     ensures value { value_at (payload_of adb.entry) (Kinds.Obj which) word
         ≡ obj_value (fields_at (payload_of adb.entry) (table which) (array_entries result)) }
 {
-    match object_entries(adb, word) {
-        Ok(entries) => entries,
-        Err(_) => unreachable!(),
+    match adb.find_entries(word) {
+        Some(entries) => entries,
+        None => unreachable!(),
     }
 }
 
@@ -43,7 +43,7 @@ pub(crate) fn is_null(adb: Adb<'_>, kind: Kind, word: Val) -> bool
         Kind::Hash => hash_word(adb, word).is_empty(),
         Kind::TextArr => texts_word(adb, word).is_empty(),
         Kind::ObjArr(which) => objects_word(adb, which, word).is_empty(),
-        Kind::Obj(which) => are_null(adb, fields_of(which), object_words(adb, which, word)),
+        Kind::Obj(which) => are_null(adb, fields_of(which), field_words(adb, which, word)),
     }
 }
 

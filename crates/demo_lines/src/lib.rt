@@ -4,12 +4,8 @@
 //! install so many small packages, and `Report` how their installation is told.
 #![tactic(auto)]
 
-mod count;
 mod lines;
-mod report;
 mod texts;
 
-pub use count::demo_count;
-pub use lines::{add_words, mkndx_words, mkpkg_words};
-pub use report::demo_line;
+pub use lines::{add_words, demo_count, demo_line, mkndx_words, mkpkg_words};
 pub use texts::{demo_file, demo_repositories, demo_text};

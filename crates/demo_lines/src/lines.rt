@@ -1,9 +1,19 @@
-//! The command lines that `demo` runs.
-ghost use Rattle.std.specs.Prelude.{◌≡◌, ◌<◌, ◌++◌, ◌∷◌, [], codes, length, IfOk, OnOk};
+//! The command lines that `demo` runs: how many packages it makes, and what it prints.
+
+ghost use Rattle.std.specs.Prelude.{◌≡◌, ◌<◌, ◌++◌, ◌∷◌, [], codes, length, IfOk, OnOk, true, IsTrue, Some};
 ghost use Rattle.demo_lines.specs.Lines.{add_words, demo_name, demo_package, demo_packages, demo_version, depends_words, mkndx_words, mkpkg_words, top_name, top_names};
+ghost use Rattle.std.specs.Str.Parse.{digits_value};
+ghost use Rattle.command_core.specs.Operands.{exactly, is_demo_number};
+ghost use Rattle.command_core.specs.Sound.{are_operands};
+ghost use Rattle.command_core.specs.declared.operands.OperandKind.TheVariants.{Number};
+ghost use Rattle.demo_lines.specs.Count.{demo_count};
+ghost use Rattle.demo_lines.specs.Report.{demo_line, last_line};
+ghost use Rattle.dep_core.specs.World.{is_line_end};
+ghost use Rattle.std.specs.List.{after_last};
 
 use crate::texts::{INDEX, demo_folder, demo_package, push_name, push_version};
-use base_core::Words;
+use base_core::{Text, Words};
+use command_core::Operands;
 use std::alloc::{AllocError, Global};
 
 /// The words that make package i.
@@ -134,4 +144,56 @@ fn push_if_top(words: &mut Words, alloc: Global, n: u16, i: u16) -> Result<(), A
     push_name(&mut name, i)?;
     words.push(&name)?;
     Ok(())
+}
+
+/// How many packages `demo` makes, as its one operand says.
+#[tactic(auto, using(crate::proofs::Numbers::one_operand))]
+pub fn demo_count(operands: &Operands) -> u16
+    requires { IsTrue (are_operands (Some (exactly 1 Number)) operands.now) }
+    ensures { result ≡ demo_count operands.now }
+{
+    number_of(operands.get(0).text.as_bytes())
+}
+
+// The number that the text is.
+fn number_of(text: &[u8]) -> u16
+    requires { IsTrue (is_demo_number text.now) }
+    ensures { result ≡ digits_value 10 text.now }
+{
+    match str::from_utf8(text) {
+        Ok(digits) => match digits.parse::<u32>() {
+            Ok(number) => number as u16,
+            Err(_) => unreachable!(),
+        },
+        Err(_) => unreachable!(),
+    }
+}
+
+/// The line that tells how n packages were installed, by the report of that.
+pub fn demo_line(alloc: Global, n: u16, report: &[u8]) -> Result<Text, AllocError>
+    ensures { IfOk result (λ line. line ≡ demo_line n report.now) }
+{
+    let head = format!(in alloc; "demo {n}: ")?;
+    let mut line = Vec::from_slice(alloc, head.as_bytes())?;
+    line.extend_from_slice(last_line(report))?;
+    line.extend_from_slice(b"\n")?;
+    Ok(Text::from_vec(line))
+}
+
+// The last line of a report, without its line end.
+fn last_line(report: &[u8]) -> &[u8]
+    ensures { result.now ≡ last_line report.now }
+{
+    behind_lines(&report[..report.len().saturating_sub(1)])
+}
+
+// What stands behind the last line end of a text.
+fn behind_lines(text: &[u8]) -> &[u8]
+    ensures { result.now ≡ after_last is_line_end text.now }
+{
+    let mut start = text.len();
+    while start > 0 && text[start - 1] != b'\n' {
+        start -= 1;
+    }
+    &text[start..]
 }

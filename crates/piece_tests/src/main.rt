@@ -1,19 +1,17 @@
 //! Answers questions to `piece_core`, `pkg_pieces`, `piece_reader` and `package_test`: a file's
 //! contents piece by piece, the front of a block against the next file, the front of a package, and
-//! the pieces of a package's files in a tree. Its stored run has all rows; `tests/lines.md` describes
-//! their form.
+//! the pieces of a package's files in a tree. Its stored run has all rows; `tests/lines.md`
+//! describes their form.
 #![tactic(auto)]
 
 ghost use Rattle.std.specs.Prelude.{◌≡◌, IfSome};
 ghost use Rattle.adb_schema.specs.Checked.{which_of};
 ghost use Rattle.adb_tables.specs.declared.tables.Which.TheVariants as Tables;
 
-mod front;
 mod made;
 mod package;
 
-use crate::front::add_cuts;
-use crate::made::bytes_of;
+use crate::made::{add_cuts, bytes_of};
 use crate::package::{
     add_back, add_changed, add_ends, add_read, add_repeated, add_shortened, add_spoiled,
 };

@@ -6,12 +6,10 @@
 
 mod check;
 mod differences;
-mod program;
 mod recovery;
 mod start;
 
-pub use check::{check_images, check_run, check_streams};
+pub use check::{Program, Run, check_images, check_run, check_streams};
 pub use differences::{RowFault, add_number, compare, compare_numbers, differs, digits};
-pub use program::{Program, Run};
 pub use recovery::{Found, Sides, images_of};
 pub use start::{are_alike, copy_of, tree_of};

@@ -1,7 +1,7 @@
 //! What is left behind a crash: each image of a tree is recovered, twice, and then has the files
 //! that are wanted.
+use crate::check::Program;
 use crate::differences::{RowFault, differs, digits};
-use crate::program::Program;
 use crate::start::{are_alike, copy_of};
 use row_text::Step;
 use std::alloc::Global;

@@ -1,6 +1,6 @@
 //! Trees in memory: what a row begins with, and copies.
+use crate::check::Program;
 use crate::differences::{RowFault, differs};
-use crate::program::Program;
 use base_core::Name;
 use row_text::{Content, NamedFile, Row};
 use std::alloc::{AllocError, Global};

@@ -4,16 +4,14 @@
 //! next.
 #![tactic(auto)]
 
-mod containers;
 mod payloads;
 mod shapes;
 mod views;
 mod words;
 
 use base_core::Words;
-use containers::{add_container, add_rule};
 use row_lines::{Subject, run_program, value_named, word_at};
-use shapes::{add_faults, add_many_files, add_shape, add_visits};
+use shapes::{add_container, add_faults, add_many_files, add_rule, add_shape, add_visits};
 use std::alloc::{AllocError, Global};
 use std::io;
 use std::process::ExitCode;

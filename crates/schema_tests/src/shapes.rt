@@ -1,7 +1,9 @@
-//! The shape walk: which fault of a payload it reports, and how many values it visits.
-use crate::payloads::{add_run, ints_of, object_payload, table_of};
+//! The tests of payloads and containers: which fault the shape walk reports and how many values it
+//! visits, the rules of texts and numbers, the first failed test, and names that stand twice.
+
+use crate::payloads::{add_run, ints_of, object_payload, payload_of, table_of};
 use crate::words::{add_cause, add_outcome, int_of};
-use adb_schema::{Field, Kind, Which, fields_of, shape};
+use adb_schema::{Checked, Field, Kind, ReadFault, Which, fields_of, read_adb, shape};
 use adb_tables::walk_fields;
 use adb_view::{Adb, Val};
 use base_core::{Cause, Words};
@@ -133,4 +135,32 @@ pub fn add_many_files(alloc: Global, count: &[u8], answer: &mut Vec<u8>) -> Resu
     let folders = 0xd000_0000 + 40 + 4 * count;
     let payload = object_payload(alloc, &[0, folders], &more)?;
     add_outcome(alloc, fault_of(&payload, Which::Package), answer)
+}
+
+/// Adds the fault of the value of `rules TABLE VALUE`.
+pub fn add_rule(alloc: Global, words: &Words, answer: &mut Vec<u8>) -> Result<(), AllocError> {
+    let payload = payload_of(alloc, words, 2)?;
+    let checked = check(alloc, &payload, table_of(word_at(words, 1)));
+    add_outcome(alloc, cause_in(checked)?, answer)
+}
+
+fn check(alloc: Global, payload: &[u8], which: Which) -> Result<(), ReadFault> {
+    let shaped = shape(Adb::new(payload)?, which)?;
+    Checked::new(alloc, shaped)?;
+    Ok(())
+}
+
+/// Adds the first failed test of the file of `container BYTES TABLE`.
+pub fn add_container(alloc: Global, words: &Words, answer: &mut Vec<u8>) -> Result<(), AllocError> {
+    let read = read_adb(alloc, word_at(words, 1), table_of(word_at(words, 2)));
+    add_outcome(alloc, cause_in(read)?, answer)
+}
+
+/// The cause of a refusal, if it is not want of memory, which is passed on.
+fn cause_in<T: Drop>(found: Result<T, ReadFault>) -> Result<Result<(), Cause>, AllocError> {
+    match found {
+        Ok(_) => Ok(Ok(())),
+        Err(ReadFault::Bad(cause)) => Ok(Err(cause)),
+        Err(ReadFault::Memory) => Err(AllocError),
+    }
 }

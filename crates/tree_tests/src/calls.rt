@@ -1,7 +1,6 @@
 //! Calls of a tree in memory that read a part or write: which are a misuse, and what then stands
 //! in the tree.
-use crate::names::{long_at, name_at};
-use crate::trees::add_tree;
+use crate::trees::{add_tree, long_at, name_at};
 use base_core::{Name, Tree, Words};
 use row_lines::{add_number, add_word, value_named, word_at};
 use std::alloc::{AllocError, Global};

@@ -5,20 +5,19 @@
 #![tactic(auto)]
 
 mod calls;
-mod names;
-mod sinks;
 mod trees;
 
 use base_core::Words;
 use calls::{add_call, add_read, add_sync_names, make_turns};
-use names::{add_is_name, add_names};
 use row_lines::{Subject, run_program, value_named, word_at};
-use sinks::{add_sink_bytes, add_write, set_sink};
 use std::alloc::{AllocError, Global};
 use std::io;
 use std::process::ExitCode;
 use tree_memory::{MemorySink, MemoryTree};
-use trees::{add_counts, add_file, add_image, add_list, add_put, add_size, plan_failures};
+use trees::{
+    add_counts, add_file, add_image, add_is_name, add_list, add_names, add_put, add_sink_bytes,
+    add_size, add_write, plan_failures, set_sink,
+};
 
 /// What is asked.
 #[derive(Clone, Copy)]

@@ -1,9 +1,10 @@
-//! A tree in memory: what is put and read, which calls are to fail, and what a crash leaves.
-use crate::names::{add_each, long_at, name_at};
-use base_core::{Tree, Words, read_all};
-use row_lines::{add_number, add_word, add_yes_or_no, word_at};
+//! Names, a sink in memory, and a tree in memory: what is put and read, which calls are to fail,
+//! and what a crash leaves.
+
+use base_core::{Name, Names, Sink, Tree, Words, read_all, write_all};
+use row_lines::{add_number, add_word, add_yes_or_no, number_of, word_at};
 use std::alloc::{AllocError, Global};
-use tree_memory::MemoryTree;
+use tree_memory::{MemorySink, MemoryTree};
 
 /// Adds whether a file may be put under a name, and puts it there.
 pub fn add_put(
@@ -138,4 +139,90 @@ pub fn add_image(
     let image = tree.pick_image(alloc, long_at(words, 1))?;
     add_tree(alloc, &image, answer)?;
     add_counts(alloc, &image, answer)
+}
+
+/// Lets the sink end after so many bytes, or take at most so many in a write.
+pub fn set_sink(sink: &mut MemorySink, words: &Words) {
+    let count = usize::try_from(long_at(words, 1)).unwrap_or(0);
+    if word_at(words, 0) == b"fail_after".as_slice() {
+        sink.fail_after(count);
+    } else {
+        sink.take_at_most(count.max(1));
+    }
+}
+
+/// Adds how many bytes of a piece the sink takes, or of `write_all` whether it takes all.
+pub fn add_write(
+    alloc: Global,
+    sink: &mut MemorySink,
+    words: &Words,
+    answer: &mut Vec<u8>,
+) -> Result<(), AllocError> {
+    let piece = word_at(words, 1);
+    if word_at(words, 0) == b"write_all".as_slice() {
+        let taken = write_all(sink, piece).is_ok();
+        return answer.extend_from_slice(if taken { b"all" } else { b"failed" });
+    }
+    match sink.write(piece) {
+        Ok(taken) => add_number(alloc, answer, taken as u128),
+        Err(_) => answer.extend_from_slice(b"failed"),
+    }
+}
+
+/// Adds what the sink took, and how often it had no memory.
+pub fn add_sink_bytes(
+    alloc: Global,
+    sink: &MemorySink,
+    answer: &mut Vec<u8>,
+) -> Result<(), AllocError> {
+    answer.extend_from_slice(sink.bytes())?;
+    add_word(answer, b"wants ")?;
+    add_number(alloc, answer, u128::from(sink.wants()))
+}
+
+/// Adds whether bytes are a name, which lends them, and so does its copy.
+pub fn add_is_name(alloc: Global, words: &Words, answer: &mut Vec<u8>) -> Result<(), AllocError> {
+    let bytes = word_at(words, 1);
+    match Name::read(alloc, bytes)? {
+        Some(name) => {
+            let copied = name.copy(alloc)?;
+            add_yes_or_no(
+                answer,
+                name.as_bytes() == bytes && copied.as_bytes() == bytes,
+            )
+        }
+        None => add_yes_or_no(answer, false),
+    }
+}
+
+/// The name that a word is; none where it is no name.
+pub fn name_at(alloc: Global, words: &Words, i: usize) -> Result<Option<Name>, AllocError> {
+    Name::read(alloc, word_at(words, i))
+}
+
+/// The number that a word is; 0 where it is none.
+pub fn long_at(words: &Words, i: usize) -> u64 {
+    number_of(word_at(words, i))
+        .and_then(|number| u64::try_from(number).ok())
+        .unwrap_or(0)
+}
+
+/// Lists the words that are names, and adds how many there are, and each.
+pub fn add_names(alloc: Global, words: &Words, answer: &mut Vec<u8>) -> Result<(), AllocError> {
+    let mut names = Names::new(alloc);
+    for i in 1..words.len() {
+        if let Some(name) = name_at(alloc, words, i)? {
+            names.push(name)?;
+        }
+    }
+    add_number(alloc, answer, names.len() as u128)?;
+    add_each(&names, answer)
+}
+
+/// Adds each name of a list.
+pub fn add_each(names: &Names, answer: &mut Vec<u8>) -> Result<(), AllocError> {
+    for i in 0..names.len() {
+        add_word(answer, names.get(i).as_bytes())?;
+    }
+    Ok(())
 }

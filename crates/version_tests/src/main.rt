@@ -3,18 +3,16 @@
 //! form.
 #![tactic(auto)]
 
-mod dependencies;
 mod versions;
 mod worlds;
 
 use base_core::Words;
-use dependencies::{add_dependency, add_meeting, is_name};
 use row_lines::{Subject, add_yes_or_no, run_program, value_named, word_at};
 use std::alloc::{AllocError, Global};
 use std::io;
 use std::process::ExitCode;
 use versions::{add_operators, match_of, order_of, reads_as_itself};
-use worlds::{add_edits, add_repositories, add_world};
+use worlds::{add_dependency, add_edits, add_meeting, add_repositories, add_world, is_name};
 
 /// What is asked.
 #[derive(Clone, Copy)]

@@ -24,15 +24,15 @@ pub write_fields-returns-then-i-len : goal.write_fields-returns-then-i-len
 write_fields-returns-then-i-len g t c =
     so_far_all (g.O.Out.holds (payload_of c.args.adb)) _ _ _ _ (words_end c.args.start.depth c.loop-i.begun (payload_of c.args.adb) c.args.fields.now (array_entries c.args.words) c.loop-i.i (omega (arith, c.len.ensures.value, c.if-i-len.true))) c.loop-i.invariant.so_far
 
-pub write_field-returns-in_ok-put : goal.write_field-returns-in_ok-put
-write_field-returns-in_ok-put g t c =
+pub write_field-returns-in_ok-write_name : goal.write_field-returns-in_ok-write_name
+write_field-returns-in_ok-write_name g t c =
     on_ok_then _ _ _ (λ block. puts_told (g.O.Out.holds (payload_of c.args.adb)) _ _ _ _ (field_behind c.args.field.kind c.args.start.depth c.args.start.begun _ (value_at (payload_of c.args.adb) c.args.field.kind c.args.word) (sym c.has_one_line.ensures ∙ c.if-has_one_line.true))
-    (puts_on (g.O.Out.holds (payload_of c.args.adb)) _ _ _ _ _ (puts_on (g.O.Out.holds (payload_of c.args.adb)) _ _ _ _ _ (c.in_ok-write_name.ensures (payload_of c.args.adb)) (c.in_ok-put.ensures (payload_of c.args.adb))) block)) c.write_block.ensures
+    (puts_on (g.O.Out.holds (payload_of c.args.adb)) _ _ _ _ _ (c.in_ok-write_name.ensures (payload_of c.args.adb)) block)) c.write_block.ensures
 
-pub write_field-returns-in_ok-put-2 : goal.write_field-returns-in_ok-put-2
-write_field-returns-in_ok-put-2 g t c =
+pub write_field-returns-in_ok-write_name-2 : goal.write_field-returns-in_ok-write_name-2
+write_field-returns-in_ok-write_name-2 g t c =
     on_ok_then _ _ _ (λ block. puts_told (g.O.Out.holds (payload_of c.args.adb)) _ _ _ _ (field_below c.args.field.kind c.args.start.depth c.args.start.begun _ (value_at (payload_of c.args.adb) c.args.field.kind c.args.word) (sym c.has_one_line.ensures ∙ c.if-has_one_line.false))
-    (puts_on (g.O.Out.holds (payload_of c.args.adb)) _ _ _ _ _ (puts_on (g.O.Out.holds (payload_of c.args.adb)) _ _ _ _ _ (c.in_ok-write_name.ensures (payload_of c.args.adb)) (c.in_ok-put-2.ensures (payload_of c.args.adb))) block)) c.write_block-else-has_one_line.ensures
+    (puts_on (g.O.Out.holds (payload_of c.args.adb)) _ _ _ _ _ (c.in_ok-write_name-2.ensures (payload_of c.args.adb)) block)) c.write_block-else-has_one_line.ensures
 
 pub write_entries-loop-i-init : goal.write_entries-loop-i-init
 write_entries-loop-i-init g t c = record { sound = c.requires.sound; so_far = so_far_none (g.O.Out.holds (payload_of c.args.adb)) _ _ }

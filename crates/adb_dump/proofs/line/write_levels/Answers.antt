@@ -2,7 +2,7 @@ use Rattle.std.proofs.Common.{◌≡◌, ◌-◌, ap, arith}
 use Rattle.adb_dump.specs.Margin.{margin}
 use Rattle.adb_dump.proofs.Pieces.{margin_more, margin_over}
 use Rattle.adb_dump.proofs.Puts.{any_so_far_all, any_so_far_more, any_so_far_none, any_so_far_told}
-use Rattle.adb_dump.proofs.line.write_margin.Goals as goal
+use Rattle.adb_dump.proofs.line.write_levels.Goals as goal
 
 pub loop-level-init : goal.loop-level-init
 loop-level-init g c =

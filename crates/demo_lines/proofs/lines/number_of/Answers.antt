@@ -4,7 +4,7 @@ use Rattle.std.proofs.lemmas.Str.{IsUtf8-from_ascii}
 use Rattle.command_core.specs.Operands.{is_demo_number}
 use Rattle.command_core.proofs.Numbers.{decimal_digits, digits_ascii, too_large}
 use Rattle.demo_lines.proofs.Numbers.{number_decimal}
-use Rattle.demo_lines.proofs.count.number_of.Goals as goal
+use Rattle.demo_lines.proofs.lines.number_of.Goals as goal
 
 pub unreachable-requires : goal.unreachable-requires
 unreachable-requires c =

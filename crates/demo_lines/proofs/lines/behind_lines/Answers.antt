@@ -1,7 +1,7 @@
 use Rattle.std.proofs.Common.{arith, rules}
 use Rattle.std.proofs.lemmas.List.{take_all}
 use Rattle.std.proofs.lemmas.List.Sums.{suffix_len-take_yes}
-use Rattle.demo_lines.proofs.report.behind_lines.Goals as goal
+use Rattle.demo_lines.proofs.lines.behind_lines.Goals as goal
 
 pub loop-start-init : goal.loop-start-init
 loop-start-init c = search (rules, take_all)

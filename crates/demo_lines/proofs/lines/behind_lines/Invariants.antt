@@ -1,7 +1,7 @@
 use Rattle.std.proofs.Common.{◌≡◌, ◌+◌, ◌≤◌, length, take, not}
 use Rattle.std.specs.List.{suffix_len}
 use Rattle.dep_core.specs.World.{is_line_end}
-use Rattle.demo_lines.proofs.report.behind_lines.Given as goal
+use Rattle.demo_lines.proofs.lines.behind_lines.Given as goal
 
 -- from there on no line ends
 abbrev pub invariant-loop-start : goal.invariant-loop-start
