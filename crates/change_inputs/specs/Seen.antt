@@ -11,7 +11,7 @@ use Rattle.change_inputs.specs.Inputs.{Inputs, Root, inputs_by}
 use Rattle.change_inputs.specs.declared.database.DatabaseFile.{DatabaseFile}
 use Rattle.change_inputs.specs.declared.database.DatabaseFile.TheVariants.{Container, New, Payload}
 use Rattle.change_inputs.specs.declared.index.IndexFiles.{IndexFiles}
-use Rattle.change_inputs.specs.declared.database.Installed.{Installed}
+use Rattle.change_inputs.specs.declared.installed.Installed.{Installed}
 use Rattle.change_inputs.specs.declared.loaded.Loaded.{Loaded}
 use Rattle.change_inputs.specs.declared.root.TestedRoot.{TestedRoot}
 

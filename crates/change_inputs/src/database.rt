@@ -1,14 +1,12 @@
-//! The database of a root: its file, or the text database that is taken over; and the database
-//! alone, for commands that change nothing.
-
+//! The database of a root: its file, or the text database that is taken over.
 ghost use Rattle.adb_fields.specs.ListValue.{list_value};
 ghost use Rattle.adb_fields.specs.Repeated.{list_of};
 ghost use Rattle.adb_schema.specs.Soundness.{first_fault, payload_fault, payload_in, root_value};
 ghost use Rattle.adb_schema.specs.Views.{idb_value};
 ghost use Rattle.adb_tables.specs.Values.{entries_in};
 ghost use Rattle.adb_tables.specs.declared.tables.Which.TheVariants as Tables;
-ghost use Rattle.base_core.specs.Read.{bytes_in, OnlyReads};
-ghost use Rattle.change_inputs.specs.Answers.{Agrees, AgreesUnlessDisk};
+ghost use Rattle.base_core.specs.Read.{bytes_in};
+ghost use Rattle.change_inputs.specs.Answers.{Agrees};
 ghost use Rattle.change_inputs.specs.Candidates.{with_all_installed};
 ghost use Rattle.change_inputs.specs.Database.{container_database, new_database, root_database, text_database};
 ghost use Rattle.db_core.specs.Seen.{packages_of};
@@ -17,14 +15,9 @@ ghost use Rattle.pool_core.specs.declared.pool.TheConstants.{MOST_CANDIDATES};
 ghost use Rattle.std.specs.Option.{option_copied};
 ghost use Rattle.std.specs.Prelude.{◌≡◌, ◌≤◌, true, None, Ok, is_none, IfErr, IfOk, OnOk, length};
 ghost use Rattle.v2_core.specs.Payload.{IsV2Fault, payload_of_text};
-ghost use Rattle.change_inputs.specs.Inputs.{database_for};
-ghost use Rattle.change_inputs.specs.Seen.{installed_seen};
-ghost use Rattle.make_package.specs.Runs.{Explains};
 
-use crate::root::{Refused, payload_in, read_databases, test_file};
+use crate::root::{Refused, payload_in, test_file};
 use adb_schema::{IdbView, List, PackageView, ReadFault, Which};
-use base_core::Tree;
-use command_core::Command;
 use db_core::{Db, open_idb};
 use pool_core::{Pool, PoolFault};
 use report_core::Refusal;
@@ -231,43 +224,4 @@ fn payload_of_text(alloc: Global, text: &[u8]) -> Result<DatabasePayload, V2Faul
 {
     let payload = read_v2(alloc, text)?;
     Ok(DatabasePayload { payload })
-}
-
-/// The database of a root, which passed its tests. Its bytes are kept.
-#[derive(Drop)]
-pub struct Installed {
-    database: DatabaseFile,
-}
-
-impl Installed {
-    /// Reads what is installed, as a command that changes nothing needs it. The tree stays as it
-    /// is, whatever the answer.
-    ///
-    /// # Errors
-    ///
-    /// `NoDatabase`, where there is none and `--initdb` is not given; `DatabaseBad`, or
-    /// `ResultTooLarge` of a text database that passes a limit of the writer. `Disk` where the tree
-    /// failed, and `Memory`.
-    pub fn read<T: Tree>(
-        alloc: Global,
-        command: &Command,
-        tree: &mut T,
-    ) -> Result<Installed, Refused>
-        ensures found { Explains (T.history tree.old) (λ read.
-            AgreesUnlessDisk installed_seen result (database_for command.now read)) }
-        ensures tree { OnlyReads Refused.Disk (T.history tree.old) (T.history tree.new)
-            (T.counts tree.old) (T.counts tree.new) result }
-    {
-        let found = read_databases(alloc, tree)?;
-        let may_begin = command.flags().initdb;
-        let database = DatabaseFile::of(alloc, may_begin, found.0, found.1)?;
-        Ok(Installed { database })
-    }
-
-    /// The packages that are installed.
-    pub fn db(&self, alloc: Global) -> Result<Db<'_>, AllocError>
-        ensures { IfOk result (λ db. packages_of db ≡ (installed_seen self.now).packages) }
-    {
-        self.database.open(alloc)
-    }
 }

@@ -9,10 +9,11 @@
 
 mod database;
 mod index;
+mod installed;
 mod loaded;
 mod root;
 mod world;
 
-pub use database::Installed;
+pub use installed::Installed;
 pub use loaded::Loaded;
 pub use root::{Refused, inputs_rest_on_their_own_reads};

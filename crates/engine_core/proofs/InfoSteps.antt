@@ -8,7 +8,7 @@ use Rattle.change_inputs.specs.Answers.{Agrees, AgreesUnlessDisk}
 use Rattle.change_inputs.specs.Database.{Database}
 use Rattle.change_inputs.specs.Inputs.{database_for}
 use Rattle.change_inputs.specs.Seen.{installed_seen}
-use Rattle.change_inputs.specs.declared.database.Installed.{Installed}
+use Rattle.change_inputs.specs.declared.installed.Installed.{Installed}
 use Rattle.change_inputs.specs.declared.root.Refused.{Refused}
 use Rattle.command_core.specs.Command.{CommandLine}
 use Rattle.installed_info.specs.Info.{info_of}

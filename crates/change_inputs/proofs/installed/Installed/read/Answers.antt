@@ -5,7 +5,7 @@ use Rattle.change_inputs.proofs.Explained.{database_failed, database_given, data
 use Rattle.change_inputs.specs.Answers.{Agrees}
 use Rattle.change_inputs.specs.Database.{root_database}
 use Rattle.change_inputs.specs.Seen.{database_seen, installed_seen}
-use Rattle.change_inputs.proofs.database.Installed.read.Goals as goal
+use Rattle.change_inputs.proofs.installed.Installed.read.Goals as goal
 
 pub returns-in_err-found-clause-found : goal.returns-in_err-found-clause-found
 returns-in_err-found-clause-found g c = database_failed installed_seen _ c.args.command.now c.from_residual.result _ c.from_residual.ensures.1 c.in_err-found.ensures.failed

@@ -1,0 +1,54 @@
+//! The database of a root alone.
+ghost use Rattle.base_core.specs.Read.{OnlyReads};
+ghost use Rattle.change_inputs.specs.Answers.{AgreesUnlessDisk};
+ghost use Rattle.change_inputs.specs.Inputs.{database_for};
+ghost use Rattle.change_inputs.specs.Seen.{installed_seen};
+ghost use Rattle.db_core.specs.Seen.{packages_of};
+ghost use Rattle.make_package.specs.Runs.{Explains};
+ghost use Rattle.std.specs.Prelude.{◌≡◌, IfOk};
+
+use crate::database::DatabaseFile;
+use crate::root::{Refused, read_databases};
+use base_core::Tree;
+use command_core::Command;
+use db_core::Db;
+use std::alloc::{AllocError, Global};
+
+/// The database of a root, which passed its tests. Its bytes are kept.
+#[derive(Drop)]
+pub struct Installed {
+    database: DatabaseFile,
+}
+
+impl Installed {
+    /// Reads what is installed, as a command that changes nothing needs it. The tree stays as it
+    /// is, whatever the answer.
+    ///
+    /// # Errors
+    ///
+    /// `NoDatabase`, where there is none and `--initdb` is not given; `DatabaseBad`, or
+    /// `ResultTooLarge` of a text database that passes a limit of the writer. `Disk` where the tree
+    /// failed, and `Memory`.
+    pub fn read<T: Tree>(
+        alloc: Global,
+        command: &Command,
+        tree: &mut T,
+    ) -> Result<Installed, Refused>
+        ensures found { Explains (T.history tree.old) (λ read.
+            AgreesUnlessDisk installed_seen result (database_for command.now read)) }
+        ensures tree { OnlyReads Refused.Disk (T.history tree.old) (T.history tree.new)
+            (T.counts tree.old) (T.counts tree.new) result }
+    {
+        let found = read_databases(alloc, tree)?;
+        let may_begin = command.flags().initdb;
+        let database = DatabaseFile::of(alloc, may_begin, found.0, found.1)?;
+        Ok(Installed { database })
+    }
+
+    /// The packages that are installed.
+    pub fn db(&self, alloc: Global) -> Result<Db<'_>, AllocError>
+        ensures { IfOk result (λ db. packages_of db ≡ (installed_seen self.now).packages) }
+    {
+        self.database.open(alloc)
+    }
+}
