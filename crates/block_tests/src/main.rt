@@ -4,10 +4,9 @@
 
 use adb_block::{Block, BlockKind, Blocks, Frame, block_head, frame_of, head_len};
 use base_core::{Cause, Words};
-use row_lines::{Subject, add_number, add_word, number_of, run_lines, value_named, word_at};
+use row_lines::{Subject, add_number, add_word, number_of, run_program, value_named, word_at};
 use std::alloc::{AllocError, Global};
 use std::io;
-use std::io::{Read, Write};
 use std::process::ExitCode;
 
 /// The most blocks of a row.
@@ -204,11 +203,5 @@ fn add_lengths(alloc: Global, frame: Frame, answer: &mut Vec<u8>) -> Result<(), 
 }
 
 fn main(rt: HostRuntime) -> io::Result<ExitCode> {
-    let alloc = rt.alloc();
-    let mut text = Vec::new(alloc);
-    rt.stdin().read_to_end(&mut text)?;
-    let mut report = Vec::new(alloc);
-    let passed = run_lines(alloc, &mut Containers, &text, &mut report)?;
-    rt.stdout().write_all(&report)?;
-    Ok(ExitCode::from(if passed { 0 } else { 1 }))
+    run_program(&rt, rt.alloc(), &mut Containers)
 }

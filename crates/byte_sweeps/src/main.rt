@@ -11,10 +11,9 @@ mod tally;
 
 use base_core::Words;
 use reading::Test;
-use row_lines::{Subject, run_lines, value_named, word_at};
+use row_lines::{Subject, run_program, value_named, word_at};
 use std::alloc::{AllocError, Global};
 use std::io;
-use std::io::{Read, Write};
 use std::process::ExitCode;
 use tally::Tally;
 
@@ -165,13 +164,8 @@ fn add_cuts(
 
 fn main(rt: HostRuntime) -> io::Result<ExitCode> {
     let alloc = rt.alloc();
-    let mut text = Vec::new(alloc);
-    rt.stdin().read_to_end(&mut text)?;
     let mut container = CurrentContainer {
         bytes: Vec::new(alloc),
     };
-    let mut report = Vec::new(alloc);
-    let passed = run_lines(alloc, &mut container, &text, &mut report)?;
-    rt.stdout().write_all(&report)?;
-    Ok(ExitCode::from(if passed { 0 } else { 1 }))
+    run_program(&rt, alloc, &mut container)
 }

@@ -11,10 +11,9 @@ use base_core::{Name, Words};
 use change::{changed_database, unchanged_database};
 use db_core::Db;
 use package::package_file;
-use row_lines::{Subject, add_number, add_word, run_lines, value_named, word_at};
+use row_lines::{Subject, add_number, add_word, run_program, value_named, word_at};
 use std::alloc::{AllocError, Global};
 use std::io;
-use std::io::{Read, Write};
 use std::process::ExitCode;
 
 /// What is asked.
@@ -153,14 +152,9 @@ fn add_place(alloc: Global, found: Option<usize>, answer: &mut Vec<u8>) -> Resul
 
 fn main(rt: HostRuntime) -> io::Result<ExitCode> {
     let alloc = rt.alloc();
-    let mut text = Vec::new(alloc);
-    rt.stdin().read_to_end(&mut text)?;
     let mut installed = Installed {
         file: Vec::new(alloc),
         coming: Vec::new(alloc),
     };
-    let mut report = Vec::new(alloc);
-    let passed = run_lines(alloc, &mut installed, &text, &mut report)?;
-    rt.stdout().write_all(&report)?;
-    Ok(ExitCode::from(if passed { 0 } else { 1 }))
+    run_program(&rt, alloc, &mut installed)
 }

@@ -11,17 +11,21 @@ pub fn mkpkg_words(alloc: Global, i: u16) -> Result<Words, AllocError>
     ensures { IfOk result (λ words. words ≡ mkpkg_words i) }
 {
     let mut words = Words::new(alloc);
-    words.push(b"mkpkg")?;
-    words.push(b"-F")?;
-    words.push(&demo_folder(alloc, i)?)?;
-    words.push(b"-o")?;
-    words.push(&demo_package(alloc, i)?)?;
-    words.push(b"-I")?;
-    push_named(&mut words, alloc, b"name:", i)?;
-    words.push(b"-I")?;
-    words.push(&version_word(alloc, i)?)?;
-    push_depends(&mut words, alloc, i)?;
+    push_mkpkg(&mut words, alloc, i)?;
     Ok(words)
+}
+
+// The same, where there is no word yet.
+fn push_mkpkg(words: &mut Words, alloc: Global, i: u16) -> Result<(), AllocError>
+    requires { words.old ≡ [] }
+    ensures { OnOk result (words.new ≡ mkpkg_words i) }
+{
+    words.push(b"mkpkg")?;
+    push_option(words, b"-F", &demo_folder(alloc, i)?)?;
+    push_option(words, b"-o", &demo_package(alloc, i)?)?;
+    push_option(words, b"-I", &name_word(alloc, b"name:", i)?)?;
+    push_option(words, b"-I", &version_word(alloc, i)?)?;
+    push_depends(words, alloc, i)
 }
 
 // What package i depends on, if it depends on one.
@@ -32,19 +36,25 @@ fn push_depends(words: &mut Words, alloc: Global, i: u16) -> Result<(), AllocErr
     if i < 2 {
         return Ok(());
     }
-    words.push(b"-I")?;
-    push_named(words, alloc, b"depends:", i / 2)?;
-    Ok(())
+    push_option(words, b"-I", &name_word(alloc, b"depends:", i / 2)?)
 }
 
-// A word, and behind it the name of package i.
-fn push_named(words: &mut Words, alloc: Global, word: &[u8], i: u16) -> Result<(), AllocError>
+// An option and its value.
+fn push_option(words: &mut Words, option: &[u8], value: &[u8]) -> Result<(), AllocError>
     requires { length words.old < 32 }
-    ensures { OnOk result (words.new ≡ words.old ++ (word.now ++ demo_name i) ∷ []) }
+    ensures { OnOk result (words.new ≡ words.old ++ option.now ∷ value.now ∷ []) }
 {
-    let mut text = Vec::from_slice(alloc, word)?;
+    words.push(option)?;
+    words.push(value)
+}
+
+// A word, and in it the name of package i.
+fn name_word(alloc: Global, front: &[u8], i: u16) -> Result<Vec<u8>, AllocError>
+    ensures { IfOk result (λ text. text.items ≡ front.now ++ demo_name i) }
+{
+    let mut text = Vec::from_slice(alloc, front)?;
     push_name(&mut text, i)?;
-    words.push(&text)
+    Ok(text)
 }
 
 // The word that gives the version of package i.

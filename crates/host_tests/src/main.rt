@@ -5,9 +5,8 @@
 use base_core::{Disk, Name, Tree, TreeFault, Words};
 use host_files::{Host, Lock};
 use host_tree::HostTree;
-use row_lines::{Subject, add_number, add_word, add_yes_or_no, number_of, run_lines, word_at};
+use row_lines::{Subject, add_number, add_word, add_yes_or_no, number_of, run_program, word_at};
 use std::alloc::{AllocError, Global};
-use std::io::{Read, Write};
 use std::os::unix::fs::symlink;
 use std::process::ExitCode;
 use std::{fs, io, str};
@@ -158,14 +157,9 @@ fn add_outcome<E: Drop>(answer: &mut Vec<u8>, outcome: Result<(), E>) -> Result<
 
 fn main(rt: HostRuntime) -> io::Result<ExitCode> {
     let alloc = rt.alloc();
-    let mut text = Vec::new(alloc);
-    rt.stdin().read_to_end(&mut text)?;
-    let mut report = Vec::new(alloc);
     let mut folder = HostFolder {
         rt: &rt,
         tree: HostTree::new(&rt, alloc, Lock::Exclusive),
     };
-    let passed = run_lines(alloc, &mut folder, &text, &mut report)?;
-    rt.stdout().write_all(&report)?;
-    Ok(ExitCode::from(if passed { 0 } else { 1 }))
+    run_program(&rt, alloc, &mut folder)
 }

@@ -8,13 +8,12 @@ ghost use Rattle.std.specs.Prelude.{◌≡◌, ◌≤◌, [], OnOk, OnErr, true}
 ghost use Rattle.base_core.specs.Faults.{next_count};
 ghost use Rattle.host_tree.specs.Host.{host_counts};
 
-mod folders;
 mod listing;
-mod root;
 
 use base_core::{Disk, Name, Names, Tree, TreeFault};
 use host_files::{Failure, Host, HostFault, Lock};
-use root::Root;
+use host_root::Root;
+use listing::list_below;
 use std::alloc::Global;
 
 /// The folder that the program runs in. It tells nothing of its files; each call that answers a
@@ -72,13 +71,11 @@ impl<'a, R: Host> HostTree<'a, R> {
         Disk
     }
 
-    /// What a call on a path answers, and on a second path or none, with its fault counted. Want of
-    /// memory is a fault too.
+    /// What a call on a name answers, with its fault counted. Want of memory is a fault too.
     fn note_answer<T>(
         &mut self,
         call: &'static str,
-        path: &[u8],
-        target: &[u8],
+        name: &Name,
         answer: Result<T, HostFault>,
     ) -> Result<T, Disk>
         ensures ok { OnOk result (self.new.faults ≡ self.old.faults) }
@@ -87,7 +84,7 @@ impl<'a, R: Host> HostTree<'a, R> {
     {
         match answer {
             Ok(value) => Ok(value),
-            Err(fault) => Err(self.note_failure(call, path, target, fault)),
+            Err(fault) => Err(self.note_failure(call, name.as_bytes(), b"", fault)),
         }
     }
 }
@@ -104,46 +101,52 @@ impl<'a, R: Host> Tree for HostTree<'a, R> {
 
     fn size(&mut self, name: &Name) -> Result<Option<u64>, Disk> {
         let answer = self.root.length_of(name.as_bytes());
-        self.note_answer("look at", name.as_bytes(), b"", answer)
+        self.note_answer("look at", name, answer)
     }
 
     fn read_at(&mut self, name: &Name, at: u64, into: &mut [u8]) -> Result<(), Disk> {
         let answer = self.root.fill(name.as_bytes(), at, into);
-        self.note_answer("read", name.as_bytes(), b"", answer)
+        self.note_answer("read", name, answer)
     }
 
     fn create(&mut self, name: &Name) -> Result<(), Disk> {
         let answer = self.root.begin(name.as_bytes());
-        self.note_answer("create", name.as_bytes(), b"", answer)
+        self.note_answer("create", name, answer)
     }
 
     fn append(&mut self, name: &Name, piece: &[u8]) -> Result<(), Disk> {
         let answer = self.root.add(name.as_bytes(), piece);
-        self.note_answer("write", name.as_bytes(), b"", answer)
+        self.note_answer("write", name, answer)
     }
 
     fn sync(&mut self, name: &Name) -> Result<(), Disk> {
         let answer = self.root.write_file_through(name.as_bytes());
-        self.note_answer("sync", name.as_bytes(), b"", answer)
+        self.note_answer("sync", name, answer)
     }
 
     fn rename(&mut self, from: &Name, to: &Name) -> Result<(), Disk> {
-        let answer = self.root.move_file(from.as_bytes(), to.as_bytes());
-        self.note_answer("rename", from.as_bytes(), to.as_bytes(), answer)
+        match self.root.move_file(from.as_bytes(), to.as_bytes()) {
+            Ok(()) => Ok(()),
+            Err(fault) => {
+                Err(self.note_failure("rename", from.as_bytes(), to.as_bytes(), fault))
+            }
+        }
     }
 
     fn remove(&mut self, name: &Name) -> Result<(), Disk> {
         let answer = self.root.take_off(name.as_bytes());
-        self.note_answer("remove", name.as_bytes(), b"", answer)
+        self.note_answer("remove", name, answer)
     }
 
     fn sync_names(&mut self) -> Result<(), Disk> {
-        let answer = self.root.write_names_through();
-        self.note_answer("sync folders", b"", b"", answer)
+        match self.root.write_names_through() {
+            Ok(()) => Ok(()),
+            Err(fault) => Err(self.note_failure("sync folders", b"", b"", fault)),
+        }
     }
 
     fn list(&mut self, alloc: Global, folder: &Name) -> Result<Names, TreeFault> {
-        match self.root.list(alloc, folder) {
+        match list_below(&mut self.root, alloc, folder) {
             Ok(names) => Ok(names),
             Err(HostFault::Memory) => Err(TreeFault::Memory),
             Err(fault) => {

@@ -6,35 +6,35 @@ ghost use Rattle.std.specs.Ordering.{nat_cmp};
 ghost use Rattle.base_core.specs.Files.{IsFolderOf};
 ghost use Rattle.base_core.specs.Listed.{AreNamesBelow, IsRising};
 
-use super::folders::Folders;
 use base_core::{Name, Names, is_folder_of};
 use host_files::{Found, Host, HostFault, Reason, path_text};
+use host_root::Root;
 use std::alloc::{AllocError, Global};
 use std::fs;
 
 /// The names of all regular files below a folder, at any depth, in byte order, each once.
 pub fn list_below<R: Host>(
-    rt: &R,
+    root: &mut Root<'_, R>,
     alloc: Global,
-    known: &mut Folders,
     folder: &Name,
 ) -> Result<Names, HostFault>
     ensures { IfOk result (AreNamesBelow folder.now) }
 {
+    root.enter()?;
     let mut walk = Walk {
         alloc,
         folders: Vec::new(alloc),
         files: Vec::new(alloc),
     };
-    if known.find(rt, folder.as_bytes())?.is_folder() {
+    if root.find(folder.as_bytes())?.is_folder() {
         keep(&mut walk.folders, folder.copy(alloc)?)?;
     }
     for _ in 0..u64::MAX {
         let Some(next) = walk.folders.pop() else {
             break;
         };
-        known.keep_known(next.as_bytes())?;
-        walk.visit(rt, known, folder, &next)?;
+        root.keep_known(next.as_bytes())?;
+        walk.visit(root, folder, &next)?;
     }
     Ok(walk.into_names()?)
 }
@@ -48,43 +48,41 @@ struct Walk {
 }
 
 impl Walk {
-    /// Finds what stands in a folder, which is the root or below it.
+    /// Finds what stands in a folder, which is the top one or below it.
     fn visit<R: Host>(
         &mut self,
-        rt: &R,
-        known: &mut Folders,
-        root: &Name,
+        root: &mut Root<'_, R>,
+        top: &Name,
         folder: &Name,
     ) -> Result<(), HostFault>
-        requires { All (IsFolderOf root.now) self.old.files.items }
-        ensures { All (IsFolderOf root.now) self.new.files.items }
+        requires { All (IsFolderOf top.now) self.old.files.items }
+        ensures { All (IsFolderOf top.now) self.new.files.items }
     {
-        for entry in fs::read_dir(rt, path_text(folder.as_bytes())?)? {
+        for entry in fs::read_dir(root.runtime(), path_text(folder.as_bytes())?)? {
             let entry = entry?;
-            self.meet(rt, known, root, entry.path().as_str().as_bytes())?;
+            self.meet(root, top, entry.path().as_str().as_bytes())?;
         }
         Ok(())
     }
 
     /// Keeps what stands at a path. A path that is no name is a fault, so the walk is as deep as a
-    /// name at most, and so is a path that is not below the root.
+    /// name at most, and so is a path that is not below the top folder.
     fn meet<R: Host>(
         &mut self,
-        rt: &R,
-        known: &mut Folders,
-        root: &Name,
+        root: &mut Root<'_, R>,
+        top: &Name,
         path: &[u8],
     ) -> Result<(), HostFault>
-        requires { All (IsFolderOf root.now) self.old.files.items }
-        ensures { All (IsFolderOf root.now) self.new.files.items }
+        requires { All (IsFolderOf top.now) self.old.files.items }
+        ensures { All (IsFolderOf top.now) self.new.files.items }
     {
         let Some(name) = Name::read(self.alloc, path)? else {
             return Err(HostFault::at(self.alloc, Reason::NoName, path));
         };
-        if !is_folder_of(root.as_bytes(), path) {
+        if !is_folder_of(top.as_bytes(), path) {
             return Err(HostFault::at(self.alloc, Reason::NoName, path));
         }
-        match known.find(rt, path)? {
+        match root.find(path)? {
             Found::Folder => Ok(keep(&mut self.folders, name)?),
             Found::File(_) => Ok(keep(&mut self.files, name)?),
             Found::Nothing => Ok(()),

@@ -126,7 +126,7 @@ module _ (refused : (c : CommandLine) (packages : List Plain) (refusal : Refusal
   operand_other command refusal (operand, among, told) cause is = cc (told, is)
 
   told_other : (command : CommandLine) (packages : List Plain) (files : Files) (told : Result InfoDone Refusal) → info_of command packages ≡ told → NamesNoIntent (told_outcome files told)
-  told_other command packages files (Ok done) is cause behind = operand_other command (IntentBad cause) (late command packages done (IntentBad cause) is behind).1 cause refl
+  told_other command packages files (Ok done) is = λ cause behind. operand_other command (IntentBad cause) (late command packages done (IntentBad cause) is behind).1 cause refl
   told_other command packages files (Err refusal) is = refused_other files refusal (operand_other command refusal (refused command packages refusal is))
 
   database_other : (command : CommandLine) (files : Files) (database : Result Database Refusal) → ErrIsOther database → NamesNoIntent (told_outcome files (and_then database (λ d. info_of command d.packages)))
@@ -164,8 +164,8 @@ module _ (refused : (c : CommandLine) (packages : List Plain) (refusal : Refusal
 
     by_command : (read : Result CommandLine ℕ) (files : Files) (o : Outcome) (cause : Cause) → does_recover (effect_by read) ≡ true → IsOutcomeBy read files o → o.refusal ≡ Some (IntentBad cause)
         → recovery_fault (effect_by read) files ≡ Some cause
-    by_command (Ok command) files o cause recovers one =
-        unless_other command files o cause (recovery_fault (effect_of command.applet) files) recovers (no_demo command.applet command files o recovers one)
+    by_command (Ok command) files o cause recovers one refusal =
+        unless_other command files o cause (recovery_fault (effect_of command.applet) files) recovers (no_demo command.applet command files o recovers one) refusal
     by_command (Err place) files o cause recovers one refusal = absurd (false≢true recovers)
 
     pub refused_bad : (words : List (List ℕ)) (files : Files) (o : Outcome) (cause : Cause) → does_recover (effect_by (command_of words)) ≡ true → IsOutcome words files o → o.refusal ≡ Some (IntentBad cause)

@@ -8,10 +8,9 @@ mod package;
 use answer::add_owners;
 use base_core::Words;
 use package::package_of;
-use row_lines::{Subject, run_lines, value_named, word_at};
+use row_lines::{Subject, run_program, value_named, word_at};
 use std::alloc::{AllocError, Global};
 use std::io;
-use std::io::{Read, Write};
 use std::process::ExitCode;
 
 /// What is asked.
@@ -64,13 +63,8 @@ impl Subject for ComingPackages {
 
 fn main(rt: HostRuntime) -> io::Result<ExitCode> {
     let alloc = rt.alloc();
-    let mut text = Vec::new(alloc);
-    rt.stdin().read_to_end(&mut text)?;
-    let mut report = Vec::new(alloc);
     let mut change = ComingPackages {
         packages: Vec::new(alloc),
     };
-    let passed = run_lines(alloc, &mut change, &text, &mut report)?;
-    rt.stdout().write_all(&report)?;
-    Ok(ExitCode::from(if passed { 0 } else { 1 }))
+    run_program(&rt, alloc, &mut change)
 }

@@ -23,12 +23,11 @@ use adb_view::Adb;
 use base_core::{Cause, Words};
 use piece_core::{FileCheck, Part, open_file};
 use pkg_core::Walk;
-use row_lines::{Subject, add_number, add_word, number_of, run_lines, value_named, word_at};
+use row_lines::{Subject, add_number, add_word, number_of, run_program, value_named, word_at};
 use sha1::Sha1;
 use sha2::Digest;
 use std::alloc::{AllocError, Global};
 use std::io;
-use std::io::{Read, Write};
 use std::process::ExitCode;
 
 /// The most bytes of a row's file.
@@ -237,11 +236,5 @@ fn add_opened(alloc: Global, words: &Words, answer: &mut Vec<u8>) -> Result<(), 
 }
 
 fn main(rt: HostRuntime) -> io::Result<ExitCode> {
-    let alloc = rt.alloc();
-    let mut text = Vec::new(alloc);
-    rt.stdin().read_to_end(&mut text)?;
-    let mut report = Vec::new(alloc);
-    let passed = run_lines(alloc, &mut Files, &text, &mut report)?;
-    rt.stdout().write_all(&report)?;
-    Ok(ExitCode::from(if passed { 0 } else { 1 }))
+    run_program(&rt, rt.alloc(), &mut Files)
 }

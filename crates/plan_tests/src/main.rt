@@ -11,10 +11,11 @@ use adb_schema::ReadFault;
 use base_core::{Name, Words};
 use change::{ToldChange, add_plan};
 use db_core::Db;
-use row_lines::{Subject, add_yes_or_no, number_of, run_lines, value_named, word_at, words_behind};
+use row_lines::{
+    Subject, add_yes_or_no, number_of, run_program, value_named, word_at, words_behind,
+};
 use std::alloc::{AllocError, Global};
 use std::io;
-use std::io::{Read, Write};
 use std::process::ExitCode;
 use tree_memory::MemoryTree;
 
@@ -166,11 +167,6 @@ fn add_owner(
 
 fn main(rt: HostRuntime) -> io::Result<ExitCode> {
     let alloc = rt.alloc();
-    let mut text = Vec::new(alloc);
-    rt.stdin().read_to_end(&mut text)?;
     let mut planned = Planned::new(alloc);
-    let mut report = Vec::new(alloc);
-    let passed = run_lines(alloc, &mut planned, &text, &mut report)?;
-    rt.stdout().write_all(&report)?;
-    Ok(ExitCode::from(if passed { 0 } else { 1 }))
+    run_program(&rt, alloc, &mut planned)
 }

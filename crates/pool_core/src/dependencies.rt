@@ -4,15 +4,14 @@ ghost use Rattle.std.specs.Prelude.{◌≡◌, ◌<◌, ◌==◌, true, length, 
 ghost use Rattle.std.specs.Option.{option_map};
 ghost use Rattle.adb_fields.specs.ListValue.{list_value};
 ghost use Rattle.adb_rules.specs.SoundValues.{IsSoundDependency};
-ghost use Rattle.adb_schema.specs.Views.{dependency_value, info_value};
+ghost use Rattle.adb_schema.specs.Views.{dependency_value};
 ghost use Rattle.dep_core.specs.Meets.{dependency};
 ghost use Rattle.pool_core.specs.Candidates.{dependencies_in, dependency_in};
-ghost use Rattle.pool_core.specs.SoundTexts.{HasSoundEntries, HasSoundTexts};
+ghost use Rattle.pool_core.specs.SoundTexts.{HasSoundEntries};
 
-use adb_schema::{DepView, List, PkgInfo};
+use adb_schema::{DepView, List};
 use dep_core::{Dep, dep_of, dep_of_parts};
 use std::marker::Model;
-use version_core::Version;
 
 /// Dependencies of a package, in the order of its information, which are read when they are asked
 /// for.
@@ -127,30 +126,4 @@ fn read_judged<'a>(list: &List<'a, DepView<'a>>, place: usize) -> Dep<'a>
         }
     }
     unreachable!()
-}
-
-/// Whether the texts of a package are known to keep their rules: its version is one, and so is each
-/// of its dependencies.
-pub(crate) fn has_sound_texts(info: &PkgInfo<'_>) -> bool
-    ensures { result ≡ true → HasSoundTexts (info_value info.now) }
-{
-    if Version::read(info.version()).is_none() {
-        return false;
-    }
-    if !are_sound(info.depends()) || !are_sound(info.provides()) {
-        return false;
-    }
-    are_sound(info.install_if())
-}
-
-// Whether each entry of a list is a dependency.
-fn are_sound<'a>(list: List<'a, DepView<'a>>) -> bool
-    ensures { result ≡ true → HasSoundEntries (list_value list.entry) }
-{
-    for i in 0..list.len() {
-        if read_if_sound(&list.get(i + 1)).is_none() {
-            return false;
-        }
-    }
-    true
 }

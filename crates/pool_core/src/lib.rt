@@ -7,6 +7,7 @@
 
 mod candidate;
 mod dependencies;
+mod judging;
 mod keeping;
 mod laws;
 mod marks;

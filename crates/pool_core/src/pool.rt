@@ -19,7 +19,7 @@ ghost use Rattle.pool_core.specs.SoundTexts.{HasSoundTexts};
 ghost use Rattle.pool_core.specs.Values.{IsPoolFault, names_upgraded_by};
 
 use crate::candidate::{CandId, Details};
-use crate::dependencies::has_sound_texts;
+use crate::judging::has_sound_texts;
 use crate::need::Upgrade;
 use crate::packages::{Packages, Source};
 use crate::sealed::{Sealed, seal_list};
@@ -143,7 +143,7 @@ impl<'a> CandidateList<'a> {
 
     // Adds an installed package, or lets the candidates that are the same package count as
     // installed.
-    fn push_installed(&mut self, info: PkgInfo<'a>) -> Result<(), PoolFault>
+    fn push_installed(&mut self, alloc: Global, info: PkgInfo<'a>) -> Result<(), PoolFault>
         requires { IsCandidateList self.old }
         ensures list { OnOk result (IsCandidateList self.new) }
         ensures pushed { OnOk result (candidates_of_packages self.new.packages ≡ with_installed
@@ -157,7 +157,7 @@ impl<'a> CandidateList<'a> {
             adb: info.adb(),
             repo: None,
             tag: None,
-            has_sound_texts: has_sound_texts(&info),
+            has_sound_texts: has_sound_texts(alloc, info)?,
         };
         if self.mark_same(&Details::of(&source, info.word(), true)) {
             return Ok(());
@@ -327,7 +327,7 @@ impl<'a> Pool<'a> {
         ensures err { OnErr result (self.new ≡ []) }
     {
         let mut list = self.take_list();
-        let added = list.push_installed(info);
+        let added = list.push_installed(self.alloc, info);
         self.keep(list, added)
     }
 

@@ -11,6 +11,9 @@ use base_core::Words;
 pub use reading::{number_of, value_named, word_at, words_behind};
 use reading::{bytes_of, words_of};
 use std::alloc::{AllocError, Global};
+use std::io;
+use std::io::{Input, Print, Read, Write};
+use std::process::ExitCode;
 
 /// What a layer answers.
 pub trait Subject {
@@ -23,9 +26,24 @@ pub trait Subject {
     ) -> Result<(), AllocError>;
 }
 
+/// Runs the rows that stand on standard input, and prints what `run_lines` reports. Answers the
+/// exit status: 0 where no row failed, else 1.
+pub fn run_program<R: Input + Print, S: Subject>(
+    rt: &R,
+    alloc: Global,
+    subject: &mut S,
+) -> io::Result<ExitCode> {
+    let mut text = Vec::new(alloc);
+    rt.reader().read_to_end(&mut text)?;
+    let mut report = Vec::new(alloc);
+    let passed = run_lines(alloc, subject, &text, &mut report)?;
+    io::writer(rt).write_all(&report)?;
+    Ok(ExitCode::from(if passed { 0 } else { 1 }))
+}
+
 /// Runs all rows of a text, and reports each that fails, with its answer, and the count of rows.
 /// Answers whether none failed.
-pub fn run_lines<S: Subject>(
+fn run_lines<S: Subject>(
     alloc: Global,
     subject: &mut S,
     text: &[u8],

@@ -55,7 +55,8 @@ HasStateBeforeOrOutcome ignored v run files =
     × (outcome.commits ≡ true)
     × (state_of ignored files ≡ state_of ignored outcome.files))
 
--- nothing is left to do in these files, and they have the state before the run or that of its outcome
+-- nothing is left to do in these files, and they have a state from before the run, or that of its
+-- outcome
 pub record AreRecovered (ignored : List ℕ → Bool) (v : TreeState) (run : Run)
     (files : Files) : Type 0 where
   pub intent : files intent_name ≡ None

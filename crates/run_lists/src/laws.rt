@@ -174,15 +174,15 @@ pub fn what_an_intent_said_is_done_for_good()
     a_crash_leaves_the_old_files_or_those_of_the_outcome();
 }
 
-/// A root that has no bad intent gets none: whatever list of runs, stops and crashes it has seen, and
-/// of changes by others that put none there, no crash leaves one. So nothing keeps the next run from
-/// recovering, and it is not refused for an intent.
+/// A root that has no bad intent gets none: whatever list of runs, stops and crashes it has seen,
+/// and of changes by others that put none there, no crash leaves one. So nothing keeps the next run
+/// from recovering, and it is not refused for an intent.
 pub fn no_list_leaves_a_bad_intent()
+    // A run that is stopped at a moment is an event too.
     ensures along { (ignored : List ℕ → Bool) (first v : TreeState) (events : List Event)
         → ignored intent_name ≡ false → IsOrderly (RestsOn ignored) first
         → LeavesNoBadIntent first → HasSeenNoBadIntent first events v → LeavesNoBadIntent v }
 
-    // A run that is stopped at a moment is such an event.
     ensures recovers { (v : TreeState) (words : List (List ℕ)) → LeavesNoBadIntent v
         → recovery_fault (effect_by (command_of words)) (files_of v) ≡ None }
     ensures unrefused { (v : TreeState) (run : Run) → IsRunFrom v run
@@ -202,11 +202,12 @@ pub fn no_list_leaves_a_bad_intent()
 
 /// A run that is stopped at any moment is recovered: whatever list of runs, stops and crashes the
 /// root had seen, and however often crashes and stopped recoveries followed, the next run that
-/// recovers is not refused for an intent. It works on files in which nothing is left to do, and which
-/// have a state from before the stopped run, or that of its outcome.
+/// recovers is not refused for an intent. It works on files in which nothing is left to do, and
+/// which have a state from before the stopped run, or that of its outcome.
 pub fn a_stopped_run_is_recovered()
-    ensures recovered { (ignored : List ℕ → Bool) (first v m w : TreeState) (events later : List Event)
-        (run next : Run) → ignored intent_name ≡ false → IsOrderly (RestsOn ignored) first
+    ensures recovered { (ignored : List ℕ → Bool) (first v m w : TreeState)
+        (events later : List Event) (run next : Run) → ignored intent_name ≡ false
+        → IsOrderly (RestsOn ignored) first
         → LeavesNoBadIntent first → HasSeenNoBadIntent first events v
         → IsRunFrom v run → IsMomentOf run m → HasSeenIdly m later w
         → IsRunFrom w next → does_recover (effect_by (command_of next.words)) ≡ true

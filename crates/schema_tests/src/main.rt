@@ -12,11 +12,10 @@ mod words;
 
 use base_core::Words;
 use containers::{add_container, add_rule};
-use row_lines::{Subject, run_lines, value_named, word_at};
+use row_lines::{Subject, run_program, value_named, word_at};
 use shapes::{add_faults, add_many_files, add_shape, add_visits};
 use std::alloc::{AllocError, Global};
 use std::io;
-use std::io::{Read, Write};
 use std::process::ExitCode;
 use views::add_view;
 use words::{add_head, add_reads};
@@ -86,13 +85,8 @@ impl Subject for CurrentPayload {
 
 fn main(rt: HostRuntime) -> io::Result<ExitCode> {
     let alloc = rt.alloc();
-    let mut text = Vec::new(alloc);
-    rt.stdin().read_to_end(&mut text)?;
     let mut payload = CurrentPayload {
         bytes: Vec::new(alloc),
     };
-    let mut report = Vec::new(alloc);
-    let passed = run_lines(alloc, &mut payload, &text, &mut report)?;
-    rt.stdout().write_all(&report)?;
-    Ok(ExitCode::from(if passed { 0 } else { 1 }))
+    run_program(&rt, alloc, &mut payload)
 }

@@ -15,10 +15,9 @@ use base_core::Words;
 use intents::{add_change, add_cuts, add_recovery};
 use many::add_many;
 use replacing::add_replacements;
-use row_lines::{Subject, run_lines, value_named, word_at};
+use row_lines::{Subject, run_program, value_named, word_at};
 use std::alloc::{AllocError, Global};
 use std::io;
-use std::io::{Read, Write};
 use std::process::ExitCode;
 use sweeping::{add_fault, add_stop};
 
@@ -72,11 +71,5 @@ impl Subject for Sweeps {
 }
 
 fn main(rt: HostRuntime) -> io::Result<ExitCode> {
-    let alloc = rt.alloc();
-    let mut text = Vec::new(alloc);
-    rt.stdin().read_to_end(&mut text)?;
-    let mut report = Vec::new(alloc);
-    let passed = run_lines(alloc, &mut Sweeps, &text, &mut report)?;
-    rt.stdout().write_all(&report)?;
-    Ok(ExitCode::from(if passed { 0 } else { 1 }))
+    run_program(&rt, rt.alloc(), &mut Sweeps)
 }

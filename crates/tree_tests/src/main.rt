@@ -12,11 +12,10 @@ mod trees;
 use base_core::Words;
 use calls::{add_call, add_read, add_sync_names, make_turns};
 use names::{add_is_name, add_names};
-use row_lines::{Subject, run_lines, value_named, word_at};
+use row_lines::{Subject, run_program, value_named, word_at};
 use sinks::{add_sink_bytes, add_write, set_sink};
 use std::alloc::{AllocError, Global};
 use std::io;
-use std::io::{Read, Write};
 use std::process::ExitCode;
 use tree_memory::{MemorySink, MemoryTree};
 use trees::{add_counts, add_file, add_image, add_list, add_put, add_size, plan_failures};
@@ -137,14 +136,9 @@ fn answer_of_tree(
 
 fn main(rt: HostRuntime) -> io::Result<ExitCode> {
     let alloc = rt.alloc();
-    let mut text = Vec::new(alloc);
-    rt.stdin().read_to_end(&mut text)?;
     let mut in_memory = InMemory {
         tree: MemoryTree::new(alloc),
         sink: MemorySink::new(alloc),
     };
-    let mut report = Vec::new(alloc);
-    let passed = run_lines(alloc, &mut in_memory, &text, &mut report)?;
-    rt.stdout().write_all(&report)?;
-    Ok(ExitCode::from(if passed { 0 } else { 1 }))
+    run_program(&rt, alloc, &mut in_memory)
 }

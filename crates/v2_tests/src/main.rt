@@ -5,10 +5,9 @@
 mod texts;
 
 use base_core::Words;
-use row_lines::{Subject, number_of, run_lines, value_named, word_at};
+use row_lines::{Subject, number_of, run_program, value_named, word_at};
 use std::alloc::{AllocError, Global};
 use std::io;
-use std::io::{Read, Write};
 use std::process::ExitCode;
 use texts::{add_package_count, add_read};
 
@@ -74,11 +73,6 @@ fn count_of(word: &[u8]) -> u32 {
 
 fn main(rt: HostRuntime) -> io::Result<ExitCode> {
     let alloc = rt.alloc();
-    let mut text = Vec::new(alloc);
-    rt.stdin().read_to_end(&mut text)?;
     let mut databases = TextDatabases;
-    let mut report = Vec::new(alloc);
-    let passed = run_lines(alloc, &mut databases, &text, &mut report)?;
-    rt.stdout().write_all(&report)?;
-    Ok(ExitCode::from(if passed { 0 } else { 1 }))
+    run_program(&rt, alloc, &mut databases)
 }

@@ -9,10 +9,9 @@ mod worlds;
 
 use base_core::Words;
 use dependencies::{add_dependency, add_meeting, is_name};
-use row_lines::{Subject, add_yes_or_no, run_lines, value_named, word_at};
+use row_lines::{Subject, add_yes_or_no, run_program, value_named, word_at};
 use std::alloc::{AllocError, Global};
 use std::io;
-use std::io::{Read, Write};
 use std::process::ExitCode;
 use versions::{add_operators, match_of, order_of, reads_as_itself};
 use worlds::{add_edits, add_repositories, add_world};
@@ -78,11 +77,5 @@ impl Subject for LowCrates {
 }
 
 fn main(rt: HostRuntime) -> io::Result<ExitCode> {
-    let alloc = rt.alloc();
-    let mut text = Vec::new(alloc);
-    rt.stdin().read_to_end(&mut text)?;
-    let mut report = Vec::new(alloc);
-    let passed = run_lines(alloc, &mut LowCrates, &text, &mut report)?;
-    rt.stdout().write_all(&report)?;
-    Ok(ExitCode::from(if passed { 0 } else { 1 }))
+    run_program(&rt, rt.alloc(), &mut LowCrates)
 }

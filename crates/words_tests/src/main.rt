@@ -8,10 +8,9 @@ mod texts;
 
 use base_core::Words;
 use lines::{add_command, add_letters, add_many, add_place, add_values, is_operand, is_value};
-use row_lines::{Subject, add_yes_or_no, run_lines, value_named, word_at, words_behind};
+use row_lines::{Subject, add_yes_or_no, run_program, value_named, word_at, words_behind};
 use std::alloc::{AllocError, Global};
 use std::io;
-use std::io::{Read, Write};
 use std::process::ExitCode;
 use texts::{add_refusal, add_report};
 
@@ -72,11 +71,5 @@ impl Subject for CommandLines {
 }
 
 fn main(rt: HostRuntime) -> io::Result<ExitCode> {
-    let alloc = rt.alloc();
-    let mut text = Vec::new(alloc);
-    rt.stdin().read_to_end(&mut text)?;
-    let mut report = Vec::new(alloc);
-    let passed = run_lines(alloc, &mut CommandLines, &text, &mut report)?;
-    rt.stdout().write_all(&report)?;
-    Ok(ExitCode::from(if passed { 0 } else { 1 }))
+    run_program(&rt, rt.alloc(), &mut CommandLines)
 }

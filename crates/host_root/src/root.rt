@@ -1,13 +1,9 @@
 //! The root: the folder that the program runs in, with the files that stay open between calls.
-ghost use Rattle.std.specs.Prelude.{IfOk};
-ghost use Rattle.base_core.specs.Listed.{AreNamesBelow};
 
 use super::folders::Folders;
-use super::listing::list_below;
-use base_core::{Name, Names};
 use host_files::{
-    Found, Host, HostFault, Lock, LookedAt, Opened, Reason, close, is_open, lock_root, look,
-    parent_of, path_text,
+    Found, Host, HostFault, Lock, LookedAt, Opened, Reason, close, is_open, lock_root, parent_of,
+    path_text,
 };
 use std::alloc::Global;
 use std::fs;
@@ -61,16 +57,23 @@ impl<'a, R: Host> Root<'a, R> {
         }
     }
 
-    /// The names of the files below a folder, in byte order, each once.
-    pub fn list(&mut self, alloc: Global, folder: &Name) -> Result<Names, HostFault>
-        ensures { IfOk result (AreNamesBelow folder.now) }
-    {
-        self.enter()?;
-        list_below(self.rt, alloc, &mut self.folders, folder)
+    /// The runtime that the host is asked by.
+    pub fn runtime(&self) -> &'a R {
+        self.rt
+    }
+
+    /// What a path leads to, in a root whose lock is held.
+    pub fn find(&mut self, path: &[u8]) -> Result<Found, HostFault> {
+        self.folders.find(self.rt, path)
+    }
+
+    /// Keeps that a folder stands at a path.
+    pub fn keep_known(&mut self, folder: &[u8]) -> Result<(), HostFault> {
+        self.folders.keep_known(folder)
     }
 
     /// Takes the lock on the folder, if it is not held yet.
-    fn enter(&mut self) -> Result<(), HostFault> {
+    pub fn enter(&mut self) -> Result<(), HostFault> {
         if self.held.is_none() {
             self.held = Some(lock_root(self.rt, self.lock)?);
         }
@@ -107,9 +110,7 @@ impl<'a, R: Host> Root<'a, R> {
     pub fn fill(&mut self, path: &[u8], at: u64, into: &mut [u8]) -> Result<(), HostFault> {
         self.enter()?;
         if !is_open(&self.reader, path) {
-            let looked_at = self.look_at(path)?;
-            let file = fs::open(self.rt, self.folders.host_path(self.rt, path)?)?;
-            self.reader = Some(Opened::of(self.alloc, path, file, looked_at)?);
+            self.open_to_read(path)?;
         }
         match &mut self.reader {
             Some(reader) => reader.fill(at, into),
@@ -117,15 +118,20 @@ impl<'a, R: Host> Root<'a, R> {
         }
     }
 
+    /// Opens the file at a path for reading.
+    fn open_to_read(&mut self, path: &[u8]) -> Result<(), HostFault> {
+        let looked_at = self.look_at(path)?;
+        let file = fs::open(self.rt, self.folders.host_path(self.rt, path)?)?;
+        self.reader = Some(Opened::of(self.alloc, path, file, looked_at)?);
+        Ok(())
+    }
+
     /// Makes an empty file at a path, which stays open, with the folders on the way to it. Folders
     /// that hold nothing give way; what else stands there stays, and is a fault.
     pub fn begin(&mut self, path: &[u8]) -> Result<(), HostFault> {
         self.enter()?;
         self.seen = None;
-        self.folders.make_way(self.rt, path)?;
-        if look(self.rt, self.alloc, path, path_text(path)?)?.is_folder() {
-            self.folders.clear(self.rt, path)?;
-        }
+        self.folders.make_room(self.rt, path)?;
         self.folders.note(parent_of(path))?;
         self.writer = Some(Opened::make(self.rt, self.alloc, path)?);
         Ok(())
@@ -138,17 +144,23 @@ impl<'a, R: Host> Root<'a, R> {
         }
         close(&mut self.reader, path);
         if !is_open(&self.writer, path) {
-            let looked_at = self.look_at(path)?;
-            let file = OpenOptions::new()
-                .append(true)
-                .open(self.rt, path_text(path)?)?;
-            self.writer = Some(Opened::of(self.alloc, path, file, looked_at)?);
+            self.open_again(path)?;
         }
         self.seen = None;
         match &mut self.writer {
             Some(writer) => Ok(writer),
             None => Err(HostFault::own(Reason::Nothing)),
         }
+    }
+
+    /// Opens the file at a path to append to it.
+    fn open_again(&mut self, path: &[u8]) -> Result<(), HostFault> {
+        let looked_at = self.look_at(path)?;
+        let file = OpenOptions::new()
+            .append(true)
+            .open(self.rt, path_text(path)?)?;
+        self.writer = Some(Opened::of(self.alloc, path, file, looked_at)?);
+        Ok(())
     }
 
     /// Adds a piece to the file at a path. Where that fails, the front of the piece that was
@@ -182,14 +194,11 @@ impl<'a, R: Host> Root<'a, R> {
             return Err(HostFault::own(Reason::SameName));
         }
         self.look_at(from)?;
-        let target = Vec::from_slice(self.alloc, to)?;
-        self.folders.make_way(self.rt, to)?;
-        if look(self.rt, self.alloc, to, path_text(to)?)?.is_folder() {
-            self.folders.clear(self.rt, to)?;
-        }
+        self.folders.make_room(self.rt, to)?;
         self.folders.note(parent_of(from))?;
         self.folders.note(parent_of(to))?;
-        fs::rename(self.rt, path_text(from)?, path_text(to)?)?;
+        let target = Vec::from_slice(self.alloc, to)?;
+        rename_path(self.rt, from, to)?;
         self.unsynced_target = Some(target);
         Ok(())
     }
@@ -225,4 +234,8 @@ impl<'a, R: Host> Root<'a, R> {
         close(&mut self.reader, path);
         close(&mut self.writer, path);
     }
+}
+
+fn rename_path<R: Host>(rt: &R, from: &[u8], to: &[u8]) -> Result<(), HostFault> {
+    Ok(fs::rename(rt, path_text(from)?, path_text(to)?)?)
 }

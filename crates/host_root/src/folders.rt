@@ -67,7 +67,7 @@ impl Folders {
     }
 
     /// Makes the folders on the way to a path that are absent. A file on the way is a fault.
-    pub fn make_way<R: Files>(&mut self, rt: &R, path: &[u8]) -> Result<(), HostFault> {
+    fn make_way<R: Files>(&mut self, rt: &R, path: &[u8]) -> Result<(), HostFault> {
         if self.knows_way(path)? {
             return Ok(());
         }
@@ -92,15 +92,30 @@ impl Folders {
         keep(&mut self.changed, folder)
     }
 
+    /// Makes room for a file: the folders on the way to its path, with no folder at the path.
+    pub fn make_room<R: Host>(&mut self, rt: &R, path: &[u8]) -> Result<(), HostFault> {
+        self.make_way(rt, path)?;
+        if look_at(rt, self.alloc, path)?.is_folder() {
+            self.clear(rt, path)?;
+        }
+        Ok(())
+    }
+
     /// Takes folders away that hold nothing and stand where a file is to be. Where a file or
     /// anything else is below them it is a fault, and nothing changes.
-    pub fn clear<R: Host>(&mut self, rt: &R, path: &[u8]) -> Result<(), HostFault> {
+    fn clear<R: Host>(&mut self, rt: &R, path: &[u8]) -> Result<(), HostFault> {
         let folders = empty_tree(rt, self.alloc, path)?;
         for folder in folders.iter().rev() {
-            self.note(parent_of(folder))?;
-            fs::remove_dir(rt, path_text(folder)?)?;
-            self.forget(folder);
+            self.remove_empty(rt, folder)?;
         }
+        Ok(())
+    }
+
+    /// Takes a folder away that holds nothing.
+    fn remove_empty<R: Files>(&mut self, rt: &R, folder: &[u8]) -> Result<(), HostFault> {
+        self.note(parent_of(folder))?;
+        fs::remove_dir(rt, path_text(folder)?)?;
+        self.forget(folder);
         Ok(())
     }
 
@@ -146,7 +161,7 @@ impl Folders {
         if self.is_known(path) {
             return Ok(true);
         }
-        if !look(rt, self.alloc, path, path_text(path)?)?.is_folder() {
+        if !look_at(rt, self.alloc, path)?.is_folder() {
             return Ok(false);
         }
         self.keep_known(path)?;
@@ -157,7 +172,7 @@ impl Folders {
         if self.is_known(folder) {
             return Ok(());
         }
-        match look(rt, self.alloc, folder, path_text(folder)?)? {
+        match look_at(rt, self.alloc, folder)? {
             Found::Folder => {}
             Found::File(_) => return Err(HostFault::at(self.alloc, Reason::NoFolder, folder)),
             Found::Nothing => {
@@ -197,6 +212,11 @@ impl Folders {
     }
 }
 
+/// What stands at a path.
+fn look_at<R: Files>(rt: &R, alloc: Global, path: &[u8]) -> Result<Found, HostFault> {
+    look(rt, alloc, path, path_text(path)?)
+}
+
 fn keep(folders: &mut BTreeSet<Vec<u8>>, folder: Vec<u8>) -> Result<(), HostFault> {
     match folders.insert(folder) {
         Ok(_) => Ok(()),
@@ -208,36 +228,46 @@ fn keep(folders: &mut BTreeSet<Vec<u8>>, folder: Vec<u8>) -> Result<(), HostFaul
 /// stands in.
 fn empty_tree<R: Host>(rt: &R, alloc: Global, root: &[u8]) -> Result<Vec<Vec<u8>>, HostFault> {
     let mut folders = Vec::new(alloc);
-    push(&mut folders, Vec::from_slice(alloc, root)?)?;
+    push(alloc, &mut folders, root)?;
     for next in 0..usize::MAX {
         if next >= folders.len() {
             break;
         }
-        let found = folders_in(rt, alloc, &folders[next])?;
-        for folder in found {
-            push(&mut folders, folder)?;
-        }
+        let folder = Vec::from_slice(alloc, &folders[next])?;
+        push_folders(rt, alloc, &folder, &mut folders)?;
     }
     Ok(folders)
 }
 
-/// The folders in a folder that holds nothing else.
-fn folders_in<R: Host>(rt: &R, alloc: Global, folder: &[u8]) -> Result<Vec<Vec<u8>>, HostFault> {
-    let mut found = Vec::new(alloc);
+/// Adds the folders in a folder that holds nothing else.
+fn push_folders<R: Host>(
+    rt: &R,
+    alloc: Global,
+    folder: &[u8],
+    folders: &mut Vec<Vec<u8>>,
+) -> Result<(), HostFault> {
     for entry in fs::read_dir(rt, path_text(folder)?)? {
         let entry = entry?;
-        let path = entry.path();
-        let path = path.as_str().as_bytes();
-        if !look(rt, alloc, path, path_text(path)?)?.is_folder() {
-            return Err(HostFault::own(Reason::Folder));
-        }
-        push(&mut found, Vec::from_slice(alloc, path)?)?;
+        push_folder(rt, alloc, entry.path().as_str().as_bytes(), folders)?;
     }
-    Ok(found)
+    Ok(())
 }
 
-fn push(list: &mut Vec<Vec<u8>>, path: Vec<u8>) -> Result<(), HostFault> {
-    match list.push(path) {
+/// Adds the folder at a path. Where something else stands it is a fault.
+fn push_folder<R: Files>(
+    rt: &R,
+    alloc: Global,
+    path: &[u8],
+    folders: &mut Vec<Vec<u8>>,
+) -> Result<(), HostFault> {
+    if !look_at(rt, alloc, path)?.is_folder() {
+        return Err(HostFault::own(Reason::Folder));
+    }
+    push(alloc, folders, path)
+}
+
+fn push(alloc: Global, list: &mut Vec<Vec<u8>>, path: &[u8]) -> Result<(), HostFault> {
+    match list.push(Vec::from_slice(alloc, path)?) {
         Ok(()) => Ok(()),
         Err(_) => Err(HostFault::Memory),
     }

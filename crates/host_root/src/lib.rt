@@ -1,0 +1,11 @@
+//! The folder that a program runs in, with what each call of a tree does on the host: the files
+//! that stay open, the folders on the way to a file, and those whose names changed.
+//!
+//! This crate is trusted: no contract can say what a host does. It is to be read with `host_tree`,
+//! which stands on it.
+#![tactic(auto)]
+
+mod folders;
+mod root;
+
+pub use root::Root;
