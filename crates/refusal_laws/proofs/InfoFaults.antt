@@ -7,7 +7,8 @@ use Rattle.change_inputs.specs.Inputs.{database_for, database_read, text_databas
 use Rattle.command_core.specs.Command.{CommandLine}
 use Rattle.engine_core.specs.InfoTold.{info_told}
 use Rattle.installed_info.specs.Info.{info_of}
-use Rattle.installed_info.proofs.Refusing.{info_refused}
+use Rattle.installed_info.specs.Refusals.{IsOfAnOperand}
+use Rattle.adb_view.specs.Plain.{Plain}
 use Rattle.make_info.specs.Reads.{Reads}
 use Rattle.report_core.specs.declared.refusal.Refusal.{Refusal}
 use Rattle.report_core.specs.declared.refusal.Refusal.TheVariants.{DatabaseBad, NoDatabase, ResultTooLarge}
@@ -19,7 +20,12 @@ use Rattle.refusal_laws.specs.InfoFaults.{IsFaultOfDatabase, IsFaultOfInfo}
 use Rattle.refusal_laws.proofs.InputFaults.{cause_err, text_remembers}
 use Rattle.refusal_laws.proofs.Lists.{and_then_err}
 
-module _ (command : CommandLine) (read : Reads) where
+-- what `info_refuses_an_operand` says
+abbrev pub RefusesAnOperand : Type 0
+RefusesAnOperand = (c : CommandLine) (packages : List Plain) (refusal : Refusal)
+    → info_of c packages ≡ Err refusal → IsOfAnOperand c.operands refusal
+
+module _ (law : RefusesAnOperand) (command : CommandLine) (read : Reads) where
   abbrev IsSo : Refusal → Type 0
   IsSo refusal = IsFaultOfDatabase command read refusal
 
@@ -53,5 +59,5 @@ module _ (command : CommandLine) (read : Reads) where
   info_fault refusal e =
       elim (and_then_err (database_for command read) (λ database. info_of command database.packages) refusal e) [
         | inl first ↦ inl (database_fault (read database_read database_name) (read text_database_read text_database_name) refusal refl refl first)
-        | inr next ↦ inr ((next.0, next.1), info_refused command next.0.packages refusal next.2)
+        | inr next ↦ inr ((next.0, next.1), law command next.0.packages refusal next.2)
       ]

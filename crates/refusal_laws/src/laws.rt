@@ -34,6 +34,7 @@ ghost use Rattle.refusal_laws.specs.RunMade.{HasFirstSelection};
 ghost use Rattle.refusal_laws.specs.TestsPassed.{HasNoFault, HasPassedBefore};
 ghost use Rattle.words_core.specs.Grammar.{command_of};
 
+use installed_info::info_refuses_an_operand;
 use outcome::{a_change_takes_the_first_selection_or_is_refused, a_command_recovers};
 
 /// Where what a change reads of a root is refused, what the refusal says is so: of the database, of
@@ -50,7 +51,9 @@ pub fn a_refused_input_has_its_fault()
 pub fn a_refused_info_has_its_fault()
     ensures { (command : CommandLine) (read : Reads) (refusal : Refusal)
         → info_told command read ≡ Err refusal → IsFaultOfInfo command read refusal }
-{}
+{
+    info_refuses_an_operand();
+}
 
 /// Where a change is refused, what the refusal says is so: of a package that comes or goes, or of
 /// the files that the packages after the change would leave.
