@@ -78,8 +78,8 @@ fn equal_len(left: &[u8], right: &[u8]) -> usize
     len
 }
 
-/// How many of these bytes stand in whole blocks that are equal, from the front on. Comparing slices
-/// is faster than byte after byte.
+/// How many of these bytes stand in whole blocks that are equal, from the front on. Comparing
+/// slices is faster than byte after byte.
 fn equal_blocks(left: &[u8], right: &[u8]) -> usize
     ensures { AreEqualUpTo left.now right.now result }
 {
