@@ -11,6 +11,7 @@ use Rattle.adb_view.specs.Plain.{Plain, null, Plains, none, more, Shape, number,
 use Rattle.adb_rules.specs.Reserved.{is_reserved}
 use Rattle.adb_fields.specs.Paths.{path_of}
 use Rattle.adb_rules.specs.Rules.{is_change_name, is_digest_length, is_digest_length_or_none, is_file_name, is_folder_name, is_id_length, is_name_pattern, is_target}
+use Rattle.adb_tables.specs.FieldIndexes.{DIR_NAME, FILE_SIZE, FILE_TARGET}
 use Rattle.adb_tables.specs.Schema.{schema_number, shape_of}
 use Rattle.adb_tables.specs.Values.{entries_in, entry_in, int_in, text_in}
 use Rattle.adb_tables.specs.declared.tables.Which.{Which}
@@ -88,14 +89,14 @@ number_of_leaf (text_leaf field_number around bytes) = field_number
 
 -- a file without target and with a size above 0
 abbrev pub is_with_contents : Plain → Bool
-is_with_contents file = (length (text_in (entry_in file 5)) == 0)
-    && nat_lt 0 (int_in (entry_in file 2))
+is_with_contents file = (length (text_in (entry_in file FILE_TARGET)) == 0)
+    && nat_lt 0 (int_in (entry_in file FILE_SIZE))
 
 -- what stands around the fields of an object, whose table has this number
 abbrev pub inside_of : ℕ → Surroundings → Plain → Surroundings
 inside_of schema around v = record {
   root = around.root;
-  folder = if schema == schema_number Dir then text_in (entry_in v 0) else around.folder;
+  folder = if schema == schema_number Dir then text_in (entry_in v DIR_NAME) else around.folder;
   has_contents = if schema == schema_number File then is_with_contents v else around.has_contents;
 }
 

@@ -1,8 +1,8 @@
 -- The words that a walk over a value visits, and whether each can be read.
 use Rattle.std.specs.Prelude.{ℕ, Bool, is_none, List, [], ◌∷◌, ◌++◌, Option, Result, Ok, Err}
+use Rattle.std.specs.Result.{result_err}
 use Rattle.adb_view.specs.Plain.{Shape, number, text, hash, array, object, Fields, no_fields, field}
 use Rattle.adb_view.specs.Readers.{int_of, blob_of, run_of, ARRAY, OBJECT}
-use Rattle.adb_view.specs.Gives.{cause_of}
 use Rattle.base_core.specs.declared.cause.Cause.{Cause}
 
 pub record Visit : Type 0 where
@@ -40,11 +40,11 @@ MOST_VALUES = 4194304
 
 -- why the reader of this shape refuses the word, if it does
 abbrev pub fault_at : List ℕ → Shape → ℕ → Option Cause
-fault_at p number w = cause_of (int_of p w)
-fault_at p text w = cause_of (blob_of p w)
-fault_at p hash w = cause_of (blob_of p w)
-fault_at p (array s) w = cause_of (run_of ARRAY p w)
-fault_at p (object schema fs) w = cause_of (run_of OBJECT p w)
+fault_at p number w = result_err (int_of p w)
+fault_at p text w = result_err (blob_of p w)
+fault_at p hash w = result_err (blob_of p w)
+fault_at p (array s) w = result_err (run_of ARRAY p w)
+fault_at p (object schema fs) w = result_err (run_of OBJECT p w)
 
 abbrev pub is_sound_visit : List ℕ → Visit → Bool
 is_sound_visit p v = is_none (fault_at p v.shape v.word)

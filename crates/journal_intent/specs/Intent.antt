@@ -8,6 +8,7 @@ use Rattle.adb_view.specs.Plain.{Plain}
 use Rattle.adb_fields.specs.Repeated.{entries_at}
 use Rattle.adb_rules.specs.Rules.{is_change_name}
 use Rattle.adb_schema.specs.Soundness.{first_fault, payload_in, root_value}
+use Rattle.adb_tables.specs.FieldIndexes.{INTENT_REMOVALS, INTENT_WRITES}
 use Rattle.adb_tables.specs.Values.{text_in}
 use Rattle.adb_tables.specs.declared.tables.Which.TheVariants.{Intent as IntentTable}
 
@@ -38,9 +39,8 @@ pub record Intent : Type 0 where
 -- the two lists of an intent container's plain value
 abbrev pub intent_in : Plain → Intent
 intent_in v = record {
-  removals = map text_in (entries_at 0 v);
-  writes =
-      map text_in (entries_at 1 v);
+  removals = map text_in (entries_at INTENT_REMOVALS v);
+  writes = map text_in (entries_at INTENT_WRITES v);
 }
 
 abbrev pub intent_unless : Option Cause → Plain → Option Intent

@@ -12,6 +12,7 @@ use Rattle.adb_block.specs.Reading.{Reading, done, fault, more}
 use Rattle.adb_block.specs.declared.block.BlockKind.{BlockKind}
 use Rattle.adb_block.specs.declared.block.BlockKind.TheVariants as Kinds
 use Rattle.adb_view.specs.Plain.{Plain}
+use Rattle.adb_tables.specs.FieldIndexes.{FILE_HASHES, FILE_SIZE}
 use Rattle.adb_tables.specs.Values.{entry_in, int_in, text_in}
 use Rattle.adb_fields.specs.Repeated.{folders_in, files_in}
 use Rattle.adb_schema.specs.Soundness.{file_pair}
@@ -34,8 +35,8 @@ expected_at folder i file =
     then record {
       folder = folder;
       file = i;
-      size = int_in (entry_in file 2);
-      hash = text_in (entry_in file 4);
+      size = int_in (entry_in file FILE_SIZE);
+      hash = text_in (entry_in file FILE_HASHES);
     } ∷ []
     else []
 
@@ -123,7 +124,8 @@ abbrev pub with_next : List ℕ → (List Expected → FilesRead) → List Expec
 with_next payload further [] = no_more
 with_next payload further (e ∷ es) = given (contents_by payload e) (further es)
 
-abbrev pub files_at_block : BlockKind → List ℕ → ℕ → (List Expected → FilesRead) → List Expected → FilesRead
+abbrev pub files_at_block :
+    BlockKind → List ℕ → ℕ → (List Expected → FilesRead) → List Expected → FilesRead
 files_at_block Kinds.Contents payload at further es =
     unless_fault (contents_block_fault payload at es) (with_next payload further es)
 files_at_block kind payload at further es = further es

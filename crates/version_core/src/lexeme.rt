@@ -36,7 +36,8 @@ fn lexeme_of_number<'a>(class: Class, number: u64, advance: usize) -> Lexeme<'a>
 }
 
 fn lexeme_of_text(class: Class, text: &[u8], advance: usize) -> Lexeme<'_>
-    ensures token { plain_view result ≡ lexeme (text_token class (leading_hex_digits text.now)) advance }
+    ensures token { plain_view result
+        ≡ lexeme (text_token class (leading_hex_digits text.now)) advance }
     ensures class { result.token.class ≡ class }
     ensures text { result.token.text.now ≡ text.now }
 {
@@ -270,7 +271,8 @@ fn is_hex_digit(byte: u8) -> bool
 /// The order of the hexadecimal digits that two texts begin with. It reads neither further than to
 /// the first place at which they differ.
 pub fn compare_hex_digits(left: &[u8], right: &[u8]) -> Ordering
-    ensures { result ≡ slice_cmp nat_cmp (leading_hex_digits left.now) (leading_hex_digits right.now) }
+    ensures { result
+        ≡ slice_cmp nat_cmp (leading_hex_digits left.now) (leading_hex_digits right.now) }
 {
     let mut at = 0;
     loop {
