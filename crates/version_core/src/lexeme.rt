@@ -5,7 +5,7 @@ ghost use Rattle.std.specs.Char.{is_ascii_digit, is_ascii_lowercase};
 ghost use Rattle.std.specs.Ordering.{nat_cmp};
 ghost use Rattle.std.specs.Cmp.Lexicographic.{slice_cmp};
 ghost use Rattle.std.specs.Str.Parse.{digits_value};
-ghost use Rattle.version_core.specs.Token.{begins_with_zero, component_lexeme, leading_digits, hash_lexeme, leading_hex_digits, is_hex_digit, lexeme, lexeme_at, next_lexeme, number_lexeme, number_token, revision_lexeme, stray_lexeme, suffix_class, suffix_lexeme, suffix_rank, leading_letters, text_token};
+ghost use Rattle.version_core.specs.Token.{begins_with_zero, component_lexeme, leading_digits, hash_lexeme, leading_hex_digits, is_hex_digit, lexeme, lexeme_at, next_lexeme, number_lexeme, number_token, revision_lexeme, stray_lexeme, suffix_class, suffix_lexeme, suffix_rank, leading_letters, text_token, MOST_DIGITS};
 ghost use Rattle.version_core.specs.Overlapping.{passed_len};
 ghost use Rattle.version_core.specs.Reading.{AreDigits, hex_digit_at, is_hash, lexeme_view, plain_view};
 
@@ -98,7 +98,7 @@ fn next_lexeme<'a>(last: Class, text: &'a [u8]) -> Lexeme<'a>
     }
 }
 
-/// A number behind its mark, which has so many bytes.
+/// The token of a number; `mark` is how many bytes its mark has.
 #[tactic(auto, unfolding(crate::specs::Token::number_lexeme))]
 fn number(class: Class, mark: usize, digits: &[u8]) -> Lexeme<'_>
     requires digits { AreDigits digits.now }
@@ -161,7 +161,7 @@ fn suffix_rank(word: &[u8]) -> Option<u64>
     }
 }
 
-/// The first four make pre-releases.
+/// The class of a suffix with this rank: the first four make pre-releases.
 fn suffix_class(rank: u64) -> Class
     ensures { result ≡ suffix_class rank }
 {
@@ -172,7 +172,7 @@ fn suffix_class(rank: u64) -> Class
     }
 }
 
-/// A text that begins with the mark of a hash.
+/// The token of a hash; the text begins with its mark.
 #[tactic(auto, unfolding(crate::specs::Token::hash_lexeme))]
 fn hash(text: &[u8]) -> Lexeme<'_>
     requires { 0 < length text.now }
@@ -185,7 +185,7 @@ fn hash(text: &[u8]) -> Lexeme<'_>
     lexeme_of_text(Class::Hash, digits, 1)
 }
 
-/// Behind the `-` of a revision.
+/// The token of a revision; the text is what stands behind its `-`.
 #[tactic(auto, unfolding(crate::specs::Token::revision_lexeme))]
 fn revision(text: &[u8]) -> Lexeme<'_>
     ensures token { plain_view result ≡ revision_lexeme text.now }
@@ -200,7 +200,7 @@ fn revision(text: &[u8]) -> Lexeme<'_>
 /// The number that the digits represent.
 fn value_of(digits: &[u8]) -> u64
     requires digits { AreDigits digits.now }
-    requires few { length digits.now ≤ 18 }
+    requires few { length digits.now ≤ MOST_DIGITS }
     ensures { result ≡ digits_value 10 digits.now }
 {
     let mut number = 0;
@@ -268,7 +268,7 @@ fn is_hex_digit(byte: u8) -> bool
     matches!(byte, b'0'..=b'9' | b'a'..=b'f')
 }
 
-/// The order of the hexadecimal digits that two texts begin with. It reads neither further than to
+/// The order of the hexadecimal digits that two texts begin with. It reads both no further than to
 /// the first place at which they differ.
 pub fn compare_hex_digits(left: &[u8], right: &[u8]) -> Ordering
     ensures { result
