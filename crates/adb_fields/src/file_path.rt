@@ -7,8 +7,8 @@ ghost use Rattle.adb_fields.specs.JoinedPath.{joined_path};
 
 use std::cmp::Ordering;
 
-/// The path of a file: its name behind its folder's and a slash. The root folder has the empty name.
-/// The two parts stay where they are, so that a path takes no memory.
+/// The path of a file: its name behind its folder's and a slash. The root folder has the empty
+/// name. The two parts stay where they are, so that a path takes no memory.
 #[derive(Clone, Copy)]
 pub struct FilePath<'a> {
     pub folder: &'a [u8],

@@ -1,4 +1,5 @@
-//! An opened payload and its four readers, and what follows from the definitions, for every payload.
+//! An opened payload and its four readers, and what follows from the definitions, for every
+//! payload.
 
 ghost use Rattle.std.specs.Prelude.{◌≡◌, ◌≤◌, length, slice_range, IfOk, ◌<◌, ℕ, List, All, IfSome, is_some};
 ghost use Rattle.adb_view.specs.Head.{head_fault, root_of};

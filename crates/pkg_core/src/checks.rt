@@ -48,8 +48,8 @@ pub fn verify(alloc: Global, bytes: &[u8]) -> Result<(), PackageFault>
     }
 }
 
-/// The table at the root of a container with this schema (apk-v3(5)); None where the schema is none of
-/// the four.
+/// The table at the root of a container with this schema (apk-v3(5)); None where the schema is none
+/// of the four.
 pub fn root_of_schema(schema: u32) -> Option<Which>
     ensures { result ≡ root_of_schema schema }
 {

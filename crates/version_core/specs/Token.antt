@@ -54,7 +54,7 @@ MOST_DIGITS = 18
 abbrev pub is_number : List ℕ → Bool
 is_number digits = nat_lt 0 (length digits) && nat_le (length digits) MOST_DIGITS
 
--- a number behind its mark, which has so many bytes
+-- the token of a number, and the bytes that it takes; the mark before its digits has so many
 unfoldable pub number_lexeme : Class → ℕ → List ℕ → Lexeme
 number_lexeme class mark digits =
     if is_number digits

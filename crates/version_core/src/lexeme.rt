@@ -97,7 +97,7 @@ fn next_lexeme<'a>(last: Class, text: &'a [u8]) -> Lexeme<'a>
     }
 }
 
-/// A number behind its mark, which has so many bytes.
+/// The token of a number; `mark` is how many bytes its mark has.
 #[tactic(auto, unfolding(crate::specs::Token::number_lexeme))]
 fn number(class: Class, mark: usize, digits: &[u8]) -> Lexeme<'_>
     requires digits { AreDigits digits.now }
@@ -160,7 +160,7 @@ fn suffix_rank(word: &[u8]) -> Option<u64>
     }
 }
 
-/// The first four make pre-releases.
+/// The class of a suffix with this rank: the first four make pre-releases.
 fn suffix_class(rank: u64) -> Class
     ensures { result ≡ suffix_class rank }
 {
@@ -171,7 +171,7 @@ fn suffix_class(rank: u64) -> Class
     }
 }
 
-/// A text that begins with the mark of a hash.
+/// The token of a hash; the text begins with its mark.
 #[tactic(auto, unfolding(crate::specs::Token::hash_lexeme))]
 fn hash(text: &[u8]) -> Lexeme<'_>
     requires { 0 < length text.now }
@@ -184,7 +184,7 @@ fn hash(text: &[u8]) -> Lexeme<'_>
     lexeme_of_text(Class::Hash, digits, 1)
 }
 
-/// Behind the `-` of a revision.
+/// The token of a revision; the text is what stands behind its `-`.
 #[tactic(auto, unfolding(crate::specs::Token::revision_lexeme))]
 fn revision(text: &[u8]) -> Lexeme<'_>
     ensures token { plain_view result ≡ revision_lexeme text.now }
@@ -267,7 +267,7 @@ fn is_hex_digit(byte: u8) -> bool
     matches!(byte, b'0'..=b'9' | b'a'..=b'f')
 }
 
-/// The order of the hexadecimal digits that two texts begin with. It reads neither further than to
+/// The order of the hexadecimal digits that two texts begin with. It reads both no further than to
 /// the first place at which they differ.
 pub fn compare_hex_digits(left: &[u8], right: &[u8]) -> Ordering
     ensures { result ≡ slice_cmp nat_cmp (leading_hex_digits left.now) (leading_hex_digits right.now) }
