@@ -19,6 +19,7 @@ abbrev pub AllDistinct : List (List (List ℕ)) → Type 0
 AllDistinct [] = Unit {0}
 AllDistinct (names ∷ lists) = AreDistinctNames names × AllDistinct lists
 
+-- the name stands in one of the lists
 abbrev pub IsInOneOf : List ℕ → List (List (List ℕ)) → Type 0
 IsInOneOf name [] = ⊥
 IsInOneOf name (names ∷ lists) = IsIn name names ⊎ IsInOneOf name lists
@@ -40,6 +41,7 @@ pub record StandOnceBetween (packages : List Plain) : Type 0 where
   pub packages_once : AreDistinctNames (map package_name packages)
   pub paths_once : AreApart (map paths_in packages)
 
+-- no name stands twice that may stand once alone; of other tables nothing is asked
 abbrev pub NamesStandOnce : Which → Plain → Type 0
 NamesStandOnce Package v = StandOnceInside (v ∷ [])
 NamesStandOnce Idb v = StandOnceInside (entries_at IDB_PACKAGES v)

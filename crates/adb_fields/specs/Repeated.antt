@@ -16,6 +16,7 @@ use Rattle.adb_tables.specs.declared.tables.Which.TheVariants.{File, Dir, Packag
 
 -- ---- lists of names
 
+-- names at positions in a row, the first of which is this one
 abbrev pub numbered_from : ℕ → List (List ℕ) → List NameWithPosition
 numbered_from n [] = []
 numbered_from n (name ∷ names) = record { name = name; position = n } ∷ numbered_from (n + 1) names
@@ -28,6 +29,7 @@ twice names = first_pair (numbered_from 1 names)
 abbrev pub twice_in_one : List (List (List ℕ)) → Option Pair
 twice_in_one lists = earliest (map twice lists)
 
+-- names that all stand at this position
 abbrev pub all_at : ℕ → List (List ℕ) → List NameWithPosition
 all_at n names = map (λ name. record { name = name; position = n }) names
 
@@ -42,6 +44,7 @@ in_two lists = first_pair (by_list_from 1 lists)
 
 -- ---- the names of a container
 
+-- values as a list
 abbrev pub list_of : Plains → List Plain
 list_of none = []
 list_of (more v vs) = v ∷ list_of vs
@@ -54,33 +57,42 @@ entries_at i v = list_of (entries_in (entry_in v i))
 abbrev pub name_of : Plain → List ℕ
 name_of v = text_in (entry_in v 0)
 
+-- the name of a package
 abbrev pub package_name : Plain → List ℕ
 package_name pkg = name_of (entry_in pkg PACKAGE_INFO)
 
+-- the folders that a package lists
 abbrev pub folders_in : Plain → List Plain
 folders_in pkg = entries_at PACKAGE_PATHS pkg
 
+-- the files that a folder lists
 abbrev pub files_in : Plain → List Plain
 files_in folder = entries_at DIR_FILES folder
 
+-- the paths of the files of a folder
 abbrev pub paths_under : Plain → List (List ℕ)
 paths_under folder = map (λ file. path_of (name_of folder) (name_of file)) (files_in folder)
 
+-- the paths of all files of a package
 abbrev pub paths_in : Plain → List (List ℕ)
 paths_in pkg = flat_map paths_under (folders_in pkg)
 
 -- ---- kind by kind
 
+-- a folder that a package lists twice
 abbrev pub folder_twice : List Plain → Option Pair
 folder_twice packages = twice_in_one (map (λ pkg. map name_of (folders_in pkg)) packages)
 
+-- a file that a folder lists twice
 abbrev pub file_twice : List Plain → Option Pair
 file_twice packages = twice_in_one
     (flat_map (λ pkg. map (λ folder. map name_of (files_in folder)) (folders_in pkg)) packages)
 
+-- a package that a database has twice
 abbrev pub package_twice : List Plain → Option Pair
 package_twice packages = twice (map package_name packages)
 
+-- a path that two packages list
 abbrev pub path_in_two : List Plain → Option Pair
 path_in_two packages = in_two (map paths_in packages)
 

@@ -82,6 +82,7 @@ fn compared_from(one: &FilePath<'_>, other: &FilePath<'_>, from: usize) -> Order
     }
 }
 
+/// The byte at this index, if there is one.
 fn byte_at(bytes: &[u8], i: usize) -> Option<u8>
     ensures byte { result ≡ slice_get bytes.now i }
     ensures small { IfSome result (λ _. i < 2 ^ 63) }

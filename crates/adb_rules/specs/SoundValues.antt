@@ -41,15 +41,18 @@ pub record IsFileOf (root : Which) (folder : List ℕ) (v : Plain) : Type 0 wher
       else is_digest_length_or_none (length (text_in (entry_in v FILE_HASHES)))) ≡ true
   pub target : is_target (text_in (entry_in v FILE_TARGET)) ≡ true
 
+-- a folder's name is a path, and each of its files keeps its rules
 pub record IsFolder (root : Which) (v : Plain) : Type 0 where
   pub name : is_folder_name (text_in (entry_in v DIR_NAME)) ≡ true
   pub files : Each (IsFileOf root (text_in (entry_in v DIR_NAME)))
       (entries_in (entry_in v DIR_FILES))
 
+-- a package's information and folders keep their rules
 pub record IsPackage (root : Which) (v : Plain) : Type 0 where
   pub info : IsInformation root (entry_in v PACKAGE_INFO)
   pub folders : Each (IsFolder root) (entries_in (entry_in v PACKAGE_PATHS))
 
+-- the information of each package of an index, and its pattern of file names, keep their rules
 pub record IsIndex (v : Plain) : Type 0 where
   pub packages : Each (IsInformation Index) (entries_in (entry_in v INDEX_PACKAGES))
   pub pattern : is_name_pattern (text_in (entry_in v INDEX_PKGNAME_SPEC)) ≡ true
@@ -58,6 +61,7 @@ pub record IsIndex (v : Plain) : Type 0 where
 abbrev pub IsChangeName : Plain → Type 0
 IsChangeName v = is_change_name (text_in v) ≡ true
 
+-- each name of an intent is one that a change may have
 pub record IsIntent (v : Plain) : Type 0 where
   pub removals : Each IsChangeName (entries_in (entry_in v INTENT_REMOVALS))
   pub writes : Each IsChangeName (entries_in (entry_in v INTENT_WRITES))

@@ -38,6 +38,7 @@ abbrev pub may_list : Which → List ℕ → Bool
 may_list Idb path = not (is_reserved path)
 may_list root path = true
 
+-- the name of a file, whose path the container may list
 abbrev pub is_listed_file : Surroundings → List ℕ → Bool
 is_listed_file around name = is_file_name around.folder name
     && may_list around.root (path_of around.folder name)
@@ -47,15 +48,20 @@ abbrev pub needs_hash : Which → Bool → Bool
 needs_hash Idb has_contents = false
 needs_hash root has_contents = has_contents
 
+-- whether a file's hash is as long as a digest; it may lack it where none is needed
 abbrev pub is_file_hash : Surroundings → ℕ → Bool
 is_file_hash around len = if needs_hash around.root around.has_contents then is_digest_length len
     else is_digest_length_or_none len
 
 -- ---- the rule of each field
 
+-- whether a number keeps the rule of the field with this number: only the operator of a dependency
+-- has one
 abbrev pub number_rule : ℕ → ℕ → Bool
 number_rule field_number n = if field_number == 103 then is_matching n else true
 
+-- whether a text keeps the rule of the field with this number; a field that is not named here has
+-- none
 unfoldable pub text_rule : ℕ → Surroundings → List ℕ → Bool
 text_rule field_number around bytes =
     if field_number == 101 then is_dep_name bytes
@@ -79,10 +85,12 @@ pub data Leaf : Type 0 where
   number_leaf : ℕ → ℕ → Leaf
   text_leaf : ℕ → Surroundings → List ℕ → Leaf
 
+-- whether a number or a text keeps the rule of its field
 abbrev pub keeps_rule : Leaf → Bool
 keeps_rule (number_leaf field_number n) = number_rule field_number n
 keeps_rule (text_leaf field_number around bytes) = text_rule field_number around bytes
 
+-- the number of the field
 abbrev pub number_of_leaf : Leaf → ℕ
 number_of_leaf (number_leaf field_number n) = field_number
 number_of_leaf (text_leaf field_number around bytes) = field_number
@@ -100,6 +108,7 @@ inside_of schema around v = record {
   has_contents = if schema == schema_number File then is_with_contents v else around.has_contents;
 }
 
+-- the numbers and texts of each entry in order
 abbrev pub each_leaf : (Plain → List Leaf) → Plains → List Leaf
 each_leaf f none = []
 each_leaf f (more v vs) = f v ++ each_leaf f vs
@@ -121,6 +130,7 @@ unfoldable mutual
   field_leaves (field name s fs) field_number around (more v vs) = leaves s field_number around v
       ++ field_leaves fs (field_number + 1) around vs
 
+-- what stands around the root: no folder and no file
 abbrev pub at_root : Which → Surroundings
 at_root which = record { root = which; folder = []; has_contents = false }
 
@@ -130,10 +140,12 @@ leaves_of which v = leaves (shape_of (Obj which)) 0 (at_root which) v
 
 -- ---- the first fault
 
+-- the first that breaks its rule, told by the number of its field
 abbrev pub first_bad : List Leaf → Option Cause
 first_bad [] = None
 first_bad (leaf ∷ others) = if keeps_rule leaf then first_bad others
     else Some (BadText (number_of_leaf leaf))
 
+-- the first text or number of a container that breaks its rule
 abbrev pub text_fault : Which → Plain → Option Cause
 text_fault which v = first_bad (leaves_of which v)

@@ -31,6 +31,7 @@ schema_word which = None
 
 -- ---- the first block
 
+-- the value of a payload with this table at its root
 abbrev pub root_value : Which → List ℕ → Plain
 root_value which payload = value_at payload (Obj which) (root_of payload)
 
@@ -56,6 +57,7 @@ abbrev pub undue_contents : List ℕ → ℕ → Cause
 undue_contents payload at = if nat_lt (length payload) 8 then Truncated at
     else DataOrder (0, 0) (file_pair payload)
 
+-- contents are a fault in a container without files; any other block is none
 abbrev pub block_fault : BlockKind → List ℕ → ℕ → Option Cause
 block_fault Contents payload at = Some (undue_contents payload at)
 block_fault kind payload at = None
@@ -73,10 +75,12 @@ rest_fault which r = further_fault r
 
 -- ---- all tests in order
 
+-- whether the schema is the one that the table has, if it has one
 abbrev pub is_schema_wanted : Option ℕ → ℕ → Bool
 is_schema_wanted (Some word) schema = word == schema
 is_schema_wanted None schema = false
 
+-- the fault of a container with another schema
 abbrev pub schema_fault : Which → ℕ → Option Cause
 schema_fault which schema = if is_schema_wanted (schema_word which) schema then None
     else Some (WrongSchema schema)
@@ -88,6 +92,7 @@ blocks_fault rest which (fault c) = Some c
 blocks_fault rest which (more b at r) = option_or (payload_fault which b.payload)
     (rest (root_value which b.payload) r)
 
+-- the first fault of a file by its header: of that, of its schema, or of its blocks
 abbrev pub file_fault : (Plain → Reading → Option Cause) → Which → List ℕ → Result ℕ Cause
     → Option Cause
 file_fault rest which file (Err c) = Some c
@@ -105,11 +110,13 @@ first_fault which file = fault_with (λ v r. rest_fault which r) which file
 
 -- ---- what is read
 
+-- the payload of the first block; none where there is no block
 abbrev pub first_payload : Reading → List ℕ
 first_payload done = []
 first_payload (fault c) = []
 first_payload (more b at r) = b.payload
 
+-- the payload behind a header that was read
 abbrev pub payload_behind : List ℕ → Result ℕ Cause → List ℕ
 payload_behind file (Ok schema) = first_payload (reading_of (start_of schema file))
 payload_behind file (Err c) = []

@@ -109,5 +109,6 @@ shape_to_depth (suc depth) (ObjArr w) = array
 unfoldable pub shape_of : Kind → Shape
 shape_of k = shape_to_depth 5 k
 
+-- the fields of a table, each with its shape
 abbrev pub shapes_of : List Field → Fields
 shapes_of fields = fields_with shape_of fields

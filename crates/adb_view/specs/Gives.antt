@@ -2,6 +2,7 @@
 use Rattle.std.specs.Prelude.{◌≡◌, Result, Ok, Err, Option, Some, None}
 use Rattle.base_core.specs.declared.cause.Cause.{Cause}
 
+-- the answer is a value's view, or the same cause
 abbrev pub Gives : {X Y : Type 0} → (X → Y) → Result X Cause → Result Y Cause → Type 0
 Gives view (Ok x) answer = answer ≡ Ok (view x)
 Gives view (Err c) answer = answer ≡ Err c

@@ -22,6 +22,7 @@ intent_name = codes "lib/apk/intent"
 abbrev pub stage_folder : List ℕ
 stage_folder = codes "lib/apk/stage"
 
+-- whether a name lies below the folder where new files wait
 abbrev pub is_staged : List ℕ → Bool
 is_staged name = starts_with nat_eq name (stage_folder ++ codes "/")
 
@@ -43,6 +44,7 @@ intent_in v = record {
   writes = map text_in (entries_at INTENT_WRITES v);
 }
 
+-- the intent of a value, unless a test failed
 abbrev pub intent_unless : Option Cause → Plain → Option Intent
 intent_unless None v = Some (intent_in v)
 intent_unless (Some cause) v = None

@@ -14,6 +14,7 @@ use Rattle.pkg_core.specs.Contents.{Expected, contents_block_fault, missing_faul
 abbrev pub PlacedPayload : Type 0
 PlacedPayload = List ℕ × ℕ
 
+-- the blocks, and this one before them if it is contents
 abbrev pub with_contents : BlockKind → PlacedPayload → List PlacedPayload → List PlacedPayload
 with_contents Kinds.Contents block blocks = block ∷ blocks
 with_contents kind block blocks = blocks

@@ -23,6 +23,7 @@ pub struct Lexeme<'a> {
     pub advance: usize,
 }
 
+/// A token that is compared by a number, and how many bytes it takes.
 fn lexeme_of_number<'a>(class: Class, number: u64, advance: usize) -> Lexeme<'a>
     ensures token { plain_view result ≡ lexeme (number_token class number) advance }
     ensures class { result.token.class ≡ class }
@@ -35,6 +36,7 @@ fn lexeme_of_number<'a>(class: Class, number: u64, advance: usize) -> Lexeme<'a>
     Lexeme { token, advance }
 }
 
+/// A token that is compared as text, and how many bytes it takes.
 fn lexeme_of_text(class: Class, text: &[u8], advance: usize) -> Lexeme<'_>
     ensures token { plain_view result
         ≡ lexeme (text_token class (leading_hex_digits text.now)) advance }
@@ -49,6 +51,7 @@ fn lexeme_of_text(class: Class, text: &[u8], advance: usize) -> Lexeme<'_>
     Lexeme { token, advance }
 }
 
+/// The token of bytes that no token may be.
 fn stray_lexeme<'a>() -> Lexeme<'a>
     ensures token { plain_view result ≡ stray_lexeme }
     ensures class { result.token.class ≡ Class.Stray }
@@ -80,6 +83,7 @@ pub fn first_token(last: Option<Class>, text: &[u8]) -> (Class, usize)
     (class, lexeme.advance)
 }
 
+/// The token that stands behind one of this class, with its mark.
 #[tactic(auto, unfolding(crate::specs::Token::next_lexeme))]
 fn next_lexeme<'a>(last: Class, text: &'a [u8]) -> Lexeme<'a>
     ensures { lexeme_view text.entry.now result ≡ next_lexeme last text.entry.now }
@@ -126,12 +130,14 @@ fn component(digits: &[u8]) -> Lexeme<'_>
     number(Class::Component, 1, digits)
 }
 
+/// Whether the first digit is 0.
 fn begins_with_zero(digits: &[u8]) -> bool
     ensures { result ≡ begins_with_zero digits.now }
 {
     matches!(digits, [b'0', ..])
 }
 
+/// The token of a suffix, by its word.
 fn suffix(word: &[u8]) -> Lexeme<'_>
     ensures token { plain_view result ≡ suffix_lexeme word.now }
     ensures plain { is_hash result.token.class ≡ false }
@@ -222,6 +228,7 @@ fn leading_digits(text: &[u8]) -> &[u8]
     }
 }
 
+/// Where the first byte stands that is no decimal digit.
 fn digits_end(text: &[u8]) -> Option<usize>
     ensures { result ≡ position (λ b. not (is_ascii_digit b)) text.now }
 {
@@ -239,6 +246,7 @@ fn leading_letters(text: &[u8]) -> &[u8]
     }
 }
 
+/// Where the first byte stands that is no lowercase letter.
 fn letters_end(text: &[u8]) -> Option<usize>
     ensures { result ≡ position (λ b. not (is_ascii_lowercase b)) text.now }
 {
@@ -256,12 +264,14 @@ pub fn leading_hex_digits(text: &[u8]) -> &[u8]
     }
 }
 
+/// Where the first byte stands that is no hexadecimal digit.
 fn hex_digits_end(text: &[u8]) -> Option<usize>
     ensures { result ≡ position (λ b. not (is_hex_digit b)) text.now }
 {
     text.iter().position(|byte| !is_hex_digit(*byte))
 }
 
+/// Whether it is a lowercase hexadecimal digit.
 fn is_hex_digit(byte: u8) -> bool
     ensures { result ≡ is_hex_digit byte }
 {
@@ -285,6 +295,7 @@ pub fn compare_hex_digits(left: &[u8], right: &[u8]) -> Ordering
     }
 }
 
+/// The hexadecimal digit at this index, if there is one.
 fn hex_digit_at(text: &[u8], at: usize) -> Option<u8>
     ensures { result ≡ hex_digit_at text.now at }
 {

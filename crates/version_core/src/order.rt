@@ -105,6 +105,7 @@ fn last_mark(text: &[u8]) -> Option<usize>
     None
 }
 
+/// Whether a byte begins a token wherever it stands.
 fn is_token_mark(byte: u8) -> bool
     ensures { result ≡ is_token_mark byte }
 {
