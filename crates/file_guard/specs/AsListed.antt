@@ -17,7 +17,8 @@ file_target entry = text_in (entry_in entry FILE_TARGET)
 abbrev pub has_target : Plain → Bool
 has_target entry = not (length (file_target entry) == 0)
 
--- what stands for a link to a target: a mark, and the link's text, which follows two bytes
+-- what stands for a link to a target: a mark, and the link's text, which is the target without the
+-- two bytes `00 a0` that it begins with
 abbrev pub link_to : List ℕ → List ℕ
 link_to target = codes "!<symlink>" ++ drop 2 target
 

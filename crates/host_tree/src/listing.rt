@@ -29,6 +29,7 @@ pub fn list_below<R: Host>(
     if root.find(folder.as_bytes())?.is_folder() {
         keep(&mut walk.folders, folder.copy(alloc)?)?;
     }
+    // A walk ends when no folder is left; a bound shows the checker that it ends.
     for _ in 0..u64::MAX {
         let Some(next) = walk.folders.pop() else {
             break;

@@ -1,4 +1,5 @@
-//! Writes the information of a package as a value of schema 3 (apk-v3(5)), column by column.
+//! Writes the information of a package as an object of table 3 (`docs/formats.md`, "Schemas"),
+//! field by field.
 ghost use Rattle.adb_values.specs.Drafts.{draft_with, draft_with_all};
 ghost use Rattle.adb_view.specs.Plain.{blob_value};
 ghost use Rattle.dep_core.specs.Meets.{dependency};
@@ -198,8 +199,9 @@ pub fn write_number(draft: &mut Draft, number: Option<u64>) -> Result<(), AllocE
     }
 }
 
-// The number of a dependency's operator, with 16 for a conflict. None: any version is taken, or the
-// one that is named.
+// The match number of a dependency: its operator's, with 16 more for a conflict, and 23 (7 and 16)
+// for a conflict without version. None: no conflict, and any version is taken or just the one that is
+// named.
 fn matching_of(dep: &Dep<'_>) -> Option<u64>
     ensures { result ≡ (dep_value (dependency dep.now)).matching }
 {

@@ -46,21 +46,25 @@ AreFoldersFrom (folder ∷ folders) (source ∷ sources) =
 
 -- ---- what is appended to the blocks meanwhile
 
+-- a file was packed: it is what its bytes say, and its block of contents stands behind those before
 pub record IsPackedFile (folder at : ℕ) (before later : List ℕ) (file : File) (source : Source) :
     Type 0 where
   pub is : IsFileFrom file source
   pub blocks : later ≡ before ++ contents_blocks (contents_of_file folder at source.bytes)
 
+-- so were files, from the first of the folder on
 pub record ArePackedFiles (folder : ℕ) (before later : List ℕ) (files : Vec File Global)
     (sources : List Source) : Type 0 where
   pub are : AreFilesFrom files.items sources
   pub blocks : later ≡ before ++ contents_blocks (contents_of_files folder 1 sources)
 
+-- a folder was packed, with its position among the folders
 pub record IsPackedFolder (folder : ℕ) (before later : List ℕ) (packed : Folder)
     (source : SourceFolder) : Type 0 where
   pub is : IsFolderFrom packed source
   pub blocks : later ≡ before ++ contents_blocks (contents_of_files folder 1 source.files)
 
+-- folders were packed, counted from 1, and these are the blocks of their files
 pub record ArePackedFolders (written : List ℕ) (folders : Vec Folder Global)
     (sources : List SourceFolder) : Type 0 where
   pub are : AreFoldersFrom folders.items sources

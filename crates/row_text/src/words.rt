@@ -4,14 +4,17 @@ use crate::row::Trouble;
 use base_core::Words;
 use std::alloc::Global;
 
-/// The most words that a command line may have.
-const MOST_WORDS: usize = 4294967294;
+/// The most words that a command line may have: 2^32 - 2, as `Words` of `base_core` holds.
+const MOST_WORDS: usize = 4_294_967_294;
 
 /// Where a byte of a command line stands.
 #[derive(Clone, Copy)]
 enum Place {
+    /// Between words.
     Between,
+    /// In a word, outside of quotations.
     Word,
+    /// Between two `'`.
     Quotation,
 }
 
@@ -44,6 +47,7 @@ pub(crate) fn words_of(alloc: Global, text: &[u8]) -> Result<Words, Trouble> {
 }
 
 impl Line {
+    /// Takes a byte.
     fn add(&mut self, byte: u8) -> Result<(), Trouble> {
         match (self.place, byte) {
             (Place::Quotation, b'\'') => self.place = Place::Word,
@@ -59,6 +63,7 @@ impl Line {
         Ok(())
     }
 
+    /// Ends the word that was begun; an empty quotation makes an empty one.
     fn end_word(&mut self) -> Result<(), Trouble> {
         if self.words.len() >= MOST_WORDS {
             return Err(Trouble::Memory);

@@ -57,7 +57,7 @@ enum Question {
     Count,
 }
 
-/// The words that questions over a pool begin with.
+/// The words that questions begin with, but `bytes`, which is answered before.
 const QUESTIONS: [(&[u8], Question); 8] = [
     (b"packages", Question::Packages),
     (b"candidates", Question::Candidates),
