@@ -54,6 +54,7 @@ is_cut Disk = true
 is_cut Memory = true
 is_cut other = false
 
+-- whether a fault stopped the making, so that no outcome is told
 abbrev pub is_cut_off : Result (Vec ℕ Global) MakeFault → Bool
 is_cut_off (Ok file) = false
 is_cut_off (Err why) = is_cut why
@@ -90,12 +91,14 @@ IsIndexOutcome command files outcome = outcome ≡ mkndx (reads_in files) files 
 
 -- ---- by some names below the folder, and some reads
 
+-- of the package
 pub record IsPackageFound (command : CommandLine) (made : Result (List ℕ) MakeFault) : Type 0 where
   pub names : List (List ℕ)
   pub named : AreNamesFor (values_with FILES command.values) names
   pub read : Reads
   pub is : made_package command names read ≡ made
 
+-- of the index
 pub record IsIndexFound (command : CommandLine) (made : Result (List ℕ) MakeFault) : Type 0 where
   pub read : Reads
   pub files : AreFiles read 0 command.operands
