@@ -129,6 +129,7 @@ fn is_last(names: &Names, name: &Name) -> bool
     names.get(names.len() - 1).as_bytes() == name.as_bytes()
 }
 
+/// Puts a name behind others; where there is no memory they stay as they are.
 fn keep(list: &mut Vec<Name>, name: Name) -> Result<(), AllocError>
     ensures ok { OnOk result (list.new.items ≡ list.old.items ++ name ∷ []) }
     ensures err { OnErr result (list.new.items ≡ list.old.items) }

@@ -92,6 +92,7 @@ impl Items<'_> {
         Ok(())
     }
 
+    // Writes one field of the table.
     fn write_column(
         &self,
         draft: &mut Draft,
@@ -144,6 +145,7 @@ impl Value<'_> {
         }
     }
 
+    // Writes the value as a container has it.
     fn write(&self, draft: &mut Draft) -> Result<(), AllocError>
         ensures { OnOk result
             (draft.new ≡ draft_with (plain_value (value_view self.now)) draft.old) }
@@ -179,6 +181,7 @@ pub fn write_need(draft: &mut Draft, dep: &Dep<'_>) -> Result<(), AllocError>
     draft.close_object()
 }
 
+// Writes the version that a dependency names, or NULL.
 fn write_version(draft: &mut Draft, dep: &Dep<'_>) -> Result<(), AllocError>
     ensures { OnOk result (draft.new
         ≡ draft_with (blob_value (dep_value (dependency dep.now)).version) draft.old) }

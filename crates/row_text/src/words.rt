@@ -74,6 +74,7 @@ impl Line {
         Ok(())
     }
 
+    /// The words, once the line has ended; a quotation that is open makes the line bad.
     fn finish(self) -> Result<Words, Trouble> {
         let mut line = self;
         match line.place {
@@ -127,6 +128,7 @@ fn add_digits(out: &mut Vec<u8>, digits: &[u8]) -> Result<(), Trouble> {
     }
 }
 
+/// The byte that two hexadecimal digits are.
 fn byte_of(high: u8, low: u8) -> u8 {
     (high << 4) | low
 }
@@ -155,6 +157,7 @@ pub(crate) fn number(text: &[u8]) -> Result<u64, Trouble> {
     Ok(number)
 }
 
+/// A number with one more decimal digit; it has at most 64 bits.
 fn next_number(number: u64, digit: u8) -> Result<u64, Trouble> {
     let Some(tens) = number.checked_mul(10) else {
         return Err(Trouble::BadNumber);
