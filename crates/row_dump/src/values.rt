@@ -101,6 +101,7 @@ fn margin(line: &[u8]) -> usize {
 }
 
 impl Reader {
+    /// A reader that has the root open, with its fields at column 0.
     fn new(alloc: Global, root: Which) -> Result<Reader, DumpFault> {
         let mut reader = Reader {
             alloc,
@@ -121,6 +122,7 @@ impl Reader {
         Ok(())
     }
 
+    /// Reads a line, which belongs to the innermost open value at its column.
     fn read_line(&mut self, line: &[u8]) -> Result<(), DumpFault> {
         let column = margin(line);
         let Some(item) = line.get(column..) else {
