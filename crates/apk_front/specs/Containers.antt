@@ -54,6 +54,7 @@ is_cut Disk = true
 is_cut Memory = true
 is_cut other = false
 
+-- whether a fault stopped the making, so that no outcome is told
 abbrev pub is_cut_off : Result (Vec ℕ Global) MakeFault → Bool
 is_cut_off (Ok file) = false
 is_cut_off (Err why) = is_cut why
@@ -90,7 +91,7 @@ IsIndexOutcome command files outcome = outcome ≡ mkndx (reads_in files) files 
 
 -- ---- by some names below the folder, and some reads
 
--- what is made of a command by some reads
+-- the index that is made of a command by some reads
 pub record IsIndexFound (command : CommandLine) (made : Result (List ℕ) MakeFault) : Type 0 where
   pub read : Reads
   pub files : AreFiles read 0 command.operands

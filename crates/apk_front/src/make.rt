@@ -85,6 +85,7 @@ pub(crate) fn mkndx<T: Tree>(
     requires applet { command.now.applet ≡ Mkndx }
     ensures found { IfOk result (λ verdict. IfObservable (T.history tree.old) (λ v.
         ReportsOne (IsIndexOutcome command.now (files_of v)) verdict)) }
+    // Of every tree, for some contents at each read; the files do not count, so none are given.
     ensures by_reads { IfOk result (λ verdict. (read : Reads)
         × AreFiles read 0 command.now.operands
         × Reports verdict (mkndx read no_names command.now)) }

@@ -4,5 +4,6 @@ use Rattle.adb_view.specs.Plain.{Plain}
 use Rattle.adb_tables.specs.FieldIndexes.{INFO_FILE_SIZE, PACKAGE_INFO}
 use Rattle.adb_tables.specs.Values.{entry_in, int_in}
 
+-- the length of the package's file that it tells; 0 where it tells none
 abbrev pub file_size_of : Plain → ℕ
 file_size_of pkg = int_in (entry_in (entry_in pkg PACKAGE_INFO) INFO_FILE_SIZE)

@@ -38,6 +38,7 @@ dump_fault which done = None
 dump_fault which (fault c) = Some c
 dump_fault which (more b at r) = option_or (form_fault which b.payload) (framing_fault r)
 
+-- the text, unless a test failed
 abbrev pub or_text : Option Cause → List ℕ → Result (List ℕ) Cause
 or_text None text = Ok text
 or_text (Some cause) text = Err cause
@@ -47,10 +48,12 @@ abbrev pub dump_of_blocks : Which → Reading → Result (List ℕ) Cause
 dump_of_blocks which r =
     or_text (dump_fault which r) (dump_text which (root_value which (first_payload r)))
 
+-- a schema that no table of a root has is a wrong one
 abbrev pub dump_with_root : ℕ → Reading → Option Which → Result (List ℕ) Cause
 dump_with_root schema r None = Err (WrongSchema schema)
 dump_with_root schema r (Some which) = dump_of_blocks which r
 
+-- by the schema in the header, or the header's fault
 abbrev pub dump_with_schema : List ℕ → Result ℕ Cause → Result (List ℕ) Cause
 dump_with_schema file (Err c) = Err c
 dump_with_schema file (Ok schema) =
@@ -61,6 +64,7 @@ dump_with_schema file (Ok schema) =
 unfoldable pub dump_of : List ℕ → Result (List ℕ) Cause
 dump_of file = dump_with_schema file (header_of file)
 
+-- the text is the report; or the operand is refused, which has this place
 abbrev pub text_outcome : Files → ℕ → Result (List ℕ) Cause → Outcome
 text_outcome files place (Ok text) = just_report files text
 text_outcome files place (Err cause) = just_refusal files (FileBad place cause)

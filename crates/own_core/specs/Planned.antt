@@ -54,6 +54,7 @@ pub record IsPlanFor (members : List Member) (plan : FilePlan) : Type 0 where
   pub allowed : first_reserved members ≡ None
   pub owners : contested_of members ≡ None
 
+-- under which files are written: paths, and the names of files laid beside others
 abbrev pub written_names : FilePlan → List (List ℕ)
 written_names plan = map (λ w. w.name) (writes_in plan.writes)
 
@@ -83,6 +84,7 @@ HasSources members plan = All (IsOfComingFile members) (writes_in plan.writes)
 
 -- ---- why there is none
 
+-- of the member at a place, if there is one
 abbrev pub member_name_at : List Member → ℕ → Option (List ℕ)
 member_name_at members place = option_map member_name (slice_get members place)
 
@@ -94,6 +96,7 @@ pub record IsContest (members : List Member) (path first second : List ℕ) : Ty
   pub lister : member_name_at members contest.rivals.first ≡ Some first
   pub other : member_name_at members contest.rivals.second ≡ Some second
 
+-- of the faults of a plan the one that tells of a contested path; each other one is none
 abbrev pub IsOwnedBy : List Member → PlanFault → Type 0
 IsOwnedBy members (Reserved path) = ⊥
 IsOwnedBy members (PathClash path other) = ⊥

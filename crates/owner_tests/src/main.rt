@@ -35,6 +35,7 @@ struct ComingPackages {
 }
 
 impl Subject for ComingPackages {
+    // Answers a question by its first word, on the packages that the rows before have told.
     fn answer(
         &mut self,
         alloc: Global,
@@ -59,6 +60,7 @@ impl Subject for ComingPackages {
     }
 }
 
+// Answers the rows of standard input.
 fn main(rt: HostRuntime) -> io::Result<ExitCode> {
     let alloc = rt.alloc();
     let mut change = ComingPackages {

@@ -21,9 +21,11 @@ pub record Replacement : Type 0 where
   pub selected : List Candidate
   pub again : List (List ℕ)
 
+-- as the index or the database has it
 abbrev pub selected_version : Candidate → List ℕ
 selected_version c = text_in (entry_in c.info INFO_VERSION)
 
+-- whether the candidate has the name; what it provides does not count
 abbrev pub is_selected_named : List ℕ → Candidate → Bool
 is_selected_named name c = bytes_eq c.name name
 
@@ -33,6 +35,7 @@ abbrev pub is_installed_as : List ℕ → List ℕ → Candidate → Bool
 is_installed_as version id c =
     not (is_some c.repository) || (bytes_eq version (selected_version c) && is_same_id id c.id)
 
+-- whether the candidate is this very package, so that it stays as it is
 abbrev pub is_same_selected : Plain → Candidate → Bool
 is_same_selected pkg c = is_installed_as (version_text pkg) (installed_id pkg) c
 

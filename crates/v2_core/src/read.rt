@@ -162,6 +162,7 @@ fn write_record(draft: &mut Draft, text_record: &Record<'_>, lines: u64) -> Resu
     Ok(())
 }
 
+// The refusal of a line, which counts from 1.
 fn bad_line(line: u64) -> V2Fault
     ensures { result ≡ Bad (TextLine line) }
 {
