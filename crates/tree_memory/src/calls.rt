@@ -213,7 +213,8 @@ impl Calls {
     /// Counts the want of memory as the call's fault.
     pub fn finish(&mut self, done: Result<(), AllocError>) -> Result<(), Disk>
         ensures plan { self.new.plan ≡ self.old.plan }
-        ensures tally { self.new.tally ≡ (if is_ok done then self.old.tally else with_want self.old.tally) }
+        ensures tally { self.new.tally
+            ≡ (if is_ok done then self.old.tally else with_want self.old.tally) }
         ensures grown { HasGrown self.old.tally self.new.tally }
         ensures when { is_ok result ≡ is_ok done }
     {
