@@ -58,6 +58,7 @@ members_read before reads = filter_map (member_read before) reads
 
 -- ---- as members
 
+-- where it stays, its place is one of the database
 abbrev pub IsPlaced : List Plain → MemberRead → Type 0
 IsPlaced before (Stays place) = place < length before
 IsPlaced before (Comes pkg) = Unit {0}

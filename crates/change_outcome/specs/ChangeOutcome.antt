@@ -1,6 +1,7 @@
 -- What a command that changes the installed packages comes to.
 use Rattle.std.specs.Prelude.{◌≡◌, ℕ, ◌==◌, Bool, true, false, not, ◌||◌, List, [], ◌∷◌, ◌++◌, length, map, sum_by, Option, Some, None, Result, Ok, Err, bytes_eq, slice_get, unwrap_or}
 use Rattle.std.specs.Option.{option_map_or}
+use Rattle.adb_tables.specs.FieldIndexes.{INFO_INSTALLED_SIZE, PACKAGE_INFO}
 use Rattle.adb_tables.specs.Values.{entry_in, int_in}
 use Rattle.adb_write.specs.Canonical.{PayloadCounts, overflow_of}
 use Rattle.base_core.specs.Files.{Files}
@@ -134,7 +135,7 @@ does_something actions = not (length actions.removals == 0) || not (length actio
 
 -- the size that a package has when it is installed
 abbrev pub member_size : Member → ℕ
-member_size m = int_in (entry_in (entry_in m.pkg 0) 11)
+member_size m = int_in (entry_in (entry_in m.pkg PACKAGE_INFO) INFO_INSTALLED_SIZE)
 
 -- the last line of a report
 abbrev pub member_sum_line : List Member → List ℕ

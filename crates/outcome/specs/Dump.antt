@@ -1,5 +1,6 @@
 -- `adbdump`: a container is printed as text.
 use Rattle.std.specs.Prelude.{ℕ, List, [], ◌∷◌, Option, Some, None, Result, Ok, Err}
+use Rattle.std.specs.Option.{option_or}
 use Rattle.base_core.specs.Files.{Files}
 use Rattle.base_core.specs.declared.cause.Cause.{Cause}
 use Rattle.base_core.specs.declared.cause.Cause.TheVariants.{WrongSchema}
@@ -12,7 +13,7 @@ use Rattle.adb_block.specs.Reading.{Reading, done, fault, more, reading_of}
 use Rattle.adb_view.specs.Head.{head_fault, root_of}
 use Rattle.adb_tables.specs.Schema.{shape_of}
 use Rattle.adb_schema.specs.Soundness.{first_payload, root_value}
-use Rattle.adb_tables.specs.Walk.{or_else, shape_fault}
+use Rattle.adb_tables.specs.Walk.{shape_fault}
 use Rattle.adb_tables.specs.declared.tables.Which.{Which}
 use Rattle.adb_tables.specs.declared.tables.Kind.TheVariants.{Obj}
 use Rattle.adb_dump.specs.Dump.{dump_text}
@@ -29,13 +30,13 @@ framing_fault (more b at r) = framing_fault r
 -- the head of a payload and its shape, and nothing of its texts
 abbrev pub form_fault : Which → List ℕ → Option Cause
 form_fault which payload =
-    or_else (head_fault payload) (shape_fault payload (shape_of (Obj which)) (root_of payload))
+    option_or (head_fault payload) (shape_fault payload (shape_of (Obj which)) (root_of payload))
 
 -- the first block, and then the framing of the others
 abbrev pub dump_fault : Which → Reading → Option Cause
 dump_fault which done = None
 dump_fault which (fault c) = Some c
-dump_fault which (more b at r) = or_else (form_fault which b.payload) (framing_fault r)
+dump_fault which (more b at r) = option_or (form_fault which b.payload) (framing_fault r)
 
 -- the text, unless a test failed
 abbrev pub or_text : Option Cause → List ℕ → Result (List ℕ) Cause

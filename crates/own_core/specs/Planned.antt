@@ -1,6 +1,7 @@
 -- What a plan of a change says, and why there is none.
 use Rattle.std.specs.Prelude.{◌≡◌, ℕ, Bool, true, false, List, map, Option, Some, None, All, Contains, option_map, slice_get}
 use Rattle.adb_rules.specs.Reserved.{is_reserved}
+use Rattle.adb_tables.specs.FieldIndexes.{PACKAGE_PATHS}
 use Rattle.adb_tables.specs.Values.{entry_in}
 use Rattle.base_core.specs.Calls.{IfObservable}
 use Rattle.base_core.specs.Files.{Files}
@@ -75,7 +76,7 @@ pub record IsOfComingFile (members : List Member) (w : FileWrite) : Type 0 where
   pub member : Member
   pub at : slice_get members w.member ≡ Some member
   pub comes : is_coming member ≡ true
-  pub place : HasFileAt (entry_in member.pkg 1) w.folder w.file
+  pub place : HasFileAt (entry_in member.pkg PACKAGE_PATHS) w.folder w.file
 
 -- each file that is written is one of a member that comes
 abbrev pub HasSources : List Member → FilePlan → Type 0

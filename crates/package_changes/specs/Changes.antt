@@ -4,10 +4,10 @@ use Rattle.std.specs.List.{filter_map, find, list_any}
 use Rattle.std.specs.declared.cmp.Ordering.{Ordering}
 use Rattle.std.specs.declared.cmp.Ordering.TheVariants.{Less, Equal, Greater}
 use Rattle.adb_view.specs.Plain.{Plain}
-use Rattle.adb_tables.specs.FieldIndexes.{INFO_HASHES, INFO_VERSION, PACKAGE_INFO}
+use Rattle.adb_tables.specs.FieldIndexes.{INFO_VERSION}
 use Rattle.adb_tables.specs.Values.{entry_in, text_in}
 use Rattle.adb_fields.specs.Repeated.{package_name}
-use Rattle.db_core.specs.Packages.{is_package_named}
+use Rattle.db_core.specs.Packages.{installed_id, is_package_named}
 use Rattle.file_owners.specs.Replaces.{version_text}
 use Rattle.change_files.specs.PlanLists.{names_in_order}
 use Rattle.pool_core.specs.Candidates.{Candidate, is_same_id, version_of_text}
@@ -20,10 +20,6 @@ pub record Replacement : Type 0 where
   pub before : List Plain
   pub selected : List Candidate
   pub again : List (List ℕ)
-
--- the id of an installed package: its information keeps it in the field hashes
-abbrev pub installed_id : Plain → List ℕ
-installed_id pkg = text_in (entry_in (entry_in pkg PACKAGE_INFO) INFO_HASHES)
 
 -- as the index or the database has it
 abbrev pub selected_version : Candidate → List ℕ

@@ -34,6 +34,7 @@ value_of_line (Some line) = value_of_first line.values
 abbrev pub single_value : InfoField → List InfoLine → Plain
 single_value f info = value_of_line (find (is_line_of f) info)
 
+-- the values of a line where it is of the field, else none
 abbrev pub values_for : InfoField → InfoLine → List FieldValue
 values_for f line = if is_line_of f line then line.values else []
 

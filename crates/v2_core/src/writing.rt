@@ -55,15 +55,15 @@ const COLUMNS: [Column; 18] = [
 ];
 
 /// Writes the package of a record.
-pub(crate) fn write_package(draft: &mut Draft, record: &Record<'_>) -> Result<(), AllocError>
-    ensures { OnOk result (draft.new ≡ draft_with (record_value record.now) draft.old) }
+pub(crate) fn write_package(draft: &mut Draft, text_record: &Record<'_>) -> Result<(), AllocError>
+    ensures { OnOk result (draft.new ≡ draft_with (record_value text_record.now) draft.old) }
 {
     draft.open_list()?;
-    write_info(draft, &record.info)?;
-    write_folders(draft, &record.folders)?;
+    write_info(draft, &text_record.info)?;
+    write_folders(draft, &text_record.folders)?;
     draft.null()?;
     draft.null()?;
-    write_once(draft, &record.info, InfoField::ReplacesPriority)?;
+    write_once(draft, &text_record.info, InfoField::ReplacesPriority)?;
     draft.close_object()
 }
 
