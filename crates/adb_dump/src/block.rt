@@ -3,7 +3,7 @@
 ghost use Rattle.std.specs.Prelude.{◌≡◌, ◌++◌, true, codes, is_some, length, IfOk, OnOk, ◌<◌, ◌≤◌, ◌+◌, false};
 ghost use Rattle.adb_tables.specs.Shaped.{adb_of, shaped_value, table_of};
 ghost use Rattle.adb_schema.specs.Soundness.{schema_word};
-ghost use Rattle.adb_dump.specs.Dump.{dump_text, schema_line, block_lines, array_lines, fields_lines, named_lines, or_null};
+ghost use Rattle.adb_dump.specs.Dump.{dump_text, schema_line, block_lines, array_lines, fields_lines, named_lines, or_null, unless_absent};
 ghost use Rattle.adb_view.specs.Adb.{payload_of};
 ghost use Rattle.adb_view.specs.Entries.{array_entries};
 ghost use Rattle.adb_fields.specs.Fields.{are_all_sound, values_at};
@@ -12,16 +12,17 @@ ghost use Rattle.adb_tables.specs.Schema.{field_name_text, shape_of, shapes_of};
 ghost use Rattle.adb_tables.specs.Values.{is_sound, value_at};
 ghost use Rattle.adb_dump.specs.Margin.{lines_at, DEPTH_LIMIT};
 ghost use Rattle.adb_dump.specs.Out.{Puts, PutsForAny};
+ghost use Rattle.adb_tables.specs.declared.tables.Kind.TheVariants as Kinds;
 ghost use Rattle.adb_dump.specs.Words.{is_null, fields_sound, fields_at, has_one_line};
 
 use crate::line::{
-    LineStart, write_dash, write_hash_line, write_hex, write_name, write_number_line,
-    write_text_line,
+    LineStart, write_dash, write_hash_line, write_hex, write_name, write_name_line,
+    write_number_line, write_text_line,
 };
 use crate::text_out::{BlobOut, Count, Out, Room};
 use crate::words::{field_words, is_null};
 use adb_fields::{hash_word, int_word, objects_word, text_word, texts_word};
-use adb_schema::{Field, Kind, Shaped, Which, fields_of, schema_word};
+use adb_schema::{Field, FieldName, Kind, Shaped, Which, fields_of, schema_word};
 use adb_tables::entry_word;
 use adb_view::{Adb, Arr, Val};
 use base_core::Text;
@@ -222,20 +223,76 @@ pub(crate) fn write_fields<O: BlobOut>(
             break;
         }
         let word = entry_word(words, i);
-        if is_null(adb, field.kind, word) {
+        let depth = start.depth;
+        if write_field(out, adb, *field, word, LineStart { depth, begun })? {
             continue;
         }
-        let depth = start.depth;
-        write_field(out, adb, *field, word, LineStart { depth, begun })?;
         begun = false;
     }
     Ok(())
 }
 
+/// Puts the lines of a field, and answers whether it means Null and has none.
+#[cycle(block)]
+fn write_field<O: BlobOut>(
+    out: &mut O,
+    adb: Adb<'_>,
+    field: Field,
+    word: Val,
+    start: LineStart,
+) -> Result<bool, AllocError>
+    requires sound { is_sound (payload_of adb) field.kind word ≡ true }
+    requires deep { start.depth + rank field.kind < DEPTH_LIMIT }
+    ensures null { IfOk result (λ null. null
+        ≡ is_null (value_at (payload_of adb.entry) field.kind word)) }
+    ensures put { IfOk result (λ _. Puts (O.holds (payload_of adb.entry)) out.old out.new
+        (lines_at start.depth start.begun
+        (unless_absent (value_at (payload_of adb.entry) field.kind word)
+        (named_lines (shape_of field.kind) (field_name_text field.name)
+        (value_at (payload_of adb.entry) field.kind word))))) }
+{
+    if let Kind::Text = field.kind {
+        return write_text_field(out, adb, field.name, word, start);
+    }
+    if is_null(adb, field.kind, word) {
+        return Ok(true);
+    }
+    write_named(out, adb, field, word, start)?;
+    Ok(false)
+}
+
+/// Puts the line of a field that holds a text, and answers whether it means Null and has none. Most
+/// fields hold texts, so the text is looked up once.
+fn write_text_field<O: BlobOut>(
+    out: &mut O,
+    adb: Adb<'_>,
+    name: FieldName,
+    word: Val,
+    start: LineStart,
+) -> Result<bool, AllocError>
+    requires { is_sound (payload_of adb) Kinds.Text word ≡ true }
+    ensures null { IfOk result (λ null. null
+        ≡ is_null (value_at (payload_of adb.entry) Kinds.Text word)) }
+    ensures put { IfOk result (λ _. Puts (O.holds (payload_of adb.entry)) out.old out.new
+        (lines_at start.depth start.begun
+        (unless_absent (value_at (payload_of adb.entry) Kinds.Text word)
+        (named_lines (shape_of Kinds.Text) (field_name_text name)
+        (value_at (payload_of adb.entry) Kinds.Text word))))) }
+{
+    let text = text_word(adb, word);
+    if text.is_empty() {
+        return Ok(true);
+    }
+    let LineStart { depth, .. } = start;
+    write_name(out, start, name)?;
+    write_text_line(out, LineStart { depth, begun: true }, adb, word, text)?;
+    Ok(false)
+}
+
 /// Puts the lines of a field that does not mean Null.
 #[cycle(block)]
 #[tactic(auto, using(crate::proofs::Turns::field_behind, crate::proofs::Turns::field_below))]
-fn write_field<O: BlobOut>(
+fn write_named<O: BlobOut>(
     out: &mut O,
     adb: Adb<'_>,
     field: Field,
@@ -252,10 +309,10 @@ fn write_field<O: BlobOut>(
 {
     let LineStart { depth, .. } = start;
     if has_one_line(field.kind) {
-        write_name(out, start, field.name, b": ")?;
+        write_name(out, start, field.name)?;
         write_block(out, adb, field.kind, word, LineStart { depth, begun: true })
     } else {
-        write_name(out, start, field.name, b":\n")?;
+        write_name_line(out, start, field.name)?;
         write_block(
             out,
             adb,

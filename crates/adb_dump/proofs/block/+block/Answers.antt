@@ -1,15 +1,16 @@
-use Rattle.std.proofs.Common.{ℕ, ◌+◌, ◌<◌, true, length, arith, ap, sym, ◌∙◌}
+use Rattle.std.proofs.Common.{ℕ, ◌+◌, ◌≡◌, ◌<◌, true, false, get_or, [], length, arith, ap, sym, ◌∙◌}
 use Rattle.adb_tables.specs.Schema.{shape_of}
 use Rattle.adb_tables.specs.declared.tables.Field.{Field}
 use Rattle.adb_tables.specs.declared.tables.FieldName.TheVariants.{Name}
 use Rattle.adb_tables.specs.declared.tables.Kind.TheVariants.{Int}
 use Rattle.adb_dump.specs.Dump.{block_lines, or_null}
 use Rattle.adb_dump.specs.Margin.{lines_at}
+use Rattle.adb_dump.specs.Words.{is_null}
 use Rattle.adb_tables.specs.Values.{value_at}
 use Rattle.adb_view.specs.Adb.{payload_of}
 use Rattle.adb_view.specs.Entries.{array_entries}
 use Rattle.adb_dump.proofs.Puts.{on_ok_then, puts_on, puts_told, so_far_all, so_far_more, so_far_none}
-use Rattle.adb_dump.proofs.Turns.{entries_end, entries_later, entry_turn, field_behind, field_below, field_turn, fields_end, words_end}
+use Rattle.adb_dump.proofs.Turns.{entries_end, entries_later, entry_turn, field_behind, field_below, field_turn, fields_end, null_put, null_turn, some_put, words_end}
 use Rattle.adb_dump.proofs.Left.{fields_later}
 use Rattle.adb_dump.proofs.block.+block.Goals as goal
 
@@ -24,15 +25,15 @@ pub write_fields-returns-then-i-len : goal.write_fields-returns-then-i-len
 write_fields-returns-then-i-len g t c =
     so_far_all (g.O.Out.holds (payload_of c.args.adb)) _ _ _ _ (words_end c.args.start.depth c.loop-i.begun (payload_of c.args.adb) c.args.fields.now (array_entries c.args.words) c.loop-i.i (omega (arith, c.len.ensures.value, c.if-i-len.true))) c.loop-i.invariant.so_far
 
-pub write_field-returns-in_ok-write_name : goal.write_field-returns-in_ok-write_name
-write_field-returns-in_ok-write_name g t c =
+pub write_named-returns-in_ok-write_name : goal.write_named-returns-in_ok-write_name
+write_named-returns-in_ok-write_name g t c =
     on_ok_then _ _ _ (λ block. puts_told (g.O.Out.holds (payload_of c.args.adb)) _ _ _ _ (field_behind c.args.field.kind c.args.start.depth c.args.start.begun _ (value_at (payload_of c.args.adb) c.args.field.kind c.args.word) (sym c.has_one_line.ensures ∙ c.if-has_one_line.true))
     (puts_on (g.O.Out.holds (payload_of c.args.adb)) _ _ _ _ _ (c.in_ok-write_name.ensures (payload_of c.args.adb)) block)) c.write_block.ensures
 
-pub write_field-returns-in_ok-write_name-2 : goal.write_field-returns-in_ok-write_name-2
-write_field-returns-in_ok-write_name-2 g t c =
+pub write_named-returns-in_ok-write_name_line : goal.write_named-returns-in_ok-write_name_line
+write_named-returns-in_ok-write_name_line g t c =
     on_ok_then _ _ _ (λ block. puts_told (g.O.Out.holds (payload_of c.args.adb)) _ _ _ _ (field_below c.args.field.kind c.args.start.depth c.args.start.begun _ (value_at (payload_of c.args.adb) c.args.field.kind c.args.word) (sym c.has_one_line.ensures ∙ c.if-has_one_line.false))
-    (puts_on (g.O.Out.holds (payload_of c.args.adb)) _ _ _ _ _ (c.in_ok-write_name-2.ensures (payload_of c.args.adb)) block)) c.write_block-else-has_one_line.ensures
+    (puts_on (g.O.Out.holds (payload_of c.args.adb)) _ _ _ _ _ (c.in_ok-write_name_line.ensures (payload_of c.args.adb)) block)) c.write_block-else-has_one_line.ensures
 
 pub write_entries-loop-i-init : goal.write_entries-loop-i-init
 write_entries-loop-i-init g t c = record { sound = c.requires.sound; so_far = so_far_none (g.O.Out.holds (payload_of c.args.adb)) _ _ }
@@ -58,9 +59,26 @@ write_fields-loop-i-preserved g t c =
     let words = array_entries c.args.words in
     let first : Field = record { name = Name; kind = Int } in
     let within : c.loop-i.i < length words = omega (arith, c.len.ensures.value, c.if-i-len.false) in
+    let some : is_null (value_at payload (get_or fields c.loop-i.i first).kind c.entry_word-word.result) ≡ false = sym c.in_ok-write_field.ensures.null ∙ c.if-branch.false in
     record {
       sound = fields_later payload fields words c.loop-i.i first c.loop-i-test.true within c.loop-i.invariant.sound;
       so_far =
-          so_far_more (g.O.Out.holds (payload_of c.args.adb)) _ _ _ _ _ _ _ (field_turn c.args.start.depth c.loop-i.begun payload fields words c.loop-i.i c.entry_word-word.result first c.loop-i-test.true within c.entry_word-word.ensures c.loop-i.invariant.sound (sym c.is_null.ensures ∙ c.if-is_null.false))
-          c.in_ok-write_field.ensures c.loop-i.invariant.so_far;
+          so_far_more (g.O.Out.holds (payload_of c.args.adb)) _ _ _ _ _ _ _ (field_turn c.args.start.depth c.loop-i.begun payload fields words c.loop-i.i c.entry_word-word.result first c.loop-i-test.true within c.entry_word-word.ensures c.loop-i.invariant.sound some)
+          (puts_told (g.O.Out.holds (payload_of c.args.adb)) _ _ _ _ (some_put c.args.start.depth c.loop-i.begun _ _ some) c.in_ok-write_field.ensures.put) c.loop-i.invariant.so_far;
+    }
+
+pub write_fields-loop-i-preserved-then-branch : goal.write_fields-loop-i-preserved-then-branch
+write_fields-loop-i-preserved-then-branch g t c =
+    let payload = payload_of c.args.adb in
+    let fields = c.args.fields.now in
+    let words = array_entries c.args.words in
+    let first : Field = record { name = Name; kind = Int } in
+    let within : c.loop-i.i < length words = omega (arith, c.len.ensures.value, c.if-i-len.false) in
+    let none : is_null (value_at payload (get_or fields c.loop-i.i first).kind c.entry_word-word.result) ≡ true = sym c.in_ok-write_field.ensures.null ∙ c.if-branch.true in
+    record {
+      sound = fields_later payload fields words c.loop-i.i first c.loop-i-test.true within c.loop-i.invariant.sound;
+      so_far =
+          so_far_more (g.O.Out.holds (payload_of c.args.adb)) _ _ _ [] _ _ _
+          (null_turn c.args.start.depth c.loop-i.begun payload fields words c.loop-i.i first c.loop-i-test.true within c.loop-i.invariant.sound (ap (λ (w : ℕ). is_null (value_at payload (get_or fields c.loop-i.i first).kind w)) (sym c.entry_word-word.ensures) ∙ none))
+          (puts_told (g.O.Out.holds (payload_of c.args.adb)) _ _ _ _ (null_put c.args.start.depth c.loop-i.begun _ _ none) c.in_ok-write_field.ensures.put) c.loop-i.invariant.so_far;
     }

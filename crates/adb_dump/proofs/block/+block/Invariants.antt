@@ -21,10 +21,13 @@ abbrev pub decreases-write_entry : goal.decreases-write_entry
 decreases-write_entry g l = 2 * rank l.kind + 1
 
 abbrev pub decreases-write_fields : goal.decreases-write_fields
-decreases-write_fields g l = 2 * rank_of_all l.fields.now + 2
+decreases-write_fields g l = 2 * rank_of_all l.fields.now + 3
 
 abbrev pub decreases-write_field : goal.decreases-write_field
-decreases-write_field g l = 2 * rank l.field.kind + 1
+decreases-write_field g l = 2 * rank l.field.kind + 2
+
+abbrev pub decreases-write_named : goal.decreases-write_named
+decreases-write_named g l = 2 * rank l.field.kind + 1
 
 abbrev pub invariant-write_entries-loop-i : goal.invariant-write_entries-loop-i
 invariant-write_entries-loop-i g l = record {
