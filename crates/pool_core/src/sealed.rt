@@ -14,7 +14,8 @@ ghost use Rattle.pool_core.specs.Packages.{candidates_of_packages};
 ghost use Rattle.pool_core.specs.Rank.{candidate_at, candidate_cmp, is_at, is_eligible_at, is_kept_installed, is_pinned, is_pinned_at, is_pinned_to, rank_cmp, sealed_pool_by};
 ghost use Rattle.pool_core.specs.Ranking.{IsRankingIn};
 ghost use Rattle.pool_core.specs.Values.{candidate_value, names_upgraded_by, need_by, need_of};
-ghost use Rattle.pool_core.specs.VersionRanks.{IsReadOf};
+ghost use Rattle.pool_core.specs.VersionRanks.{AreReadAlike, IsReadOf};
+ghost use Rattle.pool_core.specs.declared.versions.VersionKind.TheVariants as Kinds;
 ghost use Rattle.pool_core.specs.World.{entries_of_kind, has_positive_install_if, is_entry_of_kind, places_marked};
 
 use crate::candidate::{CandId, Candidate, Details};
@@ -31,6 +32,7 @@ use crate::versions::VersionKind;
 use dep_core::{Dep, World};
 use std::alloc::{AllocError, Global};
 use std::marker::Model;
+use version_core::order_is_total;
 
 /// The candidates under a world. What is asked of each candidate again and again is marked once.
 #[derive(Drop)]
@@ -163,6 +165,7 @@ impl<'a> Sealed<'a> {
         ensures { IfOk result (λ options. options ≡ options_for self.now (need_by need.now)) }
     {
         rank_is_total();
+        order_is_total();
         let mut rankings = self.rankings(alloc, need, ids, &self.packages)?;
         rank_versions(alloc, &mut rankings, VersionKind::Under)?;
         rank_versions(alloc, &mut rankings, VersionKind::Own)?;
@@ -185,8 +188,8 @@ impl<'a> Sealed<'a> {
         ensures each { IfOk result (λ rankings.
             All (IsRankingIn self.now (need_by need.now)) rankings.items) }
         ensures places { IfOk result (λ rankings. map (λ r. r.place) rankings.items ≡ ids.now) }
-        ensures texts { IfOk result (λ rankings.
-            All (IsReadOf packages.now.sources.items) rankings.items) }
+        ensures under { IfOk result (λ rankings. AreReadAlike Kinds.Under rankings.items) }
+        ensures version { IfOk result (λ rankings. AreReadAlike Kinds.Own rankings.items) }
     {
         let mut rankings = Vec::with_capacity(alloc, ids.len())?;
         for id in ids {

@@ -91,8 +91,8 @@ loop-i-preserved c =
     let meets : Dependency → Bool = is_met_by_entry (dependency c.args.dep.now) in
     elim c.match-read_entry.branch [
       | in-Some+else-is_met_by_entry w ↦
-        passed_over meets i (entries_in list) (value_at p (Kinds.Obj Tables.Dep) word) (dependency w.in-Some.found) there value w.in-Some.ensures c.loop-i.invariant
-        (sym w.is_met_by_entry.ensures ∙ w.if-is_met_by_entry.false)
+          passed_over meets i (entries_in list) (value_at p (Kinds.Obj Tables.Dep) word) (dependency w.in-Some.found) there value w.in-Some.ensures c.loop-i.invariant
+          (sym w.is_met_by_entry.ensures ∙ w.if-is_met_by_entry.false)
       | in_default w ↦ no_dependency meets i (entries_in list) (value_at p (Kinds.Obj Tables.Dep) word) there value w.in_default.ensures c.loop-i.invariant
     ]
 

@@ -17,8 +17,8 @@ returns-clause-text c =
     let text : List ℕ = text_in (value_at p Kinds.Text c.if-is_some.word) in
     elim c.if-is_some.branch [
       | then-is_some w ↦
-        let same : text ≡ text_in (entry_in value 1) =
-        ap (λ (word : ℕ). text_in (value_at p Kinds.Text word)) (w.word-is ∙ w.word-word.ensures) ∙ ap text_in (w.field_word.ensures Kinds.Text refl).1 in
-        provided_text value (dependency c.args.found) text c.requires.found same
+          let same : text ≡ text_in (entry_in value 1) =
+          ap (λ (word : ℕ). text_in (value_at p Kinds.Text word)) (w.word-is ∙ w.word-word.ensures) ∙ ap text_in (w.field_word.ensures Kinds.Text refl).1 in
+          provided_text value (dependency c.args.found) text c.requires.found same
       | else-is_some w ↦ none_read c.args.found.version text (sym c.is_some.ensures ∙ w.if-is_some.false)
     ]

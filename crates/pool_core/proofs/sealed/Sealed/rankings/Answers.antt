@@ -5,7 +5,7 @@ use Rattle.std.proofs.lemmas.List.Elements.{All-push}
 use Rattle.pool_core.specs.Options.{IsMember, may_meet}
 use Rattle.pool_core.specs.Ranking.{IsRankingIn, Ranking}
 use Rattle.pool_core.specs.Values.{need_by}
-use Rattle.pool_core.specs.VersionRanks.{IsReadOf}
+use Rattle.pool_core.specs.VersionRanks.{IsReadOf, text_at}
 use Rattle.pool_core.proofs.OfferLists.{places_below}
 use Rattle.pool_core.proofs.RankedOptions.{place_of}
 use Rattle.pool_core.proofs.Steps.{member_at}
@@ -34,3 +34,9 @@ loop-id-preserved c =
           ∙ (ap (λ (k : ℕ). take i ids ++ k ∷ []) c.ranking.ensures.place ∙ sym more)));
       texts = subst (λ (rs : List Ranking). All Q rs) (sym c.in_ok-push.ensures.items) (All-push Q rankings c.ranking.result c.loop-id.invariant.texts c.ranking.ensures.texts);
     }
+
+pub returns-clause-under : goal.returns-clause-under
+returns-clause-under c = (text_at c.args.packages.now.sources.items, λ i d h. (c.loop-id.invariant.texts i d h).0)
+
+pub returns-clause-version : goal.returns-clause-version
+returns-clause-version c = (text_at c.args.packages.now.sources.items, λ i d h. (c.loop-id.invariant.texts i d h).1)
