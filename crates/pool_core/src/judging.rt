@@ -1,5 +1,5 @@
-//! Whether the texts of a package's information keep their rules. A long one is judged once, however
-//! many places of the package share it.
+//! Whether the texts of a package's information keep their rules. A long one is judged once,
+//! however many places of the package share it.
 ghost use Rattle.std.specs.Prelude.{◌≡◌, true, false, Some, IfOk, IfSome, IfNone};
 ghost use Rattle.std.specs.Option.{option_map};
 ghost use Rattle.adb_fields.specs.Fields.{are_all_sound, array_at};

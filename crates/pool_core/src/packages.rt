@@ -78,7 +78,8 @@ impl<'a> Packages<'a> {
     /// The version of the package at a place, counted from 0.
     pub(crate) fn version(&self, place: usize) -> RankedVersion<'a>
         requires { place < length (candidates_of_packages self.now) }
-        ensures version { (c : Candidate) → slice_get (candidates_of_packages self.now) place ≡ Some c
+        ensures version { (c : Candidate)
+            → slice_get (candidates_of_packages self.now) place ≡ Some c
             → result.version ≡ c.version }
         ensures text { IsReadBy (text_at self.now.sources.items) result }
     {
@@ -90,7 +91,8 @@ impl<'a> Packages<'a> {
     /// The version under which the package at a place meets a need.
     pub(crate) fn version_under(&self, place: usize, need: &NeedRef<'_>) -> RankedVersion<'a>
         requires { place < length (candidates_of_packages self.now) }
-        ensures version { (c : Candidate) → slice_get (candidates_of_packages self.now) place ≡ Some c
+        ensures version { (c : Candidate)
+            → slice_get (candidates_of_packages self.now) place ≡ Some c
             → result.version ≡ version_under (need_by need.now) c }
         ensures text { IsReadBy (text_at self.now.sources.items) result }
     {

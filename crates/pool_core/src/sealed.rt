@@ -63,12 +63,14 @@ impl<'a> Model for Sealed<'a> {
     ghost coded = { Prim.hlevel (codes, plain_code) };
 
     ghost view = { λ s.
-        sealed_pool_by (candidates_of_packages s.packages) s.world.now (names_upgraded_by s.upgrade) };
+        sealed_pool_by (candidates_of_packages s.packages) s.world.now
+        (names_upgraded_by s.upgrade) };
 
     ghost invariant = { λ s. LeadsToOffers s.table (candidates_of_packages s.packages)
         × (s.eligible.items ≡ map (is_eligible s.world.now) (candidates_of_packages s.packages))
         × (s.pinned.items ≡ map (is_pinned s.world.now) (candidates_of_packages s.packages))
-        × (s.kept.items ≡ map (is_kept_installed (names_upgraded_by s.upgrade)) (candidates_of_packages s.packages))
+        × (s.kept.items ≡ map (is_kept_installed (names_upgraded_by s.upgrade))
+        (candidates_of_packages s.packages))
         × (s.install_ifs.items
         ≡ places_from 0 (has_usable_install_if s.world.now) (candidates_of_packages s.packages)) };
 }
@@ -153,7 +155,8 @@ impl<'a> Sealed<'a> {
         self.ranked(alloc, need, &ids)
     }
 
-    // The options that have these places, best first. What each is ranked by is read once.
+    // The options that have these places, best first. What each is ranked by is read once, and each
+    // text of a version is compared once for all options that share it.
     fn ranked(
         &self,
         alloc: Global,
@@ -347,7 +350,8 @@ fn marks_by_world(
     ensures pinned { IfOk result (λ marks. marks.pinned.items
         ≡ map (is_pinned world.now) (candidates_of_packages list.now.packages)) }
     ensures install_ifs { IfOk result (λ marks. marks.install_ifs.items
-        ≡ places_from 0 (has_usable_install_if world.now) (candidates_of_packages list.now.packages)) }
+        ≡ places_from 0 (has_usable_install_if world.now)
+        (candidates_of_packages list.now.packages)) }
 {
     let conflicts = entries_of_kind(alloc, world, EntryKind::Conflict)?;
     let tagged = entries_of_kind(alloc, world, EntryKind::Tagged)?;
