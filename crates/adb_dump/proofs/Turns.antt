@@ -1,17 +1,19 @@
 -- What a turn of a loop writes.
 use Rattle.std.proofs.Common.{◌≡◌, ℕ, suc, ◌+◌, ◌<◌, ◌≤◌, Bool, true, false, List, [], ◌∷◌, ◌++◌, length, get_or, drop, refl, sym, ap, ◌∙◌, append_assoc, arith}
 use Rattle.std.specs.Prelude.{codes}
-use Rattle.adb_view.specs.Plain.{Plain, null, int, blob, arr, obj}
+use Rattle.adb_view.specs.Plain.{Plain, null, int, blob, arr, obj, obj_value, Plains, none, more, Fields, no_fields, field}
 use Rattle.adb_fields.specs.Fields.{are_all_sound}
-use Rattle.adb_tables.specs.Schema.{field_name_text, shape_of}
+use Rattle.adb_tables.specs.Schema.{field_name_text, shape_of, shapes_of, table}
 use Rattle.adb_tables.specs.Values.{is_sound, text_in, value_at}
+use Rattle.adb_tables.specs.declared.tables.Which.{Which}
 use Rattle.adb_tables.specs.declared.tables.Kind.{Kind}
 use Rattle.adb_tables.specs.declared.tables.Kind.TheVariants.{Int, Text, Hash, Obj, TextArr, ObjArr}
 use Rattle.adb_tables.specs.declared.tables.Field.{Field}
-use Rattle.adb_dump.specs.Dump.{Line, block_lines, with_dash, named_lines, or_null, text_form, unless_absent}
+use Rattle.adb_dump.specs.Dump.{Line, block_lines, fields_lines, with_dash, named_lines, or_null, text_form, unless_absent}
 use Rattle.adb_dump.specs.Margin.{lead, lines_at}
-use Rattle.adb_dump.specs.Words.{is_null, fields_sound, has_one_line}
-use Rattle.adb_dump.proofs.BlockLines.{HasLine, block_line, or_null_line, named_line, text_lines}
+use Rattle.adb_dump.specs.Words.{are_null, fields_at, is_null, fields_sound, has_one_line}
+use Rattle.adb_dump.proofs.BlockLines.{HasLine, block_line, or_null_line, named_line, object_lines, text_lines}
+use Rattle.adb_dump.proofs.Nulls.{obj_null}
 use Rattle.adb_dump.proofs.Left.{entries_left, fields_left, entry_step, entries_more, entries_done, fields_next, fields_skip, fields_done, fields_over, unless_absent-false, unless_absent-true}
 use Rattle.adb_dump.proofs.Placed.{laid_behind, laid_dashed, laid_on_line, laid_below}
 
@@ -55,6 +57,37 @@ some_entry (int n) ls e = refl
 some_entry (blob b) ls e = refl
 some_entry (arr vs) ls e = refl
 some_entry (obj vs) ls e = refl
+
+-- an object's lines are those of its fields
+object_fields : (p : List ℕ) (which : Which) (w : ℕ) (ws : List ℕ) (fields : List Field) → fields ≡ table which → value_at p (Obj which) w ≡ obj_value (fields_at p (table which) ws)
+    → fields_lines (shapes_of fields) (fields_at p fields ws) ≡ block_lines (shape_of (Obj which)) (value_at p (Obj which) w)
+object_fields p which w ws fields e value = rw e (sym (object_lines p which w ws value))
+
+object_null : (p : List ℕ) (which : Which) (w : ℕ) (ws : List ℕ) (fields : List Field) → fields ≡ table which → value_at p (Obj which) w ≡ obj_value (fields_at p (table which) ws)
+    → is_null (value_at p (Obj which) w) ≡ are_null (fields_at p fields ws)
+object_null p which w ws fields e value = rw e (ap is_null value ∙ obj_null (fields_at p (table which) ws))
+
+null_lines : (fs : Fields) (vs : Plains) → are_null vs ≡ true → fields_lines fs vs ≡ []
+unfolding fields_lines
+null_lines no_fields vs e = refl
+null_lines (field name s fs) none e = refl
+null_lines (field name s fs) (more null vs) e = null_lines fs vs e
+null_lines (field name s fs) (more (int n) vs) e = absurd cc
+null_lines (field name s fs) (more (blob b) vs) e = absurd cc
+null_lines (field name s fs) (more (arr us) vs) e = absurd cc
+null_lines (field name s fs) (more (obj us) vs) e = absurd cc
+
+-- an entry that is an object: without a field it is Null
+pub object_entry_null : (d : ℕ) (p : List ℕ) (which : Which) (w : ℕ) (ws : List ℕ) (fields : List Field) → fields ≡ table which → value_at p (Obj which) w ≡ obj_value (fields_at p (table which) ws) → are_null (fields_at p fields ws) ≡ true
+    → lines_at d true (fields_lines (shapes_of fields) (fields_at p fields ws)) ++ codes "null\n" ≡ lines_at d true (or_null (value_at p (Obj which) w) (block_lines (shape_of (Obj which)) (value_at p (Obj which) w)))
+object_entry_null d p which w ws fields e value all =
+    ap (λ (ls : List Line). lines_at d true ls ++ codes "null\n") (null_lines (shapes_of fields) (fields_at p fields ws) all)
+    ∙ sym (null_entry d (value_at p (Obj which) w) (block_lines (shape_of (Obj which)) (value_at p (Obj which) w)) (object_null p which w ws fields e value ∙ all))
+
+pub object_entry_some : (d : ℕ) (p : List ℕ) (which : Which) (w : ℕ) (ws : List ℕ) (fields : List Field) → fields ≡ table which → value_at p (Obj which) w ≡ obj_value (fields_at p (table which) ws) → are_null (fields_at p fields ws) ≡ false
+    → lines_at d true (fields_lines (shapes_of fields) (fields_at p fields ws)) ≡ lines_at d true (or_null (value_at p (Obj which) w) (block_lines (shape_of (Obj which)) (value_at p (Obj which) w)))
+object_entry_some d p which w ws fields e value some =
+    ap (λ (ls : List Line). lines_at d true ls) (object_fields p which w ws fields e value ∙ sym (some_entry (value_at p (Obj which) w) (block_lines (shape_of (Obj which)) (value_at p (Obj which) w)) (object_null p which w ws fields e value ∙ some)))
 
 -- ---- fields
 

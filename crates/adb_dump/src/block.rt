@@ -13,7 +13,7 @@ ghost use Rattle.adb_tables.specs.Values.{is_sound, value_at};
 ghost use Rattle.adb_dump.specs.Margin.{lines_at, DEPTH_LIMIT};
 ghost use Rattle.adb_dump.specs.Out.{Puts, PutsForAny};
 ghost use Rattle.adb_tables.specs.declared.tables.Kind.TheVariants as Kinds;
-ghost use Rattle.adb_dump.specs.Words.{is_null, fields_sound, fields_at, has_one_line};
+ghost use Rattle.adb_dump.specs.Words.{are_null, is_null, fields_sound, fields_at, has_one_line};
 
 use crate::line::{
     LineStart, write_dash, write_hash_line, write_hex, write_name, write_name_line,
@@ -146,7 +146,8 @@ fn write_block<O: BlobOut>(
         }
         Kind::Obj(which) => {
             let words = field_words(adb, which, word);
-            write_fields(out, adb, fields_of(which), words, start)
+            write_fields(out, adb, fields_of(which), words, start)?;
+            Ok(())
         }
     }
 }
@@ -194,13 +195,41 @@ fn write_entry<O: BlobOut>(
         (or_null (value_at (payload_of adb.entry) kind word)
         (block_lines (shape_of kind) (value_at (payload_of adb.entry) kind word))))) }
 {
+    if let Kind::Obj(which) = kind {
+        return write_object_entry(out, adb, which, word, depth);
+    }
     if is_null(adb, kind, word) {
         return out.put(b"null\n");
     }
     write_block(out, adb, kind, word, LineStart { depth, begun: true })
 }
 
-/// Puts the fields of an object that do not mean Null.
+/// Puts the lines of an entry that is an object. Whether it means Null is known behind its fields.
+#[cycle(block)]
+fn write_object_entry<O: BlobOut>(
+    out: &mut O,
+    adb: Adb<'_>,
+    which: Which,
+    word: Val,
+    depth: u32,
+) -> Result<(), AllocError>
+    requires sound { is_sound (payload_of adb) (Kinds.Obj which) word ≡ true }
+    requires deep { depth + rank (Kinds.Obj which) ≤ DEPTH_LIMIT }
+    ensures { OnOk result (Puts (O.holds (payload_of adb.entry)) out.old out.new
+        (lines_at depth true
+        (or_null (value_at (payload_of adb.entry) (Kinds.Obj which) word)
+        (block_lines (shape_of (Kinds.Obj which))
+        (value_at (payload_of adb.entry) (Kinds.Obj which) word))))) }
+{
+    let words = field_words(adb, which, word);
+    let start = LineStart { depth, begun: true };
+    if write_fields(out, adb, fields_of(which), words, start)? {
+        return out.put(b"null\n");
+    }
+    Ok(())
+}
+
+/// Puts the fields of an object that do not mean Null, and answers whether there is none.
 #[cycle(block)]
 #[tactic(auto, using(adb_tables::proofs::WalkSteps::field_rank, crate::proofs::Left::field_here, crate::proofs::Left::fields_later, crate::proofs::Turns::field_turn, crate::proofs::Turns::null_turn, crate::proofs::Turns::words_end, crate::proofs::Turns::fields_end))]
 pub(crate) fn write_fields<O: BlobOut>(
@@ -209,15 +238,18 @@ pub(crate) fn write_fields<O: BlobOut>(
     fields: &[Field],
     words: Arr<'_>,
     start: LineStart,
-) -> Result<(), AllocError>
+) -> Result<bool, AllocError>
     requires sound { fields_sound (payload_of adb) fields.now (array_entries words) ≡ true }
     requires deep { start.depth + rank_of_all fields.now < DEPTH_LIMIT }
-    ensures { OnOk result (Puts (O.holds (payload_of adb.entry)) out.old out.new
+    ensures null { IfOk result (λ null. null
+        ≡ are_null (fields_at (payload_of adb.entry) fields.now (array_entries words.entry))) }
+    ensures put { IfOk result (λ _. Puts (O.holds (payload_of adb.entry)) out.old out.new
         (lines_at start.depth start.begun
         (fields_lines (shapes_of fields.now)
         (fields_at (payload_of adb.entry) fields.now (array_entries words.entry))))) }
 {
     let mut begun = start.begun;
+    let mut all_null = true;
     for (i, field) in fields.iter().enumerate() {
         if i >= words.len() {
             break;
@@ -228,8 +260,9 @@ pub(crate) fn write_fields<O: BlobOut>(
             continue;
         }
         begun = false;
+        all_null = false;
     }
-    Ok(())
+    Ok(all_null)
 }
 
 /// Puts the lines of a field, and answers whether it means Null and has none.

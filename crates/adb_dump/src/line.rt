@@ -291,5 +291,8 @@ pub(crate) fn write_name_line<O: Out>(
 fn write_lead<O: Out>(out: &mut O, start: LineStart) -> Result<(), AllocError>
     ensures { OnOk result (PutsForAny O.holds out.old out.new (lead start.depth start.begun)) }
 {
+    if start.begun {
+        return Ok(());
+    }
     write_front(out, start, blank_front())
 }
