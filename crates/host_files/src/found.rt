@@ -25,6 +25,7 @@ pub struct LookedAt {
 }
 
 impl LookedAt {
+    /// What the host says of a file that it was asked for.
     fn of(data: &Metadata) -> LookedAt {
         LookedAt {
             len: data.len(),
