@@ -84,7 +84,6 @@ impl From<AllocError> for HostFault {
 }
 
 impl From<io::Error> for HostFault {
-    /// The host's own want of memory counts as want of memory.
     fn from(error: io::Error) -> HostFault {
         if error.kind() == ErrorKind::OutOfMemory {
             return HostFault::Memory;

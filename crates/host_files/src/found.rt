@@ -25,7 +25,6 @@ pub struct LookedAt {
 }
 
 impl LookedAt {
-    /// What the host says of a file that it was asked for.
     fn of(data: &Metadata) -> LookedAt {
         LookedAt {
             len: data.len(),
