@@ -15,7 +15,7 @@ ghost use Rattle.command_core.specs.declared.values.TheConstants.{FILES};
 ghost use Rattle.make_index.specs.Files.{AreFiles};
 ghost use Rattle.make_info.specs.Output.{output_name};
 ghost use Rattle.make_info.specs.Reads.{Reads};
-ghost use Rattle.make_package.specs.Sources.{AreNamesFor, values_with};
+ghost use Rattle.package_files.specs.Sources.{AreNamesFor, values_with};
 ghost use Rattle.outcome.specs.Effect.{Makes};
 ghost use Rattle.outcome.specs.Make.{index_line, make_outcome, mkndx, mkpkg, unless_reserved};
 ghost use Rattle.outcome.specs.Outcome.{Outcome, just_refusal};

@@ -27,7 +27,7 @@ use journal_intent::{intent_name, stage_folder};
 use std::alloc::{AllocError, Global};
 
 /// Why a root is not recovered.
-#[derive(Clone, Copy, Debug, PartialEq, Eq, Drop)]
+#[derive(Clone, Copy, Drop)]
 pub enum RecoverFault {
     /// The intent is no intent container, for the first test that failed. Nothing has changed.
     IntentBad(Cause),

@@ -37,10 +37,7 @@ fn drop_repeats(names: &mut Vec<&[u8]>)
 }
 
 /// Words, as names.
-pub(crate) fn names_of_words<'a>(
-    alloc: Global,
-    words: &'a Words,
-) -> Result<Vec<&'a [u8]>, AllocError>
+pub fn names_of_words<'a>(alloc: Global, words: &'a Words) -> Result<Vec<&'a [u8]>, AllocError>
     ensures { IfOk result (λ names. map (λ n. n.now) names.items ≡ words.entry.now) }
 {
     let mut names = Vec::new(alloc);
