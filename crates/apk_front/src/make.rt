@@ -27,7 +27,8 @@ use base_core::{
     Text, Tree, TreeFault, counts_of_calls_in_a_row_join, files_have_one_list_of_names,
 };
 use command_core::Command;
-use journal_core::{an_image_has_the_state_of_its_map, replace};
+use file_replacement::replace;
+use journal_core::an_image_has_the_state_of_its_map;
 use make_core::{
     MakeFault, a_package_with_information_has_an_output, an_index_has_an_output,
     an_output_is_short, output_name,

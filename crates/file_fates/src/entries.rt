@@ -1,6 +1,6 @@
 //! What the entries say of which claims speak.
 
-ghost use Rattle.std.specs.Prelude.{◌≡◌, ◌-◌, ◌<◌, ◌≤◌};
+ghost use Rattle.std.specs.Prelude.{◌-◌, ◌<◌, ◌≤◌};
 ghost use Rattle.adb_fields.specs.ListValue.{list_value};
 ghost use Rattle.adb_schema.specs.Views.{package_value};
 ghost use Rattle.adb_tables.specs.Values.{count_of, entries_in, entry_in};

@@ -9,7 +9,7 @@ ghost use Rattle.change_files.specs.FileChange.{old_entry};
 ghost use Rattle.db_core.specs.Seen.{members_of};
 ghost use Rattle.file_guard.specs.Listed.{IsOfEntry};
 ghost use Rattle.path_claims.specs.Seen.{claim_seen};
-ghost use Rattle.file_fates.specs.ClaimEntries.{AreClaimsOf, IsClaimOf, claim_entry};
+ghost use Rattle.file_fates.specs.ClaimEntries.{AreClaimsOf, IsClaimOf};
 ghost use Rattle.file_fates.specs.Fates.{IsOfEntryIfAny, claim_fate, fate_seen, is_free_beside};
 ghost use Rattle.file_fates.specs.Found.{AreByFiles, IsByFile};
 ghost use Rattle.file_fates.specs.Sides.{HasClaims, file_change_of};

@@ -1,11 +1,10 @@
 //! The files that come by what becomes of them, and the files that go.
 
-ghost use Rattle.std.specs.Prelude.{◌≡◌, ◌&&◌, not, IfOk, OnOk, Some, [], ◌∷◌, ◌++◌, length, map};
+ghost use Rattle.std.specs.Prelude.{◌≡◌, IfOk, OnOk, Some, [], ◌∷◌, ◌++◌, length, map};
 ghost use Rattle.std.specs.List.{filter};
 ghost use Rattle.std.specs.List.Sorted.{IsSorted};
 ghost use Rattle.adb_fields.specs.JoinedPath.{joined_path};
 ghost use Rattle.base_core.specs.Read.{OnlyReads};
-ghost use Rattle.change_files.specs.FileChange.{is_claimed};
 ghost use Rattle.path_claims.specs.Claims.{claim_cmp};
 ghost use Rattle.path_claims.specs.Seen.{claim_seen};
 ghost use Rattle.file_fates.specs.ClaimEntries.{AreClaimsOf, IsClaimOf, members_before};

@@ -1,6 +1,6 @@
 //! The names at which files that come are written.
 
-ghost use Rattle.std.specs.Prelude.{◌≡◌, ◌<◌, ◌==◌, ◌++◌, ◌∷◌, [], ℕ, List, IfOk, OnOk, Some, length, map, slice_get};
+ghost use Rattle.std.specs.Prelude.{◌≡◌, ◌<◌, ◌==◌, ◌++◌, ◌∷◌, [], IfOk, OnOk, Some, length, map, slice_get};
 ghost use Rattle.list_order.specs.Sorted.{sorted_by};
 ghost use Rattle.path_claims.specs.Seen.{claim_seen};
 ghost use Rattle.claim_lists.specs.Named.{HaveNames};

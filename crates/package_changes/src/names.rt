@@ -2,7 +2,7 @@
 ghost use Rattle.change_files.specs.PlanLists.{names_in_order, without_repeats};
 ghost use Rattle.list_order.specs.ByteOrder.{bytes_cmp};
 ghost use Rattle.list_order.specs.Sorted.{sorted_by};
-ghost use Rattle.std.specs.Prelude.{◌≡◌, ◌++◌, map, IfOk};
+ghost use Rattle.std.specs.Prelude.{◌≡◌, map, IfOk};
 
 use base_core::Words;
 use std::alloc::{AllocError, Global};

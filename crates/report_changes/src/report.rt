@@ -1,5 +1,4 @@
 //! The lines of reports.
-ghost use Rattle.db_core.specs.Seen.{packages_of};
 ghost use Rattle.package_changes.specs.Changes.{changes_of};
 ghost use Rattle.package_changes.specs.Placed.{candidates_at, replacement_of};
 ghost use Rattle.report_changes.specs.Report.{candidate_size, selected_sum_line, simulated_report};
