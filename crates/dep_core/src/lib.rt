@@ -5,9 +5,9 @@
 //! Bytes come in; `Dep`, `World` and `Repos` go out, and texts of them. A `Dep` borrows and takes
 //! no memory. The contracts cite `specs/`: `Dependency` (the parts and their bytes),
 //! `DependencyText` (the grammar and the text), `Reading`, `Value` and `ValueReading`, `Meets`
-//! (what a `Dep` stands for, and what meets it), `World` and `Repositories`, and `LeadingSlash` (one
-//! slash before a path). `Spelling`, `Entries` and `RepositoryText` say the same apart from how a
-//! text is read, and the functions of `laws` join the two.
+//! (what a `Dep` stands for, and what meets it), `World` and `Repositories`, and `LeadingSlash`
+//! (one slash before a path). `Spelling`, `Entries` and `RepositoryText` say the same apart from
+//! how a text is read, and the functions of `laws` join the two.
 #![tactic(auto)]
 
 mod dep;

@@ -79,6 +79,7 @@ impl<'a, P: Program> Swept<'a, P> {
         Err(self.too_many(alloc))
     }
 
+    /// Told where a command line makes more calls than are swept.
     fn too_many(&self, alloc: Global) -> RowFault {
         differs(alloc, self.step.line, &[b"too many calls"])
     }
@@ -128,6 +129,8 @@ impl<'a, P: Program> Swept<'a, P> {
             .check_images(alloc, self.program, self.step, &second.tree)
     }
 
+    /// Compares a second run, behind a recovery, with the wanted one: its status and what it
+    /// prints.
     fn check_again(&self, alloc: Global, call: u64, second: &Run) -> Result<(), RowFault> {
         let line = self.step.line;
         let what = at_call(alloc, call, b" and a second run, what is seen")?;

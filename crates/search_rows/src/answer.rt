@@ -57,7 +57,7 @@ enum Question {
     Count,
 }
 
-/// The words that questions over a pool begin with.
+/// The words that questions begin with, but `bytes`, which is answered before.
 const QUESTIONS: [(&[u8], Question); 8] = [
     (b"packages", Question::Packages),
     (b"candidates", Question::Candidates),
@@ -79,18 +79,21 @@ pub fn answer(alloc: Global, row: &Row<'_>, query: &[u8]) -> Result<Vec<u8>, All
     }
 }
 
+// How it is told that there are too many candidates.
 fn too_many(alloc: Global, count: u64) -> Result<Vec<u8>, AllocError> {
     let mut text = number_text(alloc, count)?;
     text.extend_from_slice(b" candidates are too many")?;
     Ok(text)
 }
 
+// A number in decimal.
 fn number_text(alloc: Global, number: u64) -> Result<Vec<u8>, AllocError> {
     let mut text = Vec::new(alloc);
     add_number(alloc, &mut text, u128::from(number))?;
     Ok(text)
 }
 
+// Makes the indexes of the row, and answers over them.
 fn answer_of(alloc: Global, row: &Row<'_>, query: &[u8]) -> Result<Vec<u8>, RowFault> {
     let mut payloads = Vec::new(alloc);
     for repository in &row.repositories {
@@ -167,6 +170,7 @@ impl<'a> Packages<'a> {
         }
     }
 
+    // Answers what is asked of a sealed pool.
     fn answer_of_pool(
         &self,
         alloc: Global,
@@ -257,10 +261,14 @@ fn view_of<'a>(alloc: Global, payload: &'a [u8]) -> Result<IndexView<'a>, RowFau
     }
 }
 
+/// The most names that a row upgrades.
+const MOST_NAMES: usize = 1000;
+
+// The names of a row that are to be upgraded.
 fn words_of(alloc: Global, text: &[u8]) -> Result<Words, RowFault> {
     let mut words = Words::new(alloc);
     for word in text.split(|byte| *byte == b' ') {
-        if words.len() > 1000 {
+        if words.len() >= MOST_NAMES {
             return Err(RowFault::Text);
         }
         words.push(word)?;
@@ -268,6 +276,7 @@ fn words_of(alloc: Global, text: &[u8]) -> Result<Words, RowFault> {
     Ok(words)
 }
 
+// Which names are upgraded: none, all, or those listed.
 fn upgrade_of<'a>(text: &[u8], words: &'a Words) -> Upgrade<'a> {
     if text.is_empty() {
         return Upgrade::Nothing;
@@ -313,6 +322,7 @@ fn selection_count(alloc: Global, pool: &Sealed<'_>, world: &World) -> Result<Ve
     }
 }
 
+// The choices of a selection, in their order.
 fn choices_of(alloc: Global, pool: &Sealed<'_>, trace: &Trace) -> Result<Vec<u8>, RowFault> {
     let mut ids: Vec<CandId> = Vec::new(alloc);
     for i in 0..trace.len() {
@@ -334,6 +344,7 @@ fn texts_of(alloc: Global, pool: &Sealed<'_>, ids: &[CandId]) -> Result<Vec<u8>,
     Ok(text)
 }
 
+// Adds a candidate as `NAME-VERSION`, with its repository where that is not the first.
 fn add_candidate(
     alloc: Global,
     text: &mut Vec<u8>,

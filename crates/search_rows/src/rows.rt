@@ -55,6 +55,7 @@ struct Run<'t> {
 }
 
 impl<'t> Run<'t> {
+    // Takes a line by its first word; one without is a line of the row.
     fn take_line(&mut self, line: &'t [u8], report: &mut Vec<u8>) -> Result<(), AllocError> {
         let (word, rest) = split_word(line);
         let Some(kind) = value_named(&LINES, word) else {
@@ -93,6 +94,7 @@ impl<'t> Run<'t> {
         }
     }
 
+    // Takes a line that says what the row has.
     fn take_row_line(&mut self, line: &'t [u8], report: &mut Vec<u8>) -> Result<(), AllocError> {
         match self.row.take_line(line)? {
             Said::Row => Ok(()),
@@ -126,6 +128,7 @@ impl<'t> Run<'t> {
         )
     }
 
+    // Adds a line of the report.
     fn add_line(&self, parts: &[&[u8]], report: &mut Vec<u8>) -> Result<(), AllocError> {
         for part in parts {
             report.extend_from_slice(part)?;
@@ -133,6 +136,7 @@ impl<'t> Run<'t> {
         report.extend_from_slice(b"\n")
     }
 
+    // Reports what failed and why.
     fn fail(&mut self, what: &[u8], why: &[u8], report: &mut Vec<u8>) -> Result<(), AllocError> {
         self.failed = self.failed.saturating_add(1);
         self.add_line(
@@ -141,6 +145,7 @@ impl<'t> Run<'t> {
         )
     }
 
+    // Reports how many rows and answers there were, and how many failed.
     fn add_counts(&self, report: &mut Vec<u8>) -> Result<(), AllocError> {
         add_number(self.alloc, report, u128::from(self.rows))?;
         report.extend_from_slice(b" rows, ")?;
