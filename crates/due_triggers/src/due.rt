@@ -7,7 +7,7 @@ ghost use Rattle.db_core.specs.Seen.{members_of};
 ghost use Rattle.due_triggers.specs.Due.{trigger_needed, planned_paths};
 ghost use Rattle.report_core.specs.Reports.{folder_text, report_line, trigger_text};
 ghost use Rattle.std.specs.Prelude.{◌≡◌, ◌<◌, ◌++◌, ℕ, List, [], false, if◌then◌else◌, length, map, IfSome, OnOk, IfOk};
-ghost use Rattle.make_package.specs.Folders.{folder_of};
+ghost use Rattle.package_files.specs.Folders.{folder_of};
 ghost use Rattle.own_core.specs.WritesSeen.{writes_in};
 
 use crate::watched::{has_trigger_script, is_watched, name_of};

@@ -11,12 +11,12 @@ use Rattle.change_files.specs.Fate as Fates
 use Rattle.change_files.specs.Fate.{aside_name, goes_aside, goes_in}
 use Rattle.change_files.specs.FilesAfter.{database_name, world_name}
 use Rattle.path_clashes.specs.Clash.{NameChange}
-use Rattle.own_core.specs.ClaimEntries.{comes_at}
-use Rattle.own_core.specs.Fates.{claim_fate, is_fate, is_flag, marked_claims}
-use Rattle.own_core.specs.Found.{AreByFiles}
-use Rattle.own_core.specs.Going.{does_stay, is_left}
-use Rattle.own_core.specs.Sides.{claims_after, claims_before, file_change_of}
-use Rattle.own_core.specs.declared.change.Change.{Change}
+use Rattle.file_fates.specs.ClaimEntries.{comes_at}
+use Rattle.file_fates.specs.Fates.{claim_fate, is_fate, is_flag, marked_claims}
+use Rattle.file_fates.specs.Found.{AreByFiles}
+use Rattle.file_fates.specs.Going.{does_stay, is_left}
+use Rattle.file_fates.specs.Sides.{claims_after, claims_before, file_change_of}
+use Rattle.file_fates.specs.declared.change.Change.{Change}
 use Rattle.own_core.specs.declared.planning.Parts.{Parts}
 
 -- the claims of files that go in, of those laid beside, and of paths removed and kept
