@@ -64,7 +64,8 @@ pub fn apk<T: Tree, O: Sink, E: Sink>(
 
     // On every tree: the answer and the bytes are what the specification gives for some listing,
     // some contents at each read, and the first clash of names among some files; or a package that
-    // comes is no longer what was tested. That these are the real ones of a file system is trusted.
+    // comes is no longer what was tested, and is told as bad as some file is that has its identity
+    // and other contents. That these are the real ones of a file system is trusted.
     ensures found { IsAnswerOf (IsFoundOutcome words.now) LeavesAny
         (HasCause (T.counts tree.old) (T.counts tree.new)) result
         (sink_change O.bytes O.counts out.old out.new)
