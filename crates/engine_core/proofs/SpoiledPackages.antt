@@ -1,11 +1,11 @@
 -- The package of a candidate that is not what it was when it was tested.
-use Rattle.std.proofs.Common.{◌≡◌, ℕ, zero, suc, Bool, true, List, [], ◌∷◌, Option, Some, None, Ok, refl, sym, ap, subst, ◌∙◌}
+use Rattle.std.proofs.Common.{◌≡◌, ℕ, zero, suc, true, List, [], ◌∷◌, Option, Some, Ok, refl, sym, ap, subst, ◌∙◌}
 use Rattle.std.specs.Prelude.{IfSome, slice_get, option_and_then}
 use Rattle.std.specs.Str.{bytes_eq}
 use Rattle.std.proofs.lemmas.Slice.Eq.{bytes_eq-Decides}
 use Rattle.sha2.specs.Sha256.{sha256}
 use Rattle.adb_fields.specs.Repeated.{package_name}
-use Rattle.adb_schema.specs.Soundness.{payload_in, root_value}
+use Rattle.adb_schema.specs.Soundness.{root_value}
 use Rattle.adb_tables.specs.declared.tables.Which.TheVariants as Tables
 use Rattle.adb_view.specs.Plain.{Plain}
 use Rattle.arrivals.specs.Arrivals.{AreMembersRead, IsMemberRead, IsPackageRead, package_in}
@@ -13,7 +13,7 @@ use Rattle.arrivals.specs.declared.arrivals.MemberRead.{MemberRead}
 use Rattle.arrivals.specs.declared.arrivals.MemberRead.TheVariants.{Comes, Stays}
 use Rattle.base_core.specs.Tree.{TreeState}
 use Rattle.base_core.specs.declared.cause.Cause.{Cause}
-use Rattle.change_outcome.specs.MembersAfter.{MemberFound, coming_found, members_found}
+use Rattle.change_outcome.specs.MembersAfter.{MemberFound, members_found}
 use Rattle.change_outcome.specs.PackageFiles.{ComingPackage, package_in_file, unless_different}
 use Rattle.db_core.specs.Members.{Member, coming_member}
 use Rattle.file_owners.specs.Replaces.{version_text}
