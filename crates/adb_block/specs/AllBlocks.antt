@@ -6,6 +6,7 @@ use Rattle.adb_block.specs.Header.{header_of}
 use Rattle.adb_block.specs.Standing.{Standing, start_of}
 use Rattle.adb_block.specs.Reading.{Reading, done, fault, more, reading_of}
 
+-- a block before those that were read behind it
 abbrev pub with_block : Piece → Result (List Piece) Cause → Result (List Piece) Cause
 with_block b (Ok bs) = Ok (b ∷ bs)
 with_block b (Err c) = Err c
@@ -20,6 +21,7 @@ pieces_of (more b at r) = with_block b (pieces_of r)
 unfoldable pub rest_of : Standing → Result (List Piece) Cause
 rest_of s = pieces_of (reading_of s)
 
+-- the blocks behind a header that was read, or its fault
 abbrev pub blocks_behind : List ℕ → Result ℕ Cause → Result (List Piece) Cause
 blocks_behind file (Ok schema) = rest_of (start_of schema file)
 blocks_behind file (Err c) = Err c

@@ -32,6 +32,7 @@ abbrev pub MayNotStand : Option BlockKind → Option BlockKind → Type 0
 MayNotStand last None = Unit {0}
 MayNotStand last (Some kind) = comes_after last kind ≡ false
 
+-- the bytes begin with a whole header, whose kind may not stand here
 pub record HaveWrongKind (last : Option BlockKind) (at : ℕ) (bytes : List ℕ)
     (c : Cause) : Type 0 where
   pub head : HeadFields
@@ -44,6 +45,7 @@ abbrev pub IsWrongSize : HeadFields → BlockKind → List ℕ → Type 0
 IsWrongSize head kind bytes =
     (head.raw < head.len + least_payload kind) ⊎ (length bytes < head.raw)
 
+-- the bytes begin with a header whose kind may stand here, and do not hold the size that it says
 pub record HaveWrongSize (last : Option BlockKind) (at : ℕ) (bytes : List ℕ)
     (c : Cause) : Type 0 where
   pub head : HeadFields

@@ -46,12 +46,15 @@ IsFramedBy (Err c) bytes s = s ≡ failed c
 
 -- ---- in a file that is held
 
+-- the fields of a header that was read
 abbrev pub fields_of : BlockHead → HeadFields
 fields_of head = record { kind = head.kind; len = head.len; raw = head.raw }
 
+-- the kind and the payload of a block that was read
 abbrev pub piece_in : ReadBlock → Piece
 piece_in b = record { kind = b.kind; payload = b.payload.now }
 
+-- a read answers as the step does: the end, a block with its size in the file, or a fault
 abbrev pub IsReadBlock : Result (Option ReadBlock) Cause → Step → Type 0
 IsReadBlock (Ok None) s = s ≡ ended
 IsReadBlock (Ok (Some b)) s = s ≡ block (piece_in b) b.size

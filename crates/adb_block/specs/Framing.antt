@@ -13,9 +13,11 @@ pub record HeadFields : Type 0 where
   pub len : ℕ
   pub raw : ℕ
 
+-- a header of four bytes: two bits of kind, 30 of size
 abbrev pub short_head : ℕ → HeadFields
 short_head word = record { kind = word / 2 ^ 30; len = 4; raw = word % 2 ^ 30 }
 
+-- a header of 16 bytes: the kind where a short one has the size, and a size of 64 bits
 abbrev pub long_head : ℕ → ℕ → HeadFields
 long_head word raw = record { kind = word % 2 ^ 30; len = 16; raw = raw }
 
@@ -28,12 +30,14 @@ head_of bytes =
     else Some (long_head (word_at 0 bytes) (long_at 8 bytes)))
     else Some (short_head (word_at 0 bytes))
 
+-- the kind with this number, if there is one
 abbrev pub kind_of_number : ℕ → Option BlockKind
 kind_of_number zero = Some Adb
 kind_of_number (suc zero) = Some Signature
 kind_of_number (suc (suc zero)) = Some Contents
 kind_of_number (suc (suc (suc n))) = None
 
+-- what is found at a place of the file: its end, a fault, or a block with its size in the file
 pub data Step : Type 0 where
   ended : Step
   failed : Cause → Step
@@ -47,11 +51,13 @@ step_by_size at bytes head kind =
     else block (record { kind = kind; payload = take (head.raw - head.len) (drop head.len bytes) })
     (head.raw + padding_of head.raw)
 
+-- first the kind is one that may stand here, then the size
 abbrev pub step_by_order : Option BlockKind → ℕ → List ℕ → HeadFields → Option BlockKind → Step
 step_by_order last at bytes head None = failed (BlockOrder at)
 step_by_order last at bytes head (Some kind) =
     if comes_after last kind then step_by_size at bytes head kind else failed (BlockOrder at)
 
+-- first the header is whole, then its kind
 abbrev pub step_by_head : Option BlockKind → ℕ → List ℕ → Option HeadFields → Step
 step_by_head last at bytes None = failed (Truncated at)
 step_by_head last at bytes (Some head) = step_by_order last at bytes head (kind_of_number head.kind)

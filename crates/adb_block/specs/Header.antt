@@ -17,6 +17,7 @@ long_at at bytes = from_le_bytes w64 (take 8 (drop at bytes))
 abbrev pub is_compressed : List ℕ → Bool
 is_compressed front = bytes_eq front (codes "ADBd") || bytes_eq front (codes "ADBc")
 
+-- the schema's number behind the first four bytes, or the first fault of the header
 unfoldable pub header_of : List ℕ → Result ℕ Cause
 header_of file =
     if nat_lt (length file) 4 then Err (Truncated 0)

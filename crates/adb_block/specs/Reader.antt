@@ -27,6 +27,7 @@ piece_of b = record { kind = b.kind; payload = b.payload.now }
 abbrev pub SpelledFrom : Standing → List Piece → Type 0
 SpelledFrom s bs = SpellsBlocks s.last s.left bs
 
+-- the blocks begin with this one, and go on so behind it
 abbrev pub BeginsWith : Piece → (List Piece → Type 0) → List Piece → Type 0
 BeginsWith b Goes [] = ⊥
 BeginsWith b Goes (c ∷ bs) = (c ≡ b) × Goes bs

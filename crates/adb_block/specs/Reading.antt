@@ -13,6 +13,7 @@ pub data Reading : Type 0 where
   fault : Cause → Reading
   more : Piece → ℕ → Reading → Reading
 
+-- the end or a fault ends the reading; behind a block it goes on
 abbrev pub reading_by_step : ℕ → (Piece → ℕ → Reading) → Step → Reading
 reading_by_step at further ended = done
 reading_by_step at further (failed c) = fault c

@@ -1,9 +1,9 @@
 -- A payload of few visits has few texts: those of an intent are counted in 32 bits.
 use Rattle.std.proofs.Common.{◌≡◌, ℕ, suc, ◌+◌, ◌<◌, ◌≤◌, true, List, [], ◌∷◌, ◌++◌, length, get_or, Option, Some, None, Result, Ok, Err, refl, ap, sym, ◌∙◌, subst, arith, length-append, ◌^◌}
 use Rattle.std.specs.Prelude.{is_none, is_some, ◌↔◌}
+use Rattle.std.specs.Result.{result_ok}
 use Rattle.base_core.specs.declared.cause.Cause.{Cause}
 use Rattle.adb_view.specs.Plain.{Plain, Shape, text, array, plain_of}
-use Rattle.adb_view.specs.Gives.{read_of}
 use Rattle.adb_view.specs.Readers.{run_of, ARRAY, OBJECT}
 use Rattle.adb_view.specs.Visits.{visits, field_visits, each_visit, or_empty, MOST_VALUES}
 use Rattle.adb_tables.specs.Schema.{shape_of, shapes_of, table}
@@ -17,7 +17,7 @@ use Rattle.adb_fields.proofs.FieldReads.{object_read_of, field_read, texts_sound
 
 run-found : (p : List ℕ) (w : ℕ) (r : Result (List ℕ) Cause) → is_sound p TextArr w ≡ true → run_of ARRAY p w ≡ r → (ws : List ℕ) × (run_of ARRAY p w ≡ Ok ws)
 run-found p w (Ok ws) h e = (ws, e)
-run-found p w (Err c) h e = absurd (texts_run p w h (ap read_of e))
+run-found p w (Err c) h e = absurd (texts_run p w h (ap result_ok e))
 
 each-one : (p : List ℕ) (ws : List ℕ) → length (each_visit (visits p text) ws) ≡ length ws
 unfolding visits

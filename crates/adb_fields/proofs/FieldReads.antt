@@ -1,9 +1,9 @@
 -- What a sound word's readers answer, in terms of its plain value.
 use Rattle.std.proofs.Common.{◌≡◌, ℕ, zero, suc, ◌<◌, Bool, true, false, eqb, List, [], ◌∷◌, length, get_or, Option, Some, None, option_map, Result, Ok, Err, refl, sym, ap, subst, ◌∙◌, arith, inl, inr, ◌⊎◌}
 use Rattle.std.specs.Prelude.{is_some, slice_get}
+use Rattle.std.specs.Result.{result_ok}
 use Rattle.std.proofs.lemmas.Bool.{eqb-true}
 use Rattle.adb_view.specs.Plain.{Plain, null, int, Plains, none, more, without_last_nulls, Shape, number, text, hash, array, object, blob_value, obj_of, obj_value, arr_value, unless_null, from_answer, then_more, each_plain, plain_of, plains_of}
-use Rattle.adb_view.specs.Gives.{read_of}
 use Rattle.adb_view.specs.Readers.{int_of, blob_of, run_of, ARRAY, OBJECT}
 use Rattle.adb_tables.specs.Schema.{table, shape_of, shapes_of, schema_number}
 use Rattle.adb_fields.specs.Fields.{AreFieldsOf, are_all_sound, values_at, array_at}
@@ -17,7 +17,7 @@ use Rattle.adb_tables.specs.declared.tables.Kind.TheVariants.{Int, Text, Hash, O
 use Rattle.adb_tables.specs.declared.tables.Field.{Field}
 
 -- what was read, whatever it is shown as
-pub read_ok : {A : Type 0} (r : Result A Cause) (x : A) → read_of r ≡ Some x → r ≡ Ok x
+pub read_ok : {A : Type 0} (r : Result A Cause) (x : A) → result_ok r ≡ Some x → r ≡ Ok x
 read_ok (Ok y) x e = cc
 read_ok (Err c) x e = absurd cc
 
@@ -193,17 +193,17 @@ pub fields_read : (p : List ℕ) (which : Which) (w : ℕ) (ws : List ℕ) → i
 fields_read p which w ws h run i k e = let r = field_read p which w ws i k h run e in (r.sound, r.value)
 
 -- a sound object has a run
-pub object_runs : (p : List ℕ) (which : Which) (w : ℕ) → is_sound p (Obj which) w ≡ true → read_of (run_of OBJECT p w) ≡ None → ⊥
-object_runs p which w h e = let (ws, r) = object_read_of p which w h in let run = ap read_of r.run in cc
+pub object_runs : (p : List ℕ) (which : Which) (w : ℕ) → is_sound p (Obj which) w ≡ true → result_ok (run_of OBJECT p w) ≡ None → ⊥
+object_runs p which w h e = let (ws, r) = object_read_of p which w h in let run = ap result_ok r.run in cc
 
-pub text_reads : (p : List ℕ) (w : ℕ) → is_sound p Text w ≡ true → read_of (blob_of p w) ≡ None → ⊥
-text_reads p w h e = let r = ap read_of (text_read_of p w h) in cc
+pub text_reads : (p : List ℕ) (w : ℕ) → is_sound p Text w ≡ true → result_ok (blob_of p w) ≡ None → ⊥
+text_reads p w h e = let r = ap result_ok (text_read_of p w h) in cc
 
-pub int_reads : (p : List ℕ) (w : ℕ) → is_sound p Int w ≡ true → read_of (int_of p w) ≡ None → ⊥
-int_reads p w h e = let r = ap read_of (int_read_of p w h) in cc
+pub int_reads : (p : List ℕ) (w : ℕ) → is_sound p Int w ≡ true → result_ok (int_of p w) ≡ None → ⊥
+int_reads p w h e = let r = ap result_ok (int_read_of p w h) in cc
 
-pub hash_reads : (p : List ℕ) (w : ℕ) → is_sound p Hash w ≡ true → read_of (blob_of p w) ≡ None → ⊥
-hash_reads p w h e = let r = ap read_of (hash_read_of p w h) in cc
+pub hash_reads : (p : List ℕ) (w : ℕ) → is_sound p Hash w ≡ true → result_ok (blob_of p w) ≡ None → ⊥
+hash_reads p w h e = let r = ap result_ok (hash_read_of p w h) in cc
 
 -- ---- arrays
 
@@ -245,8 +245,8 @@ texts_sound p w ws h run = (array_read p TextArr Text w ws texts_shape h run).so
 pub texts_value : (p : List ℕ) (w : ℕ) (ws : List ℕ) → is_sound p TextArr w ≡ true → run_of ARRAY p w ≡ Ok ws → array_at p Text ws ≡ value_at p TextArr w
 texts_value p w ws h run = (array_read p TextArr Text w ws texts_shape h run).value
 
-pub texts_run : (p : List ℕ) (w : ℕ) → is_sound p TextArr w ≡ true → read_of (run_of ARRAY p w) ≡ None → ⊥
-texts_run p w h e = let (ws, run, r) = array_read_of p TextArr Text w texts_shape h in let read = ap read_of run in cc
+pub texts_run : (p : List ℕ) (w : ℕ) → is_sound p TextArr w ≡ true → result_ok (run_of ARRAY p w) ≡ None → ⊥
+texts_run p w h e = let (ws, run, r) = array_read_of p TextArr Text w texts_shape h in let read = ap result_ok run in cc
 
 pub objects_sound : (p : List ℕ) (which : Which) (w : ℕ) (ws : List ℕ) → is_sound p (ObjArr which) w ≡ true → run_of ARRAY p w ≡ Ok ws → are_all_sound p (Obj which) ws ≡ true
 objects_sound p which w ws h run = (array_read p (ObjArr which) (Obj which) w ws (objects_shape which) h run).sound
@@ -254,8 +254,8 @@ objects_sound p which w ws h run = (array_read p (ObjArr which) (Obj which) w ws
 pub objects_value : (p : List ℕ) (which : Which) (w : ℕ) (ws : List ℕ) → is_sound p (ObjArr which) w ≡ true → run_of ARRAY p w ≡ Ok ws → array_at p (Obj which) ws ≡ value_at p (ObjArr which) w
 objects_value p which w ws h run = (array_read p (ObjArr which) (Obj which) w ws (objects_shape which) h run).value
 
-pub objects_run : (p : List ℕ) (which : Which) (w : ℕ) → is_sound p (ObjArr which) w ≡ true → read_of (run_of ARRAY p w) ≡ None → ⊥
-objects_run p which w h e = let (ws, run, r) = array_read_of p (ObjArr which) (Obj which) w (objects_shape which) h in let read = ap read_of run in cc
+pub objects_run : (p : List ℕ) (which : Which) (w : ℕ) → is_sound p (ObjArr which) w ≡ true → result_ok (run_of ARRAY p w) ≡ None → ⊥
+objects_run p which w h e = let (ws, run, r) = array_read_of p (ObjArr which) (Obj which) w (objects_shape which) h in let read = ap result_ok run in cc
 
 -- ---- entries
 

@@ -10,9 +10,10 @@ use Rattle.adb_fields.specs.FirstPair.{IsFirstOf}
 use Rattle.adb_fields.specs.FirstPair.{IsPair}
 use Rattle.adb_fields.specs.FirstPair.{IsIn}
 use Rattle.adb_tables.specs.declared.tables.Which.TheVariants as Tables
+use Rattle.adb_tables.specs.FieldIndexes.{DIR_NAME, FILE_NAME}
 use Rattle.adb_fields.specs.Repeated.{field_number, numbered_from, twice, twice_in_one, repeated_at, name_of, folders_in, files_in, inside_fault}
 use Rattle.adb_fields.specs.FirstPair.{IsPairInOne}
-use Rattle.adb_tables.specs.Walk.{or_else}
+use Rattle.std.specs.Option.{option_or}
 use Rattle.adb_fields.specs.NamedTexts.{plains_at}
 use Rattle.adb_tables.specs.declared.tables.Kind.{Kind}
 use Rattle.adb_fields.proofs.NameLists.{plain_count, plain_is}
@@ -87,8 +88,8 @@ texts_behind a b one two m e l h =
 
 -- ---- kind behind kind
 
-pub one_package : (pkg : Plain) → or_else (repeated_at (field_number Tables.Dir 1) (twice (map name_of (folders_in pkg)))) (repeated_at (field_number Tables.File 1) (twice_in_one (map (λ folder. map name_of (files_in folder)) (folders_in pkg)))) ≡ inside_fault (pkg ∷ [])
-one_package pkg = λ i. or_else (repeated_at (field_number Tables.Dir 1) (alone (map name_of (folders_in pkg)) i)) (repeated_at (field_number Tables.File 1) (alone_several (map (λ folder. map name_of (files_in folder)) (folders_in pkg)) i))
+pub one_package : (pkg : Plain) → option_or (repeated_at (field_number Tables.Dir DIR_NAME) (twice (map name_of (folders_in pkg)))) (repeated_at (field_number Tables.File FILE_NAME) (twice_in_one (map (λ folder. map name_of (files_in folder)) (folders_in pkg)))) ≡ inside_fault (pkg ∷ [])
+one_package pkg = λ i. option_or (repeated_at (field_number Tables.Dir DIR_NAME) (alone (map name_of (folders_in pkg)) i)) (repeated_at (field_number Tables.File FILE_NAME) (alone_several (map (λ folder. map name_of (files_in folder)) (folders_in pkg)) i))
 
 -- ---- what is reported of several lists is the first pair of all
 

@@ -2,7 +2,7 @@
 use Rattle.std.proofs.Common.{◌≡◌, ℕ, ◌+◌, ◌<◌, ◌≤◌, ◌⊎◌, inl, inr, Bool, true, false, cond, List, [], ◌∷◌, Option, Some, None, refl, ap, sym, subst, ◌∙◌, arith, ◌↔◌}
 use Rattle.base_core.specs.declared.cause.Cause.{Cause}
 use Rattle.adb_view.specs.Plain.{Plain}
-use Rattle.adb_tables.specs.Walk.{or_else}
+use Rattle.std.specs.Option.{option_or}
 use Rattle.adb_tables.specs.declared.tables.Which.{Which}
 use Rattle.adb_tables.specs.declared.tables.Which.TheVariants.{Dep, Acl, PkgInfo, File, Dir, Scripts, Package, Index, Idb, Intent}
 use Rattle.adb_fields.specs.declared.pairs.Pair.{Pair}
@@ -10,6 +10,7 @@ use Rattle.adb_fields.specs.Pairs.{NameWithPosition, is_before, earlier}
 use Rattle.adb_fields.specs.FirstPair.{IsFirstOf}
 use Rattle.adb_fields.specs.FirstPair.{IsPair}
 use Rattle.adb_fields.specs.FirstPair.{IsIn}
+use Rattle.adb_tables.specs.FieldIndexes.{DIR_NAME, FILE_NAME, IDB_PACKAGES, INTENT_WRITES}
 use Rattle.adb_fields.specs.Repeated.{field_number, numbered_from, all_at, by_list_from, twice, twice_in_one, in_two, entries_at, folder_twice, file_twice, package_twice, path_in_two, name_twice, repeated_at, inside_fault, between_fault, repeated_fault}
 use Rattle.adb_fields.specs.Once.{AreDistinctNames, AllDistinct, IsInOneOf, AreApart, StandOnceInside, StandOnceBetween, NamesStandOnce}
 use Rattle.adb_fields.proofs.Members.{in-front, in-behind, in-either, in-map, from-map}
@@ -220,33 +221,33 @@ none_at : (n : ℕ) (o : Option Pair) → o ≡ None → repeated_at n o ≡ Non
 none_at n None e = refl
 none_at n (Some p) e = absurd (cc)
 
-both_none : (a b : Option Cause) → or_else a b ≡ None → (a ≡ None) × (b ≡ None)
+both_none : (a b : Option Cause) → option_or a b ≡ None → (a ≡ None) × (b ≡ None)
 both_none None b e = (refl, e)
 both_none (Some c) b e = absurd (cc)
 
-none_both : (a b : Option Cause) → a ≡ None → b ≡ None → or_else a b ≡ None
+none_both : (a b : Option Cause) → a ≡ None → b ≡ None → option_or a b ≡ None
 none_both None b e f = f
 none_both (Some c) b e f = absurd (cc)
 
 inside_once : (packages : List Plain) → inside_fault packages ≡ None → StandOnceInside packages
 inside_once packages e =
-    let (a, b) = both_none (repeated_at (field_number Dir 1) (folder_twice packages)) (repeated_at (field_number File 1) (file_twice packages)) e in
-    record { folders = each_none _ (at_none (field_number Dir 1) (folder_twice packages) a); files = each_none _ (at_none (field_number File 1) (file_twice packages) b) }
+    let (a, b) = both_none (repeated_at (field_number Dir DIR_NAME) (folder_twice packages)) (repeated_at (field_number File FILE_NAME) (file_twice packages)) e in
+    record { folders = each_none _ (at_none (field_number Dir DIR_NAME) (folder_twice packages) a); files = each_none _ (at_none (field_number File FILE_NAME) (file_twice packages) b) }
 
 once_inside : (packages : List Plain) → StandOnceInside packages → inside_fault packages ≡ None
 once_inside packages d =
-    none_both (repeated_at (field_number Dir 1) (folder_twice packages)) (repeated_at (field_number File 1) (file_twice packages)) (none_at (field_number Dir 1) (folder_twice packages) (none_each _ d.folders)) (none_at (field_number File 1) (file_twice packages) (none_each _ d.files))
+    none_both (repeated_at (field_number Dir DIR_NAME) (folder_twice packages)) (repeated_at (field_number File FILE_NAME) (file_twice packages)) (none_at (field_number Dir DIR_NAME) (folder_twice packages) (none_each _ d.folders)) (none_at (field_number File FILE_NAME) (file_twice packages) (none_each _ d.files))
 
 between_once : (packages : List Plain) → between_fault packages ≡ None → StandOnceBetween packages
 between_once packages e =
-    let (a, b) = both_none (repeated_at (field_number Idb 1) (package_twice packages)) (repeated_at (field_number File 1) (path_in_two packages)) e in
-    record { packages_once = twice_none _ (at_none (field_number Idb 1) (package_twice packages) a); paths_once = two_none _ (at_none (field_number File 1) (path_in_two packages) b) }
+    let (a, b) = both_none (repeated_at (field_number Idb IDB_PACKAGES) (package_twice packages)) (repeated_at (field_number File FILE_NAME) (path_in_two packages)) e in
+    record { packages_once = twice_none _ (at_none (field_number Idb IDB_PACKAGES) (package_twice packages) a); paths_once = two_none _ (at_none (field_number File FILE_NAME) (path_in_two packages) b) }
 
 once_between : (packages : List Plain) → StandOnceBetween packages → between_fault packages ≡ None
 once_between packages d =
-    none_both (repeated_at (field_number Idb 1) (package_twice packages)) (repeated_at (field_number File 1) (path_in_two packages)) (none_at (field_number Idb 1) (package_twice packages) (none_twice _ d.packages_once)) (none_at (field_number File 1) (path_in_two packages) (none_two _ d.paths_once))
+    none_both (repeated_at (field_number Idb IDB_PACKAGES) (package_twice packages)) (repeated_at (field_number File FILE_NAME) (path_in_two packages)) (none_at (field_number Idb IDB_PACKAGES) (package_twice packages) (none_twice _ d.packages_once)) (none_at (field_number File FILE_NAME) (path_in_two packages) (none_two _ d.paths_once))
 
-database_once : (packages : List Plain) → or_else (inside_fault packages) (between_fault packages) ≡ None → StandOnceInside packages × StandOnceBetween packages
+database_once : (packages : List Plain) → option_or (inside_fault packages) (between_fault packages) ≡ None → StandOnceInside packages × StandOnceBetween packages
 database_once packages e = let (a, b) = both_none (inside_fault packages) (between_fault packages) e in (inside_once packages a, between_once packages b)
 
 pub names_once : (which : Which) (v : Plain) → (repeated_fault which v ≡ None) ↔ NamesStandOnce which v
@@ -263,4 +264,4 @@ names_once Idb v = (
   database_once (entries_at 0 v),
   λ d. none_both (inside_fault (entries_at 0 v)) (between_fault (entries_at 0 v)) (once_inside (entries_at 0 v) d.0) (once_between (entries_at 0 v) d.1),
 )
-names_once Intent v = (λ e. twice_none _ (at_none (field_number Intent 2) (name_twice v) e), λ d. none_at (field_number Intent 2) (name_twice v) (none_twice _ d))
+names_once Intent v = (λ e. twice_none _ (at_none (field_number Intent INTENT_WRITES) (name_twice v) e), λ d. none_at (field_number Intent INTENT_WRITES) (name_twice v) (none_twice _ d))

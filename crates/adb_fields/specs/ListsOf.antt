@@ -4,5 +4,6 @@ use Rattle.adb_view.specs.declared.adb.Adb.{Adb}
 use Rattle.adb_tables.specs.declared.tables.Which.{Which}
 use Rattle.adb_fields.specs.declared.known_lists.KnownLists.{KnownLists}
 
+-- the lists are those of objects of this table in this payload
 abbrev pub AreListsOf : Adb → Which → KnownLists → Type 0
 AreListsOf adb which lists = (lists.adb ≡ adb) × (lists.which ≡ which)

@@ -26,10 +26,12 @@ abbrev pub neighbours_from : NameWithPosition → List NameWithPosition → List
 neighbours_from x [] = []
 neighbours_from x (y ∷ ys) = pair_of x y ∷ neighbours_from y ys
 
+-- each name and the next one, where they make a pair
 abbrev pub neighbours : List NameWithPosition → List (Option Pair)
 neighbours [] = []
 neighbours (x ∷ xs) = neighbours_from x xs
 
+-- a name with its position
 abbrev pub named_at : List ℕ → ℕ → NameWithPosition
 named_at name position = record { name = name; position = position }
 

@@ -2,6 +2,7 @@
 use Rattle.std.specs.Prelude.{◌⊎◌, ℕ, List, [], ◌∷◌, ◌++◌, map}
 use Rattle.std.specs.List.{flat_map}
 use Rattle.adb_view.specs.Plain.{Plain}
+use Rattle.adb_tables.specs.FieldIndexes.{IDB_PACKAGES, INTENT_REMOVALS, INTENT_WRITES}
 use Rattle.adb_tables.specs.Values.{text_in}
 use Rattle.adb_tables.specs.declared.tables.Which.{Which}
 use Rattle.adb_tables.specs.declared.tables.Which.TheVariants.{Package, Idb, Intent}
@@ -18,6 +19,7 @@ abbrev pub AllDistinct : List (List (List ℕ)) → Type 0
 AllDistinct [] = Unit {0}
 AllDistinct (names ∷ lists) = AreDistinctNames names × AllDistinct lists
 
+-- the name stands in one of the lists
 abbrev pub IsInOneOf : List ℕ → List (List (List ℕ)) → Type 0
 IsInOneOf name [] = ⊥
 IsInOneOf name (names ∷ lists) = IsIn name names ⊎ IsInOneOf name lists
@@ -39,9 +41,11 @@ pub record StandOnceBetween (packages : List Plain) : Type 0 where
   pub packages_once : AreDistinctNames (map package_name packages)
   pub paths_once : AreApart (map paths_in packages)
 
+-- no name stands twice that may stand once alone; of other tables nothing is asked
 abbrev pub NamesStandOnce : Which → Plain → Type 0
 NamesStandOnce Package v = StandOnceInside (v ∷ [])
-NamesStandOnce Idb v = StandOnceInside (entries_at 0 v) × StandOnceBetween (entries_at 0 v)
-NamesStandOnce Intent v = AreDistinctNames (map text_in (entries_at 0 v)
-    ++ map text_in (entries_at 1 v))
+NamesStandOnce Idb v = StandOnceInside (entries_at IDB_PACKAGES v)
+    × StandOnceBetween (entries_at IDB_PACKAGES v)
+NamesStandOnce Intent v = AreDistinctNames (map text_in (entries_at INTENT_REMOVALS v)
+    ++ map text_in (entries_at INTENT_WRITES v))
 NamesStandOnce which v = Unit {0}

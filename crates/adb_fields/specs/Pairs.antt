@@ -8,18 +8,22 @@ pub record NameWithPosition : Type 0 where
   pub name : List ℕ
   pub position : ℕ
 
+-- whether a pair is reported rather than another: by its second position, then by its first
 abbrev pub is_before : Pair → Pair → Bool
 is_before p q = nat_lt p.second q.second || (p.second == q.second && nat_lt p.first q.first)
 
+-- of two pairs the one that is reported, where there is any
 abbrev pub earlier : Option Pair → Option Pair → Option Pair
 earlier None q = q
 earlier (Some p) None = Some p
 earlier (Some p) (Some q) = if is_before q p then Some q else Some p
 
+-- of several pairs the one that is reported
 abbrev pub earliest : List (Option Pair) → Option Pair
 earliest [] = None
 earliest (p ∷ ps) = earlier p (earliest ps)
 
+-- the positions of two equal names, where the first stands before the second
 abbrev pub pair_of : NameWithPosition → NameWithPosition → Option Pair
 pair_of x y = if bytes_eq x.name y.name && nat_lt x.position y.position
     then Some (record { first = x.position; second = y.position }) else None

@@ -1,12 +1,13 @@
 -- Names that stand twice in a container, kind by kind.
 use Rattle.std.specs.Prelude.{ℕ, ◌+◌, ◌*◌, List, [], ◌∷◌, ◌++◌, map, Option, None, option_map}
+use Rattle.std.specs.Option.{option_or}
 use Rattle.std.specs.List.{flat_map}
 use Rattle.base_core.specs.declared.cause.Cause.{Cause}
 use Rattle.base_core.specs.declared.cause.Cause.TheVariants.{Repeated}
 use Rattle.adb_view.specs.Plain.{Plain, Plains, none, more}
+use Rattle.adb_tables.specs.FieldIndexes.{DIR_FILES, DIR_NAME, FILE_NAME, IDB_PACKAGES, INTENT_REMOVALS, INTENT_WRITES, PACKAGE_INFO, PACKAGE_PATHS}
 use Rattle.adb_tables.specs.Schema.{schema_number}
 use Rattle.adb_tables.specs.Values.{entries_in, entry_in, text_in}
-use Rattle.adb_tables.specs.Walk.{or_else}
 use Rattle.adb_fields.specs.Paths.{path_of}
 use Rattle.adb_fields.specs.Pairs.{NameWithPosition, first_pair, earliest}
 use Rattle.adb_fields.specs.declared.pairs.Pair.{Pair}
@@ -15,6 +16,7 @@ use Rattle.adb_tables.specs.declared.tables.Which.TheVariants.{File, Dir, Packag
 
 -- ---- lists of names
 
+-- names at positions in a row, the first of which is this one
 abbrev pub numbered_from : ℕ → List (List ℕ) → List NameWithPosition
 numbered_from n [] = []
 numbered_from n (name ∷ names) = record { name = name; position = n } ∷ numbered_from (n + 1) names
@@ -27,6 +29,7 @@ twice names = first_pair (numbered_from 1 names)
 abbrev pub twice_in_one : List (List (List ℕ)) → Option Pair
 twice_in_one lists = earliest (map twice lists)
 
+-- names that all stand at this position
 abbrev pub all_at : ℕ → List (List ℕ) → List NameWithPosition
 all_at n names = map (λ name. record { name = name; position = n }) names
 
@@ -41,6 +44,7 @@ in_two lists = first_pair (by_list_from 1 lists)
 
 -- ---- the names of a container
 
+-- values as a list
 abbrev pub list_of : Plains → List Plain
 list_of none = []
 list_of (more v vs) = v ∷ list_of vs
@@ -49,49 +53,59 @@ list_of (more v vs) = v ∷ list_of vs
 abbrev pub entries_at : ℕ → Plain → List Plain
 entries_at i v = list_of (entries_in (entry_in v i))
 
--- the name of a folder, a file or a package's information
+-- the name of a folder, a file or a package's information, which is the first field of each
 abbrev pub name_of : Plain → List ℕ
 name_of v = text_in (entry_in v 0)
 
+-- the name of a package
 abbrev pub package_name : Plain → List ℕ
-package_name pkg = name_of (entry_in pkg 0)
+package_name pkg = name_of (entry_in pkg PACKAGE_INFO)
 
+-- the folders that a package lists
 abbrev pub folders_in : Plain → List Plain
-folders_in pkg = entries_at 1 pkg
+folders_in pkg = entries_at PACKAGE_PATHS pkg
 
+-- the files that a folder lists
 abbrev pub files_in : Plain → List Plain
-files_in folder = entries_at 2 folder
+files_in folder = entries_at DIR_FILES folder
 
+-- the paths of the files of a folder
 abbrev pub paths_under : Plain → List (List ℕ)
 paths_under folder = map (λ file. path_of (name_of folder) (name_of file)) (files_in folder)
 
+-- the paths of all files of a package
 abbrev pub paths_in : Plain → List (List ℕ)
 paths_in pkg = flat_map paths_under (folders_in pkg)
 
 -- ---- kind by kind
 
+-- a folder that a package lists twice
 abbrev pub folder_twice : List Plain → Option Pair
 folder_twice packages = twice_in_one (map (λ pkg. map name_of (folders_in pkg)) packages)
 
+-- a file that a folder lists twice
 abbrev pub file_twice : List Plain → Option Pair
 file_twice packages = twice_in_one
     (flat_map (λ pkg. map (λ folder. map name_of (files_in folder)) (folders_in pkg)) packages)
 
+-- a package that a database has twice
 abbrev pub package_twice : List Plain → Option Pair
 package_twice packages = twice (map package_name packages)
 
+-- a path that two packages list
 abbrev pub path_in_two : List Plain → Option Pair
 path_in_two packages = in_two (map paths_in packages)
 
 -- the texts of the removals and behind them those of the writes
 abbrev pub name_twice : Plain → Option Pair
-name_twice intent = twice (map text_in (entries_at 0 intent) ++ map text_in (entries_at 1 intent))
+name_twice intent = twice
+    (map text_in (entries_at INTENT_REMOVALS intent) ++ map text_in (entries_at INTENT_WRITES intent))
 
 -- ---- the fault of a container
 
--- the number by which a field is reported: its table's, and behind that its place there
+-- the number by which a field is reported: 100 times its table's, and its own, counted from 1
 abbrev pub field_number : Which → ℕ → ℕ
-field_number which place = 100 * schema_number which + place
+field_number which index = 100 * schema_number which + (index + 1)
 
 -- a pair that stands is reported with the number of the field
 abbrev pub repeated_at : ℕ → Option Pair → Option Cause
@@ -99,17 +113,20 @@ repeated_at number pair = option_map (λ p. Repeated number p.first p.second) pa
 
 -- what stands twice inside one package: a folder, or else a file of a folder
 abbrev pub inside_fault : List Plain → Option Cause
-inside_fault packages = or_else (repeated_at (field_number Dir 1) (folder_twice packages))
-    (repeated_at (field_number File 1) (file_twice packages))
+inside_fault packages =
+    option_or (repeated_at (field_number Dir DIR_NAME) (folder_twice packages))
+    (repeated_at (field_number File FILE_NAME) (file_twice packages))
 
 -- what stands in two packages: the name of a package, or else a path
 abbrev pub between_fault : List Plain → Option Cause
-between_fault packages = or_else (repeated_at (field_number Idb 1) (package_twice packages))
-    (repeated_at (field_number File 1) (path_in_two packages))
+between_fault packages =
+    option_or (repeated_at (field_number Idb IDB_PACKAGES) (package_twice packages))
+    (repeated_at (field_number File FILE_NAME) (path_in_two packages))
 
 -- the first kind that stands
 unfoldable pub repeated_fault : Which → Plain → Option Cause
 repeated_fault Package v = inside_fault (v ∷ [])
-repeated_fault Idb v = or_else (inside_fault (entries_at 0 v)) (between_fault (entries_at 0 v))
-repeated_fault Intent v = repeated_at (field_number Intent 2) (name_twice v)
+repeated_fault Idb v = option_or (inside_fault (entries_at IDB_PACKAGES v))
+    (between_fault (entries_at IDB_PACKAGES v))
+repeated_fault Intent v = repeated_at (field_number Intent INTENT_WRITES) (name_twice v)
 repeated_fault which v = None

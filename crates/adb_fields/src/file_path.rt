@@ -7,8 +7,8 @@ ghost use Rattle.adb_fields.specs.JoinedPath.{joined_path};
 
 use std::cmp::Ordering;
 
-/// The path of a file: its name behind its folder's and a slash. The root folder has the empty name.
-/// The two parts stay where they are, so that a path takes no memory.
+/// The path of a file: its name behind its folder's and a slash. The root folder has the empty
+/// name. The two parts stay where they are, so that a path takes no memory.
 #[derive(Clone, Copy)]
 pub struct FilePath<'a> {
     pub folder: &'a [u8],
@@ -82,6 +82,7 @@ fn compared_from(one: &FilePath<'_>, other: &FilePath<'_>, from: usize) -> Order
     }
 }
 
+/// The byte at this index, if there is one.
 fn byte_at(bytes: &[u8], i: usize) -> Option<u8>
     ensures byte { result ≡ slice_get bytes.now i }
     ensures small { IfSome result (λ _. i < 2 ^ 63) }

@@ -63,7 +63,7 @@ impl<'a, V: View<'a>> List<'a, V> {
         self.entries.len()
     }
 
-    /// The entry with this index, counted from 1.
+    /// The entry at this position, counted from 1.
     #[tactic(auto, using(crate::proofs::FieldReads::entry_count, crate::proofs::FieldReads::entry_sound, crate::proofs::FieldReads::entry_value))]
     pub fn get(&self, i: usize) -> V
         requires from { 1 ≤ i }

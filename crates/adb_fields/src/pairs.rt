@@ -28,8 +28,8 @@ pub(crate) struct PathWithPosition<'a> {
 }
 
 impl Pair {
-    /// Whether it is reported rather than another: it has the smaller second position, or the same and
-    /// the smaller first one.
+    /// Whether it is reported rather than another: it has the smaller second position, or the same
+    /// and the smaller first one.
     fn is_before(&self, other: &Pair) -> bool
         ensures { result ≡ is_before self.now other.now }
     {

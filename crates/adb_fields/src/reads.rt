@@ -35,8 +35,8 @@ pub fn word_or_null(words: Arr<'_>, i: usize) -> Val
     }
 }
 
-/// The field of a sound object, counted from 0; NULL where the object ends before it. Of a place
-/// behind the table's last field nothing is said.
+/// The word of the field with this index in a sound object; NULL where the object ends before it.
+/// Of an index behind the table's last field nothing is said.
 pub fn field_word(adb: Adb<'_>, which: Which, object: Val, i: usize) -> Val
     requires { is_sound (payload_of adb) (Kinds.Obj which) object ≡ true }
     ensures { IsFieldOf (payload_of adb.entry) which object i result }

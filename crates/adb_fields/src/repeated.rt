@@ -1,13 +1,14 @@
 //! Names that stand twice in a walked container.
 
 ghost use Rattle.std.specs.Prelude.{◌↔◌, None, ◌≡◌, ◌+◌, ◌<◌, ◌^◌, [], ◌∷◌, true, Some, map, IfOk};
+ghost use Rattle.std.specs.Option.{option_or};
 ghost use Rattle.adb_view.specs.Adb.{payload_of};
 ghost use Rattle.adb_view.specs.Entries.{array_entries};
 ghost use Rattle.adb_tables.specs.Values.{count_of, entries_in, entry_in, is_sound, kind_at, value_at};
 ghost use Rattle.adb_fields.specs.Fields.{are_all_sound};
 ghost use Rattle.adb_fields.specs.ListsOf.{AreListsOf};
 ghost use Rattle.adb_tables.specs.Shaped.{shaped_value, table_of};
-ghost use Rattle.adb_tables.specs.Walk.{or_else};
+ghost use Rattle.adb_tables.specs.FieldIndexes.{INTENT_WRITES};
 ghost use Rattle.adb_fields.specs.Repeated.{between_fault, field_number, file_twice, files_in, folder_twice, folders_in, inside_fault, name_of, name_twice, package_twice, path_in_two, repeated_at, repeated_fault, twice, twice_in_one};
 ghost use Rattle.adb_fields.specs.Once.{NamesStandOnce};
 ghost use Rattle.adb_view.specs.Plain.{Plain};
@@ -100,7 +101,7 @@ fn in_database(alloc: Global, adb: Adb<'_>, packages: Arr<'_>) -> Result<Option<
     requires { are_all_sound (payload_of adb) (Kinds.Obj Tables.Package) (array_entries packages)
         ≡ true }
     ensures { IfOk result (λ cause. cause
-        ≡ or_else
+        ≡ option_or
         (inside_fault (plains_at (payload_of adb.entry) (Kinds.Obj Tables.Package)
         (array_entries packages.entry)))
         (between_fault (plains_at (payload_of adb.entry) (Kinds.Obj Tables.Package)
@@ -160,7 +161,7 @@ fn in_intent(alloc: Global, adb: Adb<'_>, intent: Val) -> Result<Option<Cause>, 
         count_of (entries_in
         (entry_in (value_at (payload_of adb) (Kinds.Obj Tables.Intent) intent) 1)) < 2 ^ 32 }
     ensures { IfOk result (λ cause. cause
-        ≡ repeated_at (field_number Tables.Intent 2)
+        ≡ repeated_at (field_number Tables.Intent INTENT_WRITES)
         (name_twice (value_at (payload_of adb.entry) (Kinds.Obj Tables.Intent) intent))) }
 {
     let removals = texts_field(adb, Which::Intent, intent, 0);

@@ -1,11 +1,11 @@
 -- No text is bad exactly where each keeps the rule of its field.
 use Rattle.std.proofs.Common.{◌≡◌, ℕ, zero, suc, ◌+◌, Bool, true, false, ◌&&◌, List, ◌++◌, Option, Some, None, refl, sym, ap, ◌∙◌, ◌↔◌, ◌<◌, arith}
 use Rattle.std.specs.Prelude.{if◌then◌else◌}
+use Rattle.std.specs.Option.{option_or}
 use Rattle.base_core.specs.declared.cause.Cause.{Cause}
 use Rattle.base_core.specs.declared.cause.Cause.TheVariants.{BadText}
 use Rattle.adb_view.specs.Plain.{Plain, Plains, none, more, Shape, text, hash, Fields, no_fields, field}
 use Rattle.adb_view.specs.Shaped.{Each}
-use Rattle.adb_tables.specs.Walk.{or_else}
 use Rattle.adb_tables.specs.Values.{nth, count_of, entries_in, entry_in, int_in, text_in}
 use Rattle.adb_tables.specs.Schema.{shape_of, shapes_of, table}
 use Rattle.adb_tables.specs.declared.tables.Which.{Which}
@@ -31,11 +31,11 @@ good_if : (b : Bool) (c : Cause) → b ≡ true → (if b then None else Some c)
 good_if true c e = refl
 good_if false c e = absurd cc
 
-both_none : (a b : Option Cause) → or_else a b ≡ None → (a ≡ None) × (b ≡ None)
+both_none : (a b : Option Cause) → option_or a b ≡ None → (a ≡ None) × (b ≡ None)
 both_none None b e = (refl, e)
 both_none (Some c) b e = absurd cc
 
-none_both : (a b : Option Cause) → a ≡ None → b ≡ None → or_else a b ≡ None
+none_both : (a b : Option Cause) → a ≡ None → b ≡ None → option_or a b ≡ None
 none_both None b e f = f
 none_both (Some c) b e f = absurd cc
 

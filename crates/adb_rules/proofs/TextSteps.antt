@@ -1,6 +1,7 @@
 -- Steps of the text walk, as the code makes them.
 use Rattle.std.proofs.Common.{◌≡◌, ℕ, zero, suc, ◌+◌, ◌*◌, ◌<◌, ◌≤◌, Bool, true, false, List, [], ◌∷◌, ◌++◌, length, get_or, ◌-◌, drop, Option, Some, None, option_map, refl, sym, ap, subst, ◌∙◌, arith, lit<}
 use Rattle.std.specs.Prelude.{is_some, slice_get, if◌then◌else◌, Result, IfOk}
+use Rattle.std.specs.Option.{option_or}
 use Rattle.std.proofs.lemmas.List.{drop_more, drop_all}
 use Rattle.base_core.specs.declared.cause.Cause.{Cause}
 use Rattle.base_core.specs.declared.cause.Cause.TheVariants.{BadText}
@@ -8,7 +9,6 @@ use Rattle.adb_view.specs.Plain.{Plain, Plains, none, more, then_more, each_plai
 use Rattle.adb_tables.specs.Schema.{schema_number, table, shape_of, shapes_of}
 use Rattle.adb_fields.specs.Fields.{IsFieldOf, are_all_sound, values_at, array_at}
 use Rattle.adb_tables.specs.Values.{is_sound, value_at, entries_in, nth, int_in, text_in}
-use Rattle.adb_tables.specs.Walk.{or_else}
 use Rattle.adb_tables.specs.Rank.{rank, rank_of_all}
 use Rattle.adb_tables.proofs.ValueEntries.{entries_arr}
 use Rattle.adb_tables.proofs.WalkSteps.{field_rank}
@@ -49,20 +49,20 @@ object_leaves which field_number a v = ap (λ s. leaves s field_number a v) (obj
 
 -- ---- the first bad leaf of two lists
 
-pub first_bad-append : (xs ys : List Leaf) → first_bad (xs ++ ys) ≡ or_else (first_bad xs) (first_bad ys)
+pub first_bad-append : (xs ys : List Leaf) → first_bad (xs ++ ys) ≡ option_or (first_bad xs) (first_bad ys)
 first_bad-append [] ys = refl
 first_bad-append (x ∷ xs) ys = go (keeps_rule x) (first_bad-append xs ys)
   where
-    go : (b : Bool) → first_bad (xs ++ ys) ≡ or_else (first_bad xs) (first_bad ys)
-        → (if b then first_bad (xs ++ ys) else Some (BadText (number_of_leaf x))) ≡ or_else (if b then first_bad xs else Some (BadText (number_of_leaf x))) (first_bad ys)
+    go : (b : Bool) → first_bad (xs ++ ys) ≡ option_or (first_bad xs) (first_bad ys)
+        → (if b then first_bad (xs ++ ys) else Some (BadText (number_of_leaf x))) ≡ option_or (if b then first_bad xs else Some (BadText (number_of_leaf x))) (first_bad ys)
     go true h = h
     go false h = refl
 
 pub behind_good : (xs ys : List Leaf) → first_bad xs ≡ None → first_bad (xs ++ ys) ≡ first_bad ys
-behind_good xs ys e = first_bad-append xs ys ∙ ap (λ o. or_else o (first_bad ys)) e
+behind_good xs ys e = first_bad-append xs ys ∙ ap (λ o. option_or o (first_bad ys)) e
 
 behind_bad : (xs ys : List Leaf) (c : Cause) → first_bad xs ≡ Some c → first_bad (xs ++ ys) ≡ Some c
-behind_bad xs ys c e = first_bad-append xs ys ∙ ap (λ o. or_else o (first_bad ys)) e
+behind_bad xs ys c e = first_bad-append xs ys ∙ ap (λ o. option_or o (first_bad ys)) e
 
 -- ---- the entries of an array
 

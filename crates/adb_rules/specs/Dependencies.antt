@@ -1,6 +1,7 @@
 -- The dependency that an entry of a list of dependencies is.
 use Rattle.std.specs.Prelude.{Option}
 use Rattle.adb_view.specs.Plain.{Plain}
+use Rattle.adb_tables.specs.FieldIndexes.{DEP_MATCH, DEP_NAME, DEP_VERSION}
 use Rattle.adb_tables.specs.Values.{entry_in, int_in, text_in}
 use Rattle.dep_core.specs.Dependency.{Dependency}
 use Rattle.dep_core.specs.ValueReading.{dependency_of_value}
@@ -8,5 +9,5 @@ use Rattle.dep_core.specs.ValueReading.{dependency_of_value}
 -- its name, its version and its operator; None where they are none, which no tested container has
 abbrev pub dependency_in : Plain → Option Dependency
 dependency_in value =
-    dependency_of_value (text_in (entry_in value 0)) (text_in (entry_in value 1))
-    (int_in (entry_in value 2))
+    dependency_of_value (text_in (entry_in value DEP_NAME)) (text_in (entry_in value DEP_VERSION))
+    (int_in (entry_in value DEP_MATCH))

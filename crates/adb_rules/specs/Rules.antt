@@ -8,9 +8,11 @@ use Rattle.adb_fields.specs.Paths.{path_of}
 
 -- ---- lengths of digests in bytes: SHA-1 has 20, SHA-256 32, SHA-512 64
 
+-- the length of a SHA-1, a SHA-256 or a SHA-512
 abbrev pub is_digest_length : ℕ → Bool
 is_digest_length len = (len == 20) || (len == 32) || (len == 64)
 
+-- that of a digest, or 0
 abbrev pub is_digest_length_or_none : ℕ → Bool
 is_digest_length_or_none len = (len == 0) || is_digest_length len
 

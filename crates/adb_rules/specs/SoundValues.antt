@@ -1,11 +1,12 @@
 -- What the value of a sound container is, table by table: each text and number keeps the rule of
--- its field. Fields count from 0.
+-- its field.
 use Rattle.std.specs.Prelude.{◌≡◌, ℕ, true, if◌then◌else◌, List, [], length}
 use Rattle.version_core.specs.Order.{is_version}
 use Rattle.dep_core.specs.Dependency.{is_dep_name, is_package_name}
 use Rattle.dep_core.specs.Value.{is_matching, is_version_or_empty}
 use Rattle.adb_view.specs.Plain.{Plain}
 use Rattle.adb_view.specs.Shaped.{Each}
+use Rattle.adb_tables.specs.FieldIndexes.{DEP_MATCH, DEP_NAME, DEP_VERSION, DIR_FILES, DIR_NAME, FILE_HASHES, FILE_NAME, FILE_TARGET, IDB_PACKAGES, INDEX_PACKAGES, INDEX_PKGNAME_SPEC, INFO_DEPENDS, INFO_HASHES, INFO_INSTALL_IF, INFO_NAME, INFO_PROVIDES, INFO_RECOMMENDS, INFO_REPLACES, INFO_VERSION, INTENT_REMOVALS, INTENT_WRITES, PACKAGE_INFO, PACKAGE_PATHS}
 use Rattle.adb_tables.specs.Values.{entries_in, entry_in, int_in, text_in}
 use Rattle.adb_tables.specs.declared.tables.Which.{Which}
 use Rattle.adb_tables.specs.declared.tables.Which.TheVariants.{Dep, Acl, PkgInfo, File, Dir, Scripts, Package, Index, Idb, Intent}
@@ -15,50 +16,55 @@ use Rattle.adb_rules.specs.Texts.{is_package_hash, is_with_contents, may_list, n
 
 -- a name, a version or none, and a number that is an operator
 pub record IsSoundDependency (v : Plain) : Type 0 where
-  pub name : is_dep_name (text_in (entry_in v 0)) ≡ true
-  pub version : is_version_or_empty (text_in (entry_in v 1)) ≡ true
-  pub matching : is_matching (int_in (entry_in v 2)) ≡ true
+  pub name : is_dep_name (text_in (entry_in v DEP_NAME)) ≡ true
+  pub version : is_version_or_empty (text_in (entry_in v DEP_VERSION)) ≡ true
+  pub matching : is_matching (int_in (entry_in v DEP_MATCH)) ≡ true
 
 -- the information of a package, in a container with this table at its root: in an index it has its
 -- hash
 pub record IsInformation (root : Which) (v : Plain) : Type 0 where
-  pub name : is_package_name (text_in (entry_in v 0)) ≡ true
-  pub version : is_version (text_in (entry_in v 1)) ≡ true
-  pub hash : is_package_hash root (length (text_in (entry_in v 2))) ≡ true
-  pub depends : Each IsSoundDependency (entries_in (entry_in v 14))
-  pub provides : Each IsSoundDependency (entries_in (entry_in v 15))
-  pub replaces : Each IsSoundDependency (entries_in (entry_in v 16))
-  pub install_if : Each IsSoundDependency (entries_in (entry_in v 17))
-  pub recommends : Each IsSoundDependency (entries_in (entry_in v 18))
+  pub name : is_package_name (text_in (entry_in v INFO_NAME)) ≡ true
+  pub version : is_version (text_in (entry_in v INFO_VERSION)) ≡ true
+  pub hash : is_package_hash root (length (text_in (entry_in v INFO_HASHES))) ≡ true
+  pub depends : Each IsSoundDependency (entries_in (entry_in v INFO_DEPENDS))
+  pub provides : Each IsSoundDependency (entries_in (entry_in v INFO_PROVIDES))
+  pub replaces : Each IsSoundDependency (entries_in (entry_in v INFO_REPLACES))
+  pub install_if : Each IsSoundDependency (entries_in (entry_in v INFO_INSTALL_IF))
+  pub recommends : Each IsSoundDependency (entries_in (entry_in v INFO_RECOMMENDS))
 
 -- a file of the folder with this name; where it has contents, it has their hash, but in a database
 pub record IsFileOf (root : Which) (folder : List ℕ) (v : Plain) : Type 0 where
-  pub name : is_file_name folder (text_in (entry_in v 0)) ≡ true
-  pub listed : may_list root (path_of folder (text_in (entry_in v 0))) ≡ true
+  pub name : is_file_name folder (text_in (entry_in v FILE_NAME)) ≡ true
+  pub listed : may_list root (path_of folder (text_in (entry_in v FILE_NAME))) ≡ true
   pub hash : (if needs_hash root (is_with_contents v)
-      then is_digest_length (length (text_in (entry_in v 4)))
-      else is_digest_length_or_none (length (text_in (entry_in v 4)))) ≡ true
-  pub target : is_target (text_in (entry_in v 5)) ≡ true
+      then is_digest_length (length (text_in (entry_in v FILE_HASHES)))
+      else is_digest_length_or_none (length (text_in (entry_in v FILE_HASHES)))) ≡ true
+  pub target : is_target (text_in (entry_in v FILE_TARGET)) ≡ true
 
+-- a folder's name is a path, and each of its files keeps its rules
 pub record IsFolder (root : Which) (v : Plain) : Type 0 where
-  pub name : is_folder_name (text_in (entry_in v 0)) ≡ true
-  pub files : Each (IsFileOf root (text_in (entry_in v 0))) (entries_in (entry_in v 2))
+  pub name : is_folder_name (text_in (entry_in v DIR_NAME)) ≡ true
+  pub files : Each (IsFileOf root (text_in (entry_in v DIR_NAME)))
+      (entries_in (entry_in v DIR_FILES))
 
+-- a package's information and folders keep their rules
 pub record IsPackage (root : Which) (v : Plain) : Type 0 where
-  pub info : IsInformation root (entry_in v 0)
-  pub folders : Each (IsFolder root) (entries_in (entry_in v 1))
+  pub info : IsInformation root (entry_in v PACKAGE_INFO)
+  pub folders : Each (IsFolder root) (entries_in (entry_in v PACKAGE_PATHS))
 
+-- the information of each package of an index, and its pattern of file names, keep their rules
 pub record IsIndex (v : Plain) : Type 0 where
-  pub packages : Each (IsInformation Index) (entries_in (entry_in v 1))
-  pub pattern : is_name_pattern (text_in (entry_in v 2)) ≡ true
+  pub packages : Each (IsInformation Index) (entries_in (entry_in v INDEX_PACKAGES))
+  pub pattern : is_name_pattern (text_in (entry_in v INDEX_PKGNAME_SPEC)) ≡ true
 
 -- a text that a change may remove or write
 abbrev pub IsChangeName : Plain → Type 0
 IsChangeName v = is_change_name (text_in v) ≡ true
 
+-- each name of an intent is one that a change may have
 pub record IsIntent (v : Plain) : Type 0 where
-  pub removals : Each IsChangeName (entries_in (entry_in v 0))
-  pub writes : Each IsChangeName (entries_in (entry_in v 1))
+  pub removals : Each IsChangeName (entries_in (entry_in v INTENT_REMOVALS))
+  pub writes : Each IsChangeName (entries_in (entry_in v INTENT_WRITES))
 
 -- the value of a payload with this table at its root
 abbrev pub KeepsRules : Which → Plain → Type 0
@@ -70,5 +76,5 @@ KeepsRules Dir v = IsFolder Dir v
 KeepsRules Scripts v = Unit {0}
 KeepsRules Package v = IsPackage Package v
 KeepsRules Index v = IsIndex v
-KeepsRules Idb v = Each (IsPackage Idb) (entries_in (entry_in v 0))
+KeepsRules Idb v = Each (IsPackage Idb) (entries_in (entry_in v IDB_PACKAGES))
 KeepsRules Intent v = IsIntent v

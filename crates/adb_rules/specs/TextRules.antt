@@ -11,6 +11,7 @@ use Rattle.adb_rules.specs.Rules.{is_folder_name, is_one_part, is_target}
 use Rattle.adb_rules.specs.declared.judged.TextRule.{TextRule}
 use Rattle.adb_rules.specs.declared.judged.TextRule.TheVariants.{DependencyName, PackageName, Version, VersionOrEmpty, Name, FolderName, OnePart, Target}
 
+-- whether a text keeps a rule that looks at nothing around it
 abbrev pub keeps_text_rule : TextRule → List ℕ → Bool
 keeps_text_rule DependencyName bytes = is_dep_name bytes
 keeps_text_rule PackageName bytes = is_package_name bytes

@@ -11,6 +11,7 @@ use Rattle.adb_view.specs.Plain.{Plain, null, Plains, none, more, Shape, number,
 use Rattle.adb_rules.specs.Reserved.{is_reserved}
 use Rattle.adb_fields.specs.Paths.{path_of}
 use Rattle.adb_rules.specs.Rules.{is_change_name, is_digest_length, is_digest_length_or_none, is_file_name, is_folder_name, is_id_length, is_name_pattern, is_target}
+use Rattle.adb_tables.specs.FieldIndexes.{DIR_NAME, FILE_SIZE, FILE_TARGET}
 use Rattle.adb_tables.specs.Schema.{schema_number, shape_of}
 use Rattle.adb_tables.specs.Values.{entries_in, entry_in, int_in, text_in}
 use Rattle.adb_tables.specs.declared.tables.Which.{Which}
@@ -37,6 +38,7 @@ abbrev pub may_list : Which → List ℕ → Bool
 may_list Idb path = not (is_reserved path)
 may_list root path = true
 
+-- the name of a file, whose path the container may list
 abbrev pub is_listed_file : Surroundings → List ℕ → Bool
 is_listed_file around name = is_file_name around.folder name
     && may_list around.root (path_of around.folder name)
@@ -46,15 +48,20 @@ abbrev pub needs_hash : Which → Bool → Bool
 needs_hash Idb has_contents = false
 needs_hash root has_contents = has_contents
 
+-- whether a file's hash is as long as a digest; it may lack it where none is needed
 abbrev pub is_file_hash : Surroundings → ℕ → Bool
 is_file_hash around len = if needs_hash around.root around.has_contents then is_digest_length len
     else is_digest_length_or_none len
 
 -- ---- the rule of each field
 
+-- whether a number keeps the rule of the field with this number: only the operator of a dependency
+-- has one
 abbrev pub number_rule : ℕ → ℕ → Bool
 number_rule field_number n = if field_number == 103 then is_matching n else true
 
+-- whether a text keeps the rule of the field with this number; a field that is not named here has
+-- none
 unfoldable pub text_rule : ℕ → Surroundings → List ℕ → Bool
 text_rule field_number around bytes =
     if field_number == 101 then is_dep_name bytes
@@ -78,27 +85,30 @@ pub data Leaf : Type 0 where
   number_leaf : ℕ → ℕ → Leaf
   text_leaf : ℕ → Surroundings → List ℕ → Leaf
 
+-- whether a number or a text keeps the rule of its field
 abbrev pub keeps_rule : Leaf → Bool
 keeps_rule (number_leaf field_number n) = number_rule field_number n
 keeps_rule (text_leaf field_number around bytes) = text_rule field_number around bytes
 
+-- the number of the field
 abbrev pub number_of_leaf : Leaf → ℕ
 number_of_leaf (number_leaf field_number n) = field_number
 number_of_leaf (text_leaf field_number around bytes) = field_number
 
 -- a file without target and with a size above 0
 abbrev pub is_with_contents : Plain → Bool
-is_with_contents file = (length (text_in (entry_in file 5)) == 0)
-    && nat_lt 0 (int_in (entry_in file 2))
+is_with_contents file = (length (text_in (entry_in file FILE_TARGET)) == 0)
+    && nat_lt 0 (int_in (entry_in file FILE_SIZE))
 
 -- what stands around the fields of an object, whose table has this number
 abbrev pub inside_of : ℕ → Surroundings → Plain → Surroundings
 inside_of schema around v = record {
   root = around.root;
-  folder = if schema == schema_number Dir then text_in (entry_in v 0) else around.folder;
+  folder = if schema == schema_number Dir then text_in (entry_in v DIR_NAME) else around.folder;
   has_contents = if schema == schema_number File then is_with_contents v else around.has_contents;
 }
 
+-- the numbers and texts of each entry in order
 abbrev pub each_leaf : (Plain → List Leaf) → Plains → List Leaf
 each_leaf f none = []
 each_leaf f (more v vs) = f v ++ each_leaf f vs
@@ -120,6 +130,7 @@ unfoldable mutual
   field_leaves (field name s fs) field_number around (more v vs) = leaves s field_number around v
       ++ field_leaves fs (field_number + 1) around vs
 
+-- what stands around the root: no folder and no file
 abbrev pub at_root : Which → Surroundings
 at_root which = record { root = which; folder = []; has_contents = false }
 
@@ -129,10 +140,12 @@ leaves_of which v = leaves (shape_of (Obj which)) 0 (at_root which) v
 
 -- ---- the first fault
 
+-- the first that breaks its rule, told by the number of its field
 abbrev pub first_bad : List Leaf → Option Cause
 first_bad [] = None
 first_bad (leaf ∷ others) = if keeps_rule leaf then first_bad others
     else Some (BadText (number_of_leaf leaf))
 
+-- the first text or number of a container that breaks its rule
 abbrev pub text_fault : Which → Plain → Option Cause
 text_fault which v = first_bad (leaves_of which v)

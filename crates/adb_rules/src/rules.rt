@@ -90,6 +90,7 @@ pub(crate) fn is_one_part(name: &[u8]) -> bool
     is_name(name) && !has_slash(name)
 }
 
+/// Whether a name has a slash.
 fn has_slash(name: &[u8]) -> bool
     ensures { result ≡ list_any (λ b. b == 47) name.now }
 {
@@ -113,6 +114,7 @@ pub(crate) fn is_target(bytes: &[u8]) -> bool
     bytes.is_empty() || is_link(bytes)
 }
 
+/// Whether bytes are the mark of a link and behind it a text, which is not empty.
 fn is_link(bytes: &[u8]) -> bool
     ensures { result ≡ is_link bytes.now }
 {
@@ -122,6 +124,7 @@ fn is_link(bytes: &[u8]) -> bool
     }
 }
 
+/// Whether bytes are UTF-8.
 fn is_text(bytes: &[u8]) -> bool
     ensures { result ≡ is_utf8 bytes.now }
 {

@@ -407,6 +407,7 @@ fn has_text_rule(field_number: u16) -> bool
     )
 }
 
+/// The number of the field, if the number breaks its rule.
 fn check_number(field_number: u16, n: u64) -> Option<u16>
     ensures { bad_text_at result ≡ first_bad (number_leaf field_number n ∷ []) }
 {
@@ -417,6 +418,7 @@ fn check_number(field_number: u16, n: u64) -> Option<u16>
     }
 }
 
+/// The same of a text.
 fn check_text(
     judged: &mut Judged<'_>,
     field_number: u16,

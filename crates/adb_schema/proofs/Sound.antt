@@ -1,6 +1,7 @@
 -- A file without fault holds a sound value.
 use Rattle.std.proofs.Common.{◌≡◌, ℕ, Bool, true, false, List, drop, length, Option, Some, None, Result, Ok, Err, refl, ◌↔◌, ◌≤◌}
 use Rattle.std.specs.Prelude.{if◌then◌else◌, nat_lt, ◌||◌, ◌-◌, ◌==◌, is_some, is_none, unwrap_or, IfSome}
+use Rattle.std.specs.Option.{option_or}
 use Rattle.base_core.specs.declared.cause.Cause.{Cause}
 use Rattle.adb_block.specs.declared.block.BlockKind.{BlockKind}
 use Rattle.adb_block.specs.Framing.{HeadFields, Step, ended, failed, block, step_by_size, step_by_order, step_by_head, next_step, head_of, kind_of_number}
@@ -13,7 +14,7 @@ use Rattle.adb_view.specs.Plain.{Plain, null, Shape, plain_of, IsNormal}
 use Rattle.adb_view.specs.Shaped.{HasShape}
 use Rattle.adb_view.specs.Visits.{visits, MOST_VALUES}
 use Rattle.adb_tables.specs.Schema.{shape_of}
-use Rattle.adb_tables.specs.Walk.{or_else, shape_fault}
+use Rattle.adb_tables.specs.Walk.{shape_fault}
 use Rattle.adb_tables.specs.Values.{value_at}
 use Rattle.adb_tables.specs.declared.tables.Which.{Which}
 use Rattle.adb_tables.specs.declared.tables.Kind.TheVariants as Kinds
@@ -29,11 +30,11 @@ use Rattle.adb_schema.specs.SoundContainers.{IsSoundValue}
 some_none : (c : Cause) → Some c ≡ None → ⊥
 some_none c e = absurd (cc)
 
-or_first : (a b : Option Cause) → or_else a b ≡ None → a ≡ None
+or_first : (a b : Option Cause) → option_or a b ≡ None → a ≡ None
 or_first None b h = refl
 or_first (Some c) b h = h
 
-or_later : (a b : Option Cause) → or_else a b ≡ None → b ≡ None
+or_later : (a b : Option Cause) → option_or a b ≡ None → b ≡ None
 or_later None b h = h
 or_later (Some c) b h = absurd (some_none c h)
 

@@ -1,13 +1,14 @@
 -- A payload that passes all tests, or that of a container without fault, can be opened.
 use Rattle.std.proofs.Common.{◌≡◌, ◌↔◌, ◌≤◌, ℕ, true, List, length, Option, Some, None, refl, ap}
 use Rattle.std.specs.Prelude.{is_none, is_some}
+use Rattle.std.specs.Option.{option_or}
 use Rattle.base_core.specs.declared.cause.Cause.{Cause}
 use Rattle.adb_view.specs.Head.{head_fault, root_of}
 use Rattle.adb_view.specs.Plain.{Plain, Shape, plain_of}
 use Rattle.adb_view.specs.Visits.{visits, MOST_VALUES}
 use Rattle.adb_tables.specs.Schema.{shape_of}
 use Rattle.adb_tables.specs.Values.{is_sound}
-use Rattle.adb_tables.specs.Walk.{or_else, shape_fault}
+use Rattle.adb_tables.specs.Walk.{shape_fault}
 use Rattle.adb_tables.specs.declared.tables.Which.{Which}
 use Rattle.adb_tables.specs.declared.tables.Kind.TheVariants as Kinds
 use Rattle.adb_fields.specs.Repeated.{repeated_fault}
@@ -21,11 +22,11 @@ abbrev pub Visited : Type 0
 Visited = (payload : List ℕ) (shape : Shape) (word : ℕ)
     → (shape_fault payload shape word ≡ None) ↔ ((is_some (plain_of payload shape word) ≡ true) × (length (visits payload shape word) ≤ MOST_VALUES))
 
-first_passed : (a b : Option Cause) → or_else a b ≡ None → a ≡ None
+first_passed : (a b : Option Cause) → option_or a b ≡ None → a ≡ None
 first_passed None b h = refl
 first_passed (Some c) b h = h
 
-later_passed : (a b : Option Cause) → or_else a b ≡ None → b ≡ None
+later_passed : (a b : Option Cause) → option_or a b ≡ None → b ≡ None
 later_passed None b h = h
 later_passed (Some c) b h = absurd (cc)
 

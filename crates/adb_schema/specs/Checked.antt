@@ -4,8 +4,10 @@ use Rattle.adb_tables.specs.Shaped.{table_of, shaped_value}
 use Rattle.adb_tables.specs.declared.tables.Which.{Which}
 use Rattle.adb_schema.specs.declared.checked.Checked.{Checked}
 
+-- the table at the root of a tested payload
 abbrev pub which_of : Checked → Which
 which_of checked = table_of checked.shaped
 
+-- the value of a tested payload
 abbrev pub checked_value : Checked → Plain
 checked_value checked = shaped_value checked.shaped

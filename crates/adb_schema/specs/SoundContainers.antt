@@ -10,6 +10,7 @@ use Rattle.adb_fields.specs.Once.{NamesStandOnce}
 use Rattle.adb_rules.specs.SoundValues.{KeepsRules}
 use Rattle.adb_schema.specs.Soundness.{first_fault}
 
+-- the value of a sound container: its shape, its rules, and its names once
 pub record IsSoundValue (which : Which) (v : Plain) : Type 0 where
   pub shape : HasShape (shape_of (Obj which)) v
   pub rules : KeepsRules which v

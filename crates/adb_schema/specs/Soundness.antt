@@ -1,5 +1,6 @@
 -- The first failed test of a whole container, in the order of the tests.
 use Rattle.std.specs.Prelude.{ℕ, List, [], take, drop, length, Bool, false, nat_lt, ◌==◌, if◌then◌else◌, Option, Some, None, Result, Ok, Err}
+use Rattle.std.specs.Option.{option_or}
 use Rattle.std.specs.Int.{w32, from_le_bytes}
 use Rattle.base_core.specs.declared.cause.Cause.{Cause}
 use Rattle.base_core.specs.declared.cause.Cause.TheVariants.{Truncated, WrongSchema, DataOrder}
@@ -11,7 +12,7 @@ use Rattle.adb_block.specs.declared.block.BlockKind.TheVariants.{Contents}
 use Rattle.adb_view.specs.Head.{head_fault, root_of}
 use Rattle.adb_view.specs.Plain.{Plain}
 use Rattle.adb_tables.specs.Schema.{shape_of}
-use Rattle.adb_tables.specs.Walk.{or_else, shape_fault}
+use Rattle.adb_tables.specs.Walk.{shape_fault}
 use Rattle.adb_tables.specs.Values.{value_at}
 use Rattle.adb_rules.specs.Texts.{text_fault}
 use Rattle.adb_fields.specs.Repeated.{repeated_fault}
@@ -30,15 +31,16 @@ schema_word which = None
 
 -- ---- the first block
 
+-- the value of a payload with this table at its root
 abbrev pub root_value : Which → List ℕ → Plain
 root_value which payload = value_at payload (Obj which) (root_of payload)
 
 -- the head, the shape, the texts, and names that stand twice
 abbrev pub payload_fault : Which → List ℕ → Option Cause
 payload_fault which payload =
-    or_else (head_fault payload)
-    (or_else (shape_fault payload (shape_of (Obj which)) (root_of payload))
-    (or_else (text_fault which (root_value which payload))
+    option_or (head_fault payload)
+    (option_or (shape_fault payload (shape_of (Obj which)) (root_of payload))
+    (option_or (text_fault which (root_value which payload))
     (repeated_fault which (root_value which payload))))
 
 -- ---- what stands behind it
@@ -55,6 +57,7 @@ abbrev pub undue_contents : List ℕ → ℕ → Cause
 undue_contents payload at = if nat_lt (length payload) 8 then Truncated at
     else DataOrder (0, 0) (file_pair payload)
 
+-- contents are a fault in a container without files; any other block is none
 abbrev pub block_fault : BlockKind → List ℕ → ℕ → Option Cause
 block_fault Contents payload at = Some (undue_contents payload at)
 block_fault kind payload at = None
@@ -63,7 +66,7 @@ block_fault kind payload at = None
 unfoldable pub further_fault : Reading → Option Cause
 further_fault done = None
 further_fault (fault c) = Some c
-further_fault (more b at r) = or_else (block_fault b.kind b.payload at) (further_fault r)
+further_fault (more b at r) = option_or (block_fault b.kind b.payload at) (further_fault r)
 
 -- a package may have contents, which are a test of their own
 abbrev pub rest_fault : Which → Reading → Option Cause
@@ -72,10 +75,12 @@ rest_fault which r = further_fault r
 
 -- ---- all tests in order
 
+-- whether the schema is the one that the table has, if it has one
 abbrev pub is_schema_wanted : Option ℕ → ℕ → Bool
 is_schema_wanted (Some word) schema = word == schema
 is_schema_wanted None schema = false
 
+-- the fault of a container with another schema
 abbrev pub schema_fault : Which → ℕ → Option Cause
 schema_fault which schema = if is_schema_wanted (schema_word which) schema then None
     else Some (WrongSchema schema)
@@ -84,13 +89,14 @@ schema_fault which schema = if is_schema_wanted (schema_word which) schema then 
 abbrev pub blocks_fault : (Plain → Reading → Option Cause) → Which → Reading → Option Cause
 blocks_fault rest which done = None
 blocks_fault rest which (fault c) = Some c
-blocks_fault rest which (more b at r) = or_else (payload_fault which b.payload)
+blocks_fault rest which (more b at r) = option_or (payload_fault which b.payload)
     (rest (root_value which b.payload) r)
 
+-- the first fault of a file by its header: of that, of its schema, or of its blocks
 abbrev pub file_fault : (Plain → Reading → Option Cause) → Which → List ℕ → Result ℕ Cause
     → Option Cause
 file_fault rest which file (Err c) = Some c
-file_fault rest which file (Ok schema) = or_else (schema_fault which schema)
+file_fault rest which file (Ok schema) = option_or (schema_fault which schema)
     (blocks_fault rest which (reading_of (start_of schema file)))
 
 -- with a test of what stands behind the first block
@@ -104,11 +110,13 @@ first_fault which file = fault_with (λ v r. rest_fault which r) which file
 
 -- ---- what is read
 
+-- the payload of the first block; none where there is no block
 abbrev pub first_payload : Reading → List ℕ
 first_payload done = []
 first_payload (fault c) = []
 first_payload (more b at r) = b.payload
 
+-- the payload behind a header that was read
 abbrev pub payload_behind : List ℕ → Result ℕ Cause → List ℕ
 payload_behind file (Ok schema) = first_payload (reading_of (start_of schema file))
 payload_behind file (Err c) = []

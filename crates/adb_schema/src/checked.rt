@@ -31,8 +31,8 @@ impl<'a> Checked<'a> {
     ghost use Rattle.adb_schema.specs.ReadFaults.{IsReadFault};
     ghost use Rattle.adb_schema.specs.Views.{package_value, index_value, idb_value, intent_value};
 
-    /// Tests each text and number of a walked payload against the rule of its field. It takes memory
-    /// for long texts alone, which are judged once.
+    /// Tests each text and number of a walked payload against the rule of its field. It takes
+    /// memory for long texts alone, which are judged once.
     ///
     /// # Errors
     ///

@@ -1,11 +1,11 @@
 //! The reading of a whole container, and names that stand twice in it.
 
 ghost use Rattle.std.specs.Prelude.{ℕ, List, All, ◌<◌, ◌≡◌, ◌≤◌, None, Some, length, codes, IfOk, IfErr};
+ghost use Rattle.std.specs.Result.{result_err};
 ghost use Rattle.std.specs.Int.{w32, to_le_bytes};
 ghost use Rattle.adb_fields.specs.Repeated.{repeated_fault};
 ghost use Rattle.adb_block.specs.Reading.{reading_of};
 ghost use Rattle.adb_view.specs.Adb.{payload_of};
-ghost use Rattle.adb_view.specs.Gives.{cause_of};
 ghost use Rattle.adb_tables.specs.Shaped.{adb_of};
 ghost use Rattle.adb_schema.specs.Checked.{checked_value, which_of};
 ghost use Rattle.adb_view.specs.Plain.{IsNormal};
@@ -181,7 +181,7 @@ fn check_payload<'a>(
 
 /// Reads the blocks behind the first; those of a package `pkg_core` reads.
 fn check_rest(blocks: &mut Blocks<'_>, which: Which) -> Result<(), Cause>
-    ensures { cause_of result ≡ rest_fault which (reading_of blocks.old) }
+    ensures { result_err result ≡ rest_fault which (reading_of blocks.old) }
 {
     match which {
         Which::Package => Ok(()),
@@ -192,7 +192,7 @@ fn check_rest(blocks: &mut Blocks<'_>, which: Which) -> Result<(), Cause>
 /// Reads the blocks behind the first, where no contents are due.
 #[tactic(auto, unfolding(crate::specs::Soundness::further_fault))]
 fn check_further(blocks: &mut Blocks<'_>) -> Result<(), Cause>
-    ensures { cause_of result ≡ further_fault (reading_of blocks.old) }
+    ensures { result_err result ≡ further_fault (reading_of blocks.old) }
 {
     loop {
         let Some(block) = blocks.next()? else {

@@ -1,6 +1,7 @@
 -- No test of the payload of a good value fails.
 use Rattle.std.proofs.Common.{◌≡◌, ℕ, ◌≤◌, false, ltb, length, Option, Some, None, refl, ap, ◌∙◌, arith}
 use Rattle.std.specs.Prelude.{is_some, unwrap_or}
+use Rattle.std.specs.Option.{option_or}
 use Rattle.std.specs.Int.{w32, to_le_bytes}
 use Rattle.std.proofs.lemmas.Bool.{le-ltb}
 use Rattle.std.proofs.lemmas.List.{length-append}
@@ -9,7 +10,7 @@ use Rattle.adb_view.specs.Head.{head_fault, root_of}
 use Rattle.adb_view.specs.Plain.{Plain, null}
 use Rattle.adb_tables.specs.Schema.{shape_of}
 use Rattle.adb_tables.specs.Values.{value_at}
-use Rattle.adb_tables.specs.Walk.{or_else, shape_fault}
+use Rattle.adb_tables.specs.Walk.{shape_fault}
 use Rattle.adb_rules.specs.Texts.{text_fault}
 use Rattle.adb_fields.specs.Repeated.{repeated_fault}
 use Rattle.adb_schema.specs.Soundness.{payload_fault, root_value}
@@ -19,7 +20,7 @@ use Rattle.adb_write.specs.Canonical.{canonical, payload_with_root, Layout, empt
 use Rattle.adb_sound.specs.Root.{IsRootOf}
 use Rattle.adb_sound.proofs.Lower.{Lower}
 
-pub none_of : (o u : Option Cause) → o ≡ None → u ≡ None → or_else o u ≡ None
+pub none_of : (o u : Option Cause) → o ≡ None → u ≡ None → option_or o u ≡ None
 none_of None u h e = e
 none_of (Some c) u h e = cc
 

@@ -1,10 +1,10 @@
 -- Why a reader refuses a word: it is of another kind, or what it points to leaves the payload.
 use Rattle.std.proofs.Common.{◌≡◌, ℕ, Bool, true, false, List, Option, Some, None, Result, Ok, Err, refl, subst}
 use Rattle.std.specs.Prelude.{if◌then◌else◌, ◌==◌}
+use Rattle.std.specs.Result.{result_ok}
 use Rattle.std.specs.Int.{w8, w16, w32, w64}
 use Rattle.adb_view.specs.Bytes.{number_at}
 use Rattle.adb_view.specs.Readers.{int_of, blob_of, run_of, run_at, counted_at, kind_of, low_of, inside}
-use Rattle.adb_view.specs.Gives.{read_of}
 use Rattle.adb_tables.specs.VisitFault.{is_reader_fault}
 use Rattle.base_core.specs.declared.cause.Cause.{Cause}
 
@@ -55,6 +55,6 @@ pub run_fault : (kind : ℕ) (p : List ℕ) (w : ℕ) (c : Cause) → run_of kin
 run_fault kind p w c e = of_answer (run_of kind p w) c (run_answer kind p w) e
 
 -- what was read, whatever it is shown as
-pub read_ok : {A : Type 0} (r : Result A Cause) (x : A) → read_of r ≡ Some x → r ≡ Ok x
+pub read_ok : {A : Type 0} (r : Result A Cause) (x : A) → result_ok r ≡ Some x → r ≡ Ok x
 read_ok (Ok y) x e = cc
 read_ok (Err c) x e = absurd cc

@@ -2,14 +2,15 @@
 use Rattle.std.proofs.Common.{◌≡◌, ℕ, zero, suc, ◌+◌, ◌<◌, Bool, true, false, cond, ltb, List, [], ◌∷◌, ◌++◌, length, Option, Some, None, Result, Ok, Err, refl, sym, ap, subst, ◌∙◌, arith, inl, inr, ◌⊎◌, zero-add, ◌≤◌, ◌&&◌, lit≤, ◌↔◌}
 use Rattle.std.proofs.lemmas.Bool.{ltb-false, le-ltb}
 use Rattle.std.specs.Prelude.{is_some, is_none, slice_get}
+use Rattle.std.specs.Option.{option_or}
+use Rattle.std.specs.Result.{result_err}
 use Rattle.adb_view.specs.Plain.{Shape, number, text, hash, array, object, Fields, no_fields, field, plain_of, plains_of}
 use Rattle.adb_view.specs.Readers.{run_of, ARRAY, OBJECT}
 use Rattle.adb_view.specs.Visits.{Visit, or_empty, each_visit, visits, field_visits, fault_at, is_sound_visit, MOST_VALUES}
-use Rattle.adb_view.specs.Gives.{cause_of}
 use Rattle.adb_tables.specs.Schema.{shape_of}
 use Rattle.adb_tables.specs.Values.{is_sound}
 use Rattle.adb_tables.specs.declared.tables.Kind.{Kind}
-use Rattle.adb_tables.specs.Walk.{visit_fault, or_else, first_fault_from, shape_fault}
+use Rattle.adb_tables.specs.Walk.{visit_fault, first_fault_from, shape_fault}
 use Rattle.adb_tables.specs.CountedWalk.{fields_walk}
 use Rattle.adb_tables.specs.CountedWalk.{walk}
 use Rattle.adb_tables.specs.CountedWalk.{each_walk}
@@ -76,23 +77,23 @@ mutual
       ap (λ r. r >>= λ m. fields_walk p fs m ws) (walk-counted p s n w) ∙ bind_same (counted p n (visits p s w)) _ _ (λ m. fields_walk-counted p fs m ws) ∙ sym (counted-append p n (visits p s w) (field_visits p fs ws))
 
 -- going over them gives the first fault, and else how many there were
-cause_of-bind : (n : ℕ) (o : Option Cause) (f : ℕ → Result ℕ Cause) → cause_of (ok_unless n o >>= f) ≡ or_else o (cause_of (f n))
-cause_of-bind n None f = refl
-cause_of-bind n (Some c) f = refl
+result_err-bind : (n : ℕ) (o : Option Cause) (f : ℕ → Result ℕ Cause) → result_err (ok_unless n o >>= f) ≡ option_or o (result_err (f n))
+result_err-bind n None f = refl
+result_err-bind n (Some c) f = refl
 
-counted-fault : (p : List ℕ) (n : ℕ) (vs : List Visit) → cause_of (counted p n vs) ≡ first_fault_from p (n + 1) vs
+counted-fault : (p : List ℕ) (n : ℕ) (vs : List Visit) → result_err (counted p n vs) ≡ first_fault_from p (n + 1) vs
 counted-fault p n [] = refl
 counted-fault p n (v ∷ vs) =
-    cause_of-bind (n + 1) (visit_fault p (n + 1) v) (λ m. counted p m vs) ∙ ap (or_else (visit_fault p (n + 1) v)) (counted-fault p (n + 1) vs)
+    result_err-bind (n + 1) (visit_fault p (n + 1) v) (λ m. counted p m vs) ∙ ap (option_or (visit_fault p (n + 1) v)) (counted-fault p (n + 1) vs)
 
-pub walk-fault : (p : List ℕ) (s : Shape) (w : ℕ) → cause_of (walk p s 0 w) ≡ shape_fault p s w
-walk-fault p s w = ap cause_of (walk-counted p s 0 w) ∙ counted-fault p 0 (visits p s w)
+pub walk-fault : (p : List ℕ) (s : Shape) (w : ℕ) → result_err (walk p s 0 w) ≡ shape_fault p s w
+walk-fault p s w = ap result_err (walk-counted p s 0 w) ∙ counted-fault p 0 (visits p s w)
 
 -- ---- in the subject's words: the first visit that is faulty
 
-or_else_cases : (a b : Option Cause) (c : Cause) → or_else a b ≡ Some c → (a ≡ Some c) ⊎ ((a ≡ None) × (b ≡ Some c))
-or_else_cases None b c e = inr (refl, e)
-or_else_cases (Some d) b c e = inl e
+option_or_cases : (a b : Option Cause) (c : Cause) → option_or a b ≡ Some c → (a ≡ Some c) ⊎ ((a ≡ None) × (b ≡ Some c))
+option_or_cases None b c e = inr (refl, e)
+option_or_cases (Some d) b c e = inl e
 
 some_cause : Option Cause → Type 0
 some_cause o = (c : Cause) × (o ≡ Some c)
@@ -108,7 +109,7 @@ pub record FirstFaultFrom (p : List ℕ) (n : ℕ) (vs : List Visit) (c : Cause)
 first_is : (p : List ℕ) (n : ℕ) (vs : List Visit) (c : Cause) → first_fault_from p n vs ≡ Some c → FirstFaultFrom p n vs c
 first_is p n [] c e = absurd cc
 first_is p n (v ∷ vs) c e =
-    elim (or_else_cases (visit_fault p n v) (first_fault_from p (n + 1) vs) c e) [
+    elim (option_or_cases (visit_fault p n v) (first_fault_from p (n + 1) vs) c e) [
       | inl here ↦ record { i = 0; v = v; at = refl; fault = rw zero-add here; before = λ j u lt. absurd (omega arith) }
       | inr later ↦
           let r = first_is p (n + 1) vs c later.1 in
@@ -173,10 +174,10 @@ walk-found found p s n m w e = found p s w ∙ counted-sound p n m (visits p s w
 -- ---- the same as the code meets them
 
 pub walk_refused : (p : List ℕ) (s : Shape) (w : ℕ) (c : Cause) → walk p s 0 w ≡ Err c → Some c ≡ shape_fault p s w
-walk_refused p s w c e = sym (ap cause_of e) ∙ walk-fault p s w
+walk_refused p s w c e = sym (ap result_err e) ∙ walk-fault p s w
 
 pub walk_passed : (p : List ℕ) (s : Shape) (w n : ℕ) → walk p s 0 w ≡ Ok n → None ≡ shape_fault p s w
-walk_passed p s w n e = sym (ap cause_of e) ∙ walk-fault p s w
+walk_passed p s w n e = sym (ap result_err e) ∙ walk-fault p s w
 
 pub walk_sound : WordsFound → (p : List ℕ) (k : Kind) (w n : ℕ) → walk p (shape_of k) 0 w ≡ Ok n → is_sound p k w ≡ true
 unfolding is_sound
@@ -206,9 +207,9 @@ first_back p n (u ∷ us) c (suc i) v at fault before =
 pub reported : (p : List ℕ) (s : Shape) (w : ℕ) (c : Cause) → (shape_fault p s w ≡ Some c) ↔ IsFirstFault p (visits p s w) c
 reported p s w c = (shape_fault-first p s w c, λ first. first_back p 1 (visits p s w) c first.i first.v first.at first.fault first.before)
 
-or_else_none : (a b : Option Cause) → or_else a b ≡ None → (a ≡ None) × (b ≡ None)
-or_else_none None b e = (refl, e)
-or_else_none (Some c) b e = absurd cc
+option_or_none : (a b : Option Cause) → option_or a b ≡ None → (a ≡ None) × (b ≡ None)
+option_or_none None b e = (refl, e)
+option_or_none (Some c) b e = absurd cc
 
 visit_counted : (p : List ℕ) (n : ℕ) (v : Visit) → visit_fault p n v ≡ None → n ≤ MOST_VALUES
 visit_counted p n v e =
@@ -217,7 +218,7 @@ visit_counted p n v e =
 none_few : (p : List ℕ) (n : ℕ) (vs : List Visit) → first_fault_from p n vs ≡ None → n ≤ MOST_VALUES + 1 → n + length vs ≤ MOST_VALUES + 1
 none_few p n [] e le = omega arith
 none_few p n (v ∷ vs) e le =
-    let (here, later) = or_else_none _ _ e in
+    let (here, later) = option_or_none _ _ e in
     let few = visit_counted p n v here in
     let more = none_few p (n + 1) vs later (omega arith) in
     omega arith
@@ -225,7 +226,7 @@ none_few p n (v ∷ vs) e le =
 none_sound : (p : List ℕ) (n : ℕ) (vs : List Visit) → first_fault_from p n vs ≡ None → list_all (is_sound_visit p) vs ≡ true
 none_sound p n [] e = refl
 none_sound p n (v ∷ vs) e =
-    let (here, later) = or_else_none _ _ e in
+    let (here, later) = option_or_none _ _ e in
     rw (fault_free p n v here, none_sound p (n + 1) vs later) refl
 
 and_parts : (a b : Bool) → (a && b) ≡ true → (a ≡ true) × (b ≡ true)
@@ -252,8 +253,8 @@ none_reported found p s w = (
 
 -- the same of an object's entries
 
-pub fields_fault : (p : List ℕ) (fs : Fields) (n : ℕ) (ws : List ℕ) → cause_of (fields_walk p fs n ws) ≡ first_fault_from p (n + 1) (field_visits p fs ws)
-fields_fault p fs n ws = ap cause_of (fields_walk-counted p fs n ws) ∙ counted-fault p n (field_visits p fs ws)
+pub fields_fault : (p : List ℕ) (fs : Fields) (n : ℕ) (ws : List ℕ) → result_err (fields_walk p fs n ws) ≡ first_fault_from p (n + 1) (field_visits p fs ws)
+fields_fault p fs n ws = ap result_err (fields_walk-counted p fs n ws) ∙ counted-fault p n (field_visits p fs ws)
 
 pub fields_counted : (p : List ℕ) (fs : Fields) (n m : ℕ) (ws : List ℕ) → fields_walk p fs n ws ≡ Ok m → m ≡ n + length (field_visits p fs ws)
 fields_counted p fs n m ws e = sym (counted-length p n m (field_visits p fs ws) (sym (fields_walk-counted p fs n ws) ∙ e))

@@ -10,7 +10,7 @@ use Rattle.adb_tables.specs.CountedWalk.{each_walk}
 use Rattle.adb_tables.specs.CountedWalk.{walk_visit}
 use Rattle.adb_tables.specs.CountedWalk.{◌>>=◌}
 use Rattle.adb_view.specs.Visits.{or_empty, fault_at, MOST_VALUES}
-use Rattle.adb_view.specs.Gives.{cause_of}
+use Rattle.std.specs.Result.{result_err}
 use Rattle.adb_tables.specs.Schema.{schema_number, table, shape_of, shapes_of}
 use Rattle.adb_tables.specs.Rank.{rank, rank_of_all}
 use Rattle.adb_tables.specs.Shapes.{object_shape, objects_shape, texts_shape, int_shape, text_shape, hash_shape}
@@ -56,7 +56,7 @@ fields_past p fs n ws i le = rw (drop_all i fs le) refl
 
 -- ---- one word
 
-ok_step : {A : Type 0} (n : ℕ) (s : Shape) (w : ℕ) (p : List ℕ) (r : Result A Cause) → fault_at p s w ≡ cause_of r → n < MOST_VALUES → walk_visit p n s w ≡ (r >>= λ x. Ok (n + 1))
+ok_step : {A : Type 0} (n : ℕ) (s : Shape) (w : ℕ) (p : List ℕ) (r : Result A Cause) → fault_at p s w ≡ result_err r → n < MOST_VALUES → walk_visit p n s w ≡ (r >>= λ x. Ok (n + 1))
 ok_step n s w p (Ok x) e lt = let t : ltb MOST_VALUES (n + 1) ≡ false = le-ltb _ _ (omega arith) in rw (t, e) refl
 ok_step n s w p (Err c) e lt = let t : ltb MOST_VALUES (n + 1) ≡ false = le-ltb _ _ (omega arith) in rw (t, e) refl
 

@@ -13,6 +13,7 @@ abbrev pub ◌>>=◌ : {A B : Type 0} → Result A Cause → (A → Result B Cau
 (Ok x) >>= f = f x
 (Err e) >>= f = Err e
 
+-- the value, unless there is a fault
 abbrev pub ok_unless : {A : Type 0} → A → Option Cause → Result A Cause
 ok_unless x None = Ok x
 ok_unless x (Some c) = Err c
@@ -21,6 +22,7 @@ ok_unless x (Some c) = Err c
 abbrev pub walk_visit : List ℕ → ℕ → Shape → ℕ → Result ℕ Cause
 walk_visit p n s w = ok_unless (n + 1) (visit_fault p (n + 1) (record { shape = s; word = w }))
 
+-- the walks of some words in order, each behind the visits of those before it
 abbrev pub each_walk : (ℕ → ℕ → Result ℕ Cause) → ℕ → List ℕ → Result ℕ Cause
 each_walk f n [] = Ok n
 each_walk f n (w ∷ ws) = f n w >>= λ m. each_walk f m ws

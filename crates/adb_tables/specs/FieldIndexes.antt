@@ -19,6 +19,17 @@ PACKAGE_TRIGGERS = 3
 abbrev pub PACKAGE_REPLACES_PRIORITY : ℕ
 PACKAGE_REPLACES_PRIORITY = 4
 
+-- ---- a dependency
+
+abbrev pub DEP_NAME : ℕ
+DEP_NAME = 0
+
+abbrev pub DEP_VERSION : ℕ
+DEP_VERSION = 1
+
+abbrev pub DEP_MATCH : ℕ
+DEP_MATCH = 2
+
 -- ---- the information of a package
 
 abbrev pub INFO_NAME : ℕ
@@ -54,6 +65,9 @@ INFO_REPLACES = 16
 abbrev pub INFO_INSTALL_IF : ℕ
 INFO_INSTALL_IF = 17
 
+abbrev pub INFO_RECOMMENDS : ℕ
+INFO_RECOMMENDS = 18
+
 -- ---- a folder of a package
 
 abbrev pub DIR_NAME : ℕ
@@ -83,6 +97,9 @@ FILE_TARGET = 5
 
 abbrev pub INDEX_PACKAGES : ℕ
 INDEX_PACKAGES = 1
+
+abbrev pub INDEX_PKGNAME_SPEC : ℕ
+INDEX_PKGNAME_SPEC = 2
 
 abbrev pub IDB_PACKAGES : ℕ
 IDB_PACKAGES = 0

@@ -5,6 +5,7 @@ use Rattle.adb_tables.specs.declared.tables.Kind.{Kind}
 use Rattle.adb_tables.specs.declared.tables.Kind.TheVariants.{Int, Text, Hash, Obj, TextArr, ObjArr}
 use Rattle.adb_tables.specs.declared.tables.Field.{Field}
 
+-- falls from each kind to the kinds of its fields and entries, so that a walk ends
 abbrev pub rank : Kind → ℕ
 rank Int = 0
 rank Text = 0
@@ -13,6 +14,7 @@ rank TextArr = 2
 rank (Obj w) = 4 * schema_number w
 rank (ObjArr w) = 4 * schema_number w + 2
 
+-- the greatest rank of some fields
 abbrev pub rank_of_all : List Field → ℕ
 rank_of_all [] = 0
 rank_of_all (f ∷ fs) = max (rank f.kind) (rank_of_all fs)

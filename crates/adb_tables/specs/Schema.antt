@@ -86,12 +86,13 @@ field_name_text FieldName.PkgnameSpec = codes "pkgname-spec"
 field_name_text FieldName.Removals = codes "removals"
 field_name_text FieldName.Writes = codes "writes"
 
--- A table names only tables of lower numbers, so unrolling it ends. The first number is how deep to
--- go.
+-- the fields of a table, each with the shape that its kind has by this map
 abbrev pub fields_with : (Kind → Shape) → List Field → Fields
 fields_with f [] = no_fields
 fields_with f (r ∷ rs) = field (field_name_text r.name) (f r.kind) (fields_with f rs)
 
+-- A table names only tables of lower numbers, so unrolling it ends. The first number is how deep to
+-- go.
 abbrev pub shape_to_depth : ℕ → Kind → Shape
 shape_to_depth depth Int = number
 shape_to_depth depth Text = text
@@ -104,9 +105,10 @@ shape_to_depth zero (ObjArr w) = array (object (schema_number w) no_fields)
 shape_to_depth (suc depth) (ObjArr w) = array
     (object (schema_number w) (fields_with (shape_to_depth depth) (table w)))
 
--- five levels are enough for each table: database, package, folder, file, rights
+-- five levels are enough for each table: database, package, folder, file, acl
 unfoldable pub shape_of : Kind → Shape
 shape_of k = shape_to_depth 5 k
 
+-- the fields of a table, each with its shape
 abbrev pub shapes_of : List Field → Fields
 shapes_of fields = fields_with shape_of fields

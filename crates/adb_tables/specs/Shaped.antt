@@ -8,6 +8,7 @@ use Rattle.adb_tables.specs.declared.tables.Which.{Which}
 use Rattle.adb_tables.specs.declared.tables.Kind.TheVariants.{Obj}
 use Rattle.adb_tables.specs.declared.shaped.Shaped.{Shaped}
 
+-- the payload of a walked value
 abbrev pub adb_of : Shaped → Adb
 adb_of shaped = shaped.adb
 

@@ -1,4 +1,5 @@
--- Unrolling goes deep enough for each table.
+-- The shape of each kind, by those of the kinds below it: unrolling goes deep enough that none is
+-- cut off.
 use Rattle.std.proofs.Common.{◌≡◌, refl}
 use Rattle.adb_view.specs.Plain.{number, text, hash, array, object}
 use Rattle.adb_tables.specs.Schema.{table, schema_number, shape_of, shapes_of}

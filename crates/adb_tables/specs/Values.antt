@@ -14,7 +14,7 @@ is_sound p k w = is_some (plain_of p (shape_of k) w)
 unfoldable pub value_at : List ℕ → Kind → ℕ → Plain
 value_at p k w = unwrap_or (plain_of p (shape_of k) w) null
 
--- the entry with this number, counted from 0; Null past the last
+-- the entry with this index; Null past the last
 abbrev pub nth : Plains → ℕ → Plain
 nth none i = null
 nth (more v vs) zero = v
@@ -32,6 +32,7 @@ entries_in (obj vs) = vs
 abbrev pub entry_in : Plain → ℕ → Plain
 entry_in v i = nth (entries_in v) i
 
+-- the integer; 0 of Null, and of what is none
 abbrev pub int_in : Plain → ℕ
 int_in null = 0
 int_in (int n) = n
@@ -39,6 +40,7 @@ int_in (blob b) = 0
 int_in (arr vs) = 0
 int_in (obj vs) = 0
 
+-- the bytes; none of Null, and of what has none
 abbrev pub text_in : Plain → List ℕ
 text_in null = []
 text_in (int n) = []
@@ -46,6 +48,6 @@ text_in (blob b) = b
 text_in (arr vs) = []
 text_in (obj vs) = []
 
--- the kind of a table's field, counted from 0
+-- the kind of the field with this index in a table
 abbrev pub kind_at : Which → ℕ → Option Kind
 kind_at which i = option_map (λ f. f.kind) (slice_get (table which) i)

@@ -1,6 +1,7 @@
 -- The walk over a payload's values: the first visit that is faulty, and the same walk counting
 -- without a list.
 use Rattle.std.specs.Prelude.{ℕ, ◌+◌, List, [], ◌∷◌, Option, Some, None, nat_lt, if◌then◌else◌}
+use Rattle.std.specs.Option.{option_or}
 use Rattle.adb_view.specs.Plain.{Shape}
 use Rattle.adb_view.specs.Visits.{MOST_VALUES, Visit, visits, fault_at}
 use Rattle.base_core.specs.declared.cause.Cause.{Cause}
@@ -10,14 +11,10 @@ use Rattle.base_core.specs.declared.cause.Cause.TheVariants.{TooLarge}
 abbrev pub visit_fault : List ℕ → ℕ → Visit → Option Cause
 visit_fault p i v = if nat_lt MOST_VALUES i then Some (TooLarge i) else fault_at p v.shape v.word
 
-abbrev pub or_else : Option Cause → Option Cause → Option Cause
-or_else (Some c) later = Some c
-or_else None later = later
-
 -- the first fault of the visits, of which the first has this number
 abbrev pub first_fault_from : List ℕ → ℕ → List Visit → Option Cause
 first_fault_from p i [] = None
-first_fault_from p i (v ∷ vs) = or_else (visit_fault p i v) (first_fault_from p (i + 1) vs)
+first_fault_from p i (v ∷ vs) = option_or (visit_fault p i v) (first_fault_from p (i + 1) vs)
 
 -- the first fault of a word and what lies below it
 abbrev pub shape_fault : List ℕ → Shape → ℕ → Option Cause

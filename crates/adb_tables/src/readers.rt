@@ -1,4 +1,5 @@
-//! The readers of words, as the walk asks them: a cause is made only where there is one.
+//! The readers of words, as the walk asks them. Each first asks the reader that makes no cause;
+//! only where that finds nothing it asks the one that tells the cause.
 
 ghost use Rattle.std.specs.Prelude.{◌≡◌, IfErr, IfOk, Err, Ok};
 ghost use Rattle.adb_view.specs.Adb.{payload_of};

@@ -1,11 +1,12 @@
 //! The walk over a payload's values that tests their shape.
 
 ghost use Rattle.std.specs.Prelude.{◌<◌, slice_index, ◌≡◌, ◌≤◌, ◌+◌, IfOk, true, is_some, length, is_none, ◌↔◌, ℕ, List, Some, None};
+ghost use Rattle.std.specs.Result.{result_err};
 ghost use Rattle.adb_view.specs.Plain.{Fields, plains_of, Shape, object, plain_of};
 ghost use Rattle.adb_view.specs.Visits.{field_visits, visits, MOST_VALUES};
 ghost use Rattle.adb_view.specs.Adb.{payload_of};
 ghost use Rattle.adb_view.specs.Entries.{array_entries};
-ghost use Rattle.adb_view.specs.Gives.{Gives, cause_of};
+ghost use Rattle.adb_view.specs.Gives.{Gives};
 ghost use Rattle.adb_view.specs.Readers.{run_of, OBJECT};
 ghost use Rattle.adb_view.specs.Head.{root_of};
 ghost use Rattle.adb_tables.specs.Schema.{table, shape_of, shapes_of, schema_number};
@@ -58,7 +59,7 @@ const MOST_VISITS: u32 = 4_194_304;
 /// The first fault: `TooLarge` at the visit 4,194,305, `WrongKind` or `Outside` with the word.
 #[tactic(auto, using(crate::proofs::ShapeWalk::walk_refused, crate::proofs::ShapeWalk::walk_passed, crate::proofs::ShapeWalk::walk_few))]
 pub fn shape(adb: Adb<'_>, which: Which) -> Result<Shaped<'_>, Cause>
-    ensures exact { cause_of result
+    ensures exact { result_err result
         ≡ shape_fault (payload_of adb.entry) (shape_of (Kinds.Obj which))
         (root_of (payload_of adb.entry)) }
     ensures walked { IfOk result (λ shaped. adb_of shaped ≡ adb.entry) }
@@ -178,7 +179,7 @@ pub fn walk_fields(
 /// value.
 pub fn a_walk_of_fields_reports_the_first_faulty_visit()
     ensures fault { (payload : List ℕ) (fields : Fields) (before : ℕ) (words : List ℕ)
-        → cause_of (fields_walk payload fields before words)
+        → result_err (fields_walk payload fields before words)
         ≡ first_fault_from payload (before + 1) (field_visits payload fields words) }
     ensures count { (payload : List ℕ) (fields : Fields) (before count : ℕ) (words : List ℕ)
         → fields_walk payload fields before words ≡ Ok count → count

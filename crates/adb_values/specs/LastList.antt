@@ -6,6 +6,7 @@ use Rattle.adb_values.specs.Drafts.{DraftState}
 abbrev pub last_of : List ℕ → Option ℕ
 last_of xs = slice_get xs (length xs - 1)
 
+-- where the last list begins, which is no further than the end
 abbrev pub start_within : Option ℕ → ℕ → ℕ
 start_within None len = 0
 start_within (Some start) len = min start len
@@ -14,6 +15,7 @@ start_within (Some start) len = min start len
 abbrev pub last_start : DraftState → ℕ
 last_start d = start_within (last_of d.starts) (length d.words)
 
+-- the word, or NULL where there is none
 abbrev pub word_or_null : Option ℕ → ℕ
 word_or_null None = 0
 word_or_null (Some word) = word

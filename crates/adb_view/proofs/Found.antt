@@ -1,13 +1,13 @@
 -- A plain value is found exactly where each visit is sound.
 use Rattle.std.proofs.Common.{◌≡◌, ℕ, Bool, true, false, cond, eqb, ◌&&◌, List, [], ◌∷◌, ◌++◌, Option, Some, None, option_map, Result, Ok, Err, refl, sym, ap, ◌∙◌}
 use Rattle.std.specs.Prelude.{is_some, is_none}
+use Rattle.std.specs.Result.{result_err}
 use Rattle.std.specs.List.{list_all}
 use Rattle.std.proofs.lemmas.Bool.{eqb-true}
 use Rattle.std.proofs.lemmas.List.Folds.{list_all-append}
 use Rattle.adb_view.specs.Plain.{Plain, null, int, Plains, none, more, Shape, number, text, hash, array, object, Fields, no_fields, field, blob_value, arr_value, obj_value, unless_null, from_answer, then_more, each_plain, plain_of, plains_of}
 use Rattle.adb_view.specs.Readers.{int_of, blob_of, run_of, ARRAY, OBJECT}
 use Rattle.adb_view.specs.Visits.{Visit, or_empty, each_visit, visits, field_visits, is_sound_visit}
-use Rattle.adb_view.specs.Gives.{cause_of}
 use Rattle.base_core.specs.declared.cause.Cause.{Cause}
 
 abbrev all_sound : List ℕ → List Visit → Bool
@@ -36,7 +36,7 @@ pub run_of-null : (tag : ℕ) (p : List ℕ) → run_of tag p 0 ≡ Ok []
 unfolding run_of
 run_of-null tag p = refl
 
-found-one : {A : Type 0} (f : A → Plain) (r : Result A Cause) → is_some (from_answer (λ x. Some (f x)) r) ≡ (is_none (cause_of r) && true)
+found-one : {A : Type 0} (f : A → Plain) (r : Result A Cause) → is_some (from_answer (λ x. Some (f x)) r) ≡ (is_none (result_err r) && true)
 found-one f (Ok x) = refl
 found-one f (Err c) = refl
 
@@ -53,7 +53,7 @@ found-each p f g h [] = refl
 found-each p f g h (w ∷ ws) =
     is_some-then_more (f w) (each_plain f ws) ∙ ap (λ b. b && is_some (each_plain f ws)) (h w) ∙ ap (λ b. all_sound p (g w) && b) (found-each p f g h ws) ∙ sym (all_sound-append p (g w) (each_visit g ws))
 
-found-entries : (p : List ℕ) (f : Plains → Plain) (g : List ℕ → Option Plains) (h : List ℕ → List Visit) → ((ws : List ℕ) → is_some (g ws) ≡ all_sound p (h ws)) → h [] ≡ [] → (r : Result (List ℕ) Cause) → is_some (from_answer (λ ws. option_map f (g ws)) r) ≡ (is_none (cause_of r) && all_sound p (h (or_empty r)))
+found-entries : (p : List ℕ) (f : Plains → Plain) (g : List ℕ → Option Plains) (h : List ℕ → List Visit) → ((ws : List ℕ) → is_some (g ws) ≡ all_sound p (h ws)) → h [] ≡ [] → (r : Result (List ℕ) Cause) → is_some (from_answer (λ ws. option_map f (g ws)) r) ≡ (is_none (result_err r) && all_sound p (h (or_empty r)))
 found-entries p f g h e z (Ok ws) = is_some-map f (g ws) ∙ e ws
 found-entries p f g h e z (Err c) = refl
 

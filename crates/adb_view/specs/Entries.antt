@@ -4,6 +4,7 @@ use Rattle.adb_view.specs.Bytes.{words}
 use Rattle.adb_view.specs.declared.run.Arr.{Arr}
 use Rattle.adb_view.specs.declared.run.Obj.{Obj}
 
+-- the words of an array that was read
 abbrev pub array_entries : Arr → List ℕ
 array_entries array = words (length array.bytes.now / 4) array.bytes.now
 

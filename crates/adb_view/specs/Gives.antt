@@ -2,6 +2,7 @@
 use Rattle.std.specs.Prelude.{◌≡◌, Result, Ok, Err, Option, Some, None}
 use Rattle.base_core.specs.declared.cause.Cause.{Cause}
 
+-- the answer is a value's view, or the same cause
 abbrev pub Gives : {X Y : Type 0} → (X → Y) → Result X Cause → Result Y Cause → Type 0
 Gives view (Ok x) answer = answer ≡ Ok (view x)
 Gives view (Err c) answer = answer ≡ Err c
@@ -10,13 +11,3 @@ Gives view (Err c) answer = answer ≡ Err c
 abbrev pub Finds : {X Y : Type 0} → (X → Y) → Option X → Option Y → Type 0
 Finds view (Some x) answer = answer ≡ Some (view x)
 Finds view None answer = answer ≡ None
-
--- the cause of a refusal, if the answer is one
-abbrev pub cause_of : {A : Type 0} → Result A Cause → Option Cause
-cause_of (Ok x) = None
-cause_of (Err c) = Some c
-
--- what was read, where the answer is no refusal
-abbrev pub read_of : {A : Type 0} → Result A Cause → Option A
-read_of (Ok x) = Some x
-read_of (Err c) = None

@@ -3,10 +3,10 @@ pub mod Bytes
 pub mod Readers
 pub mod Head
 pub mod Plain
-pub mod Gives
 pub mod Visits
 -- what only inner contracts and proofs use
 pub mod Adb
+pub mod Gives
 pub mod Entries
 pub mod Width
 pub mod Shaped

@@ -31,14 +31,17 @@ mutual
 
 -- ---- an empty blob or array, and an object without a value, are Null
 
+-- some bytes as a value; no bytes are Null
 abbrev pub blob_value : List ℕ → Plain
 blob_value [] = null
 blob_value (b ∷ bs) = blob (b ∷ bs)
 
+-- some values as an array; none are Null
 abbrev pub arr_value : Plains → Plain
 arr_value none = null
 arr_value (more v vs) = arr (more v vs)
 
+-- some values as an object; none are Null
 abbrev pub obj_of : Plains → Plain
 obj_of none = null
 obj_of (more v vs) = obj (more v vs)
@@ -57,9 +60,11 @@ abbrev pub without_last_nulls : Plains → Plains
 without_last_nulls none = none
 without_last_nulls (more v vs) = keep v (without_last_nulls vs)
 
+-- some values as an object, without the Nulls at its end
 abbrev pub obj_value : Plains → Plain
 obj_value vs = obj_of (without_last_nulls vs)
 
+-- how many values there are
 abbrev pub count_of : Plains → ℕ
 count_of none = 0
 count_of (more v vs) = suc (count_of vs)
@@ -75,13 +80,16 @@ text_plains (t ∷ ts) = more (blob_value t) (text_plains ts)
 abbrev pub unless_null : ℕ → Option Plain → Option Plain
 unless_null word v = if word == 0 then Some null else v
 
+-- what is made of an answer; nothing of a cause
 abbrev pub from_answer : {A B : Type 0} → (A → Option B) → Result A Cause → Option B
 from_answer f (Ok x) = f x
 from_answer f (Err c) = None
 
+-- a value before others, where both were found
 abbrev pub then_more : Option Plain → Option Plains → Option Plains
 then_more v vs = option_and_then (λ v. option_map (more v) vs) v
 
+-- the value of each word in order, where each has one
 abbrev pub each_plain : (ℕ → Option Plain) → List ℕ → Option Plains
 each_plain f [] = Some none
 each_plain f (w ∷ ws) = then_more (f w) (each_plain f ws)

@@ -46,6 +46,7 @@ abbrev pub counted_words : List ℕ → ℕ → ℕ → Option (List ℕ)
 counted_words payload at zero = None
 counted_words payload at (suc n) = option_map (words n) (range_at payload (at + 4) (4 * n))
 
+-- the words of a list at this place: how many they are stands first
 abbrev pub run_at : List ℕ → ℕ → Option (List ℕ)
 run_at payload at = option_and_then (counted_words payload at) (number_at w32 payload at)
 
@@ -56,8 +57,10 @@ run_of kind payload word =
     else if kind_of word == kind then inside word (run_at payload (low_of word))
     else Err (WrongKind word)
 
+-- the kind of a word that is an array
 abbrev pub ARRAY : ℕ
 ARRAY = 13
 
+-- the kind of a word that is an object
 abbrev pub OBJECT : ℕ
 OBJECT = 14

@@ -6,6 +6,7 @@ abbrev pub Each : (Plain → Type 0) → Plains → Type 0
 Each P none = Unit {0}
 Each P (more v vs) = P v × Each P vs
 
+-- an integer, or Null
 abbrev pub IsNumber : Plain → Type 0
 IsNumber null = Unit {0}
 IsNumber (int n) = Unit {0}
@@ -13,6 +14,7 @@ IsNumber (blob b) = ⊥
 IsNumber (arr vs) = ⊥
 IsNumber (obj vs) = ⊥
 
+-- some bytes, or Null
 abbrev pub IsBlob : Plain → Type 0
 IsBlob null = Unit {0}
 IsBlob (int n) = ⊥
@@ -20,6 +22,7 @@ IsBlob (blob b) = Unit {0}
 IsBlob (arr vs) = ⊥
 IsBlob (obj vs) = ⊥
 
+-- an array of which P holds of each entry, or Null
 abbrev pub IsArrayOf : (Plain → Type 0) → Plain → Type 0
 IsArrayOf P null = Unit {0}
 IsArrayOf P (int n) = ⊥
@@ -27,6 +30,7 @@ IsArrayOf P (blob b) = ⊥
 IsArrayOf P (arr vs) = Each P vs
 IsArrayOf P (obj vs) = ⊥
 
+-- an object of whose values P holds, or Null
 abbrev pub IsObjectOf : (Plains → Type 0) → Plain → Type 0
 IsObjectOf P null = Unit {0}
 IsObjectOf P (int n) = ⊥

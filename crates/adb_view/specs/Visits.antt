@@ -1,10 +1,11 @@
 -- The words that a walk over a value visits, and whether each can be read.
 use Rattle.std.specs.Prelude.{ℕ, Bool, is_none, List, [], ◌∷◌, ◌++◌, Option, Result, Ok, Err}
+use Rattle.std.specs.Result.{result_err}
 use Rattle.adb_view.specs.Plain.{Shape, number, text, hash, array, object, Fields, no_fields, field}
 use Rattle.adb_view.specs.Readers.{int_of, blob_of, run_of, ARRAY, OBJECT}
-use Rattle.adb_view.specs.Gives.{cause_of}
 use Rattle.base_core.specs.declared.cause.Cause.{Cause}
 
+-- a word, and the shape that is asked of it
 pub record Visit : Type 0 where
   pub shape : Shape
   pub word : ℕ
@@ -14,6 +15,7 @@ abbrev pub or_empty : Result (List ℕ) Cause → List ℕ
 or_empty (Ok ws) = ws
 or_empty (Err c) = []
 
+-- the visits of each word in order
 abbrev pub each_visit : (ℕ → List Visit) → List ℕ → List Visit
 each_visit f [] = []
 each_visit f (w ∷ ws) = f w ++ each_visit f ws
@@ -40,11 +42,12 @@ MOST_VALUES = 4194304
 
 -- why the reader of this shape refuses the word, if it does
 abbrev pub fault_at : List ℕ → Shape → ℕ → Option Cause
-fault_at p number w = cause_of (int_of p w)
-fault_at p text w = cause_of (blob_of p w)
-fault_at p hash w = cause_of (blob_of p w)
-fault_at p (array s) w = cause_of (run_of ARRAY p w)
-fault_at p (object schema fs) w = cause_of (run_of OBJECT p w)
+fault_at p number w = result_err (int_of p w)
+fault_at p text w = result_err (blob_of p w)
+fault_at p hash w = result_err (blob_of p w)
+fault_at p (array s) w = result_err (run_of ARRAY p w)
+fault_at p (object schema fs) w = result_err (run_of OBJECT p w)
 
+-- whether the reader of its shape takes the word
 abbrev pub is_sound_visit : List ℕ → Visit → Bool
 is_sound_visit p v = is_none (fault_at p v.shape v.word)

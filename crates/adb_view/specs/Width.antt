@@ -4,6 +4,7 @@ use Rattle.std.specs.Int as I
 use Rattle.adb_view.specs.declared.words.Width.{Width}
 use Rattle.adb_view.specs.declared.words.Width.TheVariants.{One, Two, Four, Eight}
 
+-- the width in the standard library's terms
 abbrev pub width_of : Width → I.Width
 width_of One = w8
 width_of Two = w16

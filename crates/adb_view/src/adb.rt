@@ -1,9 +1,11 @@
-//! An opened payload and its four readers, and what follows from the definitions, for every payload.
+//! An opened payload and its four readers, and what follows from the definitions, for every
+//! payload.
 
 ghost use Rattle.std.specs.Prelude.{◌≡◌, ◌≤◌, length, slice_range, IfOk, ◌<◌, ℕ, List, All, IfSome, is_some};
+ghost use Rattle.std.specs.Result.{result_err, result_ok};
 ghost use Rattle.adb_view.specs.Head.{head_fault, root_of};
 ghost use Rattle.adb_view.specs.Readers.{int_of, blob_of, run_of, ARRAY, OBJECT};
-ghost use Rattle.adb_view.specs.Gives.{Finds, Gives, cause_of, read_of};
+ghost use Rattle.adb_view.specs.Gives.{Finds, Gives};
 ghost use Rattle.std.specs.List.{list_all};
 ghost use Rattle.adb_view.specs.Plain.{Shape, Fields, plain_of, plains_of, IsNormal};
 ghost use Rattle.adb_view.specs.Shaped.{HasShape, HaveShapes};
@@ -34,7 +36,7 @@ impl<'a> Adb<'a> {
     /// `Truncated` at 0 where there are fewer than 8 bytes, else `CompatVersion` where the first is
     /// not 0.
     pub fn new(payload: &'a [u8]) -> Result<Adb<'a>, Cause>
-        ensures exact { cause_of result ≡ head_fault payload.now }
+        ensures exact { result_err result ≡ head_fault payload.now }
         ensures lent { IfOk result (λ adb. payload_of adb ≡ payload.now) }
     {
         if payload.len() < HEAD {
@@ -150,7 +152,7 @@ impl<'a> Adb<'a> {
     /// that may answer one moves at each call.
     #[tactic(auto, unfolding(crate::specs::Readers::int_of))]
     pub fn find_int(&self, v: Val) -> Option<u64>
-        ensures { result ≡ read_of (int_of (payload_of self.now) v) }
+        ensures { result ≡ result_ok (int_of (payload_of self.now) v) }
     {
         if v.is_null() {
             return Some(0);
@@ -166,7 +168,7 @@ impl<'a> Adb<'a> {
     /// The bytes that `blob` reads; none where it refuses.
     #[tactic(auto, unfolding(crate::specs::Readers::blob_of))]
     pub fn find_blob(&self, v: Val) -> Option<&'a [u8]>
-        ensures { Finds (λ bytes. bytes.now) result (read_of (blob_of (payload_of self.now) v)) }
+        ensures { Finds (λ bytes. bytes.now) result (result_ok (blob_of (payload_of self.now) v)) }
     {
         if v.is_null() {
             return Some(&[]);
@@ -183,14 +185,14 @@ impl<'a> Adb<'a> {
 
     /// The array that `arr` reads; none where it refuses.
     pub fn find_arr(&self, v: Val) -> Option<Arr<'a>>
-        ensures { Finds array_entries result (read_of (run_of ARRAY (payload_of self.now) v)) }
+        ensures { Finds array_entries result (result_ok (run_of ARRAY (payload_of self.now) v)) }
     {
         Arr::find(self.payload, kind::ARRAY, v)
     }
 
     /// The entries of the object that `obj` reads; none where it refuses.
     pub fn find_entries(&self, v: Val) -> Option<Arr<'a>>
-        ensures { Finds array_entries result (read_of (run_of OBJECT (payload_of self.now) v)) }
+        ensures { Finds array_entries result (result_ok (run_of OBJECT (payload_of self.now) v)) }
     {
         Arr::find(self.payload, kind::OBJECT, v)
     }

@@ -1,8 +1,9 @@
 //! Runs of words: the entries of an array, and of an object.
 
 ghost use Rattle.std.specs.Prelude.{◌≡◌, ◌≤◌, ◌<◌, ◌-◌, ◌*◌, ◌^◌, ◌==◌, length};
+ghost use Rattle.std.specs.Result.{result_ok};
 ghost use Rattle.adb_view.specs.Readers.{run_of};
-ghost use Rattle.adb_view.specs.Gives.{Finds, Gives, read_of};
+ghost use Rattle.adb_view.specs.Gives.{Finds, Gives};
 
 use crate::words::{Val, run, word_at};
 use base_core::Cause;
@@ -39,7 +40,7 @@ impl<'a> Arr<'a> {
     /// The same, and none where it is refused.
     #[tactic(auto, unfolding(crate::specs::Readers::run_of, crate::specs::Bytes::words))]
     pub(crate) fn find(payload: &'a [u8], kind: u32, v: Val) -> Option<Arr<'a>>
-        ensures { Finds array_entries result (read_of (run_of kind payload.now v)) }
+        ensures { Finds array_entries result (result_ok (run_of kind payload.now v)) }
     {
         if v.is_null() {
             return Some(Arr { bytes: &[] });

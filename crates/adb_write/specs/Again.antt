@@ -20,6 +20,7 @@ len_by kind front =
     if kind == 10 then 4 + from_le_bytes w32 front else
     4 * from_le_bytes w32 front
 
+-- an item whose first bytes tell how many it has
 pub record TellsItsLength (i : Item) : Type 0 where
   pub some : 0 < length i.bytes
   pub long : front_len i.kind ≤ length i.bytes

@@ -66,6 +66,7 @@ abbrev pub keep_word : ℕ → List ℕ → List ℕ
 keep_word w (v ∷ vs) = w ∷ v ∷ vs
 keep_word w [] = if w == 0 then [] else w ∷ []
 
+-- words without the NULLs that stand last
 abbrev pub trimmed_words : List ℕ → List ℕ
 trimmed_words [] = []
 trimmed_words (w ∷ ws) = keep_word w (trimmed_words ws)
@@ -85,6 +86,7 @@ pub record Layout : Type 0 where
   pub items : List WrittenItem
   pub values : ℕ
 
+-- nothing but a root
 abbrev pub empty_layout : Layout
 empty_layout = record { body = []; items = []; values = 1 }
 
@@ -121,13 +123,16 @@ put_unless None i out = put_new i out
 put_unless (Some there) i out =
     (word_of_item there, record out { values = out.values + i.entries })
 
+-- the word of an item, which is written unless an equal one is
 abbrev pub put_item : Item → Layout → ℕ × Layout
 put_item i out = put_unless (find (is_equal_item out.body i) out.items) i out
 
+-- the word of a value, and what was written with it
 abbrev pub put_cell : Cell → Layout → ℕ × Layout
 put_cell (in_place w) out = (w, out)
 put_cell (apart i) out = put_item i out
 
+-- the word of an array or an object of these words
 abbrev pub put_run : ℕ → List ℕ → Layout → ℕ × Layout
 put_run kind ws out = put_cell (run_cell kind ws) out
 
@@ -155,6 +160,7 @@ canonical v = payload_with_root (write v empty_layout).0 (write v empty_layout).
 
 -- ---- limits
 
+-- how many bytes a payload may have: offsets have 28 bits
 abbrev pub MOST_BYTES : ℕ
 MOST_BYTES = 268435455
 
@@ -162,9 +168,11 @@ MOST_BYTES = 268435455
 abbrev pub PayloadCounts : Type 0
 PayloadCounts = ℕ × ℕ
 
+-- the counts of a layout
 abbrev pub layout_counts : Layout → PayloadCounts
 layout_counts out = (end_offset out, out.values)
 
+-- whether one of the counts is above its limit
 abbrev pub passes : PayloadCounts → Bool
 passes c = nat_lt MOST_BYTES c.0 || nat_lt MOST_VALUES c.1
 
@@ -185,6 +193,7 @@ unfoldable mutual
 abbrev pub overflow_of : Plain → Option PayloadCounts
 overflow_of v = find passes (trace v empty_layout)
 
+-- the payload, or the counts at which it overflows
 abbrev pub or_overflow : List ℕ → Option PayloadCounts → Result (List ℕ) PayloadCounts
 or_overflow payload None = Ok payload
 or_overflow payload (Some counts) = Err counts

@@ -29,6 +29,7 @@ content_bytes (Int n) = []
 content_bytes (Blob b) = b.now
 content_bytes (Listed kind ws) = flat_map (to_le_bytes w32) ws.now
 
+-- the item of some parts
 abbrev pub item_of : Parts → Item
 item_of (Int n) = int_item n
 item_of (Blob b) = blob_item b.now

@@ -21,9 +21,11 @@ content_of (Int n) = n ∷ []
 content_of (Blob b) = b.now
 content_of (Listed kind ws) = reverse (low_words ws.now)
 
+-- the kind of an item, and what it holds
 abbrev pub content_key_of : Parts → List ℕ
 content_key_of parts = (item_of parts).kind ∷ content_of parts
 
+-- the list of an integer that was read
 abbrev pub single_or_empty : Result ℕ Cause → List ℕ
 single_or_empty (Ok n) = n ∷ []
 single_or_empty (Err c) = []
@@ -35,11 +37,13 @@ content_at kind payload word =
     else if nat_lt kind 13 then or_empty (blob_of payload word)
     else reverse (or_empty (run_of kind payload word))
 
+-- the kind of the item at a word, and what it holds
 abbrev pub content_key_at : List ℕ → ℕ → List ℕ
 content_key_at payload word = kind_of word ∷ content_at (kind_of word) payload word
 
 -- ---- the fingerprint of an item: most items are told apart by it, so that no payload is read
 
+-- the number in four bytes, the lowest first; bytes behind the end count as 0
 abbrev pub four_bytes : List ℕ → ℕ → ℕ
 four_bytes bytes i =
     get_or bytes i 0 + get_or bytes (i + 1) 0 * 2 ^ 8
@@ -53,6 +57,7 @@ blob_fingerprint b = (four_bytes b 0 + 31 * four_bytes b (length b - 4) + length
 abbrev pub list_fingerprint : List ℕ → ℕ
 list_fingerprint words = get_or words (length words - 1) 0
 
+-- the fingerprint of the item of some parts
 abbrev pub fingerprint_of : Parts → ℕ
 fingerprint_of (Int n) = n % 2 ^ 32
 fingerprint_of (Blob b) = blob_fingerprint b.now
@@ -60,12 +65,15 @@ fingerprint_of (Listed kind ws) = list_fingerprint (low_words ws.now)
 
 -- ---- locators: an item's fingerprint, and the word that leads to it in the 32 bits below
 
+-- the locator with this fingerprint and this word
 abbrev pub locator_of : ℕ → ℕ → ℕ
 locator_of fingerprint word = fingerprint * 2 ^ 32 + word
 
+-- the word of a locator
 abbrev pub word_of_locator : ℕ → ℕ
 word_of_locator locator = locator % 2 ^ 32
 
+-- the fingerprint of a locator
 abbrev pub fingerprint_of_locator : ℕ → ℕ
 fingerprint_of_locator locator = locator / 2 ^ 32
 
@@ -75,6 +83,7 @@ fingerprint_of_locator locator = locator / 2 ^ 32
 abbrev pub key_with : ℕ → Parts → List ℕ
 key_with fingerprint parts = fingerprint ∷ content_key_of parts
 
+-- the key of the item of some parts
 abbrev pub key_of : Parts → List ℕ
 key_of parts = key_with (fingerprint_of parts) parts
 

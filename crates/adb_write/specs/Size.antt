@@ -4,6 +4,7 @@ use Rattle.std.specs.Prelude.{ℕ, ◌+◌, length}
 use Rattle.adb_view.specs.Plain.{Plain, null, int, blob, arr, obj, Plains, none, more, count_of}
 use Rattle.adb_write.specs.Canonical.{Layout, canonical}
 
+-- how many bytes the payload of a value has
 abbrev pub size_of : Plain → ℕ
 size_of v = length (canonical v)
 
@@ -19,6 +20,7 @@ unfoldable mutual
   entries_of_all none = 0
   entries_of_all (more v vs) = entries_of v + entries_of_all vs
 
+-- how many values there are with a value and all below it
 abbrev pub value_count : Plain → ℕ
 value_count v = 1 + entries_of v
 

@@ -19,6 +19,7 @@ words_before [] k index = []
 words_before (page ∷ pages) zero index = take index page
 words_before (page ∷ pages) (suc k) index = page ++ words_before pages k index
 
+-- the locators from an index of the page at k on
 abbrev pub words_behind : List (List ℕ) → ℕ → ℕ → List ℕ
 words_behind [] k index = []
 words_behind (page ∷ pages) zero index = drop index page ++ concat pages

@@ -18,16 +18,19 @@ HasHead payload = (payload ≡ []) ⊎ (take 8 payload ≡ replicate 8 0)
 
 -- ---- what a locator of the pages names
 
+-- what a locator leads to
 pub data Stored : Type 0 where
   stored_int : ℕ → Stored
   stored_blob : List ℕ → Stored
   stored_list : ListKind → List ℕ → Stored
 
+-- the item that is stored
 abbrev pub item_of_stored : Stored → Item
 item_of_stored (stored_int n) = int_item n
 item_of_stored (stored_blob b) = blob_item b
 item_of_stored (stored_list kind ws) = run_item (list_kind kind) ws
 
+-- the fingerprint of the item that is stored
 abbrev pub fingerprint_of_stored : Stored → ℕ
 fingerprint_of_stored (stored_int n) = n % 2 ^ 32
 fingerprint_of_stored (stored_blob b) = blob_fingerprint b
@@ -53,23 +56,27 @@ pub record IsStored (payload : List ℕ) (locator : ℕ) : Type 0 where
   pub fingerprint : fingerprint_of_locator locator ≡ fingerprint_of_stored what
   pub stored : IsStoredAt payload what (word_of_locator locator)
 
+-- each locator names an item in the payload
 abbrev pub AreStored : List ℕ → List ℕ → Type 0
 AreStored payload locators = AllByRecursion (IsStored payload) locators
 
 -- ---- the items as contracts see them: the latest first, which stands behind the others
 
+-- the written item that a locator names
 abbrev pub written_item : ℕ → WrittenItem
 written_item locator = record {
   kind = kind_of (word_of_locator locator);
   offset = low_of (word_of_locator locator) - 8;
 }
 
+-- an item among others, the latest first
 abbrev pub with_item : WrittenItem → List WrittenItem → List WrittenItem
 with_item item [] = item ∷ []
 with_item item (other ∷ others) =
     if nat_lt other.offset item.offset then item ∷ other ∷ others
     else other ∷ with_item item others
 
+-- the items that locators name, the latest first
 abbrev pub items_of_locators : List ℕ → List WrittenItem
 items_of_locators [] = []
 items_of_locators (locator ∷ locators) =
@@ -77,6 +84,8 @@ items_of_locators (locator ∷ locators) =
 
 -- ---- the writer
 
+-- the pages name the items of the payload in the order of their keys, and the counts are its own
+-- unless a limit was passed
 pub record IsWriterState (payload : List ℕ) (pages : List (List ℕ))
     (bytes values : ℕ) : Type 0 where
   pub head : HasHead payload

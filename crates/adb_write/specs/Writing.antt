@@ -17,9 +17,11 @@ abbrev pub writing_by : List ℕ → List WrittenItem → ℕ → ℕ → Writin
 writing_by body items bytes values =
     record { body = body; items = items; bytes = bytes; values = values }
 
+-- nothing is written: eight bytes, and the root as the only value
 abbrev pub empty_writing : Writing
 empty_writing = writing_by [] [] 8 1
 
+-- the two counts of a writer
 abbrev pub writing_counts : Writing → PayloadCounts
 writing_counts w = (w.bytes, w.values)
 
@@ -27,9 +29,11 @@ writing_counts w = (w.bytes, w.values)
 abbrev pub is_over : Writing → Bool
 is_over w = passes (writing_counts w)
 
+-- what was written, as a layout
 abbrev pub layout_of : Writing → Layout
 layout_of w = record { body = w.body; items = w.items; values = w.values }
 
+-- the writer of a layout, which passed no limit
 abbrev pub writing_of : Layout → Writing
 writing_of out = writing_by out.body out.items (layout_counts out).0 (layout_counts out).1
 
@@ -54,12 +58,15 @@ Grows before later = length before.body < length later.body
 abbrev pub int_call : ℕ → Writing → ℕ × Writing
 int_call n w = call (int_cell n) w
 
+-- the call for some bytes
 abbrev pub blob_call : List ℕ → Writing → ℕ × Writing
 blob_call b w = call (blob_cell b) w
 
+-- the call for an array of these words
 abbrev pub arr_call : List ℕ → Writing → ℕ × Writing
 arr_call ws w = call (run_cell ARRAY ws) w
 
+-- the call for an object of these words
 abbrev pub obj_call : List ℕ → Writing → ℕ × Writing
 obj_call ws w = call (run_cell OBJECT (trimmed_words ws)) w
 

@@ -3,8 +3,8 @@
 //! They stand in pages of at most 512, so that a new one moves few others. A page, and the index in
 //! it, are guessed first, and found by halving where the guess fails.
 //!
-//! One takes eight bytes. A page has room for at most 128 more than it holds, and with the others it
-//! holds at least 256; the lists of pages take at most 64 bytes a page, since a list that grows
+//! One takes eight bytes. A page has room for at most 128 more than it holds, and with the others
+//! it holds at least 256; the lists of pages take at most 64 bytes a page, since a list that grows
 //! doubles. So a page takes at most 8 * 128 + 64 bytes beside its locators, which is 4.25 bytes for
 //! each of 256: at most 12.25 bytes a locator, and 1.2 kB where there is one page.
 
@@ -103,7 +103,8 @@ impl WordPages {
             .saturating_sub(1)
     }
 
-    /// Whether the page does not begin behind the item, and the one behind it does, if there is one.
+    /// Whether the page does not begin behind the item, and the one behind it does, if there is
+    /// one.
     fn is_page_of(&self, page: usize, adb: &Adb<'_>, parts: &Parts<'_>, fingerprint: u64) -> bool
         ensures { OnTrue result (IsPageAt (payload_of adb.now) (pages_of self.now)
             (key_with fingerprint parts.now) page) }

@@ -20,6 +20,7 @@ const NO_MEMORY: u8 = 4;
 /// The status of a run that has too many words.
 const TOO_MANY_WORDS: u8 = 5;
 
+/// Runs the command line over the folder that the program is in, and ends with the answer's status.
 fn main(rt: HostRuntime) -> ExitCode {
     let words = match words_of(&rt, rt.alloc()) {
         Ok(words) => words,
@@ -42,6 +43,7 @@ fn main(rt: HostRuntime) -> ExitCode {
     ExitCode::from(status(&answer))
 }
 
+/// Ends where not even the words found memory.
 fn out_of_memory(rt: &HostRuntime) -> ExitCode {
     let _ = rt.stderr().write_all(b"ERROR: out of memory\n");
     ExitCode::from(NO_MEMORY)

@@ -70,12 +70,14 @@ pub struct HostSink<W: Write + Drop> {
 }
 
 impl<W: Write + Drop> HostSink<W> {
+    /// A sink that has not failed yet.
     pub fn new(inner: W) -> HostSink<W>
         ensures { result.faults ≡ 0 }
     {
         HostSink { inner, faults: 0 }
     }
 
+    /// Counts a fault; the count stays at its largest value.
     fn fault(&mut self) -> SinkFault
         ensures faults { self.new.faults ≡ next_count self.old.faults }
         ensures later { self.old.faults ≤ self.new.faults }
@@ -90,6 +92,7 @@ impl<W: Write + Drop> Sink for HostSink<W> {
 
     ghost counts = { λ sink. host_counts sink.faults };
 
+    /// Writes as many bytes as the stream takes at once. No bytes are no call of the host.
     fn write(&mut self, piece: &[u8]) -> Result<usize, SinkFault> {
         if piece.is_empty() {
             return Ok(0);

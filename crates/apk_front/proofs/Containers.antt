@@ -30,7 +30,7 @@ use Rattle.command_core.specs.Files.{without_dot}
 use Rattle.command_core.specs.declared.values.OptionValue.{OptionValue}
 use Rattle.apk_front.specs.Moments.{HasRoomFor}
 use Rattle.apk_front.specs.Runs.{IsRun}
-use Rattle.apk_front.specs.Containers.{IsIndexMade, IsIndexFound, IsIndexOutcome, IsPackageMade, IsPackageFound, IsPackageOutcome, OnMade, is_cut, is_cut_off, made_in}
+use Rattle.apk_front.specs.Containers.{IsIndexMade, IsIndexFound, IsIndexOutcome, IsPackageMade, IsPackageOutcome, OnMade, is_cut, is_cut_off, made_in}
 use Rattle.apk_front.specs.Verdicts.{Reports, ReportsOne, as_outcome}
 use Rattle.apk_front.specs.declared.answer.Verdict.{Verdict}
 use Rattle.apk_front.proofs.Packages.{HaveListing, made_allowed, package_here}
@@ -83,9 +83,9 @@ package_made law command container old ok err =
     (λ v m. weaker container (IsMadeIn command v) (IsPackageMade command (files_of v)) (λ made. package_here law command v made) m)
     (means_at container old (IsMadeIn command) ok err)
 
-pub package_found : (command : CommandLine) (container : Container) → IfOk container (λ file. IsMadeBySome command (Ok file.items)) → IfErr container (λ why. OnRefusal why (IsMadeBySome command)) → OnMade container (IsPackageFound command)
+pub package_found : (command : CommandLine) (container : Container) → IfOk container (λ file. IsMadeBySome command (Ok file.items)) → IfErr container (λ why. OnRefusal why (IsMadeBySome command)) → OnMade container (IsMadeBySome command)
 package_found command container ok err =
-    weaker container (IsMadeBySome command) (IsPackageFound command) (λ made m. record { names = m.names; named = m.named; read = m.read; is = m.is }) (means container (IsMadeBySome command) ok err)
+    weaker container (IsMadeBySome command) (IsMadeBySome command) (λ made m. m) (means container (IsMadeBySome command) ok err)
 
 made_means : (container : Container) (answer : Result (List ℕ) MakeFault) → IsMadeBy (λ (file : Vec ℕ Global). file.items) container answer → OnMade container (λ made. answer ≡ made)
 made_means (Ok file) answer h = h
@@ -107,7 +107,7 @@ index_found command container (read, files, m) =
 
 -- ---- there is an output
 
-pub package_output : (command : CommandLine) (container : Container) → OnMade container (IsPackageFound command) → (is_ok (information command) ≡ true → IsSome (output_name command)) → IfOk container (λ file. IsSome (output_name command))
+pub package_output : (command : CommandLine) (container : Container) → OnMade container (IsMadeBySome command) → (is_ok (information command) ≡ true → IsSome (output_name command)) → IfOk container (λ file. IsSome (output_name command))
 package_output command (Ok file) found there = there (made_allowed command found.names found.read file.items found.is)
 package_output command (Err why) found there = tt
 
@@ -232,12 +232,12 @@ package_outcomes one command report none = record {
       ∙ ap (make_outcome (files_of v) (output_name command) report) m.is;
 }
 
-pub package_read : (command : CommandLine) (report : List ℕ) (container : Container) (judged : Judged) → report ≡ [] → OnMade container (IsPackageFound command) → IfOk judged (λ verdict. is_cut_off container ≡ false)
+pub package_read : (command : CommandLine) (report : List ℕ) (container : Container) (judged : Judged) → report ≡ [] → OnMade container (IsMadeBySome command) → IfOk judged (λ verdict. is_cut_off container ≡ false)
     → IfOk judged (λ verdict. (files : Files) → Reports verdict (make_outcome files (output_name command) report (made_in container)))
     → IfOk judged (λ verdict. (names : List (List ℕ)) × AreNamesFor (values_with FILES command.values) names × (read : Reads) × Reports verdict (mkpkg read no_names command names))
 package_read command report container (Err e) none found whole reports = tt
 package_read command report container (Ok verdict) none found whole reports =
-    let m = meant container (IsPackageFound command) whole found in
+    let m = meant container (IsMadeBySome command) whole found in
     let same : make_outcome no_names (output_name command) report (made_in container) ≡ mkpkg m.read no_names command m.names =
     ap (λ r. make_outcome no_names (output_name command) r (made_in container)) none ∙ ap (make_outcome no_names (output_name command) []) (sym m.is) in
     (m.names, m.named, m.read, subst (Reports verdict) same (reports no_names))

@@ -12,7 +12,6 @@ use Rattle.adb_block.specs.Standing.{Standing, start_of}
 use Rattle.adb_dump.specs.Dump.{dump_text}
 use Rattle.adb_tables.specs.Shaped.{adb_of, shaped_value, table_of}
 use Rattle.adb_schema.specs.Soundness.{root_value, schema_word}
-use Rattle.adb_tables.specs.Walk.{or_else}
 use Rattle.adb_tables.specs.declared.shaped.Shaped.{Shaped}
 use Rattle.adb_schema.specs.declared.read.ReadFault.{ReadFault}
 use Rattle.adb_schema.specs.declared.read.ReadFault.TheVariants.{Bad}
@@ -20,7 +19,7 @@ use Rattle.adb_schema.specs.declared.read.TheConstants.{PACKAGE_WORD, INDEX_WORD
 use Rattle.adb_tables.specs.declared.tables.Which.{Which}
 use Rattle.adb_tables.specs.declared.tables.Which.TheVariants.{Package, Index, Idb, Intent}
 use Rattle.adb_view.specs.Adb.{payload_of}
-use Rattle.std.specs.Option.{option_map}
+use Rattle.std.specs.Option.{option_map, option_or}
 use Rattle.command_core.specs.Named.{operand_file}
 use Rattle.make_info.specs.Reads.{Reads}
 use Rattle.outcome.specs.Commands.{reads_in}
@@ -42,21 +41,21 @@ text_of_shaped which (fault c) later shaped text first framed table is = absurd 
 text_of_shaped which (more b at r) later shaped text first framed table is =
     let value : dump_text (table_of shaped) (shaped_value shaped) ≡ dump_text which (root_value which b.payload) =
     ap (λ w. dump_text w (root_value w (payload_of (adb_of shaped)))) table ∙ ap (λ p. dump_text which (root_value which p)) first.0 in
-    let tested : or_else (form_fault which b.payload) (framing_fault r) ≡ None =
-    ap (λ f. or_else f (framing_fault r)) first.1 ∙ (ap framing_fault first.2 ∙ sym framed) in
+    let tested : option_or (form_fault which b.payload) (framing_fault r) ≡ None =
+    ap (λ f. option_or f (framing_fault r)) first.1 ∙ (ap framing_fault first.2 ∙ sym framed) in
     ap (λ f. or_text f (dump_text which (root_value which b.payload))) tested ∙ ap Ok (sym (is ∙ value))
 
 pub first_block_bad : (which : Which) (r : Reading) (c : Cause) → first_form_fault which r ≡ Some c → dump_of_blocks which r ≡ Err c
 first_block_bad which done c h = absurd (none-some c h)
 first_block_bad which (fault d) c h = ap (λ f. or_text f (dump_text which (root_value which []))) h
-first_block_bad which (more b at r) c h = ap (λ f. or_text (or_else f (framing_fault r)) (dump_text which (root_value which b.payload))) h
+first_block_bad which (more b at r) c h = ap (λ f. or_text (option_or f (framing_fault r)) (dump_text which (root_value which b.payload))) h
 
 pub later_block_bad : (which : Which) (r later : Reading) (payload : List ℕ) (c : Cause) → IsShapedFirst which payload r later → Some c ≡ framing_fault later → dump_of_blocks which r ≡ Err c
 later_block_bad which done later payload c first framed = absurd first
 later_block_bad which (fault d) later payload c first framed = absurd first
 later_block_bad which (more b at r) later payload c first framed =
-    let tested : or_else (form_fault which b.payload) (framing_fault r) ≡ Some c =
-    ap (λ f. or_else f (framing_fault r)) first.1 ∙ (ap framing_fault first.2 ∙ sym framed) in
+    let tested : option_or (form_fault which b.payload) (framing_fault r) ≡ Some c =
+    ap (λ f. option_or f (framing_fault r)) first.1 ∙ (ap framing_fault first.2 ∙ sym framed) in
     ap (λ f. or_text f (dump_text which (root_value which b.payload))) tested
 
 -- ---- the schema

@@ -15,10 +15,12 @@ use Rattle.apk_front.specs.declared.answer.Answer.TheVariants.{Ok, Refused, Tree
 
 -- ---- the answer of an outcome
 
+-- a command that came to its end is done or refused
 abbrev pub answer_by : Option Refusal → Answer
 answer_by None = Ok
 answer_by (Some refusal) = Refused refusal
 
+-- by an outcome; its bytes and files do not count
 abbrev pub answer_of : Outcome → Answer
 answer_of outcome = answer_by outcome.refusal
 

@@ -15,7 +15,7 @@ use Rattle.make_info.specs.Reads.{Reads}
 use Rattle.make_info.specs.declared.fault.MakeFault.{MakeFault}
 use Rattle.make_info.specs.declared.fault.MakeFault.TheVariants.{Disk, Memory}
 use Rattle.make_package.specs.Making.{made_package}
-use Rattle.make_package.specs.Sources.{AreNamesFor, values_with}
+use Rattle.make_package.specs.Sources.{values_with}
 use Rattle.outcome.specs.Commands.{reads_in}
 use Rattle.outcome.specs.Dump.{form_fault}
 use Rattle.outcome.specs.Make.{IsListing, mkndx, mkpkg}
@@ -54,6 +54,7 @@ is_cut Disk = true
 is_cut Memory = true
 is_cut other = false
 
+-- whether a fault stopped the making, so that no outcome is told
 abbrev pub is_cut_off : Result (Vec ℕ Global) MakeFault → Bool
 is_cut_off (Ok file) = false
 is_cut_off (Err why) = is_cut why
@@ -90,12 +91,7 @@ IsIndexOutcome command files outcome = outcome ≡ mkndx (reads_in files) files 
 
 -- ---- by some names below the folder, and some reads
 
-pub record IsPackageFound (command : CommandLine) (made : Result (List ℕ) MakeFault) : Type 0 where
-  pub names : List (List ℕ)
-  pub named : AreNamesFor (values_with FILES command.values) names
-  pub read : Reads
-  pub is : made_package command names read ≡ made
-
+-- the index that is made of a command by some reads
 pub record IsIndexFound (command : CommandLine) (made : Result (List ℕ) MakeFault) : Type 0 where
   pub read : Reads
   pub files : AreFiles read 0 command.operands

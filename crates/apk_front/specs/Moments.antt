@@ -60,6 +60,7 @@ LeavesRoomFor effect output IsOne files =
     × ((outcome : Outcome) → IsOne outcome → outcome.commits ≡ true
     → HasRoomToWrite effect output (work_files effect files))
 
+-- of a command line
 abbrev pub LeavesRoom : List (List ℕ) → Files → Type 0
 LeavesRoom words files =
     LeavesRoomFor (effect_by (command_of words)) (output words) (IsOutcome words files) files

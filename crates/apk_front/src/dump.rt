@@ -1,10 +1,10 @@
 //! `adbdump`: a container is printed as text.
 ghost use Rattle.std.specs.Prelude.{◌≡◌, None, Ok, IsTrue, IfOk, IfErr, is_some, length};
+ghost use Rattle.std.specs.Result.{result_err};
 ghost use Rattle.adb_block.specs.Reading.{reading_of};
 ghost use Rattle.adb_tables.specs.Shaped.{adb_of, table_of};
 ghost use Rattle.adb_schema.specs.Soundness.{schema_word};
 ghost use Rattle.adb_view.specs.Adb.{payload_of};
-ghost use Rattle.adb_view.specs.Gives.{cause_of};
 ghost use Rattle.apk_front.specs.Containers.{IsDumpFault, IsShapedFirst, first_form_fault};
 ghost use Rattle.apk_front.specs.Verdicts.{as_outcome};
 ghost use Rattle.base_core.specs.Calls.{IfObservable};
@@ -127,7 +127,7 @@ fn shape_first<'a>(blocks: &mut Blocks<'a>, which: Which) -> Result<Shaped<'a>, 
 
 // Tests the head of a payload and its shape.
 fn shape_payload<'a>(payload: &'a [u8], which: Which) -> Result<Shaped<'a>, Cause>
-    ensures exact { cause_of result ≡ form_fault which payload.entry.now }
+    ensures exact { result_err result ≡ form_fault which payload.entry.now }
     ensures table { IfOk result (λ shaped. table_of shaped ≡ which) }
     ensures lent { IfOk result (λ shaped. payload_of (adb_of shaped) ≡ payload.entry.now) }
 {
@@ -137,7 +137,7 @@ fn shape_payload<'a>(payload: &'a [u8], which: Which) -> Result<Shaped<'a>, Caus
 
 // Tests the framing of the blocks behind the first.
 fn check_framing(blocks: &mut Blocks<'_>) -> Result<(), Cause>
-    ensures { cause_of result ≡ framing_fault (reading_of blocks.old) }
+    ensures { result_err result ≡ framing_fault (reading_of blocks.old) }
 {
     while blocks.next()?.is_some() {}
     Ok(())

@@ -1,6 +1,7 @@
 //! `mkpkg` and `mkndx`: a container is made, and stands whole under its name.
 ghost use Rattle.std.specs.Prelude.{◌≡◌, ◌≢◌, ◌⊎◌, ℕ, false, true, List, Ok, Err, IsSome, IfOk, IsErrOf, OnOk};
-ghost use Rattle.apk_front.specs.Containers.{IsIndexMade, IsIndexFound, IsIndexOutcome, IsPackageMade, IsPackageFound, IsPackageOutcome, OnMade, is_cut, is_cut_off, made_in};
+ghost use Rattle.make_package.specs.Answers.{IsMadeBySome};
+ghost use Rattle.apk_front.specs.Containers.{IsIndexMade, IsIndexFound, IsIndexOutcome, IsPackageMade, IsPackageOutcome, OnMade, is_cut, is_cut_off, made_in};
 ghost use Rattle.apk_front.specs.Moments.{HasRoomFor};
 ghost use Rattle.apk_front.specs.Runs.{IsRun};
 ghost use Rattle.apk_front.specs.Verdicts.{Reports, ReportsOne};
@@ -84,6 +85,7 @@ pub(crate) fn mkndx<T: Tree>(
     requires applet { command.now.applet ≡ Mkndx }
     ensures found { IfOk result (λ verdict. IfObservable (T.history tree.old) (λ v.
         ReportsOne (IsIndexOutcome command.now (files_of v)) verdict)) }
+    // Of every tree, for some contents at each read; the files do not count, so none are given.
     ensures by_reads { IfOk result (λ verdict. (read : Reads)
         × AreFiles read 0 command.now.operands
         × Reports verdict (mkndx read no_names command.now)) }
@@ -116,7 +118,7 @@ fn package<T: Tree>(alloc: Global, command: &Command, tree: &mut T) -> Result<Ve
     requires { command.now.applet ≡ Mkpkg }
     ensures made { IfObservable (T.history tree.old) (λ v.
         OnMade result (IsPackageMade command.now (files_of v))) }
-    ensures found { OnMade result (IsPackageFound command.now) }
+    ensures found { OnMade result (IsMadeBySome command.now) }
     ensures tree { OnlyReads MakeFault.Disk (T.history tree.old) (T.history tree.new)
         (T.counts tree.old) (T.counts tree.new) result }
 {

@@ -49,6 +49,7 @@ fn compare(alloc: Global, operands: &Operands) -> Result<Verdict, AllocError>
     Ok(Verdict::reported(Text::of(alloc, line)?))
 }
 
+// How the first version stands to the second.
 fn order_line(order: Ordering) -> &'static [u8]
     ensures { result.now ≡ order_line order }
 {

@@ -41,11 +41,13 @@ AreMembersRead history before (r ∷ reads) [] = ⊥
 AreMembersRead history before (r ∷ reads) (m ∷ found) =
     IsMemberRead history before r m × AreMembersRead history before reads found
 
+-- what contracts see in it: of each member that it stays, or the package that was read
 abbrev pub arrivals_seen : Arrivals → List MemberRead
 arrivals_seen arrivals = arrivals.members.items
 
 -- ---- without their files
 
+-- as a member; none, where the place leads to no package
 abbrev pub member_read : List Plain → MemberRead → Option Member
 member_read before (Stays place) = option_map staying_member (slice_get before place)
 member_read before (Comes pkg) = Some (coming_member (tested_value pkg) (tested_id pkg))
@@ -56,10 +58,12 @@ members_read before reads = filter_map (member_read before) reads
 
 -- ---- as members
 
+-- where it stays, its place is one of the database
 abbrev pub IsPlaced : List Plain → MemberRead → Type 0
 IsPlaced before (Stays place) = place < length before
 IsPlaced before (Comes pkg) = Unit {0}
 
+-- each of several
 abbrev pub ArePlaced : List Plain → List MemberRead → Type 0
 ArePlaced before [] = Unit {0}
 ArePlaced before (r ∷ reads) = IsPlaced before r × ArePlaced before reads

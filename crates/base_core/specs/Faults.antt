@@ -1,6 +1,7 @@
 -- The counts of a tree or a sink: u64 numbers that never fall, and stay at their last value.
 use Rattle.std.specs.Prelude.{◌≡◌, ◌⊎◌, ◌≤◌, ℕ, ◌+◌, ◌-◌, ◌^◌, min, Bool, IsTrue, Result, OnOk, OnErr}
 
+-- what a tree or a sink counts, and whether it may still fail
 pub record Counts : Type 0 where
   -- calls that failed
   pub faults : ℕ

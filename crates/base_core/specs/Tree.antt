@@ -30,9 +30,11 @@ files_of v = files_by v v.names
 
 -- ---- what the calls make of it
 
+-- the files, with this one under its number
 abbrev pub set_file : (ℕ → File) → ℕ → File → ℕ → File
 set_file files n file k = if k == n then file else files k
 
+-- the state with the file of this number changed; without a number it stays
 abbrev pub change_at : (File → File) → TreeState → Option ℕ → TreeState
 change_at change v None = v
 change_at change v (Some n) = record v { files = set_file v.files n (change (v.files n)) }
@@ -41,6 +43,7 @@ change_at change v (Some n) = record v { files = set_file v.files n (change (v.f
 abbrev pub with_names : TreeState → NameMap → TreeState
 with_names v names = record v { names = names; older = v.names ∷ v.older }
 
+-- a new empty file, not synced, stands under the name
 abbrev pub after_create : List ℕ → TreeState → TreeState
 after_create name v = record {
   files = set_file v.files v.made (record { bytes = []; synced = false });
@@ -49,6 +52,7 @@ after_create name v = record {
   older = v.names ∷ v.older;
 }
 
+-- the file has the piece behind its bytes, and is not synced
 abbrev pub after_append : List ℕ → List ℕ → TreeState → TreeState
 after_append name piece v =
     change_at (λ f. record { bytes = f.bytes ++ piece; synced = false }) v (v.names name)
@@ -58,23 +62,29 @@ abbrev pub after_failed_append : List ℕ → TreeState → TreeState
 after_failed_append name v =
     change_at (λ f. record { bytes = f.bytes; synced = false }) v (v.names name)
 
+-- the file under the name is synced
 abbrev pub after_sync : List ℕ → TreeState → TreeState
 after_sync name v = change_at (λ f. record { bytes = f.bytes; synced = true }) v (v.names name)
 
+-- the file of this number stands under the second name, and none under the first
 abbrev pub move_at : List ℕ → List ℕ → TreeState → Option ℕ → TreeState
 move_at from to v None = v
 move_at from to v (Some n) = with_names v (move_name v.names from to n)
 
+-- the file of the first name stands under the second, in place of what stood there
 abbrev pub after_rename : List ℕ → List ℕ → TreeState → TreeState
 after_rename from to v = move_at from to v (v.names from)
 
+-- nothing stands under the name, where it has a file
 abbrev pub remove_at : List ℕ → TreeState → Option ℕ → TreeState
 remove_at name v None = v
 remove_at name v (Some n) = with_names v (drop_name v.names name)
 
+-- nothing stands under the name; its file itself is as it was
 abbrev pub after_remove : List ℕ → TreeState → TreeState
 after_remove name v = remove_at name v (v.names name)
 
+-- no crash undoes a change of names that was made before
 abbrev pub after_sync_names : TreeState → TreeState
 after_sync_names v = record v { older = [] }
 
@@ -84,9 +94,11 @@ same_state v = v
 
 -- ---- where a call is no misuse
 
+-- what a call asks of the state, where it asks nothing
 abbrev pub Anywhere : TreeState → Type 0
 Anywhere v = Unit {0}
 
+-- a file stands under the name
 abbrev pub HasName : List ℕ → TreeState → Type 0
 HasName name v = IsSome (v.names name)
 
@@ -95,10 +107,13 @@ abbrev pub CanRead : List ℕ → ℕ → ℕ → TreeState → Type 0
 CanRead name at len v =
     (bytes : List ℕ) × (files_of v name ≡ Some bytes) × (at + len ≤ length bytes)
 
+-- nothing stands under the name, and no file's name would be a folder of another
 pub record CanCreate (name : List ℕ) (v : TreeState) : Type 0 where
   pub absent : v.names name ≡ None
   pub folders : IsFolderLike (put_name v.names name v.made)
 
+-- a file stands under the first name, the names differ, and no file's name would be a folder of
+-- another
 pub record CanRename (from to : List ℕ) (v : TreeState) : Type 0 where
   pub present : IsSome (v.names from)
   pub apart : from ≢ to
@@ -106,6 +121,7 @@ pub record CanRename (from to : List ℕ) (v : TreeState) : Type 0 where
 
 -- ---- the maps of names
 
+-- one of several maps
 abbrev pub IsAmong : NameMap → List NameMap → Type 0
 IsAmong map [] = ⊥
 IsAmong map (x ∷ xs) = (map ≡ x) ⊎ IsAmong map xs

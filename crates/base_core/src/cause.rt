@@ -21,7 +21,7 @@ pub enum Cause {
     Truncated {
         at: u64,
     },
-    /// The block at this offset has an unknown type, or stands where its type may not.
+    /// The block at this offset has an unknown kind, or stands where its kind may not.
     BlockOrder {
         at: u64,
     },
@@ -43,8 +43,8 @@ pub enum Cause {
     TooLarge {
         count: u32,
     },
-    /// A field's value is outside its grammar. `place` is 100 times the schema's number plus the
-    /// field's number.
+    /// A field's value is outside its grammar. `place` is 100 times the number of its table plus
+    /// the field's number.
     BadText {
         place: u16,
     },

@@ -80,12 +80,14 @@ pub fn is_name(bytes: &[u8]) -> bool
     has_parts(bytes)
 }
 
+/// Whether each part between slashes may stand in a name.
 fn has_parts(bytes: &[u8]) -> bool
     ensures { result ≡ list_all is_part (parts_of bytes.now) }
 {
     bytes.split(|b| *b == b'/').all(|part| is_part(part))
 }
 
+/// Whether bytes are UTF-8.
 fn is_text(bytes: &[u8]) -> bool
     ensures { result ≡ is_utf8 bytes.now }
 {
@@ -95,6 +97,7 @@ fn is_text(bytes: &[u8]) -> bool
     }
 }
 
+/// Whether a part is some bytes, and neither `.` nor `..`.
 fn is_part(part: &[u8]) -> bool
     ensures { result ≡ is_part part.now }
 {

@@ -41,6 +41,7 @@ const KINDS: [(&[u8], BlockKind); 3] = [
 struct Containers;
 
 impl Subject for Containers {
+    /// Answers a question by its first word. No question rests on one before it.
     fn answer(
         &mut self,
         alloc: Global,
@@ -94,6 +95,7 @@ fn add_block(
     add_word(answer, block.payload)
 }
 
+/// The word for a kind of block.
 fn kind_name(kind: BlockKind) -> &'static [u8] {
     match kind {
         BlockKind::Adb => b"adb",
@@ -152,6 +154,7 @@ fn add_cuts(alloc: Global, file: &[u8], answer: &mut Vec<u8>) -> Result<(), Allo
     Ok(())
 }
 
+/// Adds a fault, or that there is a block.
 fn add_fault(alloc: Global, fault: Option<Cause>, answer: &mut Vec<u8>) -> Result<(), AllocError> {
     match fault {
         Some(cause) => add_cause(alloc, cause, answer),
@@ -202,6 +205,7 @@ fn add_lengths(alloc: Global, frame: Frame, answer: &mut Vec<u8>) -> Result<(), 
     add_number(alloc, answer, u128::from(frame.payload_len))
 }
 
+/// Answers the rows of standard input.
 fn main(rt: HostRuntime) -> io::Result<ExitCode> {
     run_program(&rt, rt.alloc(), &mut Containers)
 }

@@ -51,6 +51,8 @@ struct CurrentContainer {
 }
 
 impl Subject for CurrentContainer {
+    /// Answers a question by its first word. `container` keeps bytes, of which the questions that
+    /// follow ask.
     fn answer(
         &mut self,
         alloc: Global,
@@ -162,6 +164,7 @@ fn add_cuts(
     tally.add_to(alloc, answer)
 }
 
+/// Answers the rows of standard input.
 fn main(rt: HostRuntime) -> io::Result<ExitCode> {
     let alloc = rt.alloc();
     let mut container = CurrentContainer {

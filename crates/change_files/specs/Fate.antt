@@ -15,14 +15,17 @@ is_guarded path = starts_with nat_eq path (codes "etc/")
 abbrev pub aside_name : List ℕ → List ℕ
 aside_name path = path ++ codes ".apk-new"
 
+-- the package before has the same file there; where the path was not listed before, nothing agrees
 abbrev pub agrees_with_old : Option Plain → Plain → Bool
 agrees_with_old None entry = false
 agrees_with_old (Some old) entry = do_entries_agree old entry
 
+-- the bytes are as the package before lists them; where the path was not listed before, none are
 abbrev pub is_as_old : Option Plain → List ℕ → Bool
 is_as_old None bytes = false
 is_as_old (Some old) bytes = is_as_listed old bytes
 
+-- what becomes of a file that comes and is its owner's
 pub data Fate : Type 0 where
   -- it takes the path
   goes_in : Fate

@@ -23,6 +23,7 @@ unfoldable pub old_entry : FileChange → List ℕ → Option Plain
 old_entry change path =
     option_map (λ l. l.entry) (find (λ l. bytes_eq l.path path) (old_listings change))
 
+-- whether a package before lists the path
 abbrev pub was_listed : FileChange → List ℕ → Bool
 was_listed change path = is_some (old_entry change path)
 
@@ -38,6 +39,7 @@ owner_listing change path =
     option_and_then (λ place. find (λ l. l.place == place) (claims_of change.members path))
     (owner_of_path change.members path)
 
+-- the file of a package that stays is not written
 abbrev pub if_it_comes : Option Listing → Option Listing
 if_it_comes None = None
 if_it_comes (Some l) = if is_coming l.member then Some l else None

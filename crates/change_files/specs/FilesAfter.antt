@@ -13,11 +13,13 @@ use Rattle.change_files.specs.FileChange.{FileChange, coming_owner, is_claimed, 
 
 -- ---- what is written
 
+-- only a file that goes in takes its path
 abbrev pub if_in : Listing → Fate → Option Listing
 if_in l goes_in = Some l
 if_in l gives_way = None
 if_in l goes_aside = None
 
+-- only a file that goes aside is laid beside another
 abbrev pub if_aside : Listing → Fate → Option Listing
 if_aside l goes_in = None
 if_aside l gives_way = None
@@ -44,6 +46,7 @@ written_as change files name =
     option_or (written_in change files name)
     (option_and_then (laid_beside change files) (path_beside name))
 
+-- a file of a package is written under this name, be it its path or the name beside another
 abbrev pub is_written : FileChange → Files → List ℕ → Bool
 is_written change files name = is_some (written_as change files name)
 
@@ -91,6 +94,8 @@ world_bytes_after [] None = None
 world_bytes_after [] (Some old) = Some []
 world_bytes_after (b ∷ bytes) old = Some (b ∷ bytes)
 
+-- What a name has: the bytes of the file that is written there, or nothing where it is removed, or
+-- what it had before.
 abbrev pub bytes_after : (Listing → List ℕ) → Option Listing → Bool → Option (List ℕ) → Option (List ℕ)
 bytes_after bytes_of (Some l) is_gone old = Some (bytes_of l)
 bytes_after bytes_of None true old = None

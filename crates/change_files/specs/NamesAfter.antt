@@ -24,6 +24,7 @@ unfoldable pub is_let_go : FileChange → Files → List ℕ → Bool
 is_let_go change files name =
     was_listed change name && not (is_claimed change name || is_kept change files name)
 
+-- what the search for the first clash asks of each name
 abbrev pub name_change : FileChange → Files → NameChange
 name_change change files =
     record { counts_as_written = counts_as_written change files; lets_go = is_let_go change files }

@@ -13,6 +13,7 @@ use Rattle.change_files.specs.FilesAfter.{is_kept, is_removed, laid_beside, writ
 
 -- ---- names in byte order, each once
 
+-- of equal names that stand side by side one is left
 abbrev pub unless_next : List ℕ → List (List ℕ) → List (List ℕ)
 unless_next name [] = name ∷ []
 unless_next name (x ∷ xs) = cond (bytes_eq name x) (x ∷ xs) (name ∷ x ∷ xs)
@@ -22,9 +23,11 @@ abbrev pub without_repeats : List (List ℕ) → List (List ℕ)
 without_repeats [] = []
 without_repeats (x ∷ xs) = unless_next x (without_repeats xs)
 
+-- in byte order, each once
 unfoldable pub names_in_order : List (List ℕ) → List (List ℕ)
 names_in_order names = without_repeats (sorted_by bytes_cmp names)
 
+-- of the files that the packages before list
 abbrev pub old_paths : FileChange → List (List ℕ)
 old_paths change = map (λ l. l.path) (old_listings change)
 
@@ -38,6 +41,7 @@ pub record FileWrite : Type 0 where
   pub folder : ℕ
   pub file : ℕ
 
+-- a file of a package is written under a name: its path, or the name beside it
 abbrev pub write_to : List ℕ → Listing → FileWrite
 write_to name l = record { name = name; member = l.place; folder = l.folder; file = l.file }
 
@@ -47,9 +51,11 @@ file_writes_of change files =
     filter_map (λ name. option_map (write_to name) (written_as change files name))
     (names_in_order (coming_paths change.members ++ map aside_name (coming_paths change.members)))
 
+-- the names that are removed, in byte order
 unfoldable pub removals_of : FileChange → Files → List (List ℕ)
 removals_of change files = filter (is_removed change files) (names_in_order (old_paths change))
 
+-- the paths at which the user's file stays, in byte order
 unfoldable pub kept_of : FileChange → Files → List (List ℕ)
 kept_of change files = filter (is_kept change files) (names_in_order (old_paths change))
 

@@ -1,4 +1,5 @@
--- What laws say of single names.
+-- What the laws say of single names: which are those of the records, of files beside others, of
+-- packages that come. (Not what `docs/names.md` calls touched.)
 use Rattle.std.specs.Prelude.{◌≡◌, ℕ, Bool, true, false, ◌&&◌, ◌||◌, List, Some, is_some, option_and_then, bytes_eq}
 use Rattle.std.specs.List.{list_any}
 use Rattle.base_core.specs.Files.{Files}

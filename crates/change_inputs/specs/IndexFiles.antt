@@ -14,6 +14,7 @@ bytes_of_each files = map (λ file. file.items) files
 abbrev pub is_index : List ℕ → Bool
 is_index file = is_none (first_fault Index file)
 
+-- each of several files
 abbrev pub are_indexes : List (List ℕ) → Bool
 are_indexes files = list_all is_index files
 

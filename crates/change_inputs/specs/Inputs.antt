@@ -23,6 +23,7 @@ pub record Root : Type 0 where
   pub new_world : List Dependency
   pub repositories : List Repository
 
+-- by what each file says; the new world is what the command makes of the world
 abbrev pub root_by :
     CommandLine → Database → List ℕ → List Dependency → List Repository → Root
 root_by command database text world repositories = record {
@@ -51,6 +52,7 @@ pub record Inputs : Type 0 where
   pub root : Root
   pub indexes : List Plain
 
+-- both parts
 abbrev pub inputs_by : Root → List Plain → Inputs
 inputs_by root indexes = record { root = root; indexes = indexes }
 
@@ -60,6 +62,7 @@ inputs_by root indexes = record { root = root; indexes = indexes }
 abbrev pub database_read : ℕ
 database_read = 0
 
+-- the text database has a number also where a database stands, and it does not count
 abbrev pub text_database_read : ℕ
 text_database_read = 1
 
@@ -67,6 +70,7 @@ text_database_read = 1
 abbrev pub world_read : ℕ
 world_read = 2
 
+-- `etc/apk/repositories`
 abbrev pub repositories_read : ℕ
 repositories_read = 3
 

@@ -28,9 +28,11 @@ database_seen New = database_by [] None false
 abbrev pub installed_seen : Installed → Database
 installed_seen installed = database_seen installed.database
 
+-- of index files, their values in the order of the repositories
 abbrev pub indexes_seen : IndexFiles → List Plain
 indexes_seen indexes = map index_of_file (bytes_of_each indexes.files.items)
 
+-- of a root whose files passed all tests
 abbrev pub root_seen : TestedRoot → Root
 root_seen root = record {
   database = database_seen root.database;
@@ -40,5 +42,6 @@ root_seen root = record {
   repositories = root.repositories;
 }
 
+-- of all that was loaded for a change
 abbrev pub inputs_seen : Loaded → Inputs
 inputs_seen loaded = inputs_by (root_seen loaded.root) (indexes_seen loaded.indexes)

@@ -69,7 +69,8 @@ impl IndexFiles {
 fn open_payload(payload: &[u8]) -> IndexView<'_>
     requires head { is_none (head_fault payload.now) ≡ true }
     requires sound { is_sound payload.now (Kinds.Obj Tables.Index) (root_of payload.now) ≡ true }
-    requires texts { is_none (text_fault Tables.Index (root_value Tables.Index payload.now)) ≡ true }
+    requires texts { is_none (text_fault Tables.Index (root_value Tables.Index payload.now))
+        ≡ true }
     ensures { index_value result ≡ root_value Tables.Index payload.now }
 {
     let Ok(adb) = Adb::new(payload) else {

@@ -1,6 +1,7 @@
 -- What a command that changes the installed packages comes to.
 use Rattle.std.specs.Prelude.{◌≡◌, ℕ, ◌==◌, Bool, true, false, not, ◌||◌, List, [], ◌∷◌, ◌++◌, length, map, sum_by, Option, Some, None, Result, Ok, Err, bytes_eq, slice_get, unwrap_or}
 use Rattle.std.specs.Option.{option_map_or}
+use Rattle.adb_tables.specs.FieldIndexes.{INFO_INSTALLED_SIZE, PACKAGE_INFO}
 use Rattle.adb_tables.specs.Values.{entry_in, int_in}
 use Rattle.adb_write.specs.Canonical.{PayloadCounts, overflow_of}
 use Rattle.base_core.specs.Files.{Files}
@@ -51,6 +52,7 @@ abbrev pub unless_reserved_path : {A : Type 0} → Option (List ℕ) → Result 
 unless_reserved_path None next = next
 unless_reserved_path (Some path) next = Err (Reserved path)
 
+-- no name after the change is a folder of another
 abbrev pub unless_clash : {A : Type 0} → Option NamePair → Result A Refusal → Result A Refusal
 unless_clash None next = next
 unless_clash (Some pair) next = Err (PathClash pair.path pair.other)
@@ -59,6 +61,7 @@ unless_clash (Some pair) next = Err (PathClash pair.path pair.other)
 abbrev pub name_at_place : List Member → ℕ → List ℕ
 name_at_place members place = option_map_or member_name (slice_get members place) []
 
+-- each path has an owner; the refusal names two packages that list it
 abbrev pub unless_contested :
     {A : Type 0} → List Member → Option ContestedPath → Result A Refusal → Result A Refusal
 unless_contested members None next = next
@@ -68,10 +71,12 @@ unless_contested members (Some c) next =
 
 -- ---- the database and world
 
+-- a value that a payload has no room for is refused with its two counts
 abbrev pub unless_large : {A : Type 0} → Result A PayloadCounts → Result A Refusal
 unless_large (Ok a) = Ok a
 unless_large (Err counts) = Err (ResultTooLarge counts.0 counts.1)
 
+-- the same, by the counts alone
 abbrev pub unless_overflow : {A : Type 0} → Option PayloadCounts → A → Result A Refusal
 unless_overflow None a = Ok a
 unless_overflow (Some counts) a = Err (ResultTooLarge counts.0 counts.1)
@@ -107,6 +112,8 @@ pub record Actions : Type 0 where
   pub removals : List (List ℕ)
   pub writes : List (List ℕ)
 
+-- What the intent says. A text database that was taken over is removed with the files; the database
+-- and world are written with them, where they differ.
 abbrev pub actions_of : Inputs → FileChange → Files → Records → Actions
 actions_of inputs change files records = record {
   removals = names_in_order (removals_of change files
@@ -120,6 +127,7 @@ actions_of inputs change files records = record {
 abbrev pub bytes_under : Files → List ℕ → List ℕ
 bytes_under files name = unwrap_or (files name) []
 
+-- a change without actions writes nothing, not even an intent
 abbrev pub does_something : Actions → Bool
 does_something actions = not (length actions.removals == 0) || not (length actions.writes == 0)
 
@@ -127,7 +135,7 @@ does_something actions = not (length actions.removals == 0) || not (length actio
 
 -- the size that a package has when it is installed
 abbrev pub member_size : Member → ℕ
-member_size m = int_in (entry_in (entry_in m.pkg 0) 11)
+member_size m = int_in (entry_in (entry_in m.pkg PACKAGE_INFO) INFO_INSTALLED_SIZE)
 
 -- the last line of a report
 abbrev pub member_sum_line : List Member → List ℕ
@@ -213,6 +221,7 @@ IsClashFoundOver inputs wishes files standing (Ok found) clash =
     IsClashOf (name_change (file_change inputs wishes found) files) standing clash
 IsClashFoundOver inputs wishes files standing (Err refusal) clash = clash ≡ None
 
+-- by the packages that the reads find
 abbrev pub IsClashOfChangeOver :
     Inputs → Replacement → ChangeWishes → Reads → Files → Files → Option NamePair → Type 0
 IsClashOfChangeOver inputs r wishes read files standing clash =

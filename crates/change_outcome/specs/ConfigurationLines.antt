@@ -22,6 +22,7 @@ pub record PathLine : Type 0 where
   pub path : List ℕ
   pub line : List ℕ
 
+-- a line with the path by which it is put in order
 abbrev pub path_line : (List ℕ → List ℕ) → List ℕ → PathLine
 path_line line_of path = record { path = path; line = line_of path }
 

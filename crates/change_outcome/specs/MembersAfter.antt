@@ -50,6 +50,8 @@ name_that_goes no_scripts name change None = Ok None
 name_that_goes no_scripts name change (Some pkg) =
     unless_script no_scripts name pkg (scripts_of_change change) None
 
+-- a name with a selected candidate is that of a package that comes, each other one that of one that
+-- goes
 abbrev pub name_by_selected :
     Reads → List Repository → Bool → ℕ → List ℕ → Change → Option Plain → Option Candidate
     → Result (Option MemberFound) Refusal

@@ -21,6 +21,7 @@ use Rattle.report_core.specs.declared.refusal.Refusal.TheVariants.{PackageBad, P
 
 -- ---- where it lies
 
+-- whether a path has a folder above it
 abbrev pub has_slash : List ℕ → Bool
 has_slash path = list_any (λ b. b == 47) path
 
@@ -34,9 +35,11 @@ abbrev pub package_path : List ℕ → List ℕ → List ℕ → List ℕ
 package_path index name version =
     folder_prefix index ++ name_version name version ++ codes ".apk"
 
+-- a path of more than 1,024 bytes, for one, is no name, and no file stands there
 abbrev pub if_name : List ℕ → Option (List ℕ)
 if_name path = if is_name path then Some path else None
 
+-- in the folder of the repository's index; None where there is no such repository
 abbrev pub path_beside_index : List ℕ → List ℕ → Option Repository → Option (List ℕ)
 path_beside_index name version None = None
 path_beside_index name version (Some repository) =
@@ -71,9 +74,11 @@ package_in_file file = record {
 abbrev pub name_field : ℕ
 name_field = 1
 
+-- of the version
 abbrev pub version_field : ℕ
 version_field = 2
 
+-- of the hash, which is the id
 abbrev pub id_field : ℕ
 id_field = 3
 
@@ -106,6 +111,7 @@ package_found c (Some file) = unless_package_bad c (package_fault file) (package
 abbrev pub script_of : Plain → ℕ → List ℕ
 script_of pkg number = text_in (entry_in (entry_in pkg PACKAGE_SCRIPTS) (number - 1))
 
+-- whether the package has a script with this number
 abbrev pub has_script_of : Plain → ℕ → Bool
 has_script_of pkg number = not (length (script_of pkg number) == 0)
 
@@ -119,12 +125,15 @@ first_script_of pkg (number ∷ numbers) =
 abbrev pub trigger_script : ℕ
 trigger_script = 1
 
+-- pre-install and post-install
 abbrev pub install_scripts : List ℕ
 install_scripts = 2 ∷ 3 ∷ []
 
+-- pre-deinstall and post-deinstall
 abbrev pub deinstall_scripts : List ℕ
 deinstall_scripts = 4 ∷ 5 ∷ []
 
+-- pre-upgrade and post-upgrade
 abbrev pub upgrade_scripts : List ℕ
 upgrade_scripts = 6 ∷ 7 ∷ []
 

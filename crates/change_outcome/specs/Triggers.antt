@@ -17,6 +17,7 @@ use Rattle.change_outcome.specs.PackageFiles.{has_script_of, trigger_script}
 
 -- ---- patterns
 
+-- what is left of some bytes behind each place, the whole and the empty end too
 abbrev pub suffixes_of : List ℕ → List (List ℕ)
 suffixes_of [] = [] ∷ []
 suffixes_of (b ∷ bytes) = (b ∷ bytes) ∷ suffixes_of bytes
@@ -66,6 +67,7 @@ is_due pkg folder = has_script_of pkg trigger_script && is_watched pkg folder
 abbrev pub folders_of_paths : List (List ℕ) → List (List ℕ)
 folders_of_paths paths = names_in_order (map folder_of paths)
 
+-- the line that tells that the package's trigger is due for the folder
 abbrev pub due_line : Plain → List ℕ → List ℕ
 due_line pkg folder = report_line (trigger_text (package_name pkg) folder)
 

@@ -3,6 +3,7 @@ use Rattle.std.specs.Prelude.{if◌then◌else◌}
 use Rattle.change_outcome.specs.ConfigurationLines.{PathLine, aside_line, kept_line}
 use Rattle.change_report.specs.declared.configuration.Notice.{Notice}
 
+-- a path and its line, which says that the user's file was kept or that the new one lies beside it
 abbrev pub notice_seen : Notice → PathLine
 notice_seen n = record {
   path = n.path.now;

@@ -3,5 +3,6 @@ use Rattle.std.specs.Prelude.{◌≡◌, ℕ, List, Some, slice_get}
 use Rattle.base_core.specs.Name.{IsName}
 use Rattle.path_claims.specs.Claims.{PathClaim}
 
+-- each path is UTF-8 of 1 to 1,024 bytes in sound parts
 abbrev pub HaveNames : List PathClaim → Type 0
 HaveNames claims = (i : ℕ) (c : PathClaim) → slice_get claims i ≡ Some c → IsName c.path

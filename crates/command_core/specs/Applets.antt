@@ -15,7 +15,8 @@ needed_option applet = None
 
 -- ---- operands
 
--- of `info` with a kind one or more packages, with the one for a path just one path
+-- of `info`: one path with the kind for a path, one or more packages with another kind, any number
+-- of packages without one
 abbrev pub info_operands : Flags → OperandRule
 info_operands flags =
     if flags.who_owns then exactly 1 Path else

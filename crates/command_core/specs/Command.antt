@@ -14,6 +14,7 @@ pub record CommandLine : Type 0 where
   pub values : List OptionValue
   pub behind : ℕ
 
+-- a command by its parts
 abbrev pub command_by : Applet → Flags → List Operand → List OptionValue → ℕ → CommandLine
 command_by applet flags operands values behind =
     record { applet = applet; flags = flags; operands = operands; values = values; behind = behind }

@@ -5,6 +5,7 @@ use Rattle.command_core.specs.declared.command.Flag.{Flag}
 use Rattle.command_core.specs.declared.command.Flag.TheVariants.{AllowUntrusted, NoScripts, Initdb, Simulate, Purge, Installed, Contents, Depends, WhoOwns, Test, Check}
 use Rattle.command_core.specs.declared.command.Flags.{Flags}
 
+-- no flag is given
 abbrev pub no_flags : Flags
 no_flags = record {
   allow_untrusted = false;
@@ -20,6 +21,7 @@ no_flags = record {
   check = false;
 }
 
+-- whether the flag is given
 abbrev pub has_flag : Flag → Flags → Bool
 has_flag AllowUntrusted flags = flags.allow_untrusted
 has_flag NoScripts flags = flags.no_scripts
@@ -33,6 +35,7 @@ has_flag WhoOwns flags = flags.who_owns
 has_flag Test flags = flags.test
 has_flag Check flags = flags.check
 
+-- the same flags, and this one
 abbrev pub with_flag : Flag → Flags → Flags
 with_flag AllowUntrusted flags = record flags { allow_untrusted = true }
 with_flag NoScripts flags = record flags { no_scripts = true }

@@ -15,6 +15,7 @@ file_name text = if is_file text then Some (without_dot text) else None
 abbrev pub operand_file : Operand → List ℕ
 operand_file operand = without_dot operand.text
 
+-- whether each operand can name a file
 abbrev pub are_files : List Operand → Bool
 are_files operands = list_all (λ (o : Operand). is_file o.text) operands
 

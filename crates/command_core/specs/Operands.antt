@@ -11,6 +11,7 @@ use Rattle.command_core.specs.declared.operands.OperandKind.TheVariants.{File, A
 use Rattle.command_core.specs.declared.operands.OperandRule.{OperandRule}
 use Rattle.command_core.specs.Files.{is_file, is_path}
 
+-- a word at its place
 abbrev pub operand_at : ℕ → List ℕ → Operand
 operand_at place word = record { place = place; text = word }
 
@@ -35,6 +36,7 @@ abbrev pub is_demo_number : List ℕ → Bool
 is_demo_number text =
     is_decimal text && nat_lt 0 (digits_value 10 text) && nat_le (digits_value 10 text) largest_demo
 
+-- whether a text can be an operand of this kind
 abbrev pub is_of_kind : OperandKind → List ℕ → Bool
 is_of_kind File text = is_file text
 is_of_kind Any text = true

@@ -19,6 +19,7 @@ use Rattle.command_core.specs.Values.{compression_rule, description_rule, exclud
 
 -- ---- flags
 
+-- each flag once
 abbrev pub all_flags : List Flag
 all_flags =
     AllowUntrusted ∷ (NoScripts ∷ (Initdb ∷ (Simulate ∷ (Purge ∷
@@ -95,6 +96,8 @@ abbrev pub excludes_by : Option ValueRule → List ℕ → List ℕ → Bool
 excludes_by None a b = false
 excludes_by (Some rule) a b = rule.single || excludes rule.kind a b
 
+-- whether two values may both be given: they are of different options, or neither excludes the
+-- other
 abbrev pub are_apart : List ValueRule → OptionValue → OptionValue → Bool
 are_apart rules a b =
     not ((a.letter == b.letter) && excludes_by (rule_for rules a.letter) a.text b.text)
@@ -116,5 +119,6 @@ is_command c =
     && are_values (value_rules c.applet) c.values
     && not (lacks_value (needed_option c.applet) c.values)
 
+-- the same as a fact
 abbrev pub IsCommand : CommandLine → Type 0
 IsCommand command = IsTrue (is_command command)

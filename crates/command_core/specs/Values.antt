@@ -9,6 +9,7 @@ use Rattle.command_core.specs.declared.values.ValueKind.TheVariants.{Any, Nonemp
 use Rattle.command_core.specs.declared.values.ValueRule.{ValueRule}
 use Rattle.command_core.specs.Files.{is_file, is_output}
 
+-- the value of an option with this letter, at the place of its word
 abbrev pub option_value : ℕ → ℕ → List ℕ → OptionValue
 option_value place letter text = record { place = place; letter = letter; text = text }
 
@@ -28,6 +29,7 @@ script_types =
     codes "trigger" ∷ (codes "pre-install" ∷ (codes "post-install" ∷ (codes "pre-deinstall" ∷
     (codes "post-deinstall" ∷ (codes "pre-upgrade" ∷ (codes "post-upgrade" ∷ []))))))
 
+-- the byte between the type of a script and its file
 abbrev pub colon : ℕ
 colon = 58
 
@@ -35,6 +37,7 @@ colon = 58
 abbrev pub script_type : List ℕ → List ℕ
 script_type text = before_first (λ b. b == colon) text
 
+-- the file of a script: what stands behind the first colon
 abbrev pub script_file : List ℕ → List ℕ
 script_file text = after_first (λ b. b == colon) text
 

@@ -150,6 +150,7 @@ fn is_decimal(text: &[u8]) -> bool
     are_digits(text)
 }
 
+/// Whether a number has a zero in front of other digits.
 fn has_zero_in_front(text: &[u8]) -> bool
     ensures { result ≡ has_zero_in_front text.now }
 {
@@ -159,6 +160,7 @@ fn has_zero_in_front(text: &[u8]) -> bool
     }
 }
 
+/// Whether all bytes are decimal digits.
 fn are_digits(text: &[u8]) -> bool
     ensures { result ≡ list_all is_ascii_digit text.now }
 {

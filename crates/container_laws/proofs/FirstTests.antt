@@ -1,11 +1,11 @@
 -- Which test of a container fails first.
 use Rattle.std.proofs.Common.{◌≡◌, inl, inr, ℕ, zero, suc, ◌<◌, Bool, true, false, if◌then◌else◌, List, [], ◌∷◌, Option, Some, None, Result, Ok, Err, refl, ap, sym, ◌∙◌, arith}
 use Rattle.std.specs.Prelude.{slice_get}
+use Rattle.std.specs.Option.{option_or}
 use Rattle.adb_block.specs.Header.{header_of}
 use Rattle.adb_block.specs.Reading.{Reading, done, fault, more, reading_of}
 use Rattle.adb_block.specs.Standing.{start_of}
 use Rattle.adb_schema.specs.Soundness.{blocks_fault, file_fault, is_schema_wanted, root_value, schema_word}
-use Rattle.adb_tables.specs.Walk.{or_else}
 use Rattle.adb_tables.specs.declared.tables.Which.{Which}
 use Rattle.base_core.specs.declared.cause.Cause.{Cause}
 use Rattle.base_core.specs.declared.cause.Cause.TheVariants.{WrongSchema}
@@ -17,7 +17,7 @@ use Rattle.pkg_core.specs.Whole.{behind_fault, container_fault, fault_by_header,
 
 chain : List (Option Cause) → Option Cause
 chain [] = None
-chain (t ∷ ts) = or_else t (chain ts)
+chain (t ∷ ts) = option_or t (chain ts)
 
 first_of : (tests : List (Option Cause)) (c : Cause) → chain tests ≡ Some c → IsFirstFailing tests c
 unfolding chain
@@ -34,16 +34,16 @@ first_of (None ∷ ts) c e = further (first_of ts c e)
     further : IsFirstFailing ts c → IsFirstFailing (None ∷ ts) c
     further f = record { place = suc f.place; fails = f.fails; before = before_one f }
 
-or_none : (o : Option Cause) → or_else o None ≡ o
+or_none : (o : Option Cause) → option_or o None ≡ o
 or_none None = refl
 or_none (Some c) = refl
 
-five : (a b d e f : Option Cause) → or_else (or_else a (or_else b (or_else d e))) f ≡ chain (a ∷ (b ∷ (d ∷ (e ∷ (f ∷ [])))))
+five : (a b d e f : Option Cause) → option_or (option_or a (option_or b (option_or d e))) f ≡ chain (a ∷ (b ∷ (d ∷ (e ∷ (f ∷ [])))))
 unfolding chain
 five (Some x) b d e f = refl
 five None (Some x) d e f = refl
 five None None (Some x) e f = refl
-five None None None e f = ap (or_else e) (sym (or_none f))
+five None None None e f = ap (option_or e) (sym (or_none f))
 
 -- ---- the blocks
 
@@ -54,7 +54,7 @@ blocks_told which (more b at r) c e =
     inr (b, at, r, refl, first_of (tests_of_values which b.payload r) c (sym (five _ _ _ _ (behind_fault which (root_value which b.payload) r)) ∙ e))
 
 table_by : (which : Which) (file : List ℕ) (c : Cause) (schema : ℕ) (b : Bool) → header_of file ≡ Ok schema → is_schema_wanted (schema_word which) schema ≡ b
-    → or_else (if b then None else Some (WrongSchema schema)) (blocks_fault (behind_fault which) which (reading_of (start_of schema file))) ≡ Some c → IsFaultOfTable which file c
+    → option_or (if b then None else Some (WrongSchema schema)) (blocks_fault (behind_fault which) which (reading_of (start_of schema file))) ≡ Some c → IsFaultOfTable which file c
 table_by which file c schema true header wanted e = inr (schema, header, inr (wanted, blocks_told which (reading_of (start_of schema file)) c e))
 table_by which file c schema false header wanted e =
     let same : WrongSchema schema ≡ c = cc (e) in

@@ -3,6 +3,7 @@ use Rattle.std.specs.Prelude.{◌≡◌, ◌⊎◌, ◌<◌, ◌≤◌, ℕ, Lis
 use Rattle.base_core.specs.declared.Cause.{Cause}
 use Rattle.base_core.specs.declared.Cause.TheVariants.{NotAdb, Compressed, Truncated}
 
+-- a file begins with this mark
 abbrev pub BeginsAs : List ℕ → List ℕ → Type 0
 BeginsAs mark file = (rest : List ℕ) × (file ≡ mark ++ rest)
 

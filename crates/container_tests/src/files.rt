@@ -17,6 +17,7 @@ pub fn add_files(alloc: Global, file: &[u8], answer: &mut Vec<u8>) -> Result<(),
     }
 }
 
+/// Adds what a package answers.
 fn add_calls(alloc: Global, package: Package<'_>, answer: &mut Vec<u8>) -> Result<(), AllocError> {
     let mut package = package;
     add_word(answer, &package.id())?;

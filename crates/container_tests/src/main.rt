@@ -42,6 +42,7 @@ const QUESTIONS: [(&[u8], Question); 6] = [
 struct Containers;
 
 impl Subject for Containers {
+    /// Answers by the word that the question begins with.
     fn answer(
         &mut self,
         alloc: Global,
@@ -60,6 +61,7 @@ impl Subject for Containers {
     }
 }
 
+/// Runs the rows that stand on standard input.
 fn main(rt: HostRuntime) -> io::Result<ExitCode> {
     run_program(&rt, rt.alloc(), &mut Containers)
 }

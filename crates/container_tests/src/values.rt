@@ -33,6 +33,7 @@ fn part_of(word: &[u8]) -> (Part<'_>, u64) {
     }
 }
 
+/// What a word stands for without how often.
 fn part_named(word: &[u8]) -> Part<'_> {
     match word {
         [b'\'', bytes @ ..] => Part::Blob(bytes),
@@ -65,6 +66,7 @@ struct Written {
 }
 
 impl Written {
+    /// Writes what a word stands for.
     fn add(&mut self, alloc: Global, part: Part<'_>, times: u64) -> Result<(), AllocError> {
         match part {
             Part::Open => self.open.push(Vec::new(alloc))?,
@@ -152,6 +154,7 @@ pub fn add_file(alloc: Global, words: &Words, answer: &mut Vec<u8>) -> Result<()
     }
 }
 
+/// Adds the file of a payload.
 fn add_file_of(alloc: Global, payload: &[u8], answer: &mut Vec<u8>) -> Result<(), AllocError> {
     if payload.len() > MOST_BYTES {
         return add_word(answer, b"too many bytes");
@@ -183,6 +186,7 @@ fn add_values(draft: &mut Draft, words: &Words, first: usize) -> Result<(), Allo
     Ok(())
 }
 
+/// Gives a draft what a word stands for.
 fn add_part(draft: &mut Draft, part: Part<'_>) -> Result<(), AllocError> {
     match part {
         Part::Null => draft.null(),

@@ -75,6 +75,7 @@ pub fn unchanged_database(alloc: Global, file: &[u8]) -> Result<bool, AllocError
     }
 }
 
+/// Whether the database that has the same packages is the same bytes.
 fn is_written_again(alloc: Global, db: &Db<'_>, file: &[u8]) -> Result<bool, AllocError> {
     let mut members = Members::new(alloc);
     for i in 0..db.len() {

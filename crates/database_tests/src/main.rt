@@ -45,6 +45,7 @@ struct Installed {
 }
 
 impl Subject for Installed {
+    /// Answers a question by its first word, on the database that the rows before have left.
     fn answer(
         &mut self,
         alloc: Global,
@@ -150,6 +151,7 @@ fn add_place(alloc: Global, found: Option<usize>, answer: &mut Vec<u8>) -> Resul
     }
 }
 
+/// Answers the rows of standard input.
 fn main(rt: HostRuntime) -> io::Result<ExitCode> {
     let alloc = rt.alloc();
     let mut installed = Installed {

@@ -20,6 +20,7 @@ pub fn package_file(alloc: Global, words: &Words) -> Result<Vec<u8>, AllocError>
     }
 }
 
+/// The container of a package; one that is too large counts as want of memory.
 fn container(alloc: Global, payload: &[u8]) -> Result<Vec<u8>, AllocError> {
     if payload.len() > MOST_BYTES {
         return Err(AllocError);
@@ -27,6 +28,7 @@ fn container(alloc: Global, payload: &[u8]) -> Result<Vec<u8>, AllocError> {
     file_of(alloc, PACKAGE_WORD, payload)
 }
 
+/// Writes a package: its name, its version and its folders.
 fn write_package(alloc: Global, writer: &mut Writer, words: &Words) -> Result<Val, AllocError> {
     let name = writer.blob(word_at(words, 1))?;
     let version = writer.blob(word_at(words, 2))?;
@@ -37,6 +39,7 @@ fn write_package(alloc: Global, writer: &mut Writer, words: &Words) -> Result<Va
     writer.obj(&fields)
 }
 
+/// Writes the folders, which are the words that end in `/`.
 fn write_folders(alloc: Global, writer: &mut Writer, words: &Words) -> Result<Val, AllocError> {
     let mut folders = Vec::new(alloc);
     for i in 3..words.len() {
@@ -72,6 +75,7 @@ fn write_folder(
     writer.obj(&fields)
 }
 
+/// Writes a file, of which only the name is known.
 fn write_file(writer: &mut Writer, name: &[u8]) -> Result<Val, AllocError> {
     let name = writer.blob(name)?;
     let fields = [name];

@@ -5,5 +5,6 @@ use Rattle.adb_tables.specs.declared.tables.Kind.TheVariants.{Obj}
 use Rattle.adb_tables.specs.declared.tables.Which.TheVariants.{Package}
 use Rattle.db_core.specs.Members.{Member}
 
+-- the word leads to the package in the payload; one that stays has no id
 abbrev pub member_by : List ℕ × ℕ × Option (List ℕ) → Member
 member_by e = record { pkg = value_at e.0 (Obj Package) e.1; id = e.2 }

@@ -16,12 +16,15 @@ pub record Member : Type 0 where
 abbrev pub staying_member : Plain → Member
 staying_member pkg = record { pkg = pkg; id = None }
 
+-- a package that comes has its container's id
 abbrev pub coming_member : Plain → List ℕ → Member
 coming_member pkg id = record { pkg = pkg; id = Some id }
 
+-- the name of its package
 abbrev pub member_name : Member → List ℕ
 member_name m = package_name m.pkg
 
+-- whether the package comes; one that stays has no id
 abbrev pub is_coming : Member → Bool
 is_coming m = is_some m.id
 
@@ -79,6 +82,7 @@ listings_in_folders m place i (folder ∷ folders) =
     listings_in_folder m place i 1 (name_of folder) (files_in folder)
     ++ listings_in_folders m place (i + 1) folders
 
+-- of the member at this place, in the order of its folders and files
 abbrev pub listings_by : ℕ → Member → List Listing
 listings_by place m = listings_in_folders m place 1 (folders_in m.pkg)
 

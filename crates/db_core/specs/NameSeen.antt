@@ -2,5 +2,6 @@
 use Rattle.db_core.specs.NamePlaces.{NameWithPlace}
 use Rattle.db_core.specs.declared.name_places.NamePlace.{NamePlace}
 
+-- the text in place of a slice
 abbrev pub name_seen : NamePlace → NameWithPlace
 name_seen n = record { name = n.name.now; place = n.place }

@@ -3,14 +3,19 @@ use Rattle.std.specs.Prelude.{ℕ, Bool, List, [], Option, Some, None, not, ◌|
 use Rattle.std.specs.List.{list_all, list_any}
 use Rattle.base_core.specs.Name.{is_name}
 use Rattle.adb_view.specs.Plain.{Plain}
+use Rattle.adb_tables.specs.FieldIndexes.{IDB_PACKAGES, INFO_HASHES, PACKAGE_INFO}
+use Rattle.adb_tables.specs.Values.{entry_in, text_in}
 use Rattle.adb_rules.specs.Reserved.{is_reserved}
 use Rattle.adb_fields.specs.Repeated.{entries_at, package_name, paths_in}
 use Rattle.db_core.specs.Members.{Member, is_coming}
-use Rattle.adb_tables.specs.FieldIndexes.{IDB_PACKAGES}
 
 -- whether a package has a name
 abbrev pub is_package_named : List ℕ → Plain → Bool
 is_package_named name pkg = bytes_eq (package_name pkg) name
+
+-- the id of an installed package: its information keeps it in the field hashes
+abbrev pub installed_id : Plain → List ℕ
+installed_id pkg = text_in (entry_in (entry_in pkg PACKAGE_INFO) INFO_HASHES)
 
 -- a package lists a file with this path
 abbrev pub lists_path : List ℕ → Plain → Bool

@@ -34,10 +34,12 @@ abbrev pub IsOfSoundContainer : Plain → Option (List ℕ) → Type 0
 IsOfSoundContainer pkg None = IsOfSoundDatabase pkg
 IsOfSoundContainer pkg (Some id) = IsOfSoundPackage pkg id
 
+-- so is each of some members
 abbrev pub AreOfSoundContainers : List Member → Type 0
 AreOfSoundContainers [] = Unit {0}
 AreOfSoundContainers (m ∷ members) = IsOfSoundContainer m.pkg m.id × AreOfSoundContainers members
 
+-- no path is reserved for the package keeper's own files
 abbrev pub NoneReserved : List (List ℕ) → Type 0
 NoneReserved [] = Unit {0}
 NoneReserved (path ∷ paths) = (is_reserved path ≡ false) × NoneReserved paths

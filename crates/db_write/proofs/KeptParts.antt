@@ -15,7 +15,8 @@ use Rattle.adb_copy.proofs.WithoutZeros.{int_zeros, text_zeros}
 use Rattle.adb_copy.proofs.Zeros.{at_other, at_same, nth_zeros, zeros_arr, zeros_obj, zeros_twice}
 use Rattle.db_core.specs.Members.{Member}
 use Rattle.adb_tables.specs.FieldIndexes.{INFO_FILE_SIZE, INFO_HASHES}
-use Rattle.db_write.specs.Information.{file_size_of, hashes_of}
+use Rattle.db_core.specs.Packages.{installed_id}
+use Rattle.db_write.specs.Information.{file_size_of}
 use Rattle.db_write.specs.NewDatabase.{database_container, database_of, database_value, each_by_flags, file_count, folder_after, folders_after, info_after, member_file_count, owned_entries, package_after, packages_after}
 use Rattle.db_write.specs.Unchanged.{all_owned, staying_members}
 use Rattle.db_write.proofs.ReadBack.{Back, is_file}
@@ -28,7 +29,7 @@ use Rattle.db_write.proofs.Unchanged.{database_same}
 apart : (n : ℕ) → n ≡ 12 → n ≢ 2
 apart n e f = omega (arith, e, f)
 
-pub hashes_after : (m : Member) (flags : List Bool) → hashes_of (package_after m flags) ≡ unwrap_or m.id (hashes_of m.pkg)
+pub hashes_after : (m : Member) (flags : List Bool) → installed_id (package_after m flags) ≡ unwrap_or m.id (installed_id m.pkg)
 unfolding info_with without_zeros
 hashes_after m flags =
     let info : Plain = entry_in m.pkg 0 in

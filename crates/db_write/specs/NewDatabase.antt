@@ -35,6 +35,7 @@ total_of count (x ∷ xs) = count x + total_of count xs
 
 -- ---- folders
 
+-- as many flags belong to the folder
 abbrev pub file_count : Plain → ℕ
 file_count folder = length (files_in folder)
 
@@ -44,11 +45,13 @@ folder_after folder flags =
     obj_value (more (blob_value (name_of folder)) (more (without_zeros (entry_in folder DIR_ACL))
     (more (arr_value (owned_entries (files_in folder) flags)) none)))
 
+-- each takes as many flags as it has files
 abbrev pub folders_after : List Plain → List Bool → Plains
 folders_after folders flags = each_by_flags file_count folder_after folders flags
 
 -- ---- packages
 
+-- as many flags belong to the member
 abbrev pub member_file_count : Member → ℕ
 member_file_count m = total_of file_count (folders_in m.pkg)
 

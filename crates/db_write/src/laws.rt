@@ -18,7 +18,8 @@ ghost use Rattle.adb_write.specs.Canonical.{written_of};
 ghost use Rattle.adb_write.specs.File.{file_of};
 ghost use Rattle.db_core.specs.Members.{AreInOrder, Member, coming_member, member_listings, staying_member};
 ghost use Rattle.adb_tables.specs.FieldIndexes.{INFO_FILE_SIZE, INFO_HASHES, PACKAGE_INFO};
-ghost use Rattle.db_write.specs.Information.{file_size_of, hashes_of};
+ghost use Rattle.db_core.specs.Packages.{installed_id};
+ghost use Rattle.db_write.specs.Information.{file_size_of};
 ghost use Rattle.db_write.specs.NewDatabase.{database_of, database_value, package_after, packages_after};
 ghost use Rattle.db_core.specs.OwnedListings.{owned_listings, owned_paths};
 ghost use Rattle.db_core.specs.SoundMembers.{AreOfSoundContainers, IsOfSoundContainer, MayBeListed};
@@ -111,9 +112,9 @@ pub fn a_database_without_changes_stays_the_same()
 /// an integer 0 is Null.
 pub fn a_package_keeps_its_information()
     ensures comes { (pkg : Plain) (id : List ℕ) (flags : List Bool)
-        → hashes_of (package_after (coming_member pkg id) flags) ≡ id }
+        → installed_id (package_after (coming_member pkg id) flags) ≡ id }
     ensures stays { (pkg : Plain) (flags : List Bool)
-        → hashes_of (package_after (staying_member pkg) flags) ≡ hashes_of pkg }
+        → installed_id (package_after (staying_member pkg) flags) ≡ installed_id pkg }
     ensures size { (m : Member) (flags : List Bool)
         → file_size_of (package_after m flags) ≡ file_size_of m.pkg }
     ensures others { (m : Member) (flags : List Bool) (i : ℕ)

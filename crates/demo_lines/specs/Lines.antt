@@ -25,6 +25,7 @@ demo_folder i = codes "demo/" ++ demo_name i
 abbrev pub demo_file : ℕ → List ℕ
 demo_file i = demo_folder i ++ codes "/usr/share/demo/" ++ demo_name i
 
+-- what that file holds
 abbrev pub demo_text : ℕ → List ℕ
 demo_text i = demo_name i ++ codes "\n"
 
@@ -50,6 +51,7 @@ mkpkg_words i =
 abbrev pub demo_index : List ℕ
 demo_index = codes "demo/index.adb"
 
+-- what `etc/apk/repositories` holds
 abbrev pub demo_repositories : List ℕ
 demo_repositories = demo_index ++ codes "\n"
 

@@ -1,4 +1,7 @@
 //! The command lines that `demo` runs: how many packages it makes, and what it prints.
+//!
+//! How many words there are before a call that adds some is bounded by round numbers, 16, 32 and
+//! 100,000: a list of words has a limit, 4,294,967,294, and no command of `demo` comes near it.
 
 ghost use Rattle.std.specs.Prelude.{◌≡◌, ◌<◌, ◌++◌, ◌∷◌, [], codes, length, IfOk, OnOk, true, IsTrue, Some};
 ghost use Rattle.demo_lines.specs.Lines.{add_words, demo_name, demo_package, demo_packages, demo_version, depends_words, mkndx_words, mkpkg_words, top_name, top_names};

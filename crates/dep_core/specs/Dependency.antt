@@ -13,6 +13,7 @@ pub record Dependency : Type 0 where
   pub conflict : Bool
   pub tag : Option (List ℕ)
 
+-- a dependency by its parts
 abbrev pub dependency_by : List ℕ → Option (List ℕ) → ℕ → Bool → Option (List ℕ) → Dependency
 dependency_by name version bits conflict tag =
     record { name = name; version = version; bits = bits; conflict = conflict; tag = tag }
@@ -21,9 +22,11 @@ dependency_by name version bits conflict tag =
 abbrev pub is_mark : ℕ → Bool
 is_mark b = (b == 33) || (b == 60) || (b == 61) || (b == 62) || (b == 64) || (b == 126)
 
+-- a printable byte that is no mark of the grammar
 abbrev pub is_name_byte : ℕ → Bool
 is_name_byte b = nat_lt 32 b && nat_lt b 127 && not (is_mark b)
 
+-- 1 to 255 bytes that a name may have
 abbrev pub is_dep_name : List ℕ → Bool
 is_dep_name name = nat_lt 0 (length name) && nat_le (length name) 255 && list_all is_name_byte name
 
@@ -41,6 +44,7 @@ is_package_name name =
 abbrev pub is_tag_byte : ℕ → Bool
 is_tag_byte b = is_ascii_alphanumeric b || (b == 95) || (b == 45) || (b == 46)
 
+-- one byte or more that a tag may have
 abbrev pub is_tag : List ℕ → Bool
 is_tag tag = nat_lt 0 (length tag) && list_all is_tag_byte tag
 

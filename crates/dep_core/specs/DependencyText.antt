@@ -13,6 +13,7 @@ abbrev pub is_constraint : Option (List ℕ) → ℕ → Bool
 is_constraint None bits = bits == 1
 is_constraint (Some version) bits = is_version version && is_some (operator_text bits)
 
+-- whether it is a tag, if it is there
 abbrev pub is_tag_or_none : Option (List ℕ) → Bool
 is_tag_or_none None = true
 is_tag_or_none (Some tag) = is_tag tag
@@ -21,17 +22,21 @@ is_tag_or_none (Some tag) = is_tag tag
 abbrev pub is_dependency : Dependency → Bool
 is_dependency d = is_dep_name d.name && is_constraint d.version d.bits && is_tag_or_none d.tag
 
+-- the same as a fact
 abbrev pub IsDependency : Dependency → Type 0
 IsDependency d = IsTrue (is_dependency d)
 
+-- the mark of a conflict, or nothing
 abbrev pub mark_text : Bool → List ℕ
 mark_text true = 33 ∷ []
 mark_text false = []
 
+-- a tag behind its mark, or nothing
 abbrev pub tag_text : Option (List ℕ) → List ℕ
 tag_text None = []
 tag_text (Some tag) = 64 ∷ tag
 
+-- the operator and the version, or nothing
 abbrev pub constraint_text : Option (List ℕ) → ℕ → List ℕ
 constraint_text None bits = []
 constraint_text (Some version) bits = unwrap_or (operator_text bits) [] ++ version

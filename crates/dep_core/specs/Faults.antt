@@ -12,6 +12,7 @@ abbrev pub IsWorldFault : WorldFault → Result (List Dependency) ℕ → Type 0
 IsWorldFault (BadWorld line) read = read ≡ Err line
 IsWorldFault WorldMemory read = Unit {0}
 
+-- the fault tells the line at which the definition stops; want of memory stands for any
 abbrev pub IsReposFault : ReposFault → Result (List Repository) ℕ → Type 0
 IsReposFault (BadRepos line) read = read ≡ Err line
 IsReposFault ReposMemory read = Unit {0}

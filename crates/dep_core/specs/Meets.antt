@@ -5,6 +5,7 @@ use Rattle.version_core.specs.Matching.{matches}
 use Rattle.dep_core.specs.declared.dep.Dep.{Dep}
 use Rattle.dep_core.specs.Dependency.{Dependency, dependency_by}
 
+-- the dependency that a `Dep` stands for
 abbrev pub dependency : Dep → Dependency
 dependency dep = dependency_by dep.name.now dep.version dep.op dep.conflict (option_copied dep.tag)
 

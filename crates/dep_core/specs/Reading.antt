@@ -18,6 +18,7 @@ is_operator_byte b = (b == 60) || (b == 61) || (b == 62) || (b == 126)
 abbrev pub operator_bits : List ℕ → Option ℕ
 operator_bits text = lookup (bytes_eq text) (operators ++ ((codes "=~", 9) ∷ (codes "~=", 9) ∷ []))
 
+-- whether a byte does not begin a tag
 abbrev pub is_not_at : ℕ → Bool
 is_not_at b = not (b == 64)
 
@@ -25,9 +26,11 @@ is_not_at b = not (b == 64)
 abbrev pub any_version : Bool → List ℕ → Dependency
 any_version conflict name = dependency_by name None 1 conflict None
 
+-- the same dependency with a tag
 abbrev pub with_tag : Dependency → List ℕ → Dependency
 with_tag d tag = dependency_by d.name d.version d.bits d.conflict (Some tag)
 
+-- the same dependency with a version and an operator
 abbrev pub with_constraint : Dependency → List ℕ → ℕ → Dependency
 with_constraint d version bits = dependency_by d.name (Some version) bits d.conflict d.tag
 
@@ -45,6 +48,7 @@ at_version d bits text =
     (rest_behind is_not_at text)
     else None
 
+-- what is read behind an operator; nothing where its bytes are none
 abbrev pub at_operator_end : Dependency → Option ℕ → List ℕ → Option Dependency
 at_operator_end d None text = None
 at_operator_end d (Some bits) text = at_version d bits text

@@ -13,9 +13,11 @@ pub record Repository : Type 0 where
   pub tag : Option (List ℕ)
   pub path : List ℕ
 
+-- a repository by its parts
 abbrev pub repository : Option (List ℕ) → List ℕ → Repository
 repository tag path = record { tag = tag; path = path }
 
+-- the text up to the blanks that it ends with
 abbrev pub without_trailing_blanks : List ℕ → List ℕ
 without_trailing_blanks text = take (length text - suffix_len is_blank text) text
 
@@ -23,10 +25,12 @@ without_trailing_blanks text = take (length text - suffix_len is_blank text) tex
 abbrev pub without_outer_blanks : List ℕ → List ℕ
 without_outer_blanks text = without_trailing_blanks (rest_behind is_blank text)
 
+-- an empty line, or one that begins with a number sign
 abbrev pub is_comment : List ℕ → Bool
 is_comment [] = true
 is_comment (b ∷ rest) = b == 35
 
+-- whether the first byte is a blank
 abbrev pub begins_with_blank : List ℕ → Bool
 begins_with_blank [] = false
 begins_with_blank (b ∷ rest) = is_blank b
@@ -49,6 +53,7 @@ unfoldable pub repository_of : List ℕ → Option Repository
 repository_of [] = None
 repository_of (b ∷ rest) = if b == 64 then tagged_repository rest else at_path None (b ∷ rest)
 
+-- the list of one repository
 abbrev pub singleton : Repository → List Repository
 singleton found = found ∷ []
 
@@ -58,6 +63,7 @@ repositories_on line =
     if is_comment (without_outer_blanks line) then Some []
     else option_map singleton (repository_of (without_outer_blanks line))
 
+-- the repositories of a line, or none where it is bad, before those of the lines behind it
 abbrev pub with_repositories : ℕ → Option (List Repository) → Result (List Repository) ℕ
     → Result (List Repository) ℕ
 with_repositories line None rest = Err line

@@ -11,6 +11,7 @@ abbrev pub is_line_path : List ℕ → Bool
 is_line_path path =
     is_name path && (list_all (λ b. not (is_line_end b)) path && (suffix_len is_blank path == 0))
 
+-- one that a line can say: its tag is a tag, its path a path
 abbrev pub is_line_repository : Repository → Bool
 is_line_repository found = is_tag_or_none found.tag && is_line_path found.path
 

@@ -32,6 +32,7 @@ dep_value d =
 abbrev pub is_matching : ℕ → Bool
 is_matching matching = nat_lt matching 32 && is_op (matching % 16)
 
+-- a version, or no bytes
 abbrev pub is_version_or_empty : List ℕ → Bool
 is_version_or_empty [] = true
 is_version_or_empty (b ∷ rest) = is_version (b ∷ rest)

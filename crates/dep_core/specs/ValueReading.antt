@@ -13,6 +13,7 @@ bits_of low =
     if (low == 8) || ((low == 10) || (low == 12)) then Some (low + 1) else
     Some low
 
+-- the dependency with a version and an operator; without either it stays as it is
 abbrev pub on_version : Dependency → List ℕ → Option ℕ → Dependency
 on_version d [] bits = d
 on_version d (b ∷ rest) None = d

@@ -15,9 +15,11 @@ is_in_order [] = true
 is_in_order (d ∷ rest) =
     list_all (λ (e : Dependency). is_lt (bytes_cmp d.name e.name)) rest && is_in_order rest
 
+-- dependencies in byte order of their names, each name once
 abbrev pub IsWorld : List Dependency → Type 0
 IsWorld world = IsTrue (list_all is_dependency world && is_in_order world)
 
+-- whether one of them has this name
 abbrev pub has_name : List ℕ → List Dependency → Bool
 has_name name world = list_any (λ (d : Dependency). bytes_eq d.name name) world
 
@@ -40,12 +42,15 @@ world_text (d ∷ rest) = dep_text d ++ (10 ∷ world_text rest)
 abbrev pub is_blank : ℕ → Bool
 is_blank b = (b == 32) || (b == 9)
 
+-- whether a byte ends a line
 abbrev pub is_line_end : ℕ → Bool
 is_line_end b = b == 10
 
+-- the lines of a text; behind the last line end too there is one
 abbrev pub lines_of : List ℕ → List (List ℕ)
 lines_of text = slice_split is_line_end text
 
+-- the words of a line, between blanks
 abbrev pub words_of : List ℕ → List (List ℕ)
 words_of line = filter (λ word. not (length word == 0)) (slice_split is_blank line)
 
@@ -60,6 +65,7 @@ with_words world (word ∷ words) =
     option_and_then (λ more. with_words more words)
     (option_and_then (with_new_entry world) (dependency_of word))
 
+-- what comes of the world so far, or this line where it is bad
 abbrev pub or_bad_line : ℕ → (List Dependency → Result (List Dependency) ℕ)
     → Option (List Dependency) → Result (List Dependency) ℕ
 or_bad_line line next None = Err line

@@ -138,6 +138,7 @@ pub fn is_dep_name(name: &[u8]) -> bool
     has_name_bytes(name)
 }
 
+/// Whether all bytes are such as a name may have.
 fn has_name_bytes(name: &[u8]) -> bool
     ensures { result ≡ list_all is_name_byte name.now }
 {
@@ -155,12 +156,14 @@ pub fn is_package_name(name: &[u8]) -> bool
     !has_slash(name)
 }
 
+/// Whether a name has a slash.
 fn has_slash(name: &[u8]) -> bool
     ensures { result ≡ list_any (λ b. b == 47) name.now }
 {
     name.contains(&b'/')
 }
 
+/// Whether a name begins with a byte that no package's name may begin with.
 fn begins_with_punctuation(name: &[u8]) -> bool
     ensures { result ≡ begins_with_punctuation name.now }
 {
@@ -180,6 +183,7 @@ pub fn is_tag(tag: &[u8]) -> bool
     has_tag_bytes(tag)
 }
 
+/// Whether all bytes are such as a tag may have.
 fn has_tag_bytes(tag: &[u8]) -> bool
     ensures { result ≡ list_all is_tag_byte tag.now }
 {

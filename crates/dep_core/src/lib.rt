@@ -6,8 +6,8 @@
 //! no memory. The contracts cite `specs/`: `Dependency` (the parts and their bytes),
 //! `DependencyText` (the grammar and the text), `Reading`, `Value` and `ValueReading`, `Meets`
 //! (what a `Dep` stands for, and what meets it), `World` and `Repositories`, and `LeadingSlash`
-//! (one slash before a path). `Spelling`, `Entries` and `RepositoryText` say the same apart from how
-//! a text is read, and the functions of `laws` join the two.
+//! (one slash before a path). `Spelling`, `Entries` and `RepositoryText` say the same apart from
+//! how a text is read, and the functions of `laws` join the two.
 #![tactic(auto)]
 
 mod dep;

@@ -137,6 +137,7 @@ fn without_outer_blanks(text: &[u8]) -> &[u8]
     without_trailing_blanks(&text[blank_len(text)..])
 }
 
+/// The text up to the blanks that it ends with.
 fn without_trailing_blanks(text: &[u8]) -> &[u8]
     ensures { result.now ≡ without_trailing_blanks text.now }
 {
@@ -157,6 +158,7 @@ fn is_comment(text: &[u8]) -> bool
     }
 }
 
+/// The repository of a line that is no comment; None where the line is bad.
 #[tactic(auto, unfolding(crate::specs::Repositories::repository_of))]
 fn read_repo(alloc: Global, text: &[u8]) -> Result<Option<Repo>, AllocError>
     ensures { IfOk result (λ found. found ≡ repository_of text.now) }
@@ -168,6 +170,7 @@ fn read_repo(alloc: Global, text: &[u8]) -> Result<Option<Repo>, AllocError>
     }
 }
 
+/// The repository of a text behind the `@` of its tag; None where it is bad.
 #[tactic(auto, unfolding(crate::specs::Repositories::tagged_repository))]
 fn read_tagged(alloc: Global, text: &[u8]) -> Result<Option<Repo>, AllocError>
     ensures { IfOk result (λ found. found ≡ tagged_repository text.now) }
@@ -179,6 +182,7 @@ fn read_tagged(alloc: Global, text: &[u8]) -> Result<Option<Repo>, AllocError>
     at_path(alloc, Some(tag), &rest[blank_len(rest)..])
 }
 
+/// Whether the first byte is a blank.
 fn begins_with_blank(text: &[u8]) -> bool
     ensures { result ≡ begins_with_blank text.now }
 {
@@ -188,6 +192,7 @@ fn begins_with_blank(text: &[u8]) -> bool
     }
 }
 
+/// The repository with this tag and this path; None where the path is none.
 fn at_path(alloc: Global, tag: Option<&[u8]>, path: &[u8]) -> Result<Option<Repo>, AllocError>
     ensures { IfOk result (λ found. found ≡ at_path (option_copied tag.entry) path.now) }
 {

@@ -29,6 +29,7 @@ pub fn read_dep(text: &[u8]) -> Option<Dep<'_>>
     }
 }
 
+/// Reads a dependency from its name on.
 #[tactic(auto, unfolding(crate::specs::Reading::at_name))]
 fn at_name(conflict: bool, text: &[u8]) -> Option<Dep<'_>>
     ensures { option_map dependency result ≡ at_name conflict text.entry.now }
@@ -40,6 +41,7 @@ fn at_name(conflict: bool, text: &[u8]) -> Option<Dep<'_>>
     at_name_end(Dep::any_version(conflict, name), rest)
 }
 
+/// Reads what stands behind the name: a tag, a constraint or nothing.
 #[tactic(auto, unfolding(crate::specs::Reading::at_name_end))]
 fn at_name_end<'a>(dep: Dep<'a>, text: &'a [u8]) -> Option<Dep<'a>>
     ensures { option_map dependency result ≡ at_name_end (dependency dep.entry) text.entry.now }
@@ -51,6 +53,7 @@ fn at_name_end<'a>(dep: Dep<'a>, text: &'a [u8]) -> Option<Dep<'a>>
     }
 }
 
+/// Reads a tag behind the name, and a constraint or nothing behind it.
 #[tactic(auto, unfolding(crate::specs::Reading::at_tag))]
 fn at_tag<'a>(dep: Dep<'a>, text: &'a [u8]) -> Option<Dep<'a>>
     ensures { option_map dependency result ≡ at_tag (dependency dep.entry) text.entry.now }
@@ -62,6 +65,7 @@ fn at_tag<'a>(dep: Dep<'a>, text: &'a [u8]) -> Option<Dep<'a>>
     at_constraint(dep.with_tag(tag), rest)
 }
 
+/// Reads an operator and the version behind it.
 #[tactic(auto, unfolding(crate::specs::Reading::at_constraint))]
 fn at_constraint<'a>(dep: Dep<'a>, text: &'a [u8]) -> Option<Dep<'a>>
     ensures { option_map dependency result ≡ at_constraint (dependency dep.entry) text.entry.now }
@@ -74,6 +78,7 @@ fn at_constraint<'a>(dep: Dep<'a>, text: &'a [u8]) -> Option<Dep<'a>>
     at_version(dep, op, rest)
 }
 
+/// Reads the version behind an operator, and what follows it.
 #[tactic(auto, unfolding(crate::specs::Reading::at_version))]
 fn at_version<'a>(dep: Dep<'a>, op: Op, text: &'a [u8]) -> Option<Dep<'a>>
     requires { IsTrue (is_some (operator_text op)) }
@@ -84,6 +89,7 @@ fn at_version<'a>(dep: Dep<'a>, op: Op, text: &'a [u8]) -> Option<Dep<'a>>
     at_version_end(dep.with_constraint(version, op), rest)
 }
 
+/// Reads what stands behind the version: a tag or nothing.
 #[tactic(auto, unfolding(crate::specs::Reading::at_version_end))]
 fn at_version_end<'a>(dep: Dep<'a>, text: &'a [u8]) -> Option<Dep<'a>>
     ensures { option_map dependency result ≡ at_version_end (dependency dep.entry) text.entry.now }
@@ -195,6 +201,7 @@ pub fn name_len(text: &[u8]) -> usize
     name_end(text).unwrap_or(text.len())
 }
 
+/// Where the first byte stands that a name may not have.
 fn name_end(text: &[u8]) -> Option<usize>
     ensures { result ≡ position (λ b. not (is_name_byte b)) text.now }
 {
@@ -210,6 +217,7 @@ pub fn tag_len(text: &[u8]) -> usize
     tag_end(text).unwrap_or(text.len())
 }
 
+/// Where the first byte stands that a tag may not have.
 fn tag_end(text: &[u8]) -> Option<usize>
     ensures { result ≡ position (λ b. not (is_tag_byte b)) text.now }
 {
@@ -225,12 +233,14 @@ pub fn operator_len(text: &[u8]) -> usize
     operator_end(text).unwrap_or(text.len())
 }
 
+/// Where the first byte stands that no operator has.
 fn operator_end(text: &[u8]) -> Option<usize>
     ensures { result ≡ position (λ b. not (is_operator_byte b)) text.now }
 {
     text.iter().position(|byte| !is_operator_byte(*byte))
 }
 
+/// Whether operators have this byte.
 fn is_operator_byte(byte: u8) -> bool
     ensures { result ≡ is_operator_byte byte }
 {
@@ -246,6 +256,7 @@ pub fn len_before_at(text: &[u8]) -> usize
     at_sign(text).unwrap_or(text.len())
 }
 
+/// Where the first `@` stands.
 fn at_sign(text: &[u8]) -> Option<usize>
     ensures { result ≡ position (λ b. not (is_not_at b)) text.now }
 {
@@ -261,6 +272,7 @@ pub fn blank_len(text: &[u8]) -> usize
     blank_end(text).unwrap_or(text.len())
 }
 
+/// Where the first byte stands that is no blank.
 fn blank_end(text: &[u8]) -> Option<usize>
     ensures { result ≡ position (λ b. not (is_blank b)) text.now }
 {

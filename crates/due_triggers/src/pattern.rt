@@ -33,6 +33,7 @@ fn are_parts_matched(pattern: &[u8], folder: &[u8]) -> bool
         .all(|(wanted, part)| is_part_matched(wanted, part))
 }
 
+/// One less than the number of parts.
 fn count_slashes(bytes: &[u8]) -> usize
     ensures { result ≡ count_by (λ b. b == 47) bytes.now }
 {

@@ -45,6 +45,7 @@ IsPackageBad members place cause refusal =
     × (slice_get members place ≡ Some m)
     × (refusal ≡ PackageBad (member_name m) (version_text m.pkg) cause)
 
+-- carrying out fails so where the package of the member at a place was changed since it was tested
 abbrev pub IsRefusedPackage : List Member → ℕ → Cause → Refused → Type 0
 IsRefusedPackage members place cause (IsRefused refusal) = IsPackageBad members place cause refusal
 IsRefusedPackage members place cause Disk = ⊥

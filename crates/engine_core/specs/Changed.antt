@@ -34,6 +34,8 @@ selected_by command inputs pool (Some trace) =
           inputs pool trace;
     })
 
+-- Too many candidates are refused before a word that names no package, and that before a world that
+-- no selection satisfies.
 abbrev pub selected_of_inputs :
     CommandLine → Option (List ℕ) → Inputs → Result Selected Refusal
 selected_of_inputs command chosen inputs =
@@ -75,6 +77,7 @@ IsClashUnlessSimulatedOver true wishes read files standing s clash = clash ≡ N
 IsClashUnlessSimulatedOver false wishes read files standing s clash =
     IsClashOfChangeOver s.inputs s.replacement wishes read files standing clash
 
+-- a command that is refused before does not ask for it
 abbrev pub IsClashOfSelectedOver :
     CommandLine → Reads → Files → Files → Result Selected Refusal → Option NamePair → Type 0
 IsClashOfSelectedOver command read files standing (Ok s) clash =
@@ -95,11 +98,13 @@ abbrev pub IsClashUnlessSimulated :
 IsClashUnlessSimulated simulate wishes read files s clash =
     IsClashUnlessSimulatedOver simulate wishes read files files s clash
 
+-- both are the same files
 abbrev pub IsClashOfSelected :
     CommandLine → Reads → Files → Result Selected Refusal → Option NamePair → Type 0
 IsClashOfSelected command read files selected clash =
     IsClashOfSelectedOver command read files files selected clash
 
+-- both are the same files
 abbrev pub IsClashFor :
     CommandLine → Reads → Files → Option (List ℕ) → Option NamePair → Type 0
 IsClashFor command read files chosen clash = IsClashForOver command read files files chosen clash

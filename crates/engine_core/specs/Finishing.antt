@@ -54,9 +54,11 @@ AreOfCandidates coming members = (place : ℕ) (m : Member) → slice_get member
 abbrev pub inputs_arrived : Arrived → Inputs
 inputs_arrived a = inputs_of_selection a.selection.now
 
+-- which packages take the place of which
 abbrev pub replacement_arrived : Arrived → Replacement
 replacement_arrived a = replacement_seen a.selection.now
 
+-- the packages after the change, those that come among them
 abbrev pub members_arrived : Arrived → List Member
 members_arrived a = members_of a.members.now
 
@@ -99,6 +101,7 @@ pub record AreRecordsOf (inputs : Inputs) (records : NewRecords) : Type 0 where
   pub database_name : records.database_name ≡ Names.database_name
   pub world_name : records.world_name ≡ Names.world_name
 
+-- only a file that differs is written
 abbrev pub bytes_if : Bool → List ℕ → Option (List ℕ)
 bytes_if true bytes = Some bytes
 bytes_if false bytes = None

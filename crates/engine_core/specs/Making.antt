@@ -26,6 +26,7 @@ pub record IsFoundRun (inputs : Inputs) (r : Replacement) (wishes : ChangeWishes
   pub comes : ComesTo (candidates_that_come r) (change_with_members inputs r wishes clash files found)
       old now before after result
 
+-- this holds only where each package that comes is found and passes its tests
 abbrev pub IsMembersRun :
     Inputs → Replacement → ChangeWishes → Reads → List MemberFound → List TreeState
     → List TreeState → Counts → Counts → Result (List ℕ) Refused → Type 0

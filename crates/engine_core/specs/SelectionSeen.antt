@@ -12,10 +12,12 @@ use Rattle.engine_core.specs.declared.choosing.Selection.{Selection}
 abbrev pub inputs_of_selection : Selection → Inputs
 inputs_of_selection s = inputs_seen s.loaded.now
 
+-- the chosen candidates in the place of the packages before
 abbrev pub replacement_seen : Selection → Replacement
 replacement_seen s =
     replacement_of_choice s.again.now (inputs_of_selection s) s.pool.now s.trace.now
 
+-- with what was read of the root
 abbrev pub selection_seen : Selection → Selected
 selection_seen s =
     record { inputs = inputs_of_selection s; replacement = replacement_seen s }

@@ -16,6 +16,7 @@ use Rattle.stage_files.specs.declared.writes.Source.TheVariants.{Bytes, File, Li
 use Rattle.stage_files.specs.declared.writes.StagedWrite.{StagedWrite}
 use Rattle.engine_core.specs.declared.writes.RecordWrites.{RecordWrites}
 
+-- the name that the staged file is to have
 abbrev pub write_name : StagedWrite → List ℕ
 write_name w = w.name.now
 
@@ -56,6 +57,7 @@ pub record IsFileWrite (members : List Member) (packages : Packages) (planned : 
 
 -- ---- the database and world
 
+-- given bytes; neither a link nor a file of a package
 abbrev pub HasBytes : List ℕ → Source → Type 0
 HasBytes bytes (Bytes own) = own.now ≡ bytes
 HasBytes bytes (Link target) = ⊥
@@ -71,10 +73,12 @@ abbrev pub IsRecordOf : List ℕ → Option (Bor (List ℕ)) → StagedWrite →
 IsRecordOf name None write = ⊥
 IsRecordOf name (Some bytes) write = IsRecordWrite name bytes.now write
 
+-- a write for a record that changes, none for one that stays
 abbrev pub record_writes : Bor (List ℕ) → Option (Bor (List ℕ)) → List StagedWrite
 record_writes name None = []
 record_writes name (Some bytes) = record { name = name; source = Bytes bytes } ∷ []
 
+-- of the database and of world, where they are written
 abbrev pub record_names : RecordWrites → List (List ℕ)
 record_names r =
     name_if_needed (is_some r.database) r.database_name.now
@@ -82,6 +86,7 @@ record_names r =
 
 -- ---- each write
 
+-- a file of a package, or the database, or world
 abbrev pub IsWriteBy :
     List Member → Packages → List FileWrite → RecordWrites → StagedWrite → Type 0
 IsWriteBy members packages planned r write =

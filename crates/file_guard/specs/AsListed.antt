@@ -5,22 +5,28 @@ use Rattle.adb_tables.specs.FieldIndexes.{FILE_HASHES, FILE_SIZE, FILE_TARGET}
 use Rattle.adb_tables.specs.Values.{entry_in, int_in, text_in}
 use Rattle.pkg_core.specs.Contents.{hash_fault}
 
+-- in bytes; 0 where the entry tells none
 abbrev pub file_size : Plain → ℕ
 file_size entry = int_in (entry_in entry FILE_SIZE)
 
+-- its length says which digest it is; no bytes where the entry tells none
 abbrev pub file_hash : Plain → List ℕ
 file_hash entry = text_in (entry_in entry FILE_HASHES)
 
+-- of a link `00 a0` and the link's text; of another file no bytes
 abbrev pub file_target : Plain → List ℕ
 file_target entry = text_in (entry_in entry FILE_TARGET)
 
+-- whether the entry is of a symbolic link
 abbrev pub has_target : Plain → Bool
 has_target entry = not (length (file_target entry) == 0)
 
--- what stands for a link to a target: a mark, and the link's text, which follows two bytes
+-- what stands for a link to a target: a mark, and the link's text, which is the target without the
+-- two bytes `00 a0` that it begins with
 abbrev pub link_to : List ℕ → List ℕ
 link_to target = codes "!<symlink>" ++ drop 2 target
 
+-- the bytes of a file that stands for the link of an entry
 abbrev pub link_bytes : Plain → List ℕ
 link_bytes entry = link_to (file_target entry)
 
@@ -32,6 +38,7 @@ is_as_listed_by size hash target bytes =
     else if length hash == 0 then (size == 0) && (length bytes == 0)
     else is_none (hash_fault hash bytes)
 
+-- whether bytes are what an entry says of them
 abbrev pub is_as_listed : Plain → List ℕ → Bool
 is_as_listed entry bytes =
     is_as_listed_by (file_size entry) (file_hash entry) (file_target entry) bytes

@@ -18,6 +18,7 @@ is_as_told None bytes = false
 is_as_told (Some listed) bytes =
     is_as_listed_by listed.size listed.hash.now listed.target.now bytes
 
+-- with what is listed after a change and before it; a side that lists nothing agrees with no bytes
 abbrev pub comparison_by : Option ListedFile → Option ListedFile → List ℕ → Comparison
 comparison_by new old bytes =
     record { as_new = is_as_told new bytes; as_old = is_as_told old bytes }

@@ -12,4 +12,5 @@ Watches Never test so_far = (further : List ℕ) → test (so_far ++ further) �
 Watches (Exactly first second) test so_far =
     (further : List ℕ) → test (so_far ++ further) ≡ bytes_eq further (first.now ++ second.now)
 Watches (Hashed hasher hash) test so_far =
-    HoldsFor hasher hash.now so_far × ((bytes : List ℕ) → test bytes ≡ is_none (hash_fault hash.now bytes))
+    HoldsFor hasher hash.now so_far
+    × ((bytes : List ℕ) → test bytes ≡ is_none (hash_fault hash.now bytes))

@@ -25,6 +25,7 @@ unfoldable pub owned_of : List Member → List Bool
 owned_of members =
     map (λ l. is_member l.place (owner_of_path members l.path)) (member_listings members)
 
+-- what is listed, with its number among the claims
 abbrev pub claim_by : ℕ → Listing → PathClaim
 claim_by number l = record {
   path = l.path;

@@ -31,6 +31,7 @@ unfoldable pub names_package : Plain → Plain → Bool
 names_package x y =
     list_any (λ entry. is_named_by entry y) (entries_at INFO_REPLACES (entry_in x PACKAGE_INFO))
 
+-- 0 where the package tells none
 abbrev pub replacing_priority : Plain → ℕ
 replacing_priority pkg = int_in (entry_in pkg PACKAGE_REPLACES_PRIORITY)
 

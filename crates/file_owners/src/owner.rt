@@ -37,6 +37,7 @@ struct Claimants<'m, 'a> {
 impl<'m, 'a> Contest for Claimants<'m, 'a> {
     ghost beats = { λ claimants. member_beats (members_of claimants.members.now) };
 
+    /// A place behind the last member beats nothing and is not beaten.
     fn beats(&self, one: u32, other: u32) -> bool {
         if one as usize >= self.members.len() {
             return false;

@@ -137,6 +137,8 @@ impl Failure {
         to.write_all(b"\n")
     }
 
+    /// Prints why the call failed; a path of which the call's line did not tell stands before the
+    /// reason.
     fn print_reason<W: Write>(&self, alloc: Global, to: &mut W) -> io::Result<()> {
         match &self.fault {
             HostFault::Memory => to.write_all(b"Cannot allocate memory"),
@@ -171,6 +173,8 @@ fn print_host_reason<W: Write>(alloc: Global, error: &io::Error, to: &mut W) -> 
     }
 }
 
+/// A copy of a path. What a failure tells is worth no further failure, so that it is empty where
+/// there is no memory.
 fn copy_or_empty(alloc: Global, path: &[u8]) -> Vec<u8> {
     match Vec::from_slice(alloc, path) {
         Ok(copy) => copy,

@@ -40,6 +40,7 @@ impl LookedAt {
 }
 
 impl Found {
+    /// Whether a folder stands there.
     pub fn is_folder(&self) -> bool {
         matches!(self, Found::Folder)
     }

@@ -57,6 +57,7 @@ impl LastFolder {
     }
 }
 
+/// Whether the folder has at least `DEEP` parts.
 fn is_deep(folder: &[u8]) -> bool {
     folder.iter().filter(|byte| **byte == b'/').count() >= DEEP - 1
 }

@@ -134,6 +134,7 @@ pub fn lock_root<R: Host>(rt: &R, lock: Lock) -> Result<File, HostFault> {
     Err(HostFault::own(Reason::Locked))
 }
 
+// Takes the lock if nobody holds it; it waits for no one.
 fn try_to_lock(root: &File, lock: Lock) -> Result<(), TryLockError> {
     match lock {
         Lock::Shared => root.try_lock_shared(),

@@ -21,6 +21,7 @@ pub struct Folders {
 }
 
 impl Folders {
+    /// No folder is known, and none has changed names.
     pub fn new(alloc: Global) -> Folders {
         Folders {
             alloc,
@@ -152,6 +153,7 @@ impl Folders {
         Ok(true)
     }
 
+    /// Whether this run has looked at the folder or made it.
     fn is_known(&self, folder: &[u8]) -> bool {
         self.known.contains(folder)
     }
@@ -168,6 +170,7 @@ impl Folders {
         Ok(true)
     }
 
+    /// Makes a folder that is absent, and notes the one in which its name is new.
     fn make<R: Files>(&mut self, rt: &R, folder: &[u8]) -> Result<(), HostFault> {
         if self.is_known(folder) {
             return Ok(());
@@ -217,6 +220,7 @@ fn look_at<R: Files>(rt: &R, alloc: Global, path: &[u8]) -> Result<Found, HostFa
     look(rt, alloc, path, path_text(path)?)
 }
 
+/// Puts a folder among others. Where there is no memory they stay as they are.
 fn keep(folders: &mut BTreeSet<Vec<u8>>, folder: Vec<u8>) -> Result<(), HostFault> {
     match folders.insert(folder) {
         Ok(_) => Ok(()),
@@ -266,6 +270,7 @@ fn push_folder<R: Files>(
     push(alloc, folders, path)
 }
 
+/// Puts a path behind others.
 fn push(alloc: Global, list: &mut Vec<Vec<u8>>, path: &[u8]) -> Result<(), HostFault> {
     match list.push(Vec::from_slice(alloc, path)?) {
         Ok(()) => Ok(()),
@@ -273,6 +278,7 @@ fn push(alloc: Global, list: &mut Vec<Vec<u8>>, path: &[u8]) -> Result<(), HostF
     }
 }
 
+/// Writes the names in a folder through to the disk.
 fn write_folder<R: Files>(rt: &R, folder: &[u8]) -> Result<(), HostFault> {
     let path: &[u8] = if folder.is_empty() { b"." } else { folder };
     Ok(fs::open(rt, path_text(path)?)?.sync_all()?)

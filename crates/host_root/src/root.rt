@@ -33,6 +33,7 @@ pub struct Root<'a, R: Host> {
 }
 
 impl<'a, R: Host> Root<'a, R> {
+    /// The root of a run that has done nothing yet: no file is open, and the lock is not taken.
     pub fn new(rt: &'a R, alloc: Global, lock: Lock) -> Root<'a, R> {
         Root {
             rt,
@@ -236,6 +237,7 @@ impl<'a, R: Host> Root<'a, R> {
     }
 }
 
+/// Renames, by paths as the host takes them.
 fn rename_path<R: Host>(rt: &R, from: &[u8], to: &[u8]) -> Result<(), HostFault> {
     Ok(fs::rename(rt, path_text(from)?, path_text(to)?)?)
 }

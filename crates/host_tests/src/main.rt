@@ -22,6 +22,7 @@ struct HostFolder<'a, R: Host> {
 }
 
 impl<'a, R: Host> Subject for HostFolder<'a, R> {
+    /// Answers a question by its first word, on what the questions before have left.
     fn answer(
         &mut self,
         alloc: Global,
@@ -58,6 +59,7 @@ impl<'a, R: Host> HostFolder<'a, R> {
         self.tree.sync(name)
     }
 
+    /// Renames a file, and adds how that ended.
     fn add_rename(
         &mut self,
         alloc: Global,
@@ -148,6 +150,7 @@ impl<'a, R: Host> HostFolder<'a, R> {
     }
 }
 
+/// Adds how a call ended.
 fn add_outcome<E: Drop>(answer: &mut Vec<u8>, outcome: Result<(), E>) -> Result<(), AllocError> {
     match outcome {
         Ok(()) => answer.extend_from_slice(b"ok"),
@@ -155,6 +158,7 @@ fn add_outcome<E: Drop>(answer: &mut Vec<u8>, outcome: Result<(), E>) -> Result<
     }
 }
 
+/// Answers the rows of standard input, in the folder that it runs in.
 fn main(rt: HostRuntime) -> io::Result<ExitCode> {
     let alloc = rt.alloc();
     let mut folder = HostFolder {

@@ -3,5 +3,6 @@
 use Rattle.std.specs.Prelude.{ℕ, true}
 use Rattle.base_core.specs.Faults.{Counts}
 
+-- so many of its calls have failed
 abbrev pub host_counts : ℕ → Counts
 host_counts faults = record { faults = faults; misuses = 0; wants = 0; fallible = true }

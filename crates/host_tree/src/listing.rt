@@ -29,6 +29,7 @@ pub fn list_below<R: Host>(
     if root.find(folder.as_bytes())?.is_folder() {
         keep(&mut walk.folders, folder.copy(alloc)?)?;
     }
+    // A walk ends when no folder is left; a bound shows the checker that it ends.
     for _ in 0..u64::MAX {
         let Some(next) = walk.folders.pop() else {
             break;
@@ -128,6 +129,7 @@ fn is_last(names: &Names, name: &Name) -> bool
     names.get(names.len() - 1).as_bytes() == name.as_bytes()
 }
 
+/// Puts a name behind others; where there is no memory they stay as they are.
 fn keep(list: &mut Vec<Name>, name: Name) -> Result<(), AllocError>
     ensures ok { OnOk result (list.new.items ≡ list.old.items ++ name ∷ []) }
     ensures err { OnErr result (list.new.items ≡ list.old.items) }

@@ -30,6 +30,7 @@ pub record IsReplayed (start v : TreeState) : Type 0 where
 abbrev pub unless_staged : {X : Type 0} → (List ℕ → Option X) → List ℕ → Option X
 unless_staged map q = if is_staged q then None else map q
 
+-- each is a name of a file that waits
 abbrev pub AllStaged : List (List ℕ) → Type 0
 AllStaged names = All (λ name. is_staged name ≡ true) names
 

@@ -11,10 +11,12 @@ unfoldable pub use Rattle.journal_intent.specs.Intent.{read_intent}
 
 -- ---- the intent
 
+-- the intent in a file, if the file is there and is one
 abbrev pub intent_at : Option (List ℕ) → Option Intent
 intent_at None = None
 intent_at (Some file) = read_intent file
 
+-- the intent that stands among the files, if there is one
 abbrev pub intent_of : Files → Option Intent
 intent_of files = intent_at (files intent_name)
 
@@ -41,6 +43,8 @@ after_actions intent files = after_moves 1 intent.writes (without_names intent.r
 
 -- ---- what files stand for
 
+-- the files behind a recovery: without an intent they stay; else its actions are done, and it is
+-- gone
 abbrev pub recovered_files_by : Option Intent → Files → Files
 recovered_files_by None files = files
 recovered_files_by (Some intent) files = drop_name (after_actions intent files) intent_name

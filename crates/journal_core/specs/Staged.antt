@@ -61,6 +61,7 @@ pub record IsAlone (name : List ℕ) (v : TreeState) : Type 0 where
   pub no_place : (map : NameMap) → IsMapOf v map → map name ≡ Some number
       → IsPlaceOf (intent_of (files_by v map)) name → ⊥
 
+-- the file that waits as number k was begun, where there are bytes for it
 abbrev pub IsBegun : ℕ → Option (List ℕ) → TreeState → Type 0
 IsBegun k None v = Unit {0}
 IsBegun k (Some bytes) v = IsAlone (stage_name k) v

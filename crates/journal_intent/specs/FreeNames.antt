@@ -7,9 +7,11 @@ use Rattle.adb_tables.specs.Values.{text_in}
 use Rattle.adb_view.specs.Plain.{Plains, none, more}
 use Rattle.journal_intent.specs.Intent.{Intent, intent_name, is_staged, stage_name}
 
+-- the name is one of these
 abbrev pub IsOneOf : List ℕ → List (List ℕ) → Type 0
 IsOneOf name names = list_any (bytes_eq name) names ≡ true
 
+-- the name is none of these
 abbrev pub IsNoneOf : List ℕ → List (List ℕ) → Type 0
 IsNoneOf name names = list_any (bytes_eq name) names ≡ false
 
@@ -23,6 +25,7 @@ pub record IsFreeName (name : List ℕ) : Type 0 where
 abbrev pub IsTakenName : List ℕ → Type 0
 IsTakenName name = (name ≡ intent_name) ⊎ ((k : ℕ) × (name ≡ stage_name k))
 
+-- each name is free
 abbrev pub AreFreeNames : List (List ℕ) → Type 0
 AreFreeNames [] = Unit {0}
 AreFreeNames (name ∷ names) = IsFreeName name × AreFreeNames names

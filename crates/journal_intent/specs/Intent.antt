@@ -8,6 +8,7 @@ use Rattle.adb_view.specs.Plain.{Plain}
 use Rattle.adb_fields.specs.Repeated.{entries_at}
 use Rattle.adb_rules.specs.Rules.{is_change_name}
 use Rattle.adb_schema.specs.Soundness.{first_fault, payload_in, root_value}
+use Rattle.adb_tables.specs.FieldIndexes.{INTENT_REMOVALS, INTENT_WRITES}
 use Rattle.adb_tables.specs.Values.{text_in}
 use Rattle.adb_tables.specs.declared.tables.Which.TheVariants.{Intent as IntentTable}
 
@@ -21,6 +22,7 @@ intent_name = codes "lib/apk/intent"
 abbrev pub stage_folder : List ℕ
 stage_folder = codes "lib/apk/stage"
 
+-- whether a name lies below the folder where new files wait
 abbrev pub is_staged : List ℕ → Bool
 is_staged name = starts_with nat_eq name (stage_folder ++ codes "/")
 
@@ -38,11 +40,11 @@ pub record Intent : Type 0 where
 -- the two lists of an intent container's plain value
 abbrev pub intent_in : Plain → Intent
 intent_in v = record {
-  removals = map text_in (entries_at 0 v);
-  writes =
-      map text_in (entries_at 1 v);
+  removals = map text_in (entries_at INTENT_REMOVALS v);
+  writes = map text_in (entries_at INTENT_WRITES v);
 }
 
+-- the intent of a value, unless a test failed
 abbrev pub intent_unless : Option Cause → Plain → Option Intent
 intent_unless None v = Some (intent_in v)
 intent_unless (Some cause) v = None

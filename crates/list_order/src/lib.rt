@@ -18,5 +18,6 @@ pub fn sorted_texts_are_in_order()
 
 /// The smallest of several texts is the one that comes first when they are sorted.
 pub fn the_smallest_text_is_sorted_first()
-    ensures { (texts : List (List ℕ)) → smallest_text texts ≡ slice_get (sorted_by bytes_cmp texts) 0 }
+    ensures { (texts : List (List ℕ))
+        → smallest_text texts ≡ slice_get (sorted_by bytes_cmp texts) 0 }
 {}

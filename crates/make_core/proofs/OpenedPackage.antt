@@ -1,6 +1,7 @@
 -- The value of a package in which no test fails is normal, has its shape and keeps the rules.
 use Rattle.std.proofs.Common.{◌≡◌, ◌↔◌, ℕ, ◌-◌, ◌<◌, Bool, true, false, if◌then◌else◌, List, drop, Option, Some, None, Result, Ok, Err, refl, subst, length, ◌≤◌}
 use Rattle.std.specs.Prelude.{All, IfSome, is_some, unwrap_or}
+use Rattle.std.specs.Option.{option_or}
 use Rattle.std.proofs.lemmas.List.Elements.{All-drop, All-take}
 use Rattle.base_core.specs.declared.cause.Cause.{Cause}
 use Rattle.base_core.specs.declared.cause.Cause.TheVariants.{BlockOrder, Truncated}
@@ -15,7 +16,7 @@ use Rattle.adb_view.specs.Visits.{visits, MOST_VALUES}
 use Rattle.adb_view.specs.Shaped.{HasShape}
 use Rattle.adb_tables.specs.Schema.{shape_of}
 use Rattle.adb_tables.specs.Values.{value_at}
-use Rattle.adb_tables.specs.Walk.{or_else, shape_fault}
+use Rattle.adb_tables.specs.Walk.{shape_fault}
 use Rattle.adb_rules.specs.Texts.{text_fault}
 use Rattle.adb_schema.specs.Soundness.{blocks_fault, file_fault, first_payload, payload_behind, payload_fault, payload_in, root_value, schema_fault}
 use Rattle.adb_tables.specs.declared.tables.Which.TheVariants.{Package}
@@ -31,11 +32,11 @@ pub record Values : Type 0 where
 abbrev AreBytes : List ℕ → Type 0
 AreBytes bytes = All (λ b. b < 256) bytes
 
-pub front_none : (o u : Option Cause) → or_else o u ≡ None → o ≡ None
+pub front_none : (o u : Option Cause) → option_or o u ≡ None → o ≡ None
 front_none None u h = refl
 front_none (Some c) u h = h
 
-pub back_none : (o u : Option Cause) → or_else o u ≡ None → u ≡ None
+pub back_none : (o u : Option Cause) → option_or o u ≡ None → u ≡ None
 back_none None u h = h
 back_none (Some c) u h = (cc)
 

@@ -16,6 +16,7 @@ use Rattle.make_package.specs.Package.{Script, SourceFolder, contents_of_folders
 use Rattle.make_package.specs.Sources.{folders_below, on_success, scripts_from, texts_of, values_with}
 use Rattle.pkg_core.specs.Whole.{Packed}
 
+-- by what was read of each part, in the order in which they are read
 abbrev pub packed_of_parts :
     CommandLine → List Script → List InfoItem → List SourceFolder → Result Packed MakeFault
 packed_of_parts command scripts about folders =
@@ -32,6 +33,7 @@ packed_package command names read =
     on_success (folders_below read (length scripts) (values_with FILES command.values) names)
     (packed_of_parts command scripts about)))
 
+-- the entries in their order; or the fault of the first operand that gives none
 abbrev pub index_value_of : List ℕ → Result (List Plain) MakeFault → Result Plain MakeFault
 index_value_of description (Ok entries) =
     Ok (value_of_index description (sorted_by entry_cmp entries))

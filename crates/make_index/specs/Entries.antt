@@ -2,6 +2,7 @@
 -- its file.
 use Rattle.std.specs.Prelude.{ℕ, List, length}
 use Rattle.adb_view.specs.Plain.{Plain}
+use Rattle.adb_tables.specs.FieldIndexes.{PACKAGE_INFO}
 use Rattle.adb_tables.specs.Values.{entry_in}
 use Rattle.adb_copy.specs.Zeros.{info_with}
 use Rattle.pkg_core.specs.Whole.{package_id, package_with_contents}
@@ -9,4 +10,5 @@ use Rattle.pkg_core.specs.Whole.{package_id, package_with_contents}
 -- what an index says of the package in a file
 abbrev pub entry_of_package : List ℕ → Plain
 entry_of_package file =
-    info_with (entry_in (package_with_contents file).value 0) (package_id file) (length file)
+    info_with (entry_in (package_with_contents file).value PACKAGE_INFO) (package_id file)
+    (length file)

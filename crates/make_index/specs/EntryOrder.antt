@@ -12,9 +12,11 @@ use Rattle.adb_tables.specs.Values.{entry_in, text_in}
 abbrev pub name_in : Plain → List ℕ
 name_in entry = text_in (entry_in entry INFO_NAME)
 
+-- its version, as text
 abbrev pub version_in : Plain → List ℕ
 version_in entry = text_in (entry_in entry INFO_VERSION)
 
+-- its id, which an index has as its hash
 abbrev pub id_in : Plain → List ℕ
 id_in entry = text_in (entry_in entry INFO_HASHES)
 

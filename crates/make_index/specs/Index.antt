@@ -30,6 +30,7 @@ value_of_index description entries =
 
 -- ---- the packages, operand by operand
 
+-- the package's entry, unless a test of its file fails; the place is the operand's
 abbrev pub entry_unless : ℕ → List ℕ → Option Cause → Result Plain MakeFault
 entry_unless place file None = Ok (entry_of_package file)
 entry_unless place file (Some cause) = Err (FileBad place cause)
@@ -66,6 +67,7 @@ unfoldable pub index_of : List ℕ → List Plain → Result (List ℕ) MakeFaul
 index_of description entries =
     index_container (written_of (value_of_index description (sorted_by entry_cmp entries)))
 
+-- of the packages that the operands find, or the fault of the first that gives none
 abbrev pub index_of_found : List ℕ → Result (List Plain) MakeFault → Result (List ℕ) MakeFault
 index_of_found description (Ok entries) = index_of description entries
 index_of_found description (Err fault) = Err fault
@@ -76,6 +78,7 @@ index_by description operands read = index_of_found description (found_entries r
 
 -- ---- of a command
 
+-- what the index says of itself; nothing, where `-d` is not given
 abbrev pub text_or_empty : Option OptionValue → List ℕ
 text_or_empty None = []
 text_or_empty (Some v) = v.text

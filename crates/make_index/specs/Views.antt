@@ -9,5 +9,6 @@ use Rattle.make_index.specs.declared.entry.Entry.{Entry}
 abbrev pub entry_view : Entry → Plain
 entry_view entry = kept_value entry.source
 
+-- of several, in their order
 abbrev pub entries_view : Vec Entry Global → List Plain
 entries_view entries = map entry_view entries.items

@@ -1,6 +1,5 @@
 //! An entry of an index: the tests of its package, and its order among the others.
 ghost use Rattle.adb_schema.specs.Soundness.{first_fault, payload_in, root_value};
-ghost use Rattle.adb_view.specs.Gives.{cause_of};
 ghost use Rattle.adb_values.specs.Drafts.{draft_with};
 ghost use Rattle.base_core.specs.declared.cause.Cause.{Cause};
 ghost use Rattle.make_index.specs.Entries.{entry_of_package};
@@ -12,6 +11,7 @@ ghost use Rattle.pkg_core.specs.Opened.{opened_files, opened_payload, opened_val
 ghost use Rattle.pkg_core.specs.Whole.{package_fault};
 ghost use Rattle.pkg_core.specs.Refusals.{IsFaultOf};
 ghost use Rattle.std.specs.Prelude.{◌≡◌, Some, None, IfOk, IfErr, IfSome, IsTrue, OnOk, Option};
+ghost use Rattle.std.specs.Result.{result_err};
 ghost use Rattle.version_core.specs.Order.{is_version, version_cmp};
 ghost use Rattle.adb_tables.specs.declared.tables.Which.TheVariants as Tables;
 
@@ -170,7 +170,7 @@ pub(crate) fn open_tested<'a>(
 
 /// Reads the files of a package to the last.
 fn test_files(pkg: &mut Package<'_>) -> Result<(), Cause>
-    ensures files { cause_of result ≡ fault_in (opened_files pkg.old) }
+    ensures files { result_err result ≡ fault_in (opened_files pkg.old) }
     ensures value { opened_value pkg.new ≡ opened_value pkg.old }
     ensures payload { opened_payload pkg.new ≡ opened_payload pkg.old }
 {

@@ -21,6 +21,7 @@ pub record FieldText : Type 0 where
   pub field : Field
   pub value : List ℕ
 
+-- by the index of the first `:`
 abbrev pub field_text_from : List ℕ → Option ℕ → Option FieldText
 field_text_from text None = None
 field_text_from text (Some colon) =
@@ -32,9 +33,11 @@ field_text_from text (Some colon) =
 abbrev pub field_text_in : List ℕ → Option FieldText
 field_text_in text = field_text_from text (position (λ b. b == COLON) text)
 
+-- fields are told apart by the words that name them
 abbrev pub is_same : Field → Field → Bool
 is_same f g = bytes_eq (field_word f) (field_word g)
 
+-- false too where the text is no FIELD:VALUE
 abbrev pub is_text_for : Field → Option FieldText → Bool
 is_text_for f None = false
 is_text_for f (Some given) = is_same given.field f
@@ -43,6 +46,7 @@ is_text_for f (Some given) = is_same given.field f
 abbrev pub is_for : Field → OptionValue → Bool
 is_for f v = is_text_for f (field_text_in v.text)
 
+-- other options with a value, such as `-o`, say nothing of the information
 abbrev pub is_info_option : OptionValue → Bool
 is_info_option v = v.letter == INFO
 
@@ -50,6 +54,7 @@ is_info_option v = v.letter == INFO
 abbrev pub values_of_info : List OptionValue → List OptionValue
 values_of_info values = filter is_info_option values
 
+-- what is given, if it is for this field
 abbrev pub text_when_for : Field → Option FieldText → Option (List ℕ)
 text_when_for f None = None
 text_when_for f (Some given) = if is_same given.field f then Some given.value else None
@@ -63,6 +68,7 @@ abbrev pub first_text_for : Field → List OptionValue → Option (List ℕ)
 first_text_for f [] = None
 first_text_for f (v ∷ vs) = option_or (text_for f v) (first_text_for f vs)
 
+-- a text that a rule allows
 abbrev pub if_passes : (List ℕ → Bool) → List ℕ → Option (List ℕ)
 if_passes is_good value = if is_good value then Some value else None
 
@@ -71,6 +77,7 @@ abbrev pub package_name_in : List OptionValue → Option (List ℕ)
 package_name_in values =
     option_and_then (if_passes is_package_name) (first_text_for Fields.Name values)
 
+-- a version that the grammar allows; of several `-I version:..` the first counts
 abbrev pub package_version_in : List OptionValue → Option (List ℕ)
 package_version_in values =
     option_and_then (if_passes is_version) (first_text_for Fields.Version values)
@@ -79,6 +86,7 @@ package_version_in values =
 abbrev pub package_file_name : List ℕ → List ℕ → List ℕ
 package_file_name name version = name ++ (HYPHEN ∷ version ++ codes ".apk")
 
+-- None where one of the two is lacking
 abbrev pub package_file_name_of : Option (List ℕ) → Option (List ℕ) → Option (List ℕ)
 package_file_name_of name version =
     option_and_then (λ name. option_map (package_file_name name) version) name
@@ -87,6 +95,7 @@ package_file_name_of name version =
 abbrev pub default_output : List OptionValue → Option (List ℕ)
 default_output values = package_file_name_of (package_name_in values) (package_version_in values)
 
+-- the value of `-o`, without a leading `./`
 abbrev pub file_name_in : OptionValue → List ℕ
 file_name_in v = without_dot v.text
 
@@ -94,6 +103,7 @@ file_name_in v = without_dot v.text
 abbrev pub named_output : List OptionValue → Option (List ℕ)
 named_output values = option_map file_name_in (first_value OUTPUT values)
 
+-- a scratch name beside it would be no name; where no output is known nothing is too long
 abbrev pub is_long_name : Option (List ℕ) → Bool
 is_long_name None = false
 is_long_name (Some file) = nat_lt LONGEST_OUTPUT (length file)

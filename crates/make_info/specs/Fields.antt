@@ -35,6 +35,7 @@ field_word Fields.InstallIf = codes "install-if"
 field_word Fields.Recommends = codes "recommends"
 field_word Fields.Tags = codes "tags"
 
+-- the fields that `-I` may give
 abbrev pub fields : List Field
 fields =
     Fields.Name ∷ Fields.Version ∷ Fields.Description ∷ Fields.Arch ∷ Fields.License
@@ -46,6 +47,7 @@ fields =
 abbrev pub field_among : List Field → List ℕ → Option Field
 field_among fields word = find (λ f. bytes_eq (field_word f) word) fields
 
+-- the field that a word names; the word of no field gives none
 unfoldable pub field_of : List ℕ → Option Field
 field_of word = field_among fields word
 
@@ -88,10 +90,12 @@ pub data FieldValue : Type 0 where
 
 -- ---- the values that a text is under a kind; None where it is outside of the kind's grammar
 
+-- a text that its rule allows is the field's one value
 abbrev pub text_if : Bool → List ℕ → Option (List FieldValue)
 text_if true value = Some (text value ∷ [])
 text_if false value = None
 
+-- the bytes that hexadecimal digits spell; of a text that is none, no value
 abbrev pub value_of_digits : Result (List ℕ) FromHexError → Option (List FieldValue)
 value_of_digits (Ok bytes) = Some (text bytes ∷ [])
 value_of_digits (Err e) = None
@@ -106,12 +110,15 @@ decimal_number value =
 abbrev pub is_nonempty : List ℕ → Bool
 is_nonempty part = nat_lt 0 (length part)
 
+-- only spaces (32) part them; a tab is a byte of its part
 abbrev pub nonempty_parts : List ℕ → List (List ℕ)
 nonempty_parts value = filter is_nonempty (slice_split (λ b. b == 32) value)
 
+-- each part is a value of its own
 abbrev pub text_values : List (List ℕ) → List FieldValue
 text_values parts = map text parts
 
+-- a tag stands in world alone, never in a package
 abbrev pub if_untagged : Dependency → Option Dependency
 if_untagged d = if is_some d.tag then None else Some d
 
@@ -119,14 +126,17 @@ if_untagged d = if is_some d.tag then None else Some d
 abbrev pub need_in : List ℕ → Option Dependency
 need_in part = option_and_then if_untagged (dependency_of part)
 
+-- a dependency in front of others; one that is none spoils all
 abbrev pub and_needs : Option Dependency → Option (List FieldValue) → Option (List FieldValue)
 and_needs d others =
     option_and_then (λ d. option_map (λ others. need d ∷ others) others) d
 
+-- one value for each part; None where a part is no dependency
 abbrev pub needs_in : List (List ℕ) → Option (List FieldValue)
 needs_in [] = Some []
 needs_in (part ∷ parts) = and_needs (need_in part) (needs_in parts)
 
+-- A list kind may give several values, or none; each other kind gives one. Of texts all is allowed.
 abbrev pub values_by_kind : Kind → List ℕ → Option (List FieldValue)
 values_by_kind Kinds.PackageName value = text_if (is_package_name value) value
 values_by_kind Kinds.PackageVersion value = text_if (is_version value) value

@@ -18,6 +18,7 @@ pub record InfoItem : Type 0 where
   pub field : Field
   pub value : FieldValue
 
+-- one item: a field of a list has one for each of its parts
 abbrev pub info_item : Field → FieldValue → InfoItem
 info_item f value = record { field = f; value = value }
 
@@ -31,6 +32,8 @@ abbrev pub items_of_text : FieldText → Option (List InfoItem)
 items_of_text given =
     with_values [] given.field (values_by_kind (kind_of_field given.field) given.value)
 
+-- what one value of `-I` says; None where it is no FIELD:VALUE, or the value is outside the field's
+-- grammar
 abbrev pub items_of_option : OptionValue → Option (List InfoItem)
 items_of_option v = option_and_then items_of_text (field_text_in v.text)
 
@@ -40,6 +43,7 @@ repeats_field before None = false
 repeats_field before (Some given) =
     not (is_list (kind_of_field given.field)) && list_any (is_for given.field) before
 
+-- a field that is given once is given again
 abbrev pub is_second : List OptionValue → OptionValue → Bool
 is_second before v = repeats_field before (field_text_in v.text)
 
@@ -80,6 +84,8 @@ information_of values behind =
     unless_offence (first_offence (is_too_long values) [] own)
     (if lacks_name_or_version own then Err behind else Ok (all_items own))
 
+-- of a command line; the place behind its last argument is where a lacking name or version is
+-- reported
 abbrev pub information : CommandLine → Result (List InfoItem) ℕ
 information command = information_of command.values command.behind
 
@@ -91,14 +97,17 @@ need_value v =
     obj_value
     (more (blob_value v.name) (more (blob_value v.version) (more (number_value v.matching) none)))
 
+-- as a container stores it; a text that is empty is Null
 abbrev pub plain_value : FieldValue → Plain
 plain_value (text bytes) = blob_value bytes
 plain_value (number n) = int n
 plain_value (need d) = need_value (dep_value d)
 
+-- whether an item is one of this field
 abbrev pub is_item_for : Field → InfoItem → Bool
 is_item_for f item = is_same item.field f
 
+-- Null, where nothing is given for a field
 abbrev pub item_value : Option InfoItem → Plain
 item_value None = null
 item_value (Some item) = plain_value item.value
@@ -118,7 +127,7 @@ plains_for f (item ∷ items) =
 abbrev pub value_of_list : Field → List InfoItem → Plain
 value_of_list f info = arr_value (plains_for f info)
 
--- the fields of schema 3 in order, with the size of the files; hashes, the file's size, layer and
+-- the fields of table 3 in order, with the size of the files; hashes, the file's size, layer and
 -- the last field are Null
 abbrev pub information_fields : List InfoItem → ℕ → Plains
 information_fields info size =
@@ -133,9 +142,11 @@ information_fields info size =
     (more (value_of_list Fields.Recommends info) (more null
     (more (value_of_list Fields.Tags info) (more null none)))))))))))))))))))))
 
+-- the object of these fields
 unfoldable pub information_value : List InfoItem → ℕ → Plain
 information_value info size = obj_value (information_fields info size)
 
+-- the number that a value is; a text and a dependency are none
 abbrev pub number_in : FieldValue → Option ℕ
 number_in (text bytes) = None
 number_in (number n) = Some n

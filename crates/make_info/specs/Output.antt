@@ -7,10 +7,12 @@ use Rattle.command_core.specs.declared.command.Applet.TheVariants.{Mkpkg}
 use Rattle.make_info.specs.FieldTexts.{named_output, default_output}
 use Rattle.make_info.specs.Information.{InfoItem, information}
 
+-- the only command whose output may have no name in its words
 abbrev pub is_mkpkg : Applet → Bool
 is_mkpkg Mkpkg = true
 is_mkpkg applet = false
 
+-- where the information is not allowed there is no output, also if `-o` names one
 abbrev pub if_allowed : Result (List InfoItem) ℕ → Option (List ℕ) → Option (List ℕ)
 if_allowed (Ok info) name = name
 if_allowed (Err place) name = None

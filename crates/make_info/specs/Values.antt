@@ -2,6 +2,7 @@
 use Rattle.std.specs.Prelude.{ℕ, ◌==◌, if◌then◌else◌, List, [], ◌∷◌, Option, Some, None}
 use Rattle.adb_view.specs.Plain.{Plain, null, int, Plains, none, more}
 
+-- values in the form in which an object or an array holds them
 abbrev pub plains_of_list : List Plain → Plains
 plains_of_list [] = none
 plains_of_list (v ∷ vs) = more v (plains_of_list vs)

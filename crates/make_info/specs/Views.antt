@@ -8,14 +8,17 @@ use Rattle.make_info.specs.Fields.{FieldValue, text, number, need}
 use Rattle.make_info.specs.FieldTexts.{FieldText}
 use Rattle.make_info.specs.Information.{InfoItem}
 
+-- of a text FIELD:VALUE that was taken apart
 abbrev pub field_text_view : FieldSlices → FieldText
 field_text_view slice = record { field = slice.field; value = slice.value.now }
 
+-- of one value; hexadecimal digits have become the bytes that they spell
 abbrev pub value_view : Value → FieldValue
 value_view (Text bytes) = text bytes.now
 value_view (Bytes bytes) = text bytes.items
 value_view (Number n) = number n
 value_view (Need dep) = need (dependency dep)
 
+-- of a field with a value
 abbrev pub item_view : Item → InfoItem
 item_view e = record { field = e.field; value = value_view e.value }

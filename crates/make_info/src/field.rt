@@ -170,6 +170,7 @@ fn is_decimal(digits: &[u8]) -> bool
     are_digits(digits)
 }
 
+// Whether a zero stands in front of further digits.
 fn has_zero_in_front(digits: &[u8]) -> bool
     ensures { result ≡ has_zero_in_front digits.now }
 {
@@ -179,6 +180,7 @@ fn has_zero_in_front(digits: &[u8]) -> bool
     }
 }
 
+// Whether all bytes are decimal digits.
 fn are_digits(digits: &[u8]) -> bool
     ensures { result ≡ list_all is_ascii_digit digits.now }
 {

@@ -89,6 +89,8 @@ pub fn read_information<'a>(
     read_values(alloc, command.values(), command.behind())
 }
 
+// Reads the values of `-I` one by one. `behind` is the place behind the last argument, where a name
+// or a version that is lacking is reported.
 #[tactic(auto, unfolding(crate::specs::Information::information_of))]
 fn read_values<'a>(
     alloc: Global,
@@ -197,6 +199,7 @@ impl<'a> Items<'a> {
         self.entries.iter().find(|entry| entry.field == field)
     }
 
+    // Puts a field with its value behind the others.
     fn push(&mut self, field: Field, value: Value<'a>) -> Result<(), AllocError>
         ensures { OnOk result (self.new ≡ self.old ++ info_item field
             (value_view value.entry) ∷ []) }

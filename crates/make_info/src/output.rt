@@ -143,6 +143,7 @@ fn named_output(alloc: Global, command: &Command) -> Result<Option<Name>, AllocE
     }
 }
 
+// Whether the output may be named by what is packed.
 fn is_mkpkg(applet: Applet) -> bool
     ensures { result ≡ is_mkpkg applet }
 {

@@ -1,4 +1,5 @@
-//! Writes the information of a package as a value of schema 3 (apk-v3(5)), column by column.
+//! Writes the information of a package as an object of table 3 (`docs/formats.md`, "Schemas"),
+//! field by field.
 ghost use Rattle.adb_values.specs.Drafts.{draft_with, draft_with_all};
 ghost use Rattle.adb_view.specs.Plain.{blob_value};
 ghost use Rattle.dep_core.specs.Meets.{dependency};
@@ -91,6 +92,7 @@ impl Items<'_> {
         Ok(())
     }
 
+    // Writes one field of the table.
     fn write_column(
         &self,
         draft: &mut Draft,
@@ -143,6 +145,7 @@ impl Value<'_> {
         }
     }
 
+    // Writes the value as a container has it.
     fn write(&self, draft: &mut Draft) -> Result<(), AllocError>
         ensures { OnOk result
             (draft.new ≡ draft_with (plain_value (value_view self.now)) draft.old) }
@@ -178,6 +181,7 @@ pub fn write_need(draft: &mut Draft, dep: &Dep<'_>) -> Result<(), AllocError>
     draft.close_object()
 }
 
+// Writes the version that a dependency names, or NULL.
 fn write_version(draft: &mut Draft, dep: &Dep<'_>) -> Result<(), AllocError>
     ensures { OnOk result (draft.new
         ≡ draft_with (blob_value (dep_value (dependency dep.now)).version) draft.old) }
@@ -198,8 +202,9 @@ pub fn write_number(draft: &mut Draft, number: Option<u64>) -> Result<(), AllocE
     }
 }
 
-// The number of a dependency's operator, with 16 for a conflict. None: any version is taken, or the
-// one that is named.
+// The match number of a dependency: its operator's, with 16 more for a conflict, and 23 (7 and 16)
+// for a conflict without version. None: no conflict, and any version is taken, or the one that is
+// named.
 fn matching_of(dep: &Dep<'_>) -> Option<u64>
     ensures { result ≡ (dep_value (dependency dep.now)).matching }
 {

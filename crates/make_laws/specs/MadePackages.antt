@@ -56,6 +56,7 @@ HasFoldersOver dir names pkg =
 abbrev pub MAY_READ : ℕ
 MAY_READ = 4
 
+-- to change its bytes, or the names in a folder
 abbrev pub MAY_WRITE : ℕ
 MAY_WRITE = 2
 
@@ -75,6 +76,7 @@ readable = mode_of (MAY_READ + MAY_WRITE) MAY_READ MAY_READ
 abbrev pub enterable : ℕ
 enterable = mode_of (MAY_READ + MAY_WRITE + MAY_ENTER) (MAY_READ + MAY_ENTER) (MAY_READ + MAY_ENTER)
 
+-- its access list says so, with root as user and group
 abbrev pub IsReadableFile : Plain → Type 0
 IsReadableFile file = IsAccessOfRoot readable (field_named File (codes "acl") file)
 
@@ -91,6 +93,7 @@ HasTriggersInOrder values pkg =
     map text_in (entries_named Package (codes "triggers") pkg)
     ≡ map (λ (v : OptionValue). v.text) (filter (λ (v : OptionValue). v.letter == TRIGGER) values)
 
+-- what the file's entry says of its length
 abbrev pub size_told : Plain → ℕ
 size_told file = int_in (field_named File (codes "size") file)
 

@@ -49,12 +49,15 @@ SpellNeeds (part ∷ parts) (need d ∷ values) =
 
 -- ---- field by field
 
+-- the value itself
 abbrev pub SaysText : List ℕ → List FieldValue → Type 0
 SaysText value said = said ≡ text value ∷ []
 
+-- one number
 abbrev pub SaysNumber : List ℕ → List FieldValue → Type 0
 SaysNumber value said = (n : ℕ) × SpellsNumber value n × (said ≡ number n ∷ [])
 
+-- a dependency for each part
 abbrev pub SaysNeeds : List ℕ → List FieldValue → Type 0
 SaysNeeds value said = SpellNeeds (spaced_parts value) said
 

@@ -37,6 +37,7 @@ abbrev pub TellsFirst : List FieldValue → Plain → Type 0
 TellsFirst [] v = v ≡ null
 TellsFirst (x ∷ said) v = v ≡ plain_value x
 
+-- by whether the field is a list
 abbrev pub TellsAsList : Bool → List FieldValue → Plain → Type 0
 TellsAsList true said v = TellsAll said v
 TellsAsList false said v = TellsFirst said v

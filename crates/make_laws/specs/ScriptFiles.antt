@@ -30,5 +30,6 @@ IsScriptGiven read options type script =
     ((bytes : List ℕ) × IsGivenScript read options type bytes × (script ≡ blob_value bytes))
     ⊎ (IsNotGiven options type × (script ≡ null))
 
+-- what the package has as its script of this type; Null where it has none
 abbrev pub script_named : List ℕ → Plain → Plain
 script_named type pkg = field_named Scripts type (field_named Package (codes "scripts") pkg)

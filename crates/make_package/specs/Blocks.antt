@@ -7,6 +7,7 @@ use Rattle.adb_block.specs.declared.block.BlockKind.TheVariants as Kinds
 use Rattle.pkg_core.specs.Contents.{Contents}
 use Rattle.adb_sound.specs.Container.{contents_piece}
 
+-- one block as it stands in the file: the contents of one file behind their two positions
 abbrev pub contents_block : Contents → List ℕ
 contents_block contents = block_bytes (contents_piece contents)
 

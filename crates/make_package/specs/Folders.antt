@@ -6,6 +6,7 @@ use Rattle.std.specs.Cmp.Lexicographic.{slice_cmp}
 use Rattle.std.specs.declared.cmp.Ordering.{Ordering}
 use Rattle.std.specs.declared.cmp.Ordering.TheVariants.{Less, Equal, Greater}
 
+-- `/`
 abbrev pub is_slash : ℕ → Bool
 is_slash b = b == 47
 
@@ -13,6 +14,7 @@ is_slash b = b == 47
 abbrev pub folder_of : List ℕ → List ℕ
 folder_of path = before_last is_slash path
 
+-- what stands behind the last `/`, or all of it
 abbrev pub last_part_of : List ℕ → List ℕ
 last_part_of path = after_last is_slash path
 
@@ -33,21 +35,26 @@ folders_over path = [] ∷ before_slashes path
 
 -- ---- names in byte order, each once
 
+-- A name goes in front of the first that comes behind it; one that is there is not put in again.
+-- `further` are the others with the name among them.
 abbrev pub with_folder_by :
     Ordering → List ℕ → List ℕ → List (List ℕ) → List (List ℕ) → List (List ℕ)
 with_folder_by Less name x xs further = name ∷ x ∷ xs
 with_folder_by Equal name x xs further = x ∷ xs
 with_folder_by Greater name x xs further = x ∷ further
 
+-- a name put among names that rise in byte order
 abbrev pub with_folder : List ℕ → List (List ℕ) → List (List ℕ)
 with_folder name [] = name ∷ []
 with_folder name (x ∷ xs) =
     with_folder_by (slice_cmp nat_cmp name x) name x xs (with_folder name xs)
 
+-- names put among others, one by one
 abbrev pub with_folders : List (List ℕ) → List (List ℕ) → List (List ℕ)
 with_folders so_far [] = so_far
 with_folders so_far (name ∷ names) = with_folders (with_folder name so_far) names
 
+-- in byte order, each once
 abbrev pub sorted_names : List (List ℕ) → List (List ℕ)
 sorted_names names = with_folders [] names
 
@@ -72,6 +79,7 @@ abbrev pub names_in_folder : List ℕ → List (List ℕ) → List ℕ → List 
 names_in_folder dir names folder =
     filter (λ name. bytes_eq (folder_of (path_below dir name)) folder) names
 
+-- a folder of the package, and what stands in it
 abbrev pub listing_of : List ℕ → List (List ℕ) → List ℕ → FolderListing
 listing_of dir names folder = record { name = folder; files = names_in_folder dir names folder }
 

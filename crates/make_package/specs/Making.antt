@@ -17,6 +17,7 @@ use Rattle.make_package.specs.Sources.{on_success, values_with, texts_of, script
 
 -- ---- the file
 
+-- a package is written whole, or, where its payload passes a limit of the writer, not at all
 abbrev pub container_unless :
     Option PayloadCounts → Plain → List Contents → Result (List ℕ) MakeFault
 container_unless None v contents = Ok (container_of PACKAGE_WORD v contents)
@@ -28,6 +29,7 @@ package_container v contents = container_unless (overflow_of v) v contents
 
 -- ---- the package
 
+-- what `-I` may not say is a fault of making, at the place of its argument
 abbrev pub or_info_bad : Result (List InfoItem) ℕ → Result (List InfoItem) MakeFault
 or_info_bad (Ok information) = Ok information
 or_info_bad (Err place) = Err (InfoBad place)

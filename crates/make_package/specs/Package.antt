@@ -43,14 +43,17 @@ kind_of_file bytes =
     if is_link_file bytes then Link (0 ∷ 160 ∷ link_text bytes)
     else Regular (length bytes) (sha256 bytes)
 
+-- a link has the size 0
 abbrev pub size_of_kind : FileKind → ℕ
 size_of_kind (Link target) = 0
 size_of_kind (Regular size hash) = size
 
+-- a link has no hash
 abbrev pub hash_of_kind : FileKind → List ℕ
 hash_of_kind (Link target) = []
 hash_of_kind (Regular size hash) = hash
 
+-- a file that is no link has an empty target
 abbrev pub target_of_kind : FileKind → List ℕ
 target_of_kind (Link target) = target
 target_of_kind (Regular size hash) = []
@@ -66,6 +69,7 @@ access_value mode =
 abbrev pub FILE_MODE : ℕ
 FILE_MODE = 6 * 8 ^ 2 + 4 * 8 + 4
 
+-- 493
 abbrev pub FOLDER_MODE : ℕ
 FOLDER_MODE = 7 * 8 ^ 2 + 5 * 8 + 5
 
@@ -76,9 +80,11 @@ file_fields name kind =
     (more null (more (blob_value (hash_of_kind kind))
     (more (blob_value (target_of_kind kind)) none)))))
 
+-- the entry of a file, by what it is
 abbrev pub value_of_kind : List ℕ → FileKind → Plain
 value_of_kind name kind = obj_value (file_fields name kind)
 
+-- the entry of a file, by its bytes
 abbrev pub value_of_file : Source → Plain
 value_of_file file = value_of_kind file.name (kind_of_file file.bytes)
 
@@ -88,9 +94,11 @@ folder_fields name files =
     more (blob_value name) (more (access_value FOLDER_MODE)
     (more (arr_value (plains_of_list files)) none))
 
+-- the entry of a folder, with the entries of its files
 abbrev pub folder_with : List ℕ → List Plain → Plain
 folder_with name files = obj_value (folder_fields name files)
 
+-- the entry of a folder, by the bytes of its files
 abbrev pub value_of_folder : SourceFolder → Plain
 value_of_folder folder = folder_with folder.name (map value_of_file folder.files)
 
@@ -99,6 +107,7 @@ abbrev pub size_of_folder : SourceFolder → ℕ
 size_of_folder folder =
     sum_by (λ (file : Source). size_of_kind (kind_of_file file.bytes)) folder.files
 
+-- the sum over all files, links as 0
 abbrev pub installed_size : List SourceFolder → ℕ
 installed_size folders = sum_by size_of_folder folders
 
@@ -110,10 +119,12 @@ script_in [] field = []
 script_in (script ∷ scripts) field =
     if bytes_eq script.field field then script.bytes else script_in scripts field
 
+-- in the order of the table; a type without script is Null
 abbrev pub script_fields : List Script → Plains
 script_fields scripts =
     plains_of_list (map (λ field. blob_value (script_in scripts field)) script_types)
 
+-- the object of these; Null where the package has no script at all
 abbrev pub value_of_scripts : List Script → Plain
 value_of_scripts scripts = obj_value (script_fields scripts)
 
@@ -125,10 +136,12 @@ package_fields info paths scripts triggers priority =
     more info (more (arr_value (plains_of_list paths)) (more (value_of_scripts scripts)
     (more (arr_value (plains_of_list (map blob_value triggers))) (more (number_value priority) none))))
 
+-- a package, by its parts
 abbrev pub package_with : Plain → List Plain → List Script → List (List ℕ) → Option ℕ → Plain
 package_with info paths scripts triggers priority =
     obj_value (package_fields info paths scripts triggers priority)
 
+-- a package, by what was read
 abbrev pub value_of_package :
     Plain → List SourceFolder → List Script → List (List ℕ) → Option ℕ → Plain
 value_of_package info folders scripts triggers priority =
@@ -137,19 +150,23 @@ value_of_package info folders scripts triggers priority =
 -- ---- the contents behind it: of each regular file that is not empty, in order, with the
 -- positions of its folder and of itself, from 1
 
+-- only such a file has a block of its own; a link and an empty file have none
 abbrev pub has_contents : FileKind → Bool
 has_contents kind = nat_lt 0 (size_of_kind kind)
 
+-- of the file with these positions, of the folder and in it, if it has a block
 abbrev pub contents_of_file : ℕ → ℕ → List ℕ → List Contents
 contents_of_file folder i bytes =
     if has_contents (kind_of_file bytes) then
     record { folder = folder; file = i; bytes = bytes } ∷ [] else []
 
+-- of the files of a folder, from the one with this position on
 abbrev pub contents_of_files : ℕ → ℕ → List Source → List Contents
 contents_of_files folder i [] = []
 contents_of_files folder i (file ∷ files) =
     contents_of_file folder i file.bytes ++ contents_of_files folder (i + 1) files
 
+-- of folders, from the one with this position on, in the order in which their blocks stand
 abbrev pub contents_of_folders : ℕ → List SourceFolder → List Contents
 contents_of_folders i [] = []
 contents_of_folders i (folder ∷ folders) =

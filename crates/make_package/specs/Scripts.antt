@@ -8,6 +8,7 @@ use Rattle.make_package.specs.declared.writing.Script.{Script}
 abbrev pub script_view : Script → packages.Script
 script_view script = record { field = script.kind.now; bytes = script.bytes.items }
 
+-- of several, in the order given
 abbrev pub scripts_view : List Script → List packages.Script
 scripts_view scripts = map script_view scripts
 

@@ -36,6 +36,7 @@ each_from count of n (x ∷ xs) =
 abbrev pub values_with : ℕ → List OptionValue → List OptionValue
 values_with letter values = filter (λ (v : OptionValue). v.letter == letter) values
 
+-- what stands in the values of an option, as TYPE:FILE or a pattern
 abbrev pub texts_of : List OptionValue → List (List ℕ)
 texts_of values = map (λ (v : OptionValue). v.text) values
 
@@ -56,6 +57,8 @@ script_at read n v =
     on_success (found_at v.place (read n (without_dot (script_file v.text))))
     (λ bytes. Ok (script_with (script_type v.text) bytes))
 
+-- of all values of `-s`, from the read with this number on, or the fault of the first whose file is
+-- absent
 abbrev pub scripts_from : Reads → ℕ → List OptionValue → Result (List Script) MakeFault
 scripts_from read n values = each_from (λ v. 1) (script_at read) n values
 
@@ -70,14 +73,18 @@ abbrev pub file_at : ℕ → Reads → ℕ → List ℕ → Result Source MakeFa
 file_at place read n name =
     on_success (found_at place (read n name)) (λ bytes. Ok (source_with name bytes))
 
+-- of files, each with a read of its own; the place is that of `-F`, where a file that is gone is
+-- reported
 abbrev pub sources_from : ℕ → Reads → ℕ → List (List ℕ) → Result (List Source) MakeFault
 sources_from place read n names = each_from (λ name. 1) (file_at place read) n names
 
+-- a folder with its files, the first of which is the read with this number
 abbrev pub folder_at : ℕ → Reads → ℕ → FolderListing → Result SourceFolder MakeFault
 folder_at place read n folder =
     on_success (sources_from place read n folder.files)
     (λ files. Ok (record { name = folder.name; files = files }))
 
+-- of folders, one read behind another
 abbrev pub source_folders_from :
     ℕ → Reads → ℕ → List FolderListing → Result (List SourceFolder) MakeFault
 source_folders_from place read n folders =

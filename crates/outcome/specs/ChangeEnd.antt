@@ -117,6 +117,7 @@ pub record IsIntentRefused (files : Files) (o : Outcome) : Type 0 where
   pub bad : recovery_fault Changes files ≡ Some cause
   pub outcome : o ≡ just_refusal files (IntentBad cause)
 
+-- each end of a run: that, or an end over the files that a recovery leaves
 abbrev pub IsRunEnd : CommandLine → Files → Outcome → Type 0
 IsRunEnd command files o =
     IsIntentRefused files o ⊎ IsChangeEnd command (work_files Changes files) o

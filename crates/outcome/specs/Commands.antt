@@ -40,6 +40,7 @@ applet_outcome Demo command given read files = just_report files []
 applet_outcome other command given read files =
     change read files command given.chosen given.clash
 
+-- of a command whose files are recovered, if it recovers
 abbrev pub command_outcome : CommandLine → Given → Reads → Files → Outcome
 command_outcome command given read files =
     applet_outcome command.applet command given read files
@@ -64,6 +65,7 @@ IsOutcomeUnless (Some cause) command files outcome =
 IsOutcomeUnless None command files outcome =
     IsOutcomeOver command (work_files (effect_of command.applet) files) outcome
 
+-- of what was read of the words: a usage error is told before any file is looked at
 abbrev pub IsOutcomeOf : Result CommandLine ℕ → Files → Outcome → Type 0
 IsOutcomeOf (Err place) files outcome = outcome ≡ just_refusal files (Usage place)
 IsOutcomeOf (Ok command) files outcome =
@@ -102,6 +104,7 @@ IsFoundUnrecovered outcome =
     × (first_fault IntentTable file ≡ Some cause)
     × (outcome ≡ just_refusal no_names (IntentBad cause))
 
+-- the same on a tree whose files no contract knows; a usage error and a bad intent tell of no files
 abbrev pub IsFoundOutcomeOf : Result CommandLine ℕ → Outcome → Type 0
 IsFoundOutcomeOf (Err place) outcome = outcome ≡ just_refusal no_names (Usage place)
 IsFoundOutcomeOf (Ok command) outcome =

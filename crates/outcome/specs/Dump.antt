@@ -1,5 +1,6 @@
 -- `adbdump`: a container is printed as text.
 use Rattle.std.specs.Prelude.{ℕ, List, [], ◌∷◌, Option, Some, None, Result, Ok, Err}
+use Rattle.std.specs.Option.{option_or}
 use Rattle.base_core.specs.Files.{Files}
 use Rattle.base_core.specs.declared.cause.Cause.{Cause}
 use Rattle.base_core.specs.declared.cause.Cause.TheVariants.{WrongSchema}
@@ -12,7 +13,7 @@ use Rattle.adb_block.specs.Reading.{Reading, done, fault, more, reading_of}
 use Rattle.adb_view.specs.Head.{head_fault, root_of}
 use Rattle.adb_tables.specs.Schema.{shape_of}
 use Rattle.adb_schema.specs.Soundness.{first_payload, root_value}
-use Rattle.adb_tables.specs.Walk.{or_else, shape_fault}
+use Rattle.adb_tables.specs.Walk.{shape_fault}
 use Rattle.adb_tables.specs.declared.tables.Which.{Which}
 use Rattle.adb_tables.specs.declared.tables.Kind.TheVariants.{Obj}
 use Rattle.adb_dump.specs.Dump.{dump_text}
@@ -29,14 +30,15 @@ framing_fault (more b at r) = framing_fault r
 -- the head of a payload and its shape, and nothing of its texts
 abbrev pub form_fault : Which → List ℕ → Option Cause
 form_fault which payload =
-    or_else (head_fault payload) (shape_fault payload (shape_of (Obj which)) (root_of payload))
+    option_or (head_fault payload) (shape_fault payload (shape_of (Obj which)) (root_of payload))
 
 -- the first block, and then the framing of the others
 abbrev pub dump_fault : Which → Reading → Option Cause
 dump_fault which done = None
 dump_fault which (fault c) = Some c
-dump_fault which (more b at r) = or_else (form_fault which b.payload) (framing_fault r)
+dump_fault which (more b at r) = option_or (form_fault which b.payload) (framing_fault r)
 
+-- the text, unless a test failed
 abbrev pub or_text : Option Cause → List ℕ → Result (List ℕ) Cause
 or_text None text = Ok text
 or_text (Some cause) text = Err cause
@@ -46,10 +48,12 @@ abbrev pub dump_of_blocks : Which → Reading → Result (List ℕ) Cause
 dump_of_blocks which r =
     or_text (dump_fault which r) (dump_text which (root_value which (first_payload r)))
 
+-- a schema that no table of a root has is a wrong one
 abbrev pub dump_with_root : ℕ → Reading → Option Which → Result (List ℕ) Cause
 dump_with_root schema r None = Err (WrongSchema schema)
 dump_with_root schema r (Some which) = dump_of_blocks which r
 
+-- by the schema in the header, or the header's fault
 abbrev pub dump_with_schema : List ℕ → Result ℕ Cause → Result (List ℕ) Cause
 dump_with_schema file (Err c) = Err c
 dump_with_schema file (Ok schema) =
@@ -60,6 +64,7 @@ dump_with_schema file (Ok schema) =
 unfoldable pub dump_of : List ℕ → Result (List ℕ) Cause
 dump_of file = dump_with_schema file (header_of file)
 
+-- the text is the report; or the operand is refused, which has this place
 abbrev pub text_outcome : Files → ℕ → Result (List ℕ) Cause → Outcome
 text_outcome files place (Ok text) = just_report files text
 text_outcome files place (Err cause) = just_refusal files (FileBad place cause)

@@ -6,6 +6,7 @@ use Rattle.words_core.specs.Grammar.{command_of}
 use Rattle.command_core.specs.declared.command.Applet.{Applet}
 use Rattle.command_core.specs.declared.command.Applet.TheVariants.{Adbdump, Add, Del, Demo, Fix, Info, Mkndx, Mkpkg, Upgrade, Verify, Version}
 
+-- each command has one
 pub data Effect : Type 0 where
   -- it looks at the words alone
   Computes : Effect
@@ -18,6 +19,7 @@ pub data Effect : Type 0 where
   -- it recovers, reads files, and writes and removes several in one step
   Changes : Effect
 
+-- of the command that an applet names
 abbrev pub effect_of : Applet → Effect
 effect_of Version = Computes
 effect_of Demo = Computes
@@ -31,6 +33,7 @@ effect_of Del = Changes
 effect_of Upgrade = Changes
 effect_of Fix = Changes
 
+-- what it comes to is the same over all files
 abbrev pub does_rest_on_words : Effect → Bool
 does_rest_on_words Computes = true
 does_rest_on_words Reads = false
@@ -64,18 +67,22 @@ output_if Changes command = None
 
 -- ---- of a command line; a usage error looks at nothing, and changes nothing
 
+-- a usage error counts as a command that computes
 abbrev pub effect_by : Result CommandLine ℕ → Effect
 effect_by (Ok command) = effect_of command.applet
 effect_by (Err place) = Computes
 
+-- of a command line, also of one that is a usage error
 abbrev pub rests_on_words : Result CommandLine ℕ → Bool
 rests_on_words (Ok command) = does_rest_on_words (effect_of command.applet)
 rests_on_words (Err place) = true
 
+-- no file of the root is written or removed
 abbrev pub reads_only : Result CommandLine ℕ → Bool
 reads_only (Ok command) = does_only_read (effect_of command.applet)
 reads_only (Err place) = true
 
+-- the name of the file that it makes, if it makes one
 abbrev pub output_by : Result CommandLine ℕ → Option (List ℕ)
 output_by (Ok command) = output_if (effect_of command.applet) command
 output_by (Err place) = None

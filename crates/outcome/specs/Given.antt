@@ -15,6 +15,7 @@ use Rattle.path_clashes.specs.Clash.{NamePair}
 use Rattle.outcome.specs.Effect.{Effect, Changes, effect_of}
 use Rattle.outcome.specs.Make.{IsListing}
 
+-- an outcome is a function of these, of what reads find, and of the files
 pub record Given : Type 0 where
   -- the names that it lists
   pub names : List (List ℕ)

@@ -20,6 +20,7 @@ use Rattle.outcome.specs.Outcome.{Outcome, commit_report, just_refusal, just_rep
 
 -- ---- what is below the folder that `-F` names
 
+-- what a listing of a folder tells of: whole names, with the folder in front
 abbrev pub files_below : List ℕ → Files → Files
 files_below folder files name =
     if starts_with nat_eq name (folder ++ codes "/") then files name else None

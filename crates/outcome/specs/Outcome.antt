@@ -4,6 +4,7 @@ use Rattle.base_core.specs.Files.{Files}
 use Rattle.report_core.specs.Texts.{refusal_line}
 use Rattle.report_core.specs.declared.refusal.Refusal.{Refusal}
 
+-- of one run that came to its end
 pub record Outcome : Type 0 where
   -- why the command is refused, if it is
   pub refusal : Option Refusal
@@ -35,9 +36,11 @@ outcome_of refusal report files = record {
 abbrev pub commit_report : Files → List ℕ → Outcome
 commit_report files report = record (outcome_of None report files) { commits = true }
 
+-- a report, and nothing is written or removed
 abbrev pub just_report : Files → List ℕ → Outcome
 just_report files report = outcome_of None report files
 
+-- a refusal, and nothing is written or removed
 abbrev pub just_refusal : Files → Refusal → Outcome
 just_refusal files refusal = outcome_of (Some refusal) [] files
 

@@ -16,6 +16,7 @@ IsOutcomeFor Demo command files outcome =
     IsDemoOutcome (demo_count command.operands) files outcome
 IsOutcomeFor other command files outcome = IsOutcomeOf (Ok command) files outcome
 
+-- of what was read of the words of a command line
 abbrev pub IsOutcomeBy : Result CommandLine ℕ → Files → Outcome → Type 0
 IsOutcomeBy (Ok command) files outcome = IsOutcomeFor command.applet command files outcome
 IsOutcomeBy (Err place) files outcome = IsOutcomeOf (Err place) files outcome
@@ -32,6 +33,7 @@ IsFoundOutcomeFor Demo command outcome =
     IsDemoOutcome (demo_count command.operands) no_names outcome
 IsFoundOutcomeFor other command outcome = IsFoundOutcomeOf (Ok command) outcome
 
+-- the same over files that no contract knows
 abbrev pub IsFoundOutcomeBy : Result CommandLine ℕ → Outcome → Type 0
 IsFoundOutcomeBy (Ok command) outcome = IsFoundOutcomeFor command.applet command outcome
 IsFoundOutcomeBy (Err place) outcome = IsFoundOutcomeOf (Err place) outcome

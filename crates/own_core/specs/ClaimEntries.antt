@@ -28,6 +28,7 @@ pub record HasFileAt (folders : Plain) (folder file : ℕ) : Type 0 where
 
 -- ---- claims
 
+-- what a member lists: Null, as if it listed nothing, where there is no member
 abbrev pub folders_if_any : Option Member → Plain
 folders_if_any None = null
 folders_if_any (Some m) = entry_in m.pkg PACKAGE_PATHS
@@ -43,6 +44,7 @@ pub record IsClaimOf (members : List Member) (c : PathClaim) : Type 0 where
   pub place : HasFileAt (entry_in member.pkg PACKAGE_PATHS) c.folder c.file
   pub name : IsName c.path
 
+-- so does each of some claims
 abbrev pub AreClaimsOf : List Member → List PathClaim → Type 0
 AreClaimsOf members cs = (i : ℕ) (c : PathClaim) → slice_get cs i ≡ Some c → IsClaimOf members c
 
@@ -52,10 +54,12 @@ members_before db = map staying_member (packages_of db)
 
 -- ---- members that come
 
+-- false where there is no member
 abbrev pub comes_if_any : Option Member → Bool
 comes_if_any None = false
 comes_if_any (Some m) = is_coming m
 
+-- whether the member at a place comes
 abbrev pub comes_at : List Member → ℕ → Bool
 comes_at members place = comes_if_any (slice_get members place)
 
@@ -68,5 +72,6 @@ unfoldable pub is_of_coming_owner : List Member → PathClaim → Bool
 is_of_coming_owner members c =
     is_member c.member (owner_of_path members c.path) && comes_at members c.member
 
+-- the packages before, as members none of which comes
 abbrev pub old_members : FileChange → List Member
 old_members change = map staying_member change.old

@@ -35,6 +35,7 @@ IsOfEntryIfAny (Some listed) (Some entry) = IsOfEntry listed entry
 
 -- ---- claims by what becomes of them
 
+-- whether two fates are the same
 abbrev pub is_fate : Fates.Fate → Fates.Fate → Bool
 is_fate goes_in goes_in = true
 is_fate gives_way gives_way = true
@@ -48,6 +49,7 @@ marked_claims test (c ∷ cs) [] = []
 marked_claims test (c ∷ cs) (m ∷ marks) =
     cond (test m) (c ∷ marked_claims test cs marks) (marked_claims test cs marks)
 
+-- whether two flags are the same
 abbrev pub is_flag : Bool → Bool → Bool
 is_flag true b = b
 is_flag false b = not b

@@ -6,6 +6,8 @@ use Rattle.own_core.specs.WritesSeen.{aside_write, claim_write, write_cmp, write
 use Rattle.own_core.specs.declared.planning.FilePlan.{FilePlan}
 use Rattle.own_core.specs.declared.planning.Parts.{Parts}
 
+-- Of what goes in, is laid beside, is removed and is kept; only the writes have to be put in order,
+-- since they join two of these.
 pub record AreListsOfParts (parts : Parts) (flags : List Bool) (plan : FilePlan) : Type 0 where
   pub removals : plan.removals ≡ map (λ c. c.path) (removed_of parts)
   pub writes : writes_in plan.writes

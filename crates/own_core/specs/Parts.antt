@@ -23,12 +23,15 @@ use Rattle.own_core.specs.declared.planning.Parts.{Parts}
 abbrev pub ins_of : Parts → List PathClaim
 ins_of parts = map claim_seen parts.ins.items
 
+-- of the files that are laid beside the user's
 abbrev pub asides_of : Parts → List PathClaim
 asides_of parts = map claim_seen parts.asides.items
 
+-- of the files that are removed
 abbrev pub removed_of : Parts → List PathClaim
 removed_of parts = map claim_seen parts.removed.items
 
+-- of the files that stay, since the user changed them
 abbrev pub kept_of_parts : Parts → List PathClaim
 kept_of_parts parts = map claim_seen parts.kept.items
 
@@ -68,6 +71,7 @@ is_let_go_by change parts name =
     && not (is_some (find (is_of_path name) (claims_after change))
     || is_some (find (is_of_path name) (kept_of_parts parts)))
 
+-- both as the search for clashes asks for them, name by name
 abbrev pub names_changed_by : Change → Parts → NameChange
 names_changed_by change parts = record {
   counts_as_written = λ name.

@@ -1,6 +1,7 @@
 -- What a plan of a change says, and why there is none.
 use Rattle.std.specs.Prelude.{◌≡◌, ℕ, Bool, true, false, List, map, Option, Some, None, All, Contains, option_map, slice_get}
 use Rattle.adb_rules.specs.Reserved.{is_reserved}
+use Rattle.adb_tables.specs.FieldIndexes.{PACKAGE_PATHS}
 use Rattle.adb_tables.specs.Values.{entry_in}
 use Rattle.base_core.specs.Calls.{IfObservable}
 use Rattle.base_core.specs.Files.{Files}
@@ -53,6 +54,7 @@ pub record IsPlanFor (members : List Member) (plan : FilePlan) : Type 0 where
   pub allowed : first_reserved members ≡ None
   pub owners : contested_of members ≡ None
 
+-- under which files are written: paths, and the names of files laid beside others
 abbrev pub written_names : FilePlan → List (List ℕ)
 written_names plan = map (λ w. w.name) (writes_in plan.writes)
 
@@ -74,7 +76,7 @@ pub record IsOfComingFile (members : List Member) (w : FileWrite) : Type 0 where
   pub member : Member
   pub at : slice_get members w.member ≡ Some member
   pub comes : is_coming member ≡ true
-  pub place : HasFileAt (entry_in member.pkg 1) w.folder w.file
+  pub place : HasFileAt (entry_in member.pkg PACKAGE_PATHS) w.folder w.file
 
 -- each file that is written is one of a member that comes
 abbrev pub HasSources : List Member → FilePlan → Type 0
@@ -82,6 +84,7 @@ HasSources members plan = All (IsOfComingFile members) (writes_in plan.writes)
 
 -- ---- why there is none
 
+-- of the member at a place, if there is one
 abbrev pub member_name_at : List Member → ℕ → Option (List ℕ)
 member_name_at members place = option_map member_name (slice_get members place)
 
@@ -93,6 +96,7 @@ pub record IsContest (members : List Member) (path first second : List ℕ) : Ty
   pub lister : member_name_at members contest.rivals.first ≡ Some first
   pub other : member_name_at members contest.rivals.second ≡ Some second
 
+-- of the faults of a plan the one that tells of a contested path; each other one is none
 abbrev pub IsOwnedBy : List Member → PlanFault → Type 0
 IsOwnedBy members (Reserved path) = ⊥
 IsOwnedBy members (PathClash path other) = ⊥

@@ -15,9 +15,11 @@ abbrev pub file_change_of : Change → FileChange
 file_change_of c =
     record { old = packages_of c.db.now; members = members_of c.members.now; purge = c.purge }
 
+-- of the packages before, in byte order of their paths
 abbrev pub claims_before : Change → List PathClaim
 claims_before c = map claim_seen c.before.now
 
+-- of the packages after, in byte order of their paths
 abbrev pub claims_after : Change → List PathClaim
 claims_after c = map claim_seen c.after.now
 

@@ -14,6 +14,7 @@ use Rattle.own_core.specs.declared.writes.Writes.{Writes}
 abbrev pub write_seen : Write → FileWrite
 write_seen w = record { name = w.name; member = w.member; folder = w.path; file = w.file }
 
+-- what contracts see in a plan's writes
 abbrev pub writes_in : Writes → List FileWrite
 writes_in writes = map write_seen writes.writes.items
 
@@ -21,9 +22,11 @@ writes_in writes = map write_seen writes.writes.items
 abbrev pub write_by : List ℕ → PathClaim → FileWrite
 write_by name c = record { name = name; member = c.member; folder = c.folder; file = c.file }
 
+-- the file takes its own path
 abbrev pub claim_write : PathClaim → FileWrite
 claim_write c = write_by c.path c
 
+-- the file is laid beside the one under its path
 abbrev pub aside_write : PathClaim → FileWrite
 aside_write c = write_by (aside_name c.path) c
 
@@ -36,5 +39,6 @@ pub record HasNameBeside (c : PathClaim) : Type 0 where
   pub name : IsName c.path
   pub short : length c.path + 8 ≤ 1024
 
+-- so each claim
 abbrev pub HaveNamesBeside : List PathClaim → Type 0
 HaveNamesBeside claims = (i : ℕ) (c : PathClaim) → slice_get claims i ≡ Some c → HasNameBeside c

@@ -127,6 +127,8 @@ impl<'c, 'o, 'n> LetGo for LetGoPaths<'c, 'o, 'n> {
         && not (is_some (find (is_of_path name) (map claim_seen paths.after.now))
         || is_some (find (is_of_path name) (map claim_seen paths.kept.now))) };
 
+    /// Whether the old database lists the path, no package lists it after the change, and no file
+    /// is kept there.
     fn lets_go(&self, name: &[u8]) -> bool {
         let path = FilePath { folder: &[], name };
         if find_claim(self.before, &path).is_none() || find_claim(self.after, &path).is_some() {

@@ -153,6 +153,7 @@ fn fate_of<T: Tree>(
     Ok(Fate::GoesIn)
 }
 
+/// Puts a fate behind the others.
 fn add_fate(fates: &mut Vec<Fate>, fate: Fate) -> Result<(), AllocError>
     ensures { OnOk result (fates.new.items ≡ fates.old.items ++ fate ∷ []) }
 {

@@ -31,7 +31,7 @@ pub(crate) fn aside_bytes(alloc: Global, name: &[u8]) -> Result<Vec<u8>, AllocEr
     Ok(bytes)
 }
 
-/// The name beside this one.
+/// The name beside this one. The ending has eight bytes, and a name at most 1,024.
 pub(crate) fn name_beside(alloc: Global, name: &Name) -> Result<Name, AllocError>
     requires { length name.now + 8 ≤ 1024 }
     ensures { IfOk result (λ beside. beside ≡ aside_name name.now) }

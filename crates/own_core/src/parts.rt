@@ -133,6 +133,7 @@ fn does_stay<T: Tree>(
     Ok(is_changed(found))
 }
 
+/// Puts a flag behind the others.
 fn add_flag(flags: &mut Vec<bool>, flag: bool) -> Result<(), AllocError>
     ensures { OnOk result (flags.new.items ≡ flags.old.items ++ flag ∷ []) }
 {

@@ -73,6 +73,7 @@ fn is_other(last: &Option<FilePath<'_>>, path: &FilePath<'_>) -> bool {
     }
 }
 
+/// Adds a path, its folder and its name joined.
 fn add_path(path: &FilePath<'_>, answer: &mut Vec<u8>) -> Result<(), AllocError> {
     if !path.folder.is_empty() {
         answer.extend_from_slice(path.folder)?;
@@ -90,6 +91,7 @@ fn add_flags(found: &Owners<'_>, answer: &mut Vec<u8>) -> Result<(), AllocError>
     Ok(())
 }
 
+/// Adds the contested path and the places of its two rivals.
 fn add_contested(
     alloc: Global,
     contested: &Contested<'_>,

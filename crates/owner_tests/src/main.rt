@@ -35,32 +35,32 @@ struct ComingPackages {
 }
 
 impl Subject for ComingPackages {
+    // Answers a question by its first word, on the packages that the rows before have told.
     fn answer(
         &mut self,
         alloc: Global,
         words: &Words,
         answer: &mut Vec<u8>,
     ) -> Result<(), AllocError> {
-        let Some(question) = value_named(&QUESTIONS, word_at(words, 0)) else {
-            return answer.extend_from_slice(b"no question");
-        };
-        match question {
-            Question::New => {
+        match value_named(&QUESTIONS, word_at(words, 0)) {
+            Some(Question::New) => {
                 self.packages.clear();
                 Ok(())
             }
-            Question::Package => match package_of(alloc, words)? {
+            Some(Question::Package) => match package_of(alloc, words)? {
                 Some(package) => {
                     self.packages.push(package)?;
                     Ok(())
                 }
                 None => answer.extend_from_slice(b"no package"),
             },
-            Question::Owners => add_owners(alloc, &self.packages, answer),
+            Some(Question::Owners) => add_owners(alloc, &self.packages, answer),
+            None => answer.extend_from_slice(b"no question"),
         }
     }
 }
 
+// Answers the rows of standard input.
 fn main(rt: HostRuntime) -> io::Result<ExitCode> {
     let alloc = rt.alloc();
     let mut change = ComingPackages {

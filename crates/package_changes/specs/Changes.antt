@@ -4,10 +4,10 @@ use Rattle.std.specs.List.{filter_map, find, list_any}
 use Rattle.std.specs.declared.cmp.Ordering.{Ordering}
 use Rattle.std.specs.declared.cmp.Ordering.TheVariants.{Less, Equal, Greater}
 use Rattle.adb_view.specs.Plain.{Plain}
-use Rattle.adb_tables.specs.FieldIndexes.{INFO_HASHES, INFO_VERSION, PACKAGE_INFO}
+use Rattle.adb_tables.specs.FieldIndexes.{INFO_VERSION}
 use Rattle.adb_tables.specs.Values.{entry_in, text_in}
 use Rattle.adb_fields.specs.Repeated.{package_name}
-use Rattle.db_core.specs.Packages.{is_package_named}
+use Rattle.db_core.specs.Packages.{installed_id, is_package_named}
 use Rattle.file_owners.specs.Replaces.{version_text}
 use Rattle.change_files.specs.PlanLists.{names_in_order}
 use Rattle.pool_core.specs.Candidates.{Candidate, is_same_id, version_of_text}
@@ -21,13 +21,11 @@ pub record Replacement : Type 0 where
   pub selected : List Candidate
   pub again : List (List ℕ)
 
--- the id of an installed package: its information keeps it in the field hashes
-abbrev pub installed_id : Plain → List ℕ
-installed_id pkg = text_in (entry_in (entry_in pkg PACKAGE_INFO) INFO_HASHES)
-
+-- as the index or the database has it
 abbrev pub selected_version : Candidate → List ℕ
 selected_version c = text_in (entry_in c.info INFO_VERSION)
 
+-- whether the candidate has the name; what it provides does not count
 abbrev pub is_selected_named : List ℕ → Candidate → Bool
 is_selected_named name c = bytes_eq c.name name
 
@@ -37,6 +35,7 @@ abbrev pub is_installed_as : List ℕ → List ℕ → Candidate → Bool
 is_installed_as version id c =
     not (is_some c.repository) || (bytes_eq version (selected_version c) && is_same_id id c.id)
 
+-- whether the candidate is this very package, so that it stays as it is
 abbrev pub is_same_selected : Plain → Candidate → Bool
 is_same_selected pkg c = is_installed_as (version_text pkg) (installed_id pkg) c
 

@@ -44,6 +44,7 @@ placed_change_with before pool again name old new =
     (change_between (list_any (bytes_eq name) again) name (option_and_then (slice_get before) old)
     (option_and_then (candidate_at pool) new))
 
+-- by the places of its name on both sides; none where the package stays
 unfoldable pub placed_change_of : PlacedReplacement → List ℕ → Option PlacedChange
 placed_change_of p name =
     placed_change_with p.before p.pool p.again name
@@ -74,6 +75,7 @@ placed_name_with before pool again name old new = record {
   new = new;
 }
 
+-- by its places on both sides
 unfoldable pub placed_name_of : PlacedReplacement → List ℕ → PlacedName
 placed_name_of p name =
     placed_name_with p.before p.pool p.again name
@@ -87,6 +89,7 @@ placed_names_of p = map (placed_name_of p) (names_on_both_sides (replacement_of 
 abbrev pub old_package : List Plain → PlacedName → Option Plain
 old_package before n = option_and_then (slice_get before) n.old
 
+-- the selected candidate that its place leads to
 abbrev pub new_candidate : SealedPool → PlacedName → Option Candidate
 new_candidate pool n = option_and_then (candidate_at pool) n.new
 

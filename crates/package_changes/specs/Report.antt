@@ -2,6 +2,7 @@
 use Rattle.std.specs.Prelude.{ℕ, Bool, not, ◌&&◌, List, ◌++◌, length, map, bytes_eq, sum_by}
 use Rattle.std.specs.List.{filter, flat_map, list_any}
 use Rattle.adb_view.specs.Plain.{Plain}
+use Rattle.adb_tables.specs.FieldIndexes.{INFO_INSTALLED_SIZE}
 use Rattle.adb_tables.specs.Values.{entry_in, int_in}
 use Rattle.change_files.specs.PlanLists.{names_in_order}
 use Rattle.db_core.specs.Packages.{is_package_named}
@@ -12,7 +13,7 @@ use Rattle.package_changes.specs.Changes.{Replacement, changes_of, is_selected_n
 
 -- the bytes that a candidate takes when it is installed
 abbrev pub candidate_size : Candidate → ℕ
-candidate_size c = int_in (entry_in c.info 11)
+candidate_size c = int_in (entry_in c.info INFO_INSTALLED_SIZE)
 
 -- ---- packages that were to go and stay
 

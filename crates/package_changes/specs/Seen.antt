@@ -12,6 +12,7 @@ use Rattle.package_changes.specs.declared.changes.Changes.{Changes}
 use Rattle.package_changes.specs.declared.placed.PlacedName.{PlacedName as NameOfCode}
 use Rattle.package_changes.specs.declared.placed.PlacedNames.{PlacedNames}
 
+-- what becomes of a package, with texts in place of slices
 abbrev pub change_seen : Change → Texts.Change
 change_seen (Install name version) = Texts.Install name.now version.now
 change_seen (Reinstall name version) = Texts.Reinstall name.now version.now
@@ -20,6 +21,7 @@ change_seen (Upgrade name old new) = Texts.Upgrade name.now old.now new.now
 change_seen (Downgrade name old new) = Texts.Downgrade name.now old.now new.now
 change_seen (Replace name old new) = Texts.Replace name.now old.now new.now
 
+-- with its two places
 abbrev pub placed_change_seen : Placed → PlacedChange
 placed_change_seen p = record { change = change_seen p.change; old = p.old; new = p.new }
 
@@ -27,6 +29,7 @@ placed_change_seen p = record { change = change_seen p.change; old = p.old; new 
 abbrev pub changes_seen : Changes → List PlacedChange
 changes_seen changes = map placed_change_seen changes.list.items
 
+-- a name, also one whose package stays
 abbrev pub placed_name_seen : NameOfCode → PlacedName
 placed_name_seen n = record {
   name = n.name.now;

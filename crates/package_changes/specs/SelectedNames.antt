@@ -7,6 +7,7 @@ use Rattle.db_core.specs.Packages.{is_package_named}
 use Rattle.pool_core.specs.Rank.{SealedPool}
 use Rattle.package_changes.specs.Placed.{PlacedName, placed_name_with}
 
+-- what contracts see in it: each name with the place of its candidate
 abbrev pub names_and_places : List (Bor (List ℕ) × ℕ) → List (List ℕ × ℕ)
 names_and_places entries = map (λ (e : Bor (List ℕ) × ℕ). (e.0.now, e.1)) entries
 

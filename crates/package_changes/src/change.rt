@@ -2,7 +2,8 @@
 ghost use Rattle.adb_schema.specs.Views.{package_value};
 ghost use Rattle.db_core.specs.Seen.{packages_of};
 ghost use Rattle.file_owners.specs.Replaces.{version_text};
-ghost use Rattle.package_changes.specs.Changes.{change_between, is_installed_as, installed_id, selected_version, version_change, version_text_cmp};
+ghost use Rattle.db_core.specs.Packages.{installed_id};
+ghost use Rattle.package_changes.specs.Changes.{change_between, is_installed_as, selected_version, version_change, version_text_cmp};
 ghost use Rattle.package_changes.specs.Seen.{change_seen};
 ghost use Rattle.pool_core.specs.Candidates.{is_same_id, version_of_text};
 ghost use Rattle.pool_core.specs.Values.{candidate_value};

@@ -8,7 +8,7 @@ use Rattle.adb_block.specs.Standing.{start_of}
 use Rattle.adb_view.specs.Plain.{Plain, plain_of}
 use Rattle.adb_tables.specs.Schema.{shape_of}
 use Rattle.adb_tables.specs.Values.{value_at}
-use Rattle.adb_tables.specs.Walk.{or_else}
+use Rattle.std.specs.Option.{option_or}
 use Rattle.adb_tables.specs.declared.tables.Which.TheVariants.{Package}
 use Rattle.adb_schema.specs.Soundness.{blocks_fault, file_fault, first_payload, payload_behind, payload_fault, payload_in, root_value, schema_fault}
 use Rattle.pkg_core.specs.Contents.{Contents, Expected, bytes_of_file, bytes_or_none, contents_in, expected_contents, hash_fault, is_of_file}
@@ -23,7 +23,7 @@ use Rattle.package_test.proofs.FileOrder.{expected_in_order, placed_in_order}
 
 -- ---- a package without fault has the contents of each file
 
-second_none : (o u : Option Cause) → or_else o u ≡ None → u ≡ None
+second_none : (o u : Option Cause) → option_or o u ≡ None → u ≡ None
 second_none None u h = h
 second_none (Some c) u h = (cc)
 

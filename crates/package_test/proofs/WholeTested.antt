@@ -1,6 +1,7 @@
 -- A package is tested whole by its front, by its values and by what stands behind them.
 use Rattle.std.proofs.Common.{◌≡◌, ◌≢◌, ℕ, ◌+◌, ◌≤◌, ◌==◌, Bool, true, false, if◌then◌else◌, List, [], ◌∷◌, ◌++◌, length, Option, Some, None, option_map, Result, Ok, Err, refl, ap, sym, subst, ◌∙◌, arith}
 use Rattle.std.specs.Prelude.{IfOk}
+use Rattle.std.specs.Option.{option_or}
 use Rattle.std.proofs.lemmas.Bool.{eqb-true}
 use Rattle.std.proofs.lemmas.List.{length-append}
 use Rattle.sha2.specs.Sha256.{sha256}
@@ -13,7 +14,6 @@ use Rattle.adb_block.specs.Header.{header_of}
 use Rattle.adb_block.specs.Reading.{Reading, reading_of}
 use Rattle.adb_block.specs.Standing.{start_of}
 use Rattle.adb_view.specs.Plain.{Plain}
-use Rattle.adb_tables.specs.Walk.{or_else}
 use Rattle.adb_tables.specs.declared.tables.Which.TheVariants.{Package}
 use Rattle.adb_schema.specs.Soundness.{blocks_fault, file_fault, payload_fault, payload_in, root_value}
 use Rattle.adb_schema.specs.declared.read.TheConstants.{PACKAGE_WORD}
@@ -44,8 +44,8 @@ use Rattle.package_test.specs.declared.test.PackageTest.TheVariants as Says
 
 -- ---- by the front
 
-package_by_front : (pkg : List ℕ) (front : Front) → IsFrontOf PACKAGE_WORD pkg front → package_fault pkg ≡ or_else (payload_fault Package (front_payload front)) (fault_in (files_in_file pkg))
-package_by_front pkg front is = package_steps pkg ∙ ap (λ (o : Option Cause). or_else o (fault_in (files_in_file pkg))) (values_alike pkg front is)
+package_by_front : (pkg : List ℕ) (front : Front) → IsFrontOf PACKAGE_WORD pkg front → package_fault pkg ≡ option_or (payload_fault Package (front_payload front)) (fault_in (files_in_file pkg))
+package_by_front pkg front is = package_steps pkg ∙ ap (λ (o : Option Cause). option_or o (fault_in (files_in_file pkg))) (values_alike pkg front is)
 
 files_by_front : (pkg : List ℕ) (front : Front) → IsFrontOf PACKAGE_WORD pkg front → files_in_file pkg ≡ files_by_blocks (expected_contents (root_value Package (front_payload front))) (reading_of (behind_front front pkg))
 unfolding files_in_file
@@ -53,11 +53,11 @@ files_by_front pkg front is = ap (files_by_header pkg) is.header ∙ ap files_be
 
 whole_by_files : (pkg : List ℕ) (front : Front) (files : FilesRead) (test : FilesTest) → IsFrontOf PACKAGE_WORD pkg front → payload_fault Package (front_payload front) ≡ None → files_in_file pkg ≡ files → AreFilesTested files pkg test → IsWholeTested pkg test
 whole_by_files pkg front files (Tests.Sound places) is sound same tested = (
-  package_by_front pkg front is ∙ (ap (λ (o : Option Cause). or_else o (fault_in (files_in_file pkg))) sound ∙ (ap fault_in same ∙ tested.0)),
+  package_by_front pkg front is ∙ (ap (λ (o : Option Cause). option_or o (fault_in (files_in_file pkg))) sound ∙ (ap fault_in same ∙ tested.0)),
   subst (λ (f : FilesRead). AreAtPlaces pkg places.items (contents_in f)) (sym same) tested.1,
 )
 whole_by_files pkg front files (Tests.Bad c) is sound same tested =
-    package_by_front pkg front is ∙ (ap (λ (o : Option Cause). or_else o (fault_in (files_in_file pkg))) sound ∙ (ap fault_in same ∙ tested))
+    package_by_front pkg front is ∙ (ap (λ (o : Option Cause). option_or o (fault_in (files_in_file pkg))) sound ∙ (ap fault_in same ∙ tested))
 
 -- the tests of each package with this front, by the bytes that were seen behind it
 abbrev pub IsWholeTold : List TreeState → List ℕ → Front → FilesTest → Type 0
@@ -72,7 +72,7 @@ whole_by_values h name front cause first why same is within of =
       nothing_seen h name (front_file_len front) (front_end front) within,
       λ pkg front_of has.
           package_by_front pkg front front_of
-          ∙ ap (λ (o : Option Cause). or_else o (fault_in (files_in_file pkg))) (bad ∙ ap (λ (c : Cause). Some c) (sym same)),
+          ∙ ap (λ (o : Option Cause). option_or o (fault_in (files_in_file pkg))) (bad ∙ ap (λ (c : Cause). Some c) (sym same)),
     )
 
 pub whole_by_contents : (h : List TreeState) (name : List ℕ) (front : Front) (value : Plain) (result : Result FilesTest TreeFault) → payload_fault Package (front_payload front) ≡ None → value ≡ root_value Package (front_payload front)
@@ -126,7 +126,7 @@ refused h name cause first why same is front =
 
 -- ---- a package as a container
 
-by_schema : (wanted : Bool) (schema : ℕ) (r : Reading) (fault : Option Cause) → ((found : ℕ) → fault ≢ Some (WrongSchema found)) → or_else (if wanted then None else Some (WrongSchema schema)) (blocks_fault (behind_fault Package) Package r) ≡ fault → wanted ≡ true
+by_schema : (wanted : Bool) (schema : ℕ) (r : Reading) (fault : Option Cause) → ((found : ℕ) → fault ≢ Some (WrongSchema found)) → option_or (if wanted then None else Some (WrongSchema schema)) (blocks_fault (behind_fault Package) Package r) ≡ fault → wanted ≡ true
 by_schema true schema r fault other is = refl
 by_schema false schema r fault other is = absurd (other schema (sym is))
 

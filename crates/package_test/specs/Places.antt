@@ -55,20 +55,24 @@ abbrev pub IsBeforeFile : ℕ → ℕ → ℕ → ℕ → Type 0
 IsBeforeFile folder file other_folder other_file =
     (folder < other_folder) ⊎ ((folder ≡ other_folder) × (file < other_file))
 
+-- the same as a test
 abbrev pub is_before_file : ℕ → ℕ → ℕ → ℕ → Bool
 is_before_file folder file other_folder other_file =
     nat_lt folder other_folder || ((folder == other_folder) && nat_lt file other_file)
 
+-- each file comes behind this one
 abbrev pub ArePlacedBehind : ℕ → ℕ → List FilePlace → Type 0
 ArePlacedBehind folder file [] = Unit {0}
 ArePlacedBehind folder file (place ∷ places) =
     IsBeforeFile folder file place.folder place.file × ArePlacedBehind folder file places
 
+-- each file comes behind all those before it
 abbrev pub AreInFileOrder : List FilePlace → Type 0
 AreInFileOrder [] = Unit {0}
 AreInFileOrder (place ∷ places) =
     ArePlacedBehind place.folder place.file places × AreInFileOrder places
 
+-- whether it is the place of the file with these positions, which count from 1
 abbrev pub is_place_of : ℕ → ℕ → FilePlace → Bool
 is_place_of folder file place = (place.folder == folder) && (place.file == file)
 

@@ -14,6 +14,7 @@ use Rattle.package_test.specs.declared.read.PackageRead.TheVariants.{Absent, Bad
 
 -- ---- what it shows
 
+-- under which name its file was read
 abbrev pub tested_name : TestedPackage → List ℕ
 tested_name pkg = pkg.name
 
@@ -25,6 +26,7 @@ tested_len pkg = front_file_len pkg.front
 abbrev pub tested_payload : TestedPackage → List ℕ
 tested_payload pkg = front_payload pkg.front
 
+-- the plain value of the package
 abbrev pub tested_value : TestedPackage → Plain
 tested_value pkg = root_value Package (tested_payload pkg)
 

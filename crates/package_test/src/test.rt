@@ -18,7 +18,8 @@ use std::alloc::Global;
 pub enum PackageTest {
     /// There is no file.
     Absent,
-    /// The file has another schema. Nothing else of it was tested.
+    /// The file passes the tests of its header, and has another schema. Nothing behind that was
+    /// tested.
     OtherSchema,
     /// The file is a package, and no test fails.
     Sound,

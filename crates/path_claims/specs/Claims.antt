@@ -21,6 +21,7 @@ pub record PathClaim : Type 0 where
 abbrev pub AreNumbered : List PathClaim → Type 0
 AreNumbered claims = (i : ℕ) (c : PathClaim) → slice_get claims i ≡ Some c → c.number ≡ i
 
+-- whether it claims this path
 abbrev pub is_of_path : List ℕ → PathClaim → Bool
 is_of_path path c = bytes_eq c.path path
 
@@ -32,6 +33,7 @@ claimants claims path = map (λ c. c.member) (filter (is_of_path path) claims)
 abbrev pub owner_by : (ℕ → ℕ → Bool) → List PathClaim → List ℕ → Option ℕ
 owner_by beats claims path = winner beats (claimants claims path)
 
+-- whether this member is the owner; a path without owner has none
 abbrev pub is_member : ℕ → Option ℕ → Bool
 is_member m None = false
 is_member m (Some owner) = m == owner

@@ -11,6 +11,7 @@ beats_each beats members x = list_all (λ y. (x == y) || beats x y) members
 unfoldable pub winner : (ℕ → ℕ → Bool) → List ℕ → Option ℕ
 winner beats members = find (beats_each beats members) members
 
+-- two members, by their places
 abbrev pub rivals_of : ℕ → ℕ → Rivals
 rivals_of x y = record { first = x; second = y }
 

@@ -7,6 +7,7 @@ abbrev pub passing_front : {X : Type 0} → (X → Bool) → List X → List X
 passing_front p [] = []
 passing_front p (x ∷ xs) = cond (p x) (x ∷ passing_front p xs) []
 
+-- a claim that is lacking differs from each
 abbrev pub differ_in_path : Option PathClaim → Option PathClaim → Bool
 differ_in_path None d = true
 differ_in_path (Some c) None = true

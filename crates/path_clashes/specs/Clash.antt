@@ -36,5 +36,6 @@ pub record IsFirstClash (change : NameChange) (files : Files) (pair : NamePair) 
   pub is_one : IsClash change files pair
   pub first : (other : NamePair) → IsClash change files other → precedes_pair other pair ≡ true → ⊥
 
+-- no pair of names clashes
 abbrev pub HasNoClash : NameChange → Files → Type 0
 HasNoClash change files = (pair : NamePair) → IsClash change files pair → ⊥

@@ -8,6 +8,7 @@ use Rattle.path_clashes.specs.Clash.{IsClash, NameChange, NamePair, is_name_afte
 abbrev pub is_standing : (List ℕ → Bool) → Files → List ℕ → Bool
 is_standing lets_go files name = is_some (files name) && not (lets_go name)
 
+-- the name, where this holds
 abbrev pub name_if : Bool → List ℕ → Option (List ℕ)
 name_if b name = if b then Some name else None
 
@@ -27,6 +28,8 @@ pub record IsShortestFolder (change : NameChange) (files : Files) (name : List �
   pub shortest : (other : List ℕ) → IsFolderOf other name → len ≤ length other
       → is_name_after change files other ≡ true → length folder ≤ length other
 
+-- the shortest such folder of at least so many bytes; none, where no such one is a name after the
+-- change
 abbrev pub IsFolderFound : NameChange → Files → List ℕ → ℕ → Option (List ℕ) → Type 0
 IsFolderFound change files name len None =
     (other : List ℕ) → IsFolderOf other name → len ≤ length other
@@ -44,6 +47,7 @@ pub record IsFirstBelow (lets_go : List ℕ → Bool) (files : Files) (folder na
   pub first : (other : List ℕ) → IsFolderOf folder other
       → is_standing lets_go files other ≡ true → precedes other name ≡ false
 
+-- the first such name; none, where nothing stands below the folder but what is let go
 abbrev pub IsNameFound : (List ℕ → Bool) → Files → List ℕ → Option (List ℕ) → Type 0
 IsNameFound lets_go files folder None =
     (other : List ℕ) → IsFolderOf folder other → is_standing lets_go files other ≡ true → ⊥

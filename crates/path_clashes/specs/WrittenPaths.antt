@@ -5,6 +5,7 @@ use Rattle.adb_fields.specs.JoinedPath.{joined_path}
 use Rattle.adb_fields.specs.declared.file_path.FilePath.{FilePath}
 use Rattle.path_clashes.specs.Clash.{NameChange}
 
+-- whether one of the paths is this name
 abbrev pub is_path_of : List FilePath → List ℕ → Bool
 is_path_of paths name = list_any (bytes_eq name) (map joined_path paths)
 

@@ -19,6 +19,7 @@ pub data PiecesRead : Type 0 where
 
 -- ---- one file
 
+-- a piece of a file that is expected, and whether it is its last one
 abbrev pub part_of : Expected → Bool → Part
 part_of e last = record { path = e.folder; file = e.file; last = last }
 
@@ -53,6 +54,7 @@ position_or_size_fault payload e =
     then Some (DataSize e.size (length (contents_bytes payload)))
     else None
 
+-- behind a failed test nothing comes
 abbrev pub unless_refusal : Option Cause → PiecesRead → PiecesRead
 unless_refusal None pieces = pieces
 unless_refusal (Some c) pieces = refusal c
@@ -89,6 +91,7 @@ refusal_in (piece part bytes pieces) = refusal_in pieces
 
 -- ---- joined
 
+-- a file is whole with its last part; until then its bytes are gathered
 abbrev pub file_given : Part → List ℕ → (List ℕ → FilesRead) → FilesRead
 file_given part bytes further =
     if part.last

@@ -19,6 +19,7 @@ use Rattle.piece_core.specs.declared.place.Step.TheVariants.{End, Passed, Opened
 
 -- ---- of a file
 
+-- where a walk over the blocks stands; the schema does not count there
 abbrev pub standing_at_place : BlockPlace → List ℕ → Standing
 standing_at_place place file =
     record { schema = 0; last = Some place.last; at = place.at; left = drop place.at file }
@@ -48,6 +49,7 @@ HasPositions (Some frame) positions place file =
 abbrev pub whole_size : Frame → ℕ → ℕ
 whole_size frame left = raw_size frame + min (padding_of (raw_size frame)) (left - raw_size frame)
 
+-- behind a block and its padding, of which the last block may lack some
 abbrev pub place_behind : BlockPlace → Frame → BlockPlace
 place_behind place frame = record {
   len = place.len;

@@ -118,8 +118,8 @@ pub fn open_file<'a>(
     positions: &[u8; 8],
 ) -> Result<FileCheck<'a>, Cause>
     requires { 8 ≤ len }
-    ensures opened { (payload : List ℕ) (further : List Expected → PiecesRead) → length payload ≡ len
-        → take 8 payload ≡ positions.now
+    ensures opened { (payload : List ℕ) (further : List Expected → PiecesRead)
+        → length payload ≡ len → take 8 payload ≡ positions.now
         → IsOpened (pieces_of_payload payload further (left_in walk.old)) payload
         (further (left_in walk.new)) result }
     ensures left { IfOk result (λ file. 8 + file_bytes_left file ≡ len) }

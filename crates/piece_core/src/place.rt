@@ -45,8 +45,8 @@ impl<'a> BlockPlace<'a> {
     ///
     /// # Errors
     ///
-    /// `Truncated` where contents have fewer than eight bytes; those of `open_file`; and `DataOrder`
-    /// with (0, 0) where no block is left and a file is due.
+    /// `Truncated` where contents have fewer than eight bytes; those of `open_file`; and
+    /// `DataOrder` with (0, 0) where no block is left and a file is due.
     pub fn step(&mut self, framing: Option<Frame>, positions: &[u8; 8]) -> Result<Step<'a>, Cause>
         requires at { self.old.at ≤ self.old.len }
         requires fits { IfSome framing (λ frame. raw_size frame ≤ self.old.len - self.old.at) }

@@ -20,7 +20,8 @@ abbrev pub head_size : Option Frame → ℕ
 head_size None = 0
 head_size (Some frame) = frame.head_len
 
--- the positions were seen, where the payload has room for them, and no byte behind it was
+-- what was seen of the payload: the positions, where there is room for them, else no more than the
+-- payload has
 abbrev pub SeesPositions : Option Frame → List ℕ → List ℕ → Type 0
 SeesPositions None positions seen = seen ≡ []
 SeesPositions (Some frame) positions seen =

@@ -20,6 +20,7 @@ package_of_file file = file.name.now
 abbrev pub len_around_file : FilePieces → ℕ
 len_around_file file = file.len
 
+-- how many bytes of the file are still to be read; none where no file is open
 abbrev pub bytes_left_in : Option OpenFile → ℕ
 bytes_left_in None = 0
 bytes_left_in (Some o) = file_bytes_left o.file
@@ -72,6 +73,7 @@ HaveComeBy (Some c) opened due bytes = Unit {0}
 HaveComeBy None None due bytes = AreAsDue due bytes
 HaveComeBy None (Some o) due bytes = HasTaken o.file bytes
 
+-- just these bytes of the file were handed out so far
 abbrev pub HaveCome : FilePieces → List ℕ → Type 0
 HaveCome file bytes = HaveComeBy (kept_fault file) file.opened (file_due file) bytes
 

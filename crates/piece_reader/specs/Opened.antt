@@ -31,6 +31,7 @@ pub record AreLeftOf (o : OpenFile) (pkg left : List ℕ) : Type 0 where
   pub come : left ≡ bytes_to_come o pkg
   pub good : hash_fault o.file.wanted.hash.now (so_far ++ left) ≡ None
 
+-- nothing is to come where no file is open
 abbrev pub AreToCome : Option OpenFile → List ℕ → List ℕ → Type 0
 AreToCome None pkg left = left ≡ []
 AreToCome (Some o) pkg left = AreLeftOf o pkg left

@@ -32,6 +32,7 @@ abbrev pub offset_in : BlockPlace → Option OpenFile → ℕ
 offset_in place None = place.at
 offset_in place (Some o) = o.at
 
+-- the same of a reader
 abbrev pub offset_of : PieceReader → ℕ
 offset_of reader = offset_in reader.place reader.opened
 
@@ -40,11 +41,13 @@ abbrev pub due_in : BlockPlace → Option OpenFile → List Expected
 due_in place None = left_in place.walk
 due_in place (Some o) = expected_of o.file.wanted ∷ left_in place.walk
 
+-- behind the last block, and behind a failed test, no file is due
 abbrev pub due_by : Due → BlockPlace → Option OpenFile → List Expected
 due_by Files place opened = due_in place opened
 due_by Nothing place opened = []
 due_by (Refused c) place opened = []
 
+-- the same of a reader
 abbrev pub due_files : PieceReader → List Expected
 due_files reader = due_by reader.due reader.place reader.opened
 
@@ -58,11 +61,13 @@ StandsBetween reader = IsGoingOn reader × (reader.opened ≡ None)
 
 -- ---- what is still to come, of a package of these bytes
 
+-- those of the blocks from a place on, and in front of them the rest of the file that is open
 abbrev pub ArePiecesFrom : BlockPlace → Option OpenFile → List ℕ → PiecesRead → Type 0
 ArePiecesFrom place None pkg pieces = pieces ≡ pieces_at place pkg
 ArePiecesFrom place (Some o) pkg pieces =
     (so_far : List ℕ) × IsOpenFile o so_far pkg (pieces_at place pkg) pieces
 
+-- behind the last block no piece is left; behind a failed test it alone
 abbrev pub AreLeft : Due → BlockPlace → Option OpenFile → List ℕ → PiecesRead → Type 0
 AreLeft Files place opened pkg pieces = ArePiecesFrom place opened pkg pieces
 AreLeft Nothing place opened pkg pieces = pieces ≡ no_piece
@@ -120,6 +125,7 @@ abbrev pub handed_out_from : ℕ → Option OpenFile → ℕ
 handed_out_from start None = 0
 handed_out_from start (Some o) = o.at - start
 
+-- the same of a reader
 abbrev pub handed_out : PieceReader → ℕ
 handed_out reader = handed_out_from reader.start reader.opened
 

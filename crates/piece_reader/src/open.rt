@@ -1,7 +1,7 @@
 //! A file of a package whose pieces are read one by one.
 
 ghost use Rattle.std.specs.Prelude.{◌≡◌, ◌≤◌, ◌<◌, ◌+◌, ◌++◌, ◌^◌, [], ℕ, List, None, Some, length, IfNone, IfOk, IfSome, IsOkAnd};
-ghost use Rattle.adb_view.specs.Gives.{cause_of};
+ghost use Rattle.std.specs.Result.{result_err};
 ghost use Rattle.piece_core.specs.Pieces.{PiecesRead};
 ghost use Rattle.piece_core.specs.Taking.{HasTaken, file_bytes_left, next_len};
 ghost use Rattle.pkg_core.specs.Contents.{hash_fault};
@@ -88,7 +88,7 @@ pub(crate) fn open_at<'a>(
     len: u64,
 ) -> Result<OpenFile<'a>, Cause>
     requires { 0 < wanted.size }
-    ensures fault { cause_of result ≡ place_fault (Some (expected_of wanted.entry)) at len }
+    ensures fault { result_err result ≡ place_fault (Some (expected_of wanted.entry)) at len }
     ensures within { IfOk result (λ o. o.at + file_bytes_left o.file ≤ len) }
     ensures wanted { IfOk result (λ o. o.file.wanted ≡ wanted.entry) }
     ensures taken { IfOk result (λ o. HasTaken o.file []) }

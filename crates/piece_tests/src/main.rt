@@ -61,6 +61,7 @@ const QUESTIONS: [(&[u8], Question); 10] = [
 struct Files;
 
 impl Subject for Files {
+    /// Answers a question by its first word. No question rests on one before it.
     fn answer(
         &mut self,
         alloc: Global,
@@ -206,6 +207,7 @@ fn add_opened(alloc: Global, words: &Words, answer: &mut Vec<u8>) -> Result<(), 
     Ok(())
 }
 
+/// Answers the rows of standard input.
 fn main(rt: HostRuntime) -> io::Result<ExitCode> {
     run_program(&rt, rt.alloc(), &mut Files)
 }

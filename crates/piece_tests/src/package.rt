@@ -80,6 +80,7 @@ pub(crate) fn add_asked(
     add_asked_of(alloc, asked, number, &sizes, &file, answer)
 }
 
+/// The same of a package that was made.
 fn add_asked_of(
     alloc: Global,
     asked: Asked,
@@ -99,6 +100,7 @@ fn add_asked_of(
     add_package(alloc, file, reading, answer)
 }
 
+/// Adds what is read of a package that is changed at an offset of its last file in between.
 fn add_changed(
     alloc: Global,
     file: &[u8],
@@ -158,6 +160,7 @@ fn add_cuts(
     Ok(())
 }
 
+/// Adds a length, and what was found there.
 fn add_cut(
     alloc: Global,
     len: usize,
@@ -169,6 +172,7 @@ fn add_cut(
     add_word(answer, found)
 }
 
+/// What is read of a package.
 fn package_text(alloc: Global, file: &[u8], reading: Reading<'_>) -> Result<Vec<u8>, AllocError> {
     let mut text = Vec::new(alloc);
     add_package(alloc, file, reading, &mut text)?;
@@ -200,6 +204,7 @@ fn put(tree: &mut MemoryTree, name: &Name, bytes: &[u8]) -> Result<(), AllocErro
     Ok(())
 }
 
+/// Adds what is read of the package under a name.
 fn add_readings(
     alloc: Global,
     tree: &mut MemoryTree,
@@ -269,6 +274,7 @@ fn add_contents(
     }
 }
 
+/// Adds how many folders there are where the front alone is read, or else the pieces.
 fn add_pieces(
     alloc: Global,
     tree: &mut MemoryTree,
@@ -285,6 +291,7 @@ fn add_pieces(
     add_all(alloc, tree, &mut reader, answer)
 }
 
+/// Adds how many folders the values of a package have; no piece is read.
 fn add_folders(
     alloc: Global,
     contents: &Contents<'_>,
@@ -347,6 +354,7 @@ fn add_again(
     }
 }
 
+/// Adds how long the pieces of each of the last files are, until one has a fault.
 fn add_files(
     alloc: Global,
     tree: &mut MemoryTree,

@@ -12,7 +12,8 @@ use Rattle.adb_view.specs.Head.{head_fault, root_of}
 use Rattle.adb_view.specs.Plain.{Plain, plain_of}
 use Rattle.adb_tables.specs.Schema.{shape_of}
 use Rattle.adb_tables.specs.Values.{value_at}
-use Rattle.adb_tables.specs.Walk.{or_else, shape_fault}
+use Rattle.std.specs.Option.{option_or}
+use Rattle.adb_tables.specs.Walk.{shape_fault}
 use Rattle.adb_rules.specs.Texts.{text_fault}
 use Rattle.adb_tables.specs.declared.tables.Kind.TheVariants.{Obj}
 use Rattle.adb_schema.specs.Soundness.{blocks_fault, file_fault, file_pair, first_payload, payload_behind, payload_fault, payload_in, root_value, schema_fault}
@@ -74,11 +75,11 @@ files_right es (more b at r) h = block_right b.kind b.payload at (λ left. files
 
 -- ---- a whole package
 
-second_none : (o u : Option Cause) → or_else o u ≡ None → u ≡ None
+second_none : (o u : Option Cause) → option_or o u ≡ None → u ≡ None
 second_none None u h = h
 second_none (Some c) u h = (cc)
 
-first_none : (o u : Option Cause) → or_else o u ≡ None → o ≡ None
+first_none : (o u : Option Cause) → option_or o u ≡ None → o ≡ None
 first_none None u h = refl
 first_none (Some c) u h = h
 

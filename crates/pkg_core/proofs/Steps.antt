@@ -4,7 +4,7 @@ use Rattle.base_core.specs.declared.cause.Cause.{Cause}
 use Rattle.adb_block.specs.Header.{header_of}
 use Rattle.adb_block.specs.Reading.{Reading, done, fault, more, reading_of}
 use Rattle.adb_block.specs.Standing.{start_of}
-use Rattle.adb_tables.specs.Walk.{or_else}
+use Rattle.std.specs.Option.{option_or}
 use Rattle.adb_schema.specs.Soundness.{blocks_fault, file_fault, first_fault, payload_fault, rest_fault, schema_fault}
 use Rattle.adb_tables.specs.declared.tables.Which.{Which}
 use Rattle.adb_tables.specs.declared.tables.Which.TheVariants.{Dep, Acl, PkgInfo, File, Dir, Scripts, Package, Index, Idb, Intent}
@@ -26,7 +26,7 @@ other_fault Idb file h = refl
 other_fault Intent file h = refl
 
 -- of a package, the tests of what stands behind its values come last
-tests_then : (payload : Option Cause) (files : FilesRead) → or_else payload None ≡ None → or_else payload (fault_in files) ≡ fault_in files
+tests_then : (payload : Option Cause) (files : FilesRead) → option_or payload None ≡ None → option_or payload (fault_in files) ≡ fault_in files
 tests_then None files h = refl
 tests_then (Some c) files h = (cc)
 
@@ -35,7 +35,7 @@ blocks_then done h = refl
 blocks_then (fault c) h = refl
 blocks_then (more b at r) h = tests_then (payload_fault Package b.payload) (files_behind (more b at r)) h
 
-schema_then : (s : Option Cause) (r : Reading) → or_else s (blocks_fault (λ v r. rest_fault Package r) Package r) ≡ None → or_else s (blocks_fault (behind_fault Package) Package r) ≡ fault_in (files_behind r)
+schema_then : (s : Option Cause) (r : Reading) → option_or s (blocks_fault (λ v r. rest_fault Package r) Package r) ≡ None → option_or s (blocks_fault (behind_fault Package) Package r) ≡ fault_in (files_behind r)
 schema_then None r h = blocks_then r h
 schema_then (Some c) r h = (cc)
 
@@ -48,7 +48,7 @@ unfolding first_fault whole_fault files_in_file
 files_then file h = header_then file (header_of file) h
 
 -- and a package whose values are refused is refused by that
-tests_first : (payload : Option Cause) (c : Cause) (o : Option Cause) → or_else payload None ≡ Some c → or_else payload o ≡ Some c
+tests_first : (payload : Option Cause) (c : Cause) (o : Option Cause) → option_or payload None ≡ Some c → option_or payload o ≡ Some c
 tests_first None c o h = (cc)
 tests_first (Some d) c o h = h
 
@@ -57,7 +57,7 @@ blocks_first done c h = h
 blocks_first (fault d) c h = h
 blocks_first (more b at r) c h = tests_first (payload_fault Package b.payload) c (fault_in (files_behind (more b at r))) h
 
-schema_first : (s : Option Cause) (r : Reading) (c : Cause) → or_else s (blocks_fault (λ v r. rest_fault Package r) Package r) ≡ Some c → or_else s (blocks_fault (behind_fault Package) Package r) ≡ Some c
+schema_first : (s : Option Cause) (r : Reading) (c : Cause) → option_or s (blocks_fault (λ v r. rest_fault Package r) Package r) ≡ Some c → option_or s (blocks_fault (behind_fault Package) Package r) ≡ Some c
 schema_first None r c h = blocks_first r c h
 schema_first (Some d) r c h = h
 
@@ -70,9 +70,9 @@ unfolding first_fault whole_fault
 values_first file c h = header_first file (header_of file) c h
 
 -- both in one
-pub package_steps : (file : List ℕ) → package_fault file ≡ or_else (first_fault Package file) (fault_in (files_in_file file))
+pub package_steps : (file : List ℕ) → package_fault file ≡ option_or (first_fault Package file) (fault_in (files_in_file file))
 package_steps file = by_values (first_fault Package file) refl
   where
-    by_values : (o : Option Cause) → first_fault Package file ≡ o → package_fault file ≡ or_else o (fault_in (files_in_file file))
+    by_values : (o : Option Cause) → first_fault Package file ≡ o → package_fault file ≡ option_or o (fault_in (files_in_file file))
     by_values None e = files_then file e
     by_values (Some c) e = values_first file c e

@@ -12,6 +12,7 @@ use Rattle.adb_block.specs.Reading.{Reading, done, fault, more}
 use Rattle.adb_block.specs.declared.block.BlockKind.{BlockKind}
 use Rattle.adb_block.specs.declared.block.BlockKind.TheVariants as Kinds
 use Rattle.adb_view.specs.Plain.{Plain}
+use Rattle.adb_tables.specs.FieldIndexes.{FILE_HASHES, FILE_SIZE}
 use Rattle.adb_tables.specs.Values.{entry_in, int_in, text_in}
 use Rattle.adb_fields.specs.Repeated.{folders_in, files_in}
 use Rattle.adb_schema.specs.Soundness.{file_pair}
@@ -34,16 +35,18 @@ expected_at folder i file =
     then record {
       folder = folder;
       file = i;
-      size = int_in (entry_in file 2);
-      hash = text_in (entry_in file 4);
+      size = int_in (entry_in file FILE_SIZE);
+      hash = text_in (entry_in file FILE_HASHES);
     } ∷ []
     else []
 
+-- of the files of a folder, those with contents; positions count from i
 abbrev pub expected_files : ℕ → ℕ → List Plain → List Expected
 expected_files folder i [] = []
 expected_files folder i (file ∷ files) =
     expected_at folder i file ++ expected_files folder (i + 1) files
 
+-- of several folders, the files with contents; positions count from i
 abbrev pub expected_folders : ℕ → List Plain → List Expected
 expected_folders i [] = []
 expected_folders i (folder ∷ folders) =
@@ -59,6 +62,7 @@ expected_contents pkg = expected_folders 1 (folders_in pkg)
 abbrev pub contents_bytes : List ℕ → List ℕ
 contents_bytes payload = drop 8 payload
 
+-- the fault of a digest that is not the wanted one
 abbrev pub digest_fault : (List ℕ → Digest) → List ℕ → List ℕ → Option Cause
 digest_fault as_digest wanted found =
     if bytes_eq wanted found then None else Some (HashDiffers (as_digest wanted) (as_digest found))
@@ -71,6 +75,7 @@ hash_fault hash bytes =
     else if length hash == 64 then digest_fault Sha512 hash (sha512 bytes)
     else None
 
+-- whether contents begin with the positions of the expected file
 abbrev pub has_positions_of : List ℕ → Expected → Bool
 has_positions_of payload e =
     ((file_pair payload).0 == e.folder) && ((file_pair payload).1 == e.file)
@@ -112,18 +117,23 @@ pub data FilesRead : Type 0 where
   refused : Cause → FilesRead
   given : Contents → FilesRead → FilesRead
 
+-- the files, or the fault in their place
 abbrev pub unless_fault : Option Cause → FilesRead → FilesRead
 unless_fault None files = files
 unless_fault (Some c) files = refused c
 
+-- the contents of an expected file: what stands behind its positions
 abbrev pub contents_by : List ℕ → Expected → Contents
 contents_by payload e = record { folder = e.folder; file = e.file; bytes = contents_bytes payload }
 
+-- the contents of the file that is expected next, and the further ones
 abbrev pub with_next : List ℕ → (List Expected → FilesRead) → List Expected → FilesRead
 with_next payload further [] = no_more
 with_next payload further (e ∷ es) = given (contents_by payload e) (further es)
 
-abbrev pub files_at_block : BlockKind → List ℕ → ℕ → (List Expected → FilesRead) → List Expected → FilesRead
+-- what is read from a block on; one that is no contents is passed over
+abbrev pub files_at_block :
+    BlockKind → List ℕ → ℕ → (List Expected → FilesRead) → List Expected → FilesRead
 files_at_block Kinds.Contents payload at further es =
     unless_fault (contents_block_fault payload at es) (with_next payload further es)
 files_at_block kind payload at further es = further es
@@ -135,11 +145,13 @@ files_by_blocks es (fault c) = refused c
 files_by_blocks es (more b at r) =
     files_at_block b.kind b.payload at (λ left. files_by_blocks left r) es
 
+-- the fault that ended the reading, if one did
 abbrev pub fault_in : FilesRead → Option Cause
 fault_in no_more = None
 fault_in (refused c) = Some c
 fault_in (given contents files) = fault_in files
 
+-- the contents up to the end or to the fault
 abbrev pub contents_in : FilesRead → List Contents
 contents_in no_more = []
 contents_in (refused c) = []
@@ -151,9 +163,11 @@ contents_fault es r = fault_in (files_by_blocks es r)
 
 -- ---- the bytes of one file
 
+-- whether contents are of the file at these positions
 abbrev pub is_of_file : ℕ → ℕ → Contents → Bool
 is_of_file folder file contents = (contents.folder == folder) && (contents.file == file)
 
+-- the bytes of some contents; none where there are none
 abbrev pub bytes_or_none : Option Contents → List ℕ
 bytes_or_none None = []
 bytes_or_none (Some contents) = contents.bytes

@@ -1,19 +1,20 @@
 -- Which test of the blocks behind a package's values fails first: the blocks of contents one by
 -- one, then the framing behind them, then the files that are left.
 use Rattle.std.specs.Prelude.{◌≡◌, ℕ, ◌<◌, ◌≤◌, List, [], ◌∷◌, length, drop, slice_get, Option, Some, None}
+use Rattle.std.specs.Option.{option_or}
 use Rattle.std.specs.Result.{result_err}
 use Rattle.base_core.specs.declared.cause.Cause.{Cause}
 use Rattle.adb_block.specs.AllBlocks.{pieces_of}
 use Rattle.adb_block.specs.Reading.{Reading, done, fault, more}
 use Rattle.adb_block.specs.declared.block.BlockKind.{BlockKind}
 use Rattle.adb_block.specs.declared.block.BlockKind.TheVariants as Kinds
-use Rattle.adb_tables.specs.Walk.{or_else}
 use Rattle.pkg_core.specs.Contents.{Expected, contents_block_fault, missing_fault}
 
 -- a block's payload and its offset
 abbrev pub PlacedPayload : Type 0
 PlacedPayload = List ℕ × ℕ
 
+-- the blocks, and this one before them if it is contents
 abbrev pub with_contents : BlockKind → PlacedPayload → List PlacedPayload → List PlacedPayload
 with_contents Kinds.Contents block blocks = block ∷ blocks
 with_contents kind block blocks = blocks
@@ -28,7 +29,7 @@ blocks_of_contents (more b at r) = with_contents b.kind (b.payload, at) (blocks_
 -- then of the end
 abbrev pub contents_test : Option Cause → List Expected → Option PlacedPayload → Option Cause
 contents_test framing es (Some block) = contents_block_fault block.0 block.1 es
-contents_test framing es None = or_else framing (missing_fault es)
+contents_test framing es None = option_or framing (missing_fault es)
 
 -- the k-th test, counted from 0: block k against the files from k on
 abbrev pub contents_test_at : List Expected → Reading → ℕ → Option Cause

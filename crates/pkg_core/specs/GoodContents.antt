@@ -33,6 +33,7 @@ pub record IsTrueTo (e : Expected) (contents : Contents) : Type 0 where
   pub size : length contents.bytes ≡ e.size
   pub digest : IsDigestOf e.hash contents.bytes
 
+-- one by one, each of the expected files and its contents
 abbrev pub AreTrueTo : List Expected → List Contents → Type 0
 AreTrueTo [] [] = Unit {0}
 AreTrueTo [] (contents ∷ others) = ⊥

@@ -16,6 +16,7 @@ use Rattle.pkg_core.specs.declared.walk.Wanted.{Wanted}
 use Rattle.pkg_core.specs.declared.walk.Rest.{Rest}
 use Rattle.pkg_core.specs.declared.walk.FileContents.{FileContents}
 
+-- the contents of a file that was handed out
 abbrev pub contents_view : FileContents → Contents
 contents_view f = record { folder = f.path; file = f.file; bytes = f.bytes.now }
 
@@ -28,6 +29,7 @@ IsNextFile before (Err c) after = (before ≡ refused c) × (after ≡ refused c
 
 -- ---- the walk over the files
 
+-- the file that is wanted next
 abbrev pub expected_of : Wanted → Expected
 expected_of w = record { folder = w.folder; file = w.file; size = w.size; hash = w.hash.now }
 
@@ -37,6 +39,7 @@ left_from i j [] = []
 left_from i j (folder ∷ folders) =
     expected_files i (j + 1) (drop j (files_in folder)) ++ expected_folders (i + 1) folders
 
+-- the files with contents that a walk has still before it
 abbrev pub left_in : Walk → List Expected
 left_in walk =
     left_from (walk.folder + 1) walk.file
@@ -49,6 +52,7 @@ TakesFirst before (Some w) after = before ≡ expected_of w ∷ after
 
 -- ---- one file
 
+-- whether a file is the one at these positions
 abbrev pub has_positions : ℕ → ℕ → Expected → Bool
 has_positions folder file e = (e.folder == folder) && (e.file == file)
 
@@ -58,6 +62,7 @@ expected_with_positions folder file es = find (has_positions folder file) es
 
 -- ---- the blocks with it
 
+-- what is still to be read of a package
 abbrev pub files_left : Rest → FilesRead
 files_left rest = files_by_blocks (left_in rest.walk) (reading_of rest.blocks)
 

@@ -11,6 +11,7 @@ abbrev pub IsFaultOf : PackageFault → Option Cause → Type 0
 IsFaultOf (Bad cause) fault = fault ≡ Some cause
 IsFaultOf Memory fault = Unit {0}
 
+-- the fault of a read as a fault of the package
 abbrev pub fault_of_read : ReadFault → PackageFault
 fault_of_read (ReadFaults.Bad cause) = Bad cause
 fault_of_read ReadFaults.Memory = Memory

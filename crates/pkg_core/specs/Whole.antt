@@ -33,10 +33,12 @@ behind_fault which value r = rest_fault which r
 unfoldable pub whole_fault : Which → List ℕ → Option Cause
 whole_fault which file = fault_with (behind_fault which) which file
 
+-- the first fault of a file of this schema, where it is one of the four
 abbrev pub fault_by_schema : List ℕ → ℕ → Option Which → Option Cause
 fault_by_schema file schema None = Some (WrongSchema schema)
 fault_by_schema file schema (Some which) = whole_fault which file
 
+-- the first fault of a file by its header
 abbrev pub fault_by_header : List ℕ → Result ℕ Cause → Option Cause
 fault_by_header file (Err c) = Some c
 fault_by_header file (Ok schema) = fault_by_schema file schema (root_of_schema schema)
@@ -47,6 +49,7 @@ container_fault file = fault_by_header file (header_of file)
 
 -- ---- a package
 
+-- the first fault of a package's file
 abbrev pub package_fault : List ℕ → Option Cause
 package_fault file = whole_fault Package file
 
@@ -60,6 +63,7 @@ files_behind done = no_more
 files_behind (fault c) = refused c
 files_behind (more b at r) = files_by_blocks (expected_contents (root_value Package b.payload)) r
 
+-- the contents behind a header that was read
 abbrev pub files_by_header : List ℕ → Result ℕ Cause → FilesRead
 files_by_header file (Ok schema) = files_behind (reading_of (start_of schema file))
 files_by_header file (Err c) = refused c
@@ -73,6 +77,7 @@ pub record Packed : Type 0 where
   pub value : Plain
   pub contents : List Contents
 
+-- what a package's file holds: its value, and the contents of its files
 abbrev pub package_with_contents : List ℕ → Packed
 package_with_contents file =
     record {

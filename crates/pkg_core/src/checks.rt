@@ -2,7 +2,8 @@
 //! package.
 
 ghost use Rattle.std.specs.Prelude.{◌≡◌, ◌≢◌, None, IfOk, IfErr, length, ℕ, List, Some};
-ghost use Rattle.adb_view.specs.Gives.{cause_of};
+ghost use Rattle.std.specs.Option.{option_or};
+ghost use Rattle.std.specs.Result.{result_err};
 ghost use Rattle.pkg_core.specs.Contents.{fault_in, digest_fault, hash_fault, contents_fault, contents_in, expected_contents, files_by_blocks, Expected};
 ghost use Rattle.pkg_core.specs.Opened.{opened_files};
 ghost use Rattle.pkg_core.specs.Whole.{container_fault, package_fault, root_of_schema, whole_fault, files_in_file, package_with_contents};
@@ -15,7 +16,6 @@ ghost use Rattle.base_core.specs.declared.cause.Digest.TheVariants as Digests;
 ghost use Rattle.base_core.specs.declared.cause.Cause.{Cause};
 ghost use Rattle.adb_block.specs.Reading.{Reading};
 ghost use Rattle.adb_schema.specs.Soundness.{first_fault};
-ghost use Rattle.adb_tables.specs.Walk.{or_else};
 ghost use Rattle.pkg_core.specs.FirstContents.{IsFirstContentsFault};
 ghost use Rattle.pkg_core.specs.GoodContents.{AreContentsOf, AreTrueTo};
 
@@ -48,8 +48,8 @@ pub fn verify(alloc: Global, bytes: &[u8]) -> Result<(), PackageFault>
     }
 }
 
-/// The table at the root of a container with this schema (apk-v3(5)); None where the schema is none of
-/// the four.
+/// The table at the root of a container with this schema (apk-v3(5)); None where the schema is none
+/// of the four.
 pub fn root_of_schema(schema: u32) -> Option<Which>
     ensures { result ≡ root_of_schema schema }
 {
@@ -86,7 +86,7 @@ fn verify_package(alloc: Global, bytes: &[u8]) -> Result<(), PackageFault>
 
 /// Reads the files of a package to the last.
 fn check_files(pkg: &mut Package<'_>) -> Result<(), Cause>
-    ensures { cause_of result ≡ fault_in (opened_files pkg.old) }
+    ensures { result_err result ≡ fault_in (opened_files pkg.old) }
 {
     while pkg.next_file()?.is_some() {}
     Ok(())
@@ -189,7 +189,7 @@ pub fn the_first_fault_of_contents_is_reported()
 pub fn a_package_is_tested_by_its_values_and_then_its_files()
     ensures { (file : List ℕ)
         → package_fault file
-        ≡ or_else (first_fault Tables.Package file) (fault_in (files_in_file file)) }
+        ≡ option_or (first_fault Tables.Package file) (fault_in (files_in_file file)) }
 {}
 
 /// A package in which no test fails has the contents of each of its files without target and with a

@@ -100,8 +100,8 @@ impl<'a> Package<'a> {
         })
     }
 
-    /// Each text and number of a package keeps the rule of its field: a folder's name is a path, and
-    /// so is a file's behind it.
+    /// Each text and number of a package keeps the rule of its field: a folder's name is a path,
+    /// and so is a file's behind it.
     pub fn values_keep_their_rules(&self)
         ensures { KeepsRules Tables.Package (opened_value self.now) }
     {

@@ -2,13 +2,13 @@
 //! bytes.
 
 ghost use Rattle.std.specs.Prelude.{◌≡◌, ◌&&◌, ◌+◌, ◌-◌, ◌<◌, ◌≤◌, ◌^◌, drop, length, ◌==◌, [], Some, IfOk, option_map};
+ghost use Rattle.std.specs.Result.{result_err};
 ghost use Rattle.adb_tables.specs.Values.{entries_in, count_of};
 ghost use Rattle.adb_schema.specs.Views.{file_value, package_value};
 ghost use Rattle.adb_fields.specs.ListValue.{list_value};
 ghost use Rattle.adb_fields.specs.Repeated.{list_of};
 ghost use Rattle.adb_rules.specs.Texts.{is_with_contents};
 ghost use Rattle.pkg_core.specs.Contents.{expected_contents, expected_files, expected_folders, contents_bytes, expected_fault, missing_fault};
-ghost use Rattle.adb_view.specs.Gives.{cause_of};
 ghost use Rattle.pkg_core.specs.Opened.{expected_of, expected_with_positions};
 
 use crate::checks::hash_fault;
@@ -203,7 +203,7 @@ impl<'a> Walk<'a> {
     ///
     /// `DataOrder` with the next file and the pair (0, 0), where one is left.
     pub fn end(&mut self) -> Result<(), Cause>
-        ensures exact { cause_of result ≡ missing_fault (left_in self.old) }
+        ensures exact { result_err result ≡ missing_fault (left_in self.old) }
         ensures end { IfOk result (λ _. left_in self.new ≡ []) }
     {
         match self.next() {

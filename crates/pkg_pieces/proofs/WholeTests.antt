@@ -7,7 +7,7 @@ use Rattle.adb_block.specs.Header.{header_of}
 use Rattle.adb_block.specs.Reading.{Reading, done, fault, more, reading_of}
 use Rattle.adb_block.specs.Standing.{start_of}
 use Rattle.adb_view.specs.Head.{head_fault}
-use Rattle.adb_tables.specs.Walk.{or_else}
+use Rattle.std.specs.Option.{option_or}
 use Rattle.adb_tables.specs.declared.tables.Which.TheVariants.{Package}
 use Rattle.adb_schema.specs.Soundness.{blocks_fault, fault_with, file_fault, first_fault, first_payload, payload_behind, payload_fault, payload_in, rest_fault, root_value}
 use Rattle.adb_schema.specs.declared.read.TheConstants.{PACKAGE_WORD}
@@ -16,11 +16,11 @@ use Rattle.pkg_core.specs.Whole.{behind_fault, container_fault, fault_by_header,
 use Rattle.pkg_pieces.specs.Front.{IsFrontOf, behind_front, front_block_fault, front_fault, front_fault_by, front_payload}
 use Rattle.pkg_pieces.specs.declared.front.Front.{Front}
 
-told_first : (x y : Option Cause) (c : Cause) → x ≡ Some c → or_else (or_else x y) None ≡ Some c
+told_first : (x y : Option Cause) (c : Cause) → x ≡ Some c → option_or (option_or x y) None ≡ Some c
 told_first None y c h = (cc)
 told_first (Some d) y c h = h
 
-or_none : (x : Option Cause) → or_else x None ≡ x
+or_none : (x : Option Cause) → option_or x None ≡ x
 or_none None = refl
 or_none (Some c) = refl
 
@@ -29,7 +29,7 @@ blocks_alike done c h = (cc)
 blocks_alike (fault d) c h = h
 blocks_alike (more b at r) c h = told_first (head_fault b.payload) _ c h
 
-schema_alike : (wanted : Bool) (found : ℕ) (r : Reading) (c : Cause) → (if wanted then front_block_fault r else Some (WrongSchema found)) ≡ Some c → or_else (if wanted then None else Some (WrongSchema found)) (blocks_fault (λ v r. rest_fault Package r) Package r) ≡ Some c
+schema_alike : (wanted : Bool) (found : ℕ) (r : Reading) (c : Cause) → (if wanted then front_block_fault r else Some (WrongSchema found)) ≡ Some c → option_or (if wanted then None else Some (WrongSchema found)) (blocks_fault (λ v r. rest_fault Package r) Package r) ≡ Some c
 schema_alike true found r c h = blocks_alike r c h
 schema_alike false found r c h = h
 
@@ -56,14 +56,14 @@ same_payload file front is = ap (payload_behind file) is.header ∙ ap first_pay
 
 -- ---- a container
 
-pub whole_by_front : (file : List ℕ) (front : Front) → IsFrontOf PACKAGE_WORD file front → container_fault file ≡ or_else (payload_fault Package (front_payload front)) (contents_fault (expected_contents (root_value Package (front_payload front))) (reading_of (behind_front front file)))
+pub whole_by_front : (file : List ℕ) (front : Front) → IsFrontOf PACKAGE_WORD file front → container_fault file ≡ option_or (payload_fault Package (front_payload front)) (contents_fault (expected_contents (root_value Package (front_payload front))) (reading_of (behind_front front file)))
 unfolding container_fault whole_fault
 whole_by_front file front is =
     ap (fault_by_header file) is.header
     ∙ (ap (file_fault (behind_fault Package) Package file) is.header
     ∙ ap (blocks_fault (behind_fault Package) Package) is.blocks)
 
-told_before : (x y : Option Cause) (c : Cause) → x ≡ Some c → or_else x y ≡ Some c
+told_before : (x y : Option Cause) (c : Cause) → x ≡ Some c → option_or x y ≡ Some c
 told_before None y c h = (cc)
 told_before (Some d) y c h = h
 

@@ -83,6 +83,7 @@ abbrev pub behind_first : ℕ → ℕ → List ℕ → Standing
 behind_first schema at file =
     record { schema = schema; last = Some Adb; at = at; left = drop at file }
 
+-- a fault of the tree, or want of memory; it says nothing of the container
 abbrev pub IsNotBad : FrontFault → Type 0
 IsNotBad (Bad c) = ⊥
 IsNotBad Disk = Unit {0}

@@ -67,8 +67,8 @@ impl<'a> Contents<'a> {
         Contents { adb }
     }
 
-    /// Each text and number of a package keeps the rule of its field: a folder's name is a path, and
-    /// so is a file's behind it.
+    /// Each text and number of a package keeps the rule of its field: a folder's name is a path,
+    /// and so is a file's behind it.
     pub fn values_keep_their_rules(&self)
         ensures { KeepsRules Tables.Package (value_of_contents self.now) }
     {

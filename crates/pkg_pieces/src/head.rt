@@ -46,9 +46,9 @@ impl HeadBytes {
             → IsSeen (T.history tree.old) name.now file_len at head) }
         ensures holds { IfOk result (λ head. HoldsHead head left) }
         ensures short { IfOk result (λ head. length head ≤ head_len head) }
-        ensures tree { (file_len : ℕ) → at + left ≤ file_len → ReadsFile name.now file_len tree_fault
-            (T.history tree.old) (T.history tree.new) (T.counts tree.old) (T.counts tree.new)
-            result }
+        ensures tree { (file_len : ℕ) → at + left ≤ file_len
+            → ReadsFile name.now file_len tree_fault (T.history tree.old) (T.history tree.new)
+            (T.counts tree.old) (T.counts tree.new) result }
     {
         if left < 4 {
             return Ok(no_head());

@@ -1,9 +1,9 @@
 //! What follows from the definitions, for every package.
 ghost use Rattle.std.specs.Prelude.{◌≡◌, ◌≢◌, ◌<◌, ℕ, All, List, None, Some};
+ghost use Rattle.std.specs.Option.{option_or};
 ghost use Rattle.adb_block.specs.Reading.{reading_of};
 ghost use Rattle.adb_schema.specs.SoundContainers.{IsSoundValue};
 ghost use Rattle.adb_schema.specs.Soundness.{first_fault, payload_fault, payload_in, root_value};
-ghost use Rattle.adb_tables.specs.Walk.{or_else};
 ghost use Rattle.adb_schema.specs.declared.read.TheConstants.{PACKAGE_WORD};
 ghost use Rattle.adb_tables.specs.declared.tables.Which.{Which};
 ghost use Rattle.adb_tables.specs.declared.tables.Which.TheVariants as Tables;
@@ -43,7 +43,7 @@ pub fn a_package_is_tested_by_its_front_and_then_by_its_contents()
         → ((found : ℕ) → cause ≢ WrongSchema found) → container_fault file ≡ Some cause }
     ensures contents { (file : List ℕ) (front : Front) → IsFrontOf PACKAGE_WORD file front
         → container_fault file
-        ≡ or_else (payload_fault Tables.Package (front_payload front))
+        ≡ option_or (payload_fault Tables.Package (front_payload front))
         (contents_fault (expected_contents (root_value Tables.Package (front_payload front)))
         (reading_of (behind_front front file))) }
 {}

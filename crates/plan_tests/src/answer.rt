@@ -25,6 +25,7 @@ fn add_names(mark: &[u8], names: &Names, answer: &mut Vec<u8>) -> Result<(), All
     Ok(())
 }
 
+/// Adds a name behind its mark.
 fn add_marked(mark: &[u8], name: &Name, answer: &mut Vec<u8>) -> Result<(), AllocError> {
     add_word(answer, mark)?;
     answer.extend_from_slice(name.as_bytes())
@@ -38,6 +39,7 @@ fn add_writes(alloc: Global, writes: &Writes, answer: &mut Vec<u8>) -> Result<()
     Ok(())
 }
 
+/// Adds a write: the name, and the places of the member, the folder and the file.
 fn add_write(alloc: Global, write: &Write, answer: &mut Vec<u8>) -> Result<(), AllocError> {
     add_marked(b"+", &write.name, answer)?;
     answer.push(b':')?;

@@ -52,6 +52,8 @@ fn add_plan_over<'a>(
     }
 }
 
+/// Adds the plan over a database, and gives the database that is written then; an empty one, where
+/// there is no plan.
 fn add_plan_of<'a>(
     alloc: Global,
     tree: &mut MemoryTree,

@@ -58,6 +58,7 @@ struct Planned {
 }
 
 impl Planned {
+    /// No package is told, and no file stands in the tree.
     fn new(alloc: Global) -> Planned {
         Planned {
             change: ToldChange {
@@ -88,6 +89,8 @@ impl Planned {
 }
 
 impl Subject for Planned {
+    /// Answers a question by its first word. Packages and files are told in rows before the one
+    /// that asks.
     fn answer(
         &mut self,
         alloc: Global,
@@ -165,6 +168,7 @@ fn add_owner(
     }
 }
 
+/// Answers the rows of standard input.
 fn main(rt: HostRuntime) -> io::Result<ExitCode> {
     let alloc = rt.alloc();
     let mut planned = Planned::new(alloc);

@@ -53,6 +53,7 @@ pub fn database_file(alloc: Global, rows: &[Words]) -> Result<Vec<u8>, AllocErro
     container(alloc, writer, root, IDB_WORD)
 }
 
+/// The container of a root; one too large for a container counts as want of memory.
 fn container(alloc: Global, writer: Writer, root: Val, schema: u32) -> Result<Vec<u8>, AllocError> {
     let Ok(payload) = writer.finish(root) else {
         return Err(AllocError);
@@ -99,6 +100,7 @@ fn write_replaces(alloc: Global, writer: &mut Writer, row: &Words) -> Result<Val
     writer.arr(&replaces)
 }
 
+/// Writes an entry of `replaces`, by its words `NAME:VERSION:MATCH`.
 fn write_replaced(writer: &mut Writer, word: &[u8]) -> Result<Val, AllocError> {
     let (name, rest) = parted(word, b':');
     let (version, matching) = parted(rest, b':');
@@ -193,6 +195,7 @@ fn write_file(
     writer.obj(&fields)
 }
 
+/// Writes the target of a symbolic link.
 fn write_target(alloc: Global, writer: &mut Writer, text: &[u8]) -> Result<Val, AllocError> {
     let mut target = Vec::from_slice(alloc, LINK)?;
     target.extend_from_slice(text)?;

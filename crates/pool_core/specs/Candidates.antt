@@ -5,6 +5,7 @@ use Rattle.std.specs.Option.{option_and_then, option_map_or}
 use Rattle.std.specs.List.{cons_option, filter, find, list_all, list_any, starts_with}
 use Rattle.std.specs.Str.{bytes_eq}
 use Rattle.adb_view.specs.Plain.{Plain, Plains, none, more}
+use Rattle.adb_tables.specs.FieldIndexes.{INFO_DEPENDS, INFO_HASHES, INFO_INSTALL_IF, INFO_NAME, INFO_PROVIDER_PRIORITY, INFO_PROVIDES, INFO_VERSION}
 use Rattle.adb_tables.specs.Values.{entries_in, entry_in, int_in, text_in}
 use Rattle.version_core.specs.Order.{is_version}
 use Rattle.dep_core.specs.Dependency.{Dependency}
@@ -63,10 +64,11 @@ candidate_by info name version id depends provides install_if priority repositor
 -- the candidate that a package's information is
 abbrev pub candidate_of : Plain → Option ℕ → Option (List ℕ) → Bool → Candidate
 candidate_of info repository tag installed =
-    candidate_by info (text_in (entry_in info 0)) (version_of_text (text_in (entry_in info 1)))
-    (text_in (entry_in info 2)) (dependencies_in (entry_in info 14))
-    (dependencies_in (entry_in info 15)) (dependencies_in (entry_in info 17))
-    (int_in (entry_in info 13)) repository tag installed
+    candidate_by info (text_in (entry_in info INFO_NAME))
+    (version_of_text (text_in (entry_in info INFO_VERSION)))
+    (text_in (entry_in info INFO_HASHES)) (dependencies_in (entry_in info INFO_DEPENDS))
+    (dependencies_in (entry_in info INFO_PROVIDES)) (dependencies_in (entry_in info INFO_INSTALL_IF))
+    (int_in (entry_in info INFO_PROVIDER_PRIORITY)) repository tag installed
 
 -- ---- the list: the packages of each index, then the installed ones that no index has
 

@@ -85,6 +85,7 @@ abbrev pub IsTooLarge : Plain → ℕ → ℕ → Type 0
 IsTooLarge v bytes values =
     (overflow_of v ≡ Some (bytes, values)) × (passes (bytes, values) ≡ true)
 
+-- of the database after the change
 abbrev pub IsDatabaseTooLarge : List Member → ℕ → ℕ → Type 0
 IsDatabaseTooLarge members bytes values =
     IsTooLarge (database_value members (owned_of members)) bytes values
@@ -97,6 +98,7 @@ pub record IsIntentTooLarge (inputs : Inputs) (change : FileChange) (files : Fil
   pub passes : (let actions = actions_of inputs change files (new_records inputs database) in
       IsTooLarge (value_of_intent (intent_of_lists actions.removals actions.writes)) bytes values)
 
+-- of the database or, where it fits, of the intent
 abbrev pub IsResultTooLarge : Inputs → FileChange → Files → ℕ → ℕ → Type 0
 IsResultTooLarge inputs change files bytes values =
     IsDatabaseTooLarge change.members bytes values

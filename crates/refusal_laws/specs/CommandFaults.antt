@@ -42,6 +42,7 @@ pub record IsUnsatisfied (command : CommandLine) (inputs : Inputs) : Type 0 wher
   pub is_pool : pool_by command inputs ≡ Ok pool
   pub none : (selection : List ℕ) → IsSatisfying pool selection → ⊥
 
+-- a refusal behind the reading of the root and in front of the packages' files says one of these
 abbrev pub IsFaultOfSelection : CommandLine → Inputs → Refusal → Type 0
 IsFaultOfSelection command inputs (TooMany count) = AreTooMany inputs count
 IsFaultOfSelection command inputs (NotInstalled place) = IsUnknownOperand command inputs place

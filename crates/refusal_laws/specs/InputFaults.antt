@@ -41,6 +41,7 @@ pub record IsTextRefused (read : Reads) (fault : V2Fault) : Type 0 where
 
 -- ---- repositories
 
+-- no text where the file is absent
 abbrev pub repositories_found : Reads → List ℕ
 repositories_found read = text_found (read repositories_read repositories_name)
 
@@ -69,6 +70,7 @@ pub record IsIndexBad (read : Reads) (number : ℕ) (cause : Cause) : Type 0 whe
 
 -- ---- each refusal
 
+-- a refusal for what was read of the root says one of these
 abbrev pub IsFaultOfInput : CommandLine → Reads → Refusal → Type 0
 IsFaultOfInput command read NoDatabase = HasNoDatabase command read
 IsFaultOfInput command read (DatabaseBad cause) =

@@ -37,10 +37,12 @@ abbrev pub HasOtherId : Candidate → ComingPackage → List ℕ → List ℕ �
 HasOtherId c pkg wanted found =
     (wanted ≡ c.id) × (found ≡ pkg.id) × (is_same_id wanted found ≡ false)
 
+-- the wanted name is the index's, the other that of the package's file
 abbrev pub HasOtherName : Candidate → ComingPackage → List ℕ → List ℕ → Type 0
 HasOtherName c pkg wanted found =
     (wanted ≡ c.name) × (found ≡ package_name pkg.value) × (wanted ≡ found → ⊥)
 
+-- the wanted version is the index's, the other that of the package's file
 abbrev pub HasOtherVersion : Candidate → ComingPackage → List ℕ → List ℕ → Type 0
 HasOtherVersion c pkg wanted found =
     (wanted ≡ selected_version c) × (found ≡ version_text pkg.value) × (wanted ≡ found → ⊥)

@@ -12,17 +12,21 @@ use Rattle.report_core.specs.declared.refusal.Refusal.TheVariants.{IndexBad, Ind
 use Rattle.root_names.specs.RootNames.{world_name}
 use Rattle.refusal_laws.specs.InputFaults.{repositories_found}
 
+-- there is one, or one may be begun, and it passed its tests
 abbrev pub HasDatabase : CommandLine → Reads → Type 0
 HasDatabase command read = (database : Database) × (database_for command read ≡ Ok database)
 
+-- each of its lines could be read
 abbrev pub HasWorld : Reads → Type 0
 HasWorld read =
     (world : List Dependency) × (root_world (text_found (read world_read world_name)) ≡ Ok world)
 
+-- each line could be read
 abbrev pub HasRepositories : Reads → Type 0
 HasRepositories read =
     (repositories : List Repository) × (repositories_of (repositories_found read) ≡ Ok repositories)
 
+-- the database and world
 abbrev pub HasBoth : CommandLine → Reads → Type 0
 HasBoth command read = HasDatabase command read × HasWorld read
 

@@ -31,10 +31,12 @@ HasNoTrigger wishes change files =
     wishes.no_scripts ≡ false → (m : Member) → IsIn m change.members
     → has_script_of m.pkg trigger_script ≡ true → IsWatchedFor change files m.pkg → ⊥
 
+-- no path is reserved and no name clashes
 abbrev pub HasNamesOfItsOwn : FileChange → Files → Type 0
 HasNamesOfItsOwn change files =
     AreUnreserved change.members × HasNoClash (name_change change files) files
 
+-- nor is a path contested
 abbrev pub HasOwners : FileChange → Files → Type 0
 HasOwners change files = HasNamesOfItsOwn change files × HaveOwners change.members
 

@@ -8,6 +8,7 @@ use Rattle.base_core.specs.declared.cause.Cause.{Cause}
 use Rattle.report_core.specs.declared.lines.Piece.{Piece}
 use Rattle.report_core.specs.declared.lines.Piece.TheVariants.{Bytes, Number, Word, Hex, Digest, Position, Nothing}
 
+-- the text of a piece
 abbrev pub piece_text : Piece → List ℕ
 piece_text (Bytes bytes) = bytes.now
 piece_text (Number number) = decimal number
@@ -27,5 +28,6 @@ abbrev pub cause_part : Option Cause → List ℕ
 cause_part (Some cause) = cause_text cause
 cause_part None = []
 
+-- the text of a sentence: its pieces, and its cause behind them
 abbrev pub sentence_text : Sentence → List ℕ
 sentence_text sentence = pieces_text sentence.pieces ++ cause_part sentence.cause

@@ -3,6 +3,7 @@ use Rattle.std.specs.Prelude.{ℕ, ◌+◌, List, [], ◌∷◌, ◌++◌, codes
 use Rattle.std.specs.Fmt.{decimal}
 use Rattle.std.specs.List.{flat_map}
 
+-- a text as a line
 abbrev pub report_line : List ℕ → List ℕ
 report_line text = text ++ codes "\n"
 
@@ -34,6 +35,7 @@ name_and_version name version = name ++ codes " (" ++ version ++ codes ")"
 abbrev pub from_version_to : List ℕ → List ℕ → List ℕ → List ℕ
 from_version_to name old new = name ++ codes " (" ++ old ++ codes " -> " ++ new ++ codes ")"
 
+-- what a report says of a package that changes
 abbrev pub change_text : Change → List ℕ
 change_text (Install name version) = codes "Installing " ++ name_and_version name version
 change_text (Reinstall name version) = codes "Reinstalling " ++ name_and_version name version
@@ -54,6 +56,7 @@ change_lines_from number count (change ∷ changes) =
     report_line (numbered_change number count change)
     ++ change_lines_from (number + 1) count changes
 
+-- a line for each change, with its number and how many there are
 abbrev pub change_lines : List Change → List ℕ
 change_lines changes = change_lines_from 1 (length changes) changes
 
@@ -75,6 +78,7 @@ abbrev pub folder_text : List ℕ → List ℕ
 folder_text [] = codes "/"
 folder_text (b ∷ bytes) = b ∷ bytes
 
+-- what a report says of a trigger that is due for a folder
 abbrev pub trigger_text : List ℕ → List ℕ → List ℕ
 trigger_text name folder = name ++ codes ": trigger due for " ++ folder_text folder
 
@@ -85,17 +89,21 @@ sum_text bytes packages =
 
 -- ---- `info`: a heading, what it heads, and an empty line
 
+-- a heading, a line for each text, and an empty line
 abbrev pub section : List ℕ → List (List ℕ) → List ℕ
 section heading texts = report_line heading ++ report_lines texts ++ codes "\n"
 
+-- the description of a package
 abbrev pub description_section : List ℕ → List ℕ → List ℕ → List ℕ
 description_section name version description =
     section (name_version name version ++ codes " description:") (description ∷ [])
 
+-- the paths of a package's files
 abbrev pub contents_section : List ℕ → List ℕ → List (List ℕ) → List ℕ
 contents_section name version paths =
     section (name_version name version ++ codes " contains:") paths
 
+-- the dependencies of a package
 abbrev pub depends_section : List ℕ → List ℕ → List (List ℕ) → List ℕ
 depends_section name version dependencies =
     section (name_version name version ++ codes " depends on:") dependencies

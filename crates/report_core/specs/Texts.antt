@@ -14,6 +14,7 @@ use Rattle.report_core.specs.declared.refusal.Refusal.TheVariants.{Usage, Intent
 abbrev pub hex_word : ℕ → List ℕ
 hex_word word = encode_lower (to_be_bytes w32 word)
 
+-- the bytes of a digest
 abbrev pub digest_bytes : Digest → List ℕ
 digest_bytes (Sha1 bytes) = bytes
 digest_bytes (Sha256 bytes) = bytes
@@ -25,6 +26,7 @@ digest_bytes (Sha512 bytes) = bytes
 abbrev pub position_text : ℕ → ℕ → List ℕ
 position_text folder file = decimal folder ++ codes "." ++ decimal file
 
+-- what is said of a cause
 abbrev pub cause_text : Cause → List ℕ
 cause_text NotAdb = codes "not an ADB file"
 cause_text Compressed = codes "compressed ADB file"
@@ -80,6 +82,7 @@ script_name script =
     if script == 6 then codes "pre-upgrade" else
     if script == 7 then codes "post-upgrade" else decimal script
 
+-- what is said of a refusal
 abbrev pub refusal_text : Refusal → List ℕ
 refusal_text (Usage place) = codes "usage error at word " ++ decimal place
 refusal_text (IntentBad cause) = codes "lib/apk/intent: " ++ cause_text cause
@@ -117,9 +120,11 @@ refusal_text (ResultTooLarge bytes values) =
 
 -- ---- lines
 
+-- a text as an error line
 abbrev pub error_line : List ℕ → List ℕ
 error_line text = codes "ERROR: " ++ text ++ codes "\n"
 
+-- the error line of a refusal
 abbrev pub refusal_line : Refusal → List ℕ
 refusal_line refusal = error_line (refusal_text refusal)
 

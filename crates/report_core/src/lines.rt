@@ -26,6 +26,7 @@ pub fn write_error<E: Sink>(refusal: &Refusal, err: &mut E) -> Result<(), SinkFa
     write_all(err, b"\n")
 }
 
+/// Writes a sentence: its pieces, and its cause behind them.
 fn write_sentence<E: Sink>(sentence: &Sentence<'_>, err: &mut E) -> Result<(), SinkFault>
     ensures { Writes (sentence_text sentence.now)
         (sink_change E.bytes E.counts err.old err.new) result }
@@ -34,6 +35,7 @@ fn write_sentence<E: Sink>(sentence: &Sentence<'_>, err: &mut E) -> Result<(), S
     write_cause(sentence.cause, err)
 }
 
+/// Writes a cause, where there is one.
 fn write_cause<E: Sink>(cause: Option<Cause>, err: &mut E) -> Result<(), SinkFault>
     ensures { Writes (cause_part cause) (sink_change E.bytes E.counts err.old err.new) result }
 {
@@ -76,6 +78,7 @@ pub(crate) fn write_pieces<S: Sink>(pieces: &[Piece<'_>], sink: &mut S) -> Resul
     Ok(())
 }
 
+/// Writes a piece.
 fn write_piece<S: Sink>(piece: &Piece<'_>, sink: &mut S) -> Result<(), SinkFault>
     ensures { Writes (piece_text piece.now)
         (sink_change S.bytes S.counts sink.old sink.new) result }
@@ -91,6 +94,7 @@ fn write_piece<S: Sink>(piece: &Piece<'_>, sink: &mut S) -> Result<(), SinkFault
     }
 }
 
+/// Writes the positions of a folder and of a file in it, with a dot between.
 fn write_position<S: Sink>(folder: u64, file: u64, sink: &mut S) -> Result<(), SinkFault>
     ensures { Writes (position_text folder file)
         (sink_change S.bytes S.counts sink.old sink.new) result }
@@ -100,6 +104,7 @@ fn write_position<S: Sink>(folder: u64, file: u64, sink: &mut S) -> Result<(), S
     write_number(file, sink)
 }
 
+/// Writes a number in decimal.
 fn write_number<S: Sink>(number: u64, sink: &mut S) -> Result<(), SinkFault>
     ensures { Writes (decimal number) (sink_change S.bytes S.counts sink.old sink.new) result }
 {
@@ -107,6 +112,7 @@ fn write_number<S: Sink>(number: u64, sink: &mut S) -> Result<(), SinkFault>
     write_all(sink, digits.format(number).as_bytes())
 }
 
+/// Writes bytes as hexadecimal digits.
 fn write_hex<S: Sink>(bytes: &[u8], sink: &mut S) -> Result<(), SinkFault>
     ensures { Writes (encode_lower bytes.now)
         (sink_change S.bytes S.counts sink.old sink.new) result }
@@ -117,6 +123,7 @@ fn write_hex<S: Sink>(bytes: &[u8], sink: &mut S) -> Result<(), SinkFault>
     Ok(())
 }
 
+/// The two hexadecimal digits of a byte.
 fn hex_digits(byte: u8) -> [u8; 2]
     ensures { result ≡ encode_lower (byte ∷ []) }
 {

@@ -77,6 +77,7 @@ fn seven<'a>(
     [a, b, c, d, e, f, g]
 }
 
+// A sentence without a cause.
 fn plain<'a>(pieces: Pieces<'a>) -> Sentence<'a>
     ensures { sentence_text result ≡ pieces_text pieces.entry }
 {
@@ -86,6 +87,7 @@ fn plain<'a>(pieces: Pieces<'a>) -> Sentence<'a>
     }
 }
 
+// A sentence with its cause.
 fn caused<'a>(pieces: Pieces<'a>, cause: Cause) -> Sentence<'a>
     ensures { sentence_text result ≡ pieces_text pieces.entry ++ cause_text cause }
 {
@@ -95,6 +97,7 @@ fn caused<'a>(pieces: Pieces<'a>, cause: Cause) -> Sentence<'a>
     }
 }
 
+// What is said of the word at a place.
 fn at_word(place: u32, text: &'static [u8]) -> Sentence<'static>
     ensures { sentence_text result ≡ word_text place text.now }
 {

@@ -1,6 +1,7 @@
 -- The packages after a change come out of sound containers, and are in order.
 use Rattle.std.proofs.Common.{◌≡◌, inl, inr, ◌∙◌, ℕ, suc, ◌+◌, ◌<◌, Bool, true, false, cond, List, [], ◌∷◌, length, map, Option, Some, None, Result, Ok, Err, refl, sym, ap, subst, Less}
 use Rattle.std.specs.Prelude.{All, not, option_map, bytes_eq, if◌then◌else◌}
+use Rattle.std.specs.Option.{option_or}
 use Rattle.std.specs.List.{cons_option, find}
 use Rattle.std.proofs.lemmas.Slice.Eq.{bytes_eq-Decides}
 use Rattle.sha2.proofs.Facts256.{length-sha256}
@@ -9,7 +10,6 @@ use Rattle.adb_fields.specs.Repeated.{package_name}
 use Rattle.adb_rules.specs.Rules.{is_digest_length}
 use Rattle.adb_schema.specs.SoundContainers.{IsSound}
 use Rattle.adb_schema.specs.Soundness.{first_fault, payload_in, root_value}
-use Rattle.adb_tables.specs.Walk.{or_else}
 use Rattle.adb_tables.specs.declared.tables.Which.TheVariants.{Package}
 use Rattle.adb_view.specs.Plain.{Plain}
 use Rattle.base_core.specs.declared.cause.Cause.{Cause}
@@ -41,7 +41,7 @@ abbrev pub FilesMayCome : Type 0
 FilesMayCome = (file id : List ℕ) → IsSound Package file → All (λ b. b < 256) (payload_in file) → is_digest_length (length id) ≡ true → IsOfSoundContainer (root_value Package (payload_in file)) (Some id)
 
 abbrev pub PackagesAreTested : Type 0
-PackagesAreTested = (file : List ℕ) → package_fault file ≡ or_else (first_fault Package file) (fault_in (files_in_file file))
+PackagesAreTested = (file : List ℕ) → package_fault file ≡ option_or (first_fault Package file) (fault_in (files_in_file file))
 
 -- ---- one package
 
@@ -61,7 +61,7 @@ found_in test (y ∷ ys) x e = by_test (test y) refl e (found_in test ys x)
     by_test true t e more = let same : y ≡ x = cc in (inl (sym same), ap test (sym same) ∙ t)
     by_test false t e more = let behind = more e in (inr behind.0, behind.1)
 
-first_none : (a b : Option Cause) → or_else a b ≡ None → a ≡ None
+first_none : (a b : Option Cause) → option_or a b ≡ None → a ≡ None
 first_none None b e = refl
 first_none (Some cause) b e = absurd (cc (e))
 

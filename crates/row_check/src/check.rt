@@ -72,6 +72,7 @@ fn check_files<P: Program>(
     Ok(())
 }
 
+/// Compares one file: where the row wants none under its name, it is to be as it was before.
 fn check_file<P: Program>(
     alloc: Global,
     program: &P,
@@ -97,6 +98,7 @@ fn check_file<P: Program>(
     }
 }
 
+/// Tells that a file differs, and how.
 fn tell(alloc: Global, line: u64, name: &Name, what: &[u8]) -> Result<(), RowFault> {
     let pieces: [&[u8]; 2] = [name.as_bytes(), what];
     Err(differs(alloc, line, &pieces))

@@ -35,6 +35,7 @@ pub fn differs(alloc: Global, line: u64, pieces: &[&[u8]]) -> RowFault {
     }
 }
 
+/// A line of what differs, with the line of the row that wanted it.
 fn difference(alloc: Global, line: u64, pieces: &[&[u8]]) -> Result<Vec<u8>, AllocError> {
     let mut text = Vec::from_slice(alloc, b"line ")?;
     add_number(alloc, &mut text, line)?;
@@ -125,6 +126,8 @@ fn shown(alloc: Global, text: &[u8], at: usize) -> Result<Vec<u8>, AllocError> {
     Ok(out)
 }
 
+/// Adds a byte as a person can read it: a line end, and what is not printed in ASCII, with a
+/// backslash.
 fn add_escaped(alloc: Global, out: &mut Vec<u8>, byte: u8) -> Result<(), AllocError> {
     match byte {
         b'\n' => out.extend_from_slice(b"\\n"),

@@ -22,6 +22,7 @@ pub struct Found {
 }
 
 impl Sides {
+    /// The two sides, each as a recovery leaves it.
     pub fn new<P: Program>(
         alloc: Global,
         program: &P,

@@ -20,6 +20,7 @@ pub fn tree_of<P: Program>(
     Ok(tree)
 }
 
+/// An empty tree, or a copy of what an earlier row left; a row that failed leaves none.
 fn first_tree(
     alloc: Global,
     row: &Row,
@@ -34,6 +35,7 @@ fn first_tree(
     }
 }
 
+/// Puts a file of the row; one that is to be absent is not put.
 fn put<P: Program>(
     alloc: Global,
     program: &P,

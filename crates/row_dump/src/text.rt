@@ -26,6 +26,7 @@ pub(crate) fn number(text: &[u8]) -> Result<u64, DumpFault> {
     Ok(number)
 }
 
+/// A number with one more decimal digit; it has at most 64 bits.
 fn next_number(number: u64, digit: u8) -> Result<u64, DumpFault> {
     let Some(tens) = number.checked_mul(10) else {
         return Err(DumpFault::NoDump);
@@ -65,6 +66,7 @@ pub(crate) fn digit_value(digit: u8) -> Result<u8, DumpFault> {
     }
 }
 
+/// The byte that two hexadecimal digits are.
 pub(crate) fn byte_of(high: u8, low: u8) -> u8 {
     (high << 4) | low
 }

@@ -7,7 +7,7 @@ use adb_write::{WriteFault, Writer, file_of};
 use std::alloc::{AllocError, AllocFailed, Global};
 
 /// The longest payload of a container.
-const MOST_BYTES: usize = 268435455;
+const MOST_BYTES: usize = 268_435_455;
 
 /// Why a text gives no container.
 #[derive(Clone, Copy)]
@@ -101,6 +101,7 @@ fn margin(line: &[u8]) -> usize {
 }
 
 impl Reader {
+    /// A reader that has the root open, with its fields at column 0.
     fn new(alloc: Global, root: Which) -> Result<Reader, DumpFault> {
         let mut reader = Reader {
             alloc,
@@ -121,6 +122,7 @@ impl Reader {
         Ok(())
     }
 
+    /// Reads a line, which belongs to the innermost open value at its column.
     fn read_line(&mut self, line: &[u8]) -> Result<(), DumpFault> {
         let column = margin(line);
         let Some(item) = line.get(column..) else {
@@ -203,13 +205,13 @@ impl Reader {
         };
         let (name, rest) = (&item[..at], &item[at + 1..]);
         let fields = fields_of(which);
-        let Some(number) = number_of(fields, name) else {
+        let Some(index) = index_of(fields, name) else {
             return Err(DumpFault::NoDump);
         };
-        let Some(field) = fields.get(number) else {
+        let Some(field) = fields.get(index) else {
             return Err(DumpFault::NoDump);
         };
-        self.skip_to(number)?;
+        self.skip_to(index)?;
         match field.kind {
             Kind::Int | Kind::Text | Kind::Hash => self.read_value(field.kind, rest),
             Kind::Obj(which) => self.read_below(Shape::Object(which), rest, column),
@@ -218,15 +220,16 @@ impl Reader {
         }
     }
 
-    /// Adds NULLs for the fields that are left out.
-    fn skip_to(&mut self, number: usize) -> Result<(), DumpFault> {
+    /// Adds NULLs for the fields that are left out in front of the one with this index. A field that
+    /// does not stand behind those before it makes no dump text.
+    fn skip_to(&mut self, index: usize) -> Result<(), DumpFault> {
         let Some(frame) = self.frames.last_mut() else {
             return Err(DumpFault::NoDump);
         };
-        if frame.words.len() > number {
+        if frame.words.len() > index {
             return Err(DumpFault::NoDump);
         }
-        for _ in frame.words.len()..number {
+        for _ in frame.words.len()..index {
             frame.words.push(Val::of(0))?;
         }
         Ok(())
@@ -253,8 +256,10 @@ impl Reader {
         self.open(shape, deeper(column)?)
     }
 
+    /// The container, once all lines are read: what is open is written, down to the root.
     fn finish(self, schema: u32) -> Result<Vec<u8>, DumpFault> {
         let mut reader = self;
+        // All but the root, whose lines stand at column 0.
         reader.close_down_to(0)?;
         let word = reader.close()?;
         let Reader { alloc, writer, .. } = reader;
@@ -286,8 +291,8 @@ fn deeper(column: usize) -> Result<usize, DumpFault> {
     }
 }
 
-/// The number of the field of a name, counted from 0.
-fn number_of(fields: &[Field], name: &[u8]) -> Option<usize> {
+/// The index of the field of a name.
+fn index_of(fields: &[Field], name: &[u8]) -> Option<usize> {
     fields
         .iter()
         .position(|field| field.name.text().as_bytes() == name)

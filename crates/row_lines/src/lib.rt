@@ -88,6 +88,7 @@ fn run_line<S: Subject>(
     Ok(false)
 }
 
+/// Adds a row that fails, and what was found in place of its answer.
 fn add_failure(report: &mut Vec<u8>, line: &[u8], found: &[u8]) -> Result<(), AllocError> {
     report.extend_from_slice(b"FAILED ")?;
     report.extend_from_slice(line)?;

@@ -107,6 +107,7 @@ pub(crate) fn bytes_of(alloc: Global, text: &[u8]) -> Result<Vec<u8>, AllocError
 }
 
 impl Unescaped {
+    /// Takes a byte; what escapes stand for is the table of `tests/lines.md`.
     fn add(&mut self, byte: u8) -> Result<(), AllocError> {
         match (self.place, byte) {
             (Place::Plain, b'\\') => self.place = Place::Backslash,
@@ -162,6 +163,7 @@ fn digit_value(digit: u8) -> u8 {
     digit_of(digit).unwrap_or(0)
 }
 
+/// The value of a hexadecimal digit, which is lower-case.
 fn digit_of(digit: u8) -> Option<u8> {
     match digit {
         b'0'..=b'9' => Some(digit - b'0'),

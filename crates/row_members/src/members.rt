@@ -72,6 +72,7 @@ pub fn add_coming<'a>(
     }
 }
 
+/// Adds a package that comes. False: there are too many members, or its name is not behind theirs.
 fn add_contents<'a>(
     members: &mut Members<'a>,
     contents: &Contents<'a>,

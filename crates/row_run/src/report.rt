@@ -63,12 +63,14 @@ fn run_and_report<P: Program>(
     }
 }
 
+// Adds the line that is no row, and why.
 fn add_fault(alloc: Global, report: &mut Vec<u8>, fault: Fault) -> Result<(), AllocError> {
     report.extend_from_slice(b"line ")?;
     add_number(alloc, report, fault.line)?;
     add_line(report, b": ", fault.trouble.text().as_bytes(), b"")
 }
 
+// Adds a row that failed, and what differs.
 fn add_failure(report: &mut Vec<u8>, name: &[u8], fault: &RowFault) -> Result<(), AllocError> {
     report.extend_from_slice(b"FAILED ")?;
     match fault {
@@ -77,6 +79,7 @@ fn add_failure(report: &mut Vec<u8>, name: &[u8], fault: &RowFault) -> Result<()
     }
 }
 
+// Adds a line of three parts.
 fn add_line(report: &mut Vec<u8>, one: &[u8], two: &[u8], three: &[u8]) -> Result<(), AllocError> {
     report.extend_from_slice(one)?;
     report.extend_from_slice(two)?;
@@ -84,6 +87,7 @@ fn add_line(report: &mut Vec<u8>, one: &[u8], two: &[u8], three: &[u8]) -> Resul
     report.extend_from_slice(b"\n")
 }
 
+// Adds how many rows there are and how many of them failed.
 fn add_counts(
     alloc: Global,
     report: &mut Vec<u8>,

@@ -121,6 +121,7 @@ pub(crate) fn run_once<P: Program>(
     }
 }
 
+/// A sink that fails as planned; `end` counts before the plan.
 fn sink(alloc: Global, plan: SinkPlan, end: Option<usize>) -> MemorySink {
     let mut sink = MemorySink::new(alloc);
     if let Some(end) = end.or(plan.end) {

@@ -74,6 +74,7 @@ impl<'a, P: Program> Swept<'a, P> {
         Err(self.too_many(alloc))
     }
 
+    /// Runs the command line with one call failing.
     fn run_failing(&self, alloc: Global, call: u64) -> Result<Run, RowFault> {
         let mut tree = copy_of(alloc, self.before)?;
         tree.fail_at(&[call])?;
@@ -96,6 +97,7 @@ impl<'a, P: Program> Swept<'a, P> {
         Err(self.too_many(alloc))
     }
 
+    /// Runs the command line with all calls failing behind so many.
     fn run_stopped(&self, alloc: Global, calls: u64) -> Result<Run, RowFault> {
         let mut tree = copy_of(alloc, self.before)?;
         tree.stop_after(calls);
@@ -121,6 +123,7 @@ impl<'a, P: Program> Swept<'a, P> {
         check_run(alloc, self.program, self.step, self.before, run)
     }
 
+    /// Told where a command line makes more calls than are swept.
     fn too_many(&self, alloc: Global) -> RowFault {
         differs(alloc, self.step.line, &[b"too many calls"])
     }
@@ -136,6 +139,7 @@ impl<'a, P: Program> Swept<'a, P> {
         self.check_seen(alloc, &what, run, wanted)
     }
 
+    /// Compares what is seen of a run with what is wanted.
     fn check_seen(
         &self,
         alloc: Global,
@@ -207,6 +211,8 @@ impl<'a, P: Program> Swept<'a, P> {
             .check_images(alloc, self.program, self.step, &second.tree)
     }
 
+    /// Compares a second run, behind a recovery, with the wanted one: its status and what it
+    /// prints.
     fn check_again(&self, alloc: Global, call: u64, second: &Run) -> Result<(), RowFault> {
         let what = at_call(alloc, call, b" and a second run, what is seen")?;
         let wanted = Seen {
@@ -239,6 +245,7 @@ impl<'a, P: Program> Swept<'a, P> {
         self.check_end(alloc, is_out, bytes, &cut)
     }
 
+    /// The stream that ended has these bytes, and the files are those of behind.
     fn check_end(
         &self,
         alloc: Global,

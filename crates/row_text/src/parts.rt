@@ -54,6 +54,7 @@ impl Reader {
         Ok(())
     }
 
+    /// Adds a file that the command line before is to leave.
     fn push_wanted(&mut self, file: NamedFile) -> Result<(), Trouble> {
         let Some(step) = &mut self.step else {
             return Err(Trouble::NoCommand);
@@ -110,6 +111,7 @@ impl Reader {
     }
 }
 
+/// A path as a name; one that is none makes the row bad.
 pub(crate) fn name_of(alloc: Global, path: &[u8]) -> Result<Name, Trouble> {
     match Name::read(alloc, path)? {
         Some(name) => Ok(name),
@@ -117,6 +119,7 @@ pub(crate) fn name_of(alloc: Global, path: &[u8]) -> Result<Name, Trouble> {
     }
 }
 
+/// How a file's lines are read: as text, as hexadecimal digits, or as a dump text.
 fn form_of(word: &[u8]) -> Result<Form, Trouble> {
     match word {
         b"text" => Ok(Form::Text),
@@ -137,6 +140,7 @@ fn content(alloc: Global, form: Form, line: u64) -> Content {
     }
 }
 
+/// Adds a line to the last file, in the file's form. A file that is to be absent has no lines.
 fn add_to_last(files: &mut Vec<NamedFile>, form: Form, piece: &[u8]) -> Result<(), Trouble> {
     let Some(file) = files.last_mut() else {
         return Err(Trouble::OutOfPlace);
@@ -149,12 +153,14 @@ fn add_to_last(files: &mut Vec<NamedFile>, form: Form, piece: &[u8]) -> Result<(
     }
 }
 
+/// Adds a line, with its line end.
 pub(crate) fn add_line(text: &mut Vec<u8>, piece: &[u8]) -> Result<(), Trouble> {
     text.extend_from_slice(piece)?;
     text.push(b'\n')?;
     Ok(())
 }
 
+/// Takes the last line end off the last file.
 fn cut_last(files: &mut Vec<NamedFile>) -> Result<(), Trouble> {
     let Some(file) = files.last_mut() else {
         return Err(Trouble::OutOfPlace);
@@ -210,6 +216,7 @@ impl Reader {
         self.plan_tree(TreePlan::Each(more))
     }
 
+    /// Plans failures or stops of the tree, for the next command line alone.
     fn plan_tree(&mut self, plan: TreePlan) -> Result<(), Trouble> {
         if self.row.is_none() {
             return Err(Trouble::NoRow);
@@ -223,11 +230,13 @@ impl Reader {
         }
     }
 
+    /// Plans failures of standard output, for the next command line alone.
     pub(crate) fn plan_out(&mut self, rest: &[u8]) -> Result<(), Trouble> {
         self.plan.out = sink_plan(self.plan.out, rest)?;
         Ok(())
     }
 
+    /// Plans failures of standard error, for the next command line alone.
     pub(crate) fn plan_err(&mut self, rest: &[u8]) -> Result<(), Trouble> {
         self.plan.err = sink_plan(self.plan.err, rest)?;
         Ok(())
@@ -262,6 +271,7 @@ pub(crate) fn number_at_most(text: &[u8]) -> Result<u64, Trouble> {
     }
 }
 
+/// A decimal number, as a length.
 fn size(text: &[u8]) -> Result<usize, Trouble> {
     Ok(number(text)? as usize)
 }

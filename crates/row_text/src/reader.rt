@@ -61,6 +61,7 @@ pub fn read_rows(alloc: Global, text: &[u8]) -> Result<Vec<Row>, Fault> {
 }
 
 impl Plans {
+    /// Nothing fails or is stopped.
     fn none() -> Plans {
         Plans {
             tree: TreePlan::Whole,
@@ -71,6 +72,7 @@ impl Plans {
 }
 
 impl Reader {
+    /// Before the first line.
     fn new(alloc: Global) -> Reader {
         Reader {
             alloc,
@@ -99,6 +101,8 @@ impl Reader {
         }
     }
 
+    /// Reads a line by its first byte, or else by its first word. An empty line ends the text that
+    /// lines are added to.
     fn read_line(&mut self, line: &[u8]) -> Result<(), Trouble> {
         let Some((mark, rest)) = line.split_first() else {
             self.target = Target::Nothing;
@@ -115,6 +119,7 @@ impl Reader {
         }
     }
 
+    /// Reads a line that begins with a word and says something of a row or of files.
     fn read_words(&mut self, line: &[u8]) -> Result<(), Trouble> {
         let (word, rest) = first_word(line);
         self.target = Target::Nothing;
@@ -129,6 +134,7 @@ impl Reader {
         }
     }
 
+    /// Reads a line that gives counts or plans failures.
     fn read_numbers(&mut self, word: &[u8], rest: &[u8]) -> Result<(), Trouble> {
         match word {
             b"status" => self.add_status(number(rest)?),
@@ -194,6 +200,7 @@ impl Reader {
         self.rows.iter().position(|row| row.name.as_slice() == name)
     }
 
+    /// Ends a row; one that runs nothing is bad.
     fn end_row(&mut self) -> Result<(), Trouble> {
         self.end_step()?;
         if let Some(row) = self.row.take() {
@@ -206,6 +213,8 @@ impl Reader {
         Ok(())
     }
 
+    /// Begins the row with the files that an earlier row leaves. They stand in place of files of
+    /// its own.
     fn begin_with(&mut self, rest: &[u8]) -> Result<(), Trouble> {
         let Some(number) = self.number_of(rest) else {
             return Err(Trouble::NoSuchRow);
@@ -226,6 +235,7 @@ impl Reader {
 
 /// Command lines, and what is to be seen.
 impl Reader {
+    /// Begins a command line, with what was planned for it.
     fn begin_step(&mut self, text: &[u8]) -> Result<(), Trouble> {
         if self.row.is_none() {
             return Err(Trouble::NoRow);
@@ -253,6 +263,7 @@ impl Reader {
         Ok(())
     }
 
+    /// Puts the last command line behind the others of its row.
     fn end_step(&mut self) -> Result<(), AllocError> {
         if let Some(step) = self.step.take()
             && let Some(row) = &mut self.row
@@ -262,6 +273,7 @@ impl Reader {
         Ok(())
     }
 
+    /// Adds a line that standard output is to have.
     fn add_out(&mut self, piece: &[u8]) -> Result<(), Trouble> {
         let Some(step) = &mut self.step else {
             return Err(Trouble::NoCommand);
@@ -270,6 +282,7 @@ impl Reader {
         add_line(&mut step.out, piece)
     }
 
+    /// Adds a line that standard error is to have.
     fn add_err(&mut self, piece: &[u8]) -> Result<(), Trouble> {
         let Some(step) = &mut self.step else {
             return Err(Trouble::NoCommand);
@@ -278,6 +291,7 @@ impl Reader {
         add_line(&mut step.err, piece)
     }
 
+    /// The exit status that is wanted.
     fn add_status(&mut self, number: u64) -> Result<(), Trouble> {
         let Some(step) = &mut self.step else {
             return Err(Trouble::NoCommand);
@@ -285,6 +299,7 @@ impl Reader {
         set_once(&mut step.status, number)
     }
 
+    /// How many calls of the tree are wanted.
     fn add_calls(&mut self, number: u64) -> Result<(), Trouble> {
         let Some(step) = &mut self.step else {
             return Err(Trouble::NoCommand);
@@ -292,6 +307,7 @@ impl Reader {
         set_once(&mut step.calls, number)
     }
 
+    /// How many of them write.
     fn add_writes(&mut self, number: u64) -> Result<(), Trouble> {
         let Some(step) = &mut self.step else {
             return Err(Trouble::NoCommand);
@@ -299,6 +315,7 @@ impl Reader {
         set_once(&mut step.writes, number)
     }
 
+    /// The most bytes that one read may ask for.
     fn add_reads(&mut self, number: u64) -> Result<(), Trouble> {
         let Some(step) = &mut self.step else {
             return Err(Trouble::NoCommand);
@@ -325,6 +342,7 @@ impl Reader {
     }
 }
 
+/// Sets a number that may be said once.
 fn set_once(place: &mut Option<u64>, number: u64) -> Result<(), Trouble> {
     if place.is_some() {
         return Err(Trouble::SaidTwice);

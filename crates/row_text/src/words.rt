@@ -4,14 +4,17 @@ use crate::row::Trouble;
 use base_core::Words;
 use std::alloc::Global;
 
-/// The most words that a command line may have.
-const MOST_WORDS: usize = 4294967294;
+/// The most words that a command line may have: 2^32 - 2, as `Words` of `base_core` holds.
+const MOST_WORDS: usize = 4_294_967_294;
 
 /// Where a byte of a command line stands.
 #[derive(Clone, Copy)]
 enum Place {
+    /// Between words.
     Between,
+    /// In a word, outside of quotations.
     Word,
+    /// Between two `'`.
     Quotation,
 }
 
@@ -44,6 +47,7 @@ pub(crate) fn words_of(alloc: Global, text: &[u8]) -> Result<Words, Trouble> {
 }
 
 impl Line {
+    /// Takes a byte.
     fn add(&mut self, byte: u8) -> Result<(), Trouble> {
         match (self.place, byte) {
             (Place::Quotation, b'\'') => self.place = Place::Word,
@@ -59,6 +63,7 @@ impl Line {
         Ok(())
     }
 
+    /// Ends the word that was begun; an empty quotation makes an empty one.
     fn end_word(&mut self) -> Result<(), Trouble> {
         if self.words.len() >= MOST_WORDS {
             return Err(Trouble::Memory);
@@ -69,6 +74,7 @@ impl Line {
         Ok(())
     }
 
+    /// The words, once the line has ended; a quotation that is open makes the line bad.
     fn finish(self) -> Result<Words, Trouble> {
         let mut line = self;
         match line.place {
@@ -122,6 +128,7 @@ fn add_digits(out: &mut Vec<u8>, digits: &[u8]) -> Result<(), Trouble> {
     }
 }
 
+/// The byte that two hexadecimal digits are.
 fn byte_of(high: u8, low: u8) -> u8 {
     (high << 4) | low
 }
@@ -150,6 +157,7 @@ pub(crate) fn number(text: &[u8]) -> Result<u64, Trouble> {
     Ok(number)
 }
 
+/// A number with one more decimal digit; it has at most 64 bits.
 fn next_number(number: u64, digit: u8) -> Result<u64, Trouble> {
     let Some(tens) = number.checked_mul(10) else {
         return Err(Trouble::BadNumber);

@@ -22,6 +22,7 @@ const REFUSED: u8 = 1;
 struct Apk;
 
 impl Program for Apk {
+    /// Runs a command line, and answers its exit status.
     fn run(
         &self,
         alloc: Global,
@@ -44,6 +45,7 @@ impl Program for Apk {
         self.run(alloc, &words, tree, &mut out, &mut err) <= REFUSED
     }
 
+    /// The container of a dump text; none where the text is no dump.
     fn container_of(&self, alloc: Global, text: &[u8]) -> Result<Option<Vec<u8>>, AllocError> {
         match container_of(alloc, text) {
             Ok(bytes) => Ok(Some(bytes)),
@@ -53,6 +55,7 @@ impl Program for Apk {
     }
 }
 
+/// The status is 1 where a row fails.
 fn main(rt: HostRuntime) -> io::Result<ExitCode> {
     let alloc = rt.alloc();
     let mut text = Vec::new(alloc);

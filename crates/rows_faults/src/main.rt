@@ -91,6 +91,7 @@ fn act(alloc: Global, word: &[u8], tree: &mut MemoryTree) -> Result<(), Disk> {
     }
 }
 
+/// A name that a word gives; a bad one counts as a fault of the tree.
 fn named(alloc: Global, bytes: &[u8]) -> Result<Name, Disk> {
     match Name::read(alloc, bytes) {
         Ok(Some(name)) => Ok(name),
@@ -98,6 +99,7 @@ fn named(alloc: Global, bytes: &[u8]) -> Result<Name, Disk> {
     }
 }
 
+/// Puts a file with one byte.
 fn put(alloc: Global, tree: &mut MemoryTree, name: &[u8]) -> Result<(), Disk> {
     let name = named(alloc, name)?;
     if tree.can_put(&name) && tree.put(&name, b"x").is_ok() {
@@ -115,6 +117,7 @@ fn make(alloc: Global, tree: &mut MemoryTree, name: &[u8]) -> Result<(), Disk> {
     tree.append(&name, b"x")
 }
 
+/// Syncs the file and the names.
 fn settle(alloc: Global, tree: &mut MemoryTree, name: &[u8]) -> Result<(), Disk> {
     tree.sync(&named(alloc, name)?)?;
     tree.sync_names()
@@ -143,6 +146,7 @@ struct Cases {
 }
 
 impl Cases {
+    /// Adds a line of a case; `==== NAME` begins the next one.
     fn add(&mut self, line: &[u8]) -> Result<(), AllocError> {
         match line.strip_prefix(b"==== ") {
             Some(name) => {
@@ -176,6 +180,7 @@ fn case_text(text: &[u8]) -> &[u8] {
     }
 }
 
+/// Prints what is reported of each case of standard input.
 fn main(rt: HostRuntime) -> io::Result<()> {
     let alloc = rt.alloc();
     let mut text = Vec::new(alloc);

@@ -54,6 +54,8 @@ struct CurrentPayload {
 }
 
 impl Subject for CurrentPayload {
+    // Answers a question by its first word. `payload` keeps bytes, which the words that follow
+    // read.
     fn answer(
         &mut self,
         alloc: Global,
@@ -81,6 +83,7 @@ impl Subject for CurrentPayload {
     }
 }
 
+// Answers the rows of standard input.
 fn main(rt: HostRuntime) -> io::Result<ExitCode> {
     let alloc = rt.alloc();
     let mut payload = CurrentPayload {

@@ -64,6 +64,8 @@ pub fn payload_of(alloc: Global, words: &Words, first: usize) -> Result<Vec<u8>,
 }
 
 impl Payload {
+    /// Adds what a word of a row stands for: `{` and `[` begin, `}` and `]` end, `'` is a text, `#`
+    /// an integer, and any other word NULL.
     fn add(&mut self, alloc: Global, word: &[u8]) -> Result<(), AllocError> {
         match word {
             [b'{'] | [b'['] => {
@@ -83,6 +85,7 @@ impl Payload {
         kind.wrapping_add((self.values.len() % 0x0100_0000 + HEAD) as u32)
     }
 
+    /// Writes a text with its length in two bytes, whatever its length is.
     fn add_text(&mut self, text: &[u8]) -> Result<(), AllocError> {
         let word = self.next_word(TEXT);
         let len = (text.len() % 65_536) as u16;

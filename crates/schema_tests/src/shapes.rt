@@ -112,6 +112,7 @@ pub fn add_visits(alloc: Global, words: &Words, answer: &mut Vec<u8>) -> Result<
     }
 }
 
+/// How many values are visited in all, those before included.
 fn visits_of(payload: &[u8], which: Which, before: u32) -> Result<u32, Cause> {
     if before > MOST_VISITS {
         return Err(Cause::TooLarge { count: before });
@@ -144,6 +145,7 @@ pub fn add_rule(alloc: Global, words: &Words, answer: &mut Vec<u8>) -> Result<()
     add_outcome(alloc, cause_in(checked)?, answer)
 }
 
+/// Tests a payload: its shape, its texts, and names that stand twice.
 fn check(alloc: Global, payload: &[u8], which: Which) -> Result<(), ReadFault> {
     let shaped = shape(Adb::new(payload)?, which)?;
     Checked::new(alloc, shaped)?;

@@ -11,7 +11,7 @@ use row_lines::{add_number, add_word, word_at};
 use std::alloc::{AllocError, Global};
 
 /// Adds each field of the value of `view TABLE VALUE`: of a list what of each entry tells it from
-/// others, between brackets.
+/// others, between brackets; of an object inside another one its first field.
 pub fn add_view(alloc: Global, words: &Words, answer: &mut Vec<u8>) -> Result<(), AllocError> {
     let payload = payload_of(alloc, words, 2)?;
     let adb = match Adb::new(&payload) {
@@ -32,11 +32,13 @@ pub fn add_view(alloc: Global, words: &Words, answer: &mut Vec<u8>) -> Result<()
     }
 }
 
+// Adds a number in decimal.
 fn add_int(alloc: Global, number: u64, answer: &mut Vec<u8>) -> Result<(), AllocError> {
     add_word(answer, b"")?;
     add_number(alloc, answer, u128::from(number))
 }
 
+// Adds the texts of an array.
 fn add_texts<'a>(list: List<'a, &'a [u8]>, answer: &mut Vec<u8>) -> Result<(), AllocError> {
     add_word(answer, b"[")?;
     for i in 0..list.len() {
@@ -45,6 +47,7 @@ fn add_texts<'a>(list: List<'a, &'a [u8]>, answer: &mut Vec<u8>) -> Result<(), A
     add_word(answer, b"]")
 }
 
+// Adds the names of dependencies.
 fn add_dependencies<'a>(
     list: List<'a, DepView<'a>>,
     answer: &mut Vec<u8>,
@@ -56,6 +59,7 @@ fn add_dependencies<'a>(
     add_word(answer, b"]")
 }
 
+// Adds the fields of a dependency.
 fn add_dependency(alloc: Global, adb: Adb<'_>, answer: &mut Vec<u8>) -> Result<(), AllocError> {
     if let Err(cause) = shape(adb, Which::Dep) {
         return add_cause(alloc, cause, answer);
@@ -66,6 +70,7 @@ fn add_dependency(alloc: Global, adb: Adb<'_>, answer: &mut Vec<u8>) -> Result<(
     add_int(alloc, dep.matching(), answer)
 }
 
+// Adds the fields of an access list.
 fn add_rights(alloc: Global, adb: Adb<'_>, answer: &mut Vec<u8>) -> Result<(), AllocError> {
     if let Err(cause) = shape(adb, Which::Acl) {
         return add_cause(alloc, cause, answer);
@@ -77,6 +82,7 @@ fn add_rights(alloc: Global, adb: Adb<'_>, answer: &mut Vec<u8>) -> Result<(), A
     add_texts(rights.xattrs(), answer)
 }
 
+// Adds the fields of a file.
 fn add_file(alloc: Global, adb: Adb<'_>, answer: &mut Vec<u8>) -> Result<(), AllocError> {
     if let Err(cause) = shape(adb, Which::File) {
         return add_cause(alloc, cause, answer);
@@ -92,6 +98,7 @@ fn add_file(alloc: Global, adb: Adb<'_>, answer: &mut Vec<u8>) -> Result<(), All
     add_int(alloc, file.unused(), answer)
 }
 
+// Adds the fields of a folder; of its files the names.
 fn add_folder(alloc: Global, adb: Adb<'_>, answer: &mut Vec<u8>) -> Result<(), AllocError> {
     if let Err(cause) = shape(adb, Which::Dir) {
         return add_cause(alloc, cause, answer);
@@ -108,6 +115,7 @@ fn add_folder(alloc: Global, adb: Adb<'_>, answer: &mut Vec<u8>) -> Result<(), A
     add_word(answer, b"]")
 }
 
+// Adds the fields of a package's information, up to its lists.
 fn add_info(alloc: Global, adb: Adb<'_>, answer: &mut Vec<u8>) -> Result<(), AllocError> {
     if let Err(cause) = shape(adb, Which::PkgInfo) {
         return add_cause(alloc, cause, answer);
@@ -135,6 +143,7 @@ fn add_info(alloc: Global, adb: Adb<'_>, answer: &mut Vec<u8>) -> Result<(), All
     add_lists(alloc, &info, answer)
 }
 
+// Adds the lists of a package's information, and its fields behind them.
 fn add_lists(alloc: Global, info: &PkgInfo<'_>, answer: &mut Vec<u8>) -> Result<(), AllocError> {
     add_dependencies(info.depends(), answer)?;
     add_dependencies(info.provides(), answer)?;
@@ -146,6 +155,7 @@ fn add_lists(alloc: Global, info: &PkgInfo<'_>, answer: &mut Vec<u8>) -> Result<
     add_int(alloc, info.unused(), answer)
 }
 
+// Adds the seven scripts.
 fn add_scripts(alloc: Global, adb: Adb<'_>, answer: &mut Vec<u8>) -> Result<(), AllocError> {
     if let Err(cause) = shape(adb, Which::Scripts) {
         return add_cause(alloc, cause, answer);
@@ -166,6 +176,7 @@ fn add_scripts(alloc: Global, adb: Adb<'_>, answer: &mut Vec<u8>) -> Result<(), 
     Ok(())
 }
 
+// Adds the fields of a package; of its folders the names.
 fn add_package(alloc: Global, adb: Adb<'_>, answer: &mut Vec<u8>) -> Result<(), AllocError> {
     if let Err(cause) = shape(adb, Which::Package) {
         return add_cause(alloc, cause, answer);
@@ -183,6 +194,7 @@ fn add_package(alloc: Global, adb: Adb<'_>, answer: &mut Vec<u8>) -> Result<(), 
     add_int(alloc, package.replaces_priority(), answer)
 }
 
+// Adds the fields of an index, which passes all tests first.
 fn add_index(alloc: Global, adb: Adb<'_>, answer: &mut Vec<u8>) -> Result<(), AllocError> {
     let shaped = match shape(adb, Which::Index) {
         Ok(shaped) => shaped,
@@ -195,6 +207,7 @@ fn add_index(alloc: Global, adb: Adb<'_>, answer: &mut Vec<u8>) -> Result<(), Al
     }
 }
 
+// Adds what an index says of itself, and the names of its packages.
 fn add_index_fields(index: IndexView<'_>, answer: &mut Vec<u8>) -> Result<(), AllocError> {
     add_word(answer, index.description())?;
     add_word(answer, b"[")?;
@@ -206,6 +219,7 @@ fn add_index_fields(index: IndexView<'_>, answer: &mut Vec<u8>) -> Result<(), Al
     add_word(answer, index.pkgname_spec())
 }
 
+// Adds the names of the packages of a database.
 fn add_database(alloc: Global, adb: Adb<'_>, answer: &mut Vec<u8>) -> Result<(), AllocError> {
     if let Err(cause) = shape(adb, Which::Idb) {
         return add_cause(alloc, cause, answer);
@@ -218,6 +232,7 @@ fn add_database(alloc: Global, adb: Adb<'_>, answer: &mut Vec<u8>) -> Result<(),
     add_word(answer, b"]")
 }
 
+// Adds the names that an intent removes, and those that it writes.
 fn add_intent(alloc: Global, adb: Adb<'_>, answer: &mut Vec<u8>) -> Result<(), AllocError> {
     if let Err(cause) = shape(adb, Which::Intent) {
         return add_cause(alloc, cause, answer);

@@ -48,6 +48,7 @@ pub fn add_head(alloc: Global, payload: &[u8], answer: &mut Vec<u8>) -> Result<(
     }
 }
 
+/// Adds a word in eight hexadecimal digits.
 fn add_value(alloc: Global, value: Val, answer: &mut Vec<u8>) -> Result<(), AllocError> {
     let word = value.word();
     let text = format!(in alloc; "{word:08x}")?;
@@ -104,6 +105,7 @@ fn add_runs(
     }
 }
 
+/// Adds the words of an array's or an object's entries.
 fn add_entries(
     alloc: Global,
     found: Arr<'_>,

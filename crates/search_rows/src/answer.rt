@@ -97,6 +97,7 @@ pub fn answer(alloc: Global, row: &Row<'_>, query: &[u8]) -> Result<Vec<u8>, All
     Ok(text)
 }
 
+// Adds the answer, or what stands in its way.
 fn add_answer(
     alloc: Global,
     row: &Row<'_>,
@@ -114,6 +115,7 @@ fn add_answer(
     }
 }
 
+// Reads the question, world and the names that are upgraded, and answers.
 fn add_to_answer(
     alloc: Global,
     row: &Row<'_>,
@@ -150,6 +152,7 @@ fn add_last_answer(
     Ok(())
 }
 
+// Adds the answer, over the pool unless none is asked for.
 fn add_one_answer(
     alloc: Global,
     row: &Row<'_>,
@@ -165,6 +168,7 @@ fn add_one_answer(
     }
 }
 
+// Adds the answer over the pool of the row.
 fn add_answer_of_row(
     alloc: Global,
     row: &Row<'_>,
@@ -176,6 +180,7 @@ fn add_answer_of_row(
     Ok(add_answer_of_pool(alloc, &pool, command.world, query, text)?)
 }
 
+// Adds a number in decimal.
 fn add_count(alloc: Global, count: u64, text: &mut Vec<u8>) -> Result<(), RowFault> {
     Ok(add_number(alloc, text, u128::from(count))?)
 }
@@ -214,6 +219,7 @@ fn add_two_counts(
     Ok(add_counts(alloc, first.len(), second.len(), text)?)
 }
 
+// Adds two numbers in decimal.
 fn add_counts(
     alloc: Global,
     first: usize,
@@ -250,6 +256,7 @@ fn pool_of<'a>(alloc: Global, row: &'a Row<'a>) -> Result<Pool<'a>, RowFault> {
     Ok(pool)
 }
 
+// Adds the packages of all repositories.
 fn add_repositories<'a>(
     alloc: Global,
     row: &'a Row<'a>,
@@ -264,6 +271,7 @@ fn add_repositories<'a>(
     Ok(())
 }
 
+// Adds the installed packages.
 fn add_installed<'a>(
     alloc: Global,
     payload: &'a [u8],
@@ -287,6 +295,7 @@ fn view_of<'a>(alloc: Global, payload: &'a [u8]) -> Option<IndexView<'a>> {
     Some(checked.index())
 }
 
+// The names of a row that are to be upgraded.
 fn words_of(alloc: Global, text: &[u8]) -> Result<Words, RowFault> {
     let mut words = Words::new(alloc);
     for word in text.split(|byte| *byte == b' ') {
@@ -297,6 +306,7 @@ fn words_of(alloc: Global, text: &[u8]) -> Result<Words, RowFault> {
     Ok(words)
 }
 
+// Which names are upgraded: none, all, or those listed.
 fn upgrade_of<'a>(text: &[u8], words: &'a Words) -> Upgrade<'a> {
     if text.is_empty() {
         return Upgrade::Nothing;
@@ -309,6 +319,7 @@ fn upgrade_of<'a>(text: &[u8], words: &'a Words) -> Upgrade<'a> {
 
 // ---- answers of the pool
 
+// Adds what is asked of a sealed pool.
 fn add_answer_of_pool(
     alloc: Global,
     pool: &Sealed<'_>,
@@ -382,6 +393,7 @@ fn add_selection_count(
     }
 }
 
+// Adds the choices of a selection, in their order.
 fn add_choices(
     alloc: Global,
     pool: &Sealed<'_>,
@@ -394,6 +406,7 @@ fn add_choices(
     Ok(())
 }
 
+// Adds candidates, in their order.
 fn add_candidates(
     alloc: Global,
     pool: &Sealed<'_>,

@@ -80,6 +80,7 @@ fn package_value(alloc: Global, writer: &mut Writer, part: &[u8]) -> Result<Val,
     writer.obj(&fields)
 }
 
+// Writes a field of a package; a word without a known front is its name and version.
 fn add_field(
     alloc: Global,
     writer: &mut Writer,
@@ -131,6 +132,7 @@ fn list_value(alloc: Global, writer: &mut Writer, list: &[u8]) -> Result<Val, Al
     writer.arr(values.as_slice())
 }
 
+// Writes a dependency.
 fn dep_value(writer: &mut Writer, dep: &Dep<'_>) -> Result<Val, AllocError> {
     let name = writer.blob(dep.name)?;
     let version = version_value(writer, dep)?;
@@ -138,6 +140,7 @@ fn dep_value(writer: &mut Writer, dep: &Dep<'_>) -> Result<Val, AllocError> {
     writer.obj(&[name, version, matching])
 }
 
+// Writes the version that a dependency names, or NULL.
 fn version_value(writer: &mut Writer, dep: &Dep<'_>) -> Result<Val, AllocError> {
     match &dep.version {
         None => Ok(Val::of(0)),

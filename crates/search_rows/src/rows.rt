@@ -61,6 +61,7 @@ struct Run<'t> {
 }
 
 impl<'t> Run<'t> {
+    // Takes all lines of a text, and adds the counts.
     fn take_text(&mut self, text: &'t [u8], report: &mut Vec<u8>) -> Result<(), AllocError> {
         for line in text.split(|byte| *byte == b'\n') {
             self.take_line(line, report)?;
@@ -69,6 +70,7 @@ impl<'t> Run<'t> {
         self.add_counts(report)
     }
 
+    // Takes a line by its first word.
     fn take_line(&mut self, line: &'t [u8], report: &mut Vec<u8>) -> Result<(), AllocError> {
         let (word, rest) = split_word(line);
         let Some(kind) = value_named(&LINES, word) else {
@@ -140,6 +142,7 @@ impl<'t> Run<'t> {
         }
     }
 
+    // Adds a line of the report.
     fn add_line(&self, parts: &[&[u8]], report: &mut Vec<u8>) -> Result<(), AllocError> {
         for part in parts {
             report.extend_from_slice(part)?;
@@ -147,6 +150,7 @@ impl<'t> Run<'t> {
         report.extend_from_slice(b"\n")
     }
 
+    // Reports what failed and why.
     fn fail(&mut self, what: &[u8], why: &[u8], report: &mut Vec<u8>) -> Result<(), AllocError> {
         self.failed = self.failed.saturating_add(1);
         self.add_line(
@@ -155,6 +159,7 @@ impl<'t> Run<'t> {
         )
     }
 
+    // Reports how many rows and answers there were, and how many failed.
     fn add_counts(&self, report: &mut Vec<u8>) -> Result<(), AllocError> {
         let text = format!(in self.alloc;
             "{} rows, {} answers, {} failed\n",

@@ -10,12 +10,15 @@ use Rattle.solve_core.specs.declared.queue.Checkpoint.{Checkpoint}
 use Rattle.solve_core.specs.Reasons.{FrameValue, AreCompatible, AreTurnsFrom, choices_in}
 use Rattle.solve_core.specs.declared.choices.Choices.{Choices}
 
+-- the pool that is searched
 abbrev pub pool_of : Choices → SealedPool
 pool_of chosen = chosen.pool.now
 
+-- in the order chosen
 abbrev pub choices_of : Choices → List ℕ
 choices_of chosen = chosen.choices
 
+-- the candidates whose install-if can come to apply, in byte order of their names
 abbrev pub install_ifs_of : Choices → List ℕ
 install_ifs_of chosen = chosen.install_ifs.by_name.items
 

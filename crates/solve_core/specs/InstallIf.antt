@@ -11,6 +11,7 @@ use Rattle.pool_core.specs.Rank.{SealedPool, byte_cmp, candidate_at, is_at}
 use Rattle.solve_core.specs.NameTable.{items_of}
 use Rattle.solve_core.specs.Selection.{is_met, is_unmet}
 
+-- each of some entries is met
 abbrev pub all_met : SealedPool → List ℕ → List Dependency → Bool
 all_met pool chosen deps = list_all (λ (d : Dependency). is_met pool chosen (entry d)) deps
 
@@ -19,18 +20,23 @@ abbrev pub asks_for_name : SealedPool → List ℕ → Candidate → Bool
 asks_for_name pool chosen c = all_met pool chosen c.install_if
     && is_unmet pool chosen (named c.name)
 
+-- of the candidate at a place
 abbrev pub asks_at : SealedPool → List ℕ → ℕ → Bool
 asks_at pool chosen k = is_at pool (asks_for_name pool chosen) k
 
+-- its install-if can come to apply
 abbrev pub is_usable_at : SealedPool → ℕ → Bool
 is_usable_at pool k = is_at pool (has_usable_install_if pool.world) k
 
+-- of the candidate at a place; no text, where there is none
 abbrev pub name_at : SealedPool → ℕ → List ℕ
 name_at pool k = option_map_or (λ (c : Candidate). c.name) (candidate_at pool k) []
 
+-- of the candidate at a place
 abbrev pub install_if_at : SealedPool → ℕ → List Dependency
 install_if_at pool k = option_map_or (λ (c : Candidate). c.install_if) (candidate_at pool k) []
 
+-- the name of the first comes before that of the second, in byte order
 abbrev pub has_lesser_name : SealedPool → ℕ → ℕ → Bool
 has_lesser_name pool a b = is_lt (byte_cmp (name_at pool a) (name_at pool b))
 

@@ -10,16 +10,20 @@ use Rattle.solve_core.specs.Selection.{depends_at, is_unmet}
 abbrev pub RaisedDepValue : Type 0
 RaisedDepValue = Dependency × Option ℕ
 
+-- without the conflicts; each with the choice that raised it, or with none for world
 abbrev pub raised_deps : Option ℕ → List Dependency → List RaisedDepValue
 raised_deps by deps = map (λ (d : Dependency). (d, by)) (filter (λ
     (d : Dependency). not d.conflict) deps)
 
+-- of a choice
 abbrev pub raised_deps_at : SealedPool → ℕ → List RaisedDepValue
 raised_deps_at pool c = raised_deps (Some c) (depends_at pool c)
 
+-- in the order in which they are to be met
 abbrev pub queue_of : SealedPool → List ℕ → List RaisedDepValue
 queue_of pool chosen = raised_deps None pool.world ++ flat_map (raised_deps_at pool) chosen
 
+-- whether no choice meets it yet
 abbrev pub is_unmet_dep : SealedPool → List ℕ → RaisedDepValue → Bool
 is_unmet_dep pool chosen r = is_unmet pool chosen (entry r.0)
 

@@ -31,10 +31,12 @@ pub record RulesOut (pool : SealedPool) (chosen : List ℕ) (c : ℕ) (others : 
 abbrev pub FrameValue : Type 0
 FrameValue = List (ℕ × List ℕ) × List ℕ × List ℕ
 
+-- those that are ruled out
 abbrev pub options_in : List (ℕ × List ℕ) → List ℕ
 options_in [] = []
 options_in (p ∷ ps) = p.0 ∷ options_in ps
 
+-- each by a reason whose other members are choices
 abbrev pub AreRuledOut : SealedPool → List ℕ → List (ℕ × List ℕ) → Type 0
 AreRuledOut pool chosen [] = Unit {0}
 AreRuledOut pool chosen (p ∷ ps) = RulesOut pool chosen p.0 p.1 × AreRuledOut pool chosen ps
@@ -56,6 +58,7 @@ AreTurnsFrom pool chosen [] = Unit {0}
 AreTurnsFrom pool chosen (turn ∷ turns) =
     IsFrameTaking pool chosen turn.0 turn.1 × AreTurnsFrom pool (chosen ++ turn.1 ∷ []) turns
 
+-- the option that each frame took
 abbrev pub choices_in : List (FrameValue × ℕ) → List ℕ
 choices_in [] = []
 choices_in (turn ∷ turns) = turn.1 ∷ choices_in turns
@@ -74,5 +77,6 @@ others_in (p ∷ ps) = p.1 ++ others_in ps
 abbrev pub dead_end_reason : FrameValue → List ℕ
 dead_end_reason f = f.2 ++ others_in f.0
 
+-- in whatever order, and however often
 abbrev pub HasSameMembers : List ℕ → List ℕ → Type 0
 HasSameMembers xs ys = AreMembers xs ys × AreMembers ys xs

@@ -11,9 +11,11 @@ pub use Rattle.pool_core.specs.Options.{AreMembers, AreDistinct}
 
 -- ---- needs
 
+-- one of the choices meets the need, by its own name or by what it provides
 abbrev pub is_met : SealedPool → List ℕ → Need → Bool
 is_met pool chosen need = list_any (λ c. meets_at pool c need) chosen
 
+-- no choice meets the need
 abbrev pub is_unmet : SealedPool → List ℕ → Need → Bool
 is_unmet pool chosen need = not (is_met pool chosen need)
 
@@ -21,6 +23,7 @@ is_unmet pool chosen need = not (is_met pool chosen need)
 abbrev pub positive_needs : List Dependency → List Need
 positive_needs deps = map entry (filter (λ (d : Dependency). not d.conflict) deps)
 
+-- of the candidate at a place, conflicts too
 abbrev pub depends_at : SealedPool → ℕ → List Dependency
 depends_at pool c = option_map_or (λ (k : Candidate). k.depends) (candidate_at pool c) []
 
@@ -41,6 +44,7 @@ abbrev pub names_by_install_if : SealedPool → List ℕ → List (List ℕ)
 names_by_install_if pool chosen =
     map (λ (c : Candidate). c.name) (filter (install_if_applies pool chosen) pool.candidates)
 
+-- what choices raise in all, met or not
 abbrev pub needs : SealedPool → List ℕ → List Need
 needs pool chosen = raised_needs pool chosen ++ map named (names_by_install_if pool chosen)
 
@@ -81,9 +85,11 @@ occupied_names c =
     c.name ∷ map (λ (p : Dependency). p.name)
     (filter (λ (p : Dependency). not p.conflict && is_some p.version) c.provides)
 
+-- of the candidate at a place
 abbrev pub occupied_names_at : SealedPool → ℕ → List (List ℕ)
 occupied_names_at pool c = option_map_or occupied_names (candidate_at pool c) []
 
+-- one selection cannot have both, since a name has one place in it
 abbrev pub share_a_name : SealedPool → ℕ → ℕ → Bool
 share_a_name pool a b =
     list_any (λ name. is_at pool (occupies_name name) b) (occupied_names_at pool a)
@@ -135,6 +141,7 @@ IsWalkFrom pool selection chosen (c ∷ rest) =
     (need : Need) × (next_need pool chosen ≡ Some need) × IsBestMember pool selection need c
     × IsWalkFrom pool selection (chosen ++ c ∷ []) rest
 
+-- from the first need on
 abbrev pub IsWalk : SealedPool → List ℕ → List ℕ → Type 0
 IsWalk pool selection walk = IsWalkFrom pool selection [] walk
 
@@ -146,6 +153,7 @@ ComesBeforeFrom pool chosen (c ∷ rest) (d ∷ other) =
     ((need : Need) × (next_need pool chosen ≡ Some need) × (is_better pool need c d ≡ true))
     ⊎ ((c ≡ d) × ComesBeforeFrom pool (chosen ++ c ∷ []) rest other)
 
+-- from the first need on
 abbrev pub ComesBefore : SealedPool → List ℕ → List ℕ → Type 0
 ComesBefore pool walk other = ComesBeforeFrom pool [] walk other
 

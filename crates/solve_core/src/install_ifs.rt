@@ -62,12 +62,14 @@ fn in_byte_order(alloc: Global, pool: &Sealed<'_>) -> Result<Vec<CandId>, AllocE
     Ok(ids)
 }
 
+// The order of two candidates' names.
 fn by_names(pool: &Sealed<'_>, a: CandId, b: CandId) -> Ordering
     ensures { result ≡ byte_cmp (name_at pool.now a) (name_at pool.now b) }
 {
     name_at(pool, a).cmp(&name_at(pool, b))
 }
 
+// The name of a candidate.
 fn name_at<'a>(pool: &'a Sealed<'_>, id: CandId) -> &'a [u8]
     ensures { result.now ≡ name_at pool.entry.now id }
 {

@@ -61,6 +61,7 @@ fn choice_among(
     None
 }
 
+// Whether the candidate is a choice that meets the need.
 fn is_choice_meeting(
     pool: &Sealed<'_>,
     choices: &CandidateSet,
@@ -77,6 +78,7 @@ fn is_choice_meeting(
     false
 }
 
+// Whether a candidate meets a need.
 fn meets(pool: &Sealed<'_>, id: CandId, need: &NeedRef<'_>) -> bool
     ensures { result ≡ meets_at pool.now id (need_by need.now) }
 {
@@ -86,6 +88,8 @@ fn meets(pool: &Sealed<'_>, id: CandId, need: &NeedRef<'_>) -> bool
     }
 }
 
+// The same by what is known of the candidate: a name that an install-if asks for is met by its own
+// name alone.
 fn meets_need(details: &Details<'_>, need: &NeedRef<'_>) -> bool
     ensures { result ≡ meets_need (need_by need.now) details.now }
 {
@@ -116,6 +120,7 @@ pub(crate) fn is_met_by_latest_or_other(
     is_met(pool, choices, need)
 }
 
+// Whether the latest choice meets the need. That it does not says nothing of the others.
 fn latest_meets(pool: &Sealed<'_>, choices: &[CandId], need: &NeedRef<'_>) -> bool
     ensures { result ≡ true → is_met pool.now choices.now (need_by need.now) ≡ true }
 {
@@ -135,6 +140,7 @@ pub(crate) fn asks_for_name(pool: &Sealed<'_>, choices: &CandidateSet, id: CandI
     }
 }
 
+// Whether the install-if of a candidate is met, and no choice has its name.
 fn wants(pool: &Sealed<'_>, choices: &CandidateSet, details: &Details<'_>) -> bool
     ensures { result ≡ asks_for_name pool.now choices.now details.now }
 {
@@ -156,6 +162,7 @@ fn all_met(pool: &Sealed<'_>, choices: &CandidateSet, deps: &Deps<'_>) -> bool
     true
 }
 
+// Whether a choice meets a dependency.
 fn is_dep_met(pool: &Sealed<'_>, choices: &CandidateSet, dep: &Dep<'_>) -> bool
     ensures { result ≡ is_met pool.now choices.now (entry (dependency dep.now)) }
 {
@@ -180,6 +187,7 @@ pub(crate) fn raisers(
     Ok(by)
 }
 
+// Adds a choice that meets the dependency, if one does.
 fn push_met(
     by: &mut Vec<CandId>,
     pool: &Sealed<'_>,
@@ -234,6 +242,7 @@ fn occupant_among(
     None
 }
 
+// Whether the candidate is a choice that occupies the name.
 fn is_choice_occupying(pool: &Sealed<'_>, choices: &CandidateSet, id: CandId, name: &[u8]) -> bool
     ensures { MatchBool result (IsMember id choices.now
         × (is_at pool.now (occupies_name name.now) id ≡ true)) (IsMember id choices.now →
@@ -245,6 +254,7 @@ fn is_choice_occupying(pool: &Sealed<'_>, choices: &CandidateSet, id: CandId, na
     false
 }
 
+// Whether a candidate occupies a name.
 fn occupies(pool: &Sealed<'_>, id: CandId, name: &[u8]) -> bool
     ensures { result ≡ is_at pool.now (occupies_name name.now) id }
 {

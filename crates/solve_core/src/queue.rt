@@ -77,6 +77,7 @@ pub(crate) fn queue_all<'p>(
     Ok(())
 }
 
+// Puts a dependency behind the others, unless it is a conflict.
 fn queue_one<'p>(
     queue: &mut Vec<RaisedDep<'p>>,
     dep: Dep<'p>,

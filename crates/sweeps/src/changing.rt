@@ -85,6 +85,7 @@ fn one_more_name(alloc: Global, names: Names, bytes: &[u8]) -> Result<Option<Nam
 
 // ---- one write
 
+/// Runs the change of one write, and says how far it came.
 fn run_one_write(alloc: Global, tree: &mut MemoryTree) -> Result<Reached, AllocError> {
     let Some(mut stage) = begin_one_write(alloc)? else {
         return Ok(Reached::Nothing);
@@ -98,6 +99,7 @@ fn run_one_write(alloc: Global, tree: &mut MemoryTree) -> Result<Reached, AllocE
     Ok(Reached::Finished)
 }
 
+/// The stage of a change that removes `x` and writes `y`.
 fn begin_one_write(alloc: Global) -> Result<Option<Stage>, AllocError>
     ensures { IfOk result (λ found. IfSome found
         (λ stage. stage ≡ new_stage (codes "x" ∷ []) (codes "y" ∷ []))) }
@@ -114,6 +116,7 @@ fn begin_one_write(alloc: Global) -> Result<Option<Stage>, AllocError>
     }
 }
 
+/// Stages the one file, and publishes the intent.
 fn publish_one_write(stage: &mut Stage, tree: &mut MemoryTree) -> Result<(), Disk>
     requires { stage.old ≡ new_stage (codes "x" ∷ []) (codes "y" ∷ []) }
     ensures { OnOk result (stage.new ≡ record (new_stage (codes "x" ∷ []) (codes "y" ∷ [])) {
@@ -142,6 +145,7 @@ fn act_on_one_write(stage: &mut Stage, tree: &mut MemoryTree) -> Result<(), Disk
 
 // ---- two writes
 
+/// Runs the change of two writes, and says how far it came.
 fn run_two_writes(alloc: Global, tree: &mut MemoryTree) -> Result<Reached, AllocError> {
     let Some(mut stage) = begin_two_writes(alloc)? else {
         return Ok(Reached::Nothing);
@@ -155,6 +159,7 @@ fn run_two_writes(alloc: Global, tree: &mut MemoryTree) -> Result<Reached, Alloc
     Ok(Reached::Finished)
 }
 
+/// The stage of a change that removes `x` and writes `y` and `z`.
 fn begin_two_writes(alloc: Global) -> Result<Option<Stage>, AllocError>
     ensures { IfOk result (λ found. IfSome found
         (λ stage. stage ≡ new_stage (codes "x" ∷ []) (codes "y" ∷ codes "z" ∷ []))) }
@@ -174,6 +179,7 @@ fn begin_two_writes(alloc: Global) -> Result<Option<Stage>, AllocError>
     }
 }
 
+/// Stages both files; nothing is published.
 fn stage_two_files(stage: &mut Stage, tree: &mut MemoryTree) -> Result<(), Disk>
     requires { stage.old ≡ new_stage (codes "x" ∷ []) (codes "y" ∷ codes "z" ∷ []) }
     ensures { OnOk result (stage.new

@@ -17,6 +17,8 @@ pub fn add_recovery(alloc: Global, words: &Words, answer: &mut Vec<u8>) -> Resul
     add_both_recoveries(alloc, &mut tree, answer)
 }
 
+/// Recovers twice, and adds what each recovery answers and how many calls write; the second has
+/// nothing left to do.
 fn add_both_recoveries(
     alloc: Global,
     tree: &mut MemoryTree,
@@ -60,6 +62,7 @@ fn is_cut_refused(alloc: Global, words: &Words, intent: &[u8]) -> Result<bool, A
     is_refused(alloc, &mut tree, intent)
 }
 
+/// Whether a recovery refuses these bytes as an intent, and leaves the tree as it is.
 fn is_refused(alloc: Global, tree: &mut MemoryTree, intent: &[u8]) -> Result<bool, AllocError> {
     put(alloc, tree, INTENT, intent)?;
     let before = text_of(alloc, tree)?;
@@ -80,6 +83,7 @@ pub fn add_change(alloc: Global, words: &Words, answer: &mut Vec<u8>) -> Result<
     add_changed_tree(alloc, change, &mut tree, answer)
 }
 
+/// Runs a change, and adds how far it came and what stands in the tree.
 fn add_changed_tree(
     alloc: Global,
     change: StagedChange,

@@ -49,6 +49,7 @@ const QUESTIONS: [(&[u8], Question); 7] = [
 struct Sweeps;
 
 impl Subject for Sweeps {
+    // Answers a question by its first word. No question rests on one before it.
     fn answer(
         &mut self,
         alloc: Global,
@@ -70,6 +71,7 @@ impl Subject for Sweeps {
     }
 }
 
+// Answers the rows of standard input.
 fn main(rt: HostRuntime) -> io::Result<ExitCode> {
     run_program(&rt, rt.alloc(), &mut Sweeps)
 }

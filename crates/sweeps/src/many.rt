@@ -33,6 +33,7 @@ pub fn add_many(alloc: Global, words: &Words, answer: &mut Vec<u8>) -> Result<()
     add_recovered(alloc, &file, count, waiting, answer)
 }
 
+/// Recovers by an intent of so many writes, the last so many of which wait.
 fn add_recovered(
     alloc: Global,
     file: &[u8],
@@ -44,6 +45,7 @@ fn add_recovered(
     add_recovered_tree(alloc, &mut tree, file, count, waiting, answer)
 }
 
+/// Adds what the recovery answers, how many calls write, and how many files have their names.
 fn add_recovered_tree(
     alloc: Global,
     tree: &mut MemoryTree,
@@ -80,6 +82,7 @@ fn intent_file(alloc: Global, count: usize) -> Result<Option<Vec<u8>>, AllocErro
     }
 }
 
+/// Writes the name with this index.
 fn write_name(alloc: Global, writer: &mut Writer, i: usize) -> Result<Val, AllocError> {
     let name = name_text(alloc, i)?;
     writer.blob(&name)
@@ -91,6 +94,7 @@ fn write_root(writer: &mut Writer, writes: &[Val]) -> Result<Val, AllocError> {
     writer.obj(&[Val::of(0), writes])
 }
 
+/// The intent's file; none where the payload is too long for a container.
 fn file_of_payload(alloc: Global, payload: &[u8]) -> Result<Option<Vec<u8>>, AllocError> {
     if payload.len() > MOST_BYTES {
         return Ok(None);
@@ -138,11 +142,13 @@ fn put_many(
     Ok(())
 }
 
+/// Puts a file where a write of the change has moved it already.
 fn put_moved(alloc: Global, tree: &mut MemoryTree, i: usize) -> Result<(), AllocError> {
     let name = name_text(alloc, i)?;
     put(alloc, tree, &name, b"1")
 }
 
+/// Puts a file where it waits for the write with this number.
 fn put_waiting(alloc: Global, tree: &mut MemoryTree, k: usize) -> Result<(), AllocError> {
     let place = format!(in alloc; "lib/apk/stage/{k}")?;
     put(alloc, tree, place.as_bytes(), b"1")

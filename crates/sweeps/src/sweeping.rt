@@ -39,6 +39,7 @@ struct Tally {
 }
 
 impl Tally {
+    /// No image was recovered yet.
     fn none() -> Tally {
         Tally {
             old: 0,
@@ -48,6 +49,7 @@ impl Tally {
         }
     }
 
+    /// One image more, by what it was recovered to.
     fn with(self, found: Recovered) -> Tally {
         let mut tally = self;
         match found {
@@ -58,12 +60,14 @@ impl Tally {
         tally
     }
 
+    /// Notes whether a recovery failed.
     fn that_fails(self, fails: bool) -> Tally {
         let mut tally = self;
         tally.fails = fails;
         tally
     }
 
+    /// Adds the three counts.
     fn add_to(self, alloc: Global, answer: &mut Vec<u8>) -> Result<(), AllocError> {
         add_count(alloc, answer, b"old", self.old)?;
         add_count(alloc, answer, b"new", self.new)?;
@@ -83,6 +87,7 @@ fn wanted_texts(
     texts_of_change(alloc, change, &mut tree)
 }
 
+/// What stands in the tree before the change and behind it; none where the change fails.
 fn texts_of_change(
     alloc: Global,
     change: StagedChange,
@@ -96,6 +101,7 @@ fn texts_of_change(
     Ok(Some(Wanted { old, new }))
 }
 
+/// Which of the two states a tree is in.
 fn found_of(wanted: &Wanted, text: &[u8]) -> Recovered {
     if text == wanted.old.as_slice() {
         return Recovered::Old;
@@ -135,6 +141,7 @@ fn is_settled(
     recovers_to(alloc, &mut image, text)
 }
 
+/// Whether a recovery succeeds and leaves this state.
 fn recovers_to(alloc: Global, tree: &mut MemoryTree, text: &[u8]) -> Result<bool, AllocError> {
     if recover(alloc, tree).is_err() {
         return Ok(false);
@@ -157,6 +164,7 @@ pub fn add_stop(alloc: Global, words: &Words, answer: &mut Vec<u8>) -> Result<()
     add_stop_of(alloc, words, change, &wanted, answer)
 }
 
+/// Runs the change on a tree that stops behind so many calls, and recovers all of its images.
 fn add_stop_of(
     alloc: Global,
     words: &Words,
@@ -169,6 +177,7 @@ fn add_stop_of(
     add_images(alloc, change, wanted, &mut tree, answer)
 }
 
+/// Adds how far the change came, and to which state each image of the tree recovers.
 fn add_images(
     alloc: Global,
     change: StagedChange,
@@ -190,6 +199,7 @@ fn tally_of_images(alloc: Global, wanted: &Wanted, tree: &MemoryTree) -> Result<
     Ok(tally)
 }
 
+/// To which state the image with this number recovers.
 fn found_in_image(
     alloc: Global,
     wanted: &Wanted,
@@ -225,6 +235,7 @@ pub fn add_fault(alloc: Global, words: &Words, answer: &mut Vec<u8>) -> Result<(
     tally_of_first(alloc, words, change, &wanted)?.add_to(alloc, answer)
 }
 
+/// Runs the change on a tree whose call with this number fails.
 fn add_failed_change(
     alloc: Global,
     words: &Words,
@@ -332,6 +343,7 @@ fn tally_of_third(
     recover_thrice(alloc, change, wanted, &mut tree, failing, tally)
 }
 
+/// Recovers three times, where a call of each of the first two fails.
 fn recover_thrice(
     alloc: Global,
     change: StagedChange,

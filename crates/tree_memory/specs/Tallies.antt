@@ -10,25 +10,26 @@ no_calls = record { calls = 0; writes = 0; faults = 0; misuses = 0; wants = 0 }
 abbrev pub with_call : Tally → Tally
 with_call t = record t { calls = next_count t.calls }
 
--- it failed
+-- the call failed: one fault more
 abbrev pub with_fault : Tally → Tally
 with_fault t = record t { faults = next_count t.faults }
 
--- it had to fail
+-- the call was a misuse, which always fails: one fault more, and one misuse
 abbrev pub with_misuse : Tally → Tally
 with_misuse t = record t { faults = next_count t.faults; misuses = next_count t.misuses }
 
--- it failed for want of memory
+-- the call found no memory of the tree's own: one fault more, and one want
 abbrev pub with_want : Tally → Tally
 with_want t = record t { faults = next_count t.faults; wants = next_count t.wants }
 
--- a call that may be one that has to fail, or is planned to fail: the misuse comes first
+-- a call is begun: whether the state allows it, and whether it is planned to fail. A misuse that is
+-- planned to fail counts as a misuse alone.
 abbrev pub with_begun_call : Bool → Bool → Tally → Tally
 with_begun_call false planned t = with_misuse (with_call t)
 with_begun_call true true t = with_fault (with_call t)
 with_begun_call true false t = with_call t
 
--- whether it goes on
+-- whether a call that was begun goes on, by the same two
 abbrev pub goes_on : Bool → Bool → Bool
 goes_on false planned = false
 goes_on true true = false

@@ -87,13 +87,19 @@ fn pass(plan: &mut Vec<u64>) -> bool
     planned
 }
 
-/// How many calls were made, and how many of them failed. Each count stays at its last value.
+/// How many calls were made, and how many of them failed. Each count stays at its last value,
+/// 2^64 - 1.
 #[derive(Clone, Copy)]
 pub struct Tally {
+    /// Calls of any kind.
     pub calls: u64,
+    /// Calls that write.
     pub writes: u64,
+    /// Calls that failed.
     pub faults: u64,
+    /// Of these, the misuses.
     pub misuses: u64,
+    /// Calls that found no memory of the tree's own.
     pub wants: u64,
 }
 
@@ -133,7 +139,7 @@ impl Tally {
         self.faults = self.faults.saturating_add(1);
     }
 
-    /// The call had to fail.
+    /// The call was a misuse.
     pub fn misuse(&mut self)
         ensures is { self.new ≡ with_misuse self.old }
         ensures grown { HasGrown self.old self.new }

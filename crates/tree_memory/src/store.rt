@@ -276,6 +276,7 @@ fn add<X: Drop>(list: &mut Vec<X>, x: X)
     let _ = list.push(x);
 }
 
+/// Whether so many bytes stand from this place on.
 fn has_range(bytes: &[u8], at: u64, len: usize) -> bool
     ensures { IsTrue result ↔ (at + len ≤ length bytes.now) }
 {

@@ -9,7 +9,7 @@ use tree_memory::MemoryTree;
 /// The longest read.
 const LONGEST: usize = 4096;
 
-/// Reads `read NAME AT LEN` into a buffer of sevens, and adds whether that is no misuse, what is
+/// Reads `read NAME AT LEN` into a buffer of sevens, and adds whether that succeeded, what is
 /// then in the buffer, and the longest read so far.
 pub fn add_read(
     alloc: Global,
@@ -29,6 +29,7 @@ pub fn add_read(
     add_number(alloc, answer, u128::from(tree.longest_read()))
 }
 
+/// Adds `ok`, or `failed`: a call fails that is a misuse, and one that was planned to fail.
 fn add_made(is_made: bool, answer: &mut Vec<u8>) -> Result<(), AllocError> {
     answer.extend_from_slice(if is_made { b"ok" } else { b"failed" })
 }
@@ -52,8 +53,8 @@ const CALLS: [(&[u8], Call); 5] = [
     (b"rename", Call::Rename),
 ];
 
-/// Makes a call that writes, and adds whether it is no misuse, how many maps of names there are,
-/// and what then stands in the tree.
+/// Makes a call that writes, and adds whether it succeeded, how many maps of names there are, and
+/// what then stands in the tree.
 pub fn add_call(
     alloc: Global,
     tree: &mut MemoryTree,
@@ -89,7 +90,8 @@ fn moves(
     }
 }
 
-/// Syncs the names, and adds the same.
+/// Syncs the names, and adds what `add_call` adds: whether it succeeded, how many maps of names
+/// there are, and what then stands in the tree.
 pub fn add_sync_names(
     alloc: Global,
     tree: &mut MemoryTree,
@@ -99,6 +101,7 @@ pub fn add_sync_names(
     add_written(alloc, tree, made, answer)
 }
 
+/// Adds how a call that writes ended, and what it left.
 fn add_written(
     alloc: Global,
     tree: &MemoryTree,

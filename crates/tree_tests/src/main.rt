@@ -80,6 +80,8 @@ struct InMemory {
 }
 
 impl Subject for InMemory {
+    // Answers a question by its first word, on the tree and the sink that the rows before have
+    // left.
     fn answer(
         &mut self,
         alloc: Global,
@@ -111,6 +113,7 @@ impl Subject for InMemory {
     }
 }
 
+// Answers a question to the tree.
 fn answer_of_tree(
     alloc: Global,
     tree: &mut MemoryTree,
@@ -133,6 +136,7 @@ fn answer_of_tree(
     }
 }
 
+// Answers the rows of standard input.
 fn main(rt: HostRuntime) -> io::Result<ExitCode> {
     let alloc = rt.alloc();
     let mut in_memory = InMemory {

@@ -107,6 +107,7 @@ pub fn add_counts(
     add_count(alloc, answer, b"maps ", tree.maps())
 }
 
+// Adds a word and a number.
 fn add_count(
     alloc: Global,
     answer: &mut Vec<u8>,

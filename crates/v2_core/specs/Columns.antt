@@ -6,6 +6,7 @@ use Rattle.v2_core.specs.declared.writing.Column.TheVariants.{Once, List as List
 use Rattle.v2_core.specs.Database.{joined_value, single_value}
 use Rattle.v2_core.specs.Records.{InfoLine}
 
+-- of one field of the information, by how it takes its lines
 abbrev pub value_of_column : List InfoLine → Column → Plain
 value_of_column info (Once f) = single_value f info
 value_of_column info (ListOf f) = joined_value f info

@@ -10,18 +10,22 @@ use Rattle.v2_lines.specs.declared.field.InfoField.{InfoField}
 use Rattle.v2_lines.specs.declared.field.InfoField.TheVariants as Fields
 use Rattle.v2_core.specs.Records.{InfoLine, ListedFile, ListedFolder, Record, is_line_of}
 
+-- Null, where there are none
 abbrev pub array_of : List Plain → Plain
 array_of vs = arr_value (plains_of_list vs)
 
+-- without the Nulls that stand last
 abbrev pub object_of : List Plain → Plain
 object_of vs = obj_value (plains_of_list vs)
 
 -- ---- the package's information
 
+-- of a field that takes one value; Null, where its line gives none
 abbrev pub value_of_first : List FieldValue → Plain
 value_of_first [] = null
 value_of_first (v ∷ vs) = plain_value v
 
+-- Null, where there is no line of the field
 abbrev pub value_of_line : Option InfoLine → Plain
 value_of_line None = null
 value_of_line (Some line) = value_of_first line.values
@@ -30,6 +34,7 @@ value_of_line (Some line) = value_of_first line.values
 abbrev pub single_value : InfoField → List InfoLine → Plain
 single_value f info = value_of_line (find (is_line_of f) info)
 
+-- the values of a line where it is of the field, else none
 abbrev pub values_for : InfoField → InfoLine → List FieldValue
 values_for f line = if is_line_of f line then line.values else []
 
@@ -59,6 +64,7 @@ abbrev pub listed_access_value : Option Access → Plain
 listed_access_value None = null
 listed_access_value (Some a) = object_of (int a.mode ∷ blob_value a.user ∷ blob_value a.group ∷ [])
 
+-- Null, where no line gives it
 abbrev pub listed_hash_value : Option (List ℕ) → Plain
 listed_hash_value None = null
 listed_hash_value (Some hash) = blob_value hash
@@ -86,5 +92,6 @@ record_value r =
     (record_info_value r.info ∷ array_of (map listed_folder_value r.folders) ∷ null ∷ null
     ∷ single_value Fields.ReplacesPriority r.info ∷ [])
 
+-- a package a record, in the order of the text
 abbrev pub value_of_records : List Record → Plain
 value_of_records records = object_of (array_of (map record_value records) ∷ [])

@@ -17,6 +17,7 @@ abbrev pub unless_bad : List ℕ → Option Cause → Result (List ℕ) V2Fault
 unless_bad payload None = Ok payload
 unless_bad payload (Some cause) = Err (Bad cause)
 
+-- the payload, unless it passes a limit of the writer
 abbrev pub or_too_large : Result (List ℕ) PayloadCounts → Result (List ℕ) V2Fault
 or_too_large (Ok payload) = Ok payload
 or_too_large (Err counts) = Err (TooLarge counts.0 counts.1)

@@ -9,6 +9,7 @@ use Rattle.v2_core.specs.Records.{Record, empty_record, lacks_needed_line, with_
 abbrev pub with_text : Record → List ℕ → Option Record
 with_text r line = option_and_then (with_record_line r) (record_line_of line)
 
+-- records in front of others, unless there is a bad line behind them
 abbrev pub with_records : List Record → Result (List Record) ℕ → Result (List Record) ℕ
 with_records records (Ok others) = Ok (records ++ others)
 with_records records (Err line) = Err line

@@ -20,6 +20,7 @@ pub record ListedFile : Type 0 where
   pub access : Option Access
   pub hash : Option (List ℕ)
 
+-- of the files in the order of their lines
 pub record ListedFolder : Type 0 where
   pub name : List ℕ
   pub access : Option Access
@@ -32,19 +33,24 @@ pub record Record : Type 0 where
   pub info : List InfoLine
   pub folders : List ListedFolder
 
+-- by its parts
 abbrev pub record_by : Bool → List InfoLine → List ListedFolder → Record
 record_by has_line info folders =
     record { has_line = has_line; info = info; folders = folders }
 
+-- a record before its first line
 abbrev pub empty_record : Record
 empty_record = record_by false [] []
 
+-- by its parts
 abbrev pub info_by : InfoField → List FieldValue → InfoLine
 info_by f values = record { field = f; values = values }
 
+-- by its parts
 abbrev pub file_by : List ℕ → Option Access → Option (List ℕ) → ListedFile
 file_by name access hash = record { name = name; access = access; hash = hash }
 
+-- by its parts
 abbrev pub folder_by : List ℕ → Option Access → List ListedFile → ListedFolder
 folder_by name access files = record { name = name; access = access; files = files }
 
@@ -54,6 +60,7 @@ folder_by name access files = record { name = name; access = access; files = fil
 abbrev pub is_line_of : InfoField → InfoLine → Bool
 is_line_of f line = letter_of line.field == letter_of f
 
+-- whether a line of this field was read before
 abbrev pub has_line_of : InfoField → List InfoLine → Bool
 has_line_of f info = list_any (is_line_of f) info
 
@@ -70,21 +77,26 @@ with_last_changed change (x ∷ []) = option_map (λ y. y ∷ []) (change x)
 with_last_changed change (x ∷ y ∷ rest) =
     option_map (λ rest. x ∷ rest) (with_last_changed change (y ∷ rest))
 
+-- a second line of access is bad
 abbrev pub file_with_access : Access → ListedFile → Option ListedFile
 file_with_access a file =
     if is_some file.access then None else Some (file_by file.name (Some a) file.hash)
 
+-- a second line of a hash is bad
 abbrev pub file_with_hash : List ℕ → ListedFile → Option ListedFile
 file_with_hash hash file =
     if is_some file.hash then None else Some (file_by file.name file.access (Some hash))
 
+-- a second line of access is bad
 abbrev pub folder_with_access : Access → ListedFolder → Option ListedFolder
 folder_with_access a folder =
     if is_some folder.access then None else Some (folder_by folder.name (Some a) folder.files)
 
+-- these in place of its own
 abbrev pub folder_with_files : ListedFolder → List ListedFile → ListedFolder
 folder_with_files folder files = folder_by folder.name folder.access files
 
+-- one file more, of which only the name is known
 abbrev pub folder_with_file : List ℕ → ListedFolder → Option ListedFolder
 folder_with_file name folder =
     Some (folder_with_files folder (folder.files ++ file_by name None None ∷ []))
@@ -111,6 +123,7 @@ abbrev pub with_info_line : RecordLine → List InfoLine → Option (List InfoLi
 with_info_line (info_line f values) info = with_info f values info
 with_info_line line info = Some info
 
+-- a line that one of both does not take is bad
 abbrev pub record_of_parts : Option (List InfoLine) → Option (List ListedFolder) → Option Record
 record_of_parts None folders = None
 record_of_parts (Some info) None = None

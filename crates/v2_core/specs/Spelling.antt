@@ -8,26 +8,32 @@ use Rattle.v2_lines.specs.InfoFields.{adds_to_list}
 use Rattle.v2_lines.specs.Lines.{RecordLine, info_line, folder_line, folder_access_line, file_line, file_access_line, file_hash_line, record_line_of}
 use Rattle.v2_core.specs.Records.{InfoLine, ListedFile, ListedFolder, Record, has_line_of, lacks_needed_line}
 
+-- none, where no line said it
 abbrev pub access_lines : (Access → RecordLine) → Option Access → List RecordLine
 access_lines line None = []
 access_lines line (Some a) = line a ∷ []
 
+-- none, where no line said it
 abbrev pub hash_lines : Option (List ℕ) → List RecordLine
 hash_lines None = []
 hash_lines (Some hash) = file_hash_line hash ∷ []
 
+-- its name, then what else is known
 abbrev pub file_lines : ListedFile → List RecordLine
 file_lines file =
     file_line file.name ∷ (access_lines file_access_line file.access ++ hash_lines file.hash)
 
+-- its name, then what else is known, then its files
 abbrev pub folder_lines : ListedFolder → List RecordLine
 folder_lines folder =
     folder_line folder.name
     ∷ (access_lines folder_access_line folder.access ++ flat_map file_lines folder.files)
 
+-- in the order read
 abbrev pub info_lines : List InfoLine → List RecordLine
 info_lines info = map (λ (l : InfoLine). info_line l.field l.values) info
 
+-- the information in front of the folders
 abbrev pub record_lines : Record → List RecordLine
 record_lines r = info_lines r.info ++ flat_map folder_lines r.folders
 

@@ -108,60 +108,61 @@ fn write_packages(alloc: Global, draft: &mut Draft, bytes: &[u8]) -> Result<(), 
 // Reads the line with this number: an empty one ends the record, another belongs to it.
 fn add_line<'a>(
     draft: &mut Draft,
-    record: &mut Record<'a>,
+    text_record: &mut Record<'a>,
     line: &'a [u8],
     number: u64,
 ) -> Result<(), V2Fault>
     requires { 0 < number }
     ensures ok { OnOk result ((rest : List (List ℕ))
-        → draft_with_read (records_from number record.new rest) draft.new
-        ≡ draft_with_read (records_from (number - 1) record.old (line.entry.now ∷ rest))
+        → draft_with_read (records_from number text_record.new rest) draft.new
+        ≡ draft_with_read (records_from (number - 1) text_record.old (line.entry.now ∷ rest))
         draft.old) }
     ensures bad { IfErr result (λ fault. (rest : List (List ℕ))
-        → IsLineFault fault (records_from (number - 1) record.old (line.entry.now ∷ rest))) }
+        → IsLineFault fault (records_from (number - 1) text_record.old (line.entry.now ∷ rest))) }
 {
     if line.is_empty() {
-        return end_record(draft, record, number - 1);
+        return end_record(draft, text_record, number - 1);
     }
-    if !record.add_text(line)? {
+    if !text_record.add_text(line)? {
         return Err(bad_line(number));
     }
     Ok(())
 }
 
 // Ends a record, where so many lines stand up to there, and begins a new one.
-fn end_record(draft: &mut Draft, record: &mut Record<'_>, lines: u64) -> Result<(), V2Fault>
-    ensures new { OnOk result (record.new ≡ empty_record) }
+fn end_record(draft: &mut Draft, text_record: &mut Record<'_>, lines: u64) -> Result<(), V2Fault>
+    ensures new { OnOk result (text_record.new ≡ empty_record) }
     ensures ok { OnOk result ((others : Result (List RecordModel) ℕ)
         → draft_with_read others draft.new
-        ≡ draft_with_read (at_record_end lines record.old others) draft.old) }
+        ≡ draft_with_read (at_record_end lines text_record.old others) draft.old) }
     ensures bad { IfErr result (λ fault. (others : Result (List RecordModel) ℕ)
-        → IsLineFault fault (at_record_end lines record.old others)) }
+        → IsLineFault fault (at_record_end lines text_record.old others)) }
 {
-    write_record(draft, record, lines)?;
-    record.clear();
+    write_record(draft, text_record, lines)?;
+    text_record.clear();
     Ok(())
 }
 
 // Writes the package of a record, where so many lines stand up to its end; a record without a line
 // is none.
-fn write_record(draft: &mut Draft, record: &Record<'_>, lines: u64) -> Result<(), V2Fault>
+fn write_record(draft: &mut Draft, text_record: &Record<'_>, lines: u64) -> Result<(), V2Fault>
     ensures ok { OnOk result ((others : Result (List RecordModel) ℕ)
         → draft_with_read others draft.new
-        ≡ draft_with_read (at_record_end lines record.now others) draft.old) }
+        ≡ draft_with_read (at_record_end lines text_record.now others) draft.old) }
     ensures bad { IfErr result (λ fault. (others : Result (List RecordModel) ℕ)
-        → IsLineFault fault (at_record_end lines record.now others)) }
+        → IsLineFault fault (at_record_end lines text_record.now others)) }
 {
-    if !record.has_line() {
+    if !text_record.has_line() {
         return Ok(());
     }
-    if record.lacks_needed_line() {
+    if text_record.lacks_needed_line() {
         return Err(bad_line(lines));
     }
-    write_package(draft, record)?;
+    write_package(draft, text_record)?;
     Ok(())
 }
 
+// The refusal of a line, which counts from 1.
 fn bad_line(line: u64) -> V2Fault
     ensures { result ≡ Bad (TextLine line) }
 {

@@ -237,13 +237,14 @@ impl<'a> Record<'a> {
     }
 }
 
+/// Whether a line of this field was taken before.
 fn has_line_of(info: &[InfoLine<'_>], field: InfoField) -> bool
     ensures { result ≡ has_line_of field info.now }
 {
     info.iter().any(|line| line.field == field)
 }
 
-// A second line of a field is taken of a list alone.
+/// Adds a line of a field. False: a second one of a field that is no list.
 fn add_info<'a>(
     info: &mut Vec<InfoLine<'a>>,
     field: InfoField,
@@ -259,6 +260,7 @@ fn add_info<'a>(
     Ok(true)
 }
 
+/// Begins a folder, behind those of the record. True always.
 fn add_folder<'a>(
     alloc: Global,
     folders: &mut Vec<Folder<'a>>,
@@ -275,6 +277,7 @@ fn add_folder<'a>(
     Ok(true)
 }
 
+/// Says whose the last folder is. False: there is none, or that was said before.
 fn add_access<'a>(folders: &mut Vec<Folder<'a>>, access: Access<'a>) -> bool
     ensures { (if result then Some folders.new.items else None)
         ≡ with_last_changed (folder_with_access (access_view access.entry)) folders.old.items }
@@ -285,6 +288,7 @@ fn add_access<'a>(folders: &mut Vec<Folder<'a>>, access: Access<'a>) -> bool
     }
 }
 
+/// Begins a file of the last folder. False: there is none.
 fn add_file<'a>(folders: &mut Vec<Folder<'a>>, name: &'a [u8]) -> Result<bool, AllocError>
     ensures { IfOk result (λ good. (if good then Some folders.new.items else None)
         ≡ with_last_changed (folder_with_file name.entry.now) folders.old.items) }
@@ -296,6 +300,7 @@ fn add_file<'a>(folders: &mut Vec<Folder<'a>>, name: &'a [u8]) -> Result<bool, A
     Ok(true)
 }
 
+/// Says whose the last file of the last folder is. False: there is none, or that was said before.
 fn add_file_access<'a>(folders: &mut Vec<Folder<'a>>, access: Access<'a>) -> bool
     ensures { (if result then Some folders.new.items else None)
         ≡ with_last_changed (folder_with_last (file_with_access (access_view access.entry)))
@@ -307,6 +312,7 @@ fn add_file_access<'a>(folders: &mut Vec<Folder<'a>>, access: Access<'a>) -> boo
     }
 }
 
+/// Says what its hash is. False: there is none, or that was said before.
 fn add_file_hash<'a>(folders: &mut Vec<Folder<'a>>, hash: Vec<u8>) -> bool
     ensures { (if result then Some folders.new.items else None)
         ≡ with_last_changed (folder_with_last (file_with_hash hash.items)) folders.old.items }

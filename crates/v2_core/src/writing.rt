@@ -55,20 +55,21 @@ const COLUMNS: [Column; 18] = [
 ];
 
 /// Writes the package of a record.
-pub(crate) fn write_package(draft: &mut Draft, record: &Record<'_>) -> Result<(), AllocError>
-    ensures { OnOk result (draft.new ≡ draft_with (record_value record.now) draft.old) }
+pub(crate) fn write_package(draft: &mut Draft, text_record: &Record<'_>) -> Result<(), AllocError>
+    ensures { OnOk result (draft.new ≡ draft_with (record_value text_record.now) draft.old) }
 {
     draft.open_list()?;
-    write_info(draft, &record.info)?;
-    write_folders(draft, &record.folders)?;
+    write_info(draft, &text_record.info)?;
+    write_folders(draft, &text_record.folders)?;
     draft.null()?;
     draft.null()?;
-    write_once(draft, &record.info, InfoField::ReplacesPriority)?;
+    write_once(draft, &text_record.info, InfoField::ReplacesPriority)?;
     draft.close_object()
 }
 
 // ---- the package's information
 
+// Writes the information, by the table of its columns.
 #[tactic(auto, unfolding(crate::specs::Database::record_info_value))]
 fn write_info(draft: &mut Draft, info: &[InfoLine<'_>]) -> Result<(), AllocError>
     ensures { OnOk result (draft.new ≡ draft_with (record_info_value info.now) draft.old) }
@@ -94,6 +95,7 @@ fn write_columns(
     Ok(())
 }
 
+// Writes one field of it.
 fn write_column(draft: &mut Draft, info: &[InfoLine<'_>], column: Column) -> Result<(), AllocError>
     ensures { OnOk result (draft.new ≡ draft_with (value_of_column info.now column) draft.old) }
 {
@@ -114,6 +116,7 @@ fn write_once(draft: &mut Draft, info: &[InfoLine<'_>], field: InfoField) -> Res
     }
 }
 
+// The line of a field of which there is one at most.
 fn find_line<'a, 'b>(info: &'a [InfoLine<'b>], field: InfoField) -> Option<&'a InfoLine<'b>>
     ensures { option_map (λ line. line.now) result ≡ find (is_line_of field) info.entry.now }
 {
@@ -163,6 +166,7 @@ fn write_values(draft: &mut Draft, value: &Value<'_>) -> Result<(), AllocError>
     }
 }
 
+// Writes dependencies, one behind the other.
 fn write_needs(draft: &mut Draft, needs: &[Dep<'_>]) -> Result<(), AllocError>
     ensures { OnOk result (draft.new
         ≡ draft_with_all (plains_of_list (map (λ d. plain_value (need (dependency d))) needs.now))
@@ -176,6 +180,7 @@ fn write_needs(draft: &mut Draft, needs: &[Dep<'_>]) -> Result<(), AllocError>
 
 // ---- folders and files
 
+// Writes the folders of the package.
 fn write_folders(draft: &mut Draft, folders: &[Folder<'_>]) -> Result<(), AllocError>
     ensures { OnOk result
         (draft.new ≡ draft_with (array_of (map listed_folder_value folders.now)) draft.old) }
@@ -187,6 +192,7 @@ fn write_folders(draft: &mut Draft, folders: &[Folder<'_>]) -> Result<(), AllocE
     draft.close_array()
 }
 
+// Writes a folder: its name, its access and its files.
 fn write_folder(draft: &mut Draft, folder: &Folder<'_>) -> Result<(), AllocError>
     ensures { OnOk result (draft.new ≡ draft_with (listed_folder_value folder.now) draft.old) }
 {
@@ -197,6 +203,7 @@ fn write_folder(draft: &mut Draft, folder: &Folder<'_>) -> Result<(), AllocError
     draft.close_object()
 }
 
+// Writes the files of a folder.
 fn write_files(draft: &mut Draft, files: &[File<'_>]) -> Result<(), AllocError>
     ensures { OnOk result
         (draft.new ≡ draft_with (array_of (map listed_file_value files.now)) draft.old) }
@@ -208,6 +215,7 @@ fn write_files(draft: &mut Draft, files: &[File<'_>]) -> Result<(), AllocError>
     draft.close_array()
 }
 
+// Writes a file. Size and mtime are Null, since the text does not tell them.
 fn write_file(draft: &mut Draft, file: &File<'_>) -> Result<(), AllocError>
     ensures { OnOk result (draft.new ≡ draft_with (listed_file_value file.now) draft.old) }
 {
@@ -220,6 +228,7 @@ fn write_file(draft: &mut Draft, file: &File<'_>) -> Result<(), AllocError>
     draft.close_object()
 }
 
+// Writes an access, or NULL where no line gives it.
 fn write_access(draft: &mut Draft, access: &Option<Access<'_>>) -> Result<(), AllocError>
     ensures { OnOk result
         (draft.new ≡ draft_with (listed_access_value (access_views access.now)) draft.old) }
@@ -230,6 +239,7 @@ fn write_access(draft: &mut Draft, access: &Option<Access<'_>>) -> Result<(), Al
     write_known_access(draft, access)
 }
 
+// Writes an access that a line gives: mode, user and group, in the order of the table.
 fn write_known_access(draft: &mut Draft, access: &Access<'_>) -> Result<(), AllocError>
     ensures { OnOk result (draft.new
         ≡ draft_with (listed_access_value (Some (access_view access.now))) draft.old) }
@@ -241,6 +251,7 @@ fn write_known_access(draft: &mut Draft, access: &Access<'_>) -> Result<(), Allo
     draft.close_object()
 }
 
+// Writes a hash, or NULL where no line gives it.
 fn write_hash(draft: &mut Draft, hash: &Option<Vec<u8>>) -> Result<(), AllocError>
     ensures { OnOk result
         (draft.new ≡ draft_with (listed_hash_value (hash_view hash.now)) draft.old) }

@@ -12,9 +12,11 @@ pub record Access : Type 0 where
   pub group : List ℕ
   pub mode : ℕ
 
+-- by its parts
 abbrev pub access_by : List ℕ → List ℕ → ℕ → Access
 access_by user group mode = record { user = user; group = group; mode = mode }
 
+-- texts in place of slices
 abbrev pub access_view : AccessSlices → Access
 access_view a = access_by a.user.now a.group.now a.mode
 
@@ -30,6 +32,7 @@ behind_colon text = after_first (λ b. b == COLON) text
 abbrev pub is_id : List ℕ → Bool
 is_id text = not (length text == 0) && list_all is_ascii_digit text
 
+-- `0` to `7`
 abbrev pub is_octal_digit : ℕ → Bool
 is_octal_digit b = nat_le 48 b && nat_le b 55
 

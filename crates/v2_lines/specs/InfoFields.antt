@@ -28,6 +28,7 @@ letter_of Fields.Provides = 112
 letter_of Fields.Replaces = 114
 letter_of Fields.InstallIf = 105
 
+-- the fields of the information that a line may give, in the order of those letters
 abbrev pub info_fields : List InfoField
 info_fields =
     Fields.Hashes ∷ Fields.Name ∷ Fields.Version ∷ Fields.Arch ∷ Fields.Description ∷ Fields.Url
@@ -39,6 +40,7 @@ info_fields =
 abbrev pub info_field_among : List InfoField → ℕ → Option InfoField
 info_field_among among letter = find (λ f. letter_of f == letter) among
 
+-- the field whose lines begin with the letter; other letters give none
 unfoldable pub field_of_letter : ℕ → Option InfoField
 field_of_letter letter = info_field_among info_fields letter
 

@@ -23,9 +23,11 @@ sha1_of (q ∷ []) = None
 sha1_of (q ∷ one ∷ encoded) =
     if (q == 81) && (one == 49) then twenty_bytes (base64_bytes standard encoded) else None
 
+-- a text is the field's one value
 abbrev pub one_text : List ℕ → List FieldValue
 one_text bytes = text bytes ∷ []
 
+-- a number is the field's one value
 abbrev pub one_number : ℕ → List FieldValue
 one_number n = number n ∷ []
 

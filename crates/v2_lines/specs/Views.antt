@@ -11,12 +11,15 @@ use Rattle.v2_lines.specs.declared.line.Line.TheVariants as Lines
 use Rattle.v2_lines.specs.declared.value.Value.{Value}
 use Rattle.v2_lines.specs.declared.value.Value.TheVariants.{Text, Bytes, Number, Needs, Nothing}
 
+-- the bytes that it holds
 abbrev pub bytes_view : Vec ℕ Global → List ℕ
 bytes_view v = v.items
 
+-- each dependency is a value of its own
 abbrev pub needs_view : Vec Dep Global → List FieldValue
 needs_view v = map (λ d. need (dependency d)) v.items
 
+-- what a line says of its field; a commit that is no hexadecimal text says nothing
 abbrev pub line_value_view : Value → List FieldValue
 line_value_view (Text t) = text t.now ∷ []
 line_value_view (Bytes b) = text b.items ∷ []
@@ -24,6 +27,7 @@ line_value_view (Number n) = number n ∷ []
 line_value_view (Needs ds) = needs_view ds
 line_value_view Nothing = []
 
+-- what one line says
 abbrev pub line_view : Line → RecordLine
 line_view (Lines.Info f v) = info_line f (line_value_view v)
 line_view (Lines.Folder name) = folder_line name.now

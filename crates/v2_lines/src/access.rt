@@ -34,6 +34,7 @@ pub(crate) fn read_access(text: &[u8]) -> Option<Access<'_>>
     Some(Access { user, group, mode })
 }
 
+// Where the first colon stands.
 fn colon_in(text: &[u8]) -> Option<usize>
     ensures at { result ≡ position (λ b. b == COLON) text.now }
     ensures within { IfSome result (λ at. at < length text.now) }
@@ -68,6 +69,7 @@ fn is_id(text: &[u8]) -> bool
     !text.is_empty() && are_digits(text)
 }
 
+// Whether all bytes are decimal digits; no byte is one too few for a number.
 fn are_digits(text: &[u8]) -> bool
     ensures { result ≡ list_all is_ascii_digit text.now }
 {
@@ -94,12 +96,14 @@ fn is_octal(text: &[u8]) -> bool
     !text.is_empty() && are_octal_digits(text)
 }
 
+// Whether all bytes are octal digits.
 fn are_octal_digits(text: &[u8]) -> bool
     ensures { result ≡ list_all is_octal_digit text.now }
 {
     text.iter().all(|byte| is_octal_digit(*byte))
 }
 
+// Whether a byte is `0` to `7`.
 fn is_octal_digit(byte: u8) -> bool
     ensures { result ≡ is_octal_digit byte }
 {

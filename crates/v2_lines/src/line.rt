@@ -62,6 +62,8 @@ pub fn read_line<'a>(alloc: Global, line: &'a [u8]) -> Result<Option<Line<'a>>, 
     }
 }
 
+// Reads the value of a line by its letter. A letter that is not known makes a line that says
+// nothing.
 #[tactic(auto, unfolding(crate::specs::Lines::record_line_by))]
 fn read_by_letter<'a>(
     alloc: Global,
@@ -91,6 +93,7 @@ fn folder_line(name: &[u8]) -> Option<Line<'_>>
     Some(Line::Folder(name))
 }
 
+// Whether it is a path, or empty for the root.
 fn is_folder_name(name: &[u8]) -> bool
     ensures { result ≡ is_folder_name name.now }
 {
@@ -107,18 +110,21 @@ fn file_line(name: &[u8]) -> Option<Line<'_>>
     Some(Line::File(name))
 }
 
+// Whether it is one part of a path.
 fn is_one_part(name: &[u8]) -> bool
     ensures { result ≡ is_one_part name.now }
 {
     is_name(name) && !has_slash(name)
 }
 
+// Whether a `/` stands in it.
 fn has_slash(name: &[u8]) -> bool
     ensures { result ≡ list_any (λ b. b == 47) name.now }
 {
     name.contains(&b'/')
 }
 
+// Reads the hash of a file.
 fn read_file_hash<'a>(alloc: Global, value: &[u8]) -> Result<Option<Line<'a>>, AllocError>
     ensures { IfOk result (λ found. option_map line_view found
         ≡ option_map file_hash_line (sha1_of value.now)) }

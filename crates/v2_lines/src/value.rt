@@ -64,6 +64,7 @@ fn text_if(text: &[u8], is_good: bool) -> Option<Value<'_>>
     Some(Value::Text(text))
 }
 
+// The value of a number.
 fn number_value<'a>(digits: &[u8]) -> Option<Value<'a>>
     ensures { option_map line_value_view result
         ≡ option_map one_number (decimal_number digits.now) }
@@ -72,6 +73,7 @@ fn number_value<'a>(digits: &[u8]) -> Option<Value<'a>>
     Some(Value::Number(n))
 }
 
+// The value of a hash: `Q1` and its base64.
 fn read_bytes<'a>(alloc: Global, text: &[u8]) -> Result<Option<Value<'a>>, AllocError>
     ensures { IfOk result (λ found. option_map line_value_view found
         ≡ option_map one_text (sha1_of text.now)) }
@@ -92,6 +94,7 @@ pub(crate) fn read_sha1(alloc: Global, text: &[u8]) -> Result<Option<Vec<u8>>, A
     }
 }
 
+// The bytes of a base64 text, where it has as many as a SHA-1.
 fn read_twenty_bytes(alloc: Global, encoded: &[u8]) -> Result<Option<Vec<u8>>, AllocError>
     ensures { IfOk result (λ found. option_map bytes_view found
         ≡ twenty_bytes (base64_bytes standard encoded.now)) }

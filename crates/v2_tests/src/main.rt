@@ -31,6 +31,7 @@ const QUESTIONS: [(&[u8], Question); 3] = [
 struct TextDatabases;
 
 impl Subject for TextDatabases {
+    /// Answers a question by its first word. No question rests on one before it.
     fn answer(
         &mut self,
         alloc: Global,
@@ -71,6 +72,7 @@ fn count_of(word: &[u8]) -> u32 {
         .unwrap_or(0)
 }
 
+/// Answers the rows of standard input.
 fn main(rt: HostRuntime) -> io::Result<ExitCode> {
     let alloc = rt.alloc();
     let mut databases = TextDatabases;

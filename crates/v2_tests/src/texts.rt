@@ -20,6 +20,7 @@ pub fn add_read(alloc: Global, text: &[u8], answer: &mut Vec<u8>) -> Result<(), 
     }
 }
 
+/// Adds the dump of a database's payload.
 fn add_dump(alloc: Global, payload: &[u8], answer: &mut Vec<u8>) -> Result<(), AllocError> {
     let Ok(adb) = Adb::new(payload) else {
         return answer.extend_from_slice(b"no payload");
@@ -68,6 +69,7 @@ pub fn add_package_count(
     }
 }
 
+/// Adds how many packages a database has.
 fn add_count(alloc: Global, payload: &[u8], answer: &mut Vec<u8>) -> Result<(), AllocError> {
     let Ok(checked) = checked_database(alloc, payload) else {
         return answer.extend_from_slice(b"no database");
@@ -75,6 +77,7 @@ fn add_count(alloc: Global, payload: &[u8], answer: &mut Vec<u8>) -> Result<(), 
     add_number(alloc, answer, checked.idb().packages().len() as u128)
 }
 
+/// The database in a payload, which passes all tests.
 fn checked_database(alloc: Global, payload: &[u8]) -> Result<Checked<'_>, ReadFault>
     ensures { IfOk result (λ checked. which_of checked ≡ Tables.Idb) }
 {

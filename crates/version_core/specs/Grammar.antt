@@ -35,9 +35,11 @@ is_numeral digits = is_number digits && list_all is_ascii_digit digits
 abbrev pub is_hash_text : List ℕ → Bool
 is_hash_text digits = nat_lt 0 (length digits) && list_all is_hex_digit digits
 
+-- a known word, and a number or none
 abbrev pub is_suffix_part : SuffixPart → Bool
 is_suffix_part suffix = is_some (suffix_rank suffix.name) && if_some is_numeral suffix.number
 
+-- each part is one of its kind
 abbrev pub are_parts : Parts → Bool
 are_parts parts =
     is_numeral parts.first && (list_all is_numeral parts.later
@@ -49,10 +51,12 @@ abbrev pub later_text : List (List ℕ) → List ℕ
 later_text [] = []
 later_text (digits ∷ later) = 46 ∷ (digits ++ later_text later)
 
+-- the letter behind the components, or nothing
 abbrev pub letter_text : Option ℕ → List ℕ
 letter_text None = []
 letter_text (Some letter) = letter ∷ []
 
+-- the number of a suffix, or nothing
 abbrev pub number_text : Option (List ℕ) → List ℕ
 number_text None = []
 number_text (Some digits) = digits
@@ -85,27 +89,33 @@ component_token digits =
     if begins_with_zero digits then text_token ZeroComponent digits
     else number_token Component (digits_value 10 digits)
 
+-- the tokens of the components behind the first
 abbrev pub later_tokens : List (List ℕ) → List Token
 later_tokens [] = []
 later_tokens (digits ∷ later) = component_token digits ∷ later_tokens later
 
+-- the token of the letter, if there is one
 abbrev pub letter_tokens : Option ℕ → List Token
 letter_tokens None = []
 letter_tokens (Some letter) = number_token Letter letter ∷ []
 
+-- the token of a suffix's number, if there is one
 abbrev pub number_tokens : Option (List ℕ) → List Token
 number_tokens None = []
 number_tokens (Some digits) = number_token SuffixNumber (digits_value 10 digits) ∷ []
 
+-- of each suffix its token, and that of its number
 abbrev pub suffix_tokens : List SuffixPart → List Token
 suffix_tokens [] = []
 suffix_tokens (suffix ∷ rest) =
     (suffix_lexeme suffix.name).token ∷ (number_tokens suffix.number ++ suffix_tokens rest)
 
+-- the token of the hash, if there is one
 abbrev pub hash_tokens : Option (List ℕ) → List Token
 hash_tokens None = []
 hash_tokens (Some digits) = text_token Hash digits ∷ []
 
+-- the token of the revision, if there is one
 abbrev pub revision_tokens : Option (List ℕ) → List Token
 revision_tokens None = []
 revision_tokens (Some digits) = number_token Revision (digits_value 10 digits) ∷ []
@@ -131,6 +141,7 @@ is_version_byte b =
     is_ascii_digit b
     || (is_ascii_lowercase b || ((b == 46) || ((b == 95) || ((b == 126) || (b == 45)))))
 
+-- whether the first byte is a decimal digit
 abbrev pub begins_with_digit : List ℕ → Bool
 begins_with_digit [] = false
 begins_with_digit (b ∷ rest) = is_ascii_digit b

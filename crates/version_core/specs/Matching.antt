@@ -8,9 +8,11 @@ use Rattle.version_core.specs.Op.{EQUAL, LESS, GREATER, FUZZY, is_op}
 use Rattle.version_core.specs.Order.{is_last, token_cmp, tokens, version_cmp}
 use Rattle.version_core.specs.Token.{Token}
 
+-- the operator with these bits, if they are one
 abbrev pub op_of : ℕ → Option ℕ
 op_of bits = if is_op bits then Some bits else None
 
+-- whether an operator asks for the relation of this bit
 abbrev pub has_bit : ℕ → ℕ → Bool
 has_bit bits bit = not (bit_and bits bit == 0)
 
@@ -18,6 +20,7 @@ has_bit bits bit = not (bit_and bits bit == 0)
 abbrev pub begins_with : List ℕ → List ℕ → Bool
 begins_with wanted found = bytes_eq wanted (take (length wanted) found)
 
+-- whether it is a later component that begins with 0
 abbrev pub is_zero_component : Class → Bool
 is_zero_component ZeroComponent = true
 is_zero_component _ = false

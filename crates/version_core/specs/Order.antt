@@ -8,6 +8,7 @@ use Rattle.version_core.specs.declared.token.Class.{Class}
 use Rattle.version_core.specs.declared.token.Class.TheVariants.{Stray, PreRelease, End, Revision, Hash, SuffixNumber, Suffix, Letter, ZeroComponent, Component}
 use Rattle.version_core.specs.Token.{Token, lexeme_at}
 
+-- whether a token stands for bytes that no token may be
 abbrev pub is_stray : Class → Bool
 is_stray Stray = true
 is_stray _ = false
@@ -33,6 +34,7 @@ tokens_behind last zero (b ∷ rest) =
 unfoldable pub tokens : List ℕ → List Token
 tokens text = tokens_behind None 0 text
 
+-- whether a text of these tokens is a version: none of them is stray
 abbrev pub are_in_grammar : List Token → Bool
 are_in_grammar found = list_all (λ token. not (is_stray token.class)) found
 

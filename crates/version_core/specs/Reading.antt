@@ -18,6 +18,7 @@ abbrev pub token_view : TokenAt → Token
 token_view token =
     record { class = token.class; number = token.number; text = leading_hex_digits token.text.now }
 
+-- whether a token of this class is a hash
 abbrev pub is_hash : Class → Bool
 is_hash Hash = true
 is_hash _ = false
@@ -45,6 +46,7 @@ lexeme_view text found =
 abbrev pub AreDigits : List ℕ → Type 0
 AreDigits digits = EachIndex digits (λ i. IsTrue (is_ascii_digit (slice_index digits i)))
 
+-- the byte, if there is one and it is a hexadecimal digit
 abbrev pub hex_digit_by : Option ℕ → Option ℕ
 hex_digit_by None = None
 hex_digit_by (Some byte) = if is_hex_digit byte then Some byte else None
@@ -61,6 +63,7 @@ bytes_left left = length (drop (unread_len left.last left.rest.now) left.rest.no
 abbrev pub is_token_mark : ℕ → Bool
 is_token_mark b = (b == 46) || (b == 95) || (b == 126) || (b == 45)
 
+-- whether the first byte begins a token wherever it stands
 abbrev pub begins_with_mark : List ℕ → Bool
 begins_with_mark [] = false
 begins_with_mark (b ∷ rest) = is_token_mark b

@@ -13,12 +13,15 @@ pub record Token : Type 0 where
   pub number : ℕ
   pub text : List ℕ
 
+-- a token that is its class alone
 abbrev pub bare_token : Class → Token
 bare_token class = record { class = class; number = 0; text = [] }
 
+-- a token that is compared by a number
 abbrev pub number_token : Class → ℕ → Token
 number_token class number = record { class = class; number = number; text = [] }
 
+-- a token that is compared as text
 abbrev pub text_token : Class → List ℕ → Token
 text_token class text = record { class = class; number = 0; text = text }
 
@@ -27,6 +30,7 @@ pub record Lexeme : Type 0 where
   pub token : Token
   pub width : ℕ
 
+-- a token, and how many bytes it takes
 abbrev pub lexeme : Token → ℕ → Lexeme
 lexeme token width = record { token = token; width = width }
 
@@ -34,6 +38,7 @@ lexeme token width = record { token = token; width = width }
 abbrev pub stray_lexeme : Lexeme
 stray_lexeme = lexeme (bare_token Stray) 0
 
+-- a lowercase hexadecimal digit
 abbrev pub is_hex_digit : ℕ → Bool
 is_hex_digit b = is_ascii_digit b || (nat_le 97 b && nat_le b 102)
 
@@ -41,9 +46,11 @@ is_hex_digit b = is_ascii_digit b || (nat_le 97 b && nat_le b 102)
 abbrev pub leading_digits : List ℕ → List ℕ
 leading_digits text = take_while is_ascii_digit text
 
+-- the hexadecimal digits that a text begins with
 abbrev pub leading_hex_digits : List ℕ → List ℕ
 leading_hex_digits text = take_while is_hex_digit text
 
+-- the lowercase letters that a text begins with
 abbrev pub leading_letters : List ℕ → List ℕ
 leading_letters text = take_while is_ascii_lowercase text
 
@@ -54,13 +61,14 @@ MOST_DIGITS = 18
 abbrev pub is_number : List ℕ → Bool
 is_number digits = nat_lt 0 (length digits) && nat_le (length digits) MOST_DIGITS
 
--- a number behind its mark, which has so many bytes
+-- the token of a number, and the bytes that it takes; the mark before its digits has so many
 unfoldable pub number_lexeme : Class → ℕ → List ℕ → Lexeme
 number_lexeme class mark digits =
     if is_number digits
     then lexeme (number_token class (digits_value 10 digits)) (mark + length digits)
     else stray_lexeme
 
+-- whether the first digit is 0
 abbrev pub begins_with_zero : List ℕ → Bool
 begins_with_zero [] = false
 begins_with_zero (b ∷ rest) = b == 48
@@ -90,14 +98,17 @@ suffix_rank word =
 abbrev pub suffix_class : ℕ → Class
 suffix_class rank = if nat_lt rank 4 then PreRelease else Suffix
 
+-- the token of a suffix with this rank, which is stray where the word has none
 abbrev pub suffix_lexeme_by : List ℕ → Option ℕ → Lexeme
 suffix_lexeme_by word None = stray_lexeme
 suffix_lexeme_by word (Some rank) =
     lexeme (number_token (suffix_class rank) rank) (1 + length word)
 
+-- the token of a suffix; one byte more than its word is its mark
 abbrev pub suffix_lexeme : List ℕ → Lexeme
 suffix_lexeme word = suffix_lexeme_by word (suffix_rank word)
 
+-- the token of a hash, which has digits behind its mark
 unfoldable pub hash_lexeme : List ℕ → Lexeme
 hash_lexeme digits =
     if nat_lt 0 (length digits) then lexeme (text_token Hash digits) (1 + length digits)

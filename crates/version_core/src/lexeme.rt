@@ -5,7 +5,7 @@ ghost use Rattle.std.specs.Char.{is_ascii_digit, is_ascii_lowercase};
 ghost use Rattle.std.specs.Ordering.{nat_cmp};
 ghost use Rattle.std.specs.Cmp.Lexicographic.{slice_cmp};
 ghost use Rattle.std.specs.Str.Parse.{digits_value};
-ghost use Rattle.version_core.specs.Token.{begins_with_zero, component_lexeme, leading_digits, hash_lexeme, leading_hex_digits, is_hex_digit, lexeme, lexeme_at, next_lexeme, number_lexeme, number_token, revision_lexeme, stray_lexeme, suffix_class, suffix_lexeme, suffix_rank, leading_letters, text_token};
+ghost use Rattle.version_core.specs.Token.{begins_with_zero, component_lexeme, leading_digits, hash_lexeme, leading_hex_digits, is_hex_digit, lexeme, lexeme_at, next_lexeme, number_lexeme, number_token, revision_lexeme, stray_lexeme, suffix_class, suffix_lexeme, suffix_rank, leading_letters, text_token, MOST_DIGITS};
 ghost use Rattle.version_core.specs.Overlapping.{passed_len};
 ghost use Rattle.version_core.specs.Reading.{AreDigits, hex_digit_at, is_hash, lexeme_view, plain_view};
 
@@ -23,6 +23,7 @@ pub struct Lexeme<'a> {
     pub advance: usize,
 }
 
+/// A token that is compared by a number, and how many bytes it takes.
 fn lexeme_of_number<'a>(class: Class, number: u64, advance: usize) -> Lexeme<'a>
     ensures token { plain_view result ≡ lexeme (number_token class number) advance }
     ensures class { result.token.class ≡ class }
@@ -35,8 +36,10 @@ fn lexeme_of_number<'a>(class: Class, number: u64, advance: usize) -> Lexeme<'a>
     Lexeme { token, advance }
 }
 
+/// A token that is compared as text, and how many bytes it takes.
 fn lexeme_of_text(class: Class, text: &[u8], advance: usize) -> Lexeme<'_>
-    ensures token { plain_view result ≡ lexeme (text_token class (leading_hex_digits text.now)) advance }
+    ensures token { plain_view result
+        ≡ lexeme (text_token class (leading_hex_digits text.now)) advance }
     ensures class { result.token.class ≡ class }
     ensures text { result.token.text.now ≡ text.now }
 {
@@ -48,6 +51,7 @@ fn lexeme_of_text(class: Class, text: &[u8], advance: usize) -> Lexeme<'_>
     Lexeme { token, advance }
 }
 
+/// The token of bytes that no token may be.
 fn stray_lexeme<'a>() -> Lexeme<'a>
     ensures token { plain_view result ≡ stray_lexeme }
     ensures class { result.token.class ≡ Class.Stray }
@@ -79,6 +83,7 @@ pub fn first_token(last: Option<Class>, text: &[u8]) -> (Class, usize)
     (class, lexeme.advance)
 }
 
+/// The token that stands behind one of this class, with its mark.
 #[tactic(auto, unfolding(crate::specs::Token::next_lexeme))]
 fn next_lexeme<'a>(last: Class, text: &'a [u8]) -> Lexeme<'a>
     ensures { lexeme_view text.entry.now result ≡ next_lexeme last text.entry.now }
@@ -97,7 +102,7 @@ fn next_lexeme<'a>(last: Class, text: &'a [u8]) -> Lexeme<'a>
     }
 }
 
-/// A number behind its mark, which has so many bytes.
+/// The token of a number; `mark` is how many bytes its mark has.
 #[tactic(auto, unfolding(crate::specs::Token::number_lexeme))]
 fn number(class: Class, mark: usize, digits: &[u8]) -> Lexeme<'_>
     requires digits { AreDigits digits.now }
@@ -125,12 +130,14 @@ fn component(digits: &[u8]) -> Lexeme<'_>
     number(Class::Component, 1, digits)
 }
 
+/// Whether the first digit is 0.
 fn begins_with_zero(digits: &[u8]) -> bool
     ensures { result ≡ begins_with_zero digits.now }
 {
     matches!(digits, [b'0', ..])
 }
 
+/// The token of a suffix, by its word.
 fn suffix(word: &[u8]) -> Lexeme<'_>
     ensures token { plain_view result ≡ suffix_lexeme word.now }
     ensures plain { is_hash result.token.class ≡ false }
@@ -160,7 +167,7 @@ fn suffix_rank(word: &[u8]) -> Option<u64>
     }
 }
 
-/// The first four make pre-releases.
+/// The class of a suffix with this rank: the first four make pre-releases.
 fn suffix_class(rank: u64) -> Class
     ensures { result ≡ suffix_class rank }
 {
@@ -171,7 +178,7 @@ fn suffix_class(rank: u64) -> Class
     }
 }
 
-/// A text that begins with the mark of a hash.
+/// The token of a hash; the text begins with its mark.
 #[tactic(auto, unfolding(crate::specs::Token::hash_lexeme))]
 fn hash(text: &[u8]) -> Lexeme<'_>
     requires { 0 < length text.now }
@@ -184,7 +191,7 @@ fn hash(text: &[u8]) -> Lexeme<'_>
     lexeme_of_text(Class::Hash, digits, 1)
 }
 
-/// Behind the `-` of a revision.
+/// The token of a revision; the text is what stands behind its `-`.
 #[tactic(auto, unfolding(crate::specs::Token::revision_lexeme))]
 fn revision(text: &[u8]) -> Lexeme<'_>
     ensures token { plain_view result ≡ revision_lexeme text.now }
@@ -199,7 +206,7 @@ fn revision(text: &[u8]) -> Lexeme<'_>
 /// The number that the digits represent.
 fn value_of(digits: &[u8]) -> u64
     requires digits { AreDigits digits.now }
-    requires few { length digits.now ≤ 18 }
+    requires few { length digits.now ≤ MOST_DIGITS }
     ensures { result ≡ digits_value 10 digits.now }
 {
     let mut number = 0;
@@ -221,6 +228,7 @@ fn leading_digits(text: &[u8]) -> &[u8]
     }
 }
 
+/// Where the first byte stands that is no decimal digit.
 fn digits_end(text: &[u8]) -> Option<usize>
     ensures { result ≡ position (λ b. not (is_ascii_digit b)) text.now }
 {
@@ -238,6 +246,7 @@ fn leading_letters(text: &[u8]) -> &[u8]
     }
 }
 
+/// Where the first byte stands that is no lowercase letter.
 fn letters_end(text: &[u8]) -> Option<usize>
     ensures { result ≡ position (λ b. not (is_ascii_lowercase b)) text.now }
 {
@@ -255,22 +264,25 @@ pub fn leading_hex_digits(text: &[u8]) -> &[u8]
     }
 }
 
+/// Where the first byte stands that is no hexadecimal digit.
 fn hex_digits_end(text: &[u8]) -> Option<usize>
     ensures { result ≡ position (λ b. not (is_hex_digit b)) text.now }
 {
     text.iter().position(|byte| !is_hex_digit(*byte))
 }
 
+/// Whether it is a lowercase hexadecimal digit.
 fn is_hex_digit(byte: u8) -> bool
     ensures { result ≡ is_hex_digit byte }
 {
     matches!(byte, b'0'..=b'9' | b'a'..=b'f')
 }
 
-/// The order of the hexadecimal digits that two texts begin with. It reads neither further than to
+/// The order of the hexadecimal digits that two texts begin with. It reads both no further than to
 /// the first place at which they differ.
 pub fn compare_hex_digits(left: &[u8], right: &[u8]) -> Ordering
-    ensures { result ≡ slice_cmp nat_cmp (leading_hex_digits left.now) (leading_hex_digits right.now) }
+    ensures { result
+        ≡ slice_cmp nat_cmp (leading_hex_digits left.now) (leading_hex_digits right.now) }
 {
     let mut at = 0;
     loop {
@@ -283,6 +295,7 @@ pub fn compare_hex_digits(left: &[u8], right: &[u8]) -> Ordering
     }
 }
 
+/// The hexadecimal digit at this index, if there is one.
 fn hex_digit_at(text: &[u8], at: usize) -> Option<u8>
     ensures { result ≡ hex_digit_at text.now at }
 {

@@ -1,5 +1,5 @@
-//! The order of two versions. What both begin with is passed over byte by byte, and the tokens are
-//! read from the last mark in it on.
+//! The order of two versions. What both begin with is passed over as plain bytes, whole blocks
+//! first, and the tokens are read from the last mark in it on.
 
 ghost use Rattle.std.specs.Prelude.{◌≡◌, ◌≤◌, ◌<◌, IsTrue, IfSome, Some, length, drop};
 ghost use Rattle.std.specs.Cmp.Lexicographic.{slice_cmp};
@@ -78,7 +78,8 @@ fn equal_len(left: &[u8], right: &[u8]) -> usize
     len
 }
 
-/// The same, block by block.
+/// How many of these bytes stand in whole blocks that are equal, from the front on. Comparing
+/// slices is faster than byte after byte.
 fn equal_blocks(left: &[u8], right: &[u8]) -> usize
     ensures { AreEqualUpTo left.now right.now result }
 {
@@ -104,6 +105,7 @@ fn last_mark(text: &[u8]) -> Option<usize>
     None
 }
 
+/// Whether a byte begins a token wherever it stands.
 fn is_token_mark(byte: u8) -> bool
     ensures { result ≡ is_token_mark byte }
 {

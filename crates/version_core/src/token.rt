@@ -20,6 +20,7 @@ pub enum Class {
     SuffixNumber,
     Suffix,
     Letter,
+    /// A later component that begins with `0`, which is compared as text.
     ZeroComponent,
     Component,
 }
@@ -73,9 +74,9 @@ impl Class {
     }
 }
 
-/// A token of a version: its class, and its value, a number or a text. The text goes up to the
-/// first byte that is no hexadecimal digit, so that a hash is not read to its end before it is
-/// compared.
+/// A token of a version: its class, and its value, a number or a text. Of the slice `text` only the
+/// hexadecimal digits that it begins with are the value; it may go on behind them, so that a hash
+/// is not read to its end before it is compared.
 #[derive(Clone, Copy)]
 pub struct TokenAt<'a> {
     pub class: Class,
@@ -110,7 +111,9 @@ impl TokenAt<'_> {
 /// The tokens of a text, read from the front.
 #[derive(Clone, Copy)]
 pub struct Tokens<'a> {
+    // What is not passed over yet: of a hash that was taken last, its digits too.
     rest: &'a [u8],
+    // The class of the token that was taken last; none at the front.
     last: Option<Class>,
 }
 

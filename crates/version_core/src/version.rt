@@ -145,6 +145,7 @@ impl<'a> Version<'a> {
     }
 }
 
+/// Whether a text is a version.
 #[tactic(auto, unfolding(crate::specs::Order::is_version))]
 fn is_version(text: &[u8]) -> bool
     ensures { result ≡ is_version text.now }
@@ -159,6 +160,7 @@ fn is_version(text: &[u8]) -> bool
     }
 }
 
+/// Whether a version begins with the tokens of the wanted one.
 #[tactic(auto, unfolding(crate::specs::Matching::is_fuzzy_match))]
 fn is_fuzzy_match(found: &[u8], wanted: &[u8]) -> bool
     ensures { result ≡ is_fuzzy_match found.now wanted.now }

@@ -50,6 +50,7 @@ const QUESTIONS: [(&[u8], Question); 12] = [
 struct LowCrates;
 
 impl Subject for LowCrates {
+    // Answers a question by its first word. No question rests on one before it.
     fn answer(
         &mut self,
         alloc: Global,
@@ -74,6 +75,7 @@ impl Subject for LowCrates {
     }
 }
 
+// Answers the rows of standard input.
 fn main(rt: HostRuntime) -> io::Result<ExitCode> {
     run_program(&rt, rt.alloc(), &mut LowCrates)
 }

@@ -48,6 +48,7 @@ pub fn match_of(words: &Words) -> &'static [u8] {
     }
 }
 
+// The operator with these match bits, as a decimal number.
 fn operator_of(bits: &[u8]) -> Option<Op> {
     let bits = u8::try_from(number_of(bits)?).ok()?;
     Op::of(bits)

@@ -19,6 +19,7 @@ pub fn add_world(alloc: Global, text: &[u8], answer: &mut Vec<u8>) -> Result<(),
     }
 }
 
+// Adds the number of the first bad line.
 fn add_bad_line(alloc: Global, line: u64, answer: &mut Vec<u8>) -> Result<(), AllocError> {
     answer.extend_from_slice(b"line ")?;
     add_number(alloc, answer, u128::from(line))
@@ -37,6 +38,8 @@ pub fn add_edits(alloc: Global, words: &Words, answer: &mut Vec<u8>) -> Result<(
     Ok(())
 }
 
+// Makes one edit of world, or adds what one asks: `+TEXT` adds, `-NAME` takes out, `#` counts,
+// `?PLACE` shows an entry.
 fn add_edit(
     alloc: Global,
     world: &mut World,
@@ -55,6 +58,7 @@ fn add_edit(
     }
 }
 
+// Adds a dependency to world; a text that is none changes nothing.
 fn add_to(world: &mut World, text: &[u8]) -> Result<(), AllocError> {
     match read_dep(text) {
         Some(dep) => world.add(&dep),
@@ -62,11 +66,13 @@ fn add_to(world: &mut World, text: &[u8]) -> Result<(), AllocError> {
     }
 }
 
+// Adds whether there was an entry to take out.
 fn add_removal(was_there: bool, answer: &mut Vec<u8>) -> Result<(), AllocError> {
     add_word(answer, b"")?;
     add_yes_or_no(answer, was_there)
 }
 
+// Adds the entry at a place, counted from 0.
 fn add_entry(
     alloc: Global,
     world: &World,
@@ -114,6 +120,7 @@ pub fn add_dependency(
     }
 }
 
+// The dependency of a row: of its text, or of the values of a package's field.
 fn dependency_of(words: &Words) -> Option<Dep<'_>> {
     if word_at(words, 0) == b"dependency".as_slice() {
         return read_dep(word_at(words, 1));

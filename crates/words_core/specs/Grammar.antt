@@ -58,6 +58,7 @@ with_meaning flags (Kind flag) =
     if has_kind flags && not (has_flag flag flags) then None else Some (with_flag flag flags)
 with_meaning flags (Value rule) = None
 
+-- flags with what an option says
 abbrev pub with_spec : Flags → OptionSpec → Option Flags
 with_spec flags option = with_meaning flags option.meaning
 
@@ -67,6 +68,7 @@ with_option options flags word = option_and_then (with_spec flags) (option_spell
 
 -- ---- up to the applet
 
+-- what comes of what was read, or this place where nothing was
 abbrev pub or_at : {A B : Type 0} → ℕ → (A → Result B ℕ) → Option A → Result B ℕ
 or_at place next None = Err place
 or_at place next (Some x) = next x
@@ -106,10 +108,12 @@ abbrev pub start_by : AppletSite → Flags → Start
 start_by site flags =
     record { applet = site.applet; flags = flags; ended = site.ended; read = site.read }
 
+-- the start with the flags before the applet, or the place that offends there
 abbrev pub start_with : AppletSite → Result Flags ℕ → Result Start ℕ
 start_with site (Err place) = Err place
 start_with site (Ok flags) = Ok (start_by site flags)
 
+-- the start behind an applet that was found, or the place that offends before it
 abbrev pub start_from : List (List ℕ) → Result AppletSite ℕ → Result Start ℕ
 start_from words (Err place) = Err place
 start_from words (Ok site) =
@@ -126,6 +130,7 @@ line_start words = start_from words (applet_site 1 words)
 abbrev pub state_by : Flags → List OptionValue → Option ValueRule → OptionState
 state_by flags values awaiting = record { flags = flags; values = values; awaiting = awaiting }
 
+-- where only flags were given
 abbrev pub first_state : Flags → OptionState
 first_state flags = state_by flags [] None
 
@@ -142,6 +147,7 @@ abbrev pub with_held : OptionState → ℕ → ValueRule → Option (List ℕ) �
 with_held state place rule None = Some (state_by state.flags state.values (Some rule))
 with_held state place rule (Some text) = with_value state place text rule
 
+-- a state with an option that has values; None where it can have none more
 abbrev pub with_rule : OptionState → ℕ → Option (List ℕ) → ValueRule → Option OptionState
 with_rule state place held rule =
     if is_spent rule state.values then None else with_held state place rule held
@@ -176,6 +182,7 @@ abbrev pub with_word_by : List OptionSpec → OptionState → ℕ → List ℕ �
 with_word_by options state place word None = with_spelled options state place word
 with_word_by options state place word (Some rule) = with_value state place word rule
 
+-- the same by what the state awaits
 abbrev pub with_word : List OptionSpec → OptionState → ℕ → List ℕ → Option OptionState
 with_word options state place word = with_word_by options state place word state.awaiting
 
@@ -191,9 +198,11 @@ abbrev pub operands_of : ℕ → List (List ℕ) → List Operand
 operands_of place [] = []
 operands_of place (word ∷ words) = operand_at place word ∷ operands_of (place + 1) words
 
+-- an operand before those that were read behind it
 abbrev pub with_operand : Operand → Reading → Reading
 with_operand operand reading = record reading { operands = operand ∷ reading.operands }
 
+-- what is read behind a word that was read; one that cannot be read ends the reading
 abbrev pub or_unread : OptionState → ℕ → (OptionState → Reading) → Option OptionState → Reading
 or_unread state place next None = reading_by state [] (Some place)
 or_unread state place next (Some more) = next more
@@ -239,10 +248,12 @@ abbrev pub lacks_word : Applet → Option OperandRule → Reading → Bool
 lacks_word applet rule reading =
     lacks_operand rule reading.operands || lacks_value (needed_option applet) reading.state.values
 
+-- the command of what was read
 abbrev pub command_read : ℕ → Applet → Reading → CommandLine
 command_read behind applet reading =
     command_by applet reading.state.flags reading.operands reading.state.values behind
 
+-- the place that offends, or else the command
 abbrev pub unless_at : Option ℕ → Result CommandLine ℕ → Result CommandLine ℕ
 unless_at None otherwise = otherwise
 unless_at (Some place) otherwise = Err place

@@ -8,6 +8,7 @@ use Rattle.words_core.specs.Grammar.{line_start, reading_behind}
 use Rattle.words_core.specs.Options.{options_of}
 use Rattle.words_core.specs.Stuck.{have_ended}
 
+-- whether the applet is `info`
 abbrev pub is_info : Applet → Bool
 is_info Info = true
 is_info applet = false
@@ -20,6 +21,7 @@ can_get_kind_from words start =
     is_info start.applet && not (has_kind reading.state.flags) && not (is_some reading.unread)
     && not (start.ended || have_ended (options_of start.applet) None (drop start.read words))
 
+-- the same by the start of the words, which has to be found
 abbrev pub can_get_kind_by : List (List ℕ) → Result Start ℕ → Bool
 can_get_kind_by words (Err place) = false
 can_get_kind_by words (Ok start) = can_get_kind_from words start

@@ -34,6 +34,7 @@ abbrev pub rule_unless : Option (List ℕ) → Option ValueRule → Option Value
 rule_unless None rule = rule
 rule_unless (Some text) rule = None
 
+-- the option whose value is the next word
 abbrev pub rule_behind : List OptionSpec → List ℕ → Option ValueRule
 rule_behind options word = rule_unless (held_value word) (rule_at options word)
 

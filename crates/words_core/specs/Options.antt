@@ -44,6 +44,7 @@ simulate_option = flag_spec (codes "--simulate") (codes "-s") Simulate
 abbrev pub purge_option : OptionSpec
 purge_option = flag_spec (codes "--purge") [] Purge
 
+-- the options of `info`, each of which says the kind
 abbrev pub info_options : List OptionSpec
 info_options =
     kind_spec (codes "--installed") (codes "-e") Installed ∷
@@ -51,6 +52,7 @@ info_options =
     (kind_spec (codes "--depends") (codes "-R") Depends ∷
     (kind_spec (codes "--who-owns") (codes "-W") WhoOwns ∷ [])))
 
+-- the options of `version`, each of which says the kind
 abbrev pub version_options : List OptionSpec
 version_options =
     kind_spec (codes "--test") (codes "-t") Test ∷
@@ -62,6 +64,7 @@ output_options =
     value_spec (codes "--output") (codes "-o") output_rule ∷
     (value_spec (codes "--compression") (codes "-c") compression_rule ∷ [])
 
+-- the options of `mkpkg`
 abbrev pub mkpkg_options : List OptionSpec
 mkpkg_options =
     value_spec (codes "--info") (codes "-I") info_rule ∷
@@ -69,6 +72,7 @@ mkpkg_options =
     (value_spec (codes "--trigger") (codes "-t") trigger_rule ∷
     (value_spec (codes "--files") (codes "-F") files_rule ∷ output_options)))
 
+-- the options of `mkndx`
 abbrev pub mkndx_options : List OptionSpec
 mkndx_options = value_spec (codes "--description") (codes "-d") description_rule ∷ output_options
 
@@ -99,9 +103,11 @@ early_words =
     codes "--allow-untrusted" ∷ (codes "--no-scripts" ∷ (codes "--initdb" ∷ (codes "--simulate" ∷
     (codes "--purge" ∷ []))))
 
+-- whether an option may stand before the applet
 abbrev pub is_early : List ℕ → Bool
 is_early word = list_any (λ early. bytes_eq early word) early_words
 
+-- the word of an applet
 abbrev pub applet_word : Applet → List ℕ
 applet_word Add = codes "add"
 applet_word Del = codes "del"

@@ -6,9 +6,11 @@ use Rattle.words_core.specs.declared.options.Meaning.TheVariants.{Value}
 use Rattle.words_core.specs.declared.options.OptionRow.{OptionRow}
 use Rattle.words_core.specs.Options.{OptionSpec}
 
+-- the option that a row stands for
 abbrev pub option_spec : OptionRow → OptionSpec
 option_spec row = record { long = row.long.now; short = row.short.now; meaning = row.meaning }
 
+-- the byte that options begin with
 abbrev pub dash : ℕ
 dash = 45
 
@@ -17,5 +19,6 @@ abbrev pub has_letter : List ℕ → Meaning → Bool
 has_letter short (Value rule) = bytes_eq short (dash ∷ (rule.letter ∷ []))
 has_letter short meaning = true
 
+-- whether the option of values has the letter of its short word
 abbrev pub has_its_letter : OptionSpec → Bool
 has_its_letter option = has_letter option.short option.meaning

@@ -67,6 +67,7 @@ is_stuck words start =
     && lacks_option start.applet state)
     || awaits_none state.awaiting state.values
 
+-- the same by the start of the words, which has to be found
 abbrev pub is_stuck_by : List (List ℕ) → Result Start ℕ → Bool
 is_stuck_by words (Err place) = false
 is_stuck_by words (Ok start) = is_stuck words start

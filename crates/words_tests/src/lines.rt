@@ -29,6 +29,7 @@ pub fn add_many(alloc: Global, words: &Words, answer: &mut Vec<u8>) -> Result<()
     }
 }
 
+/// The words behind the first one, of which the second stands as often as the first one says.
 fn many_words(alloc: Global, words: &Words) -> Result<Words, AllocError> {
     let times = number_of(word_at(words, 0)).and_then(|times| usize::try_from(times).ok());
     let mut many = Words::new(alloc);
@@ -42,6 +43,7 @@ fn many_words(alloc: Global, words: &Words) -> Result<Words, AllocError> {
     Ok(many)
 }
 
+/// Adds a word so often, as far as a command line has room.
 fn push_times(words: &mut Words, word: &[u8], times: usize) -> Result<(), AllocError> {
     for _ in 0..times {
         if words.len() < MOST_WORDS {
@@ -88,6 +90,7 @@ const APPLETS: [(Applet, &[u8]); 11] = [
     (Applet::Demo, b"demo"),
 ];
 
+/// Adds the applet's word.
 fn add_applet(command: &Command, answer: &mut Vec<u8>) -> Result<(), AllocError> {
     for (applet, word) in &APPLETS {
         if *applet == command.applet() {
@@ -113,6 +116,7 @@ const FLAGS: [(Flag, &[u8]); 11] = [
     (Flag::Check, b"--check"),
 ];
 
+/// Adds the words of the flags that are given, in the order of the table.
 fn add_flags(command: &Command, answer: &mut Vec<u8>) -> Result<(), AllocError> {
     for (flag, word) in &FLAGS {
         if command.flags().has(*flag) {
@@ -122,11 +126,13 @@ fn add_flags(command: &Command, answer: &mut Vec<u8>) -> Result<(), AllocError> 
     Ok(())
 }
 
+/// Adds a number in decimal.
 fn add_next(alloc: Global, number: u128, answer: &mut Vec<u8>) -> Result<(), AllocError> {
     add_word(answer, b"")?;
     add_number(alloc, answer, number)
 }
 
+/// Adds how many operands there are, and of the first 100 the place and the text.
 fn add_operands(alloc: Global, command: &Command, answer: &mut Vec<u8>) -> Result<(), AllocError> {
     let operands = command.operands();
     add_next(alloc, operands.len() as u128, answer)?;
@@ -148,6 +154,8 @@ pub fn add_values(alloc: Global, line: &Words, answer: &mut Vec<u8>) -> Result<(
     Ok(())
 }
 
+/// Adds a value of an option: its place, the option's letter, for `-s` the script's type, and the
+/// text.
 fn add_value(alloc: Global, value: &OptionValue, answer: &mut Vec<u8>) -> Result<(), AllocError> {
     add_next(alloc, u128::from(value.place), answer)?;
     add_word(answer, &[value.letter])?;

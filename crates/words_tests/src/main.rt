@@ -46,6 +46,7 @@ const QUESTIONS: [(&[u8], Question); 9] = [
 struct CommandLines;
 
 impl Subject for CommandLines {
+    // Answers a question by its first word. No question rests on one before it.
     fn answer(
         &mut self,
         alloc: Global,
@@ -70,6 +71,7 @@ impl Subject for CommandLines {
     }
 }
 
+// Answers the rows of standard input.
 fn main(rt: HostRuntime) -> io::Result<ExitCode> {
     run_program(&rt, rt.alloc(), &mut CommandLines)
 }

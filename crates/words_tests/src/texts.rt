@@ -88,6 +88,7 @@ const REFUSALS: [(&[u8], Named); 25] = [
     (b"owned", Named::Owned),
 ];
 
+/// The refusal that the words of a row name; none where they name none.
 fn refusal_of(alloc: Global, words: &Words) -> Result<Option<Refusal>, AllocError> {
     let Some(named) = value_named(&REFUSALS, word_at(words, 0)) else {
         return Ok(None);
@@ -300,6 +301,7 @@ fn hashes_differ(wanted: &[u8], found: &[u8]) -> Option<Cause> {
     })
 }
 
+/// The digest by its length: 20, 32 or 64 bytes.
 fn digest_of(bytes: &[u8]) -> Option<Digest> {
     if let Ok(bytes) = bytes.try_into() {
         return Some(Digest::Sha1(bytes));
@@ -320,10 +322,12 @@ fn long_at(words: &Words, i: usize) -> u64 {
         .unwrap_or(0)
 }
 
+/// A number of 32 bits; 0 where the word is none.
 fn int_at(words: &Words, i: usize) -> u32 {
     u32::try_from(long_at(words, i)).unwrap_or(0)
 }
 
+/// A number of 16 bits; 0 where the word is none.
 fn short_at(words: &Words, i: usize) -> u16 {
     u16::try_from(long_at(words, i)).unwrap_or(0)
 }

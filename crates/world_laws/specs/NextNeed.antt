@@ -66,6 +66,8 @@ pub record IsFirstByInstallIf (pool : SealedPool) (chosen name : List ℕ) : Typ
 
 -- ---- the next need
 
+-- Of world before all others; then of the choices in their order; a name that an install-if asks
+-- for comes last.
 abbrev pub IsNext : SealedPool → List ℕ → Need → Type 0
 IsNext pool chosen (entry d) = IsFirstUnmet pool chosen pool.world d
     ⊎ (AreMetByChoices pool chosen pool.world × IsFirstOfChoices pool chosen chosen d)

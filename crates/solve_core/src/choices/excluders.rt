@@ -81,6 +81,7 @@ impl<'p> Choices<'p> {
         None
     }
 
+    // A choice that keeps the candidate out by this entry of what it provides, if there is one.
     fn excluder_of_entry(
         &self,
         entry: &Dep<'_>,
@@ -120,6 +121,7 @@ impl<'p> Choices<'p> {
         None
     }
 
+    // A choice that meets this dependency of the candidate, where that is a conflict.
     fn excluder_meeting_one(
         &self,
         dep: &Dep<'_>,

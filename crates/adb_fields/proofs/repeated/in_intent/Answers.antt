@@ -7,6 +7,7 @@ use Rattle.adb_view.specs.Entries.{array_entries}
 use Rattle.adb_view.specs.Plain.{Plain}
 use Rattle.adb_tables.specs.Values.{value_at, text_in, entries_in, entry_in, count_of}
 use Rattle.adb_fields.specs.Pairs.{first_pair}
+use Rattle.adb_tables.specs.FieldIndexes.{INTENT_WRITES}
 use Rattle.adb_fields.specs.Repeated.{field_number, numbered_from, list_of, repeated_at}
 use Rattle.adb_fields.specs.NamedTexts.{named_by, plains_at}
 use Rattle.adb_tables.specs.declared.tables.Kind.TheVariants as Kinds
@@ -44,6 +45,6 @@ returns c =
     let long : vec_len c.add_texts.new.names ≡ length front = (let l = c.in_ok-add_texts.ensures.len in omega arith) in
     let all : map named_by c.add_texts-2.new.names.items ≡ numbered_from 1 (front ++ back) = texts_behind front back _ _ (vec_len c.add_texts.new.names) one long c.in_ok-add_texts-2.ensures.added in
     c.repeated_at.ensures
-    ∙ ap (repeated_at (field_number Tables.Intent 2)) (c.first_pair.ensures
+    ∙ ap (repeated_at (field_number Tables.Intent INTENT_WRITES)) (c.first_pair.ensures
     ∙ ap first_pair (ap (map named_by) c.deref_mut.ensures.value ∙ (all
     ∙ (λ i. numbered_from 1 (map text_in (list_of (entries_in (c.texts_field-removals.ensures.value i))) ++ map text_in (list_of (entries_in (c.texts_field-writes.ensures.value i))))))))
