@@ -13,8 +13,8 @@ use Rattle.command_core.specs.Command.{CommandLine}
 use Rattle.journal_core.specs.Kept.{IsLessWaiting}
 use Rattle.journal_core.specs.Recovery.{IsSettled, RestsOn, intent_at, intent_name, intent_of, intent_unless, read_intent, recovered_files}
 use Rattle.journal_core.specs.Staged.{HasRoomToReplay, IsEmptyStage, IsIntentFault, unstaged_files}
-use Rattle.journal_core.specs.declared.recovering.RecoverFault.{RecoverFault}
-use Rattle.journal_core.specs.declared.recovering.RecoverFault.TheVariants.{IntentBad as BadIntent}
+use Rattle.journal_core.specs.declared.fault.RecoverFault.{RecoverFault}
+use Rattle.journal_core.specs.declared.fault.RecoverFault.TheVariants.{IntentBad as BadIntent}
 use Rattle.outcome.specs.Commands.{IsFoundOutcomeOf, IsFoundOver, IsOutcomeOf, IsOutcomeOver, IsOutcomeUnless}
 use Rattle.outcome.specs.Effect.{Effect, Computes, Reads, Tells, Makes, Changes, does_recover, effect_of}
 use Rattle.outcome.specs.Outcome.{Outcome, just_refusal}

@@ -15,7 +15,7 @@ use Rattle.base_core.specs.declared.tree.TreeFault.TheVariants.{Disk, Memory as 
 use Rattle.journal_core.specs.Quiet.{IsStill}
 use Rattle.journal_core.specs.Recovery.{IsSettled, RestsOn, intent_name}
 use Rattle.make_info.specs.Output.{output_name}
-use Rattle.make_package.specs.Sources.{AreNamesFor, values_with}
+use Rattle.package_files.specs.Sources.{AreNamesFor, values_with}
 use Rattle.command_core.specs.declared.values.TheConstants.{FILES}
 use Rattle.make_index.specs.Files.{AreFiles}
 use Rattle.make_info.specs.Reads.{Reads}

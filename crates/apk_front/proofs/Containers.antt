@@ -16,7 +16,7 @@ use Rattle.make_package.specs.Answers.{IsMadeBySome, IsMadeIn, OnRefusal}
 use Rattle.make_package.specs.Making.{made_package}
 use Rattle.make_info.specs.Output.{output_name}
 use Rattle.make_index.specs.Files.{AreFiles, reads_of}
-use Rattle.make_package.specs.Sources.{AreNamesFor, values_with}
+use Rattle.package_files.specs.Sources.{AreNamesFor, values_with}
 use Rattle.make_info.specs.declared.fault.MakeFault.{MakeFault}
 use Rattle.command_core.specs.declared.values.TheConstants.{FILES}
 use Rattle.outcome.specs.Commands.{reads_in}

@@ -12,7 +12,7 @@ use Rattle.make_info.specs.Reads.{Reads}
 use Rattle.make_info.specs.declared.fault.MakeFault.{MakeFault}
 use Rattle.make_package.specs.Answers.{AreBelow, IsMadeIn}
 use Rattle.make_package.specs.Making.{made_package, or_info_bad, package_of_parts}
-use Rattle.make_package.specs.Sources.{on_success, folders_below, values_with, scripts_from}
+use Rattle.package_files.specs.Sources.{on_success, folders_below, values_with, scripts_from}
 use Rattle.outcome.specs.Commands.{reads_in}
 use Rattle.outcome.specs.Make.{IsListing, files_below}
 use Rattle.apk_front.specs.Containers.{IsPackageMade}

@@ -17,7 +17,7 @@ use Rattle.command_core.specs.declared.command.Applet.TheVariants.{Info}
 use Rattle.engine_core.specs.InfoTold.{info_told}
 use Rattle.installed_info.specs.declared.telling.InfoDone.{InfoDone}
 use Rattle.make_info.specs.Reads.{Reads}
-use Rattle.make_package.specs.Runs.{Explains}
+use Rattle.package_files.specs.Runs.{Explains}
 use Rattle.report_core.specs.declared.refusal.Refusal.{Refusal}
 use Rattle.outcome.proofs.Applets.{info_is, told_commits, told_files}
 use Rattle.outcome.specs.Commands.{IsFoundOver, reads_in}

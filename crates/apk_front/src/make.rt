@@ -16,7 +16,7 @@ ghost use Rattle.command_core.specs.declared.values.TheConstants.{FILES};
 ghost use Rattle.make_index.specs.Files.{AreFiles};
 ghost use Rattle.make_info.specs.Output.{output_name};
 ghost use Rattle.make_info.specs.Reads.{Reads};
-ghost use Rattle.make_package.specs.Sources.{AreNamesFor, values_with};
+ghost use Rattle.package_files.specs.Sources.{AreNamesFor, values_with};
 ghost use Rattle.outcome.specs.Effect.{Makes};
 ghost use Rattle.outcome.specs.Make.{index_line, make_outcome, mkndx, mkpkg, unless_reserved};
 ghost use Rattle.outcome.specs.Outcome.{Outcome, just_refusal};
@@ -28,7 +28,8 @@ use base_core::{
     Text, Tree, TreeFault, counts_of_calls_in_a_row_join, files_have_one_list_of_names,
 };
 use command_core::Command;
-use journal_core::{an_image_has_the_state_of_its_map, replace};
+use file_replacement::replace;
+use journal_core::an_image_has_the_state_of_its_map;
 use make_core::{
     MakeFault, a_package_with_information_has_an_output, an_index_has_an_output,
     an_output_is_short, output_name,

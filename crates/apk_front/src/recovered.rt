@@ -20,9 +20,10 @@ use crate::make::{mkndx, mkpkg};
 use base_core::{Tree, TreeFault, counts_of_calls_in_a_row_join};
 use command_core::{Applet, Command};
 use journal_core::{
-    RecoverFault, moments_on_the_way_join, quiet_then_old_or_new_is_old_or_new, recover,
-    settled_then_quiet_is_settled, still_moments_join,
+    moments_on_the_way_join, quiet_then_old_or_new_is_old_or_new, settled_then_quiet_is_settled,
+    still_moments_join,
 };
+use journal_recovery::{RecoverFault, recover};
 use report_core::Refusal;
 use std::alloc::Global;
 

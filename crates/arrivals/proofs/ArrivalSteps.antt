@@ -12,7 +12,7 @@ use Rattle.change_inputs.specs.declared.root.Refused.TheVariants.{Disk, Memory, 
 use Rattle.change_outcome.specs.MembersAfter.{MemberFound}
 use Rattle.dep_core.specs.Repositories.{Repository}
 use Rattle.make_info.specs.Reads.{Reads}
-use Rattle.make_package.specs.Runs.{AreObserved}
+use Rattle.package_files.specs.Runs.{AreObserved}
 use Rattle.package_changes.specs.Placed.{PlacedName}
 use Rattle.package_changes.proofs.Lists.{left_at}
 use Rattle.pool_core.specs.Rank.{SealedPool}

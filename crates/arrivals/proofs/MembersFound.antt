@@ -14,7 +14,7 @@ use Rattle.db_core.specs.Packages.{is_package_named}
 use Rattle.db_core.specs.declared.members.TheConstants.{MOST_MEMBERS}
 use Rattle.dep_core.specs.Repositories.{Repository}
 use Rattle.make_info.specs.Reads.{Reads}
-use Rattle.make_package.specs.Runs.{Explains}
+use Rattle.package_files.specs.Runs.{Explains}
 use Rattle.package_changes.specs.Changes.{change_of_name, is_selected_named, names_on_both_sides}
 use Rattle.package_changes.specs.Placed.{PlacedName, PlacedReplacement, candidates_at, new_candidate, old_package, placed_name_of, placed_names_of, replacement_of}
 use Rattle.pool_core.specs.Rank.{SealedPool}

@@ -8,7 +8,7 @@ ghost use Rattle.change_inputs.specs.Answers.{Agrees};
 ghost use Rattle.change_outcome.specs.MembersAfter.{members_after, name_that_goes, MemberFound, members_found};
 ghost use Rattle.db_core.specs.Seen.{packages_of, members_of};
 ghost use Rattle.db_core.specs.declared.members.TheConstants.{MOST_MEMBERS};
-ghost use Rattle.make_package.specs.Runs.{Explains};
+ghost use Rattle.package_files.specs.Runs.{Explains};
 ghost use Rattle.package_changes.specs.Placed.{old_package, placed_names_of, replacement_of};
 ghost use Rattle.package_changes.specs.Seen.{change_seen, placed_name_seen, placed_names_seen, replacement_by};
 ghost use Rattle.std.specs.Prelude.{◌≡◌, ◌≤◌, ◌==◌, ◌++◌, ℕ, List, None, length, IfOk, OnOk, option_copied, option_and_then, option_to_list, slice_get, ◌<◌, true, Some, ◌+◌, Bool, is_some};

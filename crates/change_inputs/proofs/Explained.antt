@@ -6,8 +6,8 @@ use Rattle.base_core.specs.Tree.{TreeState, files_of}
 use Rattle.command_core.specs.Command.{CommandLine}
 use Rattle.dep_core.specs.Repositories.{Repository}
 use Rattle.make_info.specs.Reads.{Reads}
-use Rattle.make_package.proofs.ReadLemmas.{explained}
-use Rattle.make_package.specs.Runs.{Explains}
+use Rattle.package_files.proofs.ReadLemmas.{explained}
+use Rattle.package_files.specs.Runs.{Explains}
 use Rattle.report_core.specs.declared.refusal.Refusal as Refusals
 use Rattle.root_names.specs.RootNames.{database_name, repositories_name, text_database_name, world_name}
 use Rattle.adb_view.specs.Plain.{Plain}

@@ -4,7 +4,7 @@ ghost use Rattle.change_inputs.specs.Answers.{AgreesUnlessDisk};
 ghost use Rattle.change_inputs.specs.Inputs.{database_for};
 ghost use Rattle.change_inputs.specs.Seen.{installed_seen};
 ghost use Rattle.db_core.specs.Seen.{packages_of};
-ghost use Rattle.make_package.specs.Runs.{Explains};
+ghost use Rattle.package_files.specs.Runs.{Explains};
 ghost use Rattle.std.specs.Prelude.{◌≡◌, IfOk};
 
 use crate::database::DatabaseFile;

@@ -5,7 +5,7 @@ ghost use Rattle.change_inputs.specs.Candidates.{candidates_from, candidates_of,
 ghost use Rattle.change_inputs.specs.Inputs.{inputs_of};
 ghost use Rattle.change_inputs.specs.RootFiles.{StandInRoot};
 ghost use Rattle.db_core.specs.Seen.{packages_of};
-ghost use Rattle.make_package.specs.Runs.{Explains};
+ghost use Rattle.package_files.specs.Runs.{Explains};
 ghost use Rattle.pool_core.specs.declared.pool.TheConstants.{MOST_CANDIDATES};
 ghost use Rattle.pool_core.specs.Values.{IsPoolFault, names_upgraded_by};
 ghost use Rattle.std.specs.Option.{option_copied};

@@ -5,7 +5,7 @@ use Rattle.change_files.specs.PlanLists.{names_in_order}
 use Rattle.db_core.specs.Members.{Member, staying_member}
 use Rattle.change_outcome.specs.ConfigurationLines.{configuration_lines}
 use Rattle.change_outcome.specs.PackageFiles.{package_path}
-use Rattle.make_package.specs.Folders.{folder_of}
+use Rattle.package_files.specs.Folders.{folder_of}
 use Rattle.change_outcome.specs.Triggers.{is_folder_matched, trigger_lines}
 
 beside_the_index : package_path (codes "repo/index.adb") (codes "hello") (codes "1.0-r0") ≡ codes "repo/hello-1.0-r0.apk"

@@ -9,7 +9,7 @@ use Rattle.adb_view.specs.Plain.{Plain}
 use Rattle.change_files.specs.PlanLists.{names_in_order}
 use Rattle.db_core.specs.Members.{Member, member_name}
 use Rattle.dep_core.specs.LeadingSlash.{without_slash}
-use Rattle.make_package.specs.Folders.{folder_of}
+use Rattle.package_files.specs.Folders.{folder_of}
 use Rattle.report_core.specs.Reports.{report_line, trigger_text}
 use Rattle.report_core.specs.declared.refusal.Refusal.{Refusal}
 use Rattle.report_core.specs.declared.refusal.Refusal.TheVariants.{TriggerNeeded}

@@ -7,7 +7,7 @@ ghost use Rattle.db_core.specs.Seen.{members_of};
 ghost use Rattle.due_triggers.specs.Due.{trigger_needed, planned_paths};
 ghost use Rattle.report_core.specs.Reports.{folder_text, report_line, trigger_text};
 ghost use Rattle.std.specs.Prelude.{◌≡◌, ◌<◌, ◌++◌, ℕ, List, [], false, if◌then◌else◌, length, map, IfSome, OnOk, IfOk};
-ghost use Rattle.make_package.specs.Folders.{folder_of};
+ghost use Rattle.package_files.specs.Folders.{folder_of};
 ghost use Rattle.own_core.specs.WritesSeen.{writes_in};
 
 use crate::watched::{has_trigger_script, is_watched, name_of};
@@ -21,9 +21,9 @@ use report_core::Report;
 use std::alloc::{AllocError, Global};
 use std::marker::PhantomData;
 
-/// The place of the first package after a change whose trigger is due, counted from 0. `folders` are
-/// those of the files that the change writes and removes. A package without a trigger script costs a
-/// look at its scripts.
+/// The place of the first package after a change whose trigger is due, counted from 0. `folders`
+/// are those of the files that the change writes and removes. A package without a trigger script
+/// costs a look at its scripts.
 pub fn first_due(members: &Members<'_>, folders: &[&[u8]]) -> Option<usize>
     ensures needed { (paths : List (List ℕ)) → map (λ f. f.now) folders.now ≡ folders_of_paths paths
         → unless_trigger false paths (members_of members.now)

@@ -17,7 +17,7 @@ use Rattle.command_core.specs.Command.{CommandLine}
 use Rattle.journal_core.specs.Recovery.{intent_name}
 use Rattle.journal_core.specs.Staged.{HasRoomToStage, IsEmptyStage}
 use Rattle.make_info.specs.Reads.{Reads}
-use Rattle.make_package.specs.Runs.{AreObserved}
+use Rattle.package_files.specs.Runs.{AreObserved}
 use Rattle.path_clashes.specs.Clash.{NamePair}
 use Rattle.package_changes.specs.Changes.{Replacement}
 use Rattle.pool_core.specs.Candidates.{Candidate}

@@ -13,7 +13,7 @@ use Rattle.change_inputs.specs.declared.root.Refused.{Refused}
 use Rattle.command_core.specs.Command.{CommandLine}
 use Rattle.installed_info.specs.Info.{info_of}
 use Rattle.installed_info.specs.declared.telling.InfoDone.{InfoDone}
-use Rattle.make_package.specs.Runs.{Explains}
+use Rattle.package_files.specs.Runs.{Explains}
 use Rattle.report_core.specs.declared.refusal.Refusal.{Refusal}
 use Rattle.engine_core.specs.InfoTold.{info_told}
 

@@ -21,7 +21,7 @@ use Rattle.db_core.specs.Seen.{packages_of}
 use Rattle.db_core.specs.declared.members.TheConstants.{MOST_MEMBERS}
 use Rattle.dep_core.specs.Repositories.{Repository}
 use Rattle.make_info.specs.Reads.{Reads}
-use Rattle.make_package.specs.Runs.{AreObserved, Explains}
+use Rattle.package_files.specs.Runs.{AreObserved, Explains}
 use Rattle.package_changes.specs.Changes.{Replacement}
 use Rattle.package_changes.specs.Placed.{candidates_at, placed_names_of, replacement_of}
 use Rattle.package_changes.specs.Seen.{placed_names_seen, replacement_by}

@@ -18,7 +18,7 @@ use Rattle.change_outcome.specs.MembersAfter.{MemberFound, members_after}
 use Rattle.command_core.specs.Command.{CommandLine}
 use Rattle.dep_core.specs.Repositories.{Repository}
 use Rattle.make_info.specs.Reads.{Reads}
-use Rattle.make_package.specs.Runs.{AreObserved, Explains}
+use Rattle.package_files.specs.Runs.{AreObserved, Explains}
 use Rattle.package_changes.specs.Changes.{Replacement}
 use Rattle.path_clashes.specs.Clash.{NamePair}
 use Rattle.pool_core.specs.Candidates.{Candidate}

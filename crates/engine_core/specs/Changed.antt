@@ -8,7 +8,7 @@ use Rattle.change_outcome.specs.ChangeOutcome.{ChangeDone, ChangeWishes, IsClash
 use Rattle.command_core.specs.Command.{CommandLine}
 use Rattle.make_info.specs.Reads.{Reads}
 use Rattle.package_changes.specs.Changes.{Replacement}
-use Rattle.package_changes.specs.Report.{simulated_report}
+use Rattle.report_changes.specs.Report.{simulated_report}
 use Rattle.path_clashes.specs.Clash.{NamePair}
 use Rattle.pool_core.specs.Rank.{SealedPool}
 use Rattle.report_core.specs.declared.refusal.Refusal.{Refusal}

@@ -4,7 +4,7 @@ ghost use Rattle.change_inputs.specs.Answers.{Agrees, AgreesUnlessDisk};
 ghost use Rattle.change_inputs.specs.Seen.{installed_seen};
 ghost use Rattle.engine_core.specs.InfoTold.{info_told};
 ghost use Rattle.installed_info.specs.Info.{info_of};
-ghost use Rattle.make_package.specs.Runs.{Explains};
+ghost use Rattle.package_files.specs.Runs.{Explains};
 
 use base_core::Tree;
 use change_inputs::{Installed, Refused};
@@ -12,8 +12,8 @@ use command_core::Command;
 use installed_info::{InfoDone, tell};
 use std::alloc::Global;
 
-/// Tells of the packages that are installed, as `info` asks for it. Only the database of the root is
-/// read, and the tree stays as it is, whatever the answer.
+/// Tells of the packages that are installed, as `info` asks for it. Only the database of the root
+/// is read, and the tree stays as it is, whatever the answer.
 ///
 /// # Errors
 ///

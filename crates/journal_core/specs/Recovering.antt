@@ -7,8 +7,8 @@ use Rattle.adb_schema.specs.declared.read.ReadFault.TheVariants.{Bad, Memory as 
 use Rattle.base_core.specs.Tree.{TreeState, files_of}
 use Rattle.base_core.specs.declared.tree.TreeFault.{TreeFault}
 use Rattle.base_core.specs.declared.tree.TreeFault.TheVariants.{Disk as TreeFailed, Memory as NoMemory}
-use Rattle.journal_core.specs.declared.recovering.RecoverFault.{RecoverFault}
-use Rattle.journal_core.specs.declared.recovering.RecoverFault.TheVariants.{Disk, IntentBad, Memory}
+use Rattle.journal_core.specs.declared.fault.RecoverFault.{RecoverFault}
+use Rattle.journal_core.specs.declared.fault.RecoverFault.TheVariants.{Disk, IntentBad, Memory}
 use Rattle.journal_core.specs.Recovery.{recovered_files, intent_name, is_staged}
 
 -- a recovery's fault for that of a reading

@@ -6,7 +6,7 @@ ghost use Rattle.base_core.specs.Tree.{after_append, after_create, after_failed_
 use base_core::{Disk, Name, Tree};
 
 /// Takes the name away; an absent one is no fault.
-pub(crate) fn remove<T: Tree>(tree: &mut T, name: &Name) -> Result<(), Disk>
+pub fn remove<T: Tree>(tree: &mut T, name: &Name) -> Result<(), Disk>
     ensures moves { Moves Anywhere (after_remove name.now) (after_remove name.now)
         (T.history tree.old) (T.history tree.new) result }
     ensures counts { IsCounted Anywhere (T.history tree.old) (T.counts tree.old)
@@ -16,7 +16,7 @@ pub(crate) fn remove<T: Tree>(tree: &mut T, name: &Name) -> Result<(), Disk>
 }
 
 /// Makes an empty file.
-pub(crate) fn create<T: Tree>(tree: &mut T, name: &Name) -> Result<(), Disk>
+pub fn create<T: Tree>(tree: &mut T, name: &Name) -> Result<(), Disk>
     ensures moves { Moves (CanCreate name.now) (after_create name.now) (after_create name.now)
         (T.history tree.old) (T.history tree.new) result }
     ensures counts { IsCounted (CanCreate name.now) (T.history tree.old) (T.counts tree.old)
@@ -26,7 +26,7 @@ pub(crate) fn create<T: Tree>(tree: &mut T, name: &Name) -> Result<(), Disk>
 }
 
 /// Adds the bytes at the file's end.
-pub(crate) fn append<T: Tree>(tree: &mut T, name: &Name, bytes: &[u8]) -> Result<(), Disk>
+pub fn append<T: Tree>(tree: &mut T, name: &Name, bytes: &[u8]) -> Result<(), Disk>
     ensures moves { Moves (HasName name.now) (after_append name.now bytes.now)
         (after_failed_append name.now)
         (T.history tree.old) (T.history tree.new) result }
@@ -37,7 +37,7 @@ pub(crate) fn append<T: Tree>(tree: &mut T, name: &Name, bytes: &[u8]) -> Result
 }
 
 /// Makes the file's bytes last.
-pub(crate) fn sync_file<T: Tree>(tree: &mut T, name: &Name) -> Result<(), Disk>
+pub fn sync_file<T: Tree>(tree: &mut T, name: &Name) -> Result<(), Disk>
     ensures moves { Moves (HasName name.now) (after_sync name.now) same_state
         (T.history tree.old) (T.history tree.new) result }
     ensures counts { IsCounted (HasName name.now) (T.history tree.old)
@@ -47,7 +47,7 @@ pub(crate) fn sync_file<T: Tree>(tree: &mut T, name: &Name) -> Result<(), Disk>
 }
 
 /// Moves the file of `from` to `to`.
-pub(crate) fn rename<T: Tree>(tree: &mut T, from: &Name, to: &Name) -> Result<(), Disk>
+pub fn rename<T: Tree>(tree: &mut T, from: &Name, to: &Name) -> Result<(), Disk>
     ensures moves { Moves (CanRename from.now to.now) (after_rename from.now to.now)
         (after_rename from.now to.now) (T.history tree.old) (T.history tree.new) result }
     ensures counts { IsCounted (CanRename from.now to.now) (T.history tree.old)
@@ -57,7 +57,7 @@ pub(crate) fn rename<T: Tree>(tree: &mut T, from: &Name, to: &Name) -> Result<()
 }
 
 /// Makes the names last.
-pub(crate) fn sync_all_names<T: Tree>(tree: &mut T) -> Result<(), Disk>
+pub fn sync_all_names<T: Tree>(tree: &mut T) -> Result<(), Disk>
     ensures moves { Moves Anywhere after_sync_names same_state (T.history tree.old)
         (T.history tree.new) result }
     ensures counts { IsCounted Anywhere (T.history tree.old) (T.counts tree.old)

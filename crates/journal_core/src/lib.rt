@@ -1,5 +1,5 @@
-//! Changes of a tree that a crash cannot cut in two: a whole file replaced, and several files
-//! changed by a stage; and the recovery of a root, which finishes what an earlier run left.
+//! Changes of a tree that a crash cannot cut in two: several files changed by a stage; and what the
+//! files stand for, which `journal_recovery` and `file_replacement` build on.
 //!
 //! The contracts cite `Recovery` (the state that files stand for, and what a crash leaves of it),
 //! `Replacing` and `Reading` (a whole file in the place of another), `Staged` (a stage, its
@@ -8,13 +8,13 @@
 #![tactic(auto)]
 
 mod acting;
-mod calls;
+pub mod calls;
+mod fault;
 mod laws;
 mod publishing;
-mod recovering;
-mod replacing;
 mod stage;
 
+pub use fault::RecoverFault;
 pub use journal_intent::{
     an_intent_is_read_from_a_sound_container, each_waiting_file_has_its_own_name,
 };
@@ -28,6 +28,4 @@ pub use laws::{
     the_actions_touch_the_names_of_their_intent, the_files_as_read_have_the_settled_state,
     what_is_not_synced_is_not_safe,
 };
-pub use recovering::{RecoverFault, apply_all, recover};
-pub use replacing::replace;
-pub use stage::Stage;
+pub use stage::{Stage, apply_all};

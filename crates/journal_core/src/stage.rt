@@ -21,9 +21,9 @@ ghost use Rattle.journal_intent.specs.IntentValue.{intent_of_lists, value_of_int
 
 use crate::acting::act;
 use crate::calls::{append, create, remove, sync_all_names, sync_file};
+use crate::fault::RecoverFault;
 use crate::laws::Journal;
 use crate::publishing::publish_intent;
-use crate::recovering::RecoverFault;
 use adb_write::WriteFault;
 use base_core::{
     Disk, Name, Names, Tree, a_crash_may_leave_the_files_as_read, order_outlasts_a_crash,
@@ -97,7 +97,7 @@ impl Stage {
     }
 
     /// The stage whose intent was found in a file, and is published.
-    pub(crate) fn found(alloc: Global, file: Vec<u8>) -> Result<Stage, RecoverFault>
+    pub fn found(alloc: Global, file: Vec<u8>) -> Result<Stage, RecoverFault>
         ensures intent { IfOk result (λ stage. read_intent file.items ≡ Some stage.intent) }
         ensures published { IfOk result (λ stage. stage.published ≡ true) }
         ensures none { IfOk result (λ stage. stage.acted ≡ 0) }
@@ -418,4 +418,37 @@ impl Stage {
         remove(tree, self.intent.name())?;
         sync_all_names(tree)
     }
+}
+
+/// Does all actions that are left.
+pub fn apply_all<T: Tree>(stage: &mut Stage, tree: &mut T) -> Result<(), Disk>
+    requires published { stage.old.published ≡ true }
+    requires within { stage.old.acted ≤ action_count stage.old.intent }
+    ensures moments { IfObservable (T.history tree.old) (λ v. (ignored : List ℕ
+        → Bool) (files : Files) → IsOrderly (RestsOn ignored) v → IsActing stage.old files v
+        → Since (IsStill ignored v) (T.history tree.old) (T.history tree.new)) }
+    ensures acting { IfObservable (T.history tree.old) (λ v. (files : Files)
+        → IsActing stage.old files v
+        → OnOk result (HasNow (T.history tree.new) (IsActing stage.new files))) }
+    ensures reads { IfObservable (T.history tree.old) (λ v. (files : Files)
+        → IsActing stage.old files v
+        → Since (RecoversTo files) (T.history tree.old) (T.history tree.new)) }
+    ensures bytes { IfObservable (T.history tree.old) (λ v. (files : Files)
+        → IsActing stage.old files v
+        → KeepsOldOrNewBytes files v (T.history tree.old) (T.history tree.new)) }
+    ensures waiting { IfObservable (T.history tree.old) (λ v.
+        Since (KeepsIntent v) (T.history tree.old) (T.history tree.new)) }
+    ensures all { OnOk result (stage.new.acted ≡ action_count stage.new.intent) }
+    ensures published { OnOk result (stage.new.published ≡ true) }
+    ensures goes_on { GoesOn (T.counts tree.old) (T.counts tree.new) }
+    ensures cause { OnErr result (HasCause (T.counts tree.old) (T.counts tree.new)) }
+    ensures kept { OnOk result (IsNoFault (T.counts tree.old) (T.counts tree.new)) }
+    ensures proper { IfObservable (T.history tree.old) (λ v. (files : Files)
+        → IsActing stage.old files v → HasRoomBeside files
+        → (T.counts tree.new).misuses ≡ (T.counts tree.old).misuses) }
+{
+    while stage.has_more() {
+        stage.apply_one(tree)?;
+    }
+    Ok(())
 }

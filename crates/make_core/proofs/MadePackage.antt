@@ -11,7 +11,7 @@ use Rattle.make_info.specs.declared.fault.MakeFault.{MakeFault}
 use Rattle.make_info.specs.declared.fault.MakeFault.TheVariants.{FileMissing, FileBad, InfoBad, TooLarge, Disk, Memory}
 use Rattle.make_package.specs.Answers.{IsMadeBySome, IsMadeIn, IsMadeOf, IsMadeRun, OnRefusal}
 use Rattle.make_package.specs.Making.{made_package}
-use Rattle.make_package.specs.Sources.{AreNamesFor, values_with}
+use Rattle.package_files.specs.Sources.{AreNamesFor, values_with}
 
 made_in : (told : List TreeState) (command : CommandLine) (made : Result (List ℕ) MakeFault) → IsMadeOf told command made → IfObservable told (λ v. IsMadeIn command v made)
 made_in [] command made m = tt

@@ -13,10 +13,10 @@ use Rattle.make_info.specs.Information.{InfoItem, information}
 use Rattle.make_info.specs.Reads.{Reads}
 use Rattle.make_info.specs.declared.fault.MakeFault.{MakeFault}
 use Rattle.make_info.specs.declared.fault.MakeFault.TheVariants.{FileMissing}
-use Rattle.make_package.specs.Folders.{FolderListing, folder_names, folders_of, last_part_of, listing_of, names_in_folder, path_below}
+use Rattle.package_files.specs.Folders.{FolderListing, folder_names, folders_of, last_part_of, listing_of, names_in_folder, path_below}
 use Rattle.make_package.specs.Making.{container_unless, made_package, or_info_bad, package_container, package_of_parts}
-use Rattle.make_package.specs.Package.{Script, Source, SourceFolder}
-use Rattle.make_package.specs.Sources.{each_from, file_at, folder_at, folders_below, found_at, on_success, script_at, scripts_from, source_folders_from, sources_from, values_with}
+use Rattle.package_files.specs.Package.{Script, Source, SourceFolder}
+use Rattle.package_files.specs.Sources.{each_from, file_at, folder_at, folders_below, found_at, on_success, script_at, scripts_from, source_folders_from, sources_from, values_with}
 use Rattle.pkg_core.specs.Contents.{Contents}
 use Rattle.make_core.specs.Missing.{IsAbsent, IsMissingFile, IsMissingScript}
 use Rattle.make_core.proofs.ListedNames.{filter_in, stands_in}

@@ -16,10 +16,10 @@ use Rattle.adb_tables.specs.Values.{entries_in, entry_in, int_in, text_in}
 use Rattle.adb_tables.specs.declared.tables.Which.TheVariants.{Acl, File, Dir, Scripts, PkgInfo, Package}
 use Rattle.adb_tables.specs.declared.tables.Kind.TheVariants.{Obj}
 use Rattle.command_core.specs.Values.{script_types}
-use Rattle.make_package.specs.Package.{Source, SourceFolder, Script, access_value, kind_of_file, value_of_kind, value_of_file, value_of_folder, hash_of_kind, is_link_file, link_text, value_of_package, script_in, value_of_scripts, size_of_kind, target_of_kind}
+use Rattle.package_files.specs.Package.{Source, SourceFolder, Script, access_value, kind_of_file, value_of_kind, value_of_file, value_of_folder, hash_of_kind, is_link_file, link_text, value_of_package, script_in, value_of_scripts, size_of_kind, target_of_kind}
 use Rattle.make_info.specs.Values.{number_value, plains_of_list, size_value}
-use Rattle.make_package.specs.declared.file.FileKind.{FileKind}
-use Rattle.make_package.specs.declared.file.FileKind.TheVariants.{Link, Regular}
+use Rattle.package_files.specs.declared.file.FileKind.{FileKind}
+use Rattle.package_files.specs.declared.file.FileKind.TheVariants.{Link, Regular}
 use Rattle.adb_tables.proofs.ValueEntries.{entries_arr, nth_obj, text_blob}
 use Rattle.make_core.proofs.GoodValues.{IsGood, arr_good, hash_good, null_array, null_number, number_good, obj_good, text_good}
 use Rattle.make_core.proofs.Zeros.{inside_same}

@@ -18,8 +18,8 @@ use Rattle.make_info.specs.Information.{InfoItem, information_value, information
 use Rattle.adb_sound.specs.Contents.{contents_size}
 use Rattle.adb_sound.specs.Container.{container_of, package_by}
 use Rattle.make_package.specs.Making.{container_unless, made_package, or_info_bad, package_container, package_of_parts}
-use Rattle.make_package.specs.Package.{Script, SourceFolder, contents_of_folders, installed_size, value_of_package}
-use Rattle.make_package.specs.Sources.{AreNamesFor, on_success, folders_below, values_with, scripts_from, texts_of}
+use Rattle.package_files.specs.Package.{Script, SourceFolder, contents_of_folders, installed_size, value_of_package}
+use Rattle.package_files.specs.Sources.{AreNamesFor, on_success, folders_below, values_with, scripts_from, texts_of}
 use Rattle.adb_sound.specs.Root.{IsRootOf}
 use Rattle.make_info.specs.Reads.{Reads}
 use Rattle.make_core.proofs.Apart.{Tells, package_once, rises_from_pairs}

@@ -5,8 +5,8 @@ use Rattle.base_core.specs.Files.{Files}
 use Rattle.adb_view.specs.Plain.{Plain}
 use Rattle.adb_fields.specs.Paths.{path_of}
 use Rattle.adb_fields.specs.Repeated.{files_in, folders_in, name_of, paths_in}
-use Rattle.make_package.specs.Folders.{path_below}
-use Rattle.make_package.specs.Package.{value_of_file}
+use Rattle.package_files.specs.Folders.{path_below}
+use Rattle.package_files.specs.Package.{value_of_file}
 
 -- the name in the tree of a path below a folder: behind a slash (47)
 abbrev pub name_below : List ℕ → List ℕ → List ℕ

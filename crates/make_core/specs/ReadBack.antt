@@ -12,8 +12,8 @@ use Rattle.make_info.specs.Information.{InfoItem, information, information_value
 use Rattle.make_info.specs.Reads.{Reads}
 use Rattle.make_info.specs.declared.fault.MakeFault.{MakeFault}
 use Rattle.make_package.specs.Making.{or_info_bad}
-use Rattle.make_package.specs.Package.{Script, SourceFolder, contents_of_folders, installed_size, value_of_package}
-use Rattle.make_package.specs.Sources.{folders_below, on_success, scripts_from, texts_of, values_with}
+use Rattle.package_files.specs.Package.{Script, SourceFolder, contents_of_folders, installed_size, value_of_package}
+use Rattle.package_files.specs.Sources.{folders_below, on_success, scripts_from, texts_of, values_with}
 use Rattle.pkg_core.specs.Whole.{Packed}
 
 -- by what was read of each part, in the order in which they are read

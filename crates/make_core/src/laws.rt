@@ -7,7 +7,7 @@ ghost use Rattle.make_index.specs.Files.{AreFiles};
 ghost use Rattle.make_index.specs.Index.{made_index};
 ghost use Rattle.make_info.specs.Reads.{Reads};
 ghost use Rattle.make_package.specs.Making.{made_package};
-ghost use Rattle.make_package.specs.Sources.{AreNamesFor, values_with};
+ghost use Rattle.package_files.specs.Sources.{AreNamesFor, values_with};
 ghost use Rattle.make_core.specs.ReadBack.{index_value_by, packed_package};
 ghost use Rattle.pkg_core.specs.Whole.{container_fault, package_with_contents};
 ghost use Rattle.std.specs.Prelude.{◌≡◌, ◌<◌, ◌^◌, ◌∷◌, ◌⊎◌, ℕ, List, length, None, Ok, Err};

@@ -10,9 +10,9 @@ use Rattle.adb_tables.specs.declared.tables.Which.TheVariants.{File}
 use Rattle.adb_tables.proofs.ValueEntries.{nth_obj}
 use Rattle.adb_view.specs.Plain.{blob_value, null}
 use Rattle.make_info.specs.Values.{size_value}
-use Rattle.make_package.specs.Package.{file_fields, hash_of_kind, is_link_file, kind_of_file, link_text, size_of_kind, target_of_kind, value_of_file}
-use Rattle.make_package.specs.declared.file.FileKind.{FileKind}
-use Rattle.make_package.specs.declared.file.FileKind.TheVariants.{Link, Regular}
+use Rattle.package_files.specs.Package.{file_fields, hash_of_kind, is_link_file, kind_of_file, link_text, size_of_kind, target_of_kind, value_of_file}
+use Rattle.package_files.specs.declared.file.FileKind.{FileKind}
+use Rattle.package_files.specs.declared.file.FileKind.TheVariants.{Link, Regular}
 use Rattle.make_core.proofs.NameParts.{both_true}
 use Rattle.make_core.proofs.PackageFiles.{int-size_value}
 use Rattle.make_laws.specs.NamedFields.{field_named}

@@ -12,9 +12,9 @@ use Rattle.command_core.specs.Command.{CommandLine}
 use Rattle.command_core.specs.Files.{without_dot}
 use Rattle.command_core.specs.declared.values.OptionValue.{OptionValue}
 use Rattle.make_info.specs.Reads.{Reads}
-use Rattle.make_package.specs.Folders.{before_slashes, folder_names, folders_of, folders_over, is_slash, listing_of, path_below}
-use Rattle.make_package.specs.Package.{SourceFolder}
-use Rattle.make_package.specs.Sources.{AreNamesFor, folders_below, values_with}
+use Rattle.package_files.specs.Folders.{before_slashes, folder_names, folders_of, folders_over, is_slash, listing_of, path_below}
+use Rattle.package_files.specs.Package.{SourceFolder}
+use Rattle.package_files.specs.Sources.{AreNamesFor, folders_below, values_with}
 use Rattle.make_core.specs.FilesBelow.{name_below}
 use Rattle.make_core.proofs.ListedNames.{AreListed, below_is, listed_in}
 use Rattle.make_core.proofs.SoundPackage.{are_listed}

@@ -11,8 +11,8 @@ use Rattle.make_info.specs.Information.{InfoItem, information_value, information
 use Rattle.make_info.specs.Reads.{Reads}
 use Rattle.make_info.specs.Values.{number_value, plains_of_list}
 use Rattle.make_package.specs.Making.{made_package, or_info_bad}
-use Rattle.make_package.specs.Package.{Script, SourceFolder, contents_of_folders, installed_size, package_fields, value_of_folder, value_of_package, value_of_scripts}
-use Rattle.make_package.specs.Sources.{AreNamesFor, folders_below, on_success, scripts_from, texts_of, values_with}
+use Rattle.package_files.specs.Package.{Script, SourceFolder, contents_of_folders, installed_size, package_fields, value_of_folder, value_of_package, value_of_scripts}
+use Rattle.package_files.specs.Sources.{AreNamesFor, folders_below, on_success, scripts_from, texts_of, values_with}
 use Rattle.make_core.specs.ReadBack.{packed_of_parts, packed_package}
 use Rattle.make_core.proofs.ListedNames.{after_ok}
 use Rattle.make_core.proofs.PackageFiles.{folders_stand, list-plains}

@@ -19,9 +19,9 @@ use Rattle.command_core.specs.Command.{CommandLine}
 use Rattle.command_core.specs.Files.{without_dot}
 use Rattle.command_core.specs.declared.values.OptionValue.{OptionValue}
 use Rattle.make_info.specs.Reads.{Reads}
-use Rattle.make_package.specs.Folders.{FolderListing, folder_names, folders_of, folders_over, last_part_of, listing_of, names_in_folder, path_below}
-use Rattle.make_package.specs.Package.{Source, SourceFolder, kind_of_file, value_of_file, value_of_folder}
-use Rattle.make_package.specs.Sources.{AreNamesFor, file_at, folder_at, folders_below, found_at, source_folders_from, sources_from, values_with}
+use Rattle.package_files.specs.Folders.{FolderListing, folder_names, folders_of, folders_over, last_part_of, listing_of, names_in_folder, path_below}
+use Rattle.package_files.specs.Package.{Source, SourceFolder, kind_of_file, value_of_file, value_of_folder}
+use Rattle.package_files.specs.Sources.{AreNamesFor, file_at, folder_at, folders_below, found_at, source_folders_from, sources_from, values_with}
 use Rattle.make_core.proofs.Apart.{Rises, cmp, in_order_rises, rises_from_pairs}
 use Rattle.make_core.proofs.ListedNames.{AllOf, AreListed, after_ok, each_read, filter_in, listed_in, recovered, stands_in}
 use Rattle.make_core.proofs.PackageFiles.{files_stand, folder_name_stands, name_stands}

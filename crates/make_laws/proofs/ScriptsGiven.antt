@@ -9,8 +9,8 @@ use Rattle.command_core.specs.Files.{without_dot}
 use Rattle.command_core.specs.Values.{script_file, script_type, script_types}
 use Rattle.command_core.specs.declared.values.OptionValue.{OptionValue}
 use Rattle.make_info.specs.Reads.{Reads}
-use Rattle.make_package.specs.Package.{Script, script_fields, script_in, value_of_scripts}
-use Rattle.make_package.specs.Sources.{found_at, script_at, script_with, scripts_from}
+use Rattle.package_files.specs.Package.{Script, script_fields, script_in, value_of_scripts}
+use Rattle.package_files.specs.Sources.{found_at, script_at, script_with, scripts_from}
 use Rattle.make_core.proofs.ListedNames.{AllOf, after_ok, each_read}
 use Rattle.make_laws.specs.NamedFields.{field_named}
 use Rattle.make_laws.specs.ScriptFiles.{IsNotGiven, IsScriptGiven}

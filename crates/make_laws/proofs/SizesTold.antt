@@ -10,7 +10,7 @@ use Rattle.adb_tables.specs.declared.tables.Which.TheVariants.{PkgInfo}
 use Rattle.adb_tables.proofs.ValueEntries.{nth_obj}
 use Rattle.adb_view.specs.Plain.{Plain}
 use Rattle.make_info.specs.Information.{InfoItem, information_fields, information_value}
-use Rattle.make_package.specs.Package.{Source, SourceFolder, installed_size, kind_of_file, size_of_folder, size_of_kind, value_of_file, value_of_folder}
+use Rattle.package_files.specs.Package.{Source, SourceFolder, installed_size, kind_of_file, size_of_folder, size_of_kind, value_of_file, value_of_folder}
 use Rattle.make_core.proofs.PackageFiles.{files_stand, int-size_value, size_stands}
 use Rattle.make_laws.specs.MadePackages.{size_told}
 use Rattle.make_laws.specs.NamedFields.{field_named}

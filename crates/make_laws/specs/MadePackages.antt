@@ -15,7 +15,7 @@ use Rattle.command_core.specs.declared.values.OptionValue.{OptionValue}
 use Rattle.make_core.specs.FilesBelow.{name_below}
 use Rattle.make_info.specs.Reads.{Reads}
 use Rattle.make_package.specs.Making.{made_package}
-use Rattle.make_package.specs.Sources.{AreNamesFor, values_with}
+use Rattle.package_files.specs.Sources.{AreNamesFor, values_with}
 use Rattle.make_laws.specs.NamedFields.{IsAccessOfRoot, entries_named, field_named}
 
 -- `mkpkg` makes these bytes, fewer than 2^64, of names below the folder that is given

@@ -8,7 +8,7 @@ ghost use Rattle.command_core.specs.declared.values.OptionValue.{OptionValue};
 ghost use Rattle.command_core.specs.declared.values.TheConstants.{FILES, SCRIPT};
 ghost use Rattle.make_info.specs.declared.field.Field.{Field};
 ghost use Rattle.make_info.specs.Reads.{Reads};
-ghost use Rattle.make_package.specs.Sources.{values_with};
+ghost use Rattle.package_files.specs.Sources.{values_with};
 ghost use Rattle.make_laws.specs.MadePackages.{HasFoldersOver, HasSizeOfFiles, HasTriggersInOrder, IsEnterableFolder, IsInByteOrder, IsMadePackage, contained_package};
 ghost use Rattle.make_laws.specs.SaidOfFields.{TellsOptions};
 ghost use Rattle.make_laws.specs.ScriptFiles.{IsScriptGiven, script_named};

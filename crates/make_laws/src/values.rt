@@ -19,7 +19,7 @@ ghost use Rattle.make_laws.specs.MadePackages.{contained_package};
 ghost use Rattle.make_laws.specs.NamedFields.{field_named};
 ghost use Rattle.make_laws.specs.OptionGrammar.{IsTakenOption, SaysOfField, option_text};
 ghost use Rattle.make_laws.specs.SourceBytes.{IsLinkTo, IsNoLink};
-ghost use Rattle.make_package.specs.Package.{value_of_file};
+ghost use Rattle.package_files.specs.Package.{value_of_file};
 ghost use Rattle.pkg_core.specs.Whole.{package_id};
 ghost use Rattle.sha2.specs.Sha256.{sha256};
 ghost use Rattle.std.specs.List.{list_any};

@@ -6,9 +6,9 @@ use Rattle.adb_tables.specs.declared.tables.Which.TheVariants.{File}
 use Rattle.adb_view.specs.Plain.{Plain, blob_value, null}
 use Rattle.make_info.specs.Named.{value_by_name}
 use Rattle.make_info.specs.Values.{size_value}
-use Rattle.make_package.specs.Package.{file_fields, hash_of_kind, is_link_file, kind_of_file, link_text, size_of_kind, target_of_kind}
-use Rattle.make_package.specs.declared.file.FileKind.{FileKind}
-use Rattle.make_package.specs.declared.file.FileKind.TheVariants.{Link, Regular}
+use Rattle.package_files.specs.Package.{file_fields, hash_of_kind, is_link_file, kind_of_file, link_text, size_of_kind, target_of_kind}
+use Rattle.package_files.specs.declared.file.FileKind.{FileKind}
+use Rattle.package_files.specs.declared.file.FileKind.TheVariants.{Link, Regular}
 
 -- whether what stands in the fields of a kind is this size, this hash and this target
 abbrev AreFields : List ℕ → FileKind → Plain → Plain → Plain → Type 0

@@ -1,14 +1,7 @@
 pub mod ContentSizes
 pub mod FileFields
-pub mod FolderLaws
-pub mod FolderLemmas
-pub mod FoldersThere
 pub mod MadeParts
 pub mod MadeRuns
-pub mod PackLemmas
 pub mod PackedWorked
-pub mod PlaceLemmas
-pub mod PlacedBlocks
-pub mod ReadLemmas
 pub mod ScriptLemmas
 pub mod WriteLemmas

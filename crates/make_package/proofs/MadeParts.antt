@@ -26,21 +26,21 @@ use Rattle.command_core.specs.Files.{is_file, without_dot}
 use Rattle.command_core.specs.declared.command.Applet.{Applet}
 use Rattle.command_core.specs.declared.command.Applet.TheVariants.{Mkpkg}
 use Rattle.command_core.specs.declared.values.OptionValue.{OptionValue}
-use Rattle.make_package.specs.Blocks.{contents_block, contents_blocks}
+use Rattle.package_files.specs.Blocks.{contents_block, contents_blocks}
 use Rattle.make_info.specs.Faults.{IsOverflow}
 use Rattle.make_info.specs.Information.{InfoItem, information_value, replaces_priority}
 use Rattle.adb_sound.specs.Contents.{contents_size}
 use Rattle.adb_sound.specs.Container.{contents_piece, container_of}
 use Rattle.make_package.specs.Answers.{IsBytes, IsFirstValue, IsNotDisk}
 use Rattle.make_package.specs.Making.{container_unless, package_container}
-use Rattle.make_package.specs.Package.{Script, Source, SourceFolder, contents_of_folders, value_of_file, value_of_folder, folder_with, installed_size, kind_of_file, value_of_kind, value_of_package, package_with, size_of_folder, size_of_kind}
-use Rattle.make_package.specs.Packed.{AreFilesFrom, AreFoldersFrom, ArePackedFolders, packed_file, packed_folder, files_size, packed_size}
-use Rattle.make_package.specs.Runs.{IsAnswer}
-use Rattle.make_package.specs.Sources.{values_with, texts_of}
+use Rattle.package_files.specs.Package.{Script, Source, SourceFolder, contents_of_folders, value_of_file, value_of_folder, folder_with, installed_size, kind_of_file, value_of_kind, value_of_package, package_with, size_of_folder, size_of_kind}
+use Rattle.package_files.specs.Packed.{AreFilesFrom, AreFoldersFrom, ArePackedFolders, packed_file, packed_folder, files_size, packed_size}
+use Rattle.package_files.specs.Runs.{IsAnswer}
+use Rattle.package_files.specs.Sources.{values_with, texts_of}
 use Rattle.make_info.specs.declared.fault.MakeFault.{MakeFault}
 use Rattle.make_info.specs.declared.fault.MakeFault.TheVariants.{FileMissing, FileBad, InfoBad, TooLarge, Disk, Memory}
-use Rattle.make_package.specs.declared.file.File.{File}
-use Rattle.make_package.specs.declared.file.Folder.{Folder}
+use Rattle.package_files.specs.declared.file.File.{File}
+use Rattle.package_files.specs.declared.file.Folder.{Folder}
 use Rattle.make_package.proofs.ContentSizes.{installed_total}
 
 -- what is left of a list where an element stands

@@ -13,25 +13,25 @@ use Rattle.command_core.specs.Command.{CommandLine}
 use Rattle.command_core.specs.Values.{script_file}
 use Rattle.command_core.specs.Files.{without_dot}
 use Rattle.command_core.specs.declared.values.OptionValue.{OptionValue}
-use Rattle.make_package.specs.Folders.{folders_of}
+use Rattle.package_files.specs.Folders.{folders_of}
 use Rattle.make_info.specs.Faults.{IsInfoFault}
 use Rattle.make_info.specs.Information.{InfoItem, information}
 use Rattle.make_package.specs.Answers.{IsBytes, IsCutOff, IsMadeRun, IsNotDisk, AreBelow}
 use Rattle.make_package.specs.Making.{made_package, or_info_bad, package_of_parts}
-use Rattle.make_package.specs.Package as packages
-use Rattle.make_package.specs.Package.{SourceFolder}
-use Rattle.make_package.specs.Packed.{IsPacking}
-use Rattle.make_package.specs.Runs.{Explains, IsAnswer}
+use Rattle.package_files.specs.Package as packages
+use Rattle.package_files.specs.Package.{SourceFolder}
+use Rattle.package_files.specs.Packed.{IsPacking}
+use Rattle.package_files.specs.Runs.{Explains, IsAnswer}
 use Rattle.make_package.specs.Scripts.{AreScripts, IsScript, script_view, scripts_view}
-use Rattle.make_package.specs.Sources.{AreNamesFor, on_success, each_from, folder_at, folders_below, source_folders_from, found_at, values_with, script_at, scripts_from}
+use Rattle.package_files.specs.Sources.{AreNamesFor, on_success, each_from, folder_at, folders_below, source_folders_from, found_at, values_with, script_at, scripts_from}
 use Rattle.make_info.specs.Reads.{Reads}
 use Rattle.make_info.specs.declared.fault.MakeFault.{MakeFault}
 use Rattle.make_info.specs.declared.fault.MakeFault.TheVariants.{FileMissing, FileBad, InfoBad, TooLarge, Disk, Memory}
-use Rattle.make_package.specs.declared.file.Packing.{Packing}
+use Rattle.package_files.specs.declared.file.Packing.{Packing}
 use Rattle.make_package.specs.declared.writing.Script.{Script}
 use Rattle.make_package.proofs.MadeParts.{IsFolder, given_here}
-use Rattle.make_package.proofs.PackLemmas.{folder_own, folders_none, reads_in}
-use Rattle.make_package.proofs.ReadLemmas.{IsNext, IsSoFar, RestsOnOwn, each_rests, explained, fault_of_part, joined, joined_from, joined_told, kept_reads, so_far_more, so_far_stops, total}
+use Rattle.package_files.proofs.PackLemmas.{folder_own, folders_none, reads_in}
+use Rattle.package_files.proofs.ReadLemmas.{IsNext, IsSoFar, RestsOnOwn, each_rests, explained, fault_of_part, joined, joined_from, joined_told, kept_reads, so_far_more, so_far_stops, total}
 use Rattle.make_package.proofs.ScriptLemmas.{next_of}
 use Rattle.make_package.proofs.WriteLemmas.{given_append, given_one}
 

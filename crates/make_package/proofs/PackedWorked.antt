@@ -1,7 +1,7 @@
 -- Packages worked by hand: their folders, values and files.
 use Rattle.std.proofs.Common.{◌≡◌, [], ◌∷◌, refl, codes}
 use Rattle.adb_view.specs.Plain.{Plain, none, more, blob_value, obj_value}
-use Rattle.make_package.specs.Folders.{folder_names, folder_of, last_part_of, folders_of}
+use Rattle.package_files.specs.Folders.{folder_names, folder_of, last_part_of, folders_of}
 
 a_path : folder_of (codes "usr/bin/hello") ≡ codes "usr/bin"
 a_path = refl

@@ -3,15 +3,15 @@ use Rattle.std.proofs.Common.{◌≡◌, ◌∙◌, ℕ, List, Result, Ok, Err, 
 use Rattle.command_core.specs.Values.{script_type, script_file}
 use Rattle.command_core.specs.Files.{without_dot}
 use Rattle.command_core.specs.declared.values.OptionValue.{OptionValue}
-use Rattle.make_package.specs.Package as packages
-use Rattle.make_package.specs.Runs.{IsAnswer}
+use Rattle.package_files.specs.Package as packages
+use Rattle.package_files.specs.Runs.{IsAnswer}
 use Rattle.make_package.specs.Scripts.{IsScript}
-use Rattle.make_package.specs.Sources.{on_success, found_at, script_at}
+use Rattle.package_files.specs.Sources.{on_success, found_at, script_at}
 use Rattle.make_info.specs.Reads.{Reads}
 use Rattle.make_info.specs.declared.fault.MakeFault.{MakeFault}
 use Rattle.make_package.specs.declared.writing.Script.{Script}
-use Rattle.make_package.proofs.ReadLemmas.{fault_of_part}
-use Rattle.make_package.proofs.PackLemmas.{IsFound}
+use Rattle.package_files.proofs.ReadLemmas.{fault_of_part}
+use Rattle.package_files.proofs.PackLemmas.{IsFound}
 
 abbrev pub file_of : OptionValue → List ℕ
 file_of v = without_dot (script_file v.text)

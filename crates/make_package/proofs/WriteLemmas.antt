@@ -5,7 +5,7 @@ use Rattle.std.proofs.lemmas.Option.{get_or_from_slice_get, slice_get_within}
 use Rattle.std.proofs.lemmas.List.Elements.{filter-append}
 use Rattle.adb_view.specs.Plain.{blob_value, Plains, more}
 use Rattle.command_core.specs.declared.values.OptionValue.{OptionValue}
-use Rattle.make_package.specs.Sources.{values_with, texts_of}
+use Rattle.package_files.specs.Sources.{values_with, texts_of}
 use Rattle.std.proofs.lemmas.List.{take_more}
 use Rattle.adb_values.specs.Drafts.{DraftState, draft_with, draft_with_all}
 use Rattle.adb_values.proofs.Lists.{drop_at}

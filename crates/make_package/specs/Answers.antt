@@ -13,8 +13,8 @@ use Rattle.make_info.specs.Reads.{Reads}
 use Rattle.make_info.specs.declared.fault.MakeFault.{MakeFault}
 use Rattle.make_info.specs.declared.fault.MakeFault.TheVariants.{Disk, Memory}
 use Rattle.make_package.specs.Making.{made_package}
-use Rattle.make_package.specs.Runs.{Explains}
-use Rattle.make_package.specs.Sources.{AreNamesFor, values_with}
+use Rattle.package_files.specs.Runs.{Explains}
+use Rattle.package_files.specs.Sources.{AreNamesFor, values_with}
 
 -- ---- parts of a run
 

@@ -12,8 +12,8 @@ use Rattle.make_info.specs.Information.{InfoItem, information, information_value
 use Rattle.make_info.specs.Reads.{Reads}
 use Rattle.make_info.specs.declared.fault.MakeFault.{MakeFault}
 use Rattle.make_info.specs.declared.fault.MakeFault.TheVariants.{InfoBad, TooLarge}
-use Rattle.make_package.specs.Package.{SourceFolder, Script, value_of_package, installed_size, contents_of_folders}
-use Rattle.make_package.specs.Sources.{on_success, values_with, texts_of, scripts_from, folders_below}
+use Rattle.package_files.specs.Package.{SourceFolder, Script, value_of_package, installed_size, contents_of_folders}
+use Rattle.package_files.specs.Sources.{on_success, values_with, texts_of, scripts_from, folders_below}
 
 -- ---- the file
 

@@ -1,7 +1,7 @@
 -- Scripts as the program has them.
 use Rattle.std.specs.Prelude.{◌≡◌, List, Vec, map}
 use Rattle.std.specs.declared.alloc.Global.{Global}
-use Rattle.make_package.specs.Package as packages
+use Rattle.package_files.specs.Package as packages
 use Rattle.make_package.specs.declared.writing.Script.{Script}
 
 -- a script's type and its bytes

@@ -9,20 +9,19 @@ ghost use Rattle.make_info.specs.Information.{information_value, replaces_priori
 ghost use Rattle.make_package.specs.Answers.{IsBytes, IsNotDisk};
 ghost use Rattle.make_package.specs.Making.{package_of_parts};
 ghost use Rattle.adb_sound.specs.Contents.{contents_size};
-ghost use Rattle.make_package.specs.Package.{SourceFolder, contents_of_folders, installed_size, package_with};
-ghost use Rattle.make_package.specs.Packed.{IsPacking, files_size, packed_folder, packed_size};
-ghost use Rattle.make_package.specs.Runs.{IsAnswer};
+ghost use Rattle.package_files.specs.Package.{SourceFolder, contents_of_folders, installed_size, package_with};
+ghost use Rattle.package_files.specs.Packed.{IsPacking, files_size, packed_folder, packed_size};
+ghost use Rattle.package_files.specs.Runs.{IsAnswer};
 ghost use Rattle.make_package.specs.Scripts.{scripts_view};
-ghost use Rattle.make_package.specs.Sources.{values_with, texts_of};
+ghost use Rattle.package_files.specs.Sources.{values_with, texts_of};
 
-use crate::file::{File, Folder, Packing};
-use crate::packing::put_in_front;
 use crate::writing::{Script, write_package};
 use adb_schema::PACKAGE_WORD;
 use adb_values::Draft;
 use adb_write::file_of;
 use command_core::{Command, Values};
 use make_info::{Information, MakeFault};
+use package_files::{File, Folder, Packing, put_in_front};
 use std::alloc::{AllocError, Global};
 
 /// The package of a command, with this information, these files and these scripts.

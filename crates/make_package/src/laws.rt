@@ -7,9 +7,9 @@ ghost use Rattle.make_info.specs.declared.field.Field.TheVariants.{ReplacesPrior
 ghost use Rattle.make_info.specs.Fields.{field_word};
 ghost use Rattle.make_info.specs.Named.{value_by_name};
 ghost use Rattle.make_info.specs.Values.{number_value, plains_of_list, size_value};
-ghost use Rattle.make_package.specs.Folders.{folder_names, folders_of, folders_over};
-ghost use Rattle.make_package.specs.Package.{FILE_MODE, FOLDER_MODE, Script, access_value, file_fields, folder_fields, is_link_file, kind_of_file, link_text, package_fields, script_fields, script_in};
-ghost use Rattle.make_package.specs.declared.file.FileKind.{FileKind};
+ghost use Rattle.package_files.specs.Folders.{folder_names, folders_of, folders_over};
+ghost use Rattle.package_files.specs.Package.{FILE_MODE, FOLDER_MODE, Script, access_value, file_fields, folder_fields, is_link_file, kind_of_file, link_text, package_fields, script_fields, script_in};
+ghost use Rattle.package_files.specs.declared.file.FileKind.{FileKind};
 ghost use Rattle.sha2.specs.Sha256.{sha256};
 ghost use Rattle.std.specs.Cmp.Lexicographic.{slice_cmp};
 ghost use Rattle.std.specs.List.{flat_map};

@@ -1,24 +1,20 @@
 //! Makes a package (apk(8), `mkpkg`): a command and a tree come in, the bytes of a container go
 //! out.
 //!
-//! The contract cites `Folders`, `Package` and `Sources` (what a package is made of, and its value)
-//! and `Making` (the package of a command) of `specs/`.
+//! The contract cites `Folders`, `Package` and `Sources` of `package_files` (what a package is made
+//! of, and its value) and `Making` (the package of a command) of `specs/`.
 #![tactic(auto)]
 
 mod assembly;
-mod file;
-mod folders;
 mod laws;
 mod making;
-mod packing;
 mod reading;
 mod writing;
 
 pub use assembly::the_installed_size_is_that_of_the_contents;
-pub use file::FileKind;
-pub use folders::folder_of;
 pub use laws::{
     a_part_stands_in_the_field_of_its_name, each_name_stands_in_one_folder,
     the_fields_of_a_file_are_those_of_its_bytes,
 };
 pub use making::make;
+pub use package_files::{FileKind, folder_of};

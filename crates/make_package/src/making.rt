@@ -2,17 +2,17 @@
 ghost use Rattle.base_core.specs.Read.{OnlyReads};
 ghost use Rattle.make_package.specs.Answers.{IsBytes, IsMadeRun};
 ghost use Rattle.make_package.specs.Making.{made_package};
-ghost use Rattle.make_package.specs.Runs.{Explains, IsAnswer};
+ghost use Rattle.package_files.specs.Runs.{Explains, IsAnswer};
 ghost use Rattle.std.specs.Prelude.{◌≡◌};
 
 use crate::assembly::package;
-use crate::file::Packing;
 use crate::reading::{list_names, pack_below, read_scripts};
 use crate::writing::Script;
 use adb_sound::contents_stand_in_their_container;
 use base_core::{Names, Tree, readings_in_a_row_join};
 use command_core::{Applet, Command, a_command_has_what_its_applet_may_have};
 use make_info::{MakeFault, read_information};
+use package_files::Packing;
 use std::alloc::Global;
 
 /// Makes the package that a command asks for: lists the names below its folder, reads the scripts

@@ -8,18 +8,17 @@ ghost use Rattle.command_core.specs.Values.{script_file};
 ghost use Rattle.command_core.specs.declared.command.Applet.TheVariants.{Mkpkg};
 ghost use Rattle.command_core.specs.declared.values.TheConstants.{FILES, SCRIPT};
 ghost use Rattle.make_package.specs.Answers.{IsCutOff, IsFirstValue, AreBelow};
-ghost use Rattle.make_package.specs.Packed.{IsPacking};
-ghost use Rattle.make_package.specs.Runs.{Explains, IsAnswer};
+ghost use Rattle.package_files.specs.Packed.{IsPacking};
+ghost use Rattle.package_files.specs.Runs.{Explains, IsAnswer};
 ghost use Rattle.make_package.specs.Scripts.{AreScripts, IsScript};
-ghost use Rattle.make_package.specs.Sources.{AreNamesFor, folders_below, values_with, script_at, scripts_from};
+ghost use Rattle.package_files.specs.Sources.{AreNamesFor, folders_below, values_with, script_at, scripts_from};
 ghost use Rattle.std.specs.Prelude.{◌≡◌, ◌++◌, ◌∷◌, [], ℕ, IfOk, IsTrue, OnOk};
 
-use crate::file::Packing;
-use crate::packing::{pack_names, read_file};
 use crate::writing::Script;
 use base_core::{Name, Names, Tree};
 use command_core::{FILES, OptionValue, SCRIPT, Values, without_dot};
 use make_info::MakeFault;
+use package_files::{Packing, pack_names, read_file};
 use std::alloc::{AllocError, Global};
 
 /// The names below the folder that an option gives, in byte order and each once, whatever the tree

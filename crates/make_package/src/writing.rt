@@ -5,16 +5,16 @@ ghost use Rattle.adb_values.specs.Drafts.{draft_with};
 ghost use Rattle.adb_view.specs.Plain.{arr_value, blob_value};
 ghost use Rattle.make_info.specs.Information.{information_value, replaces_priority};
 ghost use Rattle.make_info.specs.Values.{plains_of_list};
-ghost use Rattle.make_package.specs.Package.{access_value, script_in, value_of_scripts, package_with};
-ghost use Rattle.make_package.specs.Packed.{packed_file, packed_folder};
+ghost use Rattle.package_files.specs.Package.{access_value, script_in, value_of_scripts, package_with};
+ghost use Rattle.package_files.specs.Packed.{packed_file, packed_folder};
 ghost use Rattle.make_package.specs.Scripts.{scripts_view};
-ghost use Rattle.make_package.specs.Sources.{values_with, texts_of};
+ghost use Rattle.package_files.specs.Sources.{values_with, texts_of};
 ghost use Rattle.std.specs.Prelude.{map, OnOk, ◌≡◌};
 
-use crate::file::{File, Folder};
 use adb_values::Draft;
 use command_core::{TRIGGER, Values};
 use make_info::{Information, write_number, write_size};
+use package_files::{File, Folder};
 use std::alloc::AllocError;
 
 /// The mode of every folder.

@@ -20,7 +20,7 @@ use Rattle.command_core.specs.Files.{without_dot}
 use Rattle.command_core.specs.declared.command.Applet.{Applet}
 use Rattle.command_core.specs.declared.command.Applet.TheVariants.{Mkpkg}
 use Rattle.command_core.specs.declared.values.OptionValue.{OptionValue}
-use Rattle.make_package.specs.Sources.{values_with}
+use Rattle.package_files.specs.Sources.{values_with}
 use Rattle.outcome.proofs.Clashes.{HaveClash, HaveOneClash, clash_exists, clash_one}
 use Rattle.outcome.proofs.Recovered.{unstaged_within}
 use Rattle.outcome.specs.Given.{Given, IsChosenFor, IsClashBy, IsGiven, IsListingFor}

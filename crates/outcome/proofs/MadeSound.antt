@@ -14,16 +14,16 @@ use Rattle.base_core.specs.declared.cause.Cause.{Cause}
 use Rattle.command_core.specs.declared.values.TheConstants.{FILES, SCRIPT, TRIGGER}
 use Rattle.journal_core.specs.Replacing.{replaced_files, scratch_of}
 use Rattle.journal_core.specs.Staged.{unstaged_files}
-use Rattle.make_package.specs.Folders.{FolderListing, folders_of, last_part_of}
+use Rattle.package_files.specs.Folders.{FolderListing, folders_of, last_part_of}
 use Rattle.make_index.specs.Index.{and_entries, found_entries, found_entry, index_container, index_of, index_of_found, value_of_index, entry_unless, description_in, made_index}
 use Rattle.make_index.specs.EntryOrder.{entry_cmp}
 use Rattle.list_order.specs.Sorted.{sorted_by}
 use Rattle.make_info.specs.Information.{InfoItem, information_value, information, replaces_priority}
 use Rattle.make_package.specs.Making.{container_unless, made_package, or_info_bad, package_container, package_of_parts}
 use Rattle.make_info.specs.Output.{output_name}
-use Rattle.make_package.specs.Package.{Script, Source, SourceFolder, contents_of_folders, installed_size, value_of_package}
+use Rattle.package_files.specs.Package.{Script, Source, SourceFolder, contents_of_folders, installed_size, value_of_package}
 use Rattle.make_index.specs.Files.{AreFiles}
-use Rattle.make_package.specs.Sources.{AreNamesFor, on_success, each_from, file_at, sources_from, folder_at, folders_below, found_at, values_with, script_at, scripts_from, texts_of}
+use Rattle.package_files.specs.Sources.{AreNamesFor, on_success, each_from, file_at, sources_from, folder_at, folders_below, found_at, values_with, script_at, scripts_from, texts_of}
 use Rattle.make_info.specs.Reads.{Reads}
 use Rattle.make_info.specs.declared.fault.MakeFault.{MakeFault}
 use Rattle.make_info.specs.declared.fault.MakeFault.TheVariants.{FileMissing, FileBad, InfoBad, TooLarge, Disk, Memory}

@@ -10,7 +10,7 @@ use Rattle.engine_core.specs.Changed.{IsClashFor, IsClashForOver}
 use Rattle.engine_core.specs.Choice.{IsChoiceFrom}
 use Rattle.engine_core.specs.Selecting.{pool_for}
 use Rattle.make_info.specs.Reads.{Reads}
-use Rattle.make_package.specs.Sources.{AreNamesFor, values_with}
+use Rattle.package_files.specs.Sources.{AreNamesFor, values_with}
 use Rattle.path_clashes.specs.Clash.{NamePair}
 use Rattle.outcome.specs.Effect.{Effect, Changes, effect_of}
 use Rattle.outcome.specs.Make.{IsListing}

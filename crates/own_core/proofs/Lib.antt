@@ -1,11 +1,4 @@
-pub mod Endings
-pub mod Kept
 pub mod Written
-pub mod Listings
-pub mod ChangeClaims
-pub mod TreeLoops
-pub mod FoundFiles
-pub mod OneFile
 pub mod NamesOnce
 pub mod OwnNames
 pub mod Meaning

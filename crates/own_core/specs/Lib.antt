@@ -2,11 +2,6 @@
 pub mod WritesSeen
 pub mod Planned
 -- what only inner contracts and proofs use
-pub mod ClaimEntries
-pub mod Sides
-pub mod Fates
-pub mod Found
-pub mod Going
 pub mod Parts
 pub mod ListsSeen
 pub mod FaultsSeen

@@ -11,12 +11,12 @@ use Rattle.change_files.specs.Fate as Fates
 use Rattle.change_files.specs.Fate.{aside_name, goes_aside, goes_in}
 use Rattle.change_files.specs.FilesAfter.{database_name, world_name}
 use Rattle.path_clashes.specs.Clash.{NameChange}
-use Rattle.own_core.specs.ClaimEntries.{comes_at}
-use Rattle.own_core.specs.Fates.{claim_fate, is_fate, is_flag, marked_claims}
-use Rattle.own_core.specs.Found.{AreByFiles}
-use Rattle.own_core.specs.Going.{does_stay, is_left}
-use Rattle.own_core.specs.Sides.{claims_after, claims_before, file_change_of}
-use Rattle.own_core.specs.declared.change.Change.{Change}
+use Rattle.file_fates.specs.ClaimEntries.{comes_at}
+use Rattle.file_fates.specs.Fates.{claim_fate, is_fate, is_flag, marked_claims}
+use Rattle.file_fates.specs.Found.{AreByFiles}
+use Rattle.file_fates.specs.Going.{does_stay, is_left}
+use Rattle.file_fates.specs.Sides.{claims_after, claims_before, file_change_of}
+use Rattle.file_fates.specs.declared.change.Change.{Change}
 use Rattle.own_core.specs.declared.planning.Parts.{Parts}
 
 -- the claims of files that go in, of those laid beside, and of paths removed and kept
@@ -71,7 +71,7 @@ is_let_go_by change parts name =
     && not (is_some (find (is_of_path name) (claims_after change))
     || is_some (find (is_of_path name) (kept_of_parts parts)))
 
--- both as the search for clashes asks for them, name by name
+-- which names count as written and which are let go, as the search for clashes asks
 abbrev pub names_changed_by : Change → Parts → NameChange
 names_changed_by change parts = record {
   counts_as_written = λ name.

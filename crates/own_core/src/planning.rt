@@ -1,8 +1,7 @@
 //! The plan of files of a change.
 
-ghost use Rattle.std.specs.Prelude.{◌≡◌, ◌<◌, All, IfErr, IfOk, None, Some, length, map, option_map, slice_get};
+ghost use Rattle.std.specs.Prelude.{◌≡◌, ◌<◌, All, IfErr, IfOk, None, Some, length, map, option_map};
 ghost use Rattle.std.specs.List.{filter};
-ghost use Rattle.std.specs.List.Sorted.{IsSorted};
 ghost use Rattle.base_core.specs.Calls.{IfObservable};
 ghost use Rattle.base_core.specs.Listed.{IsRising};
 ghost use Rattle.base_core.specs.Name.{IsName};
@@ -21,24 +20,23 @@ ghost use Rattle.path_claims.specs.ContestedSeen.{contested_seen};
 ghost use Rattle.path_claims.specs.Seen.{claim_seen};
 ghost use Rattle.path_clashes.specs.ClashSeen.{clash_seen};
 ghost use Rattle.path_clashes.specs.FirstClash.{IsClashOf, MayBeClashOf};
-ghost use Rattle.own_core.specs.ClaimEntries.{AreClaimsOf, IsClaimOf, is_of_coming_owner, is_reserved_coming};
+ghost use Rattle.file_fates.specs.ClaimEntries.{AreClaimsOf, IsClaimOf, is_of_coming_owner, is_reserved_coming};
 ghost use Rattle.own_core.specs.ListsSeen.{AreListsOfParts};
 ghost use Rattle.own_core.specs.Parts.{AreParts, asides_of, ins_of, kept_of_parts, names_changed_by, removed_of};
 ghost use Rattle.own_core.specs.Planned.{HasOwnNames, HasSources, IsOwnedBy, IsPlanFor, IsPlanOf, IsRefusalFor, IsRefusalOf, MayBeRefusalOf, change_by, member_name_at};
-ghost use Rattle.own_core.specs.Sides.{HasClaims, claims_after, file_change_of};
+ghost use Rattle.file_fates.specs.Sides.{HasClaims, claims_after, file_change_of};
 ghost use Rattle.own_core.specs.WritesSeen.{HaveNamesBeside};
 
-use crate::change::Change;
 use crate::clashes::{LetGoPaths, names_beside, written_paths};
-use crate::coming::{comes, coming_claims};
-use crate::fate::{Fate, fates_of};
 use crate::fault::PlanFault;
-use crate::parts::{claims_where, claims_with, left_claims, stays_of};
 use crate::writes::{Writes, writes_of};
 use adb_schema::is_reserved_file;
 use base_core::{Name, Names, Text, Tree, TreeFault};
 use claim_lists::{name_of_path, names_of_claims, one_of_each_path};
 use db_core::{Db, Members, Owned};
+use file_fates::{
+    Change, Fate, claims_where, claims_with, comes, coming_claims, fates_of, left_claims, stays_of,
+};
 use file_owners::{Contested, claims_in_database, owners_of_files};
 use path_claims::Claim;
 use path_clashes::{Clash, first_clash};

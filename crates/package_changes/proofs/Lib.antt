@@ -1,7 +1,4 @@
 pub mod Lists
 mod NamesInOrder
 mod NameTable
-mod PlacedLaws
-mod ReportLines
-mod StayingNames
-mod Worked
+pub mod PlacedLaws

@@ -1,7 +1,6 @@
 -- what the contract of `apk` says
 pub mod Changes
 pub mod Placed
-pub mod Report
 -- what only inner contracts and proofs use
 pub mod Seen
 pub mod SelectedNames

@@ -2,7 +2,7 @@
 ghost use Rattle.change_files.specs.PlanLists.{names_in_order, without_repeats};
 ghost use Rattle.list_order.specs.ByteOrder.{bytes_cmp};
 ghost use Rattle.list_order.specs.Sorted.{sorted_by};
-ghost use Rattle.std.specs.Prelude.{◌≡◌, ◌++◌, map, IfOk};
+ghost use Rattle.std.specs.Prelude.{◌≡◌, map, IfOk};
 
 use base_core::Words;
 use std::alloc::{AllocError, Global};
@@ -37,10 +37,7 @@ fn drop_repeats(names: &mut Vec<&[u8]>)
 }
 
 /// Words, as names.
-pub(crate) fn names_of_words<'a>(
-    alloc: Global,
-    words: &'a Words,
-) -> Result<Vec<&'a [u8]>, AllocError>
+pub fn names_of_words<'a>(alloc: Global, words: &'a Words) -> Result<Vec<&'a [u8]>, AllocError>
     ensures { IfOk result (λ names. map (λ n. n.now) names.items ≡ words.entry.now) }
 {
     let mut names = Vec::new(alloc);

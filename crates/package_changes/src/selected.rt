@@ -14,7 +14,7 @@ use std::alloc::{AllocError, Global};
 use std::marker::Model;
 
 /// The candidate at a place, if there is one.
-pub(crate) fn candidate_at<'a>(pool: &Sealed<'a>, id: CandId) -> Option<Candidate<'a>>
+pub fn candidate_at<'a>(pool: &Sealed<'a>, id: CandId) -> Option<Candidate<'a>>
     ensures { option_map candidate_value result ≡ candidate_at pool.now id }
 {
     if id.place as usize >= pool.len() {
@@ -25,7 +25,7 @@ pub(crate) fn candidate_at<'a>(pool: &Sealed<'a>, id: CandId) -> Option<Candidat
 
 /// The names of the selected candidates, each with the place of the first that has it.
 #[derive(Drop)]
-pub(crate) struct SelectedNames<'a> {
+pub struct SelectedNames<'a> {
     by_name: IndexMap<&'a [u8], u32>,
 }
 
@@ -40,7 +40,7 @@ impl<'a> Model for SelectedNames<'a> {
 
 impl<'a> SelectedNames<'a> {
     /// The names of the candidates at the places of a selection.
-    pub(crate) fn of(
+    pub fn of(
         alloc: Global,
         pool: &Sealed<'a>,
         trace: &Trace,
@@ -65,7 +65,7 @@ impl<'a> SelectedNames<'a> {
     }
 
     /// The place of the first selected candidate with this name.
-    pub(crate) fn place_of(&self, name: &[u8]) -> Option<u32>
+    pub fn place_of(&self, name: &[u8]) -> Option<u32>
         ensures { result ≡ place_beside name.now self.now }
     {
         match self.by_name.get(name) {

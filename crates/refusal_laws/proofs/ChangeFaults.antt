@@ -20,7 +20,7 @@ use Rattle.db_write.specs.NewDatabase.{database_container, database_of, database
 use Rattle.file_owners.specs.Owners.{contested_of, owned_of}
 use Rattle.journal_intent.specs.IntentValue.{intent_of_lists, value_of_intent}
 use Rattle.make_info.specs.Reads.{Reads}
-use Rattle.make_package.specs.Folders.{folder_of}
+use Rattle.package_files.specs.Folders.{folder_of}
 use Rattle.package_changes.specs.Changes.{Replacement}
 use Rattle.path_claims.specs.Claims.{ContestedPath}
 use Rattle.path_clashes.specs.Clash.{NamePair}

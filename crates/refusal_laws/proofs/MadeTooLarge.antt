@@ -13,10 +13,10 @@ use Rattle.make_info.specs.Information.{InfoItem, information, information_value
 use Rattle.make_info.specs.Reads.{Reads}
 use Rattle.make_info.specs.declared.fault.MakeFault.{MakeFault}
 use Rattle.make_info.specs.declared.fault.MakeFault.TheVariants.{TooLarge}
-use Rattle.make_package.specs.Folders.{FolderListing, folders_of}
+use Rattle.package_files.specs.Folders.{FolderListing, folders_of}
 use Rattle.make_package.specs.Making.{container_unless, made_package, or_info_bad, package_container, package_of_parts}
-use Rattle.make_package.specs.Package.{Script, Source, SourceFolder, contents_of_folders, installed_size, value_of_package}
-use Rattle.make_package.specs.Sources.{each_from, file_at, folder_at, folders_below, found_at, on_success, script_at, script_with, scripts_from, source_with, sources_from, texts_of, values_with}
+use Rattle.package_files.specs.Package.{Script, Source, SourceFolder, contents_of_folders, installed_size, value_of_package}
+use Rattle.package_files.specs.Sources.{each_from, file_at, folder_at, folders_below, found_at, on_success, script_at, script_with, scripts_from, source_with, sources_from, texts_of, values_with}
 use Rattle.pkg_core.specs.Contents.{Contents}
 use Rattle.refusal_laws.specs.MadeTooLarge.{IsPackageTooLarge}
 use Rattle.refusal_laws.proofs.ChangeFaults.{too_large}

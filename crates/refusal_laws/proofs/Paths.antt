@@ -22,7 +22,7 @@ use Rattle.list_order.specs.ByteOrder.{bytes_cmp, precedes, smallest_text}
 use Rattle.list_order.specs.Sorted.{sorted_by}
 use Rattle.list_order.proofs.Smallest.{smallest_first}
 use Rattle.list_order.proofs.Sorting.{Each, Rises, ranks, rises_in_order}
-use Rattle.own_core.proofs.Listings.{IsPlaced, each_placed}
+use Rattle.file_fates.proofs.Listings.{IsPlaced, each_placed}
 use Rattle.own_core.proofs.NamesOnce.{in_sorted_names, not_below, sorted_names_in}
 use Rattle.path_claims.specs.Claims.{ContestedPath, claimants, contested_at, contested_by, contested_path, is_of_path, owner_by}
 use Rattle.path_claims.specs.Contest.{beats_each, first_rivals, rivals_of, winner}

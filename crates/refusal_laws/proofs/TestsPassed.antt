@@ -16,7 +16,7 @@ use Rattle.change_outcome.specs.Triggers.{folders_of_paths, has_due_trigger, is_
 use Rattle.db_core.specs.Members.{Member, member_name}
 use Rattle.file_owners.specs.Owners.{contested_of}
 use Rattle.make_info.specs.Reads.{Reads}
-use Rattle.make_package.specs.Folders.{folder_of}
+use Rattle.package_files.specs.Folders.{folder_of}
 use Rattle.package_changes.specs.Changes.{Replacement}
 use Rattle.path_claims.specs.Claims.{ContestedPath}
 use Rattle.path_clashes.specs.Clash.{NamePair}

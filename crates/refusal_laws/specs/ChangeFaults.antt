@@ -19,7 +19,7 @@ use Rattle.file_owners.specs.Replaces.{takes_over}
 use Rattle.journal_intent.specs.IntentValue.{intent_of_lists, value_of_intent}
 use Rattle.list_order.specs.ByteOrder.{precedes}
 use Rattle.make_info.specs.Reads.{Reads}
-use Rattle.make_package.specs.Folders.{folder_of}
+use Rattle.package_files.specs.Folders.{folder_of}
 use Rattle.package_changes.specs.Changes.{Replacement}
 use Rattle.path_clashes.specs.Clash.{IsFirstClash}
 use Rattle.report_core.specs.declared.refusal.Refusal.{Refusal}

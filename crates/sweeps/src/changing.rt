@@ -4,7 +4,8 @@ ghost use Rattle.std.specs.Prelude.{◌≡◌, [], ◌∷◌, ◌++◌, true, co
 ghost use Rattle.journal_core.specs.Staged.{new_stage};
 
 use base_core::{Disk, Name, Names};
-use journal_core::{Stage, recover};
+use journal_core::Stage;
+use journal_recovery::recover;
 use row_lines::{add_word, value_named};
 use std::alloc::{AllocError, Global};
 use tree_memory::MemoryTree;

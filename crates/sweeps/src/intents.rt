@@ -2,7 +2,7 @@
 use crate::changing::{StagedChange, add_reached, change_named, run_change};
 use crate::trees::{add_count, add_tree, long_at, put, text_of, tree_of};
 use base_core::Words;
-use journal_core::{RecoverFault, recover};
+use journal_recovery::{RecoverFault, recover};
 use row_lines::{add_word, word_at};
 use std::alloc::{AllocError, Global};
 use tree_memory::MemoryTree;

@@ -2,7 +2,7 @@
 use crate::changing::{Reached, StagedChange, add_reached, change_named, run_change};
 use crate::trees::{add_count, long_at, text_of, tree_of};
 use base_core::Words;
-use journal_core::recover;
+use journal_recovery::recover;
 use row_lines::word_at;
 use std::alloc::{AllocError, Global};
 use tree_memory::MemoryTree;

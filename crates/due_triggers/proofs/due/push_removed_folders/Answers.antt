@@ -1,5 +1,5 @@
 use Rattle.std.proofs.Common.{◌∙◌, ◌∷◌, ◌+◌, List, ℕ, Bor, drop, map, ap, sym, arith}
-use Rattle.make_package.specs.Folders.{folder_of}
+use Rattle.package_files.specs.Folders.{folder_of}
 use Rattle.due_triggers.proofs.Loops.{all_told, made_from, made_none, pushed}
 use Rattle.due_triggers.proofs.due.push_removed_folders.Goals as goal
 

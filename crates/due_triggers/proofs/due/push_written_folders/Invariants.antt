@@ -1,6 +1,6 @@
 -- The folders of the writes that are left are still to come.
 use Rattle.std.proofs.Common.{◌≡◌, ◌++◌, drop, map}
-use Rattle.make_package.specs.Folders.{folder_of}
+use Rattle.package_files.specs.Folders.{folder_of}
 use Rattle.change_files.specs.PlanLists.{FileWrite}
 use Rattle.own_core.specs.WritesSeen.{writes_in}
 use Rattle.due_triggers.proofs.due.push_written_folders.Given as goal

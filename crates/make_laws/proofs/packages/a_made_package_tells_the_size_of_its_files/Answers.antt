@@ -4,7 +4,7 @@ use Rattle.std.specs.List.{flat_map}
 use Rattle.adb_fields.specs.Repeated.{files_in}
 use Rattle.adb_tables.specs.Values.{int_in}
 use Rattle.adb_tables.specs.declared.tables.Which.TheVariants.{PkgInfo}
-use Rattle.make_package.specs.Package.{installed_size}
+use Rattle.package_files.specs.Package.{installed_size}
 use Rattle.make_laws.proofs.MadeFrom.{folders_are, info_is, made_from}
 use Rattle.make_laws.proofs.SizesTold.{size_is, sizes_told}
 use Rattle.make_laws.specs.MadePackages.{contained_package, size_told}

@@ -10,7 +10,7 @@ use Rattle.make_info.specs.Fields.{field_word}
 use Rattle.make_info.specs.Information.{InfoItem, information}
 use Rattle.make_info.specs.Reads.{Reads}
 use Rattle.make_package.specs.Making.{or_info_bad}
-use Rattle.make_package.specs.Package.{installed_size}
+use Rattle.package_files.specs.Package.{installed_size}
 use Rattle.make_laws.proofs.MadeFrom.{IsMadeFrom, info_is, made_from, priority_is}
 use Rattle.make_laws.proofs.ToldFields.{items_of, say_of_field, told_info, told_priority, values_for}
 use Rattle.make_laws.specs.MadePackages.{contained_package}

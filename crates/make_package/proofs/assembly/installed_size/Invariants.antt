@@ -1,5 +1,5 @@
 use Rattle.std.proofs.Common.{◌≡◌, ◌+◌, drop, sum_by}
-use Rattle.make_package.specs.Packed.{packed_size}
+use Rattle.package_files.specs.Packed.{packed_size}
 use Rattle.make_package.proofs.MadeParts.{folder_size}
 use Rattle.make_package.proofs.assembly.installed_size.Given as goal
 

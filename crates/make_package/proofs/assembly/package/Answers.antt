@@ -4,12 +4,12 @@ use Rattle.adb_view.specs.Plain.{Plain}
 use Rattle.adb_write.specs.File.{file_of}
 use Rattle.make_package.specs.Answers.{IsBytes}
 use Rattle.make_package.specs.Making.{package_container}
-use Rattle.make_package.specs.Package.{contents_of_folders}
-use Rattle.make_package.specs.Packed.{packed_size}
-use Rattle.make_package.specs.Runs.{IsAnswer}
+use Rattle.package_files.specs.Package.{contents_of_folders}
+use Rattle.package_files.specs.Packed.{packed_size}
+use Rattle.package_files.specs.Runs.{IsAnswer}
 use Rattle.make_package.specs.Scripts.{scripts_view}
 use Rattle.make_package.proofs.MadeParts.{large_answer, memory_answer, package_err, package_ok, value_is}
-use Rattle.make_package.proofs.ReadLemmas.{memory_fault, same_fault}
+use Rattle.package_files.proofs.ReadLemmas.{memory_fault, same_fault}
 use Rattle.make_package.proofs.assembly.package.Goals as goal
 
 pub installed_size-size-requires : goal.installed_size-size-requires

@@ -1,5 +1,5 @@
 use Rattle.std.proofs.Common.{◌≡◌, ◌+◌, drop, sum_by}
-use Rattle.make_package.specs.Packed.{files_size}
+use Rattle.package_files.specs.Packed.{files_size}
 use Rattle.make_package.proofs.MadeParts.{file_size}
 use Rattle.make_package.proofs.assembly.size_in.Given as goal
 

@@ -5,7 +5,7 @@ use Rattle.adb_tables.specs.declared.tables.Which.TheVariants.{Scripts}
 use Rattle.adb_view.specs.Plain.{blob_value}
 use Rattle.command_core.specs.Values.{script_types}
 use Rattle.make_info.specs.Named.{value_by_name}
-use Rattle.make_package.specs.Package.{script_fields, script_in}
+use Rattle.package_files.specs.Package.{script_fields, script_in}
 use Rattle.make_package.proofs.laws.a_part_stands_in_the_field_of_its_name.Goals as goal
 
 pub returns-clause-types : goal.returns-clause-types

@@ -1,4 +1,4 @@
-use Rattle.make_package.proofs.FolderLaws.{each_in_one, folder_over, folder_there, folders_rise}
+use Rattle.package_files.proofs.FolderLaws.{each_in_one, folder_over, folder_there, folders_rise}
 use Rattle.make_package.proofs.laws.each_name_stands_in_one_folder.Goals as goal
 
 pub returns : goal.returns

@@ -1,7 +1,7 @@
 use Rattle.std.proofs.Common.{Ok, Err}
 use Rattle.make_package.proofs.MadeParts.{sizes_held, values_allowed}
 use Rattle.make_package.proofs.MadeRuns.{both_as, folders_fault, info_fault, package_as, parts_made, quiet_answer, scripts_as, scripts_fault}
-use Rattle.make_package.proofs.ReadLemmas.{explained_as, same_fault}
+use Rattle.package_files.proofs.ReadLemmas.{explained_as, same_fault}
 use Rattle.make_package.proofs.making.pack.Goals as goal
 
 pub read_scripts-requires : goal.read_scripts-requires

@@ -3,7 +3,7 @@ use Rattle.std.specs.Option.{option_map}
 use Rattle.std.specs.Borrow.{Bor}
 use Rattle.make_package.proofs.MadeParts.{folder_file, folder_is, no_folder}
 use Rattle.make_package.proofs.MadeRuns.{listed_for, named_for, nothing_below, nothing_named}
-use Rattle.make_package.specs.Sources.{values_with}
+use Rattle.package_files.specs.Sources.{values_with}
 use Rattle.command_core.specs.declared.values.TheConstants.{FILES}
 use Rattle.make_package.proofs.reading.list_names.Goals as goal
 

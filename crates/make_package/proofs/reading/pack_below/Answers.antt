@@ -1,7 +1,7 @@
 use Rattle.std.proofs.Common.{ap, ◌∙◌}
 use Rattle.command_core.specs.Files.{without_dot}
 use Rattle.command_core.specs.declared.values.TheConstants.{FILES}
-use Rattle.make_package.specs.Sources.{values_with}
+use Rattle.package_files.specs.Sources.{values_with}
 use Rattle.make_package.proofs.MadeParts.{first_is, first_none}
 use Rattle.make_package.proofs.MadeRuns.{nothing_packed, packed_for}
 use Rattle.make_package.proofs.reading.pack_below.Goals as goal

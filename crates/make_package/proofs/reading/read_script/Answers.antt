@@ -1,4 +1,4 @@
-use Rattle.make_package.proofs.ReadLemmas.{explained_as, same_fault}
+use Rattle.package_files.proofs.ReadLemmas.{explained_as, same_fault}
 use Rattle.make_package.proofs.ScriptLemmas.{script_fault, script_is}
 use Rattle.make_package.proofs.reading.read_script.Goals as goal
 

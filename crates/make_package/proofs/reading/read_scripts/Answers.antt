@@ -2,10 +2,10 @@ use Rattle.command_core.specs.declared.values.TheConstants.{SCRIPT}
 use Rattle.std.proofs.Common.{◌≡◌, ◌≤◌, ◌∙◌, ap, sym, length, take_all, List, arith, rules}
 use Rattle.command_core.specs.declared.values.OptionValue.{OptionValue}
 use Rattle.make_package.specs.Scripts.{AreScripts}
-use Rattle.make_package.specs.Sources.{values_with, script_at, scripts_from}
+use Rattle.package_files.specs.Sources.{values_with, script_at, scripts_from}
 use Rattle.make_package.proofs.MadeParts.{script_name, script_there}
 use Rattle.make_package.proofs.MadeRuns.{one_read, script_own, scripts_go_on, scripts_none, scripts_same, scripts_stop}
-use Rattle.make_package.proofs.ReadLemmas.{so_far_none, explained, explained_as, same_fault, memory_fault, told_as}
+use Rattle.package_files.proofs.ReadLemmas.{so_far_none, explained, explained_as, same_fault, memory_fault, told_as}
 use Rattle.make_package.proofs.WriteLemmas.{given_other}
 use Rattle.make_package.proofs.reading.read_scripts.Goals as goal
 

@@ -4,9 +4,9 @@ use Rattle.base_core.specs.Read.{OnlyReads}
 use Rattle.make_info.specs.declared.fault.MakeFault.{MakeFault}
 use Rattle.make_info.specs.declared.fault.MakeFault.TheVariants.{Disk}
 use Rattle.make_package.specs.Scripts.{AreScripts}
-use Rattle.make_package.specs.Sources.{values_with, script_at}
+use Rattle.package_files.specs.Sources.{values_with, script_at}
 use Rattle.make_package.proofs.MadeRuns.{one_read}
-use Rattle.make_package.proofs.ReadLemmas.{IsSoFar}
+use Rattle.package_files.proofs.ReadLemmas.{IsSoFar}
 use Rattle.make_package.proofs.reading.read_scripts.Given as goal
 
 abbrev pub invariant-loop-i : goal.invariant-loop-i

@@ -1,5 +1,5 @@
 use Rattle.std.proofs.Common.{◌≡◌, drop}
-use Rattle.make_package.specs.Package.{script_in}
+use Rattle.package_files.specs.Package.{script_in}
 use Rattle.make_package.specs.Scripts.{scripts_view}
 use Rattle.make_package.proofs.writing.script_of.Given as goal
 

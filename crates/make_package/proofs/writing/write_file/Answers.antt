@@ -3,7 +3,7 @@ use Rattle.adb_view.specs.Plain.{blob_value, obj_value}
 use Rattle.adb_values.specs.Drafts.{draft_with}
 use Rattle.adb_values.proofs.Lists.{closed}
 use Rattle.make_info.specs.Values.{size_value}
-use Rattle.make_package.specs.Package.{file_fields}
+use Rattle.package_files.specs.Package.{file_fields}
 use Rattle.make_package.proofs.writing.write_file.Goals as goal
 
 pub returns : goal.returns

@@ -3,7 +3,7 @@ use Rattle.adb_view.specs.Plain.{arr_value}
 use Rattle.adb_values.proofs.Lists.{closed}
 use Rattle.make_info.specs.Values.{plains_of_list}
 use Rattle.make_info.proofs.Mapped.{mapped_left, mapped_open}
-use Rattle.make_package.specs.Packed.{packed_file}
+use Rattle.package_files.specs.Packed.{packed_file}
 use Rattle.make_package.proofs.writing.write_files.Goals as goal
 
 pub loop-file-preserved : goal.loop-file-preserved

@@ -1,6 +1,6 @@
 use Rattle.std.proofs.Common.{◌≡◌, drop, map}
 use Rattle.make_info.proofs.Mapped.{with_list}
-use Rattle.make_package.specs.Packed.{packed_file}
+use Rattle.package_files.specs.Packed.{packed_file}
 use Rattle.make_package.proofs.writing.write_files.Given as goal
 
 -- with those that are left it has all

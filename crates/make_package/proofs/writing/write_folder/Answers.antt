@@ -3,9 +3,9 @@ use Rattle.adb_view.specs.Plain.{arr_value, obj_value}
 use Rattle.adb_values.specs.Drafts.{draft_with}
 use Rattle.adb_values.proofs.Lists.{closed}
 use Rattle.make_info.specs.Values.{plains_of_list}
-use Rattle.make_package.specs.declared.file.File.{File}
-use Rattle.make_package.specs.Package.{folder_fields}
-use Rattle.make_package.specs.Packed.{packed_file}
+use Rattle.package_files.specs.declared.file.File.{File}
+use Rattle.package_files.specs.Package.{folder_fields}
+use Rattle.package_files.specs.Packed.{packed_file}
 use Rattle.make_package.proofs.writing.write_folder.Goals as goal
 
 pub returns : goal.returns

@@ -5,10 +5,10 @@ use Rattle.adb_values.specs.Drafts.{draft_with}
 use Rattle.adb_values.proofs.Lists.{closed}
 use Rattle.make_info.specs.Information.{information_value, replaces_priority}
 use Rattle.make_info.specs.Values.{number_value}
-use Rattle.make_package.specs.Package.{package_fields}
-use Rattle.make_package.specs.Packed.{packed_folder}
+use Rattle.package_files.specs.Package.{package_fields}
+use Rattle.package_files.specs.Packed.{packed_folder}
 use Rattle.make_package.specs.Scripts.{scripts_view}
-use Rattle.make_package.specs.Sources.{texts_of, values_with}
+use Rattle.package_files.specs.Sources.{texts_of, values_with}
 use Rattle.make_package.proofs.writing.write_package.Goals as goal
 
 pub returns : goal.returns

@@ -3,7 +3,7 @@ use Rattle.adb_view.specs.Plain.{arr_value}
 use Rattle.adb_values.proofs.Lists.{closed}
 use Rattle.make_info.specs.Values.{plains_of_list}
 use Rattle.make_info.proofs.Mapped.{mapped_left, mapped_open}
-use Rattle.make_package.specs.Packed.{packed_folder}
+use Rattle.package_files.specs.Packed.{packed_folder}
 use Rattle.make_package.proofs.writing.write_paths.Goals as goal
 
 pub loop-folder-preserved : goal.loop-folder-preserved

@@ -3,7 +3,7 @@ use Rattle.std.proofs.Common.{◌∙◌, ap, List, ℕ, arith, refl}
 use Rattle.adb_view.specs.Plain.{arr_value, blob_value}
 use Rattle.adb_values.specs.Drafts.{draft_with}
 use Rattle.adb_values.proofs.Lists.{closed, list_given}
-use Rattle.make_package.specs.Sources.{values_with}
+use Rattle.package_files.specs.Sources.{values_with}
 use Rattle.make_package.proofs.WriteLemmas.{blob_given, blob_passed, blobs}
 use Rattle.make_package.proofs.writing.write_triggers.Goals as goal
 use Rattle.make_package.proofs.writing.write_triggers.Goals.{then-value-eq-TRIGGER+in_ok-blob, else-value-eq-TRIGGER}

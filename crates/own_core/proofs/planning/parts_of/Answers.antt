@@ -6,13 +6,13 @@ use Rattle.change_files.specs.Fate.{goes_aside, goes_in}
 use Rattle.claim_lists.proofs.Firsts.{paths}
 use Rattle.path_claims.specs.Claims.{PathClaim}
 use Rattle.path_claims.specs.Seen.{claim_seen}
-use Rattle.own_core.specs.ClaimEntries.{members_before}
-use Rattle.own_core.specs.Fates.{claim_fate, fate_seen, is_fate, is_flag, marked_claims}
-use Rattle.own_core.specs.Found.{AreByFiles}
-use Rattle.own_core.specs.Going.{does_stay, is_left}
+use Rattle.file_fates.specs.ClaimEntries.{members_before}
+use Rattle.file_fates.specs.Fates.{claim_fate, fate_seen, is_fate, is_flag, marked_claims}
+use Rattle.file_fates.specs.Found.{AreByFiles}
+use Rattle.file_fates.specs.Going.{does_stay, is_left}
 use Rattle.own_core.specs.Parts.{left_claims_by}
-use Rattle.own_core.specs.Sides.{claims_before, file_change_of}
-use Rattle.own_core.specs.declared.fate.Fate.{Fate}
+use Rattle.file_fates.specs.Sides.{claims_before, file_change_of}
+use Rattle.file_fates.specs.declared.fate.Fate.{Fate}
 use Rattle.path_claims.specs.declared.claim.Claim.{Claim}
 use Rattle.own_core.proofs.PlanParts.{files_kept, flags_len, marked_sorted, marks_len}
 use Rattle.own_core.proofs.planning.parts_of.Goals as goal

@@ -1,0 +1,77 @@
+-- What claims of members speak of.
+use Rattle.std.specs.Prelude.{◌≡◌, ℕ, ◌-◌, ◌<◌, ◌≤◌, Bool, false, ◌&&◌, List, map, Option, Some, None, slice_get}
+use Rattle.base_core.specs.Name.{IsName}
+use Rattle.adb_view.specs.Plain.{Plain, null}
+use Rattle.adb_tables.specs.FieldIndexes.{DIR_FILES, PACKAGE_PATHS}
+use Rattle.adb_tables.specs.Values.{count_of, entries_in, entry_in}
+use Rattle.adb_rules.specs.Reserved.{is_reserved}
+use Rattle.db_core.specs.Members.{Member, is_coming, staying_member}
+use Rattle.db_core.specs.Seen.{packages_of}
+use Rattle.db_core.specs.declared.db.Db.{Db}
+use Rattle.path_claims.specs.Claims.{PathClaim, is_member}
+use Rattle.file_owners.specs.Owners.{owner_of_path}
+use Rattle.change_files.specs.FileChange.{FileChange}
+
+-- ---- files
+
+-- a file of folders, by their positions, which count from 1
+abbrev pub listed_file_at : Plain → ℕ → ℕ → Plain
+listed_file_at folders folder file =
+    entry_in (entry_in (entry_in folders (folder - 1)) DIR_FILES) (file - 1)
+
+-- folders have a file with these positions, which count from 1
+pub record HasFileAt (folders : Plain) (folder file : ℕ) : Type 0 where
+  pub folder_low : 0 < folder
+  pub folder_high : folder ≤ count_of (entries_in folders)
+  pub file_low : 0 < file
+  pub file_high : file ≤ count_of (entries_in (entry_in (entry_in folders (folder - 1)) DIR_FILES))
+
+-- ---- claims
+
+-- what a member lists: Null, as if it listed nothing, where there is no member
+abbrev pub folders_if_any : Option Member → Plain
+folders_if_any None = null
+folders_if_any (Some m) = entry_in m.pkg PACKAGE_PATHS
+
+-- the entry of the file that a claim speaks of
+unfoldable pub claim_entry : List Member → PathClaim → Plain
+claim_entry members c = listed_file_at (folders_if_any (slice_get members c.member)) c.folder c.file
+
+-- a claim speaks of a file of one of the members, whose path is a name
+pub record IsClaimOf (members : List Member) (c : PathClaim) : Type 0 where
+  pub member : Member
+  pub at : slice_get members c.member ≡ Some member
+  pub place : HasFileAt (entry_in member.pkg PACKAGE_PATHS) c.folder c.file
+  pub name : IsName c.path
+
+-- each of these claims does
+abbrev pub AreClaimsOf : List Member → List PathClaim → Type 0
+AreClaimsOf members cs = (i : ℕ) (c : PathClaim) → slice_get cs i ≡ Some c → IsClaimOf members c
+
+-- the packages of a database, none of which comes
+abbrev pub members_before : Db → List Member
+members_before db = map staying_member (packages_of db)
+
+-- ---- members that come
+
+-- false where there is no member
+abbrev pub comes_if_any : Option Member → Bool
+comes_if_any None = false
+comes_if_any (Some m) = is_coming m
+
+-- whether the member at a place comes
+abbrev pub comes_at : List Member → ℕ → Bool
+comes_at members place = comes_if_any (slice_get members place)
+
+-- a member that comes lists a reserved path
+abbrev pub is_reserved_coming : List Member → PathClaim → Bool
+is_reserved_coming members c = is_reserved c.path && comes_at members c.member
+
+-- the claim is that of the path's owner, and this member comes
+unfoldable pub is_of_coming_owner : List Member → PathClaim → Bool
+is_of_coming_owner members c =
+    is_member c.member (owner_of_path members c.path) && comes_at members c.member
+
+-- the packages before, as members none of which comes
+abbrev pub old_members : FileChange → List Member
+old_members change = map staying_member change.old

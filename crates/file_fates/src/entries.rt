@@ -1,0 +1,69 @@
+//! What the entries say of which claims speak.
+
+ghost use Rattle.std.specs.Prelude.{◌-◌, ◌<◌, ◌≤◌};
+ghost use Rattle.adb_fields.specs.ListValue.{list_value};
+ghost use Rattle.adb_schema.specs.Views.{package_value};
+ghost use Rattle.adb_tables.specs.Values.{count_of, entries_in, entry_in};
+ghost use Rattle.db_core.specs.Seen.{members_of};
+ghost use Rattle.file_guard.specs.Listed.{IsOfEntry};
+ghost use Rattle.path_claims.specs.Seen.{claim_seen};
+ghost use Rattle.file_fates.specs.ClaimEntries.{HasFileAt, IsClaimOf, claim_entry, listed_file_at, members_before};
+
+use adb_schema::{DirInfo, FileInfo, List, PackageView};
+use db_core::{Db, Members};
+use file_guard::{ListedFile, listed_file};
+use path_claims::Claim;
+use std::marker::PhantomData;
+
+/// What the file at a position of a folder says, which counts from 1.
+fn listed_in_files<'a>(files: &List<'a, FileInfo<'a>>, file: u32) -> ListedFile<'a>
+    requires low { 0 < file }
+    requires high { file ≤ count_of (entries_in (list_value files.now)) }
+    ensures { IsOfEntry result (entry_in (list_value files.now) (file - 1)) }
+{
+    let file = files.get(file as usize);
+    listed_file(&file)
+}
+
+/// The same of a file of folders; positions count from 1.
+fn listed_in_folders<'a>(folders: &List<'a, DirInfo<'a>>, folder: u32, file: u32) -> ListedFile<'a>
+    requires { HasFileAt (list_value folders.now) folder file }
+    ensures { IsOfEntry result (listed_file_at (list_value folders.now) folder file) }
+{
+    let folder = folders.get(folder as usize);
+    listed_in_files(&folder.files(), file)
+}
+
+/// The same of a package's file.
+fn listed_in<'a>(pkg: &PackageView<'a>, claim: &Claim<'_>) -> ListedFile<'a>
+    requires { HasFileAt (entry_in (package_value pkg.now) 1) claim.now.folder claim.now.file }
+    ensures { IsOfEntry result
+        (listed_file_at (entry_in (package_value pkg.now) 1) claim.now.folder claim.now.file) }
+{
+    listed_in_folders(&pkg.paths(), claim.folder, claim.file)
+}
+
+/// What the entry of the file that a claim of a member speaks of says.
+#[tactic(auto, unfolding(crate::specs::ClaimEntries::claim_entry))]
+pub(crate) fn listed_after<'a>(members: &Members<'a>, claim: &Claim<'_>) -> ListedFile<'a>
+    requires { IsClaimOf (members_of members.now) (claim_seen claim.now) }
+    ensures { IsOfEntry result (claim_entry (members_of members.now) (claim_seen claim.now)) }
+{
+    listed_in(members.view(claim.member as usize), claim)
+}
+
+/// The same of a claim of a database's package. The mark serves the borrow checker alone, which
+/// does not know the parts of a view that is made and lent here unless the signature names the view
+/// as an argument.
+#[tactic(auto, unfolding(crate::specs::ClaimEntries::claim_entry))]
+pub(crate) fn listed_before<'a>(
+    db: &Db<'a>,
+    claim: &Claim<'_>,
+    _mark: PhantomData<PackageView<'a>>,
+) -> ListedFile<'a>
+    requires { IsClaimOf (members_before db.now) (claim_seen claim.now) }
+    ensures { IsOfEntry result (claim_entry (members_before db.now) (claim_seen claim.now)) }
+{
+    let pkg = db.package(claim.member as usize);
+    listed_in(&pkg, claim)
+}

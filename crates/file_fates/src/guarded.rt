@@ -1,0 +1,54 @@
+//! Configuration, which the user may change, and the names beside it.
+
+ghost use Rattle.std.specs.Prelude.{◌≡◌, ◌≤◌, ◌+◌, IfOk, length, option_map};
+ghost use Rattle.adb_fields.specs.JoinedPath.{joined_path};
+ghost use Rattle.change_files.specs.Fate.{aside_name, is_guarded};
+ghost use Rattle.change_files.specs.FilesAfter.{path_beside};
+
+use adb_fields::FilePath;
+use base_core::Name;
+use std::alloc::{AllocError, Global};
+
+/// What stands behind the name of a file that is laid beside another one.
+const ASIDE_ENDING: &[u8] = b".apk-new";
+
+/// Whether a path is that of configuration: it is below `etc`.
+pub(crate) fn is_guarded(path: &FilePath<'_>) -> bool
+    ensures { result ≡ is_guarded (joined_path path.now) }
+{
+    if path.folder.is_empty() {
+        return path.name.starts_with(b"etc/");
+    }
+    path.folder == b"etc".as_slice() || path.folder.starts_with(b"etc/")
+}
+
+/// The bytes of the name beside this one.
+pub(crate) fn aside_bytes(alloc: Global, name: &[u8]) -> Result<Vec<u8>, AllocError>
+    ensures { IfOk result (λ bytes. bytes.items ≡ aside_name name.now) }
+{
+    let mut bytes = Vec::from_slice(alloc, name)?;
+    bytes.extend_from_slice(ASIDE_ENDING)?;
+    Ok(bytes)
+}
+
+/// The name beside this one. The ending has eight bytes, and a name at most 1,024.
+pub fn name_beside(alloc: Global, name: &Name) -> Result<Name, AllocError>
+    requires { length name.now + 8 ≤ 1024 }
+    ensures { IfOk result (λ beside. beside ≡ aside_name name.now) }
+{
+    let bytes = aside_bytes(alloc, name.as_bytes())?;
+    Name::of(alloc, &bytes)
+}
+
+/// The path beside which a file of this path would lie: what stands in front of the ending.
+pub(crate) fn path_beside<'a>(path: &FilePath<'a>) -> Option<FilePath<'a>>
+    ensures { option_map joined_path result ≡ path_beside (joined_path path.now) }
+{
+    match path.name.strip_suffix(ASIDE_ENDING) {
+        Some(name) => Some(FilePath {
+            folder: path.folder,
+            name,
+        }),
+        None => None,
+    }
+}

@@ -1,0 +1,21 @@
+//! The files that a change of packages brings and those that it leaves over, with what becomes of
+//! each: whether the user changed what stands there, and which file is laid down, laid beside
+//! another one, removed or kept.
+//!
+//! The contracts cite `ClaimEntries` (the claims of packages, and what their entries say), `Sides`
+//! (a change, as claims before and after it), `Fates` and `Going` (what becomes of a file that
+//! comes, and of one that is left over) and `Found` (the same, as the tree shows it) of `specs/`.
+#![tactic(auto)]
+
+mod change;
+mod coming;
+mod entries;
+mod fate;
+mod guarded;
+mod parts;
+
+pub use change::Change;
+pub use coming::{comes, coming_claims};
+pub use fate::{Fate, fates_of};
+pub use guarded::name_beside;
+pub use parts::{claims_where, claims_with, left_claims, stays_of};

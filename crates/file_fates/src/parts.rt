@@ -1,0 +1,189 @@
+//! The files that come by what becomes of them, and the files that go.
+
+ghost use Rattle.std.specs.Prelude.{◌≡◌, IfOk, OnOk, Some, [], ◌∷◌, ◌++◌, length, map};
+ghost use Rattle.std.specs.List.{filter};
+ghost use Rattle.std.specs.List.Sorted.{IsSorted};
+ghost use Rattle.adb_fields.specs.JoinedPath.{joined_path};
+ghost use Rattle.base_core.specs.Read.{OnlyReads};
+ghost use Rattle.path_claims.specs.Claims.{claim_cmp};
+ghost use Rattle.path_claims.specs.Seen.{claim_seen};
+ghost use Rattle.file_fates.specs.ClaimEntries.{AreClaimsOf, IsClaimOf, members_before};
+ghost use Rattle.file_fates.specs.Fates.{fate_seen, is_fate, is_flag, marked_claims};
+ghost use Rattle.file_fates.specs.Found.{AreByFiles, IsByFile};
+ghost use Rattle.file_fates.specs.Going.{does_stay, is_beside, is_left};
+ghost use Rattle.file_fates.specs.Sides.{HasClaims, claims_before, file_change_of};
+
+use crate::change::Change;
+use crate::entries::listed_before;
+use crate::fate::{Fate, is_changed};
+use crate::guarded::{is_guarded, path_beside};
+use adb_fields::FilePath;
+use base_core::{Tree, TreeFault};
+use claim_lists::{find_claim, find_next_claim, name_of_path};
+use file_guard::compare_file;
+use path_claims::Claim;
+use std::alloc::{AllocError, Global};
+use std::marker::PhantomData;
+
+/// Whether two fates are one.
+fn is_fate(one: Fate, other: Fate) -> bool
+    ensures { result ≡ is_fate (fate_seen one) (fate_seen other) }
+{
+    match (one, other) {
+        (Fate::GoesIn, Fate::GoesIn) => true,
+        (Fate::GivesWay, Fate::GivesWay) => true,
+        (Fate::GoesAside, Fate::GoesAside) => true,
+        _ => false,
+    }
+}
+
+/// The claims of the files that come with this fate.
+pub fn claims_with<'n>(
+    alloc: Global,
+    coming: &[Claim<'n>],
+    fates: &[Fate],
+    fate: Fate,
+) -> Result<Vec<Claim<'n>>, AllocError>
+    requires { length fates.now ≡ length coming.now }
+    ensures { IfOk result (λ some. map claim_seen some.items ≡ marked_claims
+        (is_fate (fate_seen fate)) (map claim_seen coming.now) (map fate_seen fates.now)) }
+{
+    let mut some = Vec::new(alloc);
+    for i in 0..coming.len() {
+        if is_fate(fate, fates[i]) {
+            some.push(coming[i])?;
+        }
+    }
+    Ok(some)
+}
+
+/// Whether a file is laid beside another one under this path.
+fn is_beside(asides: &[Claim<'_>], path: &FilePath<'_>) -> bool
+    requires { IsSorted claim_cmp (map claim_seen asides.now) }
+    ensures { result ≡ is_beside (map claim_seen asides.now) (joined_path path.now) }
+{
+    match path_beside(path) {
+        Some(beside) => find_claim(asides, &beside).is_some(),
+        None => false,
+    }
+}
+
+/// Whether no package lists a path any more, and nothing is laid beside another one there. Paths
+/// that are asked for in their order are looked for from `next` on.
+fn is_left(
+    change: &Change<'_, '_, '_>,
+    asides: &[Claim<'_>],
+    path: &FilePath<'_>,
+    next: &mut usize,
+) -> bool
+    requires claims { HasClaims change.now }
+    requires sorted { IsSorted claim_cmp (map claim_seen asides.now) }
+    ensures { result ≡ is_left (file_change_of change.now) (map claim_seen asides.now)
+        (joined_path path.now) }
+{
+    if find_next_claim(change.after, path, next).is_some() {
+        return false;
+    }
+    !is_beside(asides, path)
+}
+
+/// The claims of the packages before whose paths no package lists any more, and under which nothing
+/// is laid beside another file.
+pub fn left_claims<'o>(
+    alloc: Global,
+    change: &Change<'_, 'o, '_>,
+    asides: &[Claim<'_>],
+) -> Result<Vec<Claim<'o>>, AllocError>
+    requires claims { HasClaims change.now }
+    requires sorted { IsSorted claim_cmp (map claim_seen asides.now) }
+    ensures { IfOk result (λ left. map claim_seen left.items
+        ≡ filter (λ c. is_left (file_change_of change.now) (map claim_seen asides.now) c.path)
+        (claims_before change.now)) }
+{
+    let mut left = Vec::new(alloc);
+    let mut next = 0;
+    for i in 0..change.before.len() {
+        if is_left(change, asides, &change.before[i].path, &mut next) {
+            left.push(change.before[i])?;
+        }
+    }
+    Ok(left)
+}
+
+/// Whether the user's file stays though no package lists its path any more.
+fn does_stay<T: Tree>(
+    alloc: Global,
+    tree: &mut T,
+    change: &Change<'_, '_, '_>,
+    claim: &Claim<'_>,
+) -> Result<bool, TreeFault>
+    requires { IsClaimOf (members_before change.now.db.now) (claim_seen claim.now) }
+    ensures stays { IfOk result (IsByFile (does_stay (file_change_of change.now))
+        (T.history tree.old) (claim_seen claim.now)) }
+    ensures tree { OnlyReads TreeFault.Disk (T.history tree.old) (T.history tree.new)
+        (T.counts tree.old) (T.counts tree.new) result }
+{
+    if change.purge || !is_guarded(&claim.path) {
+        return Ok(false);
+    }
+    let name = name_of_path(alloc, &claim.path)?;
+    let listed = listed_before(change.db, claim, PhantomData);
+    let found = compare_file(tree, &name, None, Some(listed))?;
+    Ok(is_changed(found))
+}
+
+/// Puts a flag behind the others.
+fn add_flag(flags: &mut Vec<bool>, flag: bool) -> Result<(), AllocError>
+    ensures { OnOk result (flags.new.items ≡ flags.old.items ++ flag ∷ []) }
+{
+    flags.push(flag)?;
+    Ok(())
+}
+
+/// For each claim of a path that is left over whether the user's file stays there.
+pub fn stays_of<T: Tree>(
+    alloc: Global,
+    tree: &mut T,
+    change: &Change<'_, '_, '_>,
+    left: &[Claim<'_>],
+) -> Result<Vec<bool>, TreeFault>
+    requires { AreClaimsOf (members_before change.now.db.now) (map claim_seen left.now) }
+    ensures stays { IfOk result (λ stays. AreByFiles (does_stay (file_change_of change.now))
+        (T.history tree.old) (map claim_seen left.now) stays.items) }
+    ensures tree { OnlyReads TreeFault.Disk (T.history tree.old) (T.history tree.new)
+        (T.counts tree.old) (T.counts tree.new) result }
+{
+    let mut stays = Vec::new(alloc);
+    for claim in left {
+        let flag = does_stay(alloc, tree, change, claim)?;
+        add_flag(&mut stays, flag)?;
+    }
+    Ok(stays)
+}
+
+/// Whether two flags are one.
+fn is_flag(one: bool, other: bool) -> bool
+    ensures { result ≡ is_flag one other }
+{
+    if one { other } else { !other }
+}
+
+/// The claims whose flag is this one.
+pub fn claims_where<'o>(
+    alloc: Global,
+    left: &[Claim<'o>],
+    flags: &[bool],
+    flag: bool,
+) -> Result<Vec<Claim<'o>>, AllocError>
+    requires { length flags.now ≡ length left.now }
+    ensures { IfOk result (λ some. map claim_seen some.items
+        ≡ marked_claims (is_flag flag) (map claim_seen left.now) flags.now) }
+{
+    let mut some = Vec::new(alloc);
+    for i in 0..left.len() {
+        if is_flag(flag, flags[i]) {
+            some.push(left[i])?;
+        }
+    }
+    Ok(some)
+}

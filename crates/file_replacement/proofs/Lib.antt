@@ -1,0 +1,5 @@
+pub mod FillRun
+pub mod Joined
+pub mod Proper
+pub mod Settle
+pub mod Suffix

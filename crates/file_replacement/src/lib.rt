@@ -1,0 +1,9 @@
+//! A whole file is put in the place of another, so that a crash leaves the old one or the new one.
+//!
+//! The contract cites `Replacing`, `Reading` and `Recovery` (the state that files stand for) of
+//! `journal_core`.
+#![tactic(auto)]
+
+mod replacing;
+
+pub use replacing::replace;

@@ -1,0 +1,270 @@
+//! What an earlier change left to do is done, and nothing waits any more.
+ghost use Rattle.std.specs.Prelude.{◌≡◌, [], ℕ, Bool, true, List, Some, None, IsSome, OnOk, OnErr, IsErrOf};
+ghost use Rattle.adb_schema.specs.Soundness.{first_fault};
+ghost use Rattle.adb_tables.specs.declared.tables.Which.TheVariants.{Intent as IntentTable};
+ghost use Rattle.base_core.specs.Calls.{HasNow, IfObservable};
+ghost use Rattle.base_core.specs.Crash.{IsOrderly, Since};
+ghost use Rattle.base_core.specs.Faults.{GoesOn, HasCause, IsNoFault};
+ghost use Rattle.base_core.specs.Tree.{files_of};
+ghost use Rattle.base_core.specs.declared.cause.Cause.{Cause};
+ghost use Rattle.journal_core.specs.Kept.{HasOldOrNewBytes, IsInNoMap, IsLessWaiting, KeepsFilesBut, RecoversTo, ShownNamesLast};
+ghost use Rattle.journal_core.specs.Quiet.{IsStill};
+ghost use Rattle.journal_core.specs.Recovering.{AllStaged, IsEmptied, IsReplayed, IsWithout};
+ghost use Rattle.journal_core.specs.Recovery.{IsSettled, RestsOn, intent_name, intent_of, is_staged, recovered_files};
+ghost use Rattle.journal_core.specs.Staged.{HasRoomToReplay, IsEmptyStage, IsIntentFault, unstaged_files};
+
+use base_core::{
+    Disk, Names, Tree, TreeFault, a_crash_may_leave_the_files_as_read, order_outlasts_a_crash,
+    read_all,
+};
+use journal_core::calls::remove;
+use journal_core::{Journal, RecoverFault, Stage, apply_all};
+use journal_intent::{intent_name, stage_folder};
+use std::alloc::{AllocError, Global};
+
+/// Finishes what the intent says, if there is one, and takes away all that waits.
+///
+/// # Errors
+///
+/// `IntentBad` where the intent is no intent container; then nothing has changed.
+pub fn recover<T: Tree>(alloc: Global, tree: &mut T) -> Result<(), RecoverFault>
+    // At each moment the tree is orderly and nothing has happened to the state, also to that of the
+    // files as read.
+    ensures moments { IfObservable (T.history tree.old) (λ v. (ignored : List ℕ → Bool)
+        → IsOrderly (RestsOn ignored) v
+        → Since (IsStill ignored v) (T.history tree.old) (T.history tree.new)) }
+
+    // Whatever the order, the files as read stand for the same at each moment, but for what waits.
+    ensures reads { IfObservable (T.history tree.old) (λ v.
+        Since (λ w. unstaged_files (files_of w) ≡ unstaged_files (files_of v))
+        (T.history tree.old) (T.history tree.new)) }
+
+    // At each moment a name that does not wait has its old bytes or its recovered ones.
+    ensures bytes { IfObservable (T.history tree.old) (λ v.
+        Since (HasOldOrNewBytes (files_of v) (unstaged_files (files_of v)))
+        (T.history tree.old) (T.history tree.new)) }
+
+    // Once it has answered Ok, the files as read have the intent done and nothing that waits; and
+    // no intent is read.
+    ensures files { IfObservable (T.history tree.old) (λ v.
+        OnOk result (HasNow (T.history tree.new) (λ w. (files_of w ≡ unstaged_files (files_of v))
+        × (w.names intent_name ≡ None)))) }
+
+    // Where it found an intent, each crash leaves their state.
+    ensures settled { IfObservable (T.history tree.old) (λ v. (ignored : List ℕ → Bool)
+        → IsOrderly (RestsOn ignored) v → IsSome (intent_of (files_of v))
+        → OnOk result (HasNow (T.history tree.new) (IsSettled ignored (files_of v)))) }
+
+    // Whatever it answers, what waits only goes.
+    ensures waiting { IfObservable (T.history tree.old) (λ v.
+        Since (IsLessWaiting v) (T.history tree.old) (T.history tree.new)) }
+
+    // Where it found an intent: as soon as none is read, a crash undoes no change of a name that
+    // does not wait.
+    ensures last { IfObservable (T.history tree.old) (λ v. IsSome (v.names intent_name)
+        → Since (λ w. w.names intent_name ≡ None → ShownNamesLast w)
+        (T.history tree.old) (T.history tree.new)) }
+
+    // Nor does a crash bring the intent back.
+    ensures gone { IfObservable (T.history tree.old) (λ v. IsSome (v.names intent_name)
+        → OnOk result (HasNow (T.history tree.new) (IsInNoMap intent_name))) }
+
+    // Where there is nothing to do, no writing call is made.
+    ensures idle { IfObservable (T.history tree.old) (λ v. v.names intent_name ≡ None
+        → IsEmptyStage v.names → T.history tree.new ≡ T.history tree.old) }
+
+    // The intent is refused exactly where it is no intent container. There nothing changes,
+    // whatever is answered.
+    ensures bad { (cause : Cause) → IsErrOf result (RecoverFault.IntentBad cause)
+        → (T.history tree.new ≡ T.history tree.old)
+        × IfObservable (T.history tree.old) (λ v. IsIntentFault (files_of v) cause) }
+    ensures good { IfObservable (T.history tree.old) (λ v. OnOk result ((cause : Cause)
+        → IsIntentFault (files_of v) cause → ⊥)) }
+    ensures bad_idle { IfObservable (T.history tree.old) (λ v. (cause : Cause)
+        → IsIntentFault (files_of v) cause → T.history tree.new ≡ T.history tree.old) }
+    ensures found { (cause : Cause) → IsErrOf result (RecoverFault.IntentBad cause)
+        → (file : List ℕ) × (first_fault IntentTable file ≡ Some cause) }
+    ensures goes_on { GoesOn (T.counts tree.old) (T.counts tree.new) }
+    ensures disk { IsErrOf result RecoverFault.Disk
+        → HasCause (T.counts tree.old) (T.counts tree.new) }
+    ensures kept { OnOk result (IsNoFault (T.counts tree.old) (T.counts tree.new)) }
+    ensures memory { IsErrOf result RecoverFault.Memory
+        → IsNoFault (T.counts tree.old) (T.counts tree.new) }
+    ensures refused { (cause : Cause) → IsErrOf result (RecoverFault.IntentBad cause)
+        → IsNoFault (T.counts tree.old) (T.counts tree.new) }
+
+    // Where an intent that is found has room for its actions, no call is a misuse.
+    ensures proper { IfObservable (T.history tree.old) (λ v. HasRoomToReplay (files_of v)
+        → (T.counts tree.new).misuses ≡ (T.counts tree.old).misuses) }
+{
+    replay(alloc, tree)?;
+    empty_stage(alloc, tree)?;
+    Ok(())
+}
+
+/// Finishes what the intent says, if there is one.
+fn replay<T: Tree>(alloc: Global, tree: &mut T) -> Result<(), RecoverFault>
+    ensures moments { IfObservable (T.history tree.old) (λ v. (ignored : List ℕ → Bool)
+        → IsOrderly (RestsOn ignored) v
+        → Since (IsStill ignored v) (T.history tree.old) (T.history tree.new)) }
+    ensures reads { IfObservable (T.history tree.old) (λ v.
+        Since (RecoversTo (recovered_files (files_of v)))
+        (T.history tree.old) (T.history tree.new)) }
+    ensures bytes { IfObservable (T.history tree.old) (λ v.
+        Since (HasOldOrNewBytes (files_of v) (recovered_files (files_of v)))
+        (T.history tree.old) (T.history tree.new)) }
+    ensures replayed { IfObservable (T.history tree.old) (λ v.
+        OnOk result (HasNow (T.history tree.new) (IsReplayed v))) }
+    ensures settled { IfObservable (T.history tree.old) (λ v. (ignored : List ℕ → Bool)
+        → IsOrderly (RestsOn ignored) v → IsSome (intent_of (files_of v))
+        → OnOk result (HasNow (T.history tree.new)
+        (IsSettled ignored (recovered_files (files_of v))))) }
+    ensures waiting { IfObservable (T.history tree.old) (λ v.
+        Since (IsLessWaiting v) (T.history tree.old) (T.history tree.new)) }
+    ensures last { IfObservable (T.history tree.old) (λ v. IsSome (v.names intent_name)
+        → Since (λ w. w.names intent_name ≡ None → ShownNamesLast w)
+        (T.history tree.old) (T.history tree.new)) }
+    ensures gone { IfObservable (T.history tree.old) (λ v. IsSome (v.names intent_name)
+        → OnOk result (IfObservable (T.history tree.new) (IsInNoMap intent_name))) }
+    ensures idle { IfObservable (T.history tree.old) (λ v. v.names intent_name ≡ None
+        → T.history tree.new ≡ T.history tree.old) }
+    ensures bad { (cause : Cause) → IsErrOf result (RecoverFault.IntentBad cause)
+        → (T.history tree.new ≡ T.history tree.old)
+        × IfObservable (T.history tree.old) (λ v. IsIntentFault (files_of v) cause) }
+    ensures good { IfObservable (T.history tree.old) (λ v. OnOk result ((cause : Cause)
+        → IsIntentFault (files_of v) cause → ⊥)) }
+    ensures bad_idle { IfObservable (T.history tree.old) (λ v. (cause : Cause)
+        → IsIntentFault (files_of v) cause → T.history tree.new ≡ T.history tree.old) }
+    ensures found { (cause : Cause) → IsErrOf result (RecoverFault.IntentBad cause)
+        → (file : List ℕ) × (first_fault IntentTable file ≡ Some cause) }
+    ensures goes_on { GoesOn (T.counts tree.old) (T.counts tree.new) }
+    ensures disk { IsErrOf result RecoverFault.Disk
+        → HasCause (T.counts tree.old) (T.counts tree.new) }
+    ensures kept { OnOk result (IsNoFault (T.counts tree.old) (T.counts tree.new)) }
+    ensures memory { IsErrOf result RecoverFault.Memory
+        → IsNoFault (T.counts tree.old) (T.counts tree.new) }
+    ensures refused { (cause : Cause) → IsErrOf result (RecoverFault.IntentBad cause)
+        → IsNoFault (T.counts tree.old) (T.counts tree.new) }
+    ensures proper { IfObservable (T.history tree.old) (λ v. HasRoomToReplay (files_of v)
+        → (T.counts tree.new).misuses ≡ (T.counts tree.old).misuses) }
+{
+    let name = intent_name(alloc)?;
+    match read_all(alloc, tree, &name)? {
+        Some(file) => replay_file(alloc, tree, file),
+        None => Ok(()),
+    }
+}
+
+/// Does what the intent of this file says.
+fn replay_file<T: Tree>(alloc: Global, tree: &mut T, file: Vec<u8>) -> Result<(), RecoverFault>
+    ensures moments { IfObservable (T.history tree.old) (λ v. (ignored : List ℕ → Bool)
+        → IsOrderly (RestsOn ignored) v → files_of v intent_name ≡ Some file.items
+        → Since (IsStill ignored v) (T.history tree.old) (T.history tree.new)) }
+    ensures reads { IfObservable (T.history tree.old) (λ v. files_of v intent_name
+        ≡ Some file.items → Since (RecoversTo (recovered_files (files_of v)))
+        (T.history tree.old) (T.history tree.new)) }
+    ensures bytes { IfObservable (T.history tree.old) (λ v. files_of v intent_name
+        ≡ Some file.items
+        → Since (HasOldOrNewBytes (files_of v) (recovered_files (files_of v)))
+        (T.history tree.old) (T.history tree.new)) }
+    ensures replayed { IfObservable (T.history tree.old) (λ v. files_of v intent_name
+        ≡ Some file.items → OnOk result (HasNow (T.history tree.new) (IsReplayed v))) }
+    ensures settled { IfObservable (T.history tree.old) (λ v. (ignored : List ℕ → Bool)
+        → IsOrderly (RestsOn ignored) v → files_of v intent_name ≡ Some file.items
+        → OnOk result (HasNow (T.history tree.new)
+        (IsSettled ignored (recovered_files (files_of v))))) }
+    ensures waiting { IfObservable (T.history tree.old) (λ v.
+        Since (IsLessWaiting v) (T.history tree.old) (T.history tree.new)) }
+    ensures last { IfObservable (T.history tree.old) (λ v. IsSome (v.names intent_name)
+        → Since (λ w. w.names intent_name ≡ None → ShownNamesLast w)
+        (T.history tree.old) (T.history tree.new)) }
+    ensures gone { OnOk result (IfObservable (T.history tree.new) (IsInNoMap intent_name)) }
+    ensures bad { (cause : Cause) → IsErrOf result (RecoverFault.IntentBad cause)
+        → (T.history tree.new ≡ T.history tree.old)
+        × (first_fault IntentTable file.items ≡ Some cause) }
+    ensures good { OnOk result (first_fault IntentTable file.items ≡ None) }
+    ensures bad_idle { (cause : Cause) → first_fault IntentTable file.items ≡ Some cause
+        → T.history tree.new ≡ T.history tree.old }
+    ensures goes_on { GoesOn (T.counts tree.old) (T.counts tree.new) }
+    ensures disk { IsErrOf result RecoverFault.Disk
+        → HasCause (T.counts tree.old) (T.counts tree.new) }
+    ensures kept { OnOk result (IsNoFault (T.counts tree.old) (T.counts tree.new)) }
+    ensures memory { IsErrOf result RecoverFault.Memory
+        → IsNoFault (T.counts tree.old) (T.counts tree.new) }
+    ensures refused { (cause : Cause) → IsErrOf result (RecoverFault.IntentBad cause)
+        → IsNoFault (T.counts tree.old) (T.counts tree.new) }
+    ensures proper { IfObservable (T.history tree.old) (λ v. files_of v intent_name
+        ≡ Some file.items → HasRoomToReplay (files_of v)
+        → (T.counts tree.new).misuses ≡ (T.counts tree.old).misuses) }
+{
+    let mut stage = Stage::found(alloc, file)?;
+    apply_all(&mut stage, tree)?;
+    stage.finish(tree)?;
+    Ok(())
+}
+
+/// Takes away all that waits.
+fn empty_stage<T: Tree>(alloc: Global, tree: &mut T) -> Result<(), TreeFault>
+    ensures moments { IfObservable (T.history tree.old) (λ v. (ignored : List ℕ → Bool)
+        → IsOrderly (RestsOn ignored) v → v.names intent_name ≡ None
+        → Since (IsStill ignored v) (T.history tree.old) (T.history tree.new)) }
+    ensures shown { IfObservable (T.history tree.old) (λ v.
+        Since (KeepsFilesBut (λ q. is_staged q ≡ true) v)
+        (T.history tree.old) (T.history tree.new)) }
+    ensures waiting { IfObservable (T.history tree.old) (λ v.
+        Since (IsLessWaiting v) (T.history tree.old) (T.history tree.new)) }
+    ensures last { IfObservable (T.history tree.old) (λ v. ShownNamesLast v
+        → Since ShownNamesLast (T.history tree.old) (T.history tree.new)) }
+    ensures emptied { IfObservable (T.history tree.old) (λ v.
+        OnOk result (HasNow (T.history tree.new) (IsEmptied v))) }
+    ensures gone { IfObservable (T.history tree.old) (λ v. OnOk result (IsInNoMap intent_name v
+        → HasNow (T.history tree.new) (IsInNoMap intent_name))) }
+    ensures idle { IfObservable (T.history tree.old) (λ v. IsEmptyStage v.names
+        → T.history tree.new ≡ T.history tree.old) }
+    ensures goes_on { GoesOn (T.counts tree.old) (T.counts tree.new) }
+    ensures disk { IsErrOf result TreeFault.Disk
+        → HasCause (T.counts tree.old) (T.counts tree.new) }
+    ensures kept { OnOk result (IsNoFault (T.counts tree.old) (T.counts tree.new)) }
+    ensures memory { IsErrOf result TreeFault.Memory
+        → (T.history tree.new ≡ T.history tree.old)
+        × IsNoFault (T.counts tree.old) (T.counts tree.new) }
+    ensures proper { IfObservable (T.history tree.old) (λ v. (T.counts tree.new).misuses
+        ≡ (T.counts tree.old).misuses) }
+{
+    let folder = stage_folder(alloc)?;
+    let names = tree.list(alloc, &folder)?;
+    remove_all(tree, &names)?;
+    Ok(())
+}
+
+/// Takes these names away.
+fn remove_all<T: Tree>(tree: &mut T, names: &Names) -> Result<(), Disk>
+    ensures moments { IfObservable (T.history tree.old) (λ v. (ignored : List ℕ → Bool)
+        → IsOrderly (RestsOn ignored) v → v.names intent_name ≡ None → AllStaged names.now
+        → Since (IsStill ignored v) (T.history tree.old) (T.history tree.new)) }
+    ensures shown { IfObservable (T.history tree.old) (λ v. AllStaged names.now
+        → Since (KeepsFilesBut (λ q. is_staged q ≡ true) v)
+        (T.history tree.old) (T.history tree.new)) }
+    ensures waiting { IfObservable (T.history tree.old) (λ v.
+        Since (IsLessWaiting v) (T.history tree.old) (T.history tree.new)) }
+    ensures last { IfObservable (T.history tree.old) (λ v. AllStaged names.now
+        → ShownNamesLast v
+        → Since ShownNamesLast (T.history tree.old) (T.history tree.new)) }
+    ensures cleared { IfObservable (T.history tree.old) (λ v.
+        OnOk result (HasNow (T.history tree.new) (IsWithout names.now v))) }
+    ensures gone { IfObservable (T.history tree.old) (λ v. OnOk result (IsInNoMap intent_name v
+        → HasNow (T.history tree.new) (IsInNoMap intent_name))) }
+    ensures none { names.now ≡ [] → T.history tree.new ≡ T.history tree.old }
+    ensures goes_on { GoesOn (T.counts tree.old) (T.counts tree.new) }
+    ensures cause { OnErr result (HasCause (T.counts tree.old) (T.counts tree.new)) }
+    ensures kept { OnOk result (IsNoFault (T.counts tree.old) (T.counts tree.new)) }
+    ensures proper { IfObservable (T.history tree.old) (λ v. (T.counts tree.new).misuses
+        ≡ (T.counts tree.old).misuses) }
+{
+    a_crash_may_leave_the_files_as_read();
+    order_outlasts_a_crash::<Journal>();
+    for i in 0..names.len() {
+        remove(tree, names.get(i))?;
+    }
+    Ok(())
+}

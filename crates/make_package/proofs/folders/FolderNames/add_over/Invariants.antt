@@ -1,6 +1,0 @@
-use Rattle.std.proofs.Common.{◌≡◌, take}
-use Rattle.make_package.specs.Folders.{with_folders, before_slashes}
-use Rattle.make_package.proofs.folders.FolderNames.add_over.Given as goal
-
-abbrev pub invariant-loop-i : goal.invariant-loop-i
-invariant-loop-i l = l.self ≡ with_folders l.initial.self (before_slashes (take l.i l.path))

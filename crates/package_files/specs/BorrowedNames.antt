@@ -1,0 +1,25 @@
+-- Folders as the program has them.
+use Rattle.std.specs.Prelude.{◌≡◌, ℕ, ◌<◌, ◌==◌, false, List, [], ◌∷◌, length, map, slice_index_or, bytes_eq, Option, Some, None, Vec}
+use Rattle.std.specs.Borrow.{Bor}
+use Rattle.package_files.specs.Folders.{FolderListing}
+use Rattle.std.specs.declared.alloc.Global.{Global}
+
+-- the names in a list that borrows them
+abbrev pub names_borrowed : Vec (Bor (List ℕ)) Global → List (List ℕ)
+names_borrowed names = map (λ (name : Bor (List ℕ)). name.now) names.items
+
+-- the index of a name in a list where each stands once, or none
+abbrev pub IsIndexOf : List ℕ → List (List ℕ) → Option ℕ → Type 0
+IsIndexOf name names None =
+    (k : ℕ) → k < length names → bytes_eq name (slice_index_or names k []) ≡ false
+IsIndexOf name names (Some at) =
+    (at < length names)
+    × ((k : ℕ) → k < length names → bytes_eq name (slice_index_or names k []) ≡ (k == at))
+
+-- folders, and for each the names in the tree of its files
+abbrev pub listings_of :
+    List (List ℕ) → List (Vec (Bor (List ℕ)) Global) → List FolderListing
+listings_of [] files = []
+listings_of (folder ∷ folders) [] = []
+listings_of (folder ∷ folders) (names ∷ files) =
+    record { name = folder; files = names_borrowed names } ∷ listings_of folders files

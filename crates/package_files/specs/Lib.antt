@@ -1,0 +1,9 @@
+-- what the contract of `apk` says
+pub mod Folders
+pub mod Package
+pub mod Sources
+pub mod Runs
+-- what only inner contracts and proofs use
+pub mod Packed
+pub mod Blocks
+pub mod BorrowedNames

@@ -1,0 +1,81 @@
+-- Folders and files as the program packs them, and the values that stand for them.
+use Rattle.std.specs.Prelude.{◌≡◌, ℕ, List, [], ◌∷◌, ◌++◌, map, sum_by, Vec}
+use Rattle.std.specs.declared.alloc.Global.{Global}
+use Rattle.adb_view.specs.Plain.{Plain}
+use Rattle.package_files.specs.declared.file.File.{File}
+use Rattle.package_files.specs.declared.file.Folder.{Folder}
+use Rattle.package_files.specs.declared.file.Packing.{Packing}
+use Rattle.package_files.specs.Package.{Source, SourceFolder, kind_of_file, value_of_kind, size_of_kind, folder_with, contents_of_file, contents_of_files, contents_of_folders}
+use Rattle.package_files.specs.Blocks.{contents_blocks}
+
+-- the entry of a file that was packed
+abbrev pub packed_file : File → Plain
+packed_file file = value_of_kind file.name.now file.kind
+
+-- and of a folder
+abbrev pub packed_folder : Folder → Plain
+packed_folder folder = folder_with folder.name.now (map packed_file folder.files.items)
+
+-- the sum of the sizes
+abbrev pub files_size : List File → ℕ
+files_size files = sum_by (λ (file : File). size_of_kind file.kind) files
+
+-- of all folders
+abbrev pub packed_size : List Folder → ℕ
+packed_size folders = sum_by (λ (folder : Folder). files_size folder.files.items) folders
+
+-- a file of a package has the name, and is what the bytes say
+pub record IsFileFrom (file : File) (source : Source) : Type 0 where
+  pub name : file.name.now ≡ source.name
+  pub kind : file.kind ≡ kind_of_file source.bytes
+
+-- one by one, and as many
+abbrev pub AreFilesFrom : List File → List Source → Type 0
+AreFilesFrom [] [] = Unit {0}
+AreFilesFrom [] (source ∷ sources) = ⊥
+AreFilesFrom (file ∷ files) [] = ⊥
+AreFilesFrom (file ∷ files) (source ∷ sources) =
+    IsFileFrom file source × AreFilesFrom files sources
+
+-- a folder of a package has the name, and its files are what their bytes say
+pub record IsFolderFrom (folder : Folder) (source : SourceFolder) : Type 0 where
+  pub name : folder.name.now ≡ source.name
+  pub files : AreFilesFrom folder.files.items source.files
+
+-- one by one, and as many
+abbrev pub AreFoldersFrom : List Folder → List SourceFolder → Type 0
+AreFoldersFrom [] [] = Unit {0}
+AreFoldersFrom [] (source ∷ sources) = ⊥
+AreFoldersFrom (folder ∷ folders) [] = ⊥
+AreFoldersFrom (folder ∷ folders) (source ∷ sources) =
+    IsFolderFrom folder source × AreFoldersFrom folders sources
+
+-- ---- what is appended to the blocks meanwhile
+
+-- a file was packed: it is what its bytes say, and its block of contents stands behind those before
+pub record IsPackedFile (folder at : ℕ) (before later : List ℕ) (file : File) (source : Source) :
+    Type 0 where
+  pub is : IsFileFrom file source
+  pub blocks : later ≡ before ++ contents_blocks (contents_of_file folder at source.bytes)
+
+-- so were files, from the first of the folder on
+pub record ArePackedFiles (folder : ℕ) (before later : List ℕ) (files : Vec File Global)
+    (sources : List Source) : Type 0 where
+  pub are : AreFilesFrom files.items sources
+  pub blocks : later ≡ before ++ contents_blocks (contents_of_files folder 1 sources)
+
+-- a folder was packed, with its position among the folders
+pub record IsPackedFolder (folder : ℕ) (before later : List ℕ) (packed : Folder)
+    (source : SourceFolder) : Type 0 where
+  pub is : IsFolderFrom packed source
+  pub blocks : later ≡ before ++ contents_blocks (contents_of_files folder 1 source.files)
+
+-- folders were packed, counted from 1, and these are the blocks of their files
+pub record ArePackedFolders (written : List ℕ) (folders : Vec Folder Global)
+    (sources : List SourceFolder) : Type 0 where
+  pub are : AreFoldersFrom folders.items sources
+  pub blocks : written ≡ contents_blocks (contents_of_folders 1 sources)
+
+-- folders and blocks together
+abbrev pub IsPacking : Packing → List SourceFolder → Type 0
+IsPacking packing sources = ArePackedFolders packing.blocks.items packing.folders sources

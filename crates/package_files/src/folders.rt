@@ -1,0 +1,176 @@
+//! The folders of a package, and which of the files below a folder of the tree stands in which.
+ghost use Rattle.std.specs.Prelude.{◌≡◌, ◌<◌, ◌≤◌, ◌+◌, ◌-◌, not, [], length, drop, map, replicate, slice_get, OnOk, IfOk};
+ghost use Rattle.std.specs.List.{suffix_len};
+ghost use Rattle.package_files.specs.Folders.{is_slash, folder_of, last_part_of, folders_over, with_folders, with_folder, path_below, folder_names, names_in_folder};
+ghost use Rattle.package_files.specs.BorrowedNames.{IsIndexOf, names_borrowed};
+
+use base_core::{Name, Names};
+use std::alloc::{AllocError, Global};
+use std::marker::Model;
+
+/// The names of a package's folders, in byte order, each once.
+#[derive(Drop)]
+pub(crate) struct FolderNames<'a> {
+    names: Vec<&'a [u8]>,
+}
+
+impl<'a> Model for FolderNames<'a> {
+    ghost use Rattle.std.specs.Prelude.{ℕ, List, map};
+    ghost use Rattle.std.specs.Ordering.{nat_cmp};
+    ghost use Rattle.std.specs.Cmp.Lexicographic.{slice_cmp};
+    ghost use Rattle.std.specs.List.Sorted.{IsStrictlySortedBy};
+
+    ghost Value = { List (List ℕ) };
+
+    ghost view = { λ folders. map (λ name. name.now) folders.names.items };
+
+    ghost invariant = { λ folders. IsStrictlySortedBy (slice_cmp nat_cmp)
+        (map (λ name. name.now) folders.names.items) };
+}
+
+impl<'a> FolderNames<'a> {
+    /// No folders.
+    pub(crate) fn new(alloc: Global) -> FolderNames<'a>
+        ensures { result ≡ [] }
+    {
+        FolderNames {
+            names: Vec::new(alloc),
+        }
+    }
+
+    /// Adds the folders that hold a path, at any depth.
+    pub(crate) fn add_over(&mut self, path: &'a [u8]) -> Result<(), AllocError>
+        ensures { OnOk result (self.new ≡ with_folders self.old (folders_over path.now)) }
+    {
+        self.add(&path[..0])?;
+        for (i, b) in path.iter().enumerate() {
+            if *b == b'/' {
+                self.add(&path[..i])?;
+            }
+        }
+        Ok(())
+    }
+
+    /// Adds a folder, unless it is there. Paths that come in byte order bring the folders nearly in
+    /// order: one comes too late only behind those that its name begins, so that few are moved.
+    fn add(&mut self, folder: &'a [u8]) -> Result<(), AllocError>
+        ensures { OnOk result (self.new ≡ with_folder folder.now self.old) }
+    {
+        let Err(at) = self.names.binary_search(&folder) else {
+            return Ok(());
+        };
+        self.names.insert(at, folder)?;
+        Ok(())
+    }
+
+    /// How many folders there are.
+    pub(crate) fn len(&self) -> usize
+        ensures { result ≡ length self.now }
+    {
+        self.names.len()
+    }
+
+    /// The folder at a place, counted from 0.
+    pub(crate) fn get(&self, i: usize) -> &'a [u8]
+        requires { i < length self.now }
+        ensures { slice_get self.now i ≡ Some result.now }
+    {
+        self.names[i]
+    }
+
+    /// The place of a folder, if it is there.
+    fn index_of(&self, folder: &[u8]) -> Option<usize>
+        ensures { IsIndexOf folder.now self.now result }
+    {
+        self.names.binary_search(&folder).ok()
+    }
+}
+
+/// The folders of a package, of the names that are listed below a folder of the tree. Where the
+/// folder of a path is there, all that are over the path are: they are not searched for again.
+pub(crate) fn folder_names<'a>(
+    alloc: Global,
+    dir: &[u8],
+    names: &'a Names,
+) -> Result<FolderNames<'a>, AllocError>
+    ensures { IfOk result (λ folders. folders ≡ folder_names (map (path_below dir.now) names.now)) }
+{
+    let mut folders = FolderNames::new(alloc);
+    for i in 0..names.len() {
+        let path = path_below(dir.len(), names.get(i).as_bytes());
+        if folders.index_of(folder_of(path)).is_none() {
+            folders.add_over(path)?;
+        }
+    }
+    Ok(folders)
+}
+
+/// The names that stand in each of these folders, in the order listed.
+pub(crate) fn names_in_folders<'a>(
+    alloc: Global,
+    dir: &[u8],
+    names: &'a Names,
+    folders: &FolderNames<'_>,
+) -> Result<Vec<Vec<&'a Name>>, AllocError>
+    ensures { IfOk result (λ files. map names_borrowed files.items ≡ map
+        (names_in_folder dir.now names.now) folders.now) }
+{
+    let mut files = empty_lists(alloc, folders.len())?;
+    for i in 0..names.len() {
+        let name = names.get(i);
+        let folder = folder_of(path_below(dir.len(), name.as_bytes()));
+        if let Some(at) = folders.index_of(folder) {
+            files[at].push(name)?;
+        }
+    }
+    Ok(files)
+}
+
+/// So many lists without a name.
+fn empty_lists<'a>(alloc: Global, len: usize) -> Result<Vec<Vec<&'a Name>>, AllocError>
+    ensures { IfOk result (λ lists. map names_borrowed lists.items ≡ replicate len []) }
+{
+    let mut lists = Vec::new(alloc);
+    for _ in 0..len {
+        lists.push(Vec::new(alloc))?;
+    }
+    Ok(lists)
+}
+
+/// The folder in which a path stands, which is empty for the root.
+pub fn folder_of(path: &[u8]) -> &[u8]
+    ensures { result.now ≡ folder_of path.now }
+{
+    &path[..part_start(path).saturating_sub(1)]
+}
+
+/// The last part of a path.
+pub(crate) fn last_part_of(path: &[u8]) -> &[u8]
+    ensures { result.now ≡ last_part_of path.now }
+{
+    &path[part_start(path)..]
+}
+
+/// Where the last part of a path begins.
+fn part_start(path: &[u8]) -> usize
+    ensures value { result ≡ length path.now - suffix_len (λ b. not (is_slash b)) path.now }
+    ensures within { result ≤ length path.now }
+{
+    let mut start = 0;
+    for (i, b) in path.iter().enumerate() {
+        if *b == b'/' {
+            start = i + 1;
+        }
+    }
+    start
+}
+
+/// A name without the folder of so many bytes that it is below, and without the slash.
+pub(crate) fn path_below(folder: usize, name: &[u8]) -> &[u8]
+    ensures { result.now ≡ drop (folder + 1) name.now }
+{
+    match name.get(folder..) {
+        Some([_, path @ ..]) => path,
+        _ => &name[..0],
+    }
+}

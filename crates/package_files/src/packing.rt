@@ -1,0 +1,292 @@
+//! Reads the files of a package, each once, and packs them: what they are, and their contents in
+//! blocks (apk-package(5)).
+ghost use Rattle.base_core.specs.Read.{OnlyReads};
+ghost use Rattle.adb_block.specs.Piece.{padding_of};
+ghost use Rattle.base_core.specs.Calls.{IfObservable};
+ghost use Rattle.base_core.specs.Tree.{files_of};
+ghost use Rattle.package_files.specs.Blocks.{HasBlockFront, contents_front};
+ghost use Rattle.package_files.specs.BorrowedNames.{listings_of};
+ghost use Rattle.package_files.specs.Folders.{folders_of};
+ghost use Rattle.package_files.specs.Package.{has_contents};
+ghost use Rattle.package_files.specs.Packed.{IsPackedFile, ArePackedFiles, IsPackedFolder, IsPacking};
+ghost use Rattle.package_files.specs.Runs.{Explains, IsAnswer};
+ghost use Rattle.package_files.specs.Sources.{found_at, file_at, sources_from, folder_at, source_folders_from};
+ghost use Rattle.std.specs.Option.{option_map};
+ghost use Rattle.std.specs.Prelude.{◌≡◌, ◌++◌, ◌<◌, ◌≤◌, ◌+◌, ◌-◌, ◌^◌, length, take, drop, replicate, OnOk, IfOk, IfSome, [], ◌∷◌, ℕ, map, true, false};
+
+use crate::file::{File, FileKind, Folder, Packing};
+use crate::folders::{FolderNames, folder_names, last_part_of, names_in_folders};
+use adb_block::{BlockKind, block_head};
+use base_core::{Name, Names, Tree, TreeFault, read_all};
+use make_info::MakeFault;
+use std::alloc::{AllocError, Global};
+
+/// The most bytes that memory holds in one piece.
+const MOST_IN_MEMORY: u64 = isize::MAX as u64;
+
+/// Appends the front of the block with the contents of a file: its header, and the positions of its
+/// folder and of itself in it, which count from 1. Behind it stand zeros in place of the file's
+/// bytes. Gives where these begin. A position of more than 32 bits is cut: so many files pass the
+/// limits of a payload.
+fn begin_block(blocks: &mut Vec<u8>, position: (u64, u64), size: u64) -> Result<usize, AllocError>
+    ensures small { IfOk result (λ _. size < 2 ^ 63) }
+    ensures at { IfOk result (λ at. at + size ≡ length blocks.new.items) }
+    ensures begun { IfOk result (λ at. blocks.new.items
+        ≡ (blocks.old.items ++ contents_front position.0 position.1 size) ++ replicate size 0) }
+{
+    if size > MOST_IN_MEMORY {
+        return Err(AllocError);
+    }
+    let head = block_head(BlockKind::Contents, 8 + size);
+    blocks.extend_from_slice(head.bytes())?;
+    blocks.extend_from_slice(&position.0.to_le_bytes()[..4])?;
+    blocks.extend_from_slice(&position.1.to_le_bytes()[..4])?;
+    let at = blocks.len();
+    let Some(end) = at.checked_add(size as usize) else {
+        return Err(AllocError);
+    };
+    blocks.resize(end, 0)?;
+    Ok(at)
+}
+
+/// Ends the block that begins at `start`, of a file of this kind whose bytes are the last ones, by
+/// its padding. A file that has no contents has no block, and what was begun is taken away.
+fn end_block(blocks: &mut Vec<u8>, start: usize, kind: &FileKind) -> Result<(), AllocError>
+    requires { start ≤ length blocks.old.items }
+    ensures none { OnOk result (has_contents kind.now ≡ false
+        → blocks.new.items ≡ take start blocks.old.items) }
+    ensures padded { OnOk result (has_contents kind.now ≡ true
+        → blocks.new.items ≡ blocks.old.items
+        ++ replicate (padding_of (length blocks.old.items - start)) 0) }
+{
+    if !kind.has_contents() {
+        blocks.truncate(start);
+        return Ok(());
+    }
+    append_padding(blocks, (blocks.len() - start) as u64)
+}
+
+/// Appends zeros behind so many bytes, up to a multiple of eight.
+fn append_padding(blocks: &mut Vec<u8>, size: u64) -> Result<(), AllocError>
+    ensures { OnOk result (blocks.new.items ≡ blocks.old.items ++ replicate (padding_of size) 0) }
+{
+    let padding = (8 - size % 8) % 8;
+    blocks.extend_from_slice(&[0; 8][..padding as usize])
+}
+
+/// Puts bytes in front of others, which are not held twice.
+pub fn put_in_front(bytes: &mut Vec<u8>, front: &[u8]) -> Result<(), AllocError>
+    ensures { OnOk result (bytes.new.items ≡ front.now ++ bytes.old.items) }
+{
+    bytes.extend_from_slice(front)?;
+    bytes.rotate_right(front.len());
+    Ok(())
+}
+
+/// Packs the files of these names, which the argument at a place lists below a folder of the tree:
+/// folder by folder.
+pub fn pack_names<'a, T: Tree>(
+    alloc: Global,
+    tree: &mut T,
+    place: u32,
+    dir: &[u8],
+    names: &'a Names,
+) -> Result<Packing<'a>, MakeFault>
+    ensures tree { OnlyReads MakeFault.Disk (T.history tree.old) (T.history tree.new)
+        (T.counts tree.old) (T.counts tree.new) result }
+    ensures read { (n : ℕ) → Explains (T.history tree.old) (λ read.
+        IsAnswer IsPacking result (source_folders_from place read n
+        (folders_of dir.now names.now))) }
+{
+    let folders = folder_names(alloc, dir, names)?;
+    let files = names_in_folders(alloc, dir, names, &folders)?;
+    let packing = pack_folders(alloc, tree, place, &folders, &files)?;
+    Ok(packing)
+}
+
+/// Packs the files of these folders, of each of which the names of its files are given. The
+/// argument at a place lists them.
+fn pack_folders<'a, T: Tree>(
+    alloc: Global,
+    tree: &mut T,
+    place: u32,
+    folders: &FolderNames<'a>,
+    files: &[Vec<&'a Name>],
+) -> Result<Packing<'a>, MakeFault>
+    requires { length files.now ≡ length folders.now }
+    ensures tree { OnlyReads MakeFault.Disk (T.history tree.old) (T.history tree.new)
+        (T.counts tree.old) (T.counts tree.new) result }
+    ensures read { (n : ℕ) → Explains (T.history tree.old) (λ read.
+        IsAnswer IsPacking result (source_folders_from place read n
+        (listings_of folders.now files.now))) }
+{
+    let mut packed = Vec::new(alloc);
+    let mut blocks = Vec::new(alloc);
+    for i in 0..folders.len() {
+        let name = folders.get(i);
+        let folder = pack_folder(
+            alloc,
+            tree,
+            place,
+            i as u64 + 1,
+            name,
+            &files[i],
+            &mut blocks,
+        )?;
+        push_folder(&mut packed, folder)?;
+    }
+    Ok(Packing {
+        folders: packed,
+        blocks,
+    })
+}
+
+/// Adds a folder at the end.
+fn push_folder<'a>(folders: &mut Vec<Folder<'a>>, folder: Folder<'a>) -> Result<(), AllocError>
+    ensures { OnOk result (folders.new.items ≡ folders.old.items ++ folder.entry ∷ []) }
+{
+    folders.push(folder)?;
+    Ok(())
+}
+
+/// Packs the folder at a position, with the files of these names.
+fn pack_folder<'a, T: Tree>(
+    alloc: Global,
+    tree: &mut T,
+    place: u32,
+    position: u64,
+    name: &'a [u8],
+    names: &[&'a Name],
+    blocks: &mut Vec<u8>,
+) -> Result<Folder<'a>, MakeFault>
+    ensures tree { OnlyReads MakeFault.Disk (T.history tree.old) (T.history tree.new)
+        (T.counts tree.old) (T.counts tree.new) result }
+    ensures read { (n : ℕ) → Explains (T.history tree.old) (λ read.
+        IsAnswer (IsPackedFolder position blocks.old.items blocks.new.items) result
+        (folder_at place read n (record {
+          name = name.now;
+          files = map (λ name.
+              name.now) names.now;
+        }))) }
+{
+    let files = pack_files(alloc, tree, place, position, names, blocks)?;
+    Ok(Folder { name, files })
+}
+
+/// Packs the files of these names, which stand in the folder at a position: their contents are
+/// appended to the blocks.
+fn pack_files<'a, T: Tree>(
+    alloc: Global,
+    tree: &mut T,
+    place: u32,
+    folder: u64,
+    names: &[&'a Name],
+    blocks: &mut Vec<u8>,
+) -> Result<Vec<File<'a>>, MakeFault>
+    ensures tree { OnlyReads MakeFault.Disk (T.history tree.old) (T.history tree.new)
+        (T.counts tree.old) (T.counts tree.new) result }
+    ensures read { (n : ℕ) → Explains (T.history tree.old) (λ read.
+        IsAnswer (ArePackedFiles folder blocks.old.items blocks.new.items) result
+        (sources_from place read n (map (λ name. name.now) names.now))) }
+{
+    let mut files = Vec::new(alloc);
+    for i in 0..names.len() {
+        let file = pack_file(alloc, tree, place, (folder, i as u64 + 1), names[i], blocks)?;
+        push_file(&mut files, file)?;
+    }
+    Ok(files)
+}
+
+/// Adds a file at the end.
+fn push_file<'a>(files: &mut Vec<File<'a>>, file: File<'a>) -> Result<(), AllocError>
+    ensures { OnOk result (files.new.items ≡ files.old.items ++ file.entry ∷ []) }
+{
+    files.push(file)?;
+    Ok(())
+}
+
+/// Packs the file of a name, which has these positions: of its folder, and of itself in it.
+fn pack_file<'a, T: Tree>(
+    alloc: Global,
+    tree: &mut T,
+    place: u32,
+    position: (u64, u64),
+    name: &'a Name,
+    blocks: &mut Vec<u8>,
+) -> Result<File<'a>, MakeFault>
+    ensures tree { OnlyReads MakeFault.Disk (T.history tree.old) (T.history tree.new)
+        (T.counts tree.old) (T.counts tree.new) result }
+    ensures read { (n : ℕ) → Explains (T.history tree.old) (λ read.
+        IsAnswer (IsPackedFile position.0 position.1 blocks.old.items blocks.new.items) result
+        (file_at place read n name.now)) }
+{
+    let start = blocks.len();
+    let at = read_listed(tree, place, position, name, blocks)?;
+    let kind = FileKind::of(alloc, &blocks[at..])?;
+    end_block(blocks, start, &kind)?;
+    let name = last_part_of(name.as_bytes());
+    Ok(File { name, kind })
+}
+
+/// Reads the file under a name, which the argument at a place lists, as `read_in_block` does.
+fn read_listed<T: Tree>(
+    tree: &mut T,
+    place: u32,
+    position: (u64, u64),
+    name: &Name,
+    blocks: &mut Vec<u8>,
+) -> Result<usize, MakeFault>
+    ensures tree { OnlyReads MakeFault.Disk (T.history tree.old) (T.history tree.new)
+        (T.counts tree.old) (T.counts tree.new) result }
+    ensures begun { IfOk result (λ at. HasBlockFront position.0 position.1 blocks.old.items
+        blocks.new.items at) }
+    ensures read { (n : ℕ) → Explains (T.history tree.old) (λ read.
+        IsAnswer (λ at bytes. bytes ≡ drop at blocks.new.items) result
+        (found_at place (read n name.now))) }
+{
+    match read_in_block(tree, position, name, blocks)? {
+        Some(at) => Ok(at),
+        None => Err(MakeFault::FileMissing { place }),
+    }
+}
+
+/// Reads the file under a name where its bytes will stand: behind the front of a block, which is
+/// appended. Gives where the bytes begin, or None exactly where the file is absent.
+fn read_in_block<T: Tree>(
+    tree: &mut T,
+    position: (u64, u64),
+    name: &Name,
+    blocks: &mut Vec<u8>,
+) -> Result<Option<usize>, TreeFault>
+    ensures tree { OnlyReads TreeFault.Disk (T.history tree.old) (T.history tree.new)
+        (T.counts tree.old) (T.counts tree.new) result }
+    ensures begun { IfOk result (λ found. IfSome found (HasBlockFront position.0 position.1
+        blocks.old.items blocks.new.items)) }
+    ensures answer { IfOk result (λ found. IfObservable (T.history tree.old) (λ v.
+        option_map (λ at. drop at blocks.new.items) found ≡ files_of v name.now)) }
+{
+    let Some(size) = tree.size(name)? else {
+        return Ok(None);
+    };
+    let at = begin_block(blocks, position, size)?;
+    tree.read_at(name, 0, &mut blocks[at..])?;
+    Ok(Some(at))
+}
+
+/// Reads the file under a name, which the argument at a place gives or lists.
+pub fn read_file<T: Tree>(
+    alloc: Global,
+    tree: &mut T,
+    place: u32,
+    name: &Name,
+) -> Result<Vec<u8>, MakeFault>
+    ensures tree { OnlyReads MakeFault.Disk (T.history tree.old) (T.history tree.new)
+        (T.counts tree.old) (T.counts tree.new) result }
+    ensures read { (n : ℕ) → Explains (T.history tree.old) (λ read.
+        IsAnswer (λ bytes found. found ≡ bytes.items) result (found_at place (read n name.now))) }
+{
+    match read_all(alloc, tree, name)? {
+        Some(bytes) => Ok(bytes),
+        None => Err(MakeFault::FileMissing { place }),
+    }
+}

@@ -1,0 +1,3 @@
+pub mod ReportLines
+pub mod StayingNames
+pub mod Worked
