@@ -299,9 +299,10 @@ fn view_of<'a>(alloc: Global, payload: &'a [u8]) -> Option<IndexView<'a>> {
 fn words_of(alloc: Global, text: &[u8]) -> Result<Words, RowFault> {
     let mut words = Words::new(alloc);
     for word in text.split(|byte| *byte == b' ') {
-        if words.len() < MOST_NAMES {
-            words.push(word)?;
+        if words.len() >= MOST_NAMES {
+            return Err(RowFault::Text);
         }
+        words.push(word)?;
     }
     Ok(words)
 }
