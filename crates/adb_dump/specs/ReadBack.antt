@@ -17,10 +17,12 @@ abbrev pub after_lines : {A B : Type 0} → ℕ → (A → B) → LinesRead A �
 after_lines n f (Ok x) = Ok (f x)
 after_lines n f (Err k) = Err (n + k)
 
+-- goes on with what was read; the number of a bad line stays
 abbrev pub bind : {A B : Type 0} → LinesRead A → (A → LinesRead B) → LinesRead B
 bind (Ok x) f = f x
 bind (Err k) f = Err k
 
+-- what stands behind a front, if the line begins with it
 abbrev pub strip_prefix : List ℕ → List ℕ → Option (List ℕ)
 strip_prefix [] l = Some l
 strip_prefix (p ∷ ps) [] = None
@@ -30,11 +32,13 @@ strip_prefix (p ∷ ps) (c ∷ cs) = if p == c then strip_prefix ps cs else None
 abbrev pub with_line : Line → List Line × List Line → List Line × List Line
 with_line l r = (l ∷ r.0, r.1)
 
+-- a line that is not indented ends the block, and stands first behind it
 abbrev pub stop_or_add : Line → List Line → Option Line → List Line × List Line
     → List Line × List Line
 stop_or_add l ls None r = ([], l ∷ ls)
 stop_or_add l ls (Some inner) r = with_line inner r
 
+-- a block, and the lines behind it
 abbrev pub split_block : List Line → List Line × List Line
 split_block [] = ([], [])
 split_block (l ∷ ls) = stop_or_add l ls (strip_prefix (codes "  ") l) (split_block ls)
@@ -45,6 +49,7 @@ split_block (l ∷ ls) = stop_or_add l ls (strip_prefix (codes "  ") l) (split_b
 abbrev pub hex_value : ℕ → ℕ
 hex_value c = if nat_lt c 0x3a then c - 0x30 else c - 0x57
 
+-- the bytes of hexadecimal digits, two for each; a digit that is left over gives none
 abbrev pub unhex : List ℕ → List ℕ
 unhex [] = []
 unhex (h ∷ []) = []
@@ -56,6 +61,7 @@ hex_escape_read f [] = None
 hex_escape_read f (h ∷ []) = None
 hex_escape_read f (h ∷ l ∷ cs) = option_map (λ b. (hex_value h * 16 + hex_value l) ∷ b) (f cs)
 
+-- an escape behind its backslash: `n`, a backslash, a quote, or `x` and two digits
 abbrev pub escape_read : (List ℕ → Option (List ℕ)) → List ℕ → Option (List ℕ)
 escape_read f [] = None
 escape_read f (d ∷ cs) =
@@ -80,14 +86,17 @@ abbrev pub blob_read : List ℕ → Option Plain
 blob_read [] = None
 blob_read (c ∷ cs) = Some (blob (c ∷ cs))
 
+-- a number below 2^64; what else stands on the line is found by its form
 abbrev pub int_read : Line → Option Plain
 int_read l = if nat_lt (digits_value 10 l) (2 ^ 64) then Some (int (digits_value 10 l)) else None
 
+-- a text, between quotes or bare
 abbrev pub text_read : Line → Option Plain
 text_read l =
     if begins_with_byte 0x22 l then option_and_then blob_read (quoted_read (length l) (drop 1 l))
     else blob_read l
 
+-- a hash by its digits
 abbrev pub hash_read : Line → Option Plain
 hash_read l = blob_read (unhex l)
 
@@ -96,6 +105,7 @@ abbrev pub if_form : (Plain → Line) → Line → Option Plain → LinesRead Pl
 if_form form l None = Err 0
 if_form form l (Some v) = if bytes_eq (form v) l then Ok v else Err 0
 
+-- a value of one line: the second line, counted from 0 as line 1, cannot stand there
 abbrev pub only_line : (Line → LinesRead Plain) → List Line → LinesRead Plain
 only_line f [] = Err 0
 only_line f (l ∷ []) = f l
@@ -103,10 +113,12 @@ only_line f (l ∷ m ∷ ls) = bind (f l) (λ v. Err 1)
 
 -- ---- lists
 
+-- an entry, its first line without the dash; a `null` stands by itself
 abbrev pub entry_read : (List Line → LinesRead Plain) → Line → List Line → LinesRead Plain
 entry_read f l ls =
     if bytes_eq l (codes "null") then only_line (λ x. Ok null) (l ∷ ls) else f (l ∷ ls)
 
+-- an entry and the entries behind it; a line without a dash begins none
 abbrev pub after_dash : (List Line → LinesRead Plain) → (List Line → LinesRead Plains) → List Line × List Line
     → Option Line → LinesRead Plains
 after_dash f g r None = Err 0
@@ -125,6 +137,7 @@ abbrev pub arr_read : Plains → LinesRead Plain
 arr_read none = Err 0
 arr_read (more v vs) = Ok (arr (more v vs))
 
+-- an object without a field has no lines
 abbrev pub obj_read : Plains → LinesRead Plain
 obj_read none = Err 0
 obj_read (more v vs) = Ok (obj (more v vs))
@@ -135,6 +148,7 @@ abbrev pub field_on_line : (Line → LinesRead Plain) → (List Line → LinesRe
 field_on_line f g ls None = Err 0
 field_on_line f g ls (Some l) = bind (f l) (λ v. after_lines 1 (more v) (g ls))
 
+-- a value below its name, behind which nothing stands on the line, and then the other fields
 abbrev pub field_below : (List Line → LinesRead Plain) → (List Line → LinesRead Plains)
     → List Line × List Line → Line → LinesRead Plains
 field_below f g r [] =
@@ -181,11 +195,13 @@ value_read which (l ∷ ls) = block_read (shape_of (Obj which)) (l ∷ ls)
 
 -- ---- the lines of a text, where the last one has its line end
 
+-- puts a byte in front of the first line, if there is one
 abbrev pub add_char : ℕ → Option (List Line) → Option (List Line)
 add_char c None = None
 add_char c (Some []) = None
 add_char c (Some (l ∷ ls)) = Some ((c ∷ l) ∷ ls)
 
+-- the lines of a text; None where its last line has no line end
 abbrev pub split_lines : List ℕ → Option (List Line)
 split_lines [] = Some []
 split_lines (c ∷ cs) =
