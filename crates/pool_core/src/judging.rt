@@ -22,17 +22,18 @@ use adb_view::{Arr, Val};
 use dep_core::{Dep, dep_of_parts};
 use std::alloc::{AllocError, Global};
 
-/// The index, from 0, of the version in a package's information.
+/// The index of the version among the fields of a package's information (table 3 of
+/// `docs/formats.md`, "Schemas", which counts from 1; an index counts from 0).
 pub(crate) const PACKAGE_VERSION: usize = 1;
 
-/// Those of its dependencies, of its provides and of its install-if.
+/// The indices of its dependencies, its provides and its install-if, in the same table.
 const DEPENDS: usize = 14;
 
 pub(crate) const PROVIDES: usize = 15;
 
 const INSTALL_IF: usize = 17;
 
-/// The indexes, from 0, of the fields of a dependency.
+/// The indices of a dependency's fields (table 1), counted from 0 too.
 const NAME: usize = 0;
 
 pub(crate) const VERSION: usize = 1;
