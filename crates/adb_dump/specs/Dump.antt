@@ -39,7 +39,8 @@ is_bare b =
     list_all is_printable b && not (begins_with_byte 0x20 b) && not (ends_with_byte 0x20 b)
     && not (begins_with_byte 0x22 b) && not (bytes_eq b (codes "null"))
 
--- a line end, a backslash, a quote, and then any other byte that is not printable
+-- a byte of a text between quotes: a line end, a backslash, a quote, any other printable byte, and
+-- the rest in hexadecimal digits
 abbrev pub escape_of : ℕ → List ℕ
 escape_of c =
     if c == 0x0a then codes "\\n"
@@ -56,7 +57,7 @@ quoted_text b = codes "\"" ++ flat_map escape_of b ++ codes "\""
 abbrev pub text_form : List ℕ → Line
 text_form b = if is_bare b then b else quoted_text b
 
--- an integer, a text, a hash
+-- the line of an integer, in decimal; `null` where the value is none
 abbrev pub int_line : Plain → Line
 int_line (int n) = decimal n
 int_line v = codes "null"
@@ -92,11 +93,11 @@ abbrev pub array_lines : (Plain → List Line) → Plains → List Line
 array_lines f none = []
 array_lines f (more v vs) = with_dash (or_null v (f v)) ++ array_lines f vs
 
--- behind a field's name stands a value that has one line, below it one that may have several
+-- a field whose value has one line: behind its name
 abbrev pub named_line : List ℕ → Line → List Line
 named_line name l = (name ++ (codes ": " ++ l)) ∷ []
 
--- a field's name alone on its line, and its value's lines one level deeper
+-- a field whose value may have several lines: its name alone, and they one level deeper
 abbrev pub named_block : List ℕ → List Line → List Line
 named_block name ls = (name ++ codes ":") ∷ indent ls
 

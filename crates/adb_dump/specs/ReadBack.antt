@@ -28,7 +28,7 @@ strip_prefix [] l = Some l
 strip_prefix (p ∷ ps) [] = None
 strip_prefix (p ∷ ps) (c ∷ cs) = if p == c then strip_prefix ps cs else None
 
--- the indented lines in front, without their two spaces, and the lines behind them
+-- a block with one line more in front
 abbrev pub with_line : Line → List Line × List Line → List Line × List Line
 with_line l r = (l ∷ r.0, r.1)
 
@@ -38,7 +38,7 @@ abbrev pub stop_or_add : Line → List Line → Option Line → List Line × Lis
 stop_or_add l ls None r = ([], l ∷ ls)
 stop_or_add l ls (Some inner) r = with_line inner r
 
--- a block, and the lines behind it
+-- the indented lines in front, without their two spaces, which are a block, and the lines behind them
 abbrev pub split_block : List Line → List Line × List Line
 split_block [] = ([], [])
 split_block (l ∷ ls) = stop_or_add l ls (strip_prefix (codes "  ") l) (split_block ls)
@@ -55,13 +55,14 @@ unhex [] = []
 unhex (h ∷ []) = []
 unhex (h ∷ l ∷ cs) = (hex_value h * 16 + hex_value l) ∷ unhex cs
 
--- an escape behind its backslash, and what the rest of the text gives
+-- a byte by its two digits, and what the rest of the text gives
 abbrev pub hex_escape_read : (List ℕ → Option (List ℕ)) → List ℕ → Option (List ℕ)
 hex_escape_read f [] = None
 hex_escape_read f (h ∷ []) = None
 hex_escape_read f (h ∷ l ∷ cs) = option_map (λ b. (hex_value h * 16 + hex_value l) ∷ b) (f cs)
 
--- an escape behind its backslash: `n`, a backslash, a quote, or `x` and two digits
+-- an escape behind its backslash (`n`, a backslash, a quote, or `x` and two digits), and what the
+-- rest of the text gives
 abbrev pub escape_read : (List ℕ → Option (List ℕ)) → List ℕ → Option (List ℕ)
 escape_read f [] = None
 escape_read f (d ∷ cs) =
@@ -119,8 +120,8 @@ entry_read f l ls =
     if bytes_eq l (codes "null") then only_line (λ x. Ok null) (l ∷ ls) else f (l ∷ ls)
 
 -- an entry and the entries behind it; a line without a dash begins none
-abbrev pub after_dash : (List Line → LinesRead Plain) → (List Line → LinesRead Plains) → List Line × List Line
-    → Option Line → LinesRead Plains
+abbrev pub after_dash : (List Line → LinesRead Plain) → (List Line → LinesRead Plains)
+    → List Line × List Line → Option Line → LinesRead Plains
 after_dash f g r None = Err 0
 after_dash f g r (Some l) =
     bind (entry_read f l r.0) (λ v. after_lines (1 + length r.0) (more v) (g r.1))
@@ -142,9 +143,9 @@ abbrev pub obj_read : Plains → LinesRead Plain
 obj_read none = Err 0
 obj_read (more v vs) = Ok (obj (more v vs))
 
--- what stands behind `name:`, on its line or below it, and then the other fields
-abbrev pub field_on_line : (Line → LinesRead Plain) → (List Line → LinesRead Plains) → List Line → Option Line
-    → LinesRead Plains
+-- a value behind `name:` on its line, and then the other fields
+abbrev pub field_on_line : (Line → LinesRead Plain) → (List Line → LinesRead Plains) → List Line
+    → Option Line → LinesRead Plains
 field_on_line f g ls None = Err 0
 field_on_line f g ls (Some l) = bind (f l) (λ v. after_lines 1 (more v) (g ls))
 
@@ -161,6 +162,7 @@ if_named other this None = other
 if_named other this (Some rest) = this rest
 
 unfoldable mutual
+  -- the value of a shape that has just these lines
   pub block_read : Shape → List Line → LinesRead Plain
   block_read number ls = only_line (λ l. if_form int_line l (int_read l)) ls
   block_read text ls = only_line (λ l. if_form text_line l (text_read l)) ls
@@ -168,6 +170,7 @@ unfoldable mutual
   block_read (array s) ls = bind (entries_read (block_read s) (length ls) ls) arr_read
   block_read (object schema fs) ls = bind (fields_read fs ls) obj_read
 
+  -- the value of a field, from behind `name:` on, and then the other fields
   pub named_read : Shape → (List Line → LinesRead Plains) → List Line → Line → LinesRead Plains
   named_read number g ls l = field_on_line (λ l. if_form int_line l (int_read l)) g ls
       (strip_prefix (codes " ") l)
@@ -180,6 +183,7 @@ unfoldable mutual
   named_read (object schema fs) g ls l = field_below (λ ls. bind (fields_read fs ls) obj_read) g
       (split_block ls) l
 
+  -- the fields of an object in order; one whose name does not come next is Null
   pub fields_read : Fields → List Line → LinesRead Plains
   fields_read no_fields [] = Ok none
   fields_read no_fields (l ∷ ls) = Err 0

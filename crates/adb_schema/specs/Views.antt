@@ -19,7 +19,7 @@ use Rattle.adb_schema.specs.declared.checked.IntentView.{IntentView}
 abbrev pub dependency_value : DepView → Plain
 dependency_value view = value_at (payload_of view.adb) (Obj Which.Dep) view.word
 
--- the same of an access list
+-- what a view of an access list shows
 abbrev pub acl_value : AclView → Plain
 acl_value view = value_at (payload_of view.adb) (Obj Which.Acl) view.word
 

@@ -4,7 +4,7 @@ use Rattle.pool_core.specs.Candidates.{Candidate, Need, is_eligible, meets_need,
 use Rattle.pool_core.specs.Rank.{SealedPool, is_better}
 pub use Rattle.adb_fields.specs.FirstPair.{IsIn}
 
--- a member of a list, and lists all of whose members are of another, or are different
+-- each member of the first list is one of the second
 abbrev pub AreMembers : {X : Type 0} → List X → List X → Type 0
 AreMembers {X} xs ys = (c : X) → IsIn c xs → IsIn c ys
 

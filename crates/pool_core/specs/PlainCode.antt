@@ -51,6 +51,7 @@ built [] = []
 built (i ∷ steps) = built_with i.0 i.1.0 i.1.1 (built steps)
 
 abbrev mutual
+  -- the steps that build a value, in front of others
   pub steps_of : Plain → List BuildStep → List BuildStep
   steps_of null steps = (0, (0, [])) ∷ steps
   steps_of (int n) steps = (1, (n, [])) ∷ steps
@@ -58,11 +59,13 @@ abbrev mutual
   steps_of (arr vs) steps = steps_of_all vs steps
   steps_of (obj vs) steps = (5, (0, [])) ∷ steps_of_all vs steps
 
+  -- the steps that build an array of some values, in front of others
   pub steps_of_all : Plains → List BuildStep → List BuildStep
   steps_of_all none steps = (3, (0, [])) ∷ steps
   steps_of_all (more v vs) steps = (4, (0, [])) ∷ steps_of v (steps_of_all vs steps)
 
 mutual
+  -- the steps of a value build it
   pub built_again :
       (v : Plain) (steps : List BuildStep) → built (steps_of v steps) ≡ v ∷ built steps
   built_again null steps = refl
@@ -71,6 +74,7 @@ mutual
   built_again (arr vs) steps = all_built_again vs steps
   built_again (obj vs) steps = ap first_as_object (all_built_again vs steps)
 
+  -- and those of an array its entries
   pub all_built_again :
       (vs : Plains) (steps : List BuildStep) →
       built (steps_of_all vs steps) ≡ arr vs ∷ built steps

@@ -98,7 +98,7 @@ abbrev pub unpinned_cmp : UpgradedNames → Need → Candidate → Candidate →
 unpinned_cmp upgraded need =
     then_cmp (quality_cmp upgraded need) (then_cmp (merit_cmp need) text_cmp)
 
--- the order of two candidates for a need: first whether world pins them
+-- all keys but the place: what world pins comes first
 abbrev pub candidate_cmp : SealedPool → Need → Candidate → Candidate → Ordering
 candidate_cmp pool need =
     then_cmp (quality_first (is_pinned pool.world)) (unpinned_cmp pool.upgraded need)

@@ -68,7 +68,7 @@ abbrev pub name_ranking_cmp : Ranking → Ranking → Ordering
 name_ranking_cmp =
     then_cmp (on (λ (r : Ranking). r.name) bytes_cmp) (on (λ (r : Ranking). r.version.rank) nat_cmp)
 
--- the higher priority first
+-- the greater provider-priority first
 abbrev pub priority_ranking_cmp : Ranking → Ranking → Ordering
 priority_ranking_cmp =
     then_cmp (on (λ (r : Ranking). r.priority) (flip_args nat_cmp)) name_ranking_cmp
@@ -78,11 +78,11 @@ abbrev pub merit_ranking_cmp : Ranking → Ranking → Ordering
 merit_ranking_cmp =
     then_cmp (on (λ (r : Ranking). r.under.rank) nat_cmp) priority_ranking_cmp
 
--- of an earlier repository first
+-- the earlier repository first, and none last
 abbrev pub repository_ranking_cmp : Ranking → Ranking → Ordering
 repository_ranking_cmp = on (λ (r : Ranking). r.repository) earlier_repository
 
--- the order of two candidates that world pins both or neither
+-- all keys but the first and the last: of two options that world pins both, or neither
 abbrev pub unpinned_ranking_cmp : Ranking → Ranking → Ordering
 unpinned_ranking_cmp =
     then_cmp quality_ranking_cmp (then_cmp merit_ranking_cmp repository_ranking_cmp)

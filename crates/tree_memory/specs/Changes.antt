@@ -23,7 +23,7 @@ after_put name bytes v = record {
   older = [];
 }
 
--- the bytes of the files by number, as they stand now, and whether they are synced
+-- the bytes of the files by number, as they stand now
 abbrev pub contents_of : List Stored → List (List ℕ)
 contents_of files = map (λ file. file.bytes.items) files
 
