@@ -2,14 +2,14 @@
 use Rattle.std.specs.Prelude.{ℕ, List, drop, Option, None}
 use Rattle.adb_block.specs.declared.block.BlockKind.{BlockKind}
 
--- in a file of this schema, behind a block of the kind last, at an offset, and what is left of the
--- file from there on
+-- A reader stands in a file of this schema, behind a block of the kind `last` (None: before the first
+-- block), at this offset from the file's start; `left` are the bytes from there on.
 pub record Standing : Type 0 where
   pub schema : ℕ
   pub last : Option BlockKind
   pub at : ℕ
   pub left : List ℕ
 
--- behind the header, before the first block
+-- behind the header, which has 8 bytes, and before the first block
 abbrev pub start_of : ℕ → List ℕ → Standing
 start_of schema file = record { schema = schema; last = None; at = 8; left = drop 8 file }

@@ -3,6 +3,7 @@ use Rattle.std.specs.Prelude.{ℕ, zero, suc, List}
 use Rattle.adb_view.specs.Plain.{Plain, null, int, blob, arr, obj, Plains, none, more, blob_value, arr_value, obj_value}
 use Rattle.adb_tables.specs.Values.{entries_in}
 
+-- an integer as it is written; 0 is Null
 abbrev pub int_value : ℕ → Plain
 int_value zero = null
 int_value (suc n) = int (suc n)

@@ -1,6 +1,6 @@
-//! Long texts of a payload that overlap. Where equal texts overlap, their bytes have a period; which
-//! bytes were tested to have one is kept, so that of the texts there that are equal few are looked
-//! at.
+//! Long texts of a payload that overlap. Where equal texts overlap, their bytes have a period;
+//! which bytes were tested to have one is kept, so that of the texts there that are equal few are
+//! looked at.
 
 ghost use Rattle.std.specs.Prelude.{◌≡◌, ◌≤◌, ◌+◌, [], All, length, take, drop, IfSome, OnOk};
 ghost use Rattle.std.specs.Bool.{OnTrue};
@@ -13,7 +13,7 @@ use adb_view::{Adb, Val};
 use std::alloc::{AllocError, Global};
 use std::collections::BTreeMap;
 
-/// Equal texts show a period where they begin within this part of their length.
+/// A stretch is the length of a text divided by this, and one byte.
 const PART: usize = 4;
 
 /// Where a text stands in its payload.
@@ -39,7 +39,8 @@ pub(crate) struct PeriodicRange {
 }
 
 impl PeriodicRange {
-    /// How far behind the beginning of a period a text of the range begins.
+    /// The phase of a text: how far behind the beginning of a period it begins. None where it does
+    /// not stand in the range.
     fn phase_of(self, text: TextPlace) -> Option<usize>
         ensures { IfSome result (IsPhaseOf self text) }
     {
@@ -196,7 +197,9 @@ fn text_place(adb: Adb<'_>, word: Val) -> Option<TextPlace>
     }
 }
 
-/// The bytes around a text that have a period, if those of the text have it.
+/// The bytes around a text that have a period, if those of the text have it. None where the period
+/// is 0, since two words then lead to one place, or where it is longer than the text, whose bytes
+/// then show nothing.
 fn periodic_range(bytes: &[u8], text: TextPlace, period: usize) -> Option<PeriodicRange>
     requires { text.from + text.len ≤ length bytes.now }
     ensures { IfSome result (HasPeriod bytes.now) }

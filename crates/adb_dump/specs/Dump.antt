@@ -17,13 +17,16 @@ Line = List ℕ
 
 -- ---- a value on one line
 
+-- whether a byte is a space or a visible character of ASCII
 abbrev pub is_printable : ℕ → Bool
 is_printable c = nat_le 0x20 c && nat_le c 0x7e
 
+-- whether a text is not empty and begins with this byte
 abbrev pub begins_with_byte : ℕ → List ℕ → Bool
 begins_with_byte c [] = false
 begins_with_byte c (d ∷ ds) = c == d
 
+-- whether a text is not empty and ends with this byte
 abbrev pub ends_with_byte : ℕ → List ℕ → Bool
 ends_with_byte c [] = false
 ends_with_byte c (d ∷ []) = c == d
@@ -36,7 +39,8 @@ is_bare b =
     list_all is_printable b && not (begins_with_byte 0x20 b) && not (ends_with_byte 0x20 b)
     && not (begins_with_byte 0x22 b) && not (bytes_eq b (codes "null"))
 
--- a line end, a backslash, a quote, and then any other byte that is not printable
+-- a byte of a text between quotes: a line end, a backslash, a quote, any other printable byte, and
+-- the rest in hexadecimal digits
 abbrev pub escape_of : ℕ → List ℕ
 escape_of c =
     if c == 0x0a then codes "\\n"
@@ -45,27 +49,32 @@ escape_of c =
     else if is_printable c then c ∷ []
     else codes "\\x" ++ encode_lower (c ∷ [])
 
+-- a text between quotes, byte for byte escaped where that is needed
 abbrev pub quoted_text : List ℕ → Line
 quoted_text b = codes "\"" ++ flat_map escape_of b ++ codes "\""
 
+-- a text as it stands on its line, bare where it can
 abbrev pub text_form : List ℕ → Line
 text_form b = if is_bare b then b else quoted_text b
 
--- an integer, a text, a hash
+-- the line of an integer, in decimal; `null` where the value is none
 abbrev pub int_line : Plain → Line
 int_line (int n) = decimal n
 int_line v = codes "null"
 
+-- the line of a text; `null` where the value is none
 abbrev pub text_line : Plain → Line
 text_line (blob b) = text_form b
 text_line v = codes "null"
 
+-- the line of a hash, two digits for each byte; `null` where the value is none
 abbrev pub hash_line : Plain → Line
 hash_line (blob b) = encode_lower b
 hash_line v = codes "null"
 
 -- ---- lines of lists
 
+-- lines one level deeper, which is two spaces
 abbrev pub indent : List Line → List Line
 indent ls = map (λ (l : Line). codes "  " ++ l) ls
 
@@ -74,6 +83,7 @@ abbrev pub with_dash : List Line → List Line
 with_dash [] = []
 with_dash (l ∷ ls) = (codes "- " ++ l) ∷ indent ls
 
+-- the lines of an entry; a Null stands as `null`, so that it keeps its place
 abbrev pub or_null : Plain → List Line → List Line
 or_null null ls = codes "null" ∷ []
 or_null v ls = ls
@@ -83,13 +93,15 @@ abbrev pub array_lines : (Plain → List Line) → Plains → List Line
 array_lines f none = []
 array_lines f (more v vs) = with_dash (or_null v (f v)) ++ array_lines f vs
 
--- behind a field's name stands a value that has one line, below it one that may have several
+-- a field whose value has one line: behind its name
 abbrev pub named_line : List ℕ → Line → List Line
 named_line name l = (name ++ (codes ": " ++ l)) ∷ []
 
+-- a field whose value may have several lines: its name alone, and they one level deeper
 abbrev pub named_block : List ℕ → List Line → List Line
 named_block name ls = (name ++ codes ":") ∷ indent ls
 
+-- the lines of a field; a Null has none
 abbrev pub unless_absent : Plain → List Line → List Line
 unless_absent null ls = []
 unless_absent v ls = ls
@@ -129,6 +141,8 @@ schema_line None = []
 abbrev pub value_lines : Which → Plain → List Line
 value_lines which v = block_lines (shape_of (Obj which)) v
 
+-- the lines of a whole dump: that of the schema, and those of the root; a table that is no root has
+-- an empty first line
 abbrev pub dump_lines : Which → Plain → List Line
 dump_lines which v = schema_line (schema_word which) ∷ value_lines which v
 
@@ -136,5 +150,6 @@ dump_lines which v = schema_line (schema_word which) ∷ value_lines which v
 abbrev pub text_of : List Line → List ℕ
 text_of ls = flat_map (λ l. l ++ codes "\n") ls
 
+-- the text of a dump, by the root's table
 abbrev pub dump_text : Which → Plain → List ℕ
 dump_text which v = text_of (dump_lines which v)

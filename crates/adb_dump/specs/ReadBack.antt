@@ -17,24 +17,28 @@ abbrev pub after_lines : {A B : Type 0} → ℕ → (A → B) → LinesRead A �
 after_lines n f (Ok x) = Ok (f x)
 after_lines n f (Err k) = Err (n + k)
 
+-- goes on with what was read; the number of a bad line stays
 abbrev pub bind : {A B : Type 0} → LinesRead A → (A → LinesRead B) → LinesRead B
 bind (Ok x) f = f x
 bind (Err k) f = Err k
 
+-- what stands behind a front, if the line begins with it
 abbrev pub strip_prefix : List ℕ → List ℕ → Option (List ℕ)
 strip_prefix [] l = Some l
 strip_prefix (p ∷ ps) [] = None
 strip_prefix (p ∷ ps) (c ∷ cs) = if p == c then strip_prefix ps cs else None
 
--- the indented lines in front, without their two spaces, and the lines behind them
+-- a block with one line more in front
 abbrev pub with_line : Line → List Line × List Line → List Line × List Line
 with_line l r = (l ∷ r.0, r.1)
 
+-- a line that is not indented ends the block, and stands first behind it
 abbrev pub stop_or_add : Line → List Line → Option Line → List Line × List Line
     → List Line × List Line
 stop_or_add l ls None r = ([], l ∷ ls)
 stop_or_add l ls (Some inner) r = with_line inner r
 
+-- the indented lines in front, without their two spaces, which are a block, and the lines behind them
 abbrev pub split_block : List Line → List Line × List Line
 split_block [] = ([], [])
 split_block (l ∷ ls) = stop_or_add l ls (strip_prefix (codes "  ") l) (split_block ls)
@@ -45,17 +49,20 @@ split_block (l ∷ ls) = stop_or_add l ls (strip_prefix (codes "  ") l) (split_b
 abbrev pub hex_value : ℕ → ℕ
 hex_value c = if nat_lt c 0x3a then c - 0x30 else c - 0x57
 
+-- the bytes of hexadecimal digits, two for each; a digit that is left over gives none
 abbrev pub unhex : List ℕ → List ℕ
 unhex [] = []
 unhex (h ∷ []) = []
 unhex (h ∷ l ∷ cs) = (hex_value h * 16 + hex_value l) ∷ unhex cs
 
--- an escape behind its backslash, and what the rest of the text gives
+-- a byte by its two digits, and what the rest of the text gives
 abbrev pub hex_escape_read : (List ℕ → Option (List ℕ)) → List ℕ → Option (List ℕ)
 hex_escape_read f [] = None
 hex_escape_read f (h ∷ []) = None
 hex_escape_read f (h ∷ l ∷ cs) = option_map (λ b. (hex_value h * 16 + hex_value l) ∷ b) (f cs)
 
+-- an escape behind its backslash (`n`, a backslash, a quote, or `x` and two digits), and what the
+-- rest of the text gives
 abbrev pub escape_read : (List ℕ → Option (List ℕ)) → List ℕ → Option (List ℕ)
 escape_read f [] = None
 escape_read f (d ∷ cs) =
@@ -80,14 +87,17 @@ abbrev pub blob_read : List ℕ → Option Plain
 blob_read [] = None
 blob_read (c ∷ cs) = Some (blob (c ∷ cs))
 
+-- a number below 2^64; what else stands on the line is found by its form
 abbrev pub int_read : Line → Option Plain
 int_read l = if nat_lt (digits_value 10 l) (2 ^ 64) then Some (int (digits_value 10 l)) else None
 
+-- a text, between quotes or bare
 abbrev pub text_read : Line → Option Plain
 text_read l =
     if begins_with_byte 0x22 l then option_and_then blob_read (quoted_read (length l) (drop 1 l))
     else blob_read l
 
+-- a hash by its digits
 abbrev pub hash_read : Line → Option Plain
 hash_read l = blob_read (unhex l)
 
@@ -96,6 +106,7 @@ abbrev pub if_form : (Plain → Line) → Line → Option Plain → LinesRead Pl
 if_form form l None = Err 0
 if_form form l (Some v) = if bytes_eq (form v) l then Ok v else Err 0
 
+-- a value of one line: the second line, counted from 0 as line 1, cannot stand there
 abbrev pub only_line : (Line → LinesRead Plain) → List Line → LinesRead Plain
 only_line f [] = Err 0
 only_line f (l ∷ []) = f l
@@ -103,12 +114,14 @@ only_line f (l ∷ m ∷ ls) = bind (f l) (λ v. Err 1)
 
 -- ---- lists
 
+-- an entry, its first line without the dash; a `null` stands by itself
 abbrev pub entry_read : (List Line → LinesRead Plain) → Line → List Line → LinesRead Plain
 entry_read f l ls =
     if bytes_eq l (codes "null") then only_line (λ x. Ok null) (l ∷ ls) else f (l ∷ ls)
 
-abbrev pub after_dash : (List Line → LinesRead Plain) → (List Line → LinesRead Plains) → List Line × List Line
-    → Option Line → LinesRead Plains
+-- an entry and the entries behind it; a line without a dash begins none
+abbrev pub after_dash : (List Line → LinesRead Plain) → (List Line → LinesRead Plains)
+    → List Line × List Line → Option Line → LinesRead Plains
 after_dash f g r None = Err 0
 after_dash f g r (Some l) =
     bind (entry_read f l r.0) (λ v. after_lines (1 + length r.0) (more v) (g r.1))
@@ -125,16 +138,18 @@ abbrev pub arr_read : Plains → LinesRead Plain
 arr_read none = Err 0
 arr_read (more v vs) = Ok (arr (more v vs))
 
+-- an object without a field has no lines
 abbrev pub obj_read : Plains → LinesRead Plain
 obj_read none = Err 0
 obj_read (more v vs) = Ok (obj (more v vs))
 
--- what stands behind `name:`, on its line or below it, and then the other fields
-abbrev pub field_on_line : (Line → LinesRead Plain) → (List Line → LinesRead Plains) → List Line → Option Line
-    → LinesRead Plains
+-- a value behind `name:` on its line, and then the other fields
+abbrev pub field_on_line : (Line → LinesRead Plain) → (List Line → LinesRead Plains) → List Line
+    → Option Line → LinesRead Plains
 field_on_line f g ls None = Err 0
 field_on_line f g ls (Some l) = bind (f l) (λ v. after_lines 1 (more v) (g ls))
 
+-- a value below its name, behind which nothing stands on the line, and then the other fields
 abbrev pub field_below : (List Line → LinesRead Plain) → (List Line → LinesRead Plains)
     → List Line × List Line → Line → LinesRead Plains
 field_below f g r [] =
@@ -147,6 +162,7 @@ if_named other this None = other
 if_named other this (Some rest) = this rest
 
 unfoldable mutual
+  -- the value of a shape that has just these lines
   pub block_read : Shape → List Line → LinesRead Plain
   block_read number ls = only_line (λ l. if_form int_line l (int_read l)) ls
   block_read text ls = only_line (λ l. if_form text_line l (text_read l)) ls
@@ -154,6 +170,7 @@ unfoldable mutual
   block_read (array s) ls = bind (entries_read (block_read s) (length ls) ls) arr_read
   block_read (object schema fs) ls = bind (fields_read fs ls) obj_read
 
+  -- the value of a field, from behind `name:` on, and then the other fields
   pub named_read : Shape → (List Line → LinesRead Plains) → List Line → Line → LinesRead Plains
   named_read number g ls l = field_on_line (λ l. if_form int_line l (int_read l)) g ls
       (strip_prefix (codes " ") l)
@@ -166,6 +183,7 @@ unfoldable mutual
   named_read (object schema fs) g ls l = field_below (λ ls. bind (fields_read fs ls) obj_read) g
       (split_block ls) l
 
+  -- the fields of an object in order; one whose name does not come next is Null
   pub fields_read : Fields → List Line → LinesRead Plains
   fields_read no_fields [] = Ok none
   fields_read no_fields (l ∷ ls) = Err 0
@@ -181,11 +199,13 @@ value_read which (l ∷ ls) = block_read (shape_of (Obj which)) (l ∷ ls)
 
 -- ---- the lines of a text, where the last one has its line end
 
+-- puts a byte in front of the first line, if there is one
 abbrev pub add_char : ℕ → Option (List Line) → Option (List Line)
 add_char c None = None
 add_char c (Some []) = None
 add_char c (Some (l ∷ ls)) = Some ((c ∷ l) ∷ ls)
 
+-- the lines of a text; None where its last line has no line end
 abbrev pub split_lines : List ℕ → Option (List Line)
 split_lines [] = Some []
 split_lines (c ∷ cs) =

@@ -6,10 +6,12 @@ use Rattle.adb_tables.specs.declared.tables.Kind.{Kind}
 use Rattle.adb_tables.specs.declared.tables.Kind.TheVariants.{Int, Text, Hash, Obj, TextArr, ObjArr}
 use Rattle.adb_tables.specs.declared.tables.Field.{Field}
 
+-- whether a value is Null
 abbrev pub is_null : Plain → Bool
 is_null null = true
 is_null v = false
 
+-- whether each of some values is Null
 abbrev pub are_null : Plains → Bool
 are_null none = true
 are_null (more v vs) = is_null v && are_null vs

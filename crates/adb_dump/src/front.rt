@@ -1,5 +1,6 @@
-//! What stands in front of a value on its line, behind the spaces of eight levels, so that a line
-//! at any lesser depth begins with an end of it.
+//! What stands in front of a value on its line, behind the spaces of eight levels. A line at a
+//! depth of at most eight begins with the end of it that has its own spaces, and is begun by one
+//! put; of a deeper line the spaces are put first, level by level.
 
 ghost use Rattle.std.specs.Prelude.{◌≡◌, ◌++◌, codes};
 ghost use Rattle.adb_dump.specs.Margin.{margin};

@@ -101,6 +101,7 @@ fn hash_digits(hash: &[u8]) -> [u8; 2 * HASH_LEN]
     digits
 }
 
+/// The two digits of a byte, lower-case.
 fn hex_digits(byte: u8) -> [u8; 2]
     ensures { result ≡ encode_lower (byte ∷ []) }
 {
@@ -169,6 +170,7 @@ fn is_bare(text: &[u8]) -> bool
     text != b"null".as_slice()
 }
 
+/// Whether a text is not empty and begins with this byte.
 #[tactic(auto, using(crate::proofs::Pieces::begins_some, crate::proofs::Pieces::begins_none))]
 fn begins_with_byte(byte: u8, text: &[u8]) -> bool
     ensures { result ≡ begins_with_byte byte text.now }
@@ -179,6 +181,7 @@ fn begins_with_byte(byte: u8, text: &[u8]) -> bool
     }
 }
 
+/// Whether a text is not empty and ends with this byte.
 #[tactic(auto, using(crate::proofs::Pieces::ends_some, crate::proofs::Pieces::ends_none))]
 fn ends_with_byte(byte: u8, text: &[u8]) -> bool
     ensures { result ≡ ends_with_byte byte text.now }
@@ -202,6 +205,7 @@ fn is_printable(text: &[u8]) -> bool
     all
 }
 
+/// Whether a byte is a space or a visible character of ASCII.
 fn is_printable_byte(byte: u8) -> bool
     ensures { result ≡ is_printable byte }
 {

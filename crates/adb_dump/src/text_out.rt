@@ -53,6 +53,7 @@ impl Out for Vec<u8> {
 
     ghost holds = { λ _ out bytes. out.items ≡ bytes };
 
+    /// Memory grows as it is needed.
     fn put(&mut self, bytes: &[u8]) -> Result<(), AllocError> {
         self.extend_from_slice(bytes)
     }
@@ -98,11 +99,13 @@ impl Out for Room {
 
     ghost holds = { λ _ out bytes. out.bytes.items ≡ bytes };
 
+    /// Past the room it fails, as for want of memory.
     fn put(&mut self, bytes: &[u8]) -> Result<(), AllocError> {
         self.left = self.left.checked_sub(bytes.len()).ok_or(AllocError)?;
         self.bytes.extend_from_slice(bytes)
     }
 
+    /// The same of a byte.
     fn put_byte(&mut self, byte: u8) -> Result<(), AllocError> {
         self.left = self.left.checked_sub(1).ok_or(AllocError)?;
         self.bytes.push(byte)?;
@@ -246,6 +249,7 @@ impl Out for Count {
 }
 
 impl BlobOut for Count {
+    /// A short text is counted at each place, a long one once.
     fn put_text(&mut self, _adb: Adb<'_>, word: Val, text: &[u8]) -> Result<(), AllocError> {
         if text.len() <= SHORT {
             write_text(self, text)?;

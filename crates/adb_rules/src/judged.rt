@@ -80,7 +80,8 @@ impl<'a> Judged<'a> {
     }
 
     /// Whether the text of a word keeps a rule. Only long texts take memory, each once for each
-    /// rule that it keeps.
+    /// rule that it keeps. The payload stays the same, so that what is known of its words stays
+    /// true.
     pub fn keeps(&mut self, rule: TextRule, word: Val, text: &[u8]) -> Result<bool, AllocError>
         requires { text.now ≡ text_at (payload_of self.old.adb) word }
         ensures value { IfOk result (λ kept. kept ≡ keeps_text_rule rule text.now) }

@@ -15,32 +15,42 @@ use Rattle.adb_schema.specs.declared.checked.IndexView.{IndexView}
 use Rattle.adb_schema.specs.declared.checked.IdbView.{IdbView}
 use Rattle.adb_schema.specs.declared.checked.IntentView.{IntentView}
 
+-- what a view of a dependency shows: the plain value of its word
 abbrev pub dependency_value : DepView → Plain
 dependency_value view = value_at (payload_of view.adb) (Obj Which.Dep) view.word
 
+-- what a view of an access list shows
 abbrev pub acl_value : AclView → Plain
 acl_value view = value_at (payload_of view.adb) (Obj Which.Acl) view.word
 
+-- of a package's information
 abbrev pub info_value : PkgInfo → Plain
 info_value view = value_at (payload_of view.adb) (Obj Which.PkgInfo) view.word
 
+-- of a file
 abbrev pub file_value : FileInfo → Plain
 file_value view = value_at (payload_of view.adb) (Obj Which.File) view.word
 
+-- of a folder
 abbrev pub dir_value : DirInfo → Plain
 dir_value view = value_at (payload_of view.adb) (Obj Which.Dir) view.word
 
+-- of a package's scripts
 abbrev pub scripts_value : ScriptsView → Plain
 scripts_value view = value_at (payload_of view.adb) (Obj Which.Scripts) view.word
 
+-- of a package
 abbrev pub package_value : PackageView → Plain
 package_value view = value_at (payload_of view.adb) (Obj Which.Package) view.word
 
+-- of an index
 abbrev pub index_value : IndexView → Plain
 index_value view = value_at (payload_of view.adb) (Obj Which.Index) view.word
 
+-- of an installed database
 abbrev pub idb_value : IdbView → Plain
 idb_value view = value_at (payload_of view.adb) (Obj Which.Idb) view.word
 
+-- of an intent
 abbrev pub intent_value : IntentView → Plain
 intent_value view = value_at (payload_of view.adb) (Obj Which.Intent) view.word

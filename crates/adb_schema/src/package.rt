@@ -126,7 +126,8 @@ impl<'a> FileInfo<'a> {
         hash_field(self.adb, Which::File, self.word, 4)
     }
 
-    /// A link's target, behind a number of two bytes; empty for a regular file.
+    /// A link's target, behind the two bytes `00 a0`; empty for a regular file (`docs/formats.md`,
+    /// "The texts", 406).
     pub fn target(&self) -> &'a [u8]
         ensures { result.now ≡ text_in (entry_in (file_value self.now) 5) }
     {
@@ -326,7 +327,7 @@ impl<'a> PackageView<'a> {
         ScriptsView::of(self.adb, field_word(self.adb, Which::Package, self.word, 2))
     }
 
-    /// The folders that its trigger watches.
+    /// The patterns of the folders for which its trigger is due.
     pub fn triggers(&self) -> List<'a, &'a [u8]>
         ensures { list_value result ≡ entry_in (package_value self.now) 3 }
     {
@@ -336,7 +337,8 @@ impl<'a> PackageView<'a> {
         )
     }
 
-    /// How much it is preferred where packages own one file.
+    /// Its priority in replacing: of two packages that list one path and each name the other in
+    /// `replaces`, the one with the greater priority owns the path.
     pub fn replaces_priority(&self) -> u64
         ensures { result ≡ int_in (entry_in (package_value self.now) 4) }
     {

@@ -9,6 +9,7 @@ use Rattle.base_core.specs.declared.cause.Cause.{Cause}
 -- its answer is how many visits there were behind a word and what lies below it, or the first fault
 
 infixl 10 ◌>>=◌
+-- the rest of a walk goes on behind an answer; the first fault stays
 abbrev pub ◌>>=◌ : {A B : Type 0} → Result A Cause → (A → Result B Cause) → Result B Cause
 (Ok x) >>= f = f x
 (Err e) >>= f = Err e

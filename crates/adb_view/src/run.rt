@@ -88,6 +88,8 @@ pub struct Obj<'a, const N: usize> {
 impl<'a, const N: usize> Obj<'a, N> {
     ghost use Rattle.adb_view.specs.Entries.{array_entries, entry_at, object_entries};
 
+    /// The object whose fields are these entries; of those behind the table's last field no one
+    /// asks.
     pub(crate) fn of(entries: Arr<'a>) -> Obj<'a, N>
         ensures { object_entries result ≡ array_entries entries.entry }
     {

@@ -92,6 +92,7 @@ pub(crate) enum Width {
 }
 
 impl Width {
+    /// How many bytes a number of this width takes.
     pub(crate) fn bytes(self) -> usize
         ensures { result ≡ byte_len (width_of self) }
     {

@@ -45,6 +45,7 @@ pub(crate) enum Width {
 }
 
 impl Width {
+    /// How many bytes a number of this width takes.
     pub(crate) fn len(self) -> usize
         ensures value { result ≡ width_len self }
         ensures some { 0 < result }

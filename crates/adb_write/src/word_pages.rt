@@ -239,6 +239,8 @@ fn search(page: &[u64], adb: &Adb<'_>, parts: &Parts<'_>, fingerprint: u64) -> R
     let from = lower_end(page, fingerprint, likely);
     let to = upper_end(page, fingerprint, likely);
     let near = &page[from..to];
+    // `compare` tells how the item stands to a written one. The search asks how the written one
+    // stands to the item, so each answer is turned round.
     match near.binary_search_by(|it| parts.compare(fingerprint, adb, *it).reverse()) {
         Ok(index) => Ok(from + index),
         Err(index) => Err(from + index),

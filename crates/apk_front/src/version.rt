@@ -95,7 +95,7 @@ fn lines(alloc: Global, operands: &Operands) -> Result<Text, AllocError>
     Ok(Text::from_vec(report))
 }
 
-// A line for a text that is no version.
+// Adds the line of a text that is no version; a version adds none.
 fn add_line(report: &mut Vec<u8>, text: &[u8]) -> Result<(), AllocError>
     ensures { OnOk result (report.new.items ≡ report.old.items ++ invalid_line text.now) }
 {

@@ -65,7 +65,7 @@ impl IndexFiles {
     }
 }
 
-// The index in a payload whose head and root were tested.
+// The index in a payload whose head, root and texts were tested.
 fn open_payload(payload: &[u8]) -> IndexView<'_>
     requires head { is_none (head_fault payload.now) ≡ true }
     requires sound { is_sound payload.now (Kinds.Obj Tables.Index) (root_of payload.now) ≡ true }

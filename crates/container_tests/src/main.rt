@@ -1,6 +1,6 @@
 //! Answers questions to `adb_write`, `adb_values` and `pkg_core`: the words and the payloads of
-//! values, whose counts may pass a limit, and the files that a package gives. Its stored run has all
-//! rows; `tests/lines.md` describes their form.
+//! values, whose counts may pass a limit, and the files that a package gives. Its stored run has
+//! all rows; `tests/lines.md` describes their form.
 #![tactic(auto)]
 
 mod files;

@@ -1,7 +1,7 @@
 //! Values that a writer or a draft is given, from the words of a row: `.` is null, `#` and a number
 //! an integer, `'` and bytes a blob, what stands between `[` and `]` an array, and what stands
-//! between `{` and `}` an object. Behind `*` stands how often a value is written, and `~` leaves out
-//! the words of the values before it.
+//! between `{` and `}` an object. Behind `*` stands how often a value is written, and `~` leaves
+//! out the words of the values before it.
 use adb_schema::PACKAGE_WORD;
 use adb_values::Draft;
 use adb_view::Val;

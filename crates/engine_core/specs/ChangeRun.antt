@@ -92,9 +92,11 @@ IsNoneOrCommit wanted v old now result =
 
 -- ---- both
 
--- What comes of a change is wanted, and the packages of these candidates come: it is reported, or
--- refused; and where neither an intent is read nor anything waits, the change is carried through, by
--- calls of which none is a misuse where a change that commits has room.
+-- How a run of a change ends that comes to `wanted`, for which the packages of the candidates
+-- `coming` are read: it answers that report or refusal, or that one of these packages has changed, or
+-- that the tree failed or memory ran out. Where at its start neither an intent is read nor anything
+-- waits, nothing happens to the tree, or the change is carried through or the tree fails on the way,
+-- and no call is a misuse if a change that commits has room for its stage.
 pub record ComesTo (coming : List Candidate) (wanted : Result ChangeDone Refusal)
     (old now : List TreeState) (before after : Counts)
     (result : Result (List ℕ) Refused) : Type 0 where

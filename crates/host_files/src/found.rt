@@ -25,6 +25,7 @@ pub struct LookedAt {
 }
 
 impl LookedAt {
+    /// By its length, and by the two numbers that tell files of a host apart.
     fn of(data: &Metadata) -> LookedAt {
         LookedAt {
             len: data.len(),

@@ -336,7 +336,7 @@ impl Stage {
             → IsActing self.old files v
             → OnOk result (HasNow (T.history tree.new) (IsActing self.new files))) }
 
-        // Whatever the order, the files as read stand for the same at each moment.
+        // Whether the tree is orderly or not, the files as read stand for the same at each moment.
         ensures reads { IfObservable (T.history tree.old) (λ v. (files : Files)
             → IsActing self.old files v
             → Since (RecoversTo files) (T.history tree.old) (T.history tree.new)) }
@@ -387,7 +387,7 @@ impl Stage {
             → IsActing self.old files v → OnOk result (HasNow (T.history tree.new)
             (λ w. (files_of w ≡ files) × (w.names intent_name ≡ None)))) }
 
-        // Whatever the order, the files as read stand for the same at each moment.
+        // Whether the tree is orderly or not, the files as read stand for the same at each moment.
         ensures reads { IfObservable (T.history tree.old) (λ v. (files : Files)
             → IsActing self.old files v
             → Since (RecoversTo files) (T.history tree.old) (T.history tree.new)) }

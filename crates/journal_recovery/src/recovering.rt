@@ -28,13 +28,14 @@ use std::alloc::{AllocError, Global};
 ///
 /// `IntentBad` where the intent is no intent container; then nothing has changed.
 pub fn recover<T: Tree>(alloc: Global, tree: &mut T) -> Result<(), RecoverFault>
-    // At each moment the tree is orderly and nothing has happened to the state, also to that of the
-    // files as read.
+    // Where the tree is orderly at the start: at each moment it is orderly, each crash leaves a
+    // state that one at the start might have left, and the files as read keep their state.
     ensures moments { IfObservable (T.history tree.old) (λ v. (ignored : List ℕ → Bool)
         → IsOrderly (RestsOn ignored) v
         → Since (IsStill ignored v) (T.history tree.old) (T.history tree.new)) }
 
-    // Whatever the order, the files as read stand for the same at each moment, but for what waits.
+    // Whether the tree is orderly or not, the files as read stand for the same at each moment, but
+    // for what waits.
     ensures reads { IfObservable (T.history tree.old) (λ v.
         Since (λ w. unstaged_files (files_of w) ≡ unstaged_files (files_of v))
         (T.history tree.old) (T.history tree.new)) }

@@ -1,5 +1,5 @@
--- The values of `-I` of a command: which field each is for, and the package's name and version
--- among them.
+-- The values of `-I` of a command: which field each is for, the package's name and version among
+-- them, and the file that is made.
 use Rattle.command_core.specs.declared.values.TheConstants.{INFO, OUTPUT}
 use Rattle.std.specs.Prelude.{ℕ, ◌+◌, ◌==◌, nat_lt, Bool, false, List, [], ◌∷◌, ◌++◌, length, take, drop, position, codes, Option, Some, None, option_map, option_and_then, is_some, not, ◌&&◌, if◌then◌else◌}
 use Rattle.std.specs.List.{filter}
@@ -72,7 +72,7 @@ first_text_for f (v ∷ vs) = option_or (text_for f v) (first_text_for f vs)
 abbrev pub if_passes : (List ℕ → Bool) → List ℕ → Option (List ℕ)
 if_passes is_good value = if is_good value then Some value else None
 
--- the package's name and its version, where they are given and good
+-- the package's name, where one is given and good; of several the first counts
 abbrev pub package_name_in : List OptionValue → Option (List ℕ)
 package_name_in values =
     option_and_then (if_passes is_package_name) (first_text_for Fields.Name values)

@@ -1,4 +1,5 @@
--- Which of the values of `-I` is the first that offends.
+-- Which of the values of `-I` is the first that offends. `too_long`: the output is NAME-VERSION.apk,
+-- and that is too long.
 use Rattle.std.specs.Prelude.{◌≡◌, ℕ, Bool, true, false, List, ◌∷◌, ◌++◌}
 use Rattle.command_core.specs.declared.values.OptionValue.{OptionValue}
 use Rattle.make_info.specs.Information.{offends}

@@ -1,7 +1,8 @@
 //! The information of a package that `mkpkg` is given (apk(8)), and under which name its container
 //! is written: a command comes in, an information, its value and a name go out.
 //!
-//! The contracts cite `Fields`, `FieldTexts`, `Information` and `Output` of `specs/`.
+//! The contracts cite `Fields`, `FieldTexts`, `Values`, `Information`, `Output` and `Reads` of
+//! `specs/`.
 #![tactic(auto)]
 
 mod fault;

@@ -34,7 +34,7 @@ aside_write c = write_by (aside_name c.path) c
 abbrev pub write_cmp : FileWrite → FileWrite → Ordering
 write_cmp = on (λ w. w.name) bytes_cmp
 
--- the name beside each path is short enough
+-- the name beside each path is a name: `.apk-new` has 8 bytes, and a name at most 1,024
 pub record HasNameBeside (c : PathClaim) : Type 0 where
   pub name : IsName c.path
   pub short : length c.path + 8 ≤ 1024

@@ -7,6 +7,7 @@ use Rattle.pool_core.specs.Candidates.{Candidate, Need, version_under}
 use Rattle.pool_core.specs.Rank.{SealedPool, bytes_cmp, candidate_at, earlier_repository, has_needed_name, is_kept_installed, is_pinned, is_untagged}
 use Rattle.pool_core.specs.declared.versions.RankedVersion.{RankedVersion}
 
+-- the keys of one option; `under` is the version under which it meets the need, `version` its own
 pub record Ranking : Type 0 where
   pub pinned : Bool
   pub untagged : Bool
@@ -19,6 +20,7 @@ pub record Ranking : Type 0 where
   pub repository : Option ℕ
   pub place : ℕ
 
+-- a ranking by its parts
 abbrev pub ranking_by :
     Bool → Bool → Bool → Bool → RankedVersion → ℕ → List ℕ → RankedVersion → Option ℕ → ℕ → Ranking
 ranking_by pinned untagged named kept under priority name version repository place = record {
@@ -34,6 +36,7 @@ ranking_by pinned untagged named kept under priority name version repository pla
   place = place;
 }
 
+-- the same place and rank of a version, with the version that is read there
 abbrev pub with_version : RankedVersion → Option (List ℕ) → RankedVersion
 with_version ranked version = record ranked { version = version }
 
@@ -53,26 +56,33 @@ IsRankingIn pool need r = (c : Candidate) × ((candidate_at pool r.place ≡ Som
 abbrev pub truth_first : (Ranking → Bool) → Ranking → Ranking → Ordering
 truth_first key = on key (flip_args bool_cmp)
 
+-- untagged first, then by the needed name, then what is installed and stays
 abbrev pub quality_ranking_cmp : Ranking → Ranking → Ordering
 quality_ranking_cmp =
     then_cmp (truth_first (λ r. r.untagged))
     (then_cmp (truth_first (λ r. r.named)) (truth_first (λ r. r.kept)))
 
+-- the byte-lesser name first, then the lesser rank of the own version: the greater version, and of
+-- equal ones the byte-lesser text
 abbrev pub name_ranking_cmp : Ranking → Ranking → Ordering
 name_ranking_cmp =
     then_cmp (on (λ (r : Ranking). r.name) bytes_cmp) (on (λ (r : Ranking). r.version.rank) nat_cmp)
 
+-- the greater provider-priority first
 abbrev pub priority_ranking_cmp : Ranking → Ranking → Ordering
 priority_ranking_cmp =
     then_cmp (on (λ (r : Ranking). r.priority) (flip_args nat_cmp)) name_ranking_cmp
 
+-- the greater version under which the need is met first, as its rank tells
 abbrev pub merit_ranking_cmp : Ranking → Ranking → Ordering
 merit_ranking_cmp =
     then_cmp (on (λ (r : Ranking). r.under.rank) nat_cmp) priority_ranking_cmp
 
+-- the earlier repository first, and none last
 abbrev pub repository_ranking_cmp : Ranking → Ranking → Ordering
 repository_ranking_cmp = on (λ (r : Ranking). r.repository) earlier_repository
 
+-- all keys but the first and the last: of two options that world pins both, or neither
 abbrev pub unpinned_ranking_cmp : Ranking → Ranking → Ordering
 unpinned_ranking_cmp =
     then_cmp quality_ranking_cmp (then_cmp merit_ranking_cmp repository_ranking_cmp)
@@ -81,5 +91,6 @@ unpinned_ranking_cmp =
 abbrev pub candidate_ranking_cmp : Ranking → Ranking → Ordering
 candidate_ranking_cmp = then_cmp (truth_first (λ r. r.pinned)) unpinned_ranking_cmp
 
+-- by all keys, and at last by the place
 unfoldable pub ranking_cmp : Ranking → Ranking → Ordering
 ranking_cmp = then_cmp candidate_ranking_cmp (on (λ (r : Ranking). r.place) nat_cmp)

@@ -2,6 +2,7 @@
 use Rattle.std.specs.Prelude.{◌≡◌, ◌<◌, ℕ, true}
 use Rattle.version_core.specs.Order.{is_version}
 use Rattle.adb_view.specs.Plain.{Plain}
+use Rattle.adb_tables.specs.FieldIndexes.{INFO_DEPENDS, INFO_INSTALL_IF, INFO_PROVIDES, INFO_VERSION}
 use Rattle.adb_tables.specs.Values.{count_of, entries_in, entry_in, text_in}
 use Rattle.adb_rules.specs.SoundValues.{IsSoundDependency}
 
@@ -13,7 +14,7 @@ HasSoundEntries list = (i : ℕ) → i < count_of (entries_in list)
 -- of a package's information: the version is one, and each entry of what it depends on, of what it
 -- provides and of its install-if is a dependency
 pub record HasSoundTexts (info : Plain) : Type 0 where
-  pub version : is_version (text_in (entry_in info 1)) ≡ true
-  pub depends : HasSoundEntries (entry_in info 14)
-  pub provides : HasSoundEntries (entry_in info 15)
-  pub install_if : HasSoundEntries (entry_in info 17)
+  pub version : is_version (text_in (entry_in info INFO_VERSION)) ≡ true
+  pub depends : HasSoundEntries (entry_in info INFO_DEPENDS)
+  pub provides : HasSoundEntries (entry_in info INFO_PROVIDES)
+  pub install_if : HasSoundEntries (entry_in info INFO_INSTALL_IF)

@@ -19,6 +19,7 @@ use Rattle.pool_core.specs.declared.versions.VersionKind.TheVariants.{Under, Own
 
 -- ---- where the texts of versions stand
 
+-- the text of a word; none where there is no source
 abbrev pub text_in_source : Option Source → ℕ → List ℕ
 text_in_source None word = []
 text_in_source (Some source) word = text_in (value_at (payload_of source.adb) Text word)
@@ -43,6 +44,7 @@ IsReadOf sources r = IsReadBy (text_at sources) r.under × IsReadBy (text_at sou
 
 -- ---- ranks
 
+-- which of an option's two versions is ranked
 abbrev pub version_of : VersionKind → Ranking → RankedVersion
 version_of Under r = r.under
 version_of Own r = r.version
@@ -57,10 +59,12 @@ abbrev pub rank_among : VersionKind → List (Option (List ℕ)) → Option (Lis
 rank_among kind versions version =
     length (filter (λ one. is_lt (version_order kind one version)) versions)
 
+-- a ranking in which that version has this rank
 abbrev pub with_rank : VersionKind → ℕ → Ranking → Ranking
 with_rank Under n r = record r { under = record r.under { rank = n } }
 with_rank Own n r = record r { version = record r.version { rank = n } }
 
+-- a ranking in which that version has its rank among these
 abbrev pub with_rank_among : VersionKind → List (Option (List ℕ)) → Ranking → Ranking
 with_rank_among kind versions r =
     with_rank kind (rank_among kind versions (version_of kind r).version) r

@@ -22,25 +22,26 @@ use adb_view::{Arr, Val};
 use dep_core::{Dep, dep_of_parts};
 use std::alloc::{AllocError, Global};
 
-/// The field of a package's information with its version.
+/// The index of the version among the fields of a package's information (table 3 of
+/// `docs/formats.md`, "Schemas", which counts from 1; an index counts from 0).
 pub(crate) const PACKAGE_VERSION: usize = 1;
 
-/// Those with its dependencies, its provides and its install-if.
+/// The indices of its dependencies, its provides and its install-if, in the same table.
 const DEPENDS: usize = 14;
 
 pub(crate) const PROVIDES: usize = 15;
 
 const INSTALL_IF: usize = 17;
 
-/// The fields of a dependency.
+/// The indices of a dependency's fields (table 1), counted from 0 too.
 const NAME: usize = 0;
 
 pub(crate) const VERSION: usize = 1;
 
 const MATCHING: usize = 2;
 
-/// Whether the texts of a package keep their rules: its version is one, and so is each of its
-/// dependencies.
+/// Whether the texts of a package keep their rules: its version is a version, and each entry of its
+/// dependencies, provides and install-if is a dependency.
 pub(crate) fn has_sound_texts(alloc: Global, info: PkgInfo<'_>) -> Result<bool, AllocError>
     ensures { IfOk result (λ sound. sound ≡ true → HasSoundTexts (info_value info.entry)) }
 {

@@ -60,6 +60,7 @@ fn marks_with_listed(
     Ok(marks)
 }
 
+// The same, where the names are in byte order, so that each candidate's is looked up.
 fn marks_with_sorted(
     alloc: Global,
     packages: &Packages<'_>,
@@ -75,12 +76,14 @@ fn marks_with_sorted(
     Ok(marks)
 }
 
+// Whether a candidate is installed, and its name is none of those that are upgraded.
 fn is_kept_beside(one: &Details<'_>, names: &SortedWords<'_>) -> bool
     ensures { result ≡ is_kept_installed (listed_names names.now) one.now }
 {
     is_kept(one, names.has(one.name()))
 }
 
+// Whether a candidate is installed, and its name is not upgraded.
 fn is_kept(one: &Details<'_>, is_upgraded: bool) -> bool
     ensures { result ≡ (one.now.installed && not is_upgraded) }
 {

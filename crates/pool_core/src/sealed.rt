@@ -339,6 +339,7 @@ struct WorldMarks {
     install_ifs: Vec<CandId>,
 }
 
+/// What world says of each candidate of a list.
 fn marks_by_world(
     alloc: Global,
     list: &CandidateList<'_>,
@@ -393,6 +394,7 @@ fn push_if<'a>(deps: &mut Vec<Dep<'a>>, dep: Dep<'a>, kind: EntryKind) -> Result
     Ok(())
 }
 
+/// Whether an entry of world is of this kind.
 fn is_entry_of_kind(kind: EntryKind, dep: &Dep<'_>) -> bool
     ensures { result ≡ is_entry_of_kind kind (dependency dep.now) }
 {

@@ -55,6 +55,7 @@ fn distinct_versions<'a>(
     Ok(versions)
 }
 
+// A copy; the text stays borrowed.
 fn same_version<'a>(version: &Option<Version<'a>>) -> Option<Version<'a>>
     ensures { result ≡ version.entry.now }
 {
@@ -78,6 +79,7 @@ fn reads_the_text_before(options: &[RankedOption<'_>], i: usize, kind: VersionKi
     is_same_place(options[i - 1].version_of(kind), options[i].version_of(kind))
 }
 
+// Whether two versions are read from one text: the source and the word tell, and not the bytes.
 fn is_same_place(one: &RankedVersion<'_>, other: &RankedVersion<'_>) -> bool
     ensures { result ≡ true → HaveSamePlace one.now other.now }
 {

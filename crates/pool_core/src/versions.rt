@@ -86,6 +86,7 @@ pub(crate) fn version_under<'a>(
     }
 }
 
+/// The version under which a package of a source meets a dependency.
 fn version_meeting<'a>(source: &Source<'a>, kept: PackageWord, dep: &Dep<'_>) -> RankedVersion<'a>
     requires { IsPackageOf source.now kept.word }
     ensures version { result.version ≡ version_under (entry (dependency dep.now))

@@ -15,24 +15,28 @@ pub(crate) struct Sentence<'a> {
     pub(crate) cause: Option<Cause>,
 }
 
+// A sentence of one piece; the places that are left say nothing.
 fn one<'a>(a: Piece<'a>) -> Pieces<'a>
     ensures { pieces_text result ≡ piece_text a.entry }
 {
     [a, Nothing, Nothing, Nothing, Nothing, Nothing, Nothing]
 }
 
+// Of two.
 fn two<'a>(a: Piece<'a>, b: Piece<'a>) -> Pieces<'a>
     ensures { pieces_text result ≡ piece_text a.entry ++ piece_text b.entry }
 {
     [a, b, Nothing, Nothing, Nothing, Nothing, Nothing]
 }
 
+// Of three.
 fn three<'a>(a: Piece<'a>, b: Piece<'a>, c: Piece<'a>) -> Pieces<'a>
     ensures { pieces_text result ≡ piece_text a.entry ++ piece_text b.entry ++ piece_text c.entry }
 {
     [a, b, c, Nothing, Nothing, Nothing, Nothing]
 }
 
+// Of four.
 fn four<'a>(a: Piece<'a>, b: Piece<'a>, c: Piece<'a>, d: Piece<'a>) -> Pieces<'a>
     ensures { pieces_text result ≡ piece_text a.entry ++ piece_text b.entry
         ++ piece_text c.entry ++ piece_text d.entry }
@@ -40,6 +44,7 @@ fn four<'a>(a: Piece<'a>, b: Piece<'a>, c: Piece<'a>, d: Piece<'a>) -> Pieces<'a
     [a, b, c, d, Nothing, Nothing, Nothing]
 }
 
+// Of five.
 fn five<'a>(a: Piece<'a>, b: Piece<'a>, c: Piece<'a>, d: Piece<'a>, e: Piece<'a>) -> Pieces<'a>
     ensures { pieces_text result ≡ piece_text a.entry ++ piece_text b.entry
         ++ piece_text c.entry ++ piece_text d.entry ++ piece_text e.entry }
@@ -47,6 +52,7 @@ fn five<'a>(a: Piece<'a>, b: Piece<'a>, c: Piece<'a>, d: Piece<'a>, e: Piece<'a>
     [a, b, c, d, e, Nothing, Nothing]
 }
 
+// Of six.
 fn six<'a>(
     a: Piece<'a>,
     b: Piece<'a>,
@@ -61,6 +67,7 @@ fn six<'a>(
     [a, b, c, d, e, f, Nothing]
 }
 
+// Of seven, the most that a refusal has.
 fn seven<'a>(
     a: Piece<'a>,
     b: Piece<'a>,

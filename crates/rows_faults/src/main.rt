@@ -17,6 +17,8 @@ use tree_memory::{MemorySink, MemoryTree};
 struct Echo;
 
 impl Program for Echo {
+    /// Does what its words say to the tree, and prints them. It fails on purpose to tell some
+    /// faults.
     fn run(
         &self,
         alloc: Global,
@@ -53,6 +55,7 @@ impl Program for Echo {
         }
     }
 
+    /// Its containers are texts behind the line of a schema.
     fn container_of(&self, alloc: Global, text: &[u8]) -> Result<Option<Vec<u8>>, AllocError> {
         match text.strip_prefix(b"#%SCHEMA: ") {
             Some(rest) => Ok(Some(Vec::from_slice(alloc, rest)?)),

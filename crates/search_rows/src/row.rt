@@ -5,7 +5,8 @@ use std::alloc::{AllocError, Global};
 /// A repository.
 #[derive(Drop)]
 pub struct Repository<'t> {
-    /// Its number; where the row says none, how many there are with it.
+    /// Its number; where the row says none, its position among the row's repositories, counted
+    /// from 1.
     pub number: u64,
     /// Its tag, if it has one.
     pub tag: Option<&'t [u8]>,

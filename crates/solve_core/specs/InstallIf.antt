@@ -53,7 +53,7 @@ pub record AreInstallIfs (pool : SealedPool) (by_name : List ℕ) (waiting : Lis
       (rank k : ℕ) (d : Dependency) → slice_get by_name rank ≡ Some k →
       IsIn d (install_if_at pool k) → IsIn rank (items_of waiting d.name)
 
--- whether the candidate of that rank asks
+-- whether the candidate asks that stands at this place of the list by name (its rank there)
 abbrev pub rank_asks : SealedPool → List ℕ → List ℕ → ℕ → Bool
 rank_asks pool chosen by_name rank =
     option_map_or (λ (k : ℕ). asks_at pool chosen k) (slice_get by_name rank) false

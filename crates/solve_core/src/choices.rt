@@ -191,7 +191,8 @@ impl<'p> Choices<'p> {
         self.queue.get(self.cursor)
     }
 
-    // The frame of the byte-least name whose install-if applies and that no choice has.
+    // The frame of the byte-least name whose install-if applies and that no choice has. It is asked
+    // for only where each raised dependency is met.
     fn frame_asked(&mut self) -> Result<Option<Frame>, AllocError>
         requires consistent { IsConsistent self.old }
         requires met { find (is_unmet_dep (pool_of self.old) (choices_of self.old)) (queue_of
@@ -245,7 +246,8 @@ impl<'p> Choices<'p> {
         }
     }
 
-    // The frame of the name of the candidate that asks for the byte-least one.
+    // The frame of the name of the candidate that asks for the byte-least one. It is asked for only
+    // where each raised dependency is met.
     fn frame_named(&self, id: CandId) -> Result<Frame, AllocError>
         requires met { find (is_unmet_dep (pool_of self.now) (choices_of self.now)) (queue_of
             (pool_of self.now) (choices_of self.now)) ≡ None }

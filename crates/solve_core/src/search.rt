@@ -103,7 +103,8 @@ impl<'p> Search<'p> {
         Ok(trace)
     }
 
-    // The reason against an option, if there is one.
+    // The reason against an option, which is no choice yet, if there is one. (A choice would
+    // exclude itself by the names that it occupies.)
     fn reason_against(&self, id: CandId) -> Result<Option<Vec<CandId>>, AllocError>
         requires search { IsSearch self.now.chosen self.now.turns.items }
         requires within { id < length (pool_of self.now.chosen).candidates }

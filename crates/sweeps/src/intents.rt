@@ -11,7 +11,7 @@ use tree_memory::MemoryTree;
 const INTENT: &[u8] = b"lib/apk/intent";
 
 /// Answers `recover (NAME BYTES)..`: what a recovery of these files answers, how many calls of it
-/// write, what it leaves, and how many write once it is recovered again.
+/// write, what it leaves, and how many have written once it is recovered again, which is no more.
 pub fn add_recovery(alloc: Global, words: &Words, answer: &mut Vec<u8>) -> Result<(), AllocError> {
     let mut tree = tree_of(alloc, words, 1)?;
     add_both_recoveries(alloc, &mut tree, answer)

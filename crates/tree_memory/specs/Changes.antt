@@ -6,6 +6,7 @@ use Rattle.tree_memory.specs.declared.store.Change.{Change}
 use Rattle.tree_memory.specs.declared.store.Change.TheVariants.{Put, Create, Append, Sync, Rename, Remove, SyncNames, Stay}
 use Rattle.tree_memory.specs.declared.store.Stored.{Stored}
 
+-- what stands under a number of which no file was made
 abbrev pub no_file : File
 no_file = record { bytes = []; synced = false }
 
@@ -22,10 +23,11 @@ after_put name bytes v = record {
   older = [];
 }
 
--- the bytes of the files by number, as they stand now, and whether they are synced
+-- the bytes of the files by number, as they stand now
 abbrev pub contents_of : List Stored → List (List ℕ)
 contents_of files = map (λ file. file.bytes.items) files
 
+-- whether each is synced
 abbrev pub synced_flags : List Stored → List Bool
 synced_flags files = map (λ file. file.synced) files
 
@@ -33,6 +35,7 @@ synced_flags files = map (λ file. file.synced) files
 abbrev pub front_of : List (List ℕ) → ℕ → ℕ → List ℕ
 front_of contents file len = take len (slice_index_or contents file [])
 
+-- what a change makes of a state. Stay makes one more state that is the same
 abbrev pub step : List (List ℕ) → Change → TreeState → TreeState
 step contents (Put name file len) v = after_put name (front_of contents file len) v
 step contents (Create name) v = after_create name v
@@ -74,6 +77,7 @@ can_step contents (Remove name) v = is_some (v.names name)
 can_step contents SyncNames v = true
 can_step contents Stay v = true
 
+-- whether each of some changes may be recorded where those before it lead
 abbrev pub is_record : List (List ℕ) → TreeState → List Change → Bool
 is_record contents v [] = true
 is_record contents v (c ∷ cs) = can_step contents c v && is_record contents (step contents c v) cs

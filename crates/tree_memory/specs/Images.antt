@@ -31,6 +31,7 @@ image_of choice v q = option_map (λ n. crash_bytes ((choice / length (maps_of v
 
 -- ---- as it is read from a record
 
+-- the maps of names that a crash may leave, that as read first
 abbrev pub newest_first : TreeState → List NameMap
 newest_first v = v.names ∷ v.older
 

@@ -32,6 +32,7 @@ counts_by calls = record {
   fallible = has_more calls.plan;
 }
 
+-- how often the tree failed, was misused, and found no memory of its own
 abbrev pub counts_of : MemoryTree → Counts
 counts_of tree = counts_by tree.calls
 

@@ -14,13 +14,16 @@ no_plan = record { listed = []; stop = None }
 
 -- ---- whether the next call is to fail
 
+-- whether the next call is on the list
 abbrev pub is_listed : List ℕ → Bool
 is_listed listed = list_any (λ n. n == 1) listed
 
+-- whether no call is left before the stop
 abbrev pub is_stopped : Option ℕ → Bool
 is_stopped None = false
 is_stopped (Some n) = n == 0
 
+-- whether the next call is to fail
 abbrev pub is_next : PlanState → Bool
 is_next plan = is_listed plan.listed || is_stopped plan.stop
 
@@ -34,6 +37,7 @@ has_more plan = list_any (λ n. nat_lt 0 n) plan.listed || is_some plan.stop
 abbrev pub listed_on : List ℕ → List ℕ
 listed_on listed = filter (λ n. nat_lt 0 n) (map (λ n. n - 1) listed)
 
+-- the plan once one call was made
 abbrev pub one_on : PlanState → PlanState
 one_on plan = record { listed = listed_on plan.listed; stop = option_map (λ n. n - 1) plan.stop }
 

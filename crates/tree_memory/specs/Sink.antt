@@ -12,6 +12,7 @@ pub record SinkState : Type 0 where
   pub faults : ℕ
   pub wants : ℕ
 
+-- an empty sink without a planned end
 abbrev pub new_sink : SinkState
 new_sink = record { bytes = []; room = None; most = None; faults = 0; wants = 0 }
 
@@ -59,5 +60,6 @@ pub record IsWanting (old : SinkState) (piece : List ℕ) (new : SinkState) : Ty
   pub some : 0 < share_of old piece
   pub counted : new ≡ record old { faults = next_count old.faults; wants = next_count old.wants }
 
+-- a write that fails: its end has come, or there was no memory
 abbrev pub Refuses : SinkState → List ℕ → SinkState → Type 0
 Refuses old piece new = IsFull old piece new ⊎ IsWanting old piece new

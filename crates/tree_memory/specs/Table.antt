@@ -13,6 +13,7 @@ use Rattle.tree_memory.specs.declared.table.NameAndFile.{NameAndFile}
 abbrev pub IsTable : List NameAndFile → Type 0
 IsTable entries = AllPairs (λ a b. slice_cmp nat_cmp a.name b.name ≡ Less) entries
 
+-- the names of a table, in its order
 abbrev pub names_of : List NameAndFile → List (List ℕ)
 names_of entries = map (λ e. e.name) entries
 

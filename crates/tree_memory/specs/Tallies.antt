@@ -3,6 +3,7 @@ use Rattle.std.specs.Prelude.{◌≤◌, Bool, true, false}
 use Rattle.base_core.specs.Faults.{next_count}
 use Rattle.tree_memory.specs.declared.calls.Tally.{Tally}
 
+-- before the first call
 abbrev pub no_calls : Tally
 no_calls = record { calls = 0; writes = 0; faults = 0; misuses = 0; wants = 0 }
 

@@ -148,6 +148,7 @@ bounded-after_sync_names v whole = record { each = each }
     each map (inl is) = same_map v.made map v.names is (whole.each v.names (inl refl))
     each map (inr other) = absurd other
 
+-- a recorded change keeps that names lead only to files that were made, and are of finite number
 pub bounded-step : (contents : List (List ℕ)) (c : Change) (v : TreeState) → AreBounded v
     → AreBounded (step contents c v)
 bounded-step contents (Put name file len) v whole =
@@ -200,6 +201,7 @@ whole_by_both v bounded sound = record {
   bytes = sound.bytes;
 }
 
+-- each state of a tree in memory is whole
 pub whole_history : (tree : MemoryTree) → All IsWhole (history_of tree)
 whole_history tree i d within =
     whole_by_both _ (bounded_history (contents_of tree.store.files.items) tree.store.changes.items i d within) (tree.store.in_step.sound i d within)

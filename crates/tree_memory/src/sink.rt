@@ -78,6 +78,7 @@ impl MemorySink {
         self.wants
     }
 
+    /// Counts a failure.
     fn fault(&mut self) -> SinkFault
         ensures is { self.new ≡ record self.old { faults = next_count self.old.faults } }
         ensures later { self.old.faults ≤ self.new.faults }
@@ -86,6 +87,7 @@ impl MemorySink {
         SinkFault
     }
 
+    /// Counts a failure for want of memory, which is a fault too.
     fn want(&mut self) -> SinkFault
         ensures is { self.new ≡ record self.old {
           faults = next_count self.old.faults;

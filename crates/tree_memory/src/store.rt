@@ -287,6 +287,7 @@ fn has_range(bytes: &[u8], at: u64, len: usize) -> bool
     len <= have - at as usize
 }
 
+/// Copies the bytes from an offset on, as many as are asked for.
 fn copy_from(bytes: &[u8], start: usize, into: &mut [u8])
     requires { start + length into.old ≤ length bytes.now }
     ensures { into.new ≡ take (length into.old) (drop start bytes.now) }

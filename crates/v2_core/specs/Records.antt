@@ -14,13 +14,13 @@ pub record InfoLine : Type 0 where
   pub field : InfoField
   pub values : List FieldValue
 
--- a file and a folder, as the lines of a record say of them
+-- a file, as the lines of a record say of it
 pub record ListedFile : Type 0 where
   pub name : List ℕ
   pub access : Option Access
   pub hash : Option (List ℕ)
 
--- of the files in the order of their lines
+-- a folder, with its files in the order of their lines
 pub record ListedFolder : Type 0 where
   pub name : List ℕ
   pub access : Option Access

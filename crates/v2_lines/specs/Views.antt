@@ -11,7 +11,7 @@ use Rattle.v2_lines.specs.declared.line.Line.TheVariants as Lines
 use Rattle.v2_lines.specs.declared.value.Value.{Value}
 use Rattle.v2_lines.specs.declared.value.Value.TheVariants.{Text, Bytes, Number, Needs, Nothing}
 
--- the bytes that it holds
+-- the bytes that a vector holds, such as those of a hash
 abbrev pub bytes_view : Vec ℕ Global → List ℕ
 bytes_view v = v.items
 

@@ -54,6 +54,7 @@ leading_hex_digits text = take_while is_hex_digit text
 abbrev pub leading_letters : List ℕ → List ℕ
 leading_letters text = take_while is_ascii_lowercase text
 
+-- so that each number fits into 64 bits
 abbrev pub MOST_DIGITS : ℕ
 MOST_DIGITS = 18
 

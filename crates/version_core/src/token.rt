@@ -26,6 +26,7 @@ pub enum Class {
 }
 
 impl Class {
+    /// Its place in the order of classes, the first with 0.
     fn rank(self) -> u8
         ensures { result ≡ class_rank self }
     {

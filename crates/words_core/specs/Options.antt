@@ -35,12 +35,15 @@ common_options =
     flag_spec (codes "--allow-untrusted") [] AllowUntrusted ∷
     (flag_spec (codes "--no-scripts") [] NoScripts ∷ [])
 
+-- a root without a database may begin one
 abbrev pub initdb_option : OptionSpec
 initdb_option = flag_spec (codes "--initdb") [] Initdb
 
+-- a change is told, and nothing is written
 abbrev pub simulate_option : OptionSpec
 simulate_option = flag_spec (codes "--simulate") (codes "-s") Simulate
 
+-- configuration that the user changed goes too
 abbrev pub purge_option : OptionSpec
 purge_option = flag_spec (codes "--purge") [] Purge
 
