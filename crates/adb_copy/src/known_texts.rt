@@ -1,6 +1,6 @@
 //! The long texts of a payload that were written into a draft. Many places may share a text, so a
-//! long one is compared with what the draft has once, and then written by its word. Equal texts that
-//! overlap are found by their period.
+//! long one is compared with what the draft has once, and then written by its word. Equal texts
+//! that overlap are found by their period.
 
 ghost use Rattle.std.specs.Prelude.{◌≡◌, ℕ, List, true, Some, All, IfSome, OnOk};
 ghost use Rattle.adb_view.specs.Adb.{payload_of};

@@ -1,6 +1,6 @@
-//! Long texts of a payload that overlap. Where equal texts overlap, their bytes have a period; which
-//! bytes were tested to have one is kept, so that of the texts there that are equal few are looked
-//! at.
+//! Long texts of a payload that overlap. Where equal texts overlap, their bytes have a period;
+//! which bytes were tested to have one is kept, so that of the texts there that are equal few are
+//! looked at.
 
 ghost use Rattle.std.specs.Prelude.{◌≡◌, ◌≤◌, ◌+◌, [], All, length, take, drop, IfSome, OnOk};
 ghost use Rattle.std.specs.Bool.{OnTrue};

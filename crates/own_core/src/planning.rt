@@ -284,10 +284,10 @@ fn plan_of_claims<T: Tree>(
     Ok(plan)
 }
 
-/// Plans the files of a change of packages: which names are removed, which get the contents of which
-/// files, and which configuration stays as the user made it. With `purge` configuration that the
-/// user changed goes with its package. The call only reads the tree: the files of configuration of
-/// packages that come or go, and near the names that are written.
+/// Plans the files of a change of packages: which names are removed, which get the contents of
+/// which files, and which configuration stays as the user made it. With `purge` configuration that
+/// the user changed goes with its package. The call only reads the tree: the files of configuration
+/// of packages that come or go, and near the names that are written.
 ///
 /// # Errors
 ///

@@ -47,7 +47,8 @@ impl<'a> PlacedName<'a> {
     }
 }
 
-/// The names of the packages of a database and of the selected candidates, in byte order, each once.
+/// The names of the packages of a database and of the selected candidates, in byte order, each
+/// once.
 #[derive(Drop)]
 pub struct PlacedNames<'a> {
     pub(crate) list: Vec<PlacedName<'a>>,

@@ -30,6 +30,7 @@ pub record Candidate : Type 0 where
 
 -- ---- what is read of a package's information
 
+-- the version that a text is, if it is one
 abbrev pub version_of_text : List ℕ → Option (List ℕ)
 version_of_text text = if is_version text then Some text else None
 
@@ -39,9 +40,11 @@ abbrev pub dependencies_of : Plains → List Dependency
 dependencies_of none = []
 dependencies_of (more value values) = cons_option (dependency_in value) (dependencies_of values)
 
+-- the dependencies of a list of a package's information
 abbrev pub dependencies_in : Plain → List Dependency
 dependencies_in value = dependencies_of (entries_in value)
 
+-- a candidate by its parts
 abbrev pub candidate_by :
     Plain → List ℕ → Option (List ℕ) → List ℕ →
     List Dependency → List Dependency → List Dependency →
@@ -84,6 +87,7 @@ is_same_id a b =
     nat_lt 0 (length a)
     && (nat_lt 0 (length b) && (starts_with nat_eq a b || starts_with nat_eq b a))
 
+-- two versions with the same text, or none twice
 abbrev pub is_same_version : Option (List ℕ) → Option (List ℕ) → Bool
 is_same_version None None = true
 is_same_version None (Some b) = false
@@ -97,6 +101,7 @@ is_same_package installed c =
     && (bytes_eq c.name installed.name
     && (is_same_version c.version installed.version && is_same_id c.id installed.id))
 
+-- the same candidate, counted as installed
 abbrev pub as_installed : Candidate → Candidate
 as_installed c = record c { installed = true }
 
@@ -120,6 +125,7 @@ pub data Need : Type 0 where
   entry : Dependency → Need
   named : List ℕ → Need
 
+-- the name that a need asks for
 abbrev pub need_name : Need → List ℕ
 need_name (entry d) = d.name
 need_name (named name) = name
@@ -128,9 +134,11 @@ need_name (named name) = name
 abbrev pub is_met_by_entry : Dependency → Dependency → Bool
 is_met_by_entry d p = not p.conflict && meets d p.name p.version
 
+-- whether a candidate meets a dependency by its own name and version
 abbrev pub meets_by_own_name : Dependency → Candidate → Bool
 meets_by_own_name d c = meets d c.name c.version
 
+-- whether it meets one by its own name or by something that it provides
 abbrev pub meets_dependency : Dependency → Candidate → Bool
 meets_dependency d c = meets_by_own_name d c || list_any (is_met_by_entry d) c.provides
 

@@ -15,6 +15,7 @@ affects Pin d c =
     option_map_or (λ tag. bytes_eq c.name d.name && option_map_or (bytes_eq tag) d.tag false) c.tag
     false
 
+-- whether one of these entries of world has this effect on a candidate
 abbrev pub is_affected : Effect → List Dependency → Candidate → Bool
 is_affected effect entries c = list_any (λ (d : Dependency). affects effect d c) entries
 

@@ -8,6 +8,7 @@ pub use Rattle.adb_fields.specs.FirstPair.{IsIn}
 abbrev pub AreMembers : {X : Type 0} → List X → List X → Type 0
 AreMembers {X} xs ys = (c : X) → IsIn c xs → IsIn c ys
 
+-- no number stands twice
 abbrev pub AreDistinct : List ℕ → Type 0
 AreDistinct [] = Unit {0}
 AreDistinct (c ∷ cs) = (IsIn c cs → ⊥) × AreDistinct cs
@@ -32,6 +33,7 @@ insert_by_rank better c [] = c ∷ []
 insert_by_rank better c (d ∷ ds) =
     if better c d then c ∷ (d ∷ ds) else d ∷ insert_by_rank better c ds
 
+-- places in rank order: each better one first
 abbrev pub rank_order_of : (ℕ → ℕ → Bool) → List ℕ → List ℕ
 rank_order_of better [] = []
 rank_order_of better (c ∷ cs) = insert_by_rank better c (rank_order_of better cs)

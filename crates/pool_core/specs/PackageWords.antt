@@ -24,5 +24,6 @@ pub record IsPackageAt (sources : List Source) (place word : ℕ) : Type 0 where
   pub of_source : (source : Source) → slice_get sources place ≡ Some source
       → IsPackageOf source word
 
+-- the word leads to a package of its source
 abbrev pub IsPackageAmong : List Source → PackageWord → Type 0
 IsPackageAmong sources kept = IsPackageAt sources kept.source kept.word

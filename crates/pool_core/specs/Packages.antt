@@ -20,10 +20,12 @@ candidates_of_source source (more info infos) =
     candidate_of info source.repo (option_copied source.tag) false
     ∷ candidates_of_source source infos
 
+-- the candidate that a kept word leads to
 abbrev pub candidate_among : List Source → PackageWord → Candidate
 candidate_among sources kept =
     candidate_in_source (slice_get sources kept.source) kept.word kept.installed
 
+-- the candidates of a pool, in the order in which they were added
 abbrev pub candidates_of_packages : Packages → List Candidate
 candidates_of_packages packages = map (candidate_among packages.sources.items) packages.words.items
 

@@ -13,11 +13,13 @@ with_first v (blob b) rest = rest
 with_first v (arr vs) rest = arr (more v vs) ∷ rest
 with_first v (obj vs) rest = rest
 
+-- the first value put before the entries of the second
 abbrev pub first_with_second : List Plain → List Plain
 first_with_second [] = []
 first_with_second (v ∷ []) = []
 first_with_second (v ∷ (w ∷ rest)) = with_first v w rest
 
+-- an array as an object with its entries
 abbrev pub as_object : Plain → Plain
 as_object null = null
 as_object (int n) = null
@@ -25,6 +27,7 @@ as_object (blob b) = null
 as_object (arr vs) = obj vs
 as_object (obj vs) = null
 
+-- the first value as an object
 abbrev pub first_as_object : List Plain → List Plain
 first_as_object [] = []
 first_as_object (v ∷ rest) = as_object v ∷ rest
@@ -33,6 +36,7 @@ first_as_object (v ∷ rest) = as_object v ∷ rest
 abbrev pub BuildStep : Type 0
 BuildStep = ℕ × (ℕ × List ℕ)
 
+-- the values that stand after a step of this kind
 abbrev pub built_with : ℕ → ℕ → List ℕ → List Plain → List Plain
 built_with zero n b vs = null ∷ vs
 built_with (suc zero) n b vs = int n ∷ vs
@@ -41,6 +45,7 @@ built_with (suc (suc (suc zero))) n b vs = arr none ∷ vs
 built_with (suc (suc (suc (suc zero)))) n b vs = first_with_second vs
 built_with (suc (suc (suc (suc (suc k))))) n b vs = first_as_object vs
 
+-- the values that stand after these steps, the last of which is done first
 abbrev pub built : List BuildStep → List Plain
 built [] = []
 built (i ∷ steps) = built_with i.0 i.1.0 i.1.1 (built steps)
@@ -75,10 +80,12 @@ mutual
       (built_again v (steps_of_all vs steps)
       ∙ ap (λ (z : List Plain). v ∷ z) (all_built_again vs steps))
 
+-- the first value; Null where there is none
 abbrev pub first_of : List Plain → Plain
 first_of [] = null
 first_of (v ∷ vs) = v
 
+-- values are told apart by the steps that build them
 abbrev pub plain_code : Coded Plain
 plain_code =
     code_by (List BuildStep) (coded_list (coded× coded_ℕ (coded× coded_ℕ (coded_list coded_ℕ))))

@@ -23,10 +23,12 @@ pub record SealedPool : Type 0 where
   pub world : List Dependency
   pub upgraded : UpgradedNames
 
+-- a sealed pool by its parts
 abbrev pub sealed_pool_by : List Candidate → List Dependency → UpgradedNames → SealedPool
 sealed_pool_by candidates world upgraded =
     record { candidates = candidates; world = world; upgraded = upgraded }
 
+-- whether the command upgrades this name
 abbrev pub is_upgraded : UpgradedNames → List ℕ → Bool
 is_upgraded no_names name = false
 is_upgraded all_names name = true
@@ -44,9 +46,11 @@ is_pinned_to world name tag =
 abbrev pub is_pinned : List Dependency → Candidate → Bool
 is_pinned world c = option_map_or (is_pinned_to world c.name) c.tag false
 
+-- whether a candidate comes of a repository without a tag, or of none
 abbrev pub is_untagged : Candidate → Bool
 is_untagged c = not (is_some c.tag)
 
+-- whether a candidate has the very name that is needed
 abbrev pub has_needed_name : Need → Candidate → Bool
 has_needed_name need c = bytes_eq (need_name need) c.name
 
@@ -94,12 +98,14 @@ abbrev pub unpinned_cmp : UpgradedNames → Need → Candidate → Candidate →
 unpinned_cmp upgraded need =
     then_cmp (quality_cmp upgraded need) (then_cmp (merit_cmp need) text_cmp)
 
+-- the order of two candidates for a need: first whether world pins them
 abbrev pub candidate_cmp : SealedPool → Need → Candidate → Candidate → Ordering
 candidate_cmp pool need =
     then_cmp (quality_first (is_pinned pool.world)) (unpinned_cmp pool.upgraded need)
 
 -- ---- places in the list
 
+-- the candidate at a place
 abbrev pub candidate_at : SealedPool → ℕ → Option Candidate
 candidate_at pool place = slice_get pool.candidates place
 
@@ -107,12 +113,15 @@ candidate_at pool place = slice_get pool.candidates place
 abbrev pub is_at : SealedPool → (Candidate → Bool) → ℕ → Bool
 is_at pool test place = option_map_or test (candidate_at pool place) false
 
+-- whether the candidate at a place may be selected
 abbrev pub is_eligible_at : SealedPool → ℕ → Bool
 is_eligible_at pool place = is_at pool (is_eligible pool.world) place
 
+-- whether world pins the candidate at a place
 abbrev pub is_pinned_at : SealedPool → ℕ → Bool
 is_pinned_at pool place = is_at pool (is_pinned pool.world) place
 
+-- whether the candidate at a place meets a need
 abbrev pub meets_at : SealedPool → ℕ → Need → Bool
 meets_at pool place need = is_at pool (meets_need need) place
 
@@ -121,5 +130,6 @@ unfoldable pub rank_cmp : SealedPool → Need → ℕ → ℕ → Ordering
 rank_cmp pool need =
     then_cmp (on (candidate_at pool) (option_cmp (candidate_cmp pool need))) nat_cmp
 
+-- whether the candidate at the first place comes before that at the second, for a need
 abbrev pub is_better : SealedPool → Need → ℕ → ℕ → Bool
 is_better pool need a b = is_lt (rank_cmp pool need a b)

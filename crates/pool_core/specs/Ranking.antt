@@ -19,6 +19,7 @@ pub record Ranking : Type 0 where
   pub repository : Option ℕ
   pub place : ℕ
 
+-- a ranking by its parts
 abbrev pub ranking_by :
     Bool → Bool → Bool → Bool → RankedVersion → ℕ → List ℕ → RankedVersion → Option ℕ → ℕ → Ranking
 ranking_by pinned untagged named kept under priority name version repository place = record {
@@ -53,6 +54,7 @@ IsRankingIn pool need r = (c : Candidate) × ((candidate_at pool r.place ≡ Som
 abbrev pub truth_first : (Ranking → Bool) → Ranking → Ranking → Ordering
 truth_first key = on key (flip_args bool_cmp)
 
+-- untagged first, then by the needed name, then what is installed and stays
 abbrev pub quality_ranking_cmp : Ranking → Ranking → Ordering
 quality_ranking_cmp =
     then_cmp (truth_first (λ r. r.untagged))
@@ -62,6 +64,7 @@ abbrev pub name_ranking_cmp : Ranking → Ranking → Ordering
 name_ranking_cmp =
     then_cmp (on (λ (r : Ranking). r.name) bytes_cmp) (on (λ (r : Ranking). r.version.rank) nat_cmp)
 
+-- the higher priority first
 abbrev pub priority_ranking_cmp : Ranking → Ranking → Ordering
 priority_ranking_cmp =
     then_cmp (on (λ (r : Ranking). r.priority) (flip_args nat_cmp)) name_ranking_cmp
@@ -70,9 +73,11 @@ abbrev pub merit_ranking_cmp : Ranking → Ranking → Ordering
 merit_ranking_cmp =
     then_cmp (on (λ (r : Ranking). r.under.rank) nat_cmp) priority_ranking_cmp
 
+-- of an earlier repository first
 abbrev pub repository_ranking_cmp : Ranking → Ranking → Ordering
 repository_ranking_cmp = on (λ (r : Ranking). r.repository) earlier_repository
 
+-- the order of two candidates that world pins both or neither
 abbrev pub unpinned_ranking_cmp : Ranking → Ranking → Ordering
 unpinned_ranking_cmp =
     then_cmp quality_ranking_cmp (then_cmp merit_ranking_cmp repository_ranking_cmp)
@@ -81,5 +86,6 @@ unpinned_ranking_cmp =
 abbrev pub candidate_ranking_cmp : Ranking → Ranking → Ordering
 candidate_ranking_cmp = then_cmp (truth_first (λ r. r.pinned)) unpinned_ranking_cmp
 
+-- by all keys, and at last by the place
 unfoldable pub ranking_cmp : Ranking → Ranking → Ordering
 ranking_cmp = then_cmp candidate_ranking_cmp (on (λ (r : Ranking). r.place) nat_cmp)

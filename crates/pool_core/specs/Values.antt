@@ -15,17 +15,21 @@ use Rattle.pool_core.specs.declared.pool.TheConstants.{MOST_CANDIDATES}
 use Rattle.pool_core.specs.Candidates.{Candidate, candidate_of, Need, entry, named}
 use Rattle.pool_core.specs.Rank.{UpgradedNames, no_names, all_names, listed_names}
 
+-- the candidate that is shown
 abbrev pub candidate_value : Shown → Candidate
 candidate_value c = candidate_of (info_value c.info) c.repo (option_copied c.tag) c.installed
 
+-- the need that owns its text
 abbrev pub need_of : OwnedNeed → Need
 need_of (Entry dep) = entry (dependency dep)
 need_of (Named name) = named name.now
 
+-- the need that lends its text
 abbrev pub need_by : NeedRef → Need
 need_by (Borrowed.Entry dep) = entry (dependency dep.now)
 need_by (Borrowed.Named name) = named name.now
 
+-- the names that a command upgrades
 abbrev pub names_upgraded_by : Upgrade → UpgradedNames
 names_upgraded_by Nothing = no_names
 names_upgraded_by All = all_names

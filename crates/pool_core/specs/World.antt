@@ -6,10 +6,12 @@ use Rattle.pool_core.specs.Candidates.{Candidate}
 use Rattle.pool_core.specs.declared.sealed.EntryKind.{EntryKind}
 use Rattle.pool_core.specs.declared.sealed.EntryKind.TheVariants.{Conflict, Tagged}
 
+-- whether an entry of world is a conflict, or has a tag
 abbrev pub is_entry_of_kind : EntryKind → Dependency → Bool
 is_entry_of_kind Conflict d = d.conflict
 is_entry_of_kind Tagged d = is_some d.tag
 
+-- the entries of world of one kind, in their order
 abbrev pub entries_of_kind : EntryKind → List Dependency → List Dependency
 entries_of_kind kind world = filter (is_entry_of_kind kind) world
 

@@ -293,6 +293,7 @@ fn are_some_and_positive(deps: &Deps<'_>) -> bool
     are_positive(deps)
 }
 
+/// Whether none of some dependencies is a conflict.
 fn are_positive(deps: &Deps<'_>) -> bool
     ensures { result ≡ list_all (λ (d : Dependency). not d.conflict) deps.now }
 {
@@ -317,6 +318,7 @@ fn any_occupies(provides: &Deps<'_>, name: &[u8]) -> bool
     false
 }
 
+/// Whether an entry that is provided takes the name for itself.
 fn entry_occupies(name: &[u8], entry: &Dep<'_>) -> bool
     ensures { result ≡ entry_occupies name.now (dependency entry.now) }
 {

@@ -22,25 +22,25 @@ use adb_view::{Arr, Val};
 use dep_core::{Dep, dep_of_parts};
 use std::alloc::{AllocError, Global};
 
-/// The field of a package's information with its version.
+/// The index, from 0, of the version in a package's information.
 pub(crate) const PACKAGE_VERSION: usize = 1;
 
-/// Those with its dependencies, its provides and its install-if.
+/// Those of its dependencies, of its provides and of its install-if.
 const DEPENDS: usize = 14;
 
 pub(crate) const PROVIDES: usize = 15;
 
 const INSTALL_IF: usize = 17;
 
-/// The fields of a dependency.
+/// The indexes, from 0, of the fields of a dependency.
 const NAME: usize = 0;
 
 pub(crate) const VERSION: usize = 1;
 
 const MATCHING: usize = 2;
 
-/// Whether the texts of a package keep their rules: its version is one, and so is each of its
-/// dependencies.
+/// Whether the texts of a package keep their rules: its version is a version, and each entry of its
+/// dependencies, provides and install-if is a dependency.
 pub(crate) fn has_sound_texts(alloc: Global, info: PkgInfo<'_>) -> Result<bool, AllocError>
     ensures { IfOk result (λ sound. sound ≡ true → HasSoundTexts (info_value info.entry)) }
 {

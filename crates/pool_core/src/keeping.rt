@@ -81,6 +81,7 @@ fn is_kept_beside(one: &Details<'_>, names: &SortedWords<'_>) -> bool
     is_kept(one, names.has(one.name()))
 }
 
+// Whether a candidate is installed, and its name is not upgraded.
 fn is_kept(one: &Details<'_>, is_upgraded: bool) -> bool
     ensures { result ≡ (one.now.installed && not is_upgraded) }
 {

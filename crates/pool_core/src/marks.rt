@@ -81,6 +81,7 @@ fn disallowed_marks(
     Ok(marks)
 }
 
+// A mark for each candidate, none of them set.
 fn no_marks(alloc: Global, packages: &Packages<'_>) -> Result<Vec<bool>, AllocError>
     ensures { IfOk result (λ marks. marks.items
         ≡ map (λ one. false) (candidates_of_packages packages.now)) }
@@ -92,6 +93,7 @@ fn no_marks(alloc: Global, packages: &Packages<'_>) -> Result<Vec<bool>, AllocEr
     Ok(marks)
 }
 
+// The marks that are set where these are not.
 fn opposite_marks(alloc: Global, marks: &[bool]) -> Result<Vec<bool>, AllocError>
     ensures { IfOk result (λ others. others.items ≡ map not marks.now) }
 {
@@ -154,6 +156,7 @@ fn mark_one(
     marks[place] = true;
 }
 
+// Whether an entry of world has this effect on a candidate.
 fn affects(effect: Effect, entry: &Dep<'_>, one: &Details<'_>) -> bool
     ensures { result ≡ affects effect (dependency entry.now) one.now }
 {
@@ -174,6 +177,7 @@ fn pins(entry: &Dep<'_>, one: &Details<'_>) -> bool
     }
 }
 
+// Whether an entry of world has this tag.
 fn has_tag(dep: &Dep<'_>, tag: &[u8]) -> bool
     ensures { result ≡ option_map_or (bytes_eq tag.now) (dependency dep.now).tag false }
 {
@@ -199,6 +203,7 @@ fn is_allowed(one: &Details<'_>, tagged: &[Dep<'_>]) -> bool
     }
 }
 
+// Whether one of some entries of world has this tag.
 #[tactic(auto, using(crate::proofs::Anyone::any_map))]
 fn uses_tag(tagged: &[Dep<'_>], tag: &[u8]) -> bool
     ensures { result ≡ uses_tag (map dependency tagged.now) tag.now }

@@ -36,7 +36,8 @@ use std::marker::Model;
 /// Why a package is not taken into a pool.
 #[derive(Clone, Copy, Debug, PartialEq, Eq)]
 pub enum PoolFault {
-    /// There would be more candidates than a pool holds; the count is the first that passes.
+    /// There would be more candidates than a pool holds; `count` is how many with the first one too
+    /// many.
     TooMany { count: u64 },
     /// There was no memory.
     Memory,
@@ -301,6 +302,7 @@ impl<'a> Pool<'a> {
         ensures err { OnErr result (self.new ≡ []) }
     {
         let mut list = self.take_list();
+        // The field with index 1 has the packages.
         let packages = objects_field(index.adb(), Which::Index, index.word(), 1, Which::PkgInfo);
         index.values_keep_their_rules();
         entries_keep_the_rule_of_their_list();

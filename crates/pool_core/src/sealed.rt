@@ -393,6 +393,7 @@ fn push_if<'a>(deps: &mut Vec<Dep<'a>>, dep: Dep<'a>, kind: EntryKind) -> Result
     Ok(())
 }
 
+/// Whether an entry of world is of this kind.
 fn is_entry_of_kind(kind: EntryKind, dep: &Dep<'_>) -> bool
     ensures { result ≡ is_entry_of_kind kind (dependency dep.now) }
 {

@@ -193,6 +193,7 @@ fn push_once(ids: &mut Vec<CandId>, id: CandId) -> Result<(), AllocError>
     Ok(())
 }
 
+// Whether the last id is this one.
 fn is_last_id(ids: &[CandId], id: CandId) -> bool
     ensures { result ≡ is_last_id id ids.now }
 {

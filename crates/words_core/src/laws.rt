@@ -55,7 +55,8 @@ pub fn stuck_words_are_no_command()
 {}
 
 /// What follows a command offends behind it: no word of a command becomes the one that offends,
-/// unless the words are `info` without a kind and can still get one: `info a b` is a command, and of
+/// unless the words are `info` without a kind and can still get one: `info a b` is a command, and
+/// of
 /// `info a b -W` the `b` offends.
 pub fn what_follows_a_command_offends_behind_it()
     ensures { (words more : List (List ℕ)) (command : CommandLine) (place : ℕ) →
