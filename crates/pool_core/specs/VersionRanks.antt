@@ -25,8 +25,8 @@ text_in_source None word = []
 text_in_source (Some source) word = text_in (value_at (payload_of source.adb) Text word)
 
 -- the text with a word in the source at a place
-abbrev pub text_at : List Source → ℕ → ℕ → List ℕ
-text_at sources place word = text_in_source (slice_get sources place) word
+abbrev pub source_text : List Source → ℕ → ℕ → List ℕ
+source_text sources place word = text_in_source (slice_get sources place) word
 
 -- a version is the text at its place
 abbrev pub IsReadBy : (ℕ → ℕ → List ℕ) → RankedVersion → Type 0
@@ -39,8 +39,8 @@ pub record HaveSamePlace (one other : RankedVersion) : Type 0 where
   pub word : one.word ≡ other.word
 
 -- both versions of a ranking are the texts at their places in some sources
-abbrev pub IsReadOf : List Source → Ranking → Type 0
-IsReadOf sources r = IsReadBy (text_at sources) r.under × IsReadBy (text_at sources) r.version
+abbrev pub IsReadFrom : List Source → Ranking → Type 0
+IsReadFrom sources r = IsReadBy (source_text sources) r.under × IsReadBy (source_text sources) r.version
 
 -- ---- ranks
 

@@ -43,7 +43,7 @@ pub(crate) struct Packages<'a> {
 impl<'a> Packages<'a> {
     ghost use Rattle.pool_core.specs.Candidates.{Candidate, version_under};
     ghost use Rattle.pool_core.specs.Values.{need_by};
-    ghost use Rattle.pool_core.specs.VersionRanks.{IsReadBy, text_at};
+    ghost use Rattle.pool_core.specs.VersionRanks.{IsReadBy, source_text};
     ghost use Rattle.std.specs.Prelude.{◌≡◌, ◌<◌, ◌∷◌, [], ◌++◌, length, Some, slice_get, IfOk, OnOk, OnErr};
     ghost use Rattle.pool_core.specs.PackageWords.{IsPackageAt};
     ghost use Rattle.pool_core.specs.Packages.{candidate_in_source, candidates_of_packages, installed_at};
@@ -81,7 +81,7 @@ impl<'a> Packages<'a> {
         ensures version { (c : Candidate)
             → slice_get (candidates_of_packages self.now) place ≡ Some c
             → result.version ≡ c.version }
-        ensures text { IsReadBy (text_at self.now.sources.items) result }
+        ensures text { IsReadBy (source_text self.now.sources.items) result }
     {
         let package = self.words[place];
         let source = self.sources[package.source as usize];
@@ -94,7 +94,7 @@ impl<'a> Packages<'a> {
         ensures version { (c : Candidate)
             → slice_get (candidates_of_packages self.now) place ≡ Some c
             → result.version ≡ version_under (need_by need.now) c }
-        ensures text { IsReadBy (text_at self.now.sources.items) result }
+        ensures text { IsReadBy (source_text self.now.sources.items) result }
     {
         let package = self.words[place];
         let source = self.sources[package.source as usize];

@@ -14,7 +14,7 @@ ghost use Rattle.pool_core.specs.Packages.{candidates_of_packages};
 ghost use Rattle.pool_core.specs.Rank.{candidate_at, candidate_cmp, is_at, is_eligible_at, is_kept_installed, is_pinned, is_pinned_at, is_pinned_to, rank_cmp, sealed_pool_by};
 ghost use Rattle.pool_core.specs.Ranking.{IsRankingIn};
 ghost use Rattle.pool_core.specs.Values.{candidate_value, names_upgraded_by, need_by, need_of};
-ghost use Rattle.pool_core.specs.VersionRanks.{AreReadAlike, IsReadOf};
+ghost use Rattle.pool_core.specs.VersionRanks.{AreReadAlike, IsReadFrom};
 ghost use Rattle.pool_core.specs.declared.versions.VersionKind.TheVariants as Kinds;
 ghost use Rattle.pool_core.specs.World.{entries_of_kind, has_positive_install_if, is_entry_of_kind, places_marked};
 
@@ -207,7 +207,7 @@ impl<'a> Sealed<'a> {
         requires own { candidates_of_packages packages.now ≡ self.now.candidates }
         ensures place { result.place ≡ id }
         ensures ranking { IsRankingIn self.now (need_by need.now) result }
-        ensures texts { IsReadOf packages.now.sources.items result }
+        ensures texts { IsReadFrom packages.now.sources.items result }
     {
         let place = id.place as usize;
         let details = self.details(id);

@@ -5,7 +5,7 @@ use Rattle.std.proofs.lemmas.List.Elements.{All-push}
 use Rattle.pool_core.specs.Options.{IsIn, may_meet}
 use Rattle.pool_core.specs.Ranking.{IsRankingIn, Ranking}
 use Rattle.pool_core.specs.Values.{need_by}
-use Rattle.pool_core.specs.VersionRanks.{IsReadOf, text_at}
+use Rattle.pool_core.specs.VersionRanks.{IsReadFrom, source_text}
 use Rattle.pool_core.proofs.OfferLists.{places_below}
 use Rattle.pool_core.proofs.RankedOptions.{place_of}
 use Rattle.pool_core.proofs.Steps.{member_at}
@@ -25,7 +25,7 @@ loop-id-preserved c =
     let ids : List ℕ = c.args.ids.now in
     let more : take (i + 1) ids ≡ take i ids ++ c.id-item.result ∷ [] = take_more ids i c.id-item.result (omega arith) ∙ ap (λ (k : ℕ). take i ids ++ k ∷ []) (sym c.id-item.is) in
     let P = IsRankingIn c.args.self.now (need_by c.args.need.now) in
-    let Q = IsReadOf c.args.packages.now.sources.items in
+    let Q = IsReadFrom c.args.packages.now.sources.items in
     record {
       each = subst (λ (rs : List Ranking). All P rs) (sym c.in_ok-push.ensures.items) (All-push P rankings c.ranking.result c.loop-id.invariant.each c.ranking.ensures.ranking);
       places = ap (map place_of) c.in_ok-push.ensures.items
@@ -36,7 +36,7 @@ loop-id-preserved c =
     }
 
 pub returns-clause-under : goal.returns-clause-under
-returns-clause-under c = (text_at c.args.packages.now.sources.items, λ i d h. (c.loop-id.invariant.texts i d h).0)
+returns-clause-under c = (source_text c.args.packages.now.sources.items, λ i d h. (c.loop-id.invariant.texts i d h).0)
 
 pub returns-clause-version : goal.returns-clause-version
-returns-clause-version c = (text_at c.args.packages.now.sources.items, λ i d h. (c.loop-id.invariant.texts i d h).1)
+returns-clause-version c = (source_text c.args.packages.now.sources.items, λ i d h. (c.loop-id.invariant.texts i d h).1)
