@@ -8,21 +8,25 @@ use Rattle.adb_tables.specs.declared.tables.Kind.TheVariants.{Text}
 use Rattle.adb_values.specs.Drafts.{DraftState, draft_with, draft_with_all, draft_with_open_list}
 use Rattle.adb_values.specs.Words.{HasBlob}
 use Rattle.adb_values.proofs.Words.{has_closed_array, has_closed_object, has_more, has_opened}
-use Rattle.adb_copy.specs.Known.{AreBlobsOf}
+use Rattle.adb_copy.specs.Known.{AreBlobsOf, IsKnownFor}
 use Rattle.adb_copy.specs.declared.known_texts.KnownTexts.{KnownTexts}
 
 module _ (payload : List ℕ) (texts : KnownTexts) (d later : DraftState) (known : AreBlobsOf payload d texts) where
   pub known_more : (v : Plain) → later ≡ draft_with v d → AreBlobsOf payload later texts
-  known_more v e = λ word x at. has_more v d later _ x (known word x at) e
+  known_more v e = record { known = λ word x at. has_more v d later _ x (known.known word x at) e; periodic = known.periodic }
 
   pub known_opened : later ≡ draft_with_open_list d → AreBlobsOf payload later texts
-  known_opened e = λ word x at. has_opened d later _ x (known word x at) e
+  known_opened e = record { known = λ word x at. has_opened d later _ x (known.known word x at) e; periodic = known.periodic }
 
   pub known_closed_array : (vs : Plains) (before : DraftState) → d ≡ draft_with_all vs (draft_with_open_list before) → later ≡ draft_with (arr_value vs) before → AreBlobsOf payload later texts
-  known_closed_array vs before is e = λ word x at. has_closed_array vs before d later _ x (known word x at) is e
+  known_closed_array vs before is e = record { known = λ word x at. has_closed_array vs before d later _ x (known.known word x at) is e; periodic = known.periodic }
 
   pub known_closed_object : (vs : Plains) (before : DraftState) → d ≡ draft_with_all vs (draft_with_open_list before) → later ≡ draft_with (obj_value vs) before → AreBlobsOf payload later texts
-  known_closed_object vs before is e = λ word x at. has_closed_object vs before d later _ x (known word x at) is e
+  known_closed_object vs before is e = record { known = λ word x at. has_closed_object vs before d later _ x (known.known word x at) is e; periodic = known.periodic }
+
+-- a text for which a word is kept
+pub known_blob : (payload : List ℕ) (texts : KnownTexts) (d : DraftState) → AreBlobsOf payload d texts → (word x : ℕ) → IsKnownFor payload texts.words word x → HasBlob d (text_in (value_at payload Text word)) x
+known_blob payload texts d known word x h = subst (λ (bytes : List ℕ). HasBlob d bytes x) h.same (known.known h.kept x h.has)
 
 -- one text more is known
 pub known_inserted : (payload : List ℕ) (old new : BTreeMap ℕ ℕ) (k v : ℕ) (d : DraftState)

@@ -6,3 +6,5 @@ pub mod Zeros
 pub mod WithoutZeros
 pub mod Known
 pub mod ReadWords
+pub mod Periods
+pub mod TextPlaces

@@ -1,15 +1,15 @@
 //! The long texts of a payload that were written into a draft. Many places may share a text, so a
-//! long one is compared with what the draft has once, and then written by its word.
+//! long one is compared with what the draft has once, and then written by its word. Equal texts that
+//! overlap are found by their period.
 
-ghost use Rattle.std.specs.Prelude.{◌≡◌, ℕ, List, true, Some, OnOk};
-ghost use Rattle.std.specs.BTreeMap.{get};
-ghost use Rattle.std.specs.Ordering.{nat_cmp};
+ghost use Rattle.std.specs.Prelude.{◌≡◌, ℕ, List, true, Some, All, IfSome, OnOk};
 ghost use Rattle.adb_view.specs.Adb.{payload_of};
 ghost use Rattle.adb_view.specs.Plain.{blob_value};
 ghost use Rattle.adb_tables.specs.Values.{entry_in, is_sound, kind_at, text_in, value_at};
 ghost use Rattle.adb_tables.specs.declared.tables.Kind.TheVariants as Kinds;
 ghost use Rattle.adb_values.specs.Drafts.{DraftState, draft_with};
 
+use crate::overlaps::Overlaps;
 use adb_fields::{field_word, text_word};
 use adb_tables::Which;
 use adb_values::Draft;
@@ -24,10 +24,11 @@ const SHORT: usize = 64;
 #[derive(Drop)]
 pub struct KnownTexts {
     words: BTreeMap<u32, u32>,
+    overlaps: Overlaps,
 }
 
 impl KnownTexts {
-    ghost use Rattle.adb_copy.specs.Known.{AreBlobsOf};
+    ghost use Rattle.adb_copy.specs.Known.{AreBlobsOf, HasPeriod, IsKnownFor};
 
     /// None is known.
     pub fn new(alloc: Global) -> KnownTexts
@@ -35,6 +36,7 @@ impl KnownTexts {
     {
         KnownTexts {
             words: BTreeMap::new(alloc),
+            overlaps: Overlaps::new(alloc),
         }
     }
 
@@ -55,7 +57,7 @@ impl KnownTexts {
         if text.len() <= SHORT {
             return draft.blob(text);
         }
-        match self.known_word(word) {
+        match self.known_word(adb, word) {
             Some(known) => draft.blob_again(Val::of(known)),
             None => self.write_new(draft, adb, word),
         }
@@ -81,10 +83,17 @@ impl KnownTexts {
     }
 
     /// The word that the text of a word has in the draft, if it is known.
-    fn known_word(&self, word: Val) -> Option<u32>
-        ensures { result ≡ get nat_cmp self.now.words word }
+    fn known_word(&self, adb: Adb<'_>, word: Val) -> Option<u32>
+        requires { All (HasPeriod (payload_of adb)) self.now.overlaps.ranges.items }
+        ensures { IfSome result (IsKnownFor (payload_of adb.entry) self.now.words word) }
     {
-        self.words.get(&word.word()).copied()
+        match self.words.get(&word.word()) {
+            Some(known) => Some(*known),
+            None => self
+                .words
+                .get(&self.overlaps.equal_word(adb, word)?)
+                .copied(),
+        }
     }
 
     /// Writes a text that is not known, and keeps its word.
@@ -97,6 +106,6 @@ impl KnownTexts {
     {
         let known = draft.blob_word(text_word(adb, word))?;
         self.words.insert(word.word(), known.word())?;
-        Ok(())
+        self.overlaps.keep(adb, word, known)
     }
 }

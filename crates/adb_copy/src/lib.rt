@@ -10,6 +10,7 @@
 mod copy;
 mod entry;
 mod known_texts;
+mod overlaps;
 
 pub use copy::{write_info, write_int, write_text_list};
 pub use entry::{write_acl, write_file, write_scripts};

@@ -44,3 +44,11 @@ differs (c ∷ cs) (d ∷ ds) ne = go (eqb c d) refl (λ f. differs cs ds f)
     go : (b : Bool) → eqb c d ≡ b → (cs ≢ ds → bytes_eq cs ds ≡ false) → (b && bytes_eq cs ds) ≡ false
     go true e h = let same : c ≡ d = eqb-true _ _ e in h (λ f. ne cc)
     go false e h = refl
+
+pub and_stop : (a b : Bool) → b ≡ false → (a && b) ≡ false
+and_stop true b e = e
+and_stop false b e = refl
+
+pub and_go : (a b : Bool) → b ≡ true → (a && b) ≡ a
+and_go true b e = e
+and_go false b e = refl

@@ -106,14 +106,14 @@ fields_more p fields words i d lt lt' h =
     ap (fields_lines (shapes_of (drop i fields))) s.value ∙ ap (λ (fs : List Field). fields_lines (shapes_of fs) (more (value_at p (get_or fields i d).kind (get_or words i 0)) (fields_at p (drop (i + 1) fields) (drop (i + 1) words)))) (drop_more fields i d lt)
     ∙ fields_first (get_or fields i d) (drop (i + 1) fields) (value_at p (get_or fields i d).kind (get_or words i 0)) (fields_at p (drop (i + 1) fields) (drop (i + 1) words))
 
-unless_absent-true : (v : Plain) (ls : List Line) → is_null v ≡ true → unless_absent v ls ≡ []
+pub unless_absent-true : (v : Plain) (ls : List Line) → is_null v ≡ true → unless_absent v ls ≡ []
 unless_absent-true null ls e = refl
 unless_absent-true (int n) ls e = absurd cc
 unless_absent-true (blob b) ls e = absurd cc
 unless_absent-true (arr vs) ls e = absurd cc
 unless_absent-true (obj vs) ls e = absurd cc
 
-unless_absent-false : (v : Plain) (ls : List Line) → is_null v ≡ false → unless_absent v ls ≡ ls
+pub unless_absent-false : (v : Plain) (ls : List Line) → is_null v ≡ false → unless_absent v ls ≡ ls
 unless_absent-false null ls e = absurd cc
 unless_absent-false (int n) ls e = refl
 unless_absent-false (blob b) ls e = refl

@@ -1,5 +1,5 @@
 -- What is written piece by piece.
-use Rattle.std.proofs.Common.{◌≡◌, ℕ, zero, suc, ◌+◌, ◌-◌, ◌<◌, ◌≤◌, Bool, true, false, eqb, List, [], ◌∷◌, ◌++◌, length, get_or, drop, Some, None, refl, ap, ◌∙◌, arith}
+use Rattle.std.proofs.Common.{◌≡◌, ℕ, zero, suc, ◌+◌, ◌-◌, ◌<◌, ◌≤◌, Bool, true, false, eqb, List, [], ◌∷◌, ◌++◌, length, get_or, drop, Some, None, ◌*◌, refl, ap, ◌∙◌, arith}
 use Rattle.std.specs.Prelude.{codes, ◌&&◌, slice_get}
 use Rattle.std.specs.List.{flat_map, list_all}
 use Rattle.std.proofs.lemmas.List.{drop_more, drop_all}
@@ -38,6 +38,24 @@ margin_more depth i lt = let same : depth - i ≡ suc (depth - (i + 1)) = omega 
 
 pub margin_over : (depth i : ℕ) → depth ≤ i → margin (depth - i) ≡ []
 margin_over depth i le = let same : depth - i ≡ 0 = omega arith in rw same refl
+
+-- the last levels of a margin
+drop_margin : (k d : ℕ) (rest : List ℕ) → drop (2 * k) (margin (k + d) ++ rest) ≡ margin d ++ rest
+drop_margin zero d rest = let none : 0 + d ≡ d = omega arith in rw none refl
+drop_margin (suc k) d rest =
+    let two : 2 * suc k ≡ suc (suc (2 * k)) = omega arith in
+    let one : suc k + d ≡ suc (k + d) = omega arith in
+    rw (two, one) (drop_margin k d rest)
+
+-- the last levels of a front, and what stands behind them
+pub front_end : (front : List ℕ) (levels : ℕ) → levels ≤ 8 → front ≡ margin 8 ++ drop 16 front → drop (16 - 2 * levels) front ≡ margin levels ++ drop 16 front
+front_end front levels le spaces =
+    let from : 16 - 2 * levels ≡ 2 * (8 - levels) = omega (arith, le) in
+    let eight : 8 ≡ (8 - levels) + levels = omega (arith, le) in
+    let all : margin 8 ≡ margin ((8 - levels) + levels) = ap margin eight in
+    ap (drop (16 - 2 * levels)) spaces ∙ ap (λ (n : ℕ). drop n (margin 8 ++ drop 16 front)) from
+    ∙ ap (λ (m : List ℕ). drop (2 * (8 - levels)) (m ++ drop 16 front)) all
+    ∙ drop_margin (8 - levels) levels (drop 16 front)
 
 pub begins_some : (c x : ℕ) (text : List ℕ) → slice_get text 0 ≡ Some x → begins_with_byte c text ≡ eqb c x
 begins_some c x [] e = absurd cc

@@ -1,18 +1,20 @@
 -- What a turn of a loop writes.
-use Rattle.std.proofs.Common.{◌≡◌, ℕ, suc, ◌+◌, ◌<◌, ◌≤◌, Bool, true, false, List, [], ◌++◌, length, get_or, drop, refl, sym, ap, ◌∙◌, append_assoc, arith}
+use Rattle.std.proofs.Common.{◌≡◌, ℕ, suc, ◌+◌, ◌<◌, ◌≤◌, Bool, true, false, List, [], ◌∷◌, ◌++◌, length, get_or, drop, refl, sym, ap, ◌∙◌, append_assoc, arith}
 use Rattle.std.specs.Prelude.{codes}
-use Rattle.adb_view.specs.Plain.{Plain, null, int, blob, arr, obj}
+use Rattle.adb_view.specs.Plain.{Plain, null, int, blob, arr, obj, obj_value, Plains, none, more, Fields, no_fields, field}
 use Rattle.adb_fields.specs.Fields.{are_all_sound}
-use Rattle.adb_tables.specs.Schema.{field_name_text, shape_of}
-use Rattle.adb_tables.specs.Values.{is_sound, value_at}
+use Rattle.adb_tables.specs.Schema.{field_name_text, shape_of, shapes_of, table}
+use Rattle.adb_tables.specs.Values.{is_sound, text_in, value_at}
+use Rattle.adb_tables.specs.declared.tables.Which.{Which}
 use Rattle.adb_tables.specs.declared.tables.Kind.{Kind}
 use Rattle.adb_tables.specs.declared.tables.Kind.TheVariants.{Int, Text, Hash, Obj, TextArr, ObjArr}
 use Rattle.adb_tables.specs.declared.tables.Field.{Field}
-use Rattle.adb_dump.specs.Dump.{Line, block_lines, with_dash, named_lines, or_null}
+use Rattle.adb_dump.specs.Dump.{Line, block_lines, fields_lines, with_dash, named_lines, or_null, text_form, unless_absent}
 use Rattle.adb_dump.specs.Margin.{lead, lines_at}
-use Rattle.adb_dump.specs.Words.{is_null, fields_sound, has_one_line}
-use Rattle.adb_dump.proofs.BlockLines.{HasLine, block_line, or_null_line, named_line}
-use Rattle.adb_dump.proofs.Left.{entries_left, fields_left, entry_step, entries_more, entries_done, fields_next, fields_skip, fields_done, fields_over}
+use Rattle.adb_dump.specs.Words.{are_null, fields_at, is_null, fields_sound, has_one_line}
+use Rattle.adb_dump.proofs.BlockLines.{HasLine, block_line, or_null_line, named_line, object_lines, text_lines}
+use Rattle.adb_dump.proofs.Nulls.{obj_null}
+use Rattle.adb_dump.proofs.Left.{entries_left, fields_left, entry_step, entries_more, entries_done, fields_next, fields_skip, fields_done, fields_over, unless_absent-false, unless_absent-true}
 use Rattle.adb_dump.proofs.Placed.{laid_behind, laid_dashed, laid_on_line, laid_below}
 
 -- ---- entries
@@ -55,6 +57,37 @@ some_entry (int n) ls e = refl
 some_entry (blob b) ls e = refl
 some_entry (arr vs) ls e = refl
 some_entry (obj vs) ls e = refl
+
+-- an object's lines are those of its fields
+object_fields : (p : List ℕ) (which : Which) (w : ℕ) (ws : List ℕ) (fields : List Field) → fields ≡ table which → value_at p (Obj which) w ≡ obj_value (fields_at p (table which) ws)
+    → fields_lines (shapes_of fields) (fields_at p fields ws) ≡ block_lines (shape_of (Obj which)) (value_at p (Obj which) w)
+object_fields p which w ws fields e value = rw e (sym (object_lines p which w ws value))
+
+object_null : (p : List ℕ) (which : Which) (w : ℕ) (ws : List ℕ) (fields : List Field) → fields ≡ table which → value_at p (Obj which) w ≡ obj_value (fields_at p (table which) ws)
+    → is_null (value_at p (Obj which) w) ≡ are_null (fields_at p fields ws)
+object_null p which w ws fields e value = rw e (ap is_null value ∙ obj_null (fields_at p (table which) ws))
+
+null_lines : (fs : Fields) (vs : Plains) → are_null vs ≡ true → fields_lines fs vs ≡ []
+unfolding fields_lines
+null_lines no_fields vs e = refl
+null_lines (field name s fs) none e = refl
+null_lines (field name s fs) (more null vs) e = null_lines fs vs e
+null_lines (field name s fs) (more (int n) vs) e = absurd cc
+null_lines (field name s fs) (more (blob b) vs) e = absurd cc
+null_lines (field name s fs) (more (arr us) vs) e = absurd cc
+null_lines (field name s fs) (more (obj us) vs) e = absurd cc
+
+-- an entry that is an object: without a field it is Null
+pub object_entry_null : (d : ℕ) (p : List ℕ) (which : Which) (w : ℕ) (ws : List ℕ) (fields : List Field) → fields ≡ table which → value_at p (Obj which) w ≡ obj_value (fields_at p (table which) ws) → are_null (fields_at p fields ws) ≡ true
+    → lines_at d true (fields_lines (shapes_of fields) (fields_at p fields ws)) ++ codes "null\n" ≡ lines_at d true (or_null (value_at p (Obj which) w) (block_lines (shape_of (Obj which)) (value_at p (Obj which) w)))
+object_entry_null d p which w ws fields e value all =
+    ap (λ (ls : List Line). lines_at d true ls ++ codes "null\n") (null_lines (shapes_of fields) (fields_at p fields ws) all)
+    ∙ sym (null_entry d (value_at p (Obj which) w) (block_lines (shape_of (Obj which)) (value_at p (Obj which) w)) (object_null p which w ws fields e value ∙ all))
+
+pub object_entry_some : (d : ℕ) (p : List ℕ) (which : Which) (w : ℕ) (ws : List ℕ) (fields : List Field) → fields ≡ table which → value_at p (Obj which) w ≡ obj_value (fields_at p (table which) ws) → are_null (fields_at p fields ws) ≡ false
+    → lines_at d true (fields_lines (shapes_of fields) (fields_at p fields ws)) ≡ lines_at d true (or_null (value_at p (Obj which) w) (block_lines (shape_of (Obj which)) (value_at p (Obj which) w)))
+object_entry_some d p which w ws fields e value some =
+    ap (λ (ls : List Line). lines_at d true ls) (object_fields p which w ws fields e value ∙ sym (some_entry (value_at p (Obj which) w) (block_lines (shape_of (Obj which)) (value_at p (Obj which) w)) (object_null p which w ws fields e value ∙ some)))
 
 -- ---- fields
 
@@ -100,6 +133,20 @@ field_turn d b p fields words i word f lt lt' e h n = rw e (turn (rw e at n))
         let named = named_lines (shape_of (get_or fields i f).kind) (field_name_text (get_or fields i f).name) (value_at p (get_or fields i f).kind (get_or words i 0)) in
         ap (λ (x : List Line). lines_at d b x) (fields_next p fields words i f lt lt' h n)
         ∙ behind_named d b named (fields_left p fields words (i + 1)) (named_line (shape_of (get_or fields i f).kind) (field_name_text (get_or fields i f).name) (value_at p (get_or fields i f).kind (get_or words i 0)))
+
+-- a field that is Null has no lines, any other has its own
+pub null_put : (d : ℕ) (b : Bool) (v : Plain) (ls : List Line) → is_null v ≡ true → lines_at d b (unless_absent v ls) ≡ []
+null_put d b v ls e = ap (λ (x : List Line). lines_at d b x) (unless_absent-true v ls e)
+
+pub some_put : (d : ℕ) (b : Bool) (v : Plain) (ls : List Line) → is_null v ≡ false → lines_at d b (unless_absent v ls) ≡ lines_at d b ls
+some_put d b v ls e = ap (λ (x : List Line). lines_at d b x) (unless_absent-false v ls e)
+
+-- the line of a text behind its name
+pub text_put : (d : ℕ) (b : Bool) (name : Line) (p : List ℕ) (w : ℕ) (bytes : List ℕ) → bytes ≡ text_in (value_at p Text w) → is_null (value_at p Text w) ≡ false
+    → ((lead d b ++ name) ++ codes ": ") ++ lines_at d true (text_form bytes ∷ []) ≡ lines_at d b (unless_absent (value_at p Text w) (named_lines (shape_of Text) name (value_at p Text w)))
+text_put d b name p w bytes e some =
+    ap (λ (ls : List Line). ((lead d b ++ name) ++ codes ": ") ++ lines_at d true ls) (sym (text_lines p w bytes e some))
+    ∙ field_behind Text d b name (value_at p Text w) refl ∙ sym (some_put d b (value_at p Text w) _ some)
 
 pub null_turn : (d : ℕ) (b : Bool) (p : List ℕ) (fields : List Field) (words : List ℕ) (i : ℕ) (f : Field) → i < length fields → i < length words → fields_sound p (drop i fields) (drop i words) ≡ true → is_null (value_at p (get_or fields i f).kind (get_or words i 0)) ≡ true
     → lines_at d b (fields_left p fields words i) ≡ lines_at d b (fields_left p fields words (i + 1))

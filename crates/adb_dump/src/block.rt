@@ -3,7 +3,7 @@
 ghost use Rattle.std.specs.Prelude.{◌≡◌, ◌++◌, true, codes, is_some, length, IfOk, OnOk, ◌<◌, ◌≤◌, ◌+◌, false};
 ghost use Rattle.adb_tables.specs.Shaped.{adb_of, shaped_value, table_of};
 ghost use Rattle.adb_schema.specs.Soundness.{schema_word};
-ghost use Rattle.adb_dump.specs.Dump.{dump_text, schema_line, block_lines, array_lines, fields_lines, named_lines, or_null};
+ghost use Rattle.adb_dump.specs.Dump.{dump_text, schema_line, block_lines, array_lines, fields_lines, named_lines, or_null, unless_absent};
 ghost use Rattle.adb_view.specs.Adb.{payload_of};
 ghost use Rattle.adb_view.specs.Entries.{array_entries};
 ghost use Rattle.adb_fields.specs.Fields.{are_all_sound, values_at};
@@ -12,16 +12,17 @@ ghost use Rattle.adb_tables.specs.Schema.{field_name_text, shape_of, shapes_of};
 ghost use Rattle.adb_tables.specs.Values.{is_sound, value_at};
 ghost use Rattle.adb_dump.specs.Margin.{lines_at, DEPTH_LIMIT};
 ghost use Rattle.adb_dump.specs.Out.{Puts, PutsForAny};
-ghost use Rattle.adb_dump.specs.Words.{is_null, fields_sound, fields_at, has_one_line};
+ghost use Rattle.adb_tables.specs.declared.tables.Kind.TheVariants as Kinds;
+ghost use Rattle.adb_dump.specs.Words.{are_null, is_null, fields_sound, fields_at, has_one_line};
 
 use crate::line::{
-    LineStart, write_dash, write_hash_line, write_hex, write_name, write_number_line,
-    write_text_line,
+    LineStart, write_dash, write_hash_line, write_hex, write_name, write_name_line,
+    write_number_line, write_text_line,
 };
 use crate::text_out::{BlobOut, Count, Out, Room};
 use crate::words::{field_words, is_null};
 use adb_fields::{hash_word, int_word, objects_word, text_word, texts_word};
-use adb_schema::{Field, Kind, Shaped, Which, fields_of, schema_word};
+use adb_schema::{Field, FieldName, Kind, Shaped, Which, fields_of, schema_word};
 use adb_tables::entry_word;
 use adb_view::{Adb, Arr, Val};
 use base_core::Text;
@@ -145,7 +146,8 @@ fn write_block<O: BlobOut>(
         }
         Kind::Obj(which) => {
             let words = field_words(adb, which, word);
-            write_fields(out, adb, fields_of(which), words, start)
+            write_fields(out, adb, fields_of(which), words, start)?;
+            Ok(())
         }
     }
 }
@@ -193,13 +195,41 @@ fn write_entry<O: BlobOut>(
         (or_null (value_at (payload_of adb.entry) kind word)
         (block_lines (shape_of kind) (value_at (payload_of adb.entry) kind word))))) }
 {
+    if let Kind::Obj(which) = kind {
+        return write_object_entry(out, adb, which, word, depth);
+    }
     if is_null(adb, kind, word) {
         return out.put(b"null\n");
     }
     write_block(out, adb, kind, word, LineStart { depth, begun: true })
 }
 
-/// Puts the fields of an object that do not mean Null.
+/// Puts the lines of an entry that is an object. Whether it means Null is known behind its fields.
+#[cycle(block)]
+fn write_object_entry<O: BlobOut>(
+    out: &mut O,
+    adb: Adb<'_>,
+    which: Which,
+    word: Val,
+    depth: u32,
+) -> Result<(), AllocError>
+    requires sound { is_sound (payload_of adb) (Kinds.Obj which) word ≡ true }
+    requires deep { depth + rank (Kinds.Obj which) ≤ DEPTH_LIMIT }
+    ensures { OnOk result (Puts (O.holds (payload_of adb.entry)) out.old out.new
+        (lines_at depth true
+        (or_null (value_at (payload_of adb.entry) (Kinds.Obj which) word)
+        (block_lines (shape_of (Kinds.Obj which))
+        (value_at (payload_of adb.entry) (Kinds.Obj which) word))))) }
+{
+    let words = field_words(adb, which, word);
+    let start = LineStart { depth, begun: true };
+    if write_fields(out, adb, fields_of(which), words, start)? {
+        return out.put(b"null\n");
+    }
+    Ok(())
+}
+
+/// Puts the fields of an object that do not mean Null, and answers whether there is none.
 #[cycle(block)]
 #[tactic(auto, using(adb_tables::proofs::WalkSteps::field_rank, crate::proofs::Left::field_here, crate::proofs::Left::fields_later, crate::proofs::Turns::field_turn, crate::proofs::Turns::null_turn, crate::proofs::Turns::words_end, crate::proofs::Turns::fields_end))]
 pub(crate) fn write_fields<O: BlobOut>(
@@ -208,34 +238,94 @@ pub(crate) fn write_fields<O: BlobOut>(
     fields: &[Field],
     words: Arr<'_>,
     start: LineStart,
-) -> Result<(), AllocError>
+) -> Result<bool, AllocError>
     requires sound { fields_sound (payload_of adb) fields.now (array_entries words) ≡ true }
     requires deep { start.depth + rank_of_all fields.now < DEPTH_LIMIT }
-    ensures { OnOk result (Puts (O.holds (payload_of adb.entry)) out.old out.new
+    ensures null { IfOk result (λ null. null
+        ≡ are_null (fields_at (payload_of adb.entry) fields.now (array_entries words.entry))) }
+    ensures put { IfOk result (λ _. Puts (O.holds (payload_of adb.entry)) out.old out.new
         (lines_at start.depth start.begun
         (fields_lines (shapes_of fields.now)
         (fields_at (payload_of adb.entry) fields.now (array_entries words.entry))))) }
 {
     let mut begun = start.begun;
+    let mut all_null = true;
     for (i, field) in fields.iter().enumerate() {
         if i >= words.len() {
             break;
         }
         let word = entry_word(words, i);
-        if is_null(adb, field.kind, word) {
+        let depth = start.depth;
+        if write_field(out, adb, *field, word, LineStart { depth, begun })? {
             continue;
         }
-        let depth = start.depth;
-        write_field(out, adb, *field, word, LineStart { depth, begun })?;
         begun = false;
+        all_null = false;
     }
-    Ok(())
+    Ok(all_null)
+}
+
+/// Puts the lines of a field, and answers whether it means Null and has none.
+#[cycle(block)]
+fn write_field<O: BlobOut>(
+    out: &mut O,
+    adb: Adb<'_>,
+    field: Field,
+    word: Val,
+    start: LineStart,
+) -> Result<bool, AllocError>
+    requires sound { is_sound (payload_of adb) field.kind word ≡ true }
+    requires deep { start.depth + rank field.kind < DEPTH_LIMIT }
+    ensures null { IfOk result (λ null. null
+        ≡ is_null (value_at (payload_of adb.entry) field.kind word)) }
+    ensures put { IfOk result (λ _. Puts (O.holds (payload_of adb.entry)) out.old out.new
+        (lines_at start.depth start.begun
+        (unless_absent (value_at (payload_of adb.entry) field.kind word)
+        (named_lines (shape_of field.kind) (field_name_text field.name)
+        (value_at (payload_of adb.entry) field.kind word))))) }
+{
+    if let Kind::Text = field.kind {
+        return write_text_field(out, adb, field.name, word, start);
+    }
+    if is_null(adb, field.kind, word) {
+        return Ok(true);
+    }
+    write_named(out, adb, field, word, start)?;
+    Ok(false)
+}
+
+/// Puts the line of a field that holds a text, and answers whether it means Null and has none. Most
+/// fields hold texts, so the text is looked up once.
+fn write_text_field<O: BlobOut>(
+    out: &mut O,
+    adb: Adb<'_>,
+    name: FieldName,
+    word: Val,
+    start: LineStart,
+) -> Result<bool, AllocError>
+    requires { is_sound (payload_of adb) Kinds.Text word ≡ true }
+    ensures null { IfOk result (λ null. null
+        ≡ is_null (value_at (payload_of adb.entry) Kinds.Text word)) }
+    ensures put { IfOk result (λ _. Puts (O.holds (payload_of adb.entry)) out.old out.new
+        (lines_at start.depth start.begun
+        (unless_absent (value_at (payload_of adb.entry) Kinds.Text word)
+        (named_lines (shape_of Kinds.Text) (field_name_text name)
+        (value_at (payload_of adb.entry) Kinds.Text word))))) }
+{
+    let text = text_word(adb, word);
+    if text.is_empty() {
+        return Ok(true);
+    }
+    let LineStart { depth, .. } = start;
+    write_name(out, start, name)?;
+    write_text_line(out, LineStart { depth, begun: true }, adb, word, text)?;
+    Ok(false)
 }
 
 /// Puts the lines of a field that does not mean Null.
 #[cycle(block)]
 #[tactic(auto, using(crate::proofs::Turns::field_behind, crate::proofs::Turns::field_below))]
-fn write_field<O: BlobOut>(
+fn write_named<O: BlobOut>(
     out: &mut O,
     adb: Adb<'_>,
     field: Field,
@@ -252,10 +342,10 @@ fn write_field<O: BlobOut>(
 {
     let LineStart { depth, .. } = start;
     if has_one_line(field.kind) {
-        write_name(out, start, field.name, b": ")?;
+        write_name(out, start, field.name)?;
         write_block(out, adb, field.kind, word, LineStart { depth, begun: true })
     } else {
-        write_name(out, start, field.name, b":\n")?;
+        write_name_line(out, start, field.name)?;
         write_block(
             out,
             adb,

@@ -17,6 +17,7 @@
 #![tactic(auto)]
 
 mod block;
+mod front;
 mod laws;
 mod line;
 mod text_out;

@@ -1,17 +1,18 @@
 //! Lines: what stands in front of them, names of fields, and values on one line.
 
-ghost use Rattle.std.specs.Prelude.{◌≡◌, [], ◌∷◌, ◌++◌, OnOk, codes, false, length};
+ghost use Rattle.std.specs.Prelude.{◌≡◌, ◌≤◌, [], ◌∷◌, ◌++◌, OnOk, codes, drop, length};
 ghost use Rattle.std.specs.Fmt.{decimal};
 ghost use Rattle.std.specs.List.{flat_map, list_all};
 ghost use Rattle.hex.specs.Hex.{encode_lower};
 ghost use Rattle.adb_dump.specs.Dump.{begins_with_byte, ends_with_byte, escape_of, is_bare, is_printable, quoted_text, text_form};
-ghost use Rattle.adb_dump.specs.Margin.{lines_at, lead};
+ghost use Rattle.adb_dump.specs.Margin.{lines_at, lead, margin};
 ghost use Rattle.adb_dump.specs.Out.{Puts, PutsForAny};
 ghost use Rattle.adb_tables.specs.Values.{text_in, value_at};
 ghost use Rattle.adb_tables.specs.declared.tables.Kind.TheVariants as Kinds;
 ghost use Rattle.adb_view.specs.Adb.{payload_of};
 ghost use Rattle.adb_tables.specs.Schema.{field_name_text};
 
+use crate::front::{FRONT_LEN, FRONT_LEVELS, blank_front, dash_front, name_front};
 use crate::text_out::{BlobOut, Out};
 use adb_schema::FieldName;
 use adb_view::{Adb, Val};
@@ -32,7 +33,7 @@ pub(crate) fn write_number_line<O: Out>(
 {
     write_lead(out, start)?;
     write_number(out, number)?;
-    out.put(b"\n")?;
+    out.put_byte(b'\n')?;
     Ok(())
 }
 
@@ -50,7 +51,7 @@ pub(crate) fn write_text_line<O: BlobOut>(
 {
     write_lead(out, start)?;
     out.put_text(adb, word, text)?;
-    out.put(b"\n")?;
+    out.put_byte(b'\n')?;
     Ok(())
 }
 
@@ -65,7 +66,7 @@ pub(crate) fn write_hash_line<O: BlobOut>(
 {
     write_lead(out, start)?;
     out.put_hash(hash)?;
-    out.put(b"\n")?;
+    out.put_byte(b'\n')?;
     Ok(())
 }
 
@@ -123,11 +124,11 @@ pub(crate) fn write_text<O: Out>(out: &mut O, text: &[u8]) -> Result<(), AllocEr
 fn write_quoted<O: Out>(out: &mut O, text: &[u8]) -> Result<(), AllocError>
     ensures { OnOk result (PutsForAny O.holds out.old out.new (quoted_text text.now)) }
 {
-    out.put(b"\"")?;
+    out.put_byte(b'"')?;
     for byte in text {
         write_escaped(out, *byte)?;
     }
-    out.put(b"\"")?;
+    out.put_byte(b'"')?;
     Ok(())
 }
 
@@ -139,7 +140,7 @@ fn write_escaped<O: Out>(out: &mut O, byte: u8) -> Result<(), AllocError>
         b'\n' => out.put(b"\\n"),
         b'\\' => out.put(b"\\\\"),
         b'"' => out.put(b"\\\""),
-        0x20..=0x7e => out.put(&[byte]),
+        0x20..=0x7e => out.put_byte(byte),
         _ => {
             out.put(b"\\x")?;
             out.put(&hex_digits(byte))?;
@@ -216,35 +217,37 @@ pub(crate) struct LineStart {
     pub(crate) begun: bool,
 }
 
-/// Puts what is still to stand in front of the next line.
-pub(crate) fn write_lead<O: Out>(out: &mut O, start: LineStart) -> Result<(), AllocError>
-    ensures { OnOk result (PutsForAny O.holds out.old out.new (lead start.depth start.begun)) }
-{
-    if start.begun {
-        return Ok(());
+impl LineStart {
+    /// How many levels of two spaces are still to be written in front of the line.
+    fn levels(self) -> u32
+        ensures { margin result ≡ lead self.depth self.begun }
+    {
+        if self.begun { 0 } else { self.depth }
     }
-    write_margin(out, start.depth)
 }
 
-/// Puts two spaces for each level, at once where most lines stand.
-fn write_margin<O: Out>(out: &mut O, depth: u32) -> Result<(), AllocError>
-    ensures { OnOk result (PutsForAny O.holds out.old out.new (lead depth false)) }
+/// Puts what is still to stand in front of the next line, and what stands behind eight levels of
+/// spaces in a text: at once, unless the line stands deeper.
+fn write_front<O: Out>(out: &mut O, start: LineStart, front: &[u8]) -> Result<(), AllocError>
+    requires spaces { front.now ≡ margin 8 ++ drop 16 front.now }
+    requires len { 16 ≤ length front.now }
+    ensures { OnOk result (PutsForAny O.holds out.old out.new
+        (lead start.depth start.begun ++ drop 16 front.now)) }
 {
-    match depth {
-        0 => Ok(()),
-        1 => out.put(b"  "),
-        2 => out.put(b"    "),
-        3 => out.put(b"      "),
-        4 => out.put(b"        "),
-        _ => write_levels(out, depth),
+    let levels = start.levels();
+    if levels <= FRONT_LEVELS {
+        return out.put(&front[FRONT_LEN - 2 * levels as usize..]);
     }
+    write_levels(out, levels)?;
+    out.put(&front[FRONT_LEN..])?;
+    Ok(())
 }
 
 /// Puts two spaces for each level, one level behind another.
-fn write_levels<O: Out>(out: &mut O, depth: u32) -> Result<(), AllocError>
-    ensures { OnOk result (PutsForAny O.holds out.old out.new (lead depth false)) }
+fn write_levels<O: Out>(out: &mut O, levels: u32) -> Result<(), AllocError>
+    ensures { OnOk result (PutsForAny O.holds out.old out.new (margin levels)) }
 {
-    for _level in 0..depth {
+    for _level in 0..levels {
         out.put(b"  ")?;
     }
     Ok(())
@@ -254,23 +257,42 @@ fn write_levels<O: Out>(out: &mut O, depth: u32) -> Result<(), AllocError>
 pub(crate) fn write_dash<O: Out>(out: &mut O, depth: u32, begun: bool) -> Result<(), AllocError>
     ensures { OnOk result (PutsForAny O.holds out.old out.new (lead depth begun ++ codes "- ")) }
 {
-    write_lead(out, LineStart { depth, begun })?;
-    out.put(b"- ")?;
-    Ok(())
+    write_front(out, LineStart { depth, begun }, dash_front())
 }
 
-/// Puts the name of a field, and what stands behind it.
+/// Puts the name of a field, and a colon and a space.
 pub(crate) fn write_name<O: Out>(
     out: &mut O,
     start: LineStart,
     name: FieldName,
-    behind: &[u8],
 ) -> Result<(), AllocError>
     ensures { OnOk result (PutsForAny O.holds out.old out.new
-        (lead start.depth start.begun ++ field_name_text name ++ behind.now)) }
+        (lead start.depth start.begun ++ field_name_text name ++ codes ": ")) }
+{
+    write_front(out, start, name_front(name))
+}
+
+/// Puts the name of a field, and a colon and a line end.
+pub(crate) fn write_name_line<O: Out>(
+    out: &mut O,
+    start: LineStart,
+    name: FieldName,
+) -> Result<(), AllocError>
+    ensures { OnOk result (PutsForAny O.holds out.old out.new
+        (lead start.depth start.begun ++ field_name_text name ++ codes ":\n")) }
 {
     write_lead(out, start)?;
     out.put(name.text().as_bytes())?;
-    out.put(behind)?;
+    out.put(b":\n")?;
     Ok(())
+}
+
+/// Puts what is still to stand in front of the next line.
+fn write_lead<O: Out>(out: &mut O, start: LineStart) -> Result<(), AllocError>
+    ensures { OnOk result (PutsForAny O.holds out.old out.new (lead start.depth start.begun)) }
+{
+    if start.begun {
+        return Ok(());
+    }
+    write_front(out, start, blank_front())
 }

@@ -1,6 +1,6 @@
 //! What the text is put into: its bytes, or only a count of them.
 
-ghost use Rattle.std.specs.Prelude.{◌≡◌, ℕ, ◌+◌, List, [], IfOk, OnOk, length};
+ghost use Rattle.std.specs.Prelude.{◌≡◌, ℕ, ◌+◌, List, [], ◌∷◌, IfOk, OnOk, length};
 ghost use Rattle.std.specs.BTreeMap.{get};
 ghost use Rattle.std.specs.Ordering.{nat_cmp};
 ghost use Rattle.hex.specs.Hex.{encode_lower};
@@ -28,6 +28,10 @@ pub(crate) trait Out {
     /// Puts bytes behind those that were put in before.
     fn put(&mut self, bytes: &[u8]) -> Result<(), AllocError>
         ensures { OnOk result (PutsForAny holds self.old self.new bytes.now) };
+
+    /// Puts a byte behind those that were put in before.
+    fn put_byte(&mut self, byte: u8) -> Result<(), AllocError>
+        ensures { OnOk result (PutsForAny holds self.old self.new (byte ∷ [])) };
 }
 
 /// What the blobs of a payload are put into, as they stand in lines.
@@ -51,6 +55,11 @@ impl Out for Vec<u8> {
 
     fn put(&mut self, bytes: &[u8]) -> Result<(), AllocError> {
         self.extend_from_slice(bytes)
+    }
+
+    fn put_byte(&mut self, byte: u8) -> Result<(), AllocError> {
+        self.push(byte)?;
+        Ok(())
     }
 }
 
@@ -93,6 +102,12 @@ impl Out for Room {
         self.left = self.left.checked_sub(bytes.len()).ok_or(AllocError)?;
         self.bytes.extend_from_slice(bytes)
     }
+
+    fn put_byte(&mut self, byte: u8) -> Result<(), AllocError> {
+        self.left = self.left.checked_sub(1).ok_or(AllocError)?;
+        self.bytes.push(byte)?;
+        Ok(())
+    }
 }
 
 impl BlobOut for Room {
@@ -128,6 +143,10 @@ impl Out for Length {
 
     fn put(&mut self, bytes: &[u8]) -> Result<(), AllocError> {
         self.add(bytes.len())
+    }
+
+    fn put_byte(&mut self, _byte: u8) -> Result<(), AllocError> {
+        self.add(1)
     }
 }
 
@@ -217,6 +236,11 @@ impl Out for Count {
 
     fn put(&mut self, bytes: &[u8]) -> Result<(), AllocError> {
         self.add(bytes.len())?;
+        Ok(())
+    }
+
+    fn put_byte(&mut self, _byte: u8) -> Result<(), AllocError> {
+        self.add(1)?;
         Ok(())
     }
 }

@@ -18,8 +18,8 @@ pub(crate) struct Notice<'p> {
     pub(crate) is_kept: bool,
 }
 
-/// Adds a line for each path beside which a file is laid, and for each at which the user's file stays,
-/// in byte order of the paths.
+/// Adds a line for each path beside which a file is laid, and for each at which the user's file
+/// stays, in byte order of the paths.
 #[tactic(auto, unfolding(change_outcome::specs::ConfigurationLines::configuration_lines))]
 pub(crate) fn push_configuration_lines(
     alloc: Global,

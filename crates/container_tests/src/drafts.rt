@@ -9,7 +9,6 @@ use std::test::Fail;
 const PACKAGE: &[u8] =
     b"\0\0\0\0\x18\0\0\xe0\x01a\x011\x03\0\0\0\x08\0\0\x80\x0a\0\0\x80\x02\0\0\0\x0c\0\0\xe0";
 
-/// The example of `docs/formats.md`, "Values", call by call.
 #[test]
 fn a_package(rt: HostRuntime) -> Result<(), Fail> {
     let mut draft = Draft::new(rt.alloc());
@@ -25,7 +24,6 @@ fn a_package(rt: HostRuntime) -> Result<(), Fail> {
     Ok(())
 }
 
-/// What holds nothing is left out, down to the root.
 #[test]
 fn nothing_is_null(rt: HostRuntime) -> Result<(), Fail> {
     let mut draft = Draft::new(rt.alloc());
@@ -42,7 +40,6 @@ fn nothing_is_null(rt: HostRuntime) -> Result<(), Fail> {
     Ok(())
 }
 
-/// A value may be the root itself.
 #[test]
 fn values_without_a_list_around_them(rt: HostRuntime) -> Result<(), Fail> {
     let mut draft = Draft::new(rt.alloc());
@@ -65,7 +62,6 @@ fn equal_lists(draft: &mut Draft, lists: u32, entries: u32) -> Result<(), AllocE
     draft.close_array()
 }
 
-/// Values count however often they are stored.
 #[test]
 fn the_limit_of_values_is_met_by_equal_lists(rt: HostRuntime) -> Result<(), Fail> {
     // 1 + 683 + 683 * 6,140 = 4,194,304 values.
@@ -76,7 +72,6 @@ fn the_limit_of_values_is_met_by_equal_lists(rt: HostRuntime) -> Result<(), Fail
     Ok(())
 }
 
-/// The counts are those just behind the value that passes the limit.
 #[test]
 fn the_limit_of_values_is_passed_by_one_with_equal_lists(rt: HostRuntime) -> Result<(), Fail> {
     // 1 + 2,048 + 2,048 * 2,047 = 4,194,305 values.
@@ -90,7 +85,6 @@ fn the_limit_of_values_is_passed_by_one_with_equal_lists(rt: HostRuntime) -> Res
     Ok(())
 }
 
-/// A list may be given whole, far past the limit, before it is told.
 #[test]
 fn ten_million_equal_entries(rt: HostRuntime) -> Result<(), Fail> {
     let mut draft = Draft::new(rt.alloc());

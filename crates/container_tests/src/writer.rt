@@ -7,7 +7,6 @@ use std::alloc::AllocError;
 use std::process::Abort;
 use std::test::Fail;
 
-/// The word of NULL.
 fn null() -> Val {
     Val::of(0)
 }
@@ -24,14 +23,12 @@ const PACKAGE_FILE: &[u8] =
 const ONE_WRITE: &[u8] =
     b"\0\0\0\0\x14\0\0\xe0\x01a\0\0\x02\0\0\0\x08\0\0\x80\x03\0\0\0\0\0\0\0\x0c\0\0\xd0";
 
-/// The payload with this root, which passes no limit.
 fn payload(writer: Writer, root: Val) -> Result<Vec<u8>, Fail> {
     writer
         .finish(root)
         .map_err(|_| Fail::from("the payload is not given"))
 }
 
-/// The example of `docs/formats.md`, "Values", and its container.
 #[test]
 fn a_package_and_its_file(rt: HostRuntime) -> Result<(), Fail> {
     let mut writer = Writer::new(rt.alloc());
@@ -46,7 +43,6 @@ fn a_package_and_its_file(rt: HostRuntime) -> Result<(), Fail> {
     Ok(())
 }
 
-/// A Null in front of a field is written, and one behind it is not.
 #[test]
 fn an_intent(rt: HostRuntime) -> Result<(), Fail> {
     let mut writer = Writer::new(rt.alloc());
@@ -58,7 +54,6 @@ fn an_intent(rt: HostRuntime) -> Result<(), Fail> {
     Ok(())
 }
 
-/// What is empty gets the word NULL, and no byte is written.
 #[test]
 fn nothing_is_null(rt: HostRuntime) -> Result<(), Fail> {
     let mut writer = Writer::new(rt.alloc());
@@ -85,7 +80,6 @@ const INTEGERS: [(u64, u32, &[u8]); 6] = [
     (u64::MAX, 0x3000_0010, b"\0\0\0\0\0\xff\xff\xff\xff\xff\xff\xff\xff"),
 ];
 
-/// At each limit of a width, and with the alignment that the width asks for.
 #[test]
 fn integers_of_each_width(rt: HostRuntime) -> Result<(), Fail> {
     for (n, word, bytes) in INTEGERS {
@@ -114,7 +108,6 @@ const BLOBS: [(usize, u32, &[u8]); 4] = [
     (65_536, 0xa000_000c, b"\0\0\0\x01\0"),
 ];
 
-/// At each limit of the width of a length.
 #[test]
 fn blobs_of_each_width(rt: HostRuntime) -> Result<(), Fail> {
     let mut text = Vec::new(rt.alloc());
@@ -136,7 +129,6 @@ fn blobs_of_each_width(rt: HostRuntime) -> Result<(), Fail> {
 const SHARED: &[u8] =
     b"\0\0\0\0\x2c\0\0\xe0\x01a\x011\x08\0\0\0\x08\0\0\x80\x0a\0\0\x80\0\0\0\0\0\0\0\0\0\0\0\0\0\0\0\0\x08\0\0\x80\x02\0\0\0\x0c\0\0\xe0";
 
-/// A text that is given again gets the word of the first one.
 #[test]
 fn a_name_and_an_equal_origin_stand_once(rt: HostRuntime) -> Result<(), Fail> {
     let mut writer = Writer::new(rt.alloc());
@@ -159,7 +151,6 @@ const TWO_INTEGERS: [(u64, u64, u32); 4] = [
     (0x1000_0000, 0x1_0000_0000, 0x3000_0010),
 ];
 
-/// Only integers of one width stand for each other.
 #[test]
 fn integers_are_equal_by_width_and_number(rt: HostRuntime) -> Result<(), Fail> {
     for (first, second, word) in TWO_INTEGERS {
@@ -175,7 +166,6 @@ fn integers_are_equal_by_width_and_number(rt: HostRuntime) -> Result<(), Fail> {
     Ok(())
 }
 
-/// A text that differs in its last byte, or is a front, is written anew.
 #[test]
 fn blobs_are_equal_to_their_last_byte(rt: HostRuntime) -> Result<(), Fail> {
     let mut text = Vec::new(rt.alloc());
@@ -192,7 +182,6 @@ fn blobs_are_equal_to_their_last_byte(rt: HostRuntime) -> Result<(), Fail> {
     Ok(())
 }
 
-/// An array never stands for an object.
 #[test]
 fn lists_are_equal_by_kind_and_entries(rt: HostRuntime) -> Result<(), Fail> {
     let mut writer = Writer::new(rt.alloc());
@@ -216,7 +205,6 @@ fn scattered(n: u32) -> u32 {
     n.wrapping_mul(7919) % 65_536
 }
 
-/// In whatever order many texts come, each is found again.
 #[test]
 fn each_of_many_blobs_is_found_again(rt: HostRuntime) -> Result<(), Fail> {
     for order in 0..3u32 {
@@ -249,7 +237,6 @@ fn each_of_many_blobs_is_found_again(rt: HostRuntime) -> Result<(), Fail> {
 /// How many equal entries an array has that still is within the limit of values.
 const MOST_ENTRIES: usize = 4_194_303;
 
-/// The writer gives NULL from the limit on, and the counts at the end.
 #[test]
 fn the_limit_of_values_met_and_passed_by_equal_entries(rt: HostRuntime) -> Result<(), Fail> {
     let mut writer = Writer::new(rt.alloc());
@@ -271,7 +258,6 @@ fn the_limit_of_values_met_and_passed_by_equal_entries(rt: HostRuntime) -> Resul
 /// How many entries each array has, and how many arrays there are.
 const MANY: usize = 2049;
 
-/// So many equal arrays, of which the last pass the limit of values.
 fn arrays(writer: &mut Writer, rt: &impl Abort) -> Result<Val, AllocError> {
     let entries = [null(); MANY];
     let mut words = [null(); MANY];
@@ -285,7 +271,6 @@ fn arrays(writer: &mut Writer, rt: &impl Abort) -> Result<Val, AllocError> {
     writer.arr(&words)
 }
 
-/// What is given behind the limit changes the counts no more.
 #[test]
 fn the_counts_just_past_a_limit(rt: HostRuntime) -> Result<(), Fail> {
     let mut writer = Writer::new(rt.alloc());

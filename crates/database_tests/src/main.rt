@@ -1,6 +1,6 @@
 //! Answers questions to `db_core` and `db_write`: packages come into a database and leave it, and
-//! what is then found in it. Its stored run has all rows; `tests/lines.md` describes their form. The
-//! database stays from one row to the next, and so do the packages that are to come.
+//! what is then found in it. Its stored run has all rows; `tests/lines.md` describes their form.
+//! The database stays from one row to the next, and so do the packages that are to come.
 #![tactic(auto)]
 
 mod change;

@@ -202,6 +202,7 @@ fn package_at<'a>(packages: &List<'a, PackageView<'a>>, i: usize) -> PackageView
     if i >= packages.len() {
         unreachable!();
     }
+    // `get` counts from 1.
     packages.get(i + 1)
 }
 

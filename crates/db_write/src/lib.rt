@@ -2,7 +2,8 @@
 //!
 //! The members of a change and the files that are theirs come in, the bytes of a container go out.
 //! The contracts cite `NewDatabase` (the database's value, field by field, and its file) and
-//! `SoundMembers` (members that come out of sound containers) of `specs/`. `laws` says what follows.
+//! `SoundMembers` (members that come out of sound containers) of `specs/`. `laws` says what
+//! follows.
 #![tactic(auto)]
 
 mod database;

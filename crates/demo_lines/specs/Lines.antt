@@ -11,7 +11,8 @@ digit_at unit i = 48 + i / unit % 10
 -- `p` and i in five digits
 abbrev pub demo_name : ℕ → List ℕ
 demo_name i =
-    codes "p" ++ (digit_at 10000 i ∷ digit_at 1000 i ∷ digit_at 100 i ∷ digit_at 10 i ∷ digit_at 1 i ∷ [])
+    codes "p"
+    ++ (digit_at 10000 i ∷ digit_at 1000 i ∷ digit_at 100 i ∷ digit_at 10 i ∷ digit_at 1 i ∷ [])
 
 -- `1.A-rB`, where A is i modulo 7, and B is i modulo 3
 abbrev pub demo_version : ℕ → List ℕ

@@ -21,9 +21,9 @@ use report_core::Report;
 use std::alloc::{AllocError, Global};
 use std::marker::PhantomData;
 
-/// The place of the first package after a change whose trigger is due, counted from 0. `folders` are
-/// those of the files that the change writes and removes. A package without a trigger script costs a
-/// look at its scripts.
+/// The place of the first package after a change whose trigger is due, counted from 0. `folders`
+/// are those of the files that the change writes and removes. A package without a trigger script
+/// costs a look at its scripts.
 pub fn first_due(members: &Members<'_>, folders: &[&[u8]]) -> Option<usize>
     ensures needed { (paths : List (List ℕ)) → map (λ f. f.now) folders.now ≡ folders_of_paths paths
         → unless_trigger false paths (members_of members.now)

@@ -7,8 +7,8 @@ ghost use Rattle.std.specs.Prelude.{◌≡◌, ◌==◌, ◌∷◌, ◌++◌, �
 
 use dep_core::without_slash;
 
-/// Whether a pattern matches a folder, whose name is empty for the root. It takes time in proportion
-/// to the pattern's length, and at worst to the square of the folder's.
+/// Whether a pattern matches a folder, whose name is empty for the root. It takes time in
+/// proportion to the pattern's length, and at worst to the square of the folder's.
 #[tactic(auto, unfolding(change_outcome::specs::Triggers::is_folder_matched))]
 pub(crate) fn is_folder_matched(folder: &[u8], pattern: &[u8]) -> bool
     ensures { result ≡ is_folder_matched folder.now pattern.now }
@@ -53,8 +53,8 @@ fn is_part_matched(pattern: &[u8], part: &[u8]) -> bool
     }
 }
 
-/// Whether a pattern matches some end of the bytes. Each piece between two stars is taken at its first
-/// place: at a later one it leaves less for the pieces behind it.
+/// Whether a pattern matches some end of the bytes. Each piece between two stars is taken at its
+/// first place: at a later one it leaves less for the pieces behind it.
 fn is_end_matched(pattern: &[u8], bytes: &[u8]) -> bool
     ensures { result ≡ is_end_matched pattern.now bytes.now }
 {

@@ -26,7 +26,7 @@ pub record IsFoundRun (inputs : Inputs) (r : Replacement) (wishes : ChangeWishes
   pub comes : ComesTo (candidates_that_come r) (change_with_members inputs r wishes clash files found)
       old now before after result
 
--- this holds only where each package that comes is found and passes its tests
+-- what a run comes to where reads find each package that comes, and no test of it fails
 abbrev pub IsMembersRun :
     Inputs → Replacement → ChangeWishes → Reads → List MemberFound → List TreeState
     → List TreeState → Counts → Counts → Result (List ℕ) Refused → Type 0

@@ -12,8 +12,8 @@ use command_core::Command;
 use installed_info::{InfoDone, tell};
 use std::alloc::Global;
 
-/// Tells of the packages that are installed, as `info` asks for it. Only the database of the root is
-/// read, and the tree stays as it is, whatever the answer.
+/// Tells of the packages that are installed, as `info` asks for it. Only the database of the root
+/// is read, and the tree stays as it is, whatever the answer.
 ///
 /// # Errors
 ///

@@ -44,7 +44,7 @@ pub record IsClaimOf (members : List Member) (c : PathClaim) : Type 0 where
   pub place : HasFileAt (entry_in member.pkg PACKAGE_PATHS) c.folder c.file
   pub name : IsName c.path
 
--- so does each of some claims
+-- each of these claims does
 abbrev pub AreClaimsOf : List Member → List PathClaim → Type 0
 AreClaimsOf members cs = (i : ℕ) (c : PathClaim) → slice_get cs i ≡ Some c → IsClaimOf members c
 

@@ -57,6 +57,7 @@ fn is_free_beside(
     ensures { IfOk result (λ free. free ≡ is_free_beside (file_change_of change.now) name.now) }
 {
     let bytes = aside_bytes(alloc, name.as_bytes())?;
+    // A name has at most 1,024 bytes.
     if bytes.len() > 1024 {
         return Ok(false);
     }

@@ -4,3 +4,4 @@ pub mod Gathering
 pub mod Claiming
 mod NamedPlaces
 mod Staying
+mod SoundMembers

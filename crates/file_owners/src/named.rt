@@ -7,7 +7,10 @@ ghost use Rattle.std.specs.Ordering.{nat_cmp};
 ghost use Rattle.adb_fields.specs.ListValue.{list_value};
 ghost use Rattle.adb_fields.specs.Repeated.{list_of};
 ghost use Rattle.adb_schema.specs.Views.{dependency_value, package_value};
-ghost use Rattle.adb_tables.specs.Values.{entries_in};
+ghost use Rattle.adb_rules.specs.SoundValues.{IsSoundDependency};
+ghost use Rattle.adb_tables.specs.FieldIndexes.{INFO_REPLACES, PACKAGE_INFO};
+ghost use Rattle.adb_tables.specs.Values.{entries_in, entry_in};
+ghost use Rattle.adb_view.specs.Shaped.{Each};
 ghost use Rattle.db_core.specs.Members.{Member, is_place};
 ghost use Rattle.db_core.specs.Seen.{members_of};
 ghost use Rattle.file_owners.specs.NamedPlaces.{ArePlacesNamed, ArePlacesOfEach};
@@ -28,6 +31,7 @@ pub(crate) fn places_of_each(
     ensures { IfOk result (λ named.
         ArePlacesOfEach (members_of members.now) (map (λ v. v.items) named.items)) }
 {
+    members.packages_are_sound();
     let mut named = Vec::with_capacity(alloc, members.len())?;
     for i in 0..members.len() {
         let places = places_named(alloc, members, members.view(i))?;
@@ -42,6 +46,8 @@ fn places_named(
     members: &Members<'_>,
     pkg: &PackageView<'_>,
 ) -> Result<Vec<u32>, AllocError>
+    requires { Each IsSoundDependency (entries_in
+        (entry_in (entry_in (package_value pkg.now) PACKAGE_INFO) INFO_REPLACES)) }
     ensures { IfOk result (λ places.
         ArePlacesNamed (members_of members.now) (package_value pkg.now) places.items) }
 {
@@ -57,6 +63,7 @@ fn places_in<'a>(
     members: &Members<'_>,
     entries: &List<'a, DepView<'a>>,
 ) -> Result<Vec<u32>, AllocError>
+    requires { Each IsSoundDependency (entries_in (list_value entries.now)) }
     ensures { IfOk result (λ places. (y : ℕ) (m : Member)
         → slice_get (members_of members.now) y ≡ Some m
         → list_any (λ place. place == y) places.items
@@ -84,9 +91,11 @@ fn add_place(places: &mut Vec<u32>, place: Option<u32>) -> Result<(), AllocError
 
 /// The place of the member that an entry names, if it names one.
 fn place_named(members: &Members<'_>, entry: &DepView<'_>) -> Option<u32>
+    requires { IsSoundDependency (dependency_value entry.now) }
     ensures { (y : ℕ) (m : Member) → slice_get (members_of members.now) y ≡ Some m
         → is_place y result ≡ is_named_by (dependency_value entry.now) m.pkg }
 {
+    members.packages_are_sound();
     match members.find(entry.name()) {
         Some(place) => {
             if is_named_by(entry, members.view(place)) {

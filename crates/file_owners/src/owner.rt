@@ -11,8 +11,10 @@ ghost use Rattle.path_claims.specs.Seen.{claim_seen};
 ghost use Rattle.file_owners.specs.Owners.{claims_in, contested_of, member_beats, owned_of, owner_of_path};
 ghost use Rattle.file_owners.specs.NamedPlaces.{ArePlacesOfEach};
 ghost use Rattle.adb_schema.specs.Views.{dependency_value, package_value};
-ghost use Rattle.file_owners.specs.Replaces.{is_named_by, is_preferred_to, is_replaced_by, takes_over};
+ghost use Rattle.file_owners.specs.Replaces.{is_named_by, is_preferred_to, is_replaced_by, takes_over, version_text};
 ghost use Rattle.adb_rules.specs.Dependencies.{dependency_in};
+ghost use Rattle.adb_rules.specs.SoundValues.{IsSoundDependency};
+ghost use Rattle.version_core.specs.Order.{is_version};
 ghost use Rattle.adb_view.specs.Plain.{Plain};
 ghost use Rattle.db_core.specs.OwnedListings.{HaveOneOwner, owned_listings};
 
@@ -20,7 +22,7 @@ use crate::gather::claims_in;
 use crate::named::{is_among, places_of_each};
 use adb_schema::{DepView, PackageView};
 use db_core::Members;
-use dep_core::dep_of;
+use dep_core::dep_of_parts;
 use path_claims::{Contest, Owners, owners_of};
 use std::alloc::{AllocError, Global};
 use version_core::Version;
@@ -88,25 +90,26 @@ pub fn owners_of_files<'a>(alloc: Global, members: &Members<'a>) -> Result<Owner
 
 /// Whether a dependency is positive, and met by a name and a version.
 fn is_replaced(dep: &DepView<'_>, name: &[u8], version: &Version<'_>) -> bool
+    requires { IsSoundDependency (dependency_value dep.now) }
     ensures { result
         ≡ is_replaced_by (dependency_in (dependency_value dep.now)) name.now version.now }
 {
-    match dep_of(dep.name(), dep.version(), dep.matching()) {
+    match dep_of_parts(dep.name(), dep.version(), dep.matching()) {
         Some(dep) => !dep.conflict && dep.met_by(name, Some(version)),
         None => false,
     }
 }
 
 /// Whether an entry of what a package replaces names another package: it is positive, and met by
-/// that one's own name and version.
+/// that one's own name and version. Neither is judged, since sound containers hold both.
 pub(crate) fn is_named_by(entry: &DepView<'_>, pkg: &PackageView<'_>) -> bool
+    requires entry { IsSoundDependency (dependency_value entry.now) }
+    requires version { is_version (version_text (package_value pkg.now)) ≡ true }
     ensures { result ≡ is_named_by (dependency_value entry.now) (package_value pkg.now) }
 {
     let info = pkg.info();
-    match Version::read(info.version()) {
-        Some(version) => is_replaced(entry, info.name(), &version),
-        None => false,
-    }
+    let version = Version::of(info.version());
+    is_replaced(entry, info.name(), &version)
 }
 
 /// Of two packages that name each other, whether the first is preferred.

@@ -4,7 +4,7 @@ use Rattle.command_core.specs.declared.command.Flags.{Flags}
 use Rattle.installed_info.specs.declared.telling.Form.{Form}
 use Rattle.installed_info.specs.declared.telling.Form.TheVariants.{Contents, Depends, Description, Installed, Owner}
 
--- no flag asks for descriptions
+-- without a flag descriptions are asked for
 abbrev pub form_of : Flags → Form
 form_of flags =
     if flags.who_owns then Owner else

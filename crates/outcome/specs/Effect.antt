@@ -6,7 +6,7 @@ use Rattle.words_core.specs.Grammar.{command_of}
 use Rattle.command_core.specs.declared.command.Applet.{Applet}
 use Rattle.command_core.specs.declared.command.Applet.TheVariants.{Adbdump, Add, Del, Demo, Fix, Info, Mkndx, Mkpkg, Upgrade, Verify, Version}
 
--- each command has one
+-- what a command may do to the files, from nothing to several of them
 pub data Effect : Type 0 where
   -- it looks at the words alone
   Computes : Effect

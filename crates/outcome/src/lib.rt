@@ -3,7 +3,8 @@
 //!
 //! It is a crate of definitions. `Outcome` of `specs/` says what a command comes to, `Words` what a
 //! command line comes to, `Commands` what each command but `demo` does, `Effect` what it looks at
-//! and changes, and `Version`, `Verify`, `Dump`, `Make`, `Telling` and `Changing` what each comes to;
+//! and changes, and `Version`, `Verify`, `Dump`, `Make`, `Telling` and `Changing` what each comes
+//! to;
 //! `Demo` says what `demo` runs, and `Given` what no function computes of an outcome. `ChangeEnd`,
 //! `Recovers` and `Sound` are what laws cite: how a change ends, which commands recover, and when a
 //! file is a sound container. The functions are laws: they do nothing, and
@@ -94,8 +95,8 @@ fn reading_leaves_the_files()
         → IsTrue (reads_only read) → IsOutcomeOf read files o → o.commits ≡ false }
 {}
 
-/// A command that recovers and then only reads commits nothing, and leaves the files that a recovery
-/// leaves; or the old ones, where it cannot recover.
+/// A command that recovers and then only reads commits nothing, and leaves the files that a
+/// recovery leaves; or the old ones, where it cannot recover.
 pub fn a_command_that_tells_leaves_the_files()
     ensures files { (words : List (List ℕ)) (files : Files) (o : Outcome)
         → effect_by (command_of words) ≡ Tells → IsOutcome words files o

@@ -4,7 +4,7 @@ use Rattle.base_core.specs.declared.tree.TreeFault.TheVariants as Reads
 use Rattle.own_core.specs.declared.fault.PlanFault.{PlanFault}
 use Rattle.own_core.specs.declared.fault.PlanFault.TheVariants.{Disk, Memory}
 
--- of each fault of a call
+-- the two are the same kinds of fault
 abbrev pub fault_of_tree : TreeFault → PlanFault
 fault_of_tree Reads.Disk = Disk
 fault_of_tree Reads.Memory = Memory

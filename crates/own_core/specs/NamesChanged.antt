@@ -28,7 +28,7 @@ is_let_go_by change parts name =
     && not (is_some (find (is_of_path name) (claims_after change))
     || is_some (find (is_of_path name) (kept_of_parts parts)))
 
--- both as the search for clashes asks for them, name by name
+-- which names count as written and which are let go, as the search for clashes asks
 abbrev pub names_changed_by : Change → Parts → NameChange
 names_changed_by change parts = record {
   counts_as_written = λ name.

@@ -39,6 +39,6 @@ pub record HasNameBeside (c : PathClaim) : Type 0 where
   pub name : IsName c.path
   pub short : length c.path + 8 ≤ 1024
 
--- so each claim
+-- each of these claims
 abbrev pub HaveNamesBeside : List PathClaim → Type 0
 HaveNamesBeside claims = (i : ℕ) (c : PathClaim) → slice_get claims i ≡ Some c → HasNameBeside c

@@ -69,7 +69,7 @@ access_value mode =
 abbrev pub FILE_MODE : ℕ
 FILE_MODE = 6 * 8 ^ 2 + 4 * 8 + 4
 
--- 493
+-- 493; `FILE_MODE` is 420
 abbrev pub FOLDER_MODE : ℕ
 FOLDER_MODE = 7 * 8 ^ 2 + 5 * 8 + 5
 

@@ -82,9 +82,9 @@ fn common_len(one: &[u8], other: &[u8]) -> usize
     len
 }
 
-/// The first clash of a path that is written, with the names above it and below it. The folders that
-/// are also above the path before it were looked at with that one, and so was all where the two are
-/// the same.
+/// The first clash of a path that is written, with the names above it and below it. The folders
+/// that are also above the path before it were looked at with that one, and so was all where the
+/// two are the same.
 fn clash_near<T: Tree, G: LetGo>(
     alloc: Global,
     tree: &mut T,

@@ -5,6 +5,7 @@ pub mod OptionLists
 pub mod OfferLists
 pub mod Anyone
 pub mod TableLookup
+pub mod MovedMembers
 pub mod SortedOptions
 pub mod Answering
 pub mod Filtered
@@ -20,4 +21,7 @@ pub mod MarksThroughTable
 pub mod SearchedWords
 pub mod ReadWords
 pub mod PackageLists
+pub mod CountedRanks
+pub mod RankedVersions
+pub mod ProvidedVersions
 pub mod RankedOptions

@@ -54,7 +54,7 @@ module _ {X : Type 0} (p : X → Bool) where
     | inr t ↦ rw t (found_first xs i x (rw t at n) h e)
   ]
 
-  found_snoc : (xs : List X) (x : X) → find p xs ≡ None → p x ≡ false → find p (xs ++ x ∷ []) ≡ None
+  pub found_snoc : (xs : List X) (x : X) → find p xs ≡ None → p x ≡ false → find p (xs ++ x ∷ []) ≡ None
   found_snoc [] x n e = rw e refl
   found_snoc (y ∷ xs) x n e = elim (bool_cases (p y)) [
     | inl t ↦ let bad : Some y ≡ None = rw t at n in absurd (cc)

@@ -15,7 +15,7 @@ quality_total upgraded need =
     (then_total (quality_first_total (has_needed_name need)) (quality_first_total (is_kept_installed upgraded)))
 
 module _ (versions : IsTotalOrder version_cmp) where
-  versions_back : IsTotalOrder greater_version
+  pub versions_back : IsTotalOrder greater_version
   versions_back = back_total (options_total versions)
 
   merit_total : (need : Need) → IsTotalOrder (merit_cmp need)
@@ -35,21 +35,20 @@ module _ (versions : IsTotalOrder version_cmp) where
   rank_total pool need =
       then_total (on_total (candidate_at pool) (options_total (then_total (quality_first_total (is_pinned pool.world)) (then_total (quality_total pool.upgraded need) (then_total (merit_total need) text_total))))) nat_cmp_total
 
-  -- what options are ranked by is in order too
-  truth_total : (key : Ranking → _) → IsTotalOrder (truth_first key)
-  truth_total key = on_total key (back_total bool_cmp_total)
+-- what options are ranked by is in order too
+truth_total : (key : Ranking → _) → IsTotalOrder (truth_first key)
+truth_total key = on_total key (back_total bool_cmp_total)
 
-  pub ranking_total : IsTotalOrder ranking_cmp
-  unfolding ranking_cmp
-  ranking_total =
-      then_total
-      (then_total (truth_total (λ r. r.pinned))
-      (then_total
-      (then_total (truth_total (λ r. r.untagged)) (then_total (truth_total (λ r. r.named)) (truth_total (λ r. r.kept))))
-      (then_total
-      (then_total (on_total (λ (r : Ranking). r.under) versions_back)
-      (then_total (on_total (λ (r : Ranking). r.priority) (back_total nat_cmp_total))
-      (then_total (on_total (λ (r : Ranking). r.name) nat_list_cmp_total) (on_total (λ (r : Ranking). r.version) versions_back))))
-      (then_total (on_total (λ (r : Ranking). r.version) (options_total nat_list_cmp_total))
-      (on_total (λ (r : Ranking). r.repository) (back_total (options_total (back_total nat_cmp_total))))))))
-      (on_total (λ (r : Ranking). r.place) nat_cmp_total)
+pub ranking_total : IsTotalOrder ranking_cmp
+unfolding ranking_cmp
+ranking_total =
+    then_total
+    (then_total (truth_total (λ r. r.pinned))
+    (then_total
+    (then_total (truth_total (λ r. r.untagged)) (then_total (truth_total (λ r. r.named)) (truth_total (λ r. r.kept))))
+    (then_total
+    (then_total (on_total (λ (r : Ranking). r.under.rank) nat_cmp_total)
+    (then_total (on_total (λ (r : Ranking). r.priority) (back_total nat_cmp_total))
+    (then_total (on_total (λ (r : Ranking). r.name) nat_list_cmp_total) (on_total (λ (r : Ranking). r.version.rank) nat_cmp_total))))
+    (on_total (λ (r : Ranking). r.repository) (back_total (options_total (back_total nat_cmp_total)))))))
+    (on_total (λ (r : Ranking). r.place) nat_cmp_total)

@@ -1,15 +1,25 @@
--- Options that are sorted by what was read of each are in rank order.
-use Rattle.std.proofs.Common.{◌≡◌, All, inl, inr, ℕ, suc, ◌+◌, ◌<◌, Bool, false, List, [], ◌∷◌, length, map, get_or, refl, sym, ap, ◌∙◌, arith}
-use Rattle.std.specs.Prelude.{Option, Some, None, not, ◌&&◌}
-use Rattle.std.specs.Ordering.{is_lt}
-use Rattle.std.specs.List.{filter}
-use Rattle.std.specs.List.Sorted.{IsSortedBy, IsStableBy, ties}
+-- Options that are sorted by what was read of each, and by the ranks of their versions, are in rank
+-- order.
+use Rattle.std.proofs.Common.{◌≡◌, All, ℕ, suc, ◌+◌, ◌<◌, Bool, false, List, [], ◌∷◌, length, map, get_or, refl, sym, ap, ◌∙◌, arith}
+use Rattle.std.specs.Prelude.{Option, Some, None}
+use Rattle.std.specs.Option.{option_cmp}
+use Rattle.std.specs.Cmp.{IsTotalOrder}
+use Rattle.std.specs.Ordering.{is_lt, nat_cmp, ordering_then}
+use Rattle.std.specs.declared.cmp.Ordering.{Ordering}
+use Rattle.std.specs.declared.cmp.Ordering.TheVariants.{Less, Equal, Greater}
+use Rattle.std.specs.List.Sorted.{IsSortedBy}
 use Rattle.std.proofs.lemmas.List.{get_or-map, length-map}
-use Rattle.pool_core.specs.Candidates.{Candidate, Need}
+use Rattle.version_core.specs.Order.{version_cmp}
+use Rattle.pool_core.specs.Candidates.{Candidate, Need, version_under}
 use Rattle.pool_core.specs.Options.{rank_order_of}
-use Rattle.pool_core.specs.Rank.{SealedPool, candidate_at, is_better, rank_cmp}
-use Rattle.pool_core.specs.Ranking.{IsRankingIn, Ranking, ranking_by, ranking_cmp, ranking_of}
-use Rattle.pool_core.proofs.OptionLists.{bool_cases}
+use Rattle.pool_core.specs.Rank.{SealedPool, byte_cmp, candidate_at, earlier_repository, greater_version, is_better, is_pinned, quality_cmp, quality_first, rank_cmp}
+use Rattle.pool_core.specs.Ranking.{IsRankingIn, Ranking, ranking_by, ranking_cmp, read_as}
+use Rattle.pool_core.specs.VersionRanks.{rank_among, version_of, version_order, with_rank}
+use Rattle.pool_core.specs.declared.versions.RankedVersion.{RankedVersion}
+use Rattle.pool_core.specs.declared.versions.VersionKind.{VersionKind}
+use Rattle.pool_core.specs.declared.versions.VersionKind.TheVariants.{Under, Own}
+use Rattle.pool_core.proofs.CountedRanks.{counts_order}
+use Rattle.pool_core.proofs.RankedVersions.{HasRank, order_of_kind}
 
 pub few_ranked : (better : ℕ → ℕ → Bool) (xs : List ℕ) → length xs < 2 → rank_order_of better xs ≡ xs
 few_ranked better [] h = refl
@@ -22,20 +32,60 @@ comes_before a b = is_lt (ranking_cmp a b)
 abbrev pub place_of : Ranking → ℕ
 place_of r = r.place
 
+no_version : RankedVersion
+no_version = record { version = None; source = 0; word = 0; rank = 0 }
+
 none_read : Ranking
-none_read = ranking_by false false false false None 0 [] None None 0
+none_read = ranking_by false false false false no_version 0 [] no_version None 0
 
-module _ (pool : SealedPool) (need : Need) where
-  as_read : (a b : ℕ) (x y : Candidate) → candidate_at pool a ≡ Some x → candidate_at pool b ≡ Some y → ranking_cmp (ranking_of pool need a x) (ranking_of pool need b y) ≡ rank_cmp pool need a b
+-- the version's text is a key of its own, behind the version
+regroup : (u p n g t r : Ordering) → ordering_then (ordering_then u (ordering_then p (ordering_then n (ordering_then g t)))) r ≡ ordering_then (ordering_then u (ordering_then p (ordering_then n g))) (ordering_then t r)
+regroup Less p n g t r = refl
+regroup Greater p n g t r = refl
+regroup Equal Less n g t r = refl
+regroup Equal Greater n g t r = refl
+regroup Equal Equal Less g t r = refl
+regroup Equal Equal Greater g t r = refl
+regroup Equal Equal Equal Less t r = refl
+regroup Equal Equal Equal Greater t r = refl
+regroup Equal Equal Equal Equal t r = refl
+
+pub same_by_rank : IsTotalOrder version_cmp → (kind : VersionKind) (vs : List (Option (List ℕ))) (a b : Ranking) → HasRank kind vs a → HasRank kind vs b → nat_cmp (version_of kind a).rank (version_of kind b).rank ≡ version_order kind (version_of kind a).version (version_of kind b).version
+same_by_rank versions kind vs a b p q =
+    ap (λ (n : ℕ). nat_cmp n (version_of kind b).rank) p.rank
+    ∙ (ap (nat_cmp (rank_among kind vs (version_of kind a).version)) q.rank
+    ∙ counts_order (version_order kind) (order_of_kind versions kind) vs (version_of kind a).version (version_of kind b).version p.listed q.listed)
+
+pub ranking_kept : (pool : SealedPool) (need : Need) (kind : VersionKind) (n : ℕ) (r : Ranking) → IsRankingIn pool need r → IsRankingIn pool need (with_rank kind n r)
+ranking_kept pool need Under n r p = (p.0, (p.1.0, ap (with_rank Under n) p.1.1))
+ranking_kept pool need Own n r p = (p.0, (p.1.0, ap (with_rank Own n) p.1.1))
+
+module _ (versions : IsTotalOrder version_cmp) (pool : SealedPool) (need : Need) (unders owns : List (Option (List ℕ))) where
+  pub record IsRanked (r : Ranking) : Type 0 where
+    pub read : IsRankingIn pool need r
+    pub under : HasRank Under unders r
+    pub own : HasRank Own owns r
+
+  as_read : (a b : Ranking) (x y : Candidate) → candidate_at pool a.place ≡ Some x → candidate_at pool b.place ≡ Some y → nat_cmp a.under.rank b.under.rank ≡ greater_version (version_under need x) (version_under need y) → nat_cmp a.version.rank b.version.rank ≡ ordering_then (greater_version x.version y.version) (option_cmp byte_cmp x.version y.version) → ranking_cmp (read_as pool need x a) (read_as pool need y b) ≡ rank_cmp pool need a.place b.place
   unfolding ranking_cmp rank_cmp
-  as_read a b x y h g = rw (h, g) refl
+  as_read a b x y h g under own =
+      rw (h, g, under, own) (ap (λ (o : Ordering). ordering_then (ordering_then (quality_first (is_pinned pool.world) x y) (ordering_then (quality_cmp pool.upgraded need x y) o)) (nat_cmp a.place b.place))
+      (regroup (greater_version (version_under need x) (version_under need y)) (nat_cmp y.priority x.priority) (byte_cmp x.name y.name) (greater_version x.version y.version) (option_cmp byte_cmp x.version y.version) (earlier_repository x.repository y.repository)))
 
-  pub same_order : (a b : Ranking) → IsRankingIn pool need a → IsRankingIn pool need b → ranking_cmp a b ≡ rank_cmp pool need a.place b.place
+  pub same_order : (a b : Ranking) → IsRanked a → IsRanked b → ranking_cmp a b ≡ rank_cmp pool need a.place b.place
   same_order a b p q =
-      ap (λ (r : Ranking). ranking_cmp r b) p.1.1 ∙ (ap (λ (r : Ranking). ranking_cmp (ranking_of pool need a.place p.0) r) q.1.1
-      ∙ as_read a.place b.place p.0 q.0 p.1.0 q.1.0)
+      let x : Candidate = p.read.0 in
+      let y : Candidate = q.read.0 in
+      let under : nat_cmp a.under.rank b.under.rank ≡ greater_version (version_under need x) (version_under need y) =
+      same_by_rank versions Under unders a b p.under q.under
+      ∙ (ap (λ (r : Ranking). greater_version r.under.version b.under.version) p.read.1.1 ∙ ap (λ (r : Ranking). greater_version (version_under need x) r.under.version) q.read.1.1) in
+      let own : nat_cmp a.version.rank b.version.rank ≡ version_order Own x.version y.version =
+      same_by_rank versions Own owns a b p.own q.own
+      ∙ (ap (λ (r : Ranking). version_order Own r.version.version b.version.version) p.read.1.1 ∙ ap (λ (r : Ranking). version_order Own x.version r.version.version) q.read.1.1) in
+      ap (λ (r : Ranking). ranking_cmp r b) p.read.1.1 ∙ (ap (λ (r : Ranking). ranking_cmp (read_as pool need x a) r) q.read.1.1
+      ∙ as_read a b x y p.read.1.0 q.read.1.0 under own)
 
-  pub sorted_places : (rs : List Ranking) → All (IsRankingIn pool need) rs → IsSortedBy comes_before rs → IsSortedBy (is_better pool need) (map place_of rs)
+  pub sorted_places : (rs : List Ranking) → All IsRanked rs → IsSortedBy comes_before rs → IsSortedBy (is_better pool need) (map place_of rs)
   sorted_places rs all up = λ k d low high.
       let len : length (map place_of rs) ≡ length rs = length-map rs place_of in
       let here : k < length rs = omega (arith, high, len) in
@@ -47,39 +97,3 @@ module _ (pool : SealedPool) (need : Need) where
       ap (λ (n : ℕ). is_better pool need n (get_or (map place_of rs) k d)) is_a
       ∙ (ap (is_better pool need a.place) is_b
       ∙ (ap is_lt (sym (same_order a b (all (k + 1) none_read next) (all k none_read here))) ∙ up k none_read low (omega (arith, high, len))))
-
-  tail_all : (r : Ranking) (rs : List Ranking) → All (IsRankingIn pool need) (r ∷ rs) → All (IsRankingIn pool need) rs
-  tail_all r rs all = λ k d h. all (suc k) d (omega (arith, h))
-
-  tied : (x : ℕ) (r : Ranking) → IsRankingIn pool need r → r.place ≡ x → (rs : List Ranking) → All (IsRankingIn pool need) rs → filter (ties (is_better pool need) x) (map place_of rs) ≡ map place_of (filter (ties comes_before r) rs)
-  tied x r p s [] all = refl
-  tied x r p s (e ∷ rs) all =
-      let q : IsRankingIn pool need e = all 0 e (omega arith) in
-      let one : comes_before r e ≡ is_better pool need x e.place = ap is_lt (same_order r e p q) ∙ ap (λ (n : ℕ). is_better pool need n e.place) s in
-      let other : comes_before e r ≡ is_better pool need e.place x = ap is_lt (same_order e r q p) ∙ ap (is_better pool need e.place) s in
-      let same : ties comes_before r e ≡ ties (is_better pool need) x e.place =
-      ap (λ (b : Bool). not b && not (comes_before e r)) one ∙ ap (λ (b : Bool). not (is_better pool need x e.place) && not b) other in
-      let rest = tied x r p s rs (tail_all e rs all) in
-      elim (bool_cases (ties (is_better pool need) x e.place)) [
-        | inl t ↦ rw (t, same ∙ t) (ap (λ (z : List ℕ). e.place ∷ z) rest)
-        | inr t ↦ rw (t, same ∙ t) rest
-      ]
-
-  absent_before : (x y : ℕ) (c : Candidate) → candidate_at pool x ≡ None → candidate_at pool y ≡ Some c → ties (is_better pool need) x y ≡ false
-  unfolding rank_cmp
-  absent_before x y c h g = rw (h, g) refl
-
-  none_tied : (x : ℕ) → candidate_at pool x ≡ None → (rs : List Ranking) → All (IsRankingIn pool need) rs → filter (ties (is_better pool need) x) (map place_of rs) ≡ []
-  none_tied x none [] all = refl
-  none_tied x none (e ∷ rs) all =
-      let q : IsRankingIn pool need e = all 0 e (omega arith) in
-      rw (absent_before x e.place q.0 none q.1.0) (none_tied x none rs (tail_all e rs all))
-
-  pub stable_places : (rs qs : List Ranking) → All (IsRankingIn pool need) rs → All (IsRankingIn pool need) qs → IsStableBy comes_before rs qs → IsStableBy (is_better pool need) (map place_of rs) (map place_of qs)
-  stable_places rs qs all each stable = λ x. at x (candidate_at pool x) refl
-    where
-      at : (x : ℕ) (o : Option Candidate) → candidate_at pool x ≡ o → filter (ties (is_better pool need) x) (map place_of qs) ≡ filter (ties (is_better pool need) x) (map place_of rs)
-      at x None e = none_tied x e qs each ∙ sym (none_tied x e rs all)
-      at x (Some c) e =
-          let r : Ranking = ranking_of pool need x c in
-          tied x r (c, (e, refl)) refl qs each ∙ (ap (map place_of) (stable r) ∙ sym (tied x r (c, (e, refl)) refl rs all))

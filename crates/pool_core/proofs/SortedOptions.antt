@@ -2,11 +2,12 @@
 use Rattle.std.proofs.Common.{◌≡◌, ◌⊎◌, inl, inr, ℕ, suc, ◌+◌, ◌≤◌, ◌<◌, Bool, true, false, List, [], ◌∷◌, length, get_or, refl, sym, subst, ◌∙◌, arith}
 use Rattle.std.specs.Prelude.{not, ◌&&◌}
 use Rattle.std.specs.List.{filter}
-use Rattle.std.specs.List.Sorted.{IsSortedBy, IsStableBy, ties}
+use Rattle.std.specs.List.Sorted.{IsPermutation, IsSortedBy, ties}
 use Rattle.std.specs.Cmp.{IsStrictWeakOrder}
 use Rattle.std.proofs.lemmas.Bool.{cases_eq}
-use Rattle.std.proofs.lemmas.List.Sorted.{sorted_far}
+use Rattle.std.proofs.lemmas.List.Sorted.{IsPermutation-sym, sorted_far}
 use Rattle.pool_core.specs.Options.{AreDistinct, IsMember, IsBestFirst, rank_order_of}
+use Rattle.pool_core.proofs.MovedMembers.{moved_filter, moved_member}
 use Rattle.pool_core.proofs.OptionLists.{bool_cases, ranked_in, in_ranked}
 
 module _ (better : ℕ → ℕ → Bool) (weak : IsStrictWeakOrder better) (chain : (a b c : ℕ) → better a b ≡ true → better b c ≡ true → better a c ≡ true) (one_of : (a b : ℕ) → (a ≡ b → ⊥) → (better a b ≡ true) ⊎ (better b a ≡ true)) where
@@ -21,25 +22,6 @@ module _ (better : ℕ → ℕ → Bool) (weak : IsStrictWeakOrder better) (chai
 
   ties_self : (a : ℕ) → ties better a a ≡ true
   ties_self a = rw (not_self a) refl
-
-  kept : (a : ℕ) (xs : List ℕ) → IsMember a xs → IsMember a (filter (ties better a) xs)
-  kept a [] h = absurd h
-  kept a (x ∷ xs) (inl e) = rw (subst (λ (z : ℕ). ties better a z ≡ true) e (ties_self a)) (inl e)
-  kept a (x ∷ xs) (inr h) = elim (bool_cases (ties better a x)) [ inl e ↦ rw e (inr (kept a xs h)) | inr e ↦ rw e (kept a xs h) ]
-
-  from_filter : (a : ℕ) (p : ℕ → Bool) (xs : List ℕ) → IsMember a (filter p xs) → IsMember a xs
-  from_filter a p [] h = absurd h
-  from_filter a p (x ∷ xs) h = elim (bool_cases (p x)) [
-    | inl e ↦ elim (rw e at h) [ inl q ↦ inl q | inr r ↦ inr (from_filter a p xs r) ]
-    | inr e ↦ inr (from_filter a p xs (rw e at h))
-  ]
-
-  -- what a stable sort gives has the same members
-  members : (xs ys : List ℕ) → IsStableBy better xs ys → (c : ℕ) → (IsMember c ys → IsMember c xs) × (IsMember c xs → IsMember c ys)
-  members xs ys stable c = (
-    λ h. from_filter c (ties better c) xs (subst (λ (z : List ℕ). IsMember c z) (stable c) (kept c ys h)),
-    λ h. from_filter c (ties better c) ys (subst (λ (z : List ℕ). IsMember c z) (sym (stable c)) (kept c xs h)),
-  )
 
   filter_pos : (a : ℕ) (p : ℕ → Bool) (xs : List ℕ) → IsMember a xs → p a ≡ true → 1 ≤ length (filter p xs)
   filter_pos a p [] h e = absurd h
@@ -127,9 +109,9 @@ module _ (better : ℕ → ℕ → Bool) (weak : IsStrictWeakOrder better) (chai
       )) in
       cc
 
-  -- a stable sort of places that stand apart is their ranked list
-  pub sorted_is_ranked : (xs ys : List ℕ) → AreDistinct xs → IsSortedBy better ys → IsStableBy better xs ys → IsBestFirst better (rank_order_of better xs) → ys ≡ rank_order_of better xs
-  sorted_is_ranked xs ys r up stable is =
-      let apart = apart_of ys (λ a. subst (λ (z : List ℕ). length z ≤ 1) (sym (stable a)) (once a xs r)) in
+  -- places that stand apart, sorted, are their ranked list
+  pub sorted_is_ranked : (xs ys : List ℕ) → AreDistinct xs → IsSortedBy better ys → IsPermutation xs ys → IsBestFirst better (rank_order_of better xs) → ys ≡ rank_order_of better xs
+  sorted_is_ranked xs ys r up moved is =
+      let apart = apart_of ys (λ a. let few = once a xs r in omega (arith, few, moved_filter (ties better a) xs ys moved)) in
       same_ranked ys (rank_order_of better xs) (sorted_ranked ys up apart) is (λ c.
-      (λ h. in_ranked better c xs ((members xs ys stable c).0 h), λ h. (members xs ys stable c).1 (ranked_in better c xs h)))
+      (λ h. in_ranked better c xs (moved_member ys xs c (IsPermutation-sym xs ys moved) h), λ h. moved_member xs ys c moved (ranked_in better c xs h)))

@@ -14,3 +14,4 @@ pub mod Packages
 pub mod CandidateList
 pub mod Marks
 pub mod Ranking
+pub mod VersionRanks

@@ -1,11 +1,10 @@
 //! The packages to choose from, and what is read of them: `Candidate` is what a caller sees,
 //! `Details` what the pool and the search compare.
 ghost use Rattle.std.specs.Prelude.{◌≡◌, ◌&&◌, ◌==◌, false, not, length, option_copied};
-ghost use Rattle.std.specs.Option.{option_and_then};
-ghost use Rattle.std.specs.List.{find, list_all, list_any};
+ghost use Rattle.std.specs.List.{list_all, list_any};
 ghost use Rattle.dep_core.specs.Dependency.{Dependency};
 ghost use Rattle.dep_core.specs.Meets.{dependency};
-ghost use Rattle.pool_core.specs.Candidates.{candidate_of, entry, entry_occupies, is_met_by_entry, is_same_id, is_same_package, is_same_version, meets_by_own_name, meets_dependency, meets_need, occupies_name, version_under};
+ghost use Rattle.pool_core.specs.Candidates.{candidate_of, entry_occupies, is_met_by_entry, is_same_id, is_same_package, is_same_version, meets_by_own_name, meets_dependency, meets_need, occupies_name};
 ghost use Rattle.pool_core.specs.PackageWords.{IsPackageOf, info_in_source};
 ghost use Rattle.pool_core.specs.Rank.{is_untagged};
 ghost use Rattle.pool_core.specs.Values.{candidate_value, need_by};
@@ -218,26 +217,6 @@ impl<'a> Details<'a> {
         are_some_and_positive(&self.install_if())
     }
 
-    /// The version under which it meets a need: its own, else that of the first entry of provides
-    /// that meets it.
-    pub(crate) fn version_under(&self, need: &NeedRef<'_>) -> Option<Version<'a>>
-        ensures { result ≡ version_under (need_by need.now) self.now }
-    {
-        match need {
-            NeedRef::Named(_) => self.version(),
-            NeedRef::Entry(dep) => self.version_meeting(dep),
-        }
-    }
-
-    fn version_meeting(&self, dep: &Dep<'_>) -> Option<Version<'a>>
-        ensures { result ≡ version_under (entry (dependency dep.now)) self.now }
-    {
-        if self.meets_by_own_name(dep) {
-            return self.version();
-        }
-        first_meeting(&self.provides(), dep)
-    }
-
     /// Whether it meets a need.
     pub(crate) fn meets_need(&self, need: &NeedRef<'_>) -> bool
         ensures { result ≡ meets_need (need_by need.now) self.now }
@@ -258,8 +237,8 @@ impl<'a> Details<'a> {
         any_meets(&self.provides(), dep)
     }
 
-    // Whether its own name and version meet a dependency.
-    fn meets_by_own_name(&self, dep: &Dep<'_>) -> bool
+    /// Whether its own name and version meet a dependency.
+    pub(crate) fn meets_by_own_name(&self, dep: &Dep<'_>) -> bool
         ensures { result ≡ meets_by_own_name (dependency dep.now) self.now }
     {
         let name = self.name();
@@ -360,28 +339,14 @@ fn any_meets(provides: &Deps<'_>, dep: &Dep<'_>) -> bool
     false
 }
 
-// Whether an entry of provides meets a dependency; one that is a conflict provides nothing.
-fn is_met_by_entry(dep: &Dep<'_>, entry: &Dep<'_>) -> bool
+/// Whether an entry of provides meets a dependency; one that is a conflict provides nothing.
+pub(crate) fn is_met_by_entry(dep: &Dep<'_>, entry: &Dep<'_>) -> bool
     ensures { result ≡ is_met_by_entry (dependency dep.now) (dependency entry.now) }
 {
     if entry.conflict {
         return false;
     }
     dep.met_by(entry.name, entry.version.as_ref())
-}
-
-// The version of the first entry of provides that meets a dependency.
-fn first_meeting<'a>(provides: &Deps<'a>, dep: &Dep<'_>) -> Option<Version<'a>>
-    ensures { result ≡ option_and_then (λ (p : Dependency). p.version)
-        (find (is_met_by_entry (dependency dep.now)) provides.now) }
-{
-    for i in 0..provides.len() {
-        let entry = provides.get(i);
-        if is_met_by_entry(dep, &entry) {
-            return entry.version;
-        }
-    }
-    None
 }
 
 // Whether one of some dependencies is no conflict and is met by a candidate.

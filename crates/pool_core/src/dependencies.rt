@@ -78,9 +78,9 @@ impl<'a> Deps<'a> {
     }
 }
 
-// An entry that is known to be a dependency.
+/// An entry that is known to be a dependency.
 #[tactic(auto, unfolding(dep_core::specs::ValueReading::dependency_of_value))]
-fn read_sound<'a>(view: &DepView<'a>) -> Dep<'a>
+pub(crate) fn read_sound<'a>(view: &DepView<'a>) -> Dep<'a>
     requires { IsSoundDependency (dependency_value view.now) }
     ensures { dependency_in (dependency_value view.entry.now) ≡ Some (dependency result) }
 {
@@ -90,8 +90,8 @@ fn read_sound<'a>(view: &DepView<'a>) -> Dep<'a>
     }
 }
 
-// An entry, if it is a dependency.
-fn read_if_sound<'a>(view: &DepView<'a>) -> Option<Dep<'a>>
+/// An entry, if it is a dependency.
+pub(crate) fn read_if_sound<'a>(view: &DepView<'a>) -> Option<Dep<'a>>
     ensures { option_map dependency result ≡ dependency_in (dependency_value view.now) }
 {
     dep_of(view.name(), view.version(), view.matching())

@@ -1,5 +1,5 @@
-//! Whether the texts of a package's information keep their rules. A long one is judged once, however
-//! many places of the package share it.
+//! Whether the texts of a package's information keep their rules. A long one is judged once,
+//! however many places of the package share it.
 ghost use Rattle.std.specs.Prelude.{◌≡◌, true, false, Some, IfOk, IfSome, IfNone};
 ghost use Rattle.std.specs.Option.{option_map};
 ghost use Rattle.adb_fields.specs.Fields.{are_all_sound, array_at};
@@ -23,19 +23,19 @@ use dep_core::{Dep, dep_of_parts};
 use std::alloc::{AllocError, Global};
 
 /// The field of a package's information with its version.
-const PACKAGE_VERSION: usize = 1;
+pub(crate) const PACKAGE_VERSION: usize = 1;
 
 /// Those with its dependencies, its provides and its install-if.
 const DEPENDS: usize = 14;
 
-const PROVIDES: usize = 15;
+pub(crate) const PROVIDES: usize = 15;
 
 const INSTALL_IF: usize = 17;
 
 /// The fields of a dependency.
 const NAME: usize = 0;
 
-const VERSION: usize = 1;
+pub(crate) const VERSION: usize = 1;
 
 const MATCHING: usize = 2;
 

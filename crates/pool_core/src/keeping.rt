@@ -20,7 +20,8 @@ pub(crate) fn kept_marks(
     upgrade: Upgrade<'_>,
 ) -> Result<Vec<bool>, AllocError>
     ensures { IfOk result (λ marks. marks.items
-        ≡ map (is_kept_installed (names_upgraded_by upgrade.entry)) (candidates_of_packages packages.now)) }
+        ≡ map (is_kept_installed (names_upgraded_by upgrade.entry))
+        (candidates_of_packages packages.now)) }
 {
     match upgrade {
         Upgrade::Nothing => marks_with_all(alloc, packages, false),

@@ -18,6 +18,8 @@ mod rank;
 mod sealed;
 mod sorted;
 mod table;
+mod version_ranks;
+mod versions;
 
 pub use candidate::{CandId, Candidate, Details};
 pub use dependencies::Deps;

@@ -39,7 +39,8 @@ pub(crate) fn eligible_marks(
     requires { LeadsToOffers table.now (candidates_of_packages packages.now) }
     ensures { IfOk result (λ marks. marks.items ≡ map (λ one.
         is_allowed (map dependency tagged.now) one
-        && not (is_barred_by (map dependency conflicts.now) one)) (candidates_of_packages packages.now)) }
+        && not (is_barred_by (map dependency conflicts.now) one))
+        (candidates_of_packages packages.now)) }
 {
     let mut ineligible = disallowed_marks(alloc, packages, tagged)?;
     mark_affected(&mut ineligible, packages, table, conflicts, Effect::Bar);
@@ -55,7 +56,8 @@ pub(crate) fn pinned_marks(
 ) -> Result<Vec<bool>, AllocError>
     requires { LeadsToOffers table.now (candidates_of_packages packages.now) }
     ensures { IfOk result (λ marks. marks.items
-        ≡ map (λ one. is_pinned (map dependency tagged.now) one) (candidates_of_packages packages.now)) }
+        ≡ map (λ one. is_pinned (map dependency tagged.now) one)
+        (candidates_of_packages packages.now)) }
 {
     let mut marks = no_marks(alloc, packages)?;
     mark_affected(&mut marks, packages, table, tagged, Effect::Pin);
@@ -69,7 +71,8 @@ fn disallowed_marks(
     tagged: &[Dep<'_>],
 ) -> Result<Vec<bool>, AllocError>
     ensures { IfOk result (λ marks. marks.items
-        ≡ map (λ one. not (is_allowed (map dependency tagged.now) one)) (candidates_of_packages packages.now)) }
+        ≡ map (λ one. not (is_allowed (map dependency tagged.now) one))
+        (candidates_of_packages packages.now)) }
 {
     let mut marks = Vec::with_capacity(alloc, packages.len())?;
     for place in 0..packages.len() {
@@ -79,7 +82,8 @@ fn disallowed_marks(
 }
 
 fn no_marks(alloc: Global, packages: &Packages<'_>) -> Result<Vec<bool>, AllocError>
-    ensures { IfOk result (λ marks. marks.items ≡ map (λ one. false) (candidates_of_packages packages.now)) }
+    ensures { IfOk result (λ marks. marks.items
+        ≡ map (λ one. false) (candidates_of_packages packages.now)) }
 {
     let mut marks = Vec::with_capacity(alloc, packages.len())?;
     for _place in 0..packages.len() {
@@ -120,7 +124,8 @@ fn mark_among(
     entry: &Dep<'_>,
     effect: Effect,
 )
-    requires offers { ids.now ≡ places_offering (dependency entry.now).name (candidates_of_packages packages.now) }
+    requires offers { ids.now
+        ≡ places_offering (dependency entry.now).name (candidates_of_packages packages.now) }
     requires each { length marks.old.items ≡ length (candidates_of_packages packages.now) }
     ensures { marks.new.items ≡ marks_with (affects effect (dependency entry.now))
         marks.old.items (candidates_of_packages packages.now) }

@@ -4,6 +4,8 @@ ghost use Rattle.std.specs.Prelude.{All};
 ghost use Rattle.pool_core.specs.PackageWords.{IsPackageAmong};
 
 use crate::candidate::Details;
+use crate::need::NeedRef;
+use crate::versions::{RankedVersion, own_version, version_under};
 use adb_view::{Adb, Val};
 use std::alloc::{AllocError, Global};
 
@@ -24,10 +26,10 @@ pub(crate) struct Source<'a> {
 #[derive(Clone, Copy)]
 pub(crate) struct PackageWord {
     /// The word of its information in the source's payload.
-    word: u32,
+    pub(crate) word: u32,
     /// The place of its source, counted from 0.
-    source: u32,
-    installed: bool,
+    pub(crate) source: u32,
+    pub(crate) installed: bool,
 }
 
 /// The packages of some sources.
@@ -39,6 +41,9 @@ pub(crate) struct Packages<'a> {
 }
 
 impl<'a> Packages<'a> {
+    ghost use Rattle.pool_core.specs.Candidates.{Candidate, version_under};
+    ghost use Rattle.pool_core.specs.Values.{need_by};
+    ghost use Rattle.pool_core.specs.VersionRanks.{IsReadBy, text_at};
     ghost use Rattle.std.specs.Prelude.{◌≡◌, ◌<◌, ◌∷◌, [], ◌++◌, length, Some, slice_get, IfOk, OnOk, OnErr};
     ghost use Rattle.pool_core.specs.PackageWords.{IsPackageAt};
     ghost use Rattle.pool_core.specs.Packages.{candidate_in_source, candidates_of_packages, installed_at};
@@ -68,6 +73,32 @@ impl<'a> Packages<'a> {
         let package = self.words[place];
         let source = self.sources[package.source as usize];
         Details::of(&source, Val::of(package.word), package.installed)
+    }
+
+    /// The version of the package at a place, counted from 0.
+    pub(crate) fn version(&self, place: usize) -> RankedVersion<'a>
+        requires { place < length (candidates_of_packages self.now) }
+        ensures version { (c : Candidate)
+            → slice_get (candidates_of_packages self.now) place ≡ Some c
+            → result.version ≡ c.version }
+        ensures text { IsReadBy (text_at self.now.sources.items) result }
+    {
+        let package = self.words[place];
+        let source = self.sources[package.source as usize];
+        own_version(&source, package)
+    }
+
+    /// The version under which the package at a place meets a need.
+    pub(crate) fn version_under(&self, place: usize, need: &NeedRef<'_>) -> RankedVersion<'a>
+        requires { place < length (candidates_of_packages self.now) }
+        ensures version { (c : Candidate)
+            → slice_get (candidates_of_packages self.now) place ≡ Some c
+            → result.version ≡ version_under (need_by need.now) c }
+        ensures text { IsReadBy (text_at self.now.sources.items) result }
+    {
+        let package = self.words[place];
+        let source = self.sources[package.source as usize];
+        version_under(&source, package, need)
     }
 
     /// Adds a source, and answers its place. After an error the packages are as before.

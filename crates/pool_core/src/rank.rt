@@ -1,12 +1,14 @@
-//! Which of two candidates is taken first for a need. Each key of an option is read once, and the
-//! first that differs decides.
+//! Which of two candidates is taken first for a need. Each key of an option is read once, versions
+//! are compared by their ranks, and the first key that differs decides.
 ghost use Rattle.std.specs.Prelude.{◌≡◌};
 ghost use Rattle.std.specs.Option.{option_cmp};
 ghost use Rattle.std.specs.Ordering.{bool_cmp, flip_args, then_cmp};
 ghost use Rattle.pool_core.specs.Rank.{byte_cmp, earlier_repository, greater_version};
-ghost use Rattle.pool_core.specs.Ranking.{candidate_ranking_cmp, merit_ranking_cmp, name_ranking_cmp, priority_ranking_cmp, quality_ranking_cmp, ranking_cmp, text_ranking_cmp, unpinned_ranking_cmp};
+ghost use Rattle.pool_core.specs.Ranking.{candidate_ranking_cmp, merit_ranking_cmp, name_ranking_cmp, priority_ranking_cmp, quality_ranking_cmp, ranking_cmp, repository_ranking_cmp, unpinned_ranking_cmp};
+ghost use Rattle.pool_core.specs.VersionRanks.{version_of, with_rank};
 
 use crate::candidate::CandId;
+use crate::versions::{RankedVersion, VersionKind};
 use std::cmp::Ordering;
 use std::marker::Model;
 use version_core::Version;
@@ -21,10 +23,10 @@ pub(crate) struct RankedOption<'a> {
     /// Whether it is installed and stays.
     pub(crate) kept: bool,
     /// The version under which it meets the need.
-    pub(crate) under: Option<Version<'a>>,
+    pub(crate) under: RankedVersion<'a>,
     pub(crate) priority: u64,
     pub(crate) name: &'a [u8],
-    pub(crate) version: Option<Version<'a>>,
+    pub(crate) version: RankedVersion<'a>,
     pub(crate) repo: Option<u64>,
     pub(crate) id: CandId,
 }
@@ -39,7 +41,27 @@ impl<'a> Model for RankedOption<'a> {
 }
 
 impl<'a> RankedOption<'a> {
-    /// The order of two options.
+    /// One of its versions.
+    pub(crate) fn version_of(&self, kind: VersionKind) -> &RankedVersion<'a>
+        ensures { result.now ≡ version_of kind self.now }
+    {
+        match kind {
+            VersionKind::Under => &self.under,
+            VersionKind::Own => &self.version,
+        }
+    }
+
+    /// Sets the rank of one of its versions.
+    pub(crate) fn set_rank(&mut self, kind: VersionKind, rank: usize)
+        ensures { self.new ≡ with_rank kind rank self.old }
+    {
+        match kind {
+            VersionKind::Under => self.under.rank = rank,
+            VersionKind::Own => self.version.rank = rank,
+        }
+    }
+
+    /// The order of two options whose versions are ranked.
     #[tactic(auto, unfolding(crate::specs::Ranking::ranking_cmp))]
     pub(crate) fn compare(&self, other: &RankedOption<'_>) -> Ordering
         ensures { result ≡ ranking_cmp self.now other.now }
@@ -69,7 +91,7 @@ impl<'a> RankedOption<'a> {
         match self.by_quality(other) {
             Ordering::Less => Ordering::Less,
             Ordering::Greater => Ordering::Greater,
-            Ordering::Equal => self.by_merit_and_text(other),
+            Ordering::Equal => self.by_merit_and_repo(other),
         }
     }
 
@@ -83,14 +105,14 @@ impl<'a> RankedOption<'a> {
         untagged.then(named.then(kept))
     }
 
-    // The order by how well the need is met, and then by what is left to tell two options apart.
-    fn by_merit_and_text(&self, other: &RankedOption<'_>) -> Ordering
-        ensures { result ≡ then_cmp merit_ranking_cmp text_ranking_cmp self.now other.now }
+    // The order by how well the need is met, and then by repository.
+    fn by_merit_and_repo(&self, other: &RankedOption<'_>) -> Ordering
+        ensures { result ≡ then_cmp merit_ranking_cmp repository_ranking_cmp self.now other.now }
     {
         match self.by_merit(other) {
             Ordering::Less => Ordering::Less,
             Ordering::Greater => Ordering::Greater,
-            Ordering::Equal => self.by_text(other),
+            Ordering::Equal => by_repo(self.repo, other.repo),
         }
     }
 
@@ -98,7 +120,7 @@ impl<'a> RankedOption<'a> {
     fn by_merit(&self, other: &RankedOption<'_>) -> Ordering
         ensures { result ≡ merit_ranking_cmp self.now other.now }
     {
-        match by_version(&self.under, &other.under) {
+        match self.under.rank.cmp(&other.under.rank) {
             Ordering::Less => Ordering::Less,
             Ordering::Greater => Ordering::Greater,
             Ordering::Equal => self.by_priority(other),
@@ -123,18 +145,7 @@ impl<'a> RankedOption<'a> {
         match self.name.cmp(other.name) {
             Ordering::Less => Ordering::Less,
             Ordering::Greater => Ordering::Greater,
-            Ordering::Equal => by_version(&self.version, &other.version),
-        }
-    }
-
-    // The order by what is left to tell two options apart.
-    fn by_text(&self, other: &RankedOption<'_>) -> Ordering
-        ensures { result ≡ text_ranking_cmp self.now other.now }
-    {
-        match by_version_text(&self.version, &other.version) {
-            Ordering::Less => Ordering::Less,
-            Ordering::Greater => Ordering::Greater,
-            Ordering::Equal => by_repo(self.repo, other.repo),
+            Ordering::Equal => self.version.rank.cmp(&other.version.rank),
         }
     }
 }
@@ -146,8 +157,8 @@ fn truth_first(one: bool, other: bool) -> Ordering
     other.cmp(&one)
 }
 
-// The order of two versions: the greater first, none last.
-fn by_version(one: &Option<Version<'_>>, other: &Option<Version<'_>>) -> Ordering
+/// The order of two versions: the greater first, none last.
+pub(crate) fn by_version(one: &Option<Version<'_>>, other: &Option<Version<'_>>) -> Ordering
     ensures { result ≡ greater_version one.now other.now }
 {
     match (one, other) {
@@ -158,8 +169,8 @@ fn by_version(one: &Option<Version<'_>>, other: &Option<Version<'_>>) -> Orderin
     }
 }
 
-// The order of two versions by their texts, none first.
-fn by_version_text(one: &Option<Version<'_>>, other: &Option<Version<'_>>) -> Ordering
+/// The order of two versions by their texts, none first.
+pub(crate) fn by_version_text(one: &Option<Version<'_>>, other: &Option<Version<'_>>) -> Ordering
     ensures { result ≡ option_cmp byte_cmp one.now other.now }
 {
     match (one, other) {

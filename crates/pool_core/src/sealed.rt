@@ -14,6 +14,8 @@ ghost use Rattle.pool_core.specs.Packages.{candidates_of_packages};
 ghost use Rattle.pool_core.specs.Rank.{candidate_at, candidate_cmp, is_at, is_eligible_at, is_kept_installed, is_pinned, is_pinned_at, is_pinned_to, rank_cmp, sealed_pool_by};
 ghost use Rattle.pool_core.specs.Ranking.{IsRankingIn};
 ghost use Rattle.pool_core.specs.Values.{candidate_value, names_upgraded_by, need_by, need_of};
+ghost use Rattle.pool_core.specs.VersionRanks.{AreReadAlike, IsReadOf};
+ghost use Rattle.pool_core.specs.declared.versions.VersionKind.TheVariants as Kinds;
 ghost use Rattle.pool_core.specs.World.{entries_of_kind, has_positive_install_if, is_entry_of_kind, places_marked};
 
 use crate::candidate::{CandId, Candidate, Details};
@@ -25,6 +27,8 @@ use crate::packages::Packages;
 use crate::pool::CandidateList;
 use crate::rank::RankedOption;
 use crate::table::Table;
+use crate::version_ranks::rank_versions;
+use crate::versions::VersionKind;
 use dep_core::{Dep, World};
 use std::alloc::{AllocError, Global};
 use std::marker::Model;
@@ -59,12 +63,14 @@ impl<'a> Model for Sealed<'a> {
     ghost coded = { Prim.hlevel (codes, plain_code) };
 
     ghost view = { λ s.
-        sealed_pool_by (candidates_of_packages s.packages) s.world.now (names_upgraded_by s.upgrade) };
+        sealed_pool_by (candidates_of_packages s.packages) s.world.now
+        (names_upgraded_by s.upgrade) };
 
     ghost invariant = { λ s. LeadsToOffers s.table (candidates_of_packages s.packages)
         × (s.eligible.items ≡ map (is_eligible s.world.now) (candidates_of_packages s.packages))
         × (s.pinned.items ≡ map (is_pinned s.world.now) (candidates_of_packages s.packages))
-        × (s.kept.items ≡ map (is_kept_installed (names_upgraded_by s.upgrade)) (candidates_of_packages s.packages))
+        × (s.kept.items ≡ map (is_kept_installed (names_upgraded_by s.upgrade))
+        (candidates_of_packages s.packages))
         × (s.install_ifs.items
         ≡ places_from 0 (has_usable_install_if s.world.now) (candidates_of_packages s.packages)) };
 }
@@ -149,7 +155,8 @@ impl<'a> Sealed<'a> {
         self.ranked(alloc, need, &ids)
     }
 
-    // The options that have these places, best first. What each is ranked by is read once.
+    // The options that have these places, best first. What each is ranked by is read once, and each
+    // text of a version is compared once for all options that share it.
     fn ranked(
         &self,
         alloc: Global,
@@ -162,7 +169,9 @@ impl<'a> Sealed<'a> {
     {
         rank_is_total();
         order_is_total();
-        let mut rankings = self.rankings(alloc, need, ids)?;
+        let mut rankings = self.rankings(alloc, need, ids, &self.packages)?;
+        rank_versions(alloc, &mut rankings, VersionKind::Under)?;
+        rank_versions(alloc, &mut rankings, VersionKind::Own)?;
         rankings.sort_by(|one, other| one.compare(other))?;
         let ids = places_of(alloc, &rankings)?;
         Ok(Options::of(ids))
@@ -174,36 +183,43 @@ impl<'a> Sealed<'a> {
         alloc: Global,
         need: &NeedRef<'_>,
         ids: &[CandId],
+        packages: &Packages<'a>,
     ) -> Result<Vec<RankedOption<'a>>, AllocError>
-        requires { ids.now
+        requires those { ids.now
             ≡ places_from 0 (may_meet self.now (need_by need.now)) self.now.candidates }
+        requires own { candidates_of_packages packages.now ≡ self.now.candidates }
         ensures each { IfOk result (λ rankings.
             All (IsRankingIn self.now (need_by need.now)) rankings.items) }
         ensures places { IfOk result (λ rankings. map (λ r. r.place) rankings.items ≡ ids.now) }
+        ensures under { IfOk result (λ rankings. AreReadAlike Kinds.Under rankings.items) }
+        ensures version { IfOk result (λ rankings. AreReadAlike Kinds.Own rankings.items) }
     {
         let mut rankings = Vec::with_capacity(alloc, ids.len())?;
         for id in ids {
-            rankings.push(self.ranking(need, *id))?;
+            rankings.push(self.ranking(need, *id, packages))?;
         }
         Ok(rankings)
     }
 
     // What a candidate is ranked by.
-    fn ranking(&self, need: &NeedRef<'_>, id: CandId) -> RankedOption<'a>
-        requires { id < length self.now.candidates }
+    fn ranking(&self, need: &NeedRef<'_>, id: CandId, packages: &Packages<'a>) -> RankedOption<'a>
+        requires within { id < length self.now.candidates }
+        requires own { candidates_of_packages packages.now ≡ self.now.candidates }
         ensures place { result.place ≡ id }
         ensures ranking { IsRankingIn self.now (need_by need.now) result }
+        ensures texts { IsReadOf packages.now.sources.items result }
     {
+        let place = id.place as usize;
         let details = self.details(id);
         RankedOption {
             pinned: self.is_pinned(id),
             untagged: details.is_untagged(),
             named: need.name() == details.name(),
             kept: self.is_kept(id),
-            under: details.version_under(need),
+            under: packages.version_under(place, need),
             priority: details.priority(),
             name: details.name(),
-            version: details.version(),
+            version: packages.version(place),
             repo: details.repo(),
             id,
         }
@@ -334,7 +350,8 @@ fn marks_by_world(
     ensures pinned { IfOk result (λ marks. marks.pinned.items
         ≡ map (is_pinned world.now) (candidates_of_packages list.now.packages)) }
     ensures install_ifs { IfOk result (λ marks. marks.install_ifs.items
-        ≡ places_from 0 (has_usable_install_if world.now) (candidates_of_packages list.now.packages)) }
+        ≡ places_from 0 (has_usable_install_if world.now)
+        (candidates_of_packages list.now.packages)) }
 {
     let conflicts = entries_of_kind(alloc, world, EntryKind::Conflict)?;
     let tagged = entries_of_kind(alloc, world, EntryKind::Tagged)?;

@@ -16,12 +16,12 @@ use Rattle.refusal_laws.specs.InputFaults.{repositories_found}
 abbrev pub HasDatabase : CommandLine → Reads → Type 0
 HasDatabase command read = (database : Database) × (database_for command read ≡ Ok database)
 
--- each of its lines could be read
+-- no line of world is bad
 abbrev pub HasWorld : Reads → Type 0
 HasWorld read =
     (world : List Dependency) × (root_world (text_found (read world_read world_name)) ≡ Ok world)
 
--- each line could be read
+-- no line of the list of repositories is bad
 abbrev pub HasRepositories : Reads → Type 0
 HasRepositories read =
     (repositories : List Repository) × (repositories_of (repositories_found read) ≡ Ok repositories)

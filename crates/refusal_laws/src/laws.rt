@@ -127,8 +127,8 @@ pub fn a_change_that_is_made_has_no_fault()
         × HasNoFault wishes (file_change inputs wishes found) files }
 {}
 
-/// Where a package that comes or goes is refused, it is the first one with a fault, in byte order of
-/// names, and it has no other.
+/// Where a package that comes or goes is refused, it is the first one with a fault, in byte order
+/// of names, and it has no other.
 pub fn a_refused_package_is_the_first_with_a_fault()
     ensures { (inputs : Inputs) (r : Replacement) (wishes : ChangeWishes) (read : Reads)
         (refusal : Refusal) → change_members inputs r wishes read ≡ Err refusal

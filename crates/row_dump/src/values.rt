@@ -220,8 +220,8 @@ impl Reader {
         }
     }
 
-    /// Adds NULLs for the fields that are left out in front of the one with this index. A field that
-    /// does not stand behind those before it makes no dump text.
+    /// Adds NULLs for the fields that are left out in front of the one with this index. A field
+    /// that does not stand behind those before it makes no dump text.
     fn skip_to(&mut self, index: usize) -> Result<(), DumpFault> {
         let Some(frame) = self.frames.last_mut() else {
             return Err(DumpFault::NoDump);

@@ -45,8 +45,8 @@ pub fn whatever_a_root_has_seen_a_run_is_safe()
         → HasSeen first events v
         → IsOrderly (RestsOn (ignored_behind ignored events)) v }
 
-    // So each clause of `apk` on crashes holds of the next run, whatever its words: with the scratch
-    // name of its output these names are such as the clauses ask for.
+    // So each clause of `apk` on crashes holds of the next run, whatever its words: with the
+    // scratch name of its output these names are such as the clauses ask for.
     ensures begins { (ignored : List ℕ → Bool) (first v : TreeState) (events : List Event)
         (words : List (List ℕ)) → ignored intent_name ≡ false → IsOrderly (RestsOn ignored) first
         → HasSeen first events v
@@ -63,8 +63,8 @@ pub fn whatever_a_root_has_seen_a_run_is_safe()
 
     // Each crash leaves one state, that of the files as read, if it did so at the start, until a
     // run that commits is stopped, or ends by a fault of the tree; and it does so again behind a
-    // crash, a change by others that is synced, a commit that was answered, or one of which the rest
-    // was found and done.
+    // crash, a change by others that is synced, a commit that was answered, or one of which the
+    // rest was found and done.
     ensures one_state { (ignored : List ℕ → Bool) (first v : TreeState) (events : List Event)
         → ignored intent_name ≡ false → IsAtRest ignored (files_of first) first
         → HasSeenToOneState first events v
@@ -120,8 +120,8 @@ pub fn a_root_that_commits_nothing_keeps_its_state()
 
 /// No file goes for a while: at each moment of a run a name has what it had before, what a recovery
 /// leaves or what an outcome gives it, and so it is along runs that follow each other without a
-/// crash. This is said of each name but the intent's and those of drafts, and asks for no file to be
-/// synced.
+/// crash. This is said of each name but the intent's and those of drafts, and asks for no file to
+/// be synced.
 pub fn each_name_keeps_old_recovered_or_new_bytes()
     // At each moment of a run.
     ensures moments { (v m : TreeState) (run : Run) (q : List ℕ) → IsRunFrom v run

@@ -12,7 +12,7 @@ power b (suc n) = b * power b n
 unfoldable pub base : ℕ
 base = 2 ^ 64 + 2
 
--- how many digits a number has
+-- how many digits a number has at most
 unfoldable pub rooms : ℕ
 rooms = 2 ^ 64
 

@@ -49,7 +49,8 @@ pub fn the_next_need_is_the_first_that_is_unmet()
 /// and which stay that were to go. The change tells this first, and in the same bytes. So it is
 /// with a command and the same command with `--simulate`, over the same reads and files.
 pub fn a_simulation_tells_what_the_change_does()
-    ensures reports { (r : Replacement) (wishes : ChangeWishes) (change : FileChange) (files : Files)
+    ensures reports { (r : Replacement) (wishes : ChangeWishes) (change : FileChange)
+        (files : Files)
         → IsForetold (simulated_report r wishes.to_go) (change_report r wishes change files) }
     ensures commands { (command : CommandLine) (read : Reads) (files : Files)
         (expected chosen : Option (List ℕ)) (other clash : Option NamePair)
@@ -81,7 +82,8 @@ pub fn a_refused_simulation_refuses_the_change()
 /// it. Just one world holds what was asked. So it is with what a change reads of a root.
 pub fn the_new_world_holds_what_was_asked()
     ensures world { (applet : Applet) (operands : List Operand) (world : List Dependency)
-        → IsWorld world → HoldsWhatWasAsked applet operands world (new_world applet operands world) }
+        → IsWorld world
+        → HoldsWhatWasAsked applet operands world (new_world applet operands world) }
     ensures read { (command : CommandLine) (read : Reads) (inputs : Inputs)
         → inputs_of command read ≡ Ok inputs → IsReadWorld command read inputs.root }
     ensures one { (applet : Applet) (operands : List Operand) (world after other : List Dependency)

@@ -11,4 +11,4 @@ loop-byte-preserved g c = any_so_far_more (g.O.Out.holds) _ _ _ _ _ _ _ (escapes
 pub returns : goal.returns
 returns g c =
     let escapes = any_so_far_all (g.O.Out.holds) _ _ _ _ (escapes_over c.args.text.now c.loop-byte.byte-index c.loop-byte-test.false) c.loop-byte.invariant in
-    any_on (g.O.Out.holds) _ _ _ _ _ (any_on (g.O.Out.holds) _ _ _ _ _ c.in_ok-put.ensures escapes) c.in_ok-put-2.ensures
+    any_on (g.O.Out.holds) _ _ _ _ _ (any_on (g.O.Out.holds) _ _ _ _ _ c.in_ok-put_byte.ensures escapes) c.in_ok-put_byte-2.ensures

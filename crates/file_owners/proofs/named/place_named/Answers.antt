@@ -1,10 +1,11 @@
 use Rattle.std.proofs.Common.{◌∙◌, ap, cond, false, sym}
 use Rattle.std.specs.Prelude.{◌==◌, bytes_eq}
-use Rattle.adb_schema.specs.Views.{dependency_value}
+use Rattle.adb_schema.specs.Views.{dependency_value, package_value}
 use Rattle.db_core.specs.Members.{member_name}
 use Rattle.db_core.specs.Seen.{members_of}
 use Rattle.file_owners.specs.Replaces.{is_named_by}
 use Rattle.file_owners.proofs.NamedPlaces.{found_is, none_found}
+use Rattle.file_owners.proofs.SoundMembers.{version_sound}
 use Rattle.file_owners.proofs.named.place_named.Goals as goal
 
 pub returns-in-None : goal.returns-in-None
@@ -24,3 +25,8 @@ returns-then-is_named_by c = λ y m g.
     ∙ found_is (dependency_value c.args.entry.now) (members_of c.args.members.now) c.in-Some.place c.is_named_by.result
     (λ i m h. c.in-Some.ensures.found i m h ∙ ap (bytes_eq (member_name m)) c.name.ensures)
     (λ m h. c.is_named_by.ensures ∙ ap (is_named_by (dependency_value c.args.entry.now)) (c.view.ensures m h)) y m g)
+
+pub is_named_by-requires-clause-version : goal.is_named_by-requires-clause-version
+is_named_by-requires-clause-version c =
+    version_sound (members_of c.args.members.now) c.in-Some.place (package_value c.view.result.now)
+    c.in-Some.ensures.within c.view.ensures c.packages_are_sound.ensures

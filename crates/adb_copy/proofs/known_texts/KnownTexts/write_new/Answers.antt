@@ -4,8 +4,12 @@ use Rattle.adb_view.specs.Plain.{blob_value}
 use Rattle.adb_tables.specs.Values.{text_in, value_at}
 use Rattle.adb_tables.specs.declared.tables.Kind.TheVariants as Kinds
 use Rattle.adb_values.specs.Words.{HasBlob}
+use Rattle.adb_values.proofs.Lists.{on_ok}
 use Rattle.adb_copy.proofs.Known.{known_inserted, known_more}
 use Rattle.adb_copy.proofs.known_texts.KnownTexts.write_new.Goals as goal
+
+pub keep-requires : goal.keep-requires
+keep-requires c = c.requires.known.periodic
 
 pub returns-clause-known : goal.returns-clause-known
 returns-clause-known c =
@@ -16,5 +20,8 @@ returns-clause-known c =
     subst (λ (w : ℕ). HasBlob d (text_in (value_at p Kinds.Text w)) c.word-2.result) (sym c.word.ensures)
     (subst (λ (bytes : List ℕ). HasBlob d bytes c.word-2.result) c.text_word.ensures
     (subst (λ (w : ℕ). HasBlob d c.text_word.result.now w) (sym c.word-2.ensures) c.in_ok-known.ensures.word)) in
-    known_inserted p texts.words c.insert.new.self c.word.result c.word-2.result d
-    (known_more p texts c.args.draft.now d c.requires.known (blob_value c.text_word.result.now) c.in_ok-known.ensures.ok) c.in_ok-insert.ensures.updates.0 has
+    on_ok _ _ (λ kept. record {
+      known = known_inserted p texts.words c.insert.new.self c.word.result c.word-2.result d
+          (known_more p texts c.args.draft.now d c.requires.known (blob_value c.text_word.result.now) c.in_ok-known.ensures.ok).known c.in_ok-insert.ensures.updates.0 has;
+      periodic = kept;
+    }) c.keep.result c.keep.ensures

@@ -5,16 +5,17 @@ use Rattle.std.proofs.lemmas.List.Elements.{All-push}
 use Rattle.pool_core.specs.Options.{IsMember, may_meet}
 use Rattle.pool_core.specs.Ranking.{IsRankingIn, Ranking}
 use Rattle.pool_core.specs.Values.{need_by}
+use Rattle.pool_core.specs.VersionRanks.{IsReadOf, text_at}
 use Rattle.pool_core.proofs.OfferLists.{places_below}
 use Rattle.pool_core.proofs.RankedOptions.{place_of}
 use Rattle.pool_core.proofs.Steps.{member_at}
 use Rattle.pool_core.proofs.sealed.Sealed.rankings.Goals as goal
 
-pub ranking-requires : goal.ranking-requires
-ranking-requires c =
+pub ranking-requires-clause-within : goal.ranking-requires-clause-within
+ranking-requires-clause-within c =
     let pool = c.args.self.now in
     let there = member_at c.args.ids.now c.loop-id.id-index c.id-item.result (omega arith) c.id-item.is in
-    let below = places_below 0 (may_meet pool (need_by c.args.need.now)) pool.candidates c.id-item.result (subst (λ (z : List ℕ). IsMember c.id-item.result z) c.requires there) in
+    let below = places_below 0 (may_meet pool (need_by c.args.need.now)) pool.candidates c.id-item.result (subst (λ (z : List ℕ). IsMember c.id-item.result z) c.requires.those there) in
     omega (arith, below)
 
 pub loop-id-preserved : goal.loop-id-preserved
@@ -24,10 +25,18 @@ loop-id-preserved c =
     let ids : List ℕ = c.args.ids.now in
     let more : take (i + 1) ids ≡ take i ids ++ c.id-item.result ∷ [] = take_more ids i c.id-item.result (omega arith) ∙ ap (λ (k : ℕ). take i ids ++ k ∷ []) (sym c.id-item.is) in
     let P = IsRankingIn c.args.self.now (need_by c.args.need.now) in
+    let Q = IsReadOf c.args.packages.now.sources.items in
     record {
       each = subst (λ (rs : List Ranking). All P rs) (sym c.in_ok-push.ensures.items) (All-push P rankings c.ranking.result c.loop-id.invariant.each c.ranking.ensures.ranking);
       places = ap (map place_of) c.in_ok-push.ensures.items
           ∙ (map-append place_of rankings (c.ranking.result ∷ [])
           ∙ (ap (λ (z : List ℕ). z ++ c.ranking.result.place ∷ []) c.loop-id.invariant.places
           ∙ (ap (λ (k : ℕ). take i ids ++ k ∷ []) c.ranking.ensures.place ∙ sym more)));
+      texts = subst (λ (rs : List Ranking). All Q rs) (sym c.in_ok-push.ensures.items) (All-push Q rankings c.ranking.result c.loop-id.invariant.texts c.ranking.ensures.texts);
     }
+
+pub returns-clause-under : goal.returns-clause-under
+returns-clause-under c = (text_at c.args.packages.now.sources.items, λ i d h. (c.loop-id.invariant.texts i d h).0)
+
+pub returns-clause-version : goal.returns-clause-version
+returns-clause-version c = (text_at c.args.packages.now.sources.items, λ i d h. (c.loop-id.invariant.texts i d h).1)

@@ -1,6 +1,7 @@
 use Rattle.std.proofs.Common.{◌≡◌, All, map, take}
 use Rattle.pool_core.specs.Ranking.{IsRankingIn}
 use Rattle.pool_core.specs.Values.{need_by}
+use Rattle.pool_core.specs.VersionRanks.{IsReadOf}
 use Rattle.pool_core.proofs.RankedOptions.{place_of}
 use Rattle.pool_core.proofs.sealed.Sealed.rankings.Given as goal
 
@@ -8,4 +9,5 @@ abbrev pub invariant-loop-id : goal.invariant-loop-id
 invariant-loop-id l = record {
   each : All (IsRankingIn l.self (need_by l.need)) l.rankings.items;
   places : map place_of l.rankings.items ≡ take l.id-index l.ids;
+  texts : All (IsReadOf l.packages.sources.items) l.rankings.items;
 }

@@ -1,0 +1,256 @@
+//! Long texts of a payload that overlap. Where equal texts overlap, their bytes have a period; which
+//! bytes were tested to have one is kept, so that of the texts there that are equal few are looked
+//! at.
+
+ghost use Rattle.std.specs.Prelude.{◌≡◌, ◌≤◌, ◌+◌, [], All, length, take, drop, IfSome, OnOk};
+ghost use Rattle.std.specs.Bool.{OnTrue};
+ghost use Rattle.adb_copy.specs.Known.{HasPeriod, AreEqualUnder, IsPhaseOf};
+ghost use Rattle.adb_tables.specs.Values.{text_in, value_at};
+ghost use Rattle.adb_tables.specs.declared.tables.Kind.TheVariants as Kinds;
+ghost use Rattle.adb_view.specs.Adb.{payload_of};
+
+use adb_view::{Adb, Val};
+use std::alloc::{AllocError, Global};
+use std::collections::BTreeMap;
+
+/// Equal texts show a period where they begin within this part of their length.
+const PART: usize = 4;
+
+/// Where a text stands in its payload.
+#[derive(Clone, Copy)]
+pub(crate) struct TextPlace {
+    pub from: usize,
+    pub len: usize,
+}
+
+impl TextPlace {
+    /// The stretch of the payload in which it begins. Equal texts of one stretch show a period.
+    fn stretch(self) -> usize {
+        self.from / (self.len / PART + 1)
+    }
+}
+
+/// Bytes of a payload, each of which is the one that stands a period before it.
+#[derive(Clone, Copy)]
+pub(crate) struct PeriodicRange {
+    pub from: usize,
+    pub end: usize,
+    pub period: usize,
+}
+
+impl PeriodicRange {
+    /// How far behind the beginning of a period a text of the range begins.
+    fn phase_of(self, text: TextPlace) -> Option<usize>
+        ensures { IfSome result (IsPhaseOf self text) }
+    {
+        if text.from < self.from || text.len > self.end || text.from > self.end - text.len {
+            return None;
+        }
+        (text.from - self.from).checked_rem(self.period)
+    }
+
+    /// Whether it shows that two texts are equal.
+    fn shows_equal(self, left: TextPlace, right: TextPlace) -> bool
+        ensures { OnTrue result (AreEqualUnder self left right) }
+    {
+        match (self.phase_of(left), self.phase_of(right)) {
+            (Some(phase), Some(other)) => phase == other && left.len == right.len,
+            _ => false,
+        }
+    }
+}
+
+/// Ranges of a payload that have a period, and the texts by which they were found. All but the
+/// ranges are guesses, which are tested where they are used.
+#[derive(Drop)]
+pub struct Overlaps {
+    ranges: Vec<PeriodicRange>,
+    /// The last range that was found around a text, by the text's length and stretch.
+    latest: BTreeMap<(usize, usize), usize>,
+    /// The word of a text by its range and its phase there.
+    words: BTreeMap<(usize, usize), u32>,
+    /// Where a text begins, by the word that it has in the draft and by its stretch.
+    places: BTreeMap<(u32, usize), usize>,
+}
+
+impl Overlaps {
+    /// Nothing is known.
+    pub(crate) fn new(alloc: Global) -> Overlaps
+        ensures { result.ranges.items ≡ [] }
+    {
+        Overlaps {
+            ranges: Vec::new(alloc),
+            latest: BTreeMap::new(alloc),
+            words: BTreeMap::new(alloc),
+            places: BTreeMap::new(alloc),
+        }
+    }
+
+    /// The word of a text that was kept and equals the text of this word, if a range shows that.
+    pub(crate) fn equal_word(&self, adb: Adb<'_>, word: Val) -> Option<u32>
+        requires { All (HasPeriod (payload_of adb)) self.now.ranges.items }
+        ensures { IfSome result (λ kept. text_in (value_at (payload_of adb.entry) Kinds.Text kept)
+            ≡ text_in (value_at (payload_of adb.entry) Kinds.Text word)) }
+    {
+        let text = text_place(adb, word)?;
+        let index = self.index_around(text)?;
+        let range = *self.ranges.get(index)?;
+        let kept = *self.words.get(&(index, range.phase_of(text)?))?;
+        let same = range.shows_equal(text_place(adb, Val::of(kept))?, text);
+        if same { Some(kept) } else { None }
+    }
+
+    /// Keeps a text that was not known, by its word and the word that it has in a draft, which is
+    /// NULL where the draft passed a limit.
+    pub(crate) fn keep(&mut self, adb: Adb<'_>, word: Val, known: Val) -> Result<(), AllocError>
+        requires { All (HasPeriod (payload_of adb)) self.old.ranges.items }
+        ensures { OnOk result (All (HasPeriod (payload_of adb.entry)) self.new.ranges.items) }
+    {
+        let Some(text) = text_place(adb, word) else {
+            return Ok(());
+        };
+        if known.is_null() {
+            return Ok(());
+        }
+        let place = (known.word(), text.stretch());
+        if let Some(from) = self.places.insert(place, text.from)? {
+            self.keep_range(adb, text, text.from.abs_diff(from))?;
+        }
+        self.keep_word(text, word)
+    }
+
+    /// Keeps the range around a text that has a period, where an equal text begins at this
+    /// distance from it.
+    fn keep_range(
+        &mut self,
+        adb: Adb<'_>,
+        text: TextPlace,
+        distance: usize,
+    ) -> Result<(), AllocError>
+        requires within { text.from + text.len ≤ length (payload_of adb) }
+        requires ranges { All (HasPeriod (payload_of adb)) self.old.ranges.items }
+        ensures { OnOk result (All (HasPeriod (payload_of adb.entry)) self.new.ranges.items) }
+    {
+        if self.is_some_periods(text, distance) {
+            return Ok(());
+        }
+        let period = match self.range_around(text) {
+            Some(range) => common_divisor(range.period, distance),
+            None => distance,
+        };
+        let Some(range) = periodic_range(adb.payload(), text, period) else {
+            return Ok(());
+        };
+        self.latest
+            .insert((text.len, text.stretch()), self.ranges.len())?;
+        self.ranges.push(range)?;
+        Ok(())
+    }
+
+    /// Whether a distance is some periods of the range that is known around a text.
+    fn is_some_periods(&self, text: TextPlace, distance: usize) -> bool {
+        match self.range_around(text) {
+            Some(range) => {
+                range.phase_of(text).is_some() && distance.checked_rem(range.period) == Some(0)
+            }
+            None => false,
+        }
+    }
+
+    /// Keeps the word of a text by its phase, if a range around it is known.
+    fn keep_word(&mut self, text: TextPlace, word: Val) -> Result<(), AllocError>
+        ensures { self.new.ranges.items ≡ self.old.ranges.items }
+    {
+        let (Some(index), Some(range)) = (self.index_around(text), self.range_around(text)) else {
+            return Ok(());
+        };
+        if let Some(phase) = range.phase_of(text) {
+            self.words.insert((index, phase), word.word())?;
+        }
+        Ok(())
+    }
+
+    /// The range that was found last around a text of this length in this stretch.
+    fn range_around(&self, text: TextPlace) -> Option<PeriodicRange> {
+        self.ranges.get(self.index_around(text)?).copied()
+    }
+
+    /// Its index.
+    fn index_around(&self, text: TextPlace) -> Option<usize> {
+        self.latest.get(&(text.len, text.stretch())).copied()
+    }
+}
+
+/// Where the text of a word stands.
+fn text_place(adb: Adb<'_>, word: Val) -> Option<TextPlace>
+    ensures text { IfSome result (λ text. text_in (value_at (payload_of adb.entry) Kinds.Text word)
+        ≡ take text.len (drop text.from (payload_of adb.entry))) }
+    ensures within { IfSome result (λ text. text.from + text.len ≤ length (payload_of adb.entry)) }
+{
+    match adb.blob_range(word) {
+        Ok((from, end)) => Some(TextPlace {
+            from,
+            len: end - from,
+        }),
+        Err(_) => None,
+    }
+}
+
+/// The bytes around a text that have a period, if those of the text have it.
+fn periodic_range(bytes: &[u8], text: TextPlace, period: usize) -> Option<PeriodicRange>
+    requires { text.from + text.len ≤ length bytes.now }
+    ensures { IfSome result (HasPeriod bytes.now) }
+{
+    if period == 0 || period > text.len {
+        return None;
+    }
+    let from = first_in_period(bytes, text, period);
+    let end = end_of_period(bytes, text, period);
+    if bytes[from + period..end] != bytes[from..end - period] {
+        return None;
+    }
+    Some(PeriodicRange { from, end, period })
+}
+
+/// The offset from which on the bytes in front of a text go on with its period, as far as texts of
+/// its stretch may begin.
+fn first_in_period(bytes: &[u8], text: TextPlace, period: usize) -> usize
+    requires within { text.from + text.len ≤ length bytes.now }
+    requires period { period ≤ text.len }
+    ensures { result ≤ text.from }
+{
+    let least = text.from.saturating_sub(text.len / PART);
+    let mut from = text.from;
+    while from > least && bytes[from - 1] == bytes[from - 1 + period] {
+        from -= 1;
+    }
+    from
+}
+
+/// The offset up to which the bytes behind a text go on with its period, as far as texts of its
+/// stretch may reach.
+fn end_of_period(bytes: &[u8], text: TextPlace, period: usize) -> usize
+    requires within { text.from + text.len ≤ length bytes.now }
+    requires period { period ≤ text.len }
+    ensures behind { text.from + text.len ≤ result }
+    ensures within { result ≤ length bytes.now }
+{
+    let mut end = text.from + text.len;
+    let most = bytes.len().min(end.saturating_add(text.len / PART));
+    while end < most && bytes[end] == bytes[end - period] {
+        end += 1;
+    }
+    end
+}
+
+/// The greatest number that divides both.
+fn common_divisor(left: usize, right: usize) -> usize {
+    let mut divided = left;
+    let mut divisor = right;
+    while divisor > 0 {
+        let rest = divided % divisor;
+        divided = divisor;
+        divisor = rest;
+    }
+    divided
+}

@@ -1,0 +1,134 @@
+//! The ranks of the versions of options. Each text of a version is compared with others once for
+//! all the packages that share it, so that options are sorted by numbers.
+ghost use Rattle.std.specs.Prelude.{◌≡◌, ◌<◌, ◌-◌, true, All, OnOk, IfOk, Some, length, map, slice_get};
+ghost use Rattle.std.specs.List.Sorted.{IsSorted};
+ghost use Rattle.pool_core.specs.Ranking.{Ranking};
+ghost use Rattle.pool_core.specs.VersionRanks.{AreRankedFrom, AreReadAlike, HaveSamePlace, IsListed, rank_among, version_of, version_order, with_rank_among};
+
+use crate::rank::{RankedOption, by_version, by_version_text};
+use crate::versions::{RankedVersion, VersionKind};
+use std::alloc::{AllocError, Global};
+use std::cmp::Ordering;
+use version_core::{Version, order_is_total};
+
+/// Ranks one version of each option among those of all, and may put the options into another order.
+/// It takes time in proportion to k log k in the k options, and compares each text that they read
+/// with log n others of the n texts.
+pub(crate) fn rank_versions<'a>(
+    alloc: Global,
+    options: &mut Vec<RankedOption<'a>>,
+    kind: VersionKind,
+) -> Result<(), AllocError>
+    requires { AreReadAlike kind options.old.items }
+    ensures { OnOk result (AreRankedFrom kind options.old.items options.new.items) }
+{
+    order_is_total();
+    options.sort_by(|one, other| by_place(one.version_of(kind), other.version_of(kind)))?;
+    let mut versions = distinct_versions(alloc, options, kind)?;
+    versions.sort_by(|one, other| compare_versions(kind, one, other))?;
+    set_ranks(options, kind, &versions);
+    Ok(())
+}
+
+// The order of two versions by the places of their texts.
+fn by_place(one: &RankedVersion<'_>, other: &RankedVersion<'_>) -> Ordering {
+    one.source
+        .cmp(&other.source)
+        .then(one.word.cmp(&other.word))
+}
+
+// The versions of options, each once where options that read one text stand together.
+fn distinct_versions<'a>(
+    alloc: Global,
+    options: &[RankedOption<'a>],
+    kind: VersionKind,
+) -> Result<Vec<Option<Version<'a>>>, AllocError>
+    requires { AreReadAlike kind options.now }
+    ensures { IfOk result (λ versions. All (IsListed kind versions.items) options.now) }
+{
+    let mut versions = Vec::new(alloc);
+    for i in 0..options.len() {
+        if !reads_the_text_before(options, i, kind) {
+            versions.push(same_version(&options[i].version_of(kind).version))?;
+        }
+    }
+    Ok(versions)
+}
+
+fn same_version<'a>(version: &Option<Version<'a>>) -> Option<Version<'a>>
+    ensures { result ≡ version.entry.now }
+{
+    match version {
+        Some(version) => Some(Version::of(version.text())),
+        None => None,
+    }
+}
+
+// Whether the version of an option is read from the same text as that of the option before it.
+fn reads_the_text_before(options: &[RankedOption<'_>], i: usize, kind: VersionKind) -> bool
+    requires { i < length options.now }
+    ensures first { result ≡ true → 0 < i }
+    ensures same { result ≡ true → (one other : Ranking) → slice_get options.now (i - 1) ≡ Some one
+        → slice_get options.now i ≡ Some other
+        → HaveSamePlace (version_of kind one) (version_of kind other) }
+{
+    if i == 0 {
+        return false;
+    }
+    is_same_place(options[i - 1].version_of(kind), options[i].version_of(kind))
+}
+
+fn is_same_place(one: &RankedVersion<'_>, other: &RankedVersion<'_>) -> bool
+    ensures { result ≡ true → HaveSamePlace one.now other.now }
+{
+    one.version.is_some() == other.version.is_some()
+        && one.source == other.source
+        && one.word == other.word
+}
+
+// Gives each option the rank of its version among some.
+fn set_ranks<'a>(
+    options: &mut Vec<RankedOption<'a>>,
+    kind: VersionKind,
+    versions: &[Option<Version<'_>>],
+)
+    requires alike { AreReadAlike kind options.old.items }
+    requires sorted { IsSorted (version_order kind) versions.now }
+    ensures { options.new.items ≡ map (with_rank_among kind versions.now) options.old.items }
+{
+    for i in 0..options.len() {
+        let rank = if reads_the_text_before(options, i, kind) {
+            options[i - 1].version_of(kind).rank
+        } else {
+            rank_among(kind, versions, &options[i].version_of(kind).version)
+        };
+        options[i].set_rank(kind, rank);
+    }
+}
+
+// How many of some versions come before one.
+fn rank_among(
+    kind: VersionKind,
+    versions: &[Option<Version<'_>>],
+    version: &Option<Version<'_>>,
+) -> usize
+    requires { IsSorted (version_order kind) versions.now }
+    ensures { result ≡ rank_among kind versions.now version.now }
+{
+    order_is_total();
+    versions.partition_point(|one| compare_versions(kind, one, version).is_lt())
+}
+
+// The order of two versions of a kind.
+fn compare_versions(
+    kind: VersionKind,
+    one: &Option<Version<'_>>,
+    other: &Option<Version<'_>>,
+) -> Ordering
+    ensures { result ≡ version_order kind one.now other.now }
+{
+    match kind {
+        VersionKind::Under => by_version(one, other),
+        VersionKind::Own => by_version(one, other).then(by_version_text(one, other)),
+    }
+}
