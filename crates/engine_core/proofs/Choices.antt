@@ -1,7 +1,7 @@
 -- There is one choice.
 use Rattle.std.proofs.Common.{◌≡◌, inl, inr, ℕ, ◌+◌, List, Option, Some, None, Result, Ok, Err, refl, sym, ap, subst, ◌∙◌, arith}
 use Rattle.pool_core.specs.Candidates.{Need, is_eligible}
-use Rattle.pool_core.specs.Options.{IsMember, places_from}
+use Rattle.pool_core.specs.Options.{IsIn, places_from}
 use Rattle.pool_core.specs.Rank.{SealedPool}
 use Rattle.pool_core.proofs.OptionLists.{in_places}
 use Rattle.report_core.specs.declared.refusal.Refusal.{Refusal}
@@ -21,7 +21,7 @@ pool_choice : HaveOptions → (pool : SealedPool) → (chosen : Option (List ℕ
 pool_choice has pool =
     let facts = pool_facts pool (has pool) in
     let all = places_from 0 (is_eligible pool.world) pool.candidates in
-    elim (first_or_none pool facts all (λ c h. let z : 0 + c ≡ c = omega arith in subst (λ (k : ℕ). IsMember k all) z (in_places 0 (is_eligible pool.world) pool.candidates c h))) [
+    elim (first_or_none pool facts all (λ c h. let z : 0 + c ≡ c = omega arith in subst (λ (k : ℕ). IsIn k all) z (in_places 0 (is_eligible pool.world) pool.candidates c h))) [
       | inl found ↦ (
         Some found.0,
         record {

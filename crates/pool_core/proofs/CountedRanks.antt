@@ -8,7 +8,7 @@ use Rattle.std.specs.declared.cmp.Ordering.{Ordering}
 use Rattle.std.specs.declared.cmp.Ordering.TheVariants.{Less, Equal, Greater}
 use Rattle.std.proofs.lemmas.Bool.Decides.{nat_tests}
 use Rattle.std.proofs.lemmas.List.Sorted.{ranks_by, sorted_far}
-use Rattle.pool_core.specs.Options.{IsMember}
+use Rattle.pool_core.specs.Options.{IsIn}
 use Rattle.pool_core.proofs.OptionLists.{bool_cases}
 
 lt_less : (r : Ordering) → is_lt r ≡ true → r ≡ Less
@@ -54,7 +54,7 @@ module _ {X : Type 0} (cmp : X → X → Ordering) (total : IsTotalOrder cmp) wh
           ]
         ]
 
-    below : (xs : List X) → IsMember a xs → count xs a < count xs b
+    below : (xs : List X) → IsIn a xs → count xs a < count xs b
     below [] m = absurd m
     below (x ∷ xs) (inl s) =
         let rest = at_most xs in
@@ -71,7 +71,7 @@ module _ {X : Type 0} (cmp : X → X → Ordering) (total : IsTotalOrder cmp) wh
           ]
         ]
 
-  pub counts_order : (xs : List X) (a b : X) → IsMember a xs → IsMember b xs → nat_cmp (count xs a) (count xs b) ≡ cmp a b
+  pub counts_order : (xs : List X) (a b : X) → IsIn a xs → IsIn b xs → nat_cmp (count xs a) (count xs b) ≡ cmp a b
   counts_order xs a b m n = by (cmp a b) refl
     where
       by : (o : Ordering) → o ≡ cmp a b → nat_cmp (count xs a) (count xs b) ≡ cmp a b

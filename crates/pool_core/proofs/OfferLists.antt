@@ -4,7 +4,7 @@ use Rattle.std.specs.Prelude.{slice_get, if◌then◌else◌}
 use Rattle.std.specs.Option.{option_map_or}
 use Rattle.pool_core.specs.Candidates.{Candidate, offers_name}
 use Rattle.pool_core.specs.Rank.{SealedPool, is_at}
-use Rattle.pool_core.specs.Options.{IsMember, AreRising, places_from, places_offering}
+use Rattle.pool_core.specs.Options.{IsIn, AreRising, places_from, places_offering}
 use Rattle.pool_core.proofs.OptionLists.{bool_cases, in_places, places_above, places_in}
 
 below_length : (test : Candidate → Bool) (cs : List Candidate) (k : ℕ) → option_map_or test (slice_get cs k) false ≡ true → k < length cs
@@ -13,17 +13,17 @@ below_length test [] (suc k) h = absurd (cc)
 below_length test (c ∷ cs) zero h = omega arith
 below_length test (c ∷ cs) (suc k) h = let r = below_length test cs k h in omega arith
 
-pub offers_those : (pool : SealedPool) (name : List ℕ) (c : ℕ) → IsMember c (places_offering name pool.candidates) → (is_at pool (offers_name name) c ≡ true) × (c < length pool.candidates)
+pub offers_those : (pool : SealedPool) (name : List ℕ) (c : ℕ) → IsIn c (places_offering name pool.candidates) → (is_at pool (offers_name name) c ≡ true) × (c < length pool.candidates)
 offers_those pool name c h =
     let r = places_in 0 (offers_name name) pool.candidates c h in
     let z : r.0 ≡ c = omega (arith, r.1) in
     let is : is_at pool (offers_name name) c ≡ true = subst (λ (k : ℕ). is_at pool (offers_name name) k ≡ true) z r.2 in
     (is, below_length (offers_name name) pool.candidates c is)
 
-pub offers_each : (pool : SealedPool) (name : List ℕ) (c : ℕ) → is_at pool (offers_name name) c ≡ true → IsMember c (places_offering name pool.candidates)
+pub offers_each : (pool : SealedPool) (name : List ℕ) (c : ℕ) → is_at pool (offers_name name) c ≡ true → IsIn c (places_offering name pool.candidates)
 offers_each pool name c h =
     let z : 0 + c ≡ c = omega arith in
-    subst (λ (k : ℕ). IsMember k (places_offering name pool.candidates)) z (in_places 0 (offers_name name) pool.candidates c h)
+    subst (λ (k : ℕ). IsIn k (places_offering name pool.candidates)) z (in_places 0 (offers_name name) pool.candidates c h)
 
 pub places_rising : (n : ℕ) (test : Candidate → Bool) (cs : List Candidate) → AreRising (places_from n test cs)
 places_rising n test [] = tt
@@ -49,7 +49,7 @@ places_more n test (c ∷ cs) d =
       | inr e ↦ rw e rest
     ]
 
-pub places_below : (n : ℕ) (test : Candidate → Bool) (cs : List Candidate) (o : ℕ) → IsMember o (places_from n test cs) → o < n + length cs
+pub places_below : (n : ℕ) (test : Candidate → Bool) (cs : List Candidate) (o : ℕ) → IsIn o (places_from n test cs) → o < n + length cs
 places_below n test cs o h =
     let r = places_in n test cs o h in
     let b = below_length test cs r.0 r.2 in

@@ -8,7 +8,7 @@ use Rattle.std.specs.declared.cmp.Ordering.{Ordering}
 use Rattle.std.specs.declared.cmp.Ordering.TheVariants.{Less, Equal, Greater}
 use Rattle.pool_core.specs.Candidates.{Candidate, Need, is_eligible, meets_need}
 use Rattle.pool_core.specs.Rank.{SealedPool, candidate_at, candidate_cmp, is_better, is_eligible_at, meets_at, rank_cmp}
-use Rattle.pool_core.specs.Options.{AreDistinct, IsMember, IsBestFirst, may_meet, options_for, places_from, insert_by_rank, rank_order_of}
+use Rattle.pool_core.specs.Options.{AreDistinct, IsIn, IsBestFirst, may_meet, options_for, places_from, insert_by_rank, rank_order_of}
 
 pub bool_cases : (b : Bool) → (b ≡ true) ⊎ (b ≡ false)
 bool_cases true = inl refl
@@ -16,7 +16,7 @@ bool_cases false = inr refl
 
 -- ---- what is put among ranked ones
 
-put_in : (better : ℕ → ℕ → Bool) (c o : ℕ) (ds : List ℕ) → IsMember o (insert_by_rank better c ds) → IsMember o (c ∷ ds)
+put_in : (better : ℕ → ℕ → Bool) (c o : ℕ) (ds : List ℕ) → IsIn o (insert_by_rank better c ds) → IsIn o (c ∷ ds)
 put_in better c o [] h = h
 put_in better c o (d ∷ ds) h = elim (bool_cases (better c d)) [
   | inl e ↦ rw e at h
@@ -26,7 +26,7 @@ put_in better c o (d ∷ ds) h = elim (bool_cases (better c d)) [
   ]
 ]
 
-in_put : (better : ℕ → ℕ → Bool) (c o : ℕ) (ds : List ℕ) → IsMember o (c ∷ ds) → IsMember o (insert_by_rank better c ds)
+in_put : (better : ℕ → ℕ → Bool) (c o : ℕ) (ds : List ℕ) → IsIn o (c ∷ ds) → IsIn o (insert_by_rank better c ds)
 in_put better c o [] h = h
 in_put better c o (d ∷ ds) h = elim (bool_cases (better c d)) [
   | inl e ↦ rw e h
@@ -36,16 +36,16 @@ in_put better c o (d ∷ ds) h = elim (bool_cases (better c d)) [
   ])
 ]
 
-pub ranked_in : (better : ℕ → ℕ → Bool) (o : ℕ) (cs : List ℕ) → IsMember o (rank_order_of better cs) → IsMember o cs
+pub ranked_in : (better : ℕ → ℕ → Bool) (o : ℕ) (cs : List ℕ) → IsIn o (rank_order_of better cs) → IsIn o cs
 ranked_in better o [] h = h
 ranked_in better o (c ∷ cs) h = elim (put_in better c o (rank_order_of better cs) h) [ inl q ↦ inl q | inr r ↦ inr (ranked_in better o cs r) ]
 
-pub in_ranked : (better : ℕ → ℕ → Bool) (o : ℕ) (cs : List ℕ) → IsMember o cs → IsMember o (rank_order_of better cs)
+pub in_ranked : (better : ℕ → ℕ → Bool) (o : ℕ) (cs : List ℕ) → IsIn o cs → IsIn o (rank_order_of better cs)
 in_ranked better o [] h = h
 in_ranked better o (c ∷ cs) h = in_put better c o (rank_order_of better cs) (elim h [ inl q ↦ inl q | inr r ↦ inr (in_ranked better o cs r) ])
 
 module _ (better : ℕ → ℕ → Bool) (chain : (a b c : ℕ) → better a b ≡ true → better b c ≡ true → better a c ≡ true) (one_of : (a b : ℕ) → (a ≡ b → ⊥) → (better a b ≡ true) ⊎ (better b a ≡ true)) where
-  put_keeps : (c : ℕ) (ds : List ℕ) → (IsMember c ds → ⊥) → IsBestFirst better ds → IsBestFirst better (insert_by_rank better c ds)
+  put_keeps : (c : ℕ) (ds : List ℕ) → (IsIn c ds → ⊥) → IsBestFirst better ds → IsBestFirst better (insert_by_rank better c ds)
   put_keeps c [] out r = ((λ d h. absurd h), tt)
   put_keeps c (d ∷ ds) out r = elim (bool_cases (better c d)) [
     | inl e ↦ rw e ((λ o h. elim h [ inl q ↦ subst (λ (z : ℕ). better c z ≡ true) (sym q) e | inr k ↦ chain c d o e (r.0 o k) ]), r)
@@ -60,7 +60,7 @@ module _ (better : ℕ → ℕ → Bool) (chain : (a b c : ℕ) → better a b �
 
 -- ---- places
 
-pub places_above : (n : ℕ) (test : Candidate → Bool) (cs : List Candidate) (o : ℕ) → IsMember o (places_from n test cs) → n ≤ o
+pub places_above : (n : ℕ) (test : Candidate → Bool) (cs : List Candidate) (o : ℕ) → IsIn o (places_from n test cs) → n ≤ o
 places_above n test [] o h = absurd h
 places_above n test (c ∷ cs) o h = elim (bool_cases (test c)) [
   | inl e ↦ elim (rw e at h) [ inl q ↦ omega arith | inr k ↦ let r = places_above (suc n) test cs o k in omega arith ]
@@ -74,20 +74,20 @@ places_apart n test (c ∷ cs) = elim (bool_cases (test c)) [
   | inr e ↦ rw e (places_apart (suc n) test cs)
 ]
 
-pub in_places : (n : ℕ) (test : Candidate → Bool) (cs : List Candidate) (k : ℕ) → option_map_or test (slice_get cs k) false ≡ true → IsMember (n + k) (places_from n test cs)
+pub in_places : (n : ℕ) (test : Candidate → Bool) (cs : List Candidate) (k : ℕ) → option_map_or test (slice_get cs k) false ≡ true → IsIn (n + k) (places_from n test cs)
 in_places n test [] zero h = absurd (cc)
 in_places n test [] (suc k) h = absurd (cc)
 in_places n test (c ∷ cs) zero h =
     let z : n + 0 ≡ n = omega arith in
-    subst (λ (o : ℕ). IsMember o (places_from n test (c ∷ cs))) (sym z) (rw h (inl refl))
+    subst (λ (o : ℕ). IsIn o (places_from n test (c ∷ cs))) (sym z) (rw h (inl refl))
 in_places n test (c ∷ cs) (suc k) h =
     let z : n + suc k ≡ suc n + k = omega arith in
-    subst (λ (o : ℕ). IsMember o (places_from n test (c ∷ cs))) (sym z) (elim (bool_cases (test c)) [
+    subst (λ (o : ℕ). IsIn o (places_from n test (c ∷ cs))) (sym z) (elim (bool_cases (test c)) [
       | inl e ↦ rw e (inr (in_places (suc n) test cs k h))
       | inr e ↦ rw e (in_places (suc n) test cs k h)
     ])
 
-pub places_in : (n : ℕ) (test : Candidate → Bool) (cs : List Candidate) (o : ℕ) → IsMember o (places_from n test cs) → (k : ℕ) × (o ≡ n + k) × (option_map_or test (slice_get cs k) false ≡ true)
+pub places_in : (n : ℕ) (test : Candidate → Bool) (cs : List Candidate) (o : ℕ) → IsIn o (places_from n test cs) → (k : ℕ) × (o ≡ n + k) × (option_map_or test (slice_get cs k) false ≡ true)
 places_in n test [] o h = absurd h
 places_in n test (c ∷ cs) o h = elim (bool_cases (test c)) [
   | inl e ↦ elim (rw e at h) [
@@ -145,7 +145,7 @@ module _ (pool : SealedPool) (need : Need) (total : IsTotalOrder (rank_cmp pool 
       let places = places_from 0 (may_meet pool need) pool.candidates in
       ranked_keeps (is_better pool need) chain one_of places (places_apart 0 (may_meet pool need) pool.candidates)
 
-pub options_those : (pool : SealedPool) (need : Need) (c : ℕ) → IsMember c (options_for pool need) → (is_eligible_at pool c ≡ true) × (meets_at pool c need ≡ true)
+pub options_those : (pool : SealedPool) (need : Need) (c : ℕ) → IsIn c (options_for pool need) → (is_eligible_at pool c ≡ true) × (meets_at pool c need ≡ true)
 unfolding options_for
 options_those pool need c h =
     let places = places_from 0 (may_meet pool need) pool.candidates in
@@ -153,9 +153,9 @@ options_those pool need c h =
     let z : r.0 ≡ c = omega (arith, r.1) in
     both_at (is_eligible pool.world) (meets_need need) (slice_get pool.candidates c) (subst (λ (k : ℕ). option_map_or (may_meet pool need) (slice_get pool.candidates k) false ≡ true) z r.2)
 
-pub options_each : (pool : SealedPool) (need : Need) (c : ℕ) → is_eligible_at pool c ≡ true → meets_at pool c need ≡ true → IsMember c (options_for pool need)
+pub options_each : (pool : SealedPool) (need : Need) (c : ℕ) → is_eligible_at pool c ≡ true → meets_at pool c need ≡ true → IsIn c (options_for pool need)
 unfolding options_for
 options_each pool need c eligible meets =
     let places = places_from 0 (may_meet pool need) pool.candidates in
     let z : 0 + c ≡ c = omega arith in
-    in_ranked (is_better pool need) c places (subst (λ (k : ℕ). IsMember k places) z (in_places 0 (may_meet pool need) pool.candidates c (at_both (is_eligible pool.world) (meets_need need) (slice_get pool.candidates c) eligible meets)))
+    in_ranked (is_better pool need) c places (subst (λ (k : ℕ). IsIn k places) z (in_places 0 (may_meet pool need) pool.candidates c (at_both (is_eligible pool.world) (meets_need need) (slice_get pool.candidates c) eligible meets)))

@@ -12,7 +12,7 @@ use Rattle.std.proofs.lemmas.List.{get_or-map, length-map}
 use Rattle.version_core.specs.Order.{version_cmp}
 use Rattle.pool_core.specs.Candidates.{Candidate, Need, version_under}
 use Rattle.pool_core.specs.Options.{rank_order_of}
-use Rattle.pool_core.specs.Rank.{SealedPool, byte_cmp, candidate_at, earlier_repository, greater_version, is_better, is_pinned, quality_cmp, quality_first, rank_cmp}
+use Rattle.pool_core.specs.Rank.{SealedPool, bytes_cmp, candidate_at, earlier_repository, greater_version, is_better, is_pinned, quality_cmp, quality_first, rank_cmp}
 use Rattle.pool_core.specs.Ranking.{IsRankingIn, Ranking, ranking_by, ranking_cmp, read_as}
 use Rattle.pool_core.specs.VersionRanks.{rank_among, version_of, version_order, with_rank}
 use Rattle.pool_core.specs.declared.versions.RankedVersion.{RankedVersion}
@@ -66,11 +66,11 @@ module _ (versions : IsTotalOrder version_cmp) (pool : SealedPool) (need : Need)
     pub under : HasRank Under unders r
     pub own : HasRank Own owns r
 
-  as_read : (a b : Ranking) (x y : Candidate) → candidate_at pool a.place ≡ Some x → candidate_at pool b.place ≡ Some y → nat_cmp a.under.rank b.under.rank ≡ greater_version (version_under need x) (version_under need y) → nat_cmp a.version.rank b.version.rank ≡ ordering_then (greater_version x.version y.version) (option_cmp byte_cmp x.version y.version) → ranking_cmp (read_as pool need x a) (read_as pool need y b) ≡ rank_cmp pool need a.place b.place
+  as_read : (a b : Ranking) (x y : Candidate) → candidate_at pool a.place ≡ Some x → candidate_at pool b.place ≡ Some y → nat_cmp a.under.rank b.under.rank ≡ greater_version (version_under need x) (version_under need y) → nat_cmp a.version.rank b.version.rank ≡ ordering_then (greater_version x.version y.version) (option_cmp bytes_cmp x.version y.version) → ranking_cmp (read_as pool need x a) (read_as pool need y b) ≡ rank_cmp pool need a.place b.place
   unfolding ranking_cmp rank_cmp
   as_read a b x y h g under own =
       rw (h, g, under, own) (ap (λ (o : Ordering). ordering_then (ordering_then (quality_first (is_pinned pool.world) x y) (ordering_then (quality_cmp pool.upgraded need x y) o)) (nat_cmp a.place b.place))
-      (regroup (greater_version (version_under need x) (version_under need y)) (nat_cmp y.priority x.priority) (byte_cmp x.name y.name) (greater_version x.version y.version) (option_cmp byte_cmp x.version y.version) (earlier_repository x.repository y.repository)))
+      (regroup (greater_version (version_under need x) (version_under need y)) (nat_cmp y.priority x.priority) (bytes_cmp x.name y.name) (greater_version x.version y.version) (option_cmp bytes_cmp x.version y.version) (earlier_repository x.repository y.repository)))
 
   pub same_order : (a b : Ranking) → IsRanked a → IsRanked b → ranking_cmp a b ≡ rank_cmp pool need a.place b.place
   same_order a b p q =

@@ -7,7 +7,7 @@ use Rattle.std.specs.List.Sorted.{IsPermutation}
 use Rattle.std.proofs.lemmas.List.Elements.{All-map, All-push}
 use Rattle.std.proofs.lemmas.List.Sorted.{All-permutation, IsPermutation-map}
 use Rattle.version_core.specs.Order.{version_cmp}
-use Rattle.pool_core.specs.Options.{IsMember}
+use Rattle.pool_core.specs.Options.{IsIn}
 use Rattle.pool_core.specs.Ranking.{Ranking}
 use Rattle.pool_core.specs.VersionRanks.{AreRankedFrom, AreReadAlike, HaveSamePlace, IsListed, IsReadBy, rank_among, version_of, version_order, with_rank, with_rank_among}
 use Rattle.pool_core.specs.declared.versions.RankedVersion.{RankedVersion}
@@ -44,12 +44,12 @@ alike_at kind rs i j one other alike f g same =
 
 -- ---- lists of versions
 
-pub still_listed : (v w : Option (List ℕ)) (vs : List (Option (List ℕ))) → IsMember v vs → IsMember v (vs ++ w ∷ [])
+pub still_listed : (v w : Option (List ℕ)) (vs : List (Option (List ℕ))) → IsIn v vs → IsIn v (vs ++ w ∷ [])
 still_listed v w [] m = absurd m
 still_listed v w (x ∷ vs) (inl e) = inl e
 still_listed v w (x ∷ vs) (inr m) = inr (still_listed v w vs m)
 
-pub last_listed : (v w : Option (List ℕ)) (vs : List (Option (List ℕ))) → v ≡ w → IsMember v (vs ++ w ∷ [])
+pub last_listed : (v w : Option (List ℕ)) (vs : List (Option (List ℕ))) → v ≡ w → IsIn v (vs ++ w ∷ [])
 last_listed v w [] e = inl e
 last_listed v w (x ∷ vs) e = inr (last_listed v w vs e)
 
@@ -71,7 +71,7 @@ listed_before kind vs rs i d alike low within same was =
     let g : slice_get rs i ≡ Some other = get_at rs i d within in
     let front : slice_get (take i rs) (i - 1) ≡ slice_get rs (i - 1) = get_in_front rs i (i - 1) (omega (arith, low)) in
     let there : IsListed kind vs one = all_at (IsListed kind vs) (take i rs) (i - 1) one was (front ∙ f) in
-    subst (λ (v : Option (List ℕ)). IsMember v vs) (alike_at kind rs (i - 1) i one other alike f g (same one other f g)) there
+    subst (λ (v : Option (List ℕ)). IsIn v vs) (alike_at kind rs (i - 1) i one other alike f g (same one other f g)) there
 
 -- ---- the first of a list, changed
 

@@ -15,20 +15,20 @@ use Rattle.std.proofs.lemmas.List.Sorted.{IsPermutation-map, list_any-IsPermutat
 use Rattle.std.proofs.lemmas.Map.Text.{is_eq-slice_cmp}
 use Rattle.std.proofs.lemmas.Option.{get_or_from_slice_get, slice_get_within}
 use Rattle.pool_core.specs.Candidates.{Candidate}
-use Rattle.pool_core.specs.Rank.{byte_cmp, is_kept_installed, listed_names}
+use Rattle.pool_core.specs.Rank.{bytes_cmp, is_kept_installed, listed_names}
 use Rattle.pool_core.proofs.Anyone.{any_map}
 
 -- ---- the binary search
 
-eq_by : (a word : List ℕ) (o : Ordering) → byte_cmp a word ≡ o → bytes_eq word a ≡ is_eq (ordering_reverse o)
+eq_by : (a word : List ℕ) (o : Ordering) → bytes_cmp a word ≡ o → bytes_eq word a ≡ is_eq (ordering_reverse o)
 eq_by a word o is = sym (is_eq-slice_cmp word a) ∙ ap is_eq (nat_list_cmp_total.antisymm word a ∙ ap ordering_reverse is)
 
-found_at : (xs : List (Bor (List ℕ))) (word : List ℕ) (i : ℕ) → i < length xs → HoldsAt (λ (x : Bor (List ℕ)). byte_cmp x.now word ≡ Equal) xs i → list_any (λ (x : Bor (List ℕ)). bytes_eq word x.now) xs ≡ true
+found_at : (xs : List (Bor (List ℕ))) (word : List ℕ) (i : ℕ) → i < length xs → HoldsAt (λ (x : Bor (List ℕ)). bytes_cmp x.now word ≡ Equal) xs i → list_any (λ (x : Bor (List ℕ)). bytes_eq word x.now) xs ≡ true
 found_at [] word i within here = absurd (omega arith)
 found_at (x ∷ xs) word i within here =
     list_any_at (λ (y : Bor (List ℕ)). bytes_eq word y.now) (x ∷ xs) i x within (eq_by (get_or (x ∷ xs) i x).now word Equal (here x))
 
-found_nowhere : (xs : List (Bor (List ℕ))) (word : List ℕ) (i : ℕ) → IsPartitionPoint (λ (x : Bor (List ℕ)). byte_cmp x.now word ≡ Less) (λ (x : Bor (List ℕ)). byte_cmp x.now word ≡ Greater) xs i → list_any (λ (x : Bor (List ℕ)). bytes_eq word x.now) xs ≡ false
+found_nowhere : (xs : List (Bor (List ℕ))) (word : List ℕ) (i : ℕ) → IsPartitionPoint (λ (x : Bor (List ℕ)). bytes_cmp x.now word ≡ Less) (λ (x : Bor (List ℕ)). bytes_cmp x.now word ≡ Greater) xs i → list_any (λ (x : Bor (List ℕ)). bytes_eq word x.now) xs ≡ false
 found_nowhere xs word i point = list_any_none (λ (x : Bor (List ℕ)). bytes_eq word x.now) xs each
   where
     each : All (λ (x : Bor (List ℕ)). bytes_eq word x.now ≡ false) xs
@@ -36,16 +36,16 @@ found_nowhere xs word i point = list_any_none (λ (x : Bor (List ℕ)). bytes_eq
         ⊎_elim (λ early. eq_by (get_or xs k d).now word Less (point.0 k d (omega arith) early)) (λ late. eq_by (get_or xs k d).now word Greater (point.1 k d late within))
         (cases_lt k i)
 
-searched : (xs : List (Bor (List ℕ))) (word : List ℕ) (r : Result ℕ ℕ) → IsSorted (λ (a b : Bor (List ℕ)). byte_cmp a.now b.now) xs → IsSearchInRange r (length xs)
-    → IsBinarySearchResult (λ (x : Bor (List ℕ)). byte_cmp x.now word) xs r → is_ok r ≡ list_any (λ (x : Bor (List ℕ)). bytes_eq word x.now) xs
+searched : (xs : List (Bor (List ℕ))) (word : List ℕ) (r : Result ℕ ℕ) → IsSorted (λ (a b : Bor (List ℕ)). bytes_cmp a.now b.now) xs → IsSearchInRange r (length xs)
+    → IsBinarySearchResult (λ (x : Bor (List ℕ)). bytes_cmp x.now word) xs r → is_ok r ≡ list_any (λ (x : Bor (List ℕ)). bytes_eq word x.now) xs
 searched xs word (Ok i) up bound found = sym (found_at xs word i bound found)
 searched xs word (Err i) up bound found =
     sym (found_nowhere xs word i (found (searchable_from_sorted nat_list_cmp_total (λ (x : Bor (List ℕ)). x.now) xs word up)))
 
-pub searched_words : (ds xs : List (Bor (List ℕ))) (word : List ℕ) (r : Result ℕ ℕ) → ds ≡ xs → IsSorted (λ (a b : Bor (List ℕ)). byte_cmp a.now b.now) xs → IsSearchInRange r (length ds)
-    → IsBinarySearchResult (λ (x : Bor (List ℕ)). byte_cmp x.now word) ds r → is_ok r ≡ list_any (bytes_eq word) (map (λ x. x.now) xs)
+pub searched_words : (ds xs : List (Bor (List ℕ))) (word : List ℕ) (r : Result ℕ ℕ) → ds ≡ xs → IsSorted (λ (a b : Bor (List ℕ)). bytes_cmp a.now b.now) xs → IsSearchInRange r (length ds)
+    → IsBinarySearchResult (λ (x : Bor (List ℕ)). bytes_cmp x.now word) ds r → is_ok r ≡ list_any (bytes_eq word) (map (λ x. x.now) xs)
 searched_words ds xs word r e up bound found =
-    searched xs word r up (subst (λ (l : List (Bor (List ℕ))). IsSearchInRange r (length l)) e bound) (subst (λ (l : List (Bor (List ℕ))). IsBinarySearchResult (λ (x : Bor (List ℕ)). byte_cmp x.now word) l r) e found)
+    searched xs word r up (subst (λ (l : List (Bor (List ℕ))). IsSearchInRange r (length l)) e bound) (subst (λ (l : List (Bor (List ℕ))). IsBinarySearchResult (λ (x : Bor (List ℕ)). bytes_cmp x.now word) l r) e found)
     ∙ sym (any_map (bytes_eq word) (λ (x : Bor (List ℕ)). x.now) xs)
 
 -- ---- the words in order

@@ -6,7 +6,7 @@ use Rattle.std.specs.List.Sorted.{IsPermutation, IsSortedBy, ties}
 use Rattle.std.specs.Cmp.{IsStrictWeakOrder}
 use Rattle.std.proofs.lemmas.Bool.{cases_eq}
 use Rattle.std.proofs.lemmas.List.Sorted.{IsPermutation-sym, sorted_far}
-use Rattle.pool_core.specs.Options.{AreDistinct, IsMember, IsBestFirst, rank_order_of}
+use Rattle.pool_core.specs.Options.{AreDistinct, IsIn, IsBestFirst, rank_order_of}
 use Rattle.pool_core.proofs.MovedMembers.{moved_filter, moved_member}
 use Rattle.pool_core.proofs.OptionLists.{bool_cases, ranked_in, in_ranked}
 
@@ -23,7 +23,7 @@ module _ (better : ℕ → ℕ → Bool) (weak : IsStrictWeakOrder better) (chai
   ties_self : (a : ℕ) → ties better a a ≡ true
   ties_self a = rw (not_self a) refl
 
-  filter_pos : (a : ℕ) (p : ℕ → Bool) (xs : List ℕ) → IsMember a xs → p a ≡ true → 1 ≤ length (filter p xs)
+  filter_pos : (a : ℕ) (p : ℕ → Bool) (xs : List ℕ) → IsIn a xs → p a ≡ true → 1 ≤ length (filter p xs)
   filter_pos a p [] h e = absurd h
   filter_pos a p (x ∷ xs) (inl q) e = rw (subst (λ (z : ℕ). p z ≡ true) q e) (omega arith)
   filter_pos a p (x ∷ xs) (inr h) e = elim (bool_cases (p x)) [ inl t ↦ rw t (omega arith) | inr t ↦ rw t (filter_pos a p xs h e) ]
@@ -47,11 +47,11 @@ module _ (better : ℕ → ℕ → Bool) (weak : IsStrictWeakOrder better) (chai
   once : (a : ℕ) (xs : List ℕ) → AreDistinct xs → length (filter (ties better a) xs) ≤ 1
   once a [] r = omega arith
   once a (x ∷ xs) r = elim (bool_cases (ties better a x)) [
-    | inl e ↦ rw e (let n = none_left a xs (λ h. r.0 (subst (λ (z : ℕ). IsMember z xs) (tie_same a x e) h)) in omega arith)
+    | inl e ↦ rw e (let n = none_left a xs (λ h. r.0 (subst (λ (z : ℕ). IsIn z xs) (tie_same a x e) h)) in omega arith)
     | inr e ↦ rw e (once a xs r.1)
   ]
     where
-      none_left : (a : ℕ) (ys : List ℕ) → (IsMember a ys → ⊥) → length (filter (ties better a) ys) ≡ 0
+      none_left : (a : ℕ) (ys : List ℕ) → (IsIn a ys → ⊥) → length (filter (ties better a) ys) ≡ 0
       none_left a [] out = refl
       none_left a (y ∷ ys) out = elim (bool_cases (ties better a y)) [
         | inl e ↦ absurd (out (inl (tie_same a y e)))
@@ -68,12 +68,12 @@ module _ (better : ℕ → ℕ → Bool) (weak : IsStrictWeakOrder better) (chai
     ]),
   )
 
-  at_place : (d : ℕ) (xs : List ℕ) → IsMember d xs → (j : ℕ) × (j < length xs) × (get_or xs j d ≡ d)
+  at_place : (d : ℕ) (xs : List ℕ) → IsIn d xs → (j : ℕ) × (j < length xs) × (get_or xs j d ≡ d)
   at_place d [] h = absurd h
   at_place d (x ∷ xs) (inl e) = (0, omega arith, sym e)
   at_place d (x ∷ xs) (inr h) = let r = at_place d xs h in (suc r.0, omega (arith, r.1), r.2)
 
-  behind : (y : ℕ) (ys : List ℕ) → IsSortedBy better (y ∷ ys) → (d : ℕ) → IsMember d ys → better d y ≡ false
+  behind : (y : ℕ) (ys : List ℕ) → IsSortedBy better (y ∷ ys) → (d : ℕ) → IsIn d ys → better d y ≡ false
   behind y ys up d h =
       let r = at_place d ys h in
       let far = sorted_far better weak (y ∷ ys) up 0 (suc r.0) d (omega arith) (omega (arith, r.1)) in
@@ -87,14 +87,14 @@ module _ (better : ℕ → ℕ → Bool) (weak : IsStrictWeakOrder better) (chai
   pub sorted_ranked : (ys : List ℕ) → IsSortedBy better ys → AreDistinct ys → IsBestFirst better ys
   sorted_ranked [] up r = tt
   sorted_ranked (y ∷ ys) up r = (
-    (λ d h. elim (one_of y d (λ e. r.0 (subst (λ (z : ℕ). IsMember z ys) (sym e) h))) [
+    (λ d h. elim (one_of y d (λ e. r.0 (subst (λ (z : ℕ). IsIn z ys) (sym e) h))) [
       | inl g ↦ g
       | inr g ↦ absurd (no_true (sym (behind y ys up d h) ∙ g))
     ]),
     sorted_ranked ys (tail_up y ys up) r.1,
   )
 
-  same_ranked : (xs ys : List ℕ) → IsBestFirst better xs → IsBestFirst better ys → ((c : ℕ) → (IsMember c xs → IsMember c ys) × (IsMember c ys → IsMember c xs)) → xs ≡ ys
+  same_ranked : (xs ys : List ℕ) → IsBestFirst better xs → IsBestFirst better ys → ((c : ℕ) → (IsIn c xs → IsIn c ys) × (IsIn c ys → IsIn c xs)) → xs ≡ ys
   same_ranked [] [] r s same = refl
   same_ranked [] (y ∷ ys) r s same = absurd ((same y).1 (inl refl))
   same_ranked (x ∷ xs) [] r s same = absurd ((same x).0 (inl refl))

@@ -4,7 +4,7 @@ use Rattle.std.specs.Prelude.{Result, Ok, Err, OnOk, IfErr, IfOk, slice_get, Som
 use Rattle.std.specs.List.{filter, list_all, list_any}
 use Rattle.std.proofs.lemmas.List.{length-map}
 use Rattle.pool_core.specs.Candidates.{Candidate}
-use Rattle.pool_core.specs.Options.{IsMember}
+use Rattle.pool_core.specs.Options.{IsIn}
 use Rattle.pool_core.specs.Values.{IsPoolFault}
 use Rattle.pool_core.specs.declared.pool.PoolFault.{PoolFault}
 use Rattle.pool_core.specs.declared.pool.PoolFault.TheVariants.{TooMany, Memory}
@@ -79,7 +79,7 @@ get_at [] i d h = absurd (omega arith)
 get_at (x ∷ xs) zero d h = refl
 get_at (x ∷ xs) (suc i) d h = get_at xs i d (omega arith)
 
-pub member_at : (xs : List ℕ) (i x : ℕ) → i < length xs → x ≡ get_or xs i x → IsMember x xs
+pub member_at : (xs : List ℕ) (i x : ℕ) → i < length xs → x ≡ get_or xs i x → IsIn x xs
 member_at [] i x h e = absurd (omega arith)
 member_at (y ∷ xs) zero x h e = inl e
 member_at (y ∷ xs) (suc i) x h e = inr (member_at xs i x (omega arith) e)

@@ -6,7 +6,7 @@ use Rattle.std.specs.List.{last_or, list_any}
 use Rattle.std.proofs.lemmas.Bool.Decides.{eqb_tells}
 use Rattle.dep_core.specs.Dependency.{Dependency}
 use Rattle.pool_core.specs.Candidates.{Candidate, offers_name}
-use Rattle.pool_core.specs.Options.{IsMember, places_offering}
+use Rattle.pool_core.specs.Options.{IsIn, places_offering}
 use Rattle.pool_core.specs.Table.{LeadsToOffers, Offered, ids_of, with_last, with_last_where}
 use Rattle.pool_core.proofs.OptionLists.{bool_cases}
 use Rattle.pool_core.proofs.OfferLists.{places_snoc, places_below}
@@ -44,7 +44,7 @@ add_more p done all d start before after id e was is =
     is ∙ (ap (λ (z : List ℕ). with_last_where (p d) z id) was ∙ (add_both (list_any p done) (p d) start id
     ∙ ap (λ (b : Bool). with_last_where b start id) (sym (any_snoc p done d) ∙ ap (list_any p) (sym e))))
 
-last_member : (o : Option ℕ) (ids : List ℕ) (n k : ℕ) → ((j : ℕ) → o ≡ Some j → j < n) → ((j : ℕ) → IsMember j ids → j < n) → last_or o ids ≡ Some k → k < n
+last_member : (o : Option ℕ) (ids : List ℕ) (n k : ℕ) → ((j : ℕ) → o ≡ Some j → j < n) → ((j : ℕ) → IsIn j ids → j < n) → last_or o ids ≡ Some k → k < n
 last_member o [] n k first below h = first k h
 last_member o (x ∷ ids) n k first below h = last_member (Some x) ids n k (λ j e. let s : x ≡ j = cc in subst (λ (z : ℕ). z < n) s (below x (inl refl))) (λ j g. below j (inr g)) h
 
@@ -56,7 +56,7 @@ not_last n (Some k) below = elim (eqb_tells k n) [
 ]
 
 -- a candidate above all others stands behind them
-above_last : (ids : List ℕ) (n : ℕ) → ((j : ℕ) → IsMember j ids → j < n) → with_last ids n ≡ ids ++ n ∷ []
+above_last : (ids : List ℕ) (n : ℕ) → ((j : ℕ) → IsIn j ids → j < n) → with_last ids n ≡ ids ++ n ∷ []
 above_last ids n below = rw (not_last n (last_or None ids) (λ k e. last_member None ids n k (λ j bad. absurd (cc)) below e)) refl
 
 pub leads_on : (table more : Offered) (cs : List Candidate) (d : Candidate) → LeadsToOffers table cs → ((name : List ℕ) → ids_of more name ≡ with_last_where (offers_name name d) (ids_of table name) (length cs)) → LeadsToOffers more (cs ++ d ∷ [])

@@ -1,19 +1,16 @@
 -- The candidates that offer a name, and the options of a need.
-use Rattle.std.specs.Prelude.{◌≡◌, ◌<◌, ℕ, suc, Bool, true, ◌&&◌, if◌then◌else◌, List, [], ◌∷◌, ◌⊎◌}
+use Rattle.std.specs.Prelude.{◌≡◌, ◌<◌, ℕ, suc, Bool, true, ◌&&◌, if◌then◌else◌, List, [], ◌∷◌}
 use Rattle.pool_core.specs.Candidates.{Candidate, Need, is_eligible, meets_need, offers_name}
 use Rattle.pool_core.specs.Rank.{SealedPool, is_better}
+pub use Rattle.adb_fields.specs.FirstPair.{IsIn}
 
 -- a member of a list, and lists all of whose members are of another, or are different
-abbrev pub IsMember : {X : Type 0} → X → List X → Type 0
-IsMember c [] = ⊥
-IsMember c (x ∷ xs) = (c ≡ x) ⊎ IsMember c xs
-
 abbrev pub AreMembers : {X : Type 0} → List X → List X → Type 0
-AreMembers {X} xs ys = (c : X) → IsMember c xs → IsMember c ys
+AreMembers {X} xs ys = (c : X) → IsIn c xs → IsIn c ys
 
 abbrev pub AreDistinct : List ℕ → Type 0
 AreDistinct [] = Unit {0}
-AreDistinct (c ∷ cs) = (IsMember c cs → ⊥) × AreDistinct cs
+AreDistinct (c ∷ cs) = (IsIn c cs → ⊥) × AreDistinct cs
 
 -- the places, counted from a number, of the candidates that pass a test, in rising order
 abbrev pub places_from : ℕ → (Candidate → Bool) → List Candidate → List ℕ
@@ -48,9 +45,9 @@ options_for pool need =
 abbrev pub IsBestFirst : (ℕ → ℕ → Bool) → List ℕ → Type 0
 IsBestFirst better [] = Unit {0}
 IsBestFirst better (c ∷ cs) =
-    ((d : ℕ) → IsMember d cs → better c d ≡ true) × IsBestFirst better cs
+    ((d : ℕ) → IsIn d cs → better c d ≡ true) × IsBestFirst better cs
 
 -- each is below those behind it
 abbrev pub AreRising : List ℕ → Type 0
 AreRising [] = Unit {0}
-AreRising (c ∷ cs) = ((d : ℕ) → IsMember d cs → c < d) × AreRising cs
+AreRising (c ∷ cs) = ((d : ℕ) → IsIn d cs → c < d) × AreRising cs

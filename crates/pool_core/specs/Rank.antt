@@ -4,11 +4,11 @@ use Rattle.std.specs.Option.{option_map_or, option_cmp}
 use Rattle.std.specs.List.{list_any}
 use Rattle.std.specs.Str.{bytes_eq}
 use Rattle.std.specs.Ordering.{nat_cmp, bool_cmp, on, flip_args, then_cmp, is_lt}
-use Rattle.std.specs.Cmp.Lexicographic.{slice_cmp}
 use Rattle.std.specs.declared.cmp.Ordering.{Ordering}
 use Rattle.version_core.specs.Order.{version_cmp}
 use Rattle.dep_core.specs.Dependency.{Dependency}
 use Rattle.pool_core.specs.Candidates.{Candidate, Need, need_name, version_under, is_eligible, meets_need}
+pub use Rattle.list_order.specs.ByteOrder.{bytes_cmp}
 
 -- the names that a command upgrades
 pub data UpgradedNames : Type 0 where
@@ -56,9 +56,6 @@ is_kept_installed upgraded c = c.installed && not (is_upgraded upgraded c.name)
 
 -- ---- the order
 
-abbrev pub byte_cmp : List ℕ → List ℕ → Ordering
-byte_cmp = slice_cmp nat_cmp
-
 -- what has the quality comes first
 abbrev pub quality_first : (Candidate → Bool) → Candidate → Candidate → Ordering
 quality_first quality = on quality (flip_args bool_cmp)
@@ -83,13 +80,13 @@ abbrev pub merit_cmp : Need → Candidate → Candidate → Ordering
 merit_cmp need =
     then_cmp (on (version_under need) greater_version)
     (then_cmp (on (λ (c : Candidate). c.priority) (flip_args nat_cmp))
-    (then_cmp (on (λ (c : Candidate). c.name) byte_cmp)
+    (then_cmp (on (λ (c : Candidate). c.name) bytes_cmp)
     (on (λ (c : Candidate). c.version) greater_version)))
 
 -- what is left to tell two candidates apart
 abbrev pub text_cmp : Candidate → Candidate → Ordering
 text_cmp =
-    then_cmp (on (λ (c : Candidate). c.version) (option_cmp byte_cmp))
+    then_cmp (on (λ (c : Candidate). c.version) (option_cmp bytes_cmp))
     (on (λ (c : Candidate). c.repository) earlier_repository)
 
 -- all keys but the first and the last

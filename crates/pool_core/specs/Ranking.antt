@@ -4,7 +4,7 @@ use Rattle.std.specs.Prelude.{◌≡◌, ℕ, Bool, List, Option, Some}
 use Rattle.std.specs.Ordering.{bool_cmp, flip_args, nat_cmp, on, then_cmp}
 use Rattle.std.specs.declared.cmp.Ordering.{Ordering}
 use Rattle.pool_core.specs.Candidates.{Candidate, Need, version_under}
-use Rattle.pool_core.specs.Rank.{SealedPool, byte_cmp, candidate_at, earlier_repository, has_needed_name, is_kept_installed, is_pinned, is_untagged}
+use Rattle.pool_core.specs.Rank.{SealedPool, bytes_cmp, candidate_at, earlier_repository, has_needed_name, is_kept_installed, is_pinned, is_untagged}
 use Rattle.pool_core.specs.declared.versions.RankedVersion.{RankedVersion}
 
 pub record Ranking : Type 0 where
@@ -60,7 +60,7 @@ quality_ranking_cmp =
 
 abbrev pub name_ranking_cmp : Ranking → Ranking → Ordering
 name_ranking_cmp =
-    then_cmp (on (λ (r : Ranking). r.name) byte_cmp) (on (λ (r : Ranking). r.version.rank) nat_cmp)
+    then_cmp (on (λ (r : Ranking). r.name) bytes_cmp) (on (λ (r : Ranking). r.version.rank) nat_cmp)
 
 abbrev pub priority_ranking_cmp : Ranking → Ranking → Ordering
 priority_ranking_cmp =

@@ -9,8 +9,8 @@ use Rattle.std.specs.declared.cmp.Ordering.{Ordering}
 use Rattle.adb_view.specs.Adb.{payload_of}
 use Rattle.adb_tables.specs.Values.{text_in, value_at}
 use Rattle.adb_tables.specs.declared.tables.Kind.TheVariants.{Text}
-use Rattle.pool_core.specs.Options.{IsMember}
-use Rattle.pool_core.specs.Rank.{byte_cmp, greater_version}
+use Rattle.pool_core.specs.Options.{IsIn}
+use Rattle.pool_core.specs.Rank.{bytes_cmp, greater_version}
 use Rattle.pool_core.specs.Ranking.{Ranking}
 use Rattle.pool_core.specs.declared.packages.Source.{Source}
 use Rattle.pool_core.specs.declared.versions.RankedVersion.{RankedVersion}
@@ -50,7 +50,7 @@ version_of Own r = r.version
 -- the greater first; a candidate's own versions are told apart by their texts too
 abbrev pub version_order : VersionKind → Option (List ℕ) → Option (List ℕ) → Ordering
 version_order Under = greater_version
-version_order Own = then_cmp greater_version (option_cmp byte_cmp)
+version_order Own = then_cmp greater_version (option_cmp bytes_cmp)
 
 -- how many of some versions come before one
 abbrev pub rank_among : VersionKind → List (Option (List ℕ)) → Option (List ℕ) → ℕ
@@ -67,7 +67,7 @@ with_rank_among kind versions r =
 
 -- its version is one of the list
 abbrev pub IsListed : VersionKind → List (Option (List ℕ)) → Ranking → Type 0
-IsListed kind versions r = IsMember (version_of kind r).version versions
+IsListed kind versions r = IsIn (version_of kind r).version versions
 
 -- one function of places gives the texts of all versions
 abbrev pub AreReadAlike : VersionKind → List Ranking → Type 0

@@ -9,7 +9,7 @@ ghost use Rattle.adb_tables.specs.Values.{int_in, text_in};
 ghost use Rattle.pool_core.specs.Candidates.{Candidate, Need, as_installed, candidate_by, candidate_of, dependencies_in, is_same_id, is_same_package, need_name, offers_name, version_of_text, with_installed};
 ghost use Rattle.pool_core.specs.FieldNames.{info_under_name};
 ghost use Rattle.pool_core.specs.Rank.{SealedPool, is_at, is_better, is_eligible_at, meets_at, rank_cmp};
-ghost use Rattle.pool_core.specs.Options.{IsBestFirst, IsMember, AreRising, options_for, places_offering};
+ghost use Rattle.pool_core.specs.Options.{AreRising, IsBestFirst, IsIn, options_for, places_offering};
 
 use version_core::order_is_total;
 
@@ -26,10 +26,10 @@ pub fn rank_is_total()
 /// The options of a need are exactly the candidates that may be selected and meet it, each better
 /// than those behind it.
 pub fn options_are_the_best_first()
-    ensures those { (pool : SealedPool) (need : Need) (c : ℕ) → IsMember c (options_for pool need) →
+    ensures those { (pool : SealedPool) (need : Need) (c : ℕ) → IsIn c (options_for pool need) →
         (is_eligible_at pool c ≡ true) × (meets_at pool c need ≡ true) }
     ensures each { (pool : SealedPool) (need : Need) (c : ℕ) → is_eligible_at pool c ≡ true →
-        meets_at pool c need ≡ true → IsMember c (options_for pool need) }
+        meets_at pool c need ≡ true → IsIn c (options_for pool need) }
     ensures best_first { (pool : SealedPool) (need : Need) →
         IsBestFirst (is_better pool need) (options_for pool need) }
 {
@@ -39,10 +39,10 @@ pub fn options_are_the_best_first()
 /// The offers of a name are exactly the places of the candidates that offer it, in rising order.
 pub fn offers_are_the_places()
     ensures those { (pool : SealedPool) (name : List ℕ) (c : ℕ) →
-        IsMember c (places_offering name pool.candidates) →
+        IsIn c (places_offering name pool.candidates) →
         (is_at pool (offers_name name) c ≡ true) × (c < length pool.candidates) }
     ensures each { (pool : SealedPool) (name : List ℕ) (c : ℕ) →
-        is_at pool (offers_name name) c ≡ true → IsMember c (places_offering name pool.candidates) }
+        is_at pool (offers_name name) c ≡ true → IsIn c (places_offering name pool.candidates) }
     ensures rising { (pool : SealedPool) (name : List ℕ) →
         AreRising (places_offering name pool.candidates) }
 {}
@@ -50,7 +50,7 @@ pub fn offers_are_the_places()
 /// The offers of a need's name hold each candidate that meets the need.
 pub fn offers_hold_what_meets()
     ensures { (pool : SealedPool) (need : Need) (c : ℕ) → meets_at pool c need ≡ true →
-        IsMember c (places_offering (need_name need) pool.candidates) }
+        IsIn c (places_offering (need_name need) pool.candidates) }
 {}
 
 /// Each part of a candidate is the value of the field of its name.

@@ -3,7 +3,7 @@
 ghost use Rattle.std.specs.Prelude.{◌≡◌};
 ghost use Rattle.std.specs.Option.{option_cmp};
 ghost use Rattle.std.specs.Ordering.{bool_cmp, flip_args, then_cmp};
-ghost use Rattle.pool_core.specs.Rank.{byte_cmp, earlier_repository, greater_version};
+ghost use Rattle.pool_core.specs.Rank.{bytes_cmp, earlier_repository, greater_version};
 ghost use Rattle.pool_core.specs.Ranking.{candidate_ranking_cmp, merit_ranking_cmp, name_ranking_cmp, priority_ranking_cmp, quality_ranking_cmp, ranking_cmp, repository_ranking_cmp, unpinned_ranking_cmp};
 ghost use Rattle.pool_core.specs.VersionRanks.{version_of, with_rank};
 
@@ -171,7 +171,7 @@ pub(crate) fn by_version(one: &Option<Version<'_>>, other: &Option<Version<'_>>)
 
 /// The order of two versions by their texts, none first.
 pub(crate) fn by_version_text(one: &Option<Version<'_>>, other: &Option<Version<'_>>) -> Ordering
-    ensures { result ≡ option_cmp byte_cmp one.now other.now }
+    ensures { result ≡ option_cmp bytes_cmp one.now other.now }
 {
     match (one, other) {
         (None, None) => Ordering::Equal,

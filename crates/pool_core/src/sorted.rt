@@ -17,13 +17,13 @@ pub struct SortedWords<'a> {
 impl<'a> Model for SortedWords<'a> {
     ghost use Rattle.std.specs.Prelude.{ℕ, List, map};
     ghost use Rattle.std.specs.List.Sorted.{IsSorted};
-    ghost use Rattle.pool_core.specs.Rank.{byte_cmp};
+    ghost use Rattle.pool_core.specs.Rank.{bytes_cmp};
 
     ghost Value = { List (List ℕ) };
 
     ghost view = { λ sorted. map (λ word. word.now) sorted.words.items };
 
-    ghost invariant = { λ sorted. IsSorted (λ one other. byte_cmp one.now other.now)
+    ghost invariant = { λ sorted. IsSorted (λ one other. bytes_cmp one.now other.now)
         sorted.words.items };
 }
 

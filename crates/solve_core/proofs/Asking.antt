@@ -13,8 +13,8 @@ use Rattle.std.proofs.lemmas.Bool.{cases_lt}
 use Rattle.std.proofs.lemmas.Map.Text.{is_eq-slice_cmp}
 use Rattle.dep_core.specs.Dependency.{Dependency}
 use Rattle.pool_core.specs.Candidates.{Candidate, Need, entry, has_usable_install_if, named, offers_name, meets_dependency}
-use Rattle.pool_core.specs.Rank.{SealedPool, byte_cmp, candidate_at, meets_at}
-use Rattle.pool_core.specs.Options.{IsMember, options_for, places_from}
+use Rattle.pool_core.specs.Rank.{SealedPool, bytes_cmp, candidate_at, meets_at}
+use Rattle.pool_core.specs.Options.{IsIn, options_for, places_from}
 use Rattle.solve_core.specs.Selection.{AreMembers, is_met, is_unmet, names_by_install_if, install_if_applies, least_name, lesser_name, needs, next_need, raised_needs}
 use Rattle.solve_core.specs.Reasons.{FrameValue, IsFrameOf}
 use Rattle.solve_core.specs.InstallIf.{AreInstallIfs, AreUnasked, IsLeastAsking, IsNoneAsking, all_met, asks_at, asks_for_name, has_lesser_name, install_if_at, is_usable_at, name_at, rank_asks}
@@ -39,7 +39,7 @@ at_some p (Some x) h = (x, refl, h)
 some_at : {X : Type 0} (p : X → Bool) (o : Option X) (x : X) → o ≡ Some x → option_map_or p o false ≡ p x
 some_at {X} p o x e = ap (λ (z : Option X). option_map_or p z false) e
 
-rank_of : (xs : List ℕ) (k : ℕ) → IsMember k xs → (r : ℕ) × (r < length xs) × (slice_get xs r ≡ Some k)
+rank_of : (xs : List ℕ) (k : ℕ) → IsIn k xs → (r : ℕ) × (r < length xs) × (slice_get xs r ≡ Some k)
 rank_of [] k h = absurd h
 rank_of (x ∷ xs) k (inl e) = (0, omega arith, ap Some (sym e))
 rank_of (x ∷ xs) k (inr h) = let r = rank_of xs k h in (suc r.0, omega (arith, r.1), r.2)
@@ -50,7 +50,7 @@ get_is [] (suc r) k d h = absurd (cc)
 get_is (x ∷ xs) zero k d h = cc
 get_is (x ∷ xs) (suc r) k d h = get_is xs r k d h
 
-pub there_is : {X : Type 0} (xs : List X) (r : ℕ) (x : X) → slice_get xs r ≡ Some x → (r < length xs) × IsMember x xs
+pub there_is : {X : Type 0} (xs : List X) (r : ℕ) (x : X) → slice_get xs r ≡ Some x → (r < length xs) × IsIn x xs
 there_is [] zero x h = absurd (cc)
 there_is [] (suc r) x h = absurd (cc)
 there_is (y ∷ xs) zero x h = let e : x ≡ y = cc in (omega arith, inl e)
@@ -61,7 +61,7 @@ past_of [] r h = omega arith
 past_of (x ∷ xs) zero h = absurd (cc)
 past_of (x ∷ xs) (suc r) h = let g = past_of xs r h in omega (arith, g)
 
-place_of : (cs : List Candidate) (c : Candidate) → IsMember c cs → (k : ℕ) × (slice_get cs k ≡ Some c)
+place_of : (cs : List Candidate) (c : Candidate) → IsIn c cs → (k : ℕ) × (slice_get cs k ≡ Some c)
 place_of [] c h = absurd h
 place_of (x ∷ cs) c (inl e) = (0, ap Some (sym e))
 place_of (x ∷ cs) c (inr h) = let r = place_of cs c h in (suc r.0, r.1)
@@ -112,12 +112,12 @@ front_past pool t by_name waiting cursor are free none = rw none (none_ask pool 
 
 -- ---- what a further choice changes
 
-all_in : {X : Type 0} (p : X → Bool) (xs : List X) (x : X) → list_all p xs ≡ true → IsMember x xs → p x ≡ true
+all_in : {X : Type 0} (p : X → Bool) (xs : List X) (x : X) → list_all p xs ≡ true → IsIn x xs → p x ≡ true
 all_in p [] x h m = absurd m
 all_in p (y ∷ xs) x h (inl e) = let a = and_true (p y) (list_all p xs) h in ap p e ∙ a.0
 all_in p (y ∷ xs) x h (inr m) = let a = and_true (p y) (list_all p xs) h in all_in p xs x a.1 m
 
-not_all : {X : Type 0} (p : X → Bool) (xs : List X) → list_all p xs ≡ false → (x : X) × IsMember x xs × (p x ≡ false)
+not_all : {X : Type 0} (p : X → Bool) (xs : List X) → list_all p xs ≡ false → (x : X) × IsIn x xs × (p x ≡ false)
 not_all p [] h = absurd (cc)
 not_all p (y ∷ xs) h = elim (bool_cases (p y)) [
   | inr e ↦ (y, inl refl, e)
@@ -139,7 +139,7 @@ unmet_less pool t c q h = elim (bool_cases (is_met pool t q)) [
 ]
 
 -- the ranks in front of the cursor stay unasked where it does not pass one that the choice makes ask
-pub unasked_more : (pool : SealedPool) (t : List ℕ) (c : ℕ) (details : Candidate) (by_name : List ℕ) (waiting : List (List ℕ × List ℕ)) (old new : ℕ) → AreInstallIfs pool by_name waiting → candidate_at pool c ≡ Some details → AreUnasked pool t by_name old → new ≤ old → ((name : List ℕ) (rank : ℕ) → offers_name name details ≡ true → IsMember rank (items_of waiting name) → rank < new → rank_asks pool (t ++ c ∷ []) by_name rank ≡ false) → AreUnasked pool (t ++ c ∷ []) by_name new
+pub unasked_more : (pool : SealedPool) (t : List ℕ) (c : ℕ) (details : Candidate) (by_name : List ℕ) (waiting : List (List ℕ × List ℕ)) (old new : ℕ) → AreInstallIfs pool by_name waiting → candidate_at pool c ≡ Some details → AreUnasked pool t by_name old → new ≤ old → ((name : List ℕ) (rank : ℕ) → offers_name name details ≡ true → IsIn rank (items_of waiting name) → rank < new → rank_asks pool (t ++ c ∷ []) by_name rank ≡ false) → AreUnasked pool (t ++ c ∷ []) by_name new
 unasked_more pool t c details by_name waiting old new are here was less now = λ rank low. elim (bool_cases (rank_asks pool (t ++ c ∷ []) by_name rank)) [
   | inr e ↦ e
   | inl e ↦
@@ -158,12 +158,12 @@ unasked_more pool t c details by_name waiting old new are here was less now = λ
             let meets = met_by_last pool t c (entry d.0) met d.2 in
             let offers : offers_name d.0.name details ≡ true = meets_offers d.0 details (sym (some_at (meets_dependency d.0) (candidate_at pool c) details here) ∙ meets) in
             let entries : install_if_at pool k.0 ≡ one.0.install_if = ap (λ (o : Option Candidate). option_map_or (λ (x : Candidate). x.install_if) o []) one.1 in
-            now d.0.name rank offers (are.entries rank k.0 d.0 k.1 (subst (λ (z : List Dependency). IsMember d.0 z) (sym entries) d.1)) low
+            now d.0.name rank offers (are.entries rank k.0 d.0 k.1 (subst (λ (z : List Dependency). IsIn d.0 z) (sym entries) d.1)) low
       ]
 ]
 
 -- what a candidate offers is its own name, or one that it provides
-pub offered_names : (name : List ℕ) (c : Candidate) → offers_name name c ≡ true → (name ≡ c.name) ⊎ ((p : Dependency) × IsMember p c.provides × (name ≡ p.name))
+pub offered_names : (name : List ℕ) (c : Candidate) → offers_name name c ≡ true → (name ≡ c.name) ⊎ ((p : Dependency) × IsIn p c.provides × (name ≡ p.name))
 offered_names name c h = elim (or_true (bytes_eq name c.name) (list_any (λ (p : Dependency). not p.conflict && bytes_eq name p.name) c.provides) h) [
   | inl e ↦ inl ((bytes_decides name c.name).0 e)
   | inr e ↦
@@ -176,7 +176,7 @@ offered_names name c h = elim (or_true (bytes_eq name c.name) (list_any (λ (p :
 abbrev asked_names : SealedPool → List ℕ → List (List ℕ)
 asked_names pool t = filter (λ (name : List ℕ). is_unmet pool t (named name)) (names_by_install_if pool t)
 
-asked_by : (pool : SealedPool) (t : List ℕ) (name : List ℕ) → IsMember name (asked_names pool t) → (o : ℕ) × (name ≡ name_at pool o) × (is_usable_at pool o ≡ true) × (asks_at pool t o ≡ true)
+asked_by : (pool : SealedPool) (t : List ℕ) (name : List ℕ) → IsIn name (asked_names pool t) → (o : ℕ) × (name ≡ name_at pool o) × (is_usable_at pool o ≡ true) × (asks_at pool t o ≡ true)
 asked_by pool t name h =
     let f = filter_in (λ (n : List ℕ). is_unmet pool t (named n)) name (names_by_install_if pool t) h in
     let m = map_in (λ (c : Candidate). c.name) name (filter (install_if_applies pool t) pool.candidates) f.0 in
@@ -190,18 +190,18 @@ asked_by pool t name h =
       some_at (asks_for_name pool t) (candidate_at pool k.0) m.0 k.1 ∙ rw both.1 unmet,
     )
 
-asked_there : (pool : SealedPool) (t : List ℕ) (o : ℕ) → is_usable_at pool o ≡ true → asks_at pool t o ≡ true → IsMember (name_at pool o) (asked_names pool t)
+asked_there : (pool : SealedPool) (t : List ℕ) (o : ℕ) → is_usable_at pool o ≡ true → asks_at pool t o ≡ true → IsIn (name_at pool o) (asked_names pool t)
 asked_there pool t o usable asks =
     let one = at_some (has_usable_install_if pool.world) (candidate_at pool o) usable in
     let both = and_true (all_met pool t one.0.install_if) (is_unmet pool t (named one.0.name)) (sym (some_at (asks_for_name pool t) (candidate_at pool o) one.0 one.1) ∙ asks) in
     let applies : install_if_applies pool t one.0 ≡ true = rw one.2 both.0 in
     let name : name_at pool o ≡ one.0.name = ap (λ (z : Option Candidate). option_map_or (λ (c : Candidate). c.name) z []) one.1 in
-    subst (λ (n : List ℕ). IsMember n (asked_names pool t)) (sym name)
+    subst (λ (n : List ℕ). IsIn n (asked_names pool t)) (sym name)
     (in_filter (λ (n : List ℕ). is_unmet pool t (named n)) one.0.name (names_by_install_if pool t)
     (in_map (λ (c : Candidate). c.name) one.0 (filter (install_if_applies pool t) pool.candidates) (in_filter (install_if_applies pool t) one.0 pool.candidates (there_is pool.candidates o one.0 one.1).1 applies)) both.1)
 
-same_name : (x y : List ℕ) → is_lt (byte_cmp x y) ≡ false → is_lt (byte_cmp y x) ≡ false → x ≡ y
-same_name x y h g = (bytes_decides x y).0 (sym (is_eq-slice_cmp x y) ∙ tied (byte_cmp x y) (byte_cmp y x) (nat_list_cmp_total.antisymm x y) h g)
+same_name : (x y : List ℕ) → is_lt (bytes_cmp x y) ≡ false → is_lt (bytes_cmp y x) ≡ false → x ≡ y
+same_name x y h g = (bytes_decides x y).0 (sym (is_eq-slice_cmp x y) ∙ tied (bytes_cmp x y) (bytes_cmp y x) (nat_list_cmp_total.antisymm x y) h g)
   where
     tied : (o p : Ordering) → o ≡ ordering_reverse p → is_lt o ≡ false → is_lt p ≡ false → is_eq o ≡ true
     tied Less p e h g = absurd (cc)
@@ -210,20 +210,20 @@ same_name x y h g = (bytes_decides x y).0 (sym (is_eq-slice_cmp x y) ∙ tied (b
     tied Greater Equal e h g = absurd (cc)
     tied Greater Greater e h g = absurd (cc)
 
-least_is : (x : List ℕ) (xs : List (List ℕ)) → IsMember x xs → ((y : List ℕ) → IsMember y xs → is_lt (byte_cmp y x) ≡ false) → least_name xs ≡ Some x
+least_is : (x : List ℕ) (xs : List (List ℕ)) → IsIn x xs → ((y : List ℕ) → IsIn y xs → is_lt (bytes_cmp y x) ≡ false) → least_name xs ≡ Some x
 least_is x [] h least = absurd h
 least_is x (y ∷ ys) (inl e) least =
     subst (λ (z : List ℕ). Some (lesser_name z (least_name ys)) ≡ Some x) e (ap Some (stays (least_name ys) (λ z is. least z (inr (least_in ys z is)))))
   where
-    stays : (o : Option (List ℕ)) → ((z : List ℕ) → o ≡ Some z → is_lt (byte_cmp z x) ≡ false) → lesser_name x o ≡ x
+    stays : (o : Option (List ℕ)) → ((z : List ℕ) → o ≡ Some z → is_lt (bytes_cmp z x) ≡ false) → lesser_name x o ≡ x
     stays None below = refl
     stays (Some z) below = rw (below z refl) refl
 least_is x (y ∷ ys) (inr h) least =
     let rest = least_is x ys h (λ z m. least z (inr m)) in
     rw rest (ap Some (taken (least y (inl refl))))
   where
-    taken : is_lt (byte_cmp y x) ≡ false → (if is_lt (byte_cmp x y) then x else y) ≡ x
-    taken above = elim (bool_cases (is_lt (byte_cmp x y))) [
+    taken : is_lt (bytes_cmp y x) ≡ false → (if is_lt (bytes_cmp x y) then x else y) ≡ x
+    taken above = elim (bool_cases (is_lt (bytes_cmp x y))) [
       | inl e ↦ rw e refl
       | inr e ↦ rw e (same_name y x above e)
     ]
@@ -231,7 +231,7 @@ least_is x (y ∷ ys) (inr h) least =
 least_named : (pool : SealedPool) (t : List ℕ) (k : ℕ) → IsLeastAsking pool t k → least_name (asked_names pool t) ≡ Some (name_at pool k)
 least_named pool t k is = least_is (name_at pool k) (asked_names pool t) (asked_there pool t k is.usable is.asks) (λ y h.
     let o = asked_by pool t y h in
-    subst (λ (n : List ℕ). is_lt (byte_cmp n (name_at pool k)) ≡ false) (sym o.1) (is.least o.0 o.2 o.3))
+    subst (λ (n : List ℕ). is_lt (bytes_cmp n (name_at pool k)) ≡ false) (sym o.1) (is.least o.0 o.2 o.3))
 
 none_named : (pool : SealedPool) (t : List ℕ) → IsNoneAsking pool t → least_name (asked_names pool t) ≡ None
 none_named pool t none = elim (none_or_some (least_name (asked_names pool t))) [
@@ -260,15 +260,15 @@ open_asked pool t k c by frame met least here within all is =
     let names : least_name (asked_names pool t) ≡ Some c.name = least_named pool t k least ∙ ap Some name in
     let usable : has_usable_install_if pool.world c ≡ true = sym (some_at (has_usable_install_if pool.world) (candidate_at pool k) c here) ∙ least.usable in
     let applies : install_if_applies pool by c ≡ true = rw usable all in
-    let there : IsMember c.name (names_by_install_if pool by) = in_map (λ (x : Candidate). x.name) c (filter (install_if_applies pool by) pool.candidates) (in_filter (install_if_applies pool by) c pool.candidates (there_is pool.candidates k c here).1 applies) in
-    let need : IsMember (named c.name) (needs pool by) = in_right (named c.name) (raised_needs pool by) (map named (names_by_install_if pool by)) (in_map named c.name (names_by_install_if pool by) there) in
+    let there : IsIn c.name (names_by_install_if pool by) = in_map (λ (x : Candidate). x.name) c (filter (install_if_applies pool by) pool.candidates) (in_filter (install_if_applies pool by) c pool.candidates (there_is pool.candidates k c here).1 applies) in
+    let need : IsIn (named c.name) (needs pool by) = in_right (named c.name) (raised_needs pool by) (map named (names_by_install_if pool by)) (in_map named c.name (names_by_install_if pool by) there) in
     let open_now : IsFrameOf pool t ([], options_for pool (named c.name), by) =
     (named c.name, rw (none_raised pool t met) (ap (option_map named) names), refl, within, need, tt) in
     subst (λ (f : FrameValue). IsFrameOf pool t f) (sym is) open_now
 
 -- ---- places that pass a test
 
-pub places_pass : (n : ℕ) (test : Candidate → Bool) (cs : List Candidate) (o : ℕ) → IsMember o (places_from n test cs) → (k : ℕ) × (o ≡ n + k) × (option_map_or test (slice_get cs k) false ≡ true)
+pub places_pass : (n : ℕ) (test : Candidate → Bool) (cs : List Candidate) (o : ℕ) → IsIn o (places_from n test cs) → (k : ℕ) × (o ≡ n + k) × (option_map_or test (slice_get cs k) false ≡ true)
 places_pass n test [] o h = absurd h
 places_pass n test (c ∷ cs) o h = elim (bool_cases (test c)) [
   | inl e ↦ elim (rw e at h) [

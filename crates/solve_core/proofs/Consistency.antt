@@ -10,7 +10,7 @@ use Rattle.pool_core.specs.Rank.{SealedPool, is_at}
 use Rattle.pool_core.specs.Candidates.{is_eligible}
 use Rattle.solve_core.specs.Reasons.{IsFrameTaking, options_in}
 use Rattle.std.proofs.Common.{get_or}
-use Rattle.pool_core.specs.Options.{IsMember, options_for}
+use Rattle.pool_core.specs.Options.{IsIn, options_for}
 use Rattle.solve_core.specs.Selection.{AreMembers, names_by_install_if, depends_at, is_met, is_unmet, needs, positive_needs, next_need, raised_needs}
 use Rattle.solve_core.specs.Reasons.{FrameValue, IsFrameOf}
 use Rattle.solve_core.specs.InstallIf.{AreInstallIfs, AreUnasked}
@@ -80,7 +80,7 @@ pub record IsStep (old new : Choices) (t : List ℕ) : Type 0 where
 -- consistent again, where all is as a list of choices has it
 pub consistent_by : (old new : Choices) (t : List ℕ) → IsStep old new t
     → AreInstallIfs (pool_of old) (install_ifs_of old) old.install_ifs.waiting
-    → ((c : ℕ) → IsMember c t → c < length (pool_of old).candidates)
+    → ((c : ℕ) → IsIn c t → c < length (pool_of old).candidates)
     → new.queue.items ≡ queue_of (pool_of old) t
     → AreMet (pool_of old) t new.cursor
     → AreUnasked (pool_of old) t (install_ifs_of old) new.asking_cursor
@@ -94,7 +94,7 @@ consistent_by old new t step are within queue met unasked listed checkpoints =
     let w : List (List ℕ × List ℕ) = old.install_ifs.waiting in
     let same_waiting : w ≡ new.install_ifs.waiting = ap (λ (z : InstallIfs). z.waiting) (sym step.install_ifs) in
     record {
-      within = λ k h. subst (λ (q : SealedPool). k < length q.candidates) p (within k (subst (λ (z : List ℕ). IsMember k z) step.choices h));
+      within = λ k h. subst (λ (q : SealedPool). k < length q.candidates) p (within k (subst (λ (z : List ℕ). IsIn k z) step.choices h));
       queue = queue ∙ (ap (queue_of (pool_of old)) s ∙ ap (λ (q : SealedPool). queue_of q (choices_of new)) p);
       met = subst (λ (q : SealedPool). AreMet q (choices_of new) new.cursor) p (subst (λ (z : List ℕ). AreMet (pool_of old) z new.cursor) s met);
       install_ifs = subst (λ (q : SealedPool). AreInstallIfs q (install_ifs_of new) new.install_ifs.waiting) p
@@ -119,7 +119,7 @@ consistent_more old new c deps b consistent small is step queue at checkpoints b
     let all_met : AreMet p t' new.cursor = subst (λ (k : ℕ). AreMet p t' k) (sym at) (met_more p t c old.cursor consistent.met) in
     let all_saved : AreCheckpoints p (install_ifs_of old) [] t' new.checkpoints.items =
     subst (λ (z : List Checkpoint). AreCheckpoints p (install_ifs_of old) [] t' z) (sym checkpoints) (checkpoints_more p (install_ifs_of old) [] t old.checkpoints.items c b consistent.checkpoints before) in
-    let all_within : (k : ℕ) → IsMember k t' → k < length p.candidates = λ k h. elim (in_append k t (c ∷ []) h) [
+    let all_within : (k : ℕ) → IsIn k t' → k < length p.candidates = λ k h. elim (in_append k t (c ∷ []) h) [
       | inl a ↦ consistent.within k a
       | inr d ↦ elim d [ inl e ↦ subst (λ (z : ℕ). z < length p.candidates) (sym e) small | inr bad ↦ absurd bad ]
     ] in
@@ -142,7 +142,7 @@ consistent_start chosen none queue at asking are conflicts checkpoints =
     let p = pool_of chosen in
     let all : raised_deps None p.world ≡ queue_of p [] = sym (append-nil (raised_deps None p.world)) in
     record {
-      within = λ k h. absurd (subst (λ (z : List ℕ). IsMember k z) none h);
+      within = λ k h. absurd (subst (λ (z : List ℕ). IsIn k z) none h);
       queue = queue ∙ (all ∙ ap (queue_of p) (sym none));
       met = subst (λ (k : ℕ). AreMet p (choices_of chosen) k) (sym at) (met_start p (choices_of chosen));
       install_ifs = are;
@@ -216,29 +216,29 @@ find_map p (x ∷ xs) o h = elim (bool_cases (p (need_in x))) [
     here None h = absurd (cc)
     here (Some r) h = let e : x ≡ r = cc in ap (λ (z : RaisedDepValue). Some (need_in z)) e
 
-flat_in : (f : ℕ → List RaisedDepValue) (q : RaisedDepValue) (xs : List ℕ) → IsMember q (flat_map f xs) → (c : ℕ) × IsMember c xs × IsMember q (f c)
+flat_in : (f : ℕ → List RaisedDepValue) (q : RaisedDepValue) (xs : List ℕ) → IsIn q (flat_map f xs) → (c : ℕ) × IsIn c xs × IsIn q (f c)
 flat_in f q [] h = absurd h
 flat_in f q (x ∷ xs) h = elim (in_append q (f x) (flat_map f xs) h) [
   | inl a ↦ (x, inl refl, a)
   | inr b ↦ let r = flat_in f q xs b in (r.0, inr r.1, r.2)
 ]
 
-raised_in : (by : Option ℕ) (deps : List Dependency) (r : RaisedDepValue) → IsMember r (raised_deps by deps) → (r.1 ≡ by) × IsMember (entry r.0) (positive_needs deps)
+raised_in : (by : Option ℕ) (deps : List Dependency) (r : RaisedDepValue) → IsIn r (raised_deps by deps) → (r.1 ≡ by) × IsIn (entry r.0) (positive_needs deps)
 raised_in by deps r h =
     let m = map_in (λ (d : Dependency). (d, by)) r (filter (λ (d : Dependency). not d.conflict) deps) h in
-    (ap (λ (z : RaisedDepValue). z.1) m.2, subst (λ (z : RaisedDepValue). IsMember (entry z.0) (positive_needs deps)) (sym m.2) (in_map entry m.0 (filter (λ (d : Dependency). not d.conflict) deps) m.1))
+    (ap (λ (z : RaisedDepValue). z.1) m.2, subst (λ (z : RaisedDepValue). IsIn (entry z.0) (positive_needs deps)) (sym m.2) (in_map entry m.0 (filter (λ (d : Dependency). not d.conflict) deps) m.1))
 
-in_needs : (pool : SealedPool) (t : List ℕ) (r : RaisedDepValue) → IsMember r (queue_of pool t) → AreMembers (option_to_list r.1) t × IsMember (entry r.0) (needs pool (option_to_list r.1))
+in_needs : (pool : SealedPool) (t : List ℕ) (r : RaisedDepValue) → IsIn r (queue_of pool t) → AreMembers (option_to_list r.1) t × IsIn (entry r.0) (needs pool (option_to_list r.1))
 in_needs pool t r h = elim (in_append r (raised_deps None pool.world) (flat_map (raised_deps_at pool) t) h) [
   | inl a ↦
       let k = raised_in None pool.world r a in
-      subst (λ (o : Option ℕ). AreMembers (option_to_list o) t × IsMember (entry r.0) (needs pool (option_to_list o))) (sym k.0)
+      subst (λ (o : Option ℕ). AreMembers (option_to_list o) t × IsIn (entry r.0) (needs pool (option_to_list o))) (sym k.0)
       ((λ c g. absurd g), in_left (entry r.0) (raised_needs pool []) (map named (names_by_install_if pool [])) (in_left (entry r.0) (positive_needs pool.world) [] k.1))
   | inr b ↦
       let f = flat_in (raised_deps_at pool) r t b in
       let k = raised_in (Some f.0) (depends_at pool f.0) r f.2 in
-      subst (λ (o : Option ℕ). AreMembers (option_to_list o) t × IsMember (entry r.0) (needs pool (option_to_list o))) (sym k.0) (
-        (λ c g. elim g [ inl e ↦ subst (λ (z : ℕ). IsMember z t) (sym e) f.1 | inr bad ↦ absurd bad ]),
+      subst (λ (o : Option ℕ). AreMembers (option_to_list o) t × IsIn (entry r.0) (needs pool (option_to_list o))) (sym k.0) (
+        (λ c g. elim g [ inl e ↦ subst (λ (z : ℕ). IsIn z t) (sym e) f.1 | inr bad ↦ absurd bad ]),
         in_left (entry r.0) (raised_needs pool (f.0 ∷ [])) (map named (names_by_install_if pool (f.0 ∷ []))) (in_right (entry r.0) (positive_needs pool.world) (positive_needs (depends_at pool f.0) ++ []) (in_left (entry r.0) (positive_needs (depends_at pool f.0)) [] k.1)),
       )
 ]
@@ -266,16 +266,16 @@ past_by pool t queue at is met none =
 -- an option is a candidate
 pub taken_within : (pool : SealedPool) → ((need : Need) → HasOptions pool need) → (t : List ℕ) (f : FrameValue) (id : ℕ) → IsFrameTaking pool t f id → id < length pool.candidates
 taken_within pool has t f id taken =
-    let there : IsMember id (options_for pool taken.0) = subst (λ (z : List ℕ). IsMember id z) (sym taken.2) (in_right id (options_in f.0) (id ∷ f.1) (inl refl)) in
+    let there : IsIn id (options_for pool taken.0) = subst (λ (z : List ℕ). IsIn id z) (sym taken.2) (in_right id (options_in f.0) (id ∷ f.1) (inl refl)) in
     passing_is_within pool (is_eligible pool.world) id ((has taken.0).those id there).0
 
 -- an option of an unmet need is no choice
-pub taken_once : (pool : SealedPool) → ((need : Need) → HasOptions pool need) → (t : List ℕ) (f : FrameValue) (id : ℕ) → IsFrameTaking pool t f id → IsMember id t → ⊥
+pub taken_once : (pool : SealedPool) → ((need : Need) → HasOptions pool need) → (t : List ℕ) (f : FrameValue) (id : ℕ) → IsFrameTaking pool t f id → IsIn id t → ⊥
 taken_once pool has t f id taken h =
-    let there : IsMember id (options_for pool taken.0) = subst (λ (z : List ℕ). IsMember id z) (sym taken.2) (in_right id (options_in f.0) (id ∷ f.1) (inl refl)) in
+    let there : IsIn id (options_for pool taken.0) = subst (λ (z : List ℕ). IsIn id z) (sym taken.2) (in_right id (options_in f.0) (id ∷ f.1) (inl refl)) in
     ((pool_facts pool has).next_some t taken.0 taken.1).1 (id, h, ((has taken.0).those id there).1)
 
-pub item_in : (xs : List ℕ) (i x : ℕ) → i < length xs → x ≡ get_or xs i x → IsMember x xs
+pub item_in : (xs : List ℕ) (i x : ℕ) → i < length xs → x ≡ get_or xs i x → IsIn x xs
 item_in [] i x h e = absurd (omega arith)
 item_in (y ∷ xs) zero x h e = inl e
 item_in (y ∷ xs) (suc i) x h e = inr (item_in xs i x (omega arith) e)

@@ -4,7 +4,7 @@ use Rattle.std.proofs.Common.{◌≡◌, ◌⊎◌, inl, inr, ℕ, zero, suc, �
 use Rattle.std.specs.Prelude.{Some}
 use Rattle.pool_core.specs.Candidates.{Need}
 use Rattle.pool_core.specs.Rank.{SealedPool, is_eligible_at}
-use Rattle.pool_core.specs.Options.{IsMember, options_for}
+use Rattle.pool_core.specs.Options.{IsIn, options_for}
 use Rattle.solve_core.specs.Selection.{exclude_each_other, next_need}
 use Rattle.solve_core.specs.Reasons.{AreCompatible}
 use Rattle.solve_core.proofs.Theory as law
@@ -17,7 +17,7 @@ module _ (pool : SealedPool) (facts : PoolFacts pool) where
   Found = (trace : List ℕ) × law.FirstAll facts trace
 
   -- whether a candidate goes with all choices
-  goes_with : (t : List ℕ) (y : ℕ) → ((m : ℕ) → IsMember m t → exclude_each_other pool m y ≡ true → ⊥) ⊎ ((m : ℕ) × IsMember m t × (exclude_each_other pool m y ≡ true))
+  goes_with : (t : List ℕ) (y : ℕ) → ((m : ℕ) → IsIn m t → exclude_each_other pool m y ≡ true → ⊥) ⊎ ((m : ℕ) × IsIn m t × (exclude_each_other pool m y ≡ true))
   goes_with [] y = inl (λ m h e. h)
   goes_with (x ∷ t) y = elim (bool_cases (exclude_each_other pool x y)) [
     | inl e ↦ inr (x, inl refl, e)
@@ -44,12 +44,12 @@ module _ (pool : SealedPool) (facts : PoolFacts pool) where
 
   -- the options of a need, one after the other
   over_options : (t : List ℕ) (q : Need) → next_need pool t ≡ Some q → AreCompatible pool t → law.Led facts [] t
-      → ((y : ℕ) → is_eligible_at pool y ≡ true → (IsMember y t → ⊥) → AreCompatible pool (t ++ y ∷ []) → law.Led facts [] (t ++ y ∷ []) → Found ⊎ law.Dead facts (t ++ y ∷ []))
+      → ((y : ℕ) → is_eligible_at pool y ≡ true → (IsIn y t → ⊥) → AreCompatible pool (t ++ y ∷ []) → law.Led facts [] (t ++ y ∷ []) → Found ⊎ law.Dead facts (t ++ y ∷ []))
       → (xs ys : List ℕ) → options_for pool q ≡ xs ++ ys → law.AllDead facts t xs → Found ⊎ law.Dead facts t
   over_options t q e clean led deeper xs [] is dead = inr (law.open_spent facts t xs (q, e, is, dead))
   over_options t q e clean led deeper xs (y ∷ ys) is dead =
-      let listed = facts.only q y (subst (λ (z : List ℕ). IsMember y z) (sym is) (in_right y xs (y ∷ ys) (inl refl))) in
-      let new : IsMember y t → ⊥ = λ h. (facts.next_some t q e).1 (y, h, listed.1) in
+      let listed = facts.only q y (subst (λ (z : List ℕ). IsIn y z) (sym is) (in_right y xs (y ∷ ys) (inl refl))) in
+      let new : IsIn y t → ⊥ = λ h. (facts.next_some t q e).1 (y, h, listed.1) in
       let on : law.Dead facts (y ∷ t) → Found ⊎ law.Dead facts t = λ d.
       over_options t q e clean led deeper (xs ++ y ∷ []) ys (is ∙ sym (append_assoc xs (y ∷ []) ys)) (one_more_dead t xs y dead d) in
       elim (goes_with t y) [
@@ -58,13 +58,13 @@ module _ (pool : SealedPool) (facts : PoolFacts pool) where
           | inr d ↦ on (front_dead t y d)
         ]
         | inr bad ↦ on (law.dead_mono facts (bad.0 ∷ y ∷ []) (y ∷ t) (λ o h. elim h [
-          | inl a ↦ inr (subst (λ (z : ℕ). IsMember z t) (sym a) bad.1)
+          | inl a ↦ inr (subst (λ (z : ℕ). IsIn z t) (sym a) bad.1)
           | inr r ↦ elim r [ inl b ↦ inl b | inr none ↦ absurd none ]
         ]) (law.dead_apart facts bad.0 y bad.2))
       ]
 
   -- behind some choices, where R holds each other candidate that may be selected
-  explore : (fuel : ℕ) (R t : List ℕ) → length R ≤ fuel → ((c : ℕ) → is_eligible_at pool c ≡ true → IsMember c t ⊎ IsMember c R) → AreCompatible pool t → law.Led facts [] t → Found ⊎ law.Dead facts t
+  explore : (fuel : ℕ) (R t : List ℕ) → length R ≤ fuel → ((c : ℕ) → is_eligible_at pool c ≡ true → IsIn c t ⊎ IsIn c R) → AreCompatible pool t → law.Led facts [] t → Found ⊎ law.Dead facts t
   explore zero R t len parts clean led = elim (none_or_some (next_need pool t)) [
     | inl e ↦ inl (t, law.first_of_led facts t led clean e)
     | inr some ↦ over_options t some.0 some.1 clean led (λ y good new clean' led'. elim (parts y good) [
@@ -88,5 +88,5 @@ module _ (pool : SealedPool) (facts : PoolFacts pool) where
     ]) [] (options_for pool some.0) refl (λ o h. absurd h)
   ]
 
-  pub first_or_none : (R : List ℕ) → ((c : ℕ) → is_eligible_at pool c ≡ true → IsMember c R) → Found ⊎ law.Dead facts []
+  pub first_or_none : (R : List ℕ) → ((c : ℕ) → is_eligible_at pool c ≡ true → IsIn c R) → Found ⊎ law.Dead facts []
   first_or_none R all = explore (length R) R [] (omega arith) (λ c h. inr (all c h)) (tt, (λ c h. absurd h), λ a b h. absurd h) tt

@@ -1,6 +1,6 @@
 -- Lists with the same members.
 use Rattle.std.proofs.Common.{◌≡◌, inl, inr, ℕ, List, [], ◌∷◌, ◌++◌, sym, subst, ap, ◌∙◌, append_assoc, append-nil}
-use Rattle.pool_core.specs.Options.{IsMember}
+use Rattle.pool_core.specs.Options.{IsIn}
 use Rattle.solve_core.specs.Reasons.{HasSameMembers, others_in}
 use Rattle.solve_core.proofs.Theory.{in_left, in_right, in_append}
 
@@ -14,12 +14,12 @@ same_behind xs ys zs a = (
 )
 
 -- one that is there already adds nothing
-pub same_there : (xs : List ℕ) (id : ℕ) → IsMember id xs → HasSameMembers xs (xs ++ id ∷ [])
+pub same_there : (xs : List ℕ) (id : ℕ) → IsIn id xs → HasSameMembers xs (xs ++ id ∷ [])
 same_there xs id there = (
   λ c h. in_left c xs (id ∷ []) h,
   λ c h. elim (in_append c xs (id ∷ []) h) [
     | inl a ↦ a
-    | inr b ↦ elim b [ inl e ↦ subst (λ (z : ℕ). IsMember z xs) (sym e) there | inr bad ↦ absurd bad ]
+    | inr b ↦ elim b [ inl e ↦ subst (λ (z : ℕ). IsIn z xs) (sym e) there | inr bad ↦ absurd bad ]
   ],
 )
 

@@ -8,7 +8,7 @@ use Rattle.std.specs.Cmp.Lexicographic.{bytes_decides}
 use Rattle.std.specs.Option.{option_map_or}
 use Rattle.std.specs.Str.{bytes_eq}
 use Rattle.indexmap.specs.IndexMap.{insert_entry}
-use Rattle.pool_core.specs.Options.{AreMembers, IsMember}
+use Rattle.pool_core.specs.Options.{AreMembers, IsIn}
 use Rattle.solve_core.specs.NameTable.{items_of, names_and_items, without_last}
 use Rattle.solve_core.proofs.PoolFacts.{bool_cases}
 use Rattle.solve_core.proofs.Theory.{in_left, in_right}
@@ -81,12 +81,12 @@ one_more_item {X} name other item table old new result was is found = elim (bool
 
 -- what an addition keeps, and what it brings
 pub items_kept : {X : Type 0} (old new : List (List ℕ × List X)) (name : List ℕ) (item : X) → ((other : List ℕ) → items_of new other ≡ items_of old other ++ (if bytes_eq other name then item ∷ [] else [])) → (other : List ℕ) → AreMembers (items_of old other) (items_of new other)
-items_kept {X} old new name item is other k h = subst (λ (z : List X). IsMember k z) (sym (is other)) (in_left k (items_of old other) (if bytes_eq other name then item ∷ [] else []) h)
+items_kept {X} old new name item is other k h = subst (λ (z : List X). IsIn k z) (sym (is other)) (in_left k (items_of old other) (if bytes_eq other name then item ∷ [] else []) h)
 
-pub item_there : {X : Type 0} (old new : List (List ℕ × List X)) (name : List ℕ) (item : X) → ((other : List ℕ) → items_of new other ≡ items_of old other ++ (if bytes_eq other name then item ∷ [] else [])) → IsMember item (items_of new name)
+pub item_there : {X : Type 0} (old new : List (List ℕ × List X)) (name : List ℕ) (item : X) → ((other : List ℕ) → items_of new other ≡ items_of old other ++ (if bytes_eq other name then item ∷ [] else [])) → IsIn item (items_of new name)
 item_there {X} old new name item is =
-    let one : IsMember item (if bytes_eq name name then item ∷ [] else []) = rw ((bytes_decides name name).1 refl) (inl refl) in
-    subst (λ (z : List X). IsMember item z) (sym (is name)) (in_right item (items_of old name) (if bytes_eq name name then item ∷ [] else []) one)
+    let one : IsIn item (if bytes_eq name name then item ∷ [] else []) = rw ((bytes_decides name name).1 refl) (inl refl) in
+    subst (λ (z : List X). IsIn item z) (sym (is name)) (in_right item (items_of old name) (if bytes_eq name name then item ∷ [] else []) one)
 
 -- nothing is lost over two steps
 pub members_on : {X : Type 0} (old mid new : List (List ℕ × List X)) → ((name : List ℕ) → AreMembers (items_of old name) (items_of mid name)) → ((name : List ℕ) → AreMembers (items_of mid name) (items_of new name)) → (name : List ℕ) → AreMembers (items_of old name) (items_of new name)

@@ -10,7 +10,7 @@ use Rattle.dep_core.specs.Dependency.{Dependency}
 use Rattle.dep_core.specs.Meets.{is_wanted}
 use Rattle.pool_core.specs.Candidates.{Candidate, Need, entry, entry_occupies, is_met_by_entry, named, need_name, meets_dependency, meets_by_own_name, occupies_name, offers_name}
 use Rattle.pool_core.specs.Rank.{SealedPool, is_at, meets_at}
-use Rattle.pool_core.specs.Options.{IsMember, places_offering}
+use Rattle.pool_core.specs.Options.{IsIn, places_offering}
 use Rattle.solve_core.specs.Selection.{is_met}
 use Rattle.pool_core.proofs.OptionLists.{in_places}
 use Rattle.solve_core.proofs.PoolFacts.{bool_cases, any_in}
@@ -32,25 +32,25 @@ pub mono_at : (p q : Candidate → Bool) (o : Option Candidate) → ((c : Candid
 mono_at p q None to h = h
 mono_at p q (Some c) to h = to c h
 
-pub meets_offered : (pool : SealedPool) (d : Dependency) (m : ℕ) → meets_at pool m (entry d) ≡ true → IsMember m (places_offering d.name pool.candidates)
+pub meets_offered : (pool : SealedPool) (d : Dependency) (m : ℕ) → meets_at pool m (entry d) ≡ true → IsIn m (places_offering d.name pool.candidates)
 meets_offered pool d m h =
     let z : 0 + m ≡ m = omega arith in
-    subst (λ (o : ℕ). IsMember o (places_offering d.name pool.candidates)) z
+    subst (λ (o : ℕ). IsIn o (places_offering d.name pool.candidates)) z
     (in_places 0 (offers_name d.name) pool.candidates m (mono_at (meets_dependency d) (offers_name d.name) (slice_get pool.candidates m) (meets_offers d) h))
 
-pub in_more : (P : ℕ → Type 0) (xs : List ℕ) (x : ℕ) → ((k : ℕ) → IsMember k xs → P k) → P x → (k : ℕ) → IsMember k (xs ++ x ∷ []) → P k
+pub in_more : (P : ℕ → Type 0) (xs : List ℕ) (x : ℕ) → ((k : ℕ) → IsIn k xs → P k) → P x → (k : ℕ) → IsIn k (xs ++ x ∷ []) → P k
 in_more P xs x all here k h = elim (in_append k xs (x ∷ []) h) [
   | inl a ↦ all k a
   | inr b ↦ elim b [ inl e ↦ subst P (sym e) here | inr bad ↦ absurd bad ]
 ]
 
-named_offered : (pool : SealedPool) (name : List ℕ) (m : ℕ) → meets_at pool m (named name) ≡ true → IsMember m (places_offering name pool.candidates)
+named_offered : (pool : SealedPool) (name : List ℕ) (m : ℕ) → meets_at pool m (named name) ≡ true → IsIn m (places_offering name pool.candidates)
 named_offered pool name m h =
     let z : 0 + m ≡ m = omega arith in
-    subst (λ (o : ℕ). IsMember o (places_offering name pool.candidates)) z
+    subst (λ (o : ℕ). IsIn o (places_offering name pool.candidates)) z
     (in_places 0 (offers_name name) pool.candidates m (mono_at (λ (c : Candidate). bytes_eq name c.name) (offers_name name) (slice_get pool.candidates m) (λ c e. true_or (bytes_eq name c.name) _ (inl e)) h))
 
-need_offered : (pool : SealedPool) (need : Need) (m : ℕ) → meets_at pool m need ≡ true → IsMember m (places_offering (need_name need) pool.candidates)
+need_offered : (pool : SealedPool) (need : Need) (m : ℕ) → meets_at pool m need ≡ true → IsIn m (places_offering (need_name need) pool.candidates)
 need_offered pool (entry d) m h = meets_offered pool d m h
 need_offered pool (named name) m h = named_offered pool name m h
 
@@ -59,28 +59,28 @@ not_both true e h = cc
 not_both false e h = cc
 
 -- no choice meets the need, looked for among all choices
-pub unmet_among_all : (pool : SealedPool) (chosen : List ℕ) (need : Need) → ((k : ℕ) → IsMember k chosen → meets_at pool k need ≡ false) → is_met pool chosen need ≡ false
+pub unmet_among_all : (pool : SealedPool) (chosen : List ℕ) (need : Need) → ((k : ℕ) → IsIn k chosen → meets_at pool k need ≡ false) → is_met pool chosen need ≡ false
 unmet_among_all pool chosen need none = elim (bool_cases (is_met pool chosen need)) [
   | inl e ↦ let r = any_in (λ c. meets_at pool c need) chosen e in absurd (not_both (meets_at pool r.0 need) (none r.0 r.1) r.2)
   | inr e ↦ e
 ]
 
 -- the same, among those that offer its name
-pub unmet_among_offers : (pool : SealedPool) (chosen : List ℕ) (need : Need) → ((k : ℕ) → IsMember k (places_offering (need_name need) pool.candidates) → IsMember k chosen → meets_at pool k need ≡ false) → is_met pool chosen need ≡ false
+pub unmet_among_offers : (pool : SealedPool) (chosen : List ℕ) (need : Need) → ((k : ℕ) → IsIn k (places_offering (need_name need) pool.candidates) → IsIn k chosen → meets_at pool k need ≡ false) → is_met pool chosen need ≡ false
 unmet_among_offers pool chosen need none = elim (bool_cases (is_met pool chosen need)) [
   | inl e ↦ let r = any_in (λ c. meets_at pool c need) chosen e in absurd (not_both (meets_at pool r.0 need) (none r.0 (need_offered pool need r.0 r.2) r.1) r.2)
   | inr e ↦ e
 ]
 
 -- a step of a loop over a list, and its end
-pub each_on : {X : Type 0} (P : X → Type 0) (xs : List X) (i : ℕ) (x : X) → slice_get xs i ≡ Some x → ((y : X) → IsMember y (take i xs) → P y) → P x → (y : X) → IsMember y (take (i + 1) xs) → P y
-each_on {X} P xs i x here done one y h = elim (in_append y (take i xs) (x ∷ []) (subst (λ (z : List X). IsMember y z) (take_one_more xs i x here) h)) [
+pub each_on : {X : Type 0} (P : X → Type 0) (xs : List X) (i : ℕ) (x : X) → slice_get xs i ≡ Some x → ((y : X) → IsIn y (take i xs) → P y) → P x → (y : X) → IsIn y (take (i + 1) xs) → P y
+each_on {X} P xs i x here done one y h = elim (in_append y (take i xs) (x ∷ []) (subst (λ (z : List X). IsIn y z) (take_one_more xs i x here) h)) [
   | inl a ↦ done y a
   | inr b ↦ elim b [ inl e ↦ subst P (sym e) one | inr bad ↦ absurd bad ]
 ]
 
-pub each_all : {X : Type 0} (P : X → Type 0) (xs : List X) (i : ℕ) → length xs ≤ i → ((y : X) → IsMember y (take i xs) → P y) → (y : X) → IsMember y xs → P y
-each_all {X} P xs i past done y h = done y (subst (λ (z : List X). IsMember y z) (sym (take_all i xs past)) h)
+pub each_all : {X : Type 0} (P : X → Type 0) (xs : List X) (i : ℕ) → length xs ≤ i → ((y : X) → IsIn y (take i xs) → P y) → (y : X) → IsIn y xs → P y
+each_all {X} P xs i past done y h = done y (subst (λ (z : List X). IsIn y z) (sym (take_all i xs past)) h)
 
 -- a candidate that occupies a name offers it
 occupied_offers : (name : List ℕ) (c : Candidate) → occupies_name name c ≡ true → offers_name name c ≡ true
@@ -95,12 +95,12 @@ occupied_offers name c h = elim (or_true (bytes_eq name c.name) (list_any (entry
 ]
 
 -- no choice occupies the name, looked for among those that offer it
-pub occupied_among_offers : (pool : SealedPool) (chosen : List ℕ) (name : List ℕ) → ((k : ℕ) → IsMember k (places_offering name pool.candidates) → IsMember k chosen → is_at pool (occupies_name name) k ≡ false) → (k : ℕ) → IsMember k chosen → is_at pool (occupies_name name) k ≡ false
+pub occupied_among_offers : (pool : SealedPool) (chosen : List ℕ) (name : List ℕ) → ((k : ℕ) → IsIn k (places_offering name pool.candidates) → IsIn k chosen → is_at pool (occupies_name name) k ≡ false) → (k : ℕ) → IsIn k chosen → is_at pool (occupies_name name) k ≡ false
 occupied_among_offers pool chosen name none k there = elim (bool_cases (is_at pool (occupies_name name) k)) [
   | inr e ↦ e
   | inl e ↦
       let z : 0 + k ≡ k = omega arith in
-      let offered : IsMember k (places_offering name pool.candidates) = subst (λ (o : ℕ). IsMember o (places_offering name pool.candidates)) z
+      let offered : IsIn k (places_offering name pool.candidates) = subst (λ (o : ℕ). IsIn o (places_offering name pool.candidates)) z
       (in_places 0 (offers_name name) pool.candidates k (mono_at (occupies_name name) (offers_name name) (slice_get pool.candidates k) (occupied_offers name) e)) in
       none k offered there
 ]

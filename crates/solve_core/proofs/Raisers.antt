@@ -5,7 +5,7 @@ use Rattle.pool_core.proofs.Steps.{take_one_more}
 use Rattle.dep_core.specs.Dependency.{Dependency}
 use Rattle.pool_core.specs.Candidates.{Need, entry}
 use Rattle.pool_core.specs.Rank.{SealedPool, meets_at}
-use Rattle.pool_core.specs.Options.{IsMember}
+use Rattle.pool_core.specs.Options.{IsIn}
 use Rattle.solve_core.specs.Selection.{AreMembers, is_met}
 use Rattle.solve_core.specs.InstallIf.{all_met}
 use Rattle.solve_core.proofs.Theory.{in_left, in_right, in_append}
@@ -13,7 +13,7 @@ use Rattle.solve_core.proofs.PoolFacts.{bool_cases, met_mono}
 use Rattle.solve_core.proofs.Satisfying.{and_true, one_any}
 
 module _ (pool : SealedPool) where
-  pub is_met_by : (t : List ℕ) (need : Need) (o : Option ℕ) → MatchOption o (is_met pool t need ≡ false) (λ id. IsMember id t × (meets_at pool id need ≡ true)) → is_some o ≡ is_met pool t need
+  pub is_met_by : (t : List ℕ) (need : Need) (o : Option ℕ) → MatchOption o (is_met pool t need ≡ false) (λ id. IsIn id t × (meets_at pool id need ≡ true)) → is_some o ≡ is_met pool t need
   is_met_by t need None m = sym m
   is_met_by t need (Some id) m = sym (one_any (λ c. meets_at pool c need) t id m.0 m.1)
 
@@ -60,14 +60,14 @@ module _ (pool : SealedPool) where
     | inr e ↦ rw e refl
   ]
 
-  pub pushed_within : (by new t : List ℕ) (id : ℕ) → new ≡ by ++ id ∷ [] → IsMember id t → AreMembers by t → AreMembers new t
-  pushed_within by new t id is there sub c h = elim (in_append c by (id ∷ []) (subst (λ (z : List ℕ). IsMember c z) is h)) [
+  pub pushed_within : (by new t : List ℕ) (id : ℕ) → new ≡ by ++ id ∷ [] → IsIn id t → AreMembers by t → AreMembers new t
+  pushed_within by new t id is there sub c h = elim (in_append c by (id ∷ []) (subst (λ (z : List ℕ). IsIn c z) is h)) [
     | inl a ↦ sub c a
-    | inr b ↦ elim b [ inl e ↦ subst (λ (z : ℕ). IsMember z t) (sym e) there | inr bad ↦ absurd bad ]
+    | inr b ↦ elim b [ inl e ↦ subst (λ (z : ℕ). IsIn z t) (sym e) there | inr bad ↦ absurd bad ]
   ]
 
   pub pushed_more : (by new : List ℕ) (id : ℕ) → new ≡ by ++ id ∷ [] → AreMembers by new
-  pushed_more by new id is c h = subst (λ (z : List ℕ). IsMember c z) (sym is) (in_left c by (id ∷ []) h)
+  pushed_more by new id is c h = subst (λ (z : List ℕ). IsIn c z) (sym is) (in_left c by (id ∷ []) h)
 
   pub pushed_met : (by new : List ℕ) (id : ℕ) (d : Dependency) → new ≡ by ++ id ∷ [] → meets_at pool id (entry d) ≡ true → is_met pool new (entry d) ≡ true
-  pushed_met by new id d is meets = one_any (λ c. meets_at pool c (entry d)) new id (subst (λ (z : List ℕ). IsMember id z) (sym is) (in_right id by (id ∷ []) (inl refl))) meets
+  pushed_met by new id d is meets = one_any (λ c. meets_at pool c (entry d)) new id (subst (λ (z : List ℕ). IsIn id z) (sym is) (in_right id by (id ∷ []) (inl refl))) meets

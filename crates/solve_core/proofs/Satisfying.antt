@@ -9,7 +9,7 @@ use Rattle.std.specs.Cmp.Lexicographic.{bytes_decides}
 use Rattle.dep_core.specs.Dependency.{Dependency}
 use Rattle.pool_core.specs.Candidates.{Candidate, Need, named, occupies_name}
 use Rattle.pool_core.specs.Rank.{SealedPool, candidate_at, is_at}
-use Rattle.pool_core.specs.Options.{IsMember}
+use Rattle.pool_core.specs.Options.{IsIn}
 use Rattle.solve_core.specs.Selection.{IsSatisfying, exclude_each_other, names_by_install_if, depends_at, conflicts_with, occupied_names_at, occupied_names, is_unmet, keeps_out, least_name, needs, positive_needs, next_need, raised_needs, share_a_name}
 use Rattle.solve_core.specs.Reasons.{IsSolution}
 use Rattle.solve_core.proofs.Theory.{in_left, in_right, in_append}
@@ -28,14 +28,14 @@ true_or true q h = refl
 true_or false q (inl e) = absurd (cc)
 true_or false q (inr e) = e
 
-pub any_one : {X : Type 0} (p : X → Bool) (xs : List X) → list_any p xs ≡ true → (x : X) × IsMember x xs × (p x ≡ true)
+pub any_one : {X : Type 0} (p : X → Bool) (xs : List X) → list_any p xs ≡ true → (x : X) × IsIn x xs × (p x ≡ true)
 any_one p [] h = absurd (cc)
 any_one p (x ∷ xs) h = elim (bool_cases (p x)) [
   | inl e ↦ (x, inl refl, e)
   | inr e ↦ let r = any_one p xs (rw e at h) in (r.0, inr r.1, r.2)
 ]
 
-pub one_any : {X : Type 0} (p : X → Bool) (xs : List X) (x : X) → IsMember x xs → p x ≡ true → list_any p xs ≡ true
+pub one_any : {X : Type 0} (p : X → Bool) (xs : List X) (x : X) → IsIn x xs → p x ≡ true → list_any p xs ≡ true
 one_any p [] x h e = absurd h
 one_any {X} p (y ∷ xs) x (inl s) e = rw (subst (λ (z : X). p z ≡ true) s e) refl
 one_any p (y ∷ xs) x (inr h) e = elim (bool_cases (p y)) [ inl t ↦ rw t refl | inr t ↦ rw t (one_any p xs x h e) ]
@@ -49,7 +49,7 @@ bytes_same a b e = (bytes_decides a b).1 e
 provides_alone : List ℕ → Dependency → Bool
 provides_alone name p = not p.conflict && (is_some p.version && bytes_eq name p.name)
 
-listed_is_occupied : (k : Candidate) (name : List ℕ) → IsMember name (occupied_names k) → occupies_name name k ≡ true
+listed_is_occupied : (k : Candidate) (name : List ℕ) → IsIn name (occupied_names k) → occupies_name name k ≡ true
 listed_is_occupied k name (inl e) = true_or (bytes_eq name k.name) _ (inl (bytes_same name k.name e))
 listed_is_occupied k name (inr h) =
     let of : Dependency → List ℕ = λ (p : Dependency). p.name in
@@ -60,7 +60,7 @@ listed_is_occupied k name (inr h) =
     true_or (bytes_eq name k.name) (list_any (λ (p : Dependency). not p.conflict && (is_some p.version && bytes_eq name p.name)) k.provides)
     (inr (one_any (λ (p : Dependency). not p.conflict && (is_some p.version && bytes_eq name p.name)) k.provides m.0 f.0 (rw both.0 (rw both.1 (bytes_same name m.0.name m.2)))))
 
-occupied_is_listed : (k : Candidate) (name : List ℕ) → occupies_name name k ≡ true → IsMember name (occupied_names k)
+occupied_is_listed : (k : Candidate) (name : List ℕ) → occupies_name name k ≡ true → IsIn name (occupied_names k)
 occupied_is_listed k name h = elim (or_true (bytes_eq name k.name) (list_any (λ (p : Dependency). not p.conflict && (is_some p.version && bytes_eq name p.name)) k.provides) h) [
   | inl e ↦ inl (same_bytes name k.name e)
   | inr e ↦
@@ -69,27 +69,27 @@ occupied_is_listed k name h = elim (or_true (bytes_eq name k.name) (list_any (λ
       let a = any_one (λ (p : Dependency). not p.conflict && (is_some p.version && bytes_eq name p.name)) k.provides e in
       let one = and_true (not a.0.conflict) (is_some a.0.version && bytes_eq name a.0.name) a.2 in
       let two = and_true (is_some a.0.version) (bytes_eq name a.0.name) one.1 in
-      let f : IsMember a.0 (filter alone k.provides) = in_filter alone a.0 k.provides a.1 (rw one.0 two.0) in
-      inr (subst (λ (z : List ℕ). IsMember z (map of (filter alone k.provides))) (sym (same_bytes name a.0.name two.1)) (in_map of a.0 (filter alone k.provides) f))
+      let f : IsIn a.0 (filter alone k.provides) = in_filter alone a.0 k.provides a.1 (rw one.0 two.0) in
+      inr (subst (λ (z : List ℕ). IsIn z (map of (filter alone k.provides))) (sym (same_bytes name a.0.name two.1)) (in_map of a.0 (filter alone k.provides) f))
 ]
 
 module _ (pool : SealedPool) where
-  pub listed_is_occupied_at : (a : ℕ) (name : List ℕ) → IsMember name (occupied_names_at pool a) → is_at pool (occupies_name name) a ≡ true
+  pub listed_is_occupied_at : (a : ℕ) (name : List ℕ) → IsIn name (occupied_names_at pool a) → is_at pool (occupies_name name) a ≡ true
   listed_is_occupied_at a name h = by (candidate_at pool a) h
     where
-      by : (o : Option Candidate) → IsMember name (option_map_or occupied_names o []) → option_map_or (occupies_name name) o false ≡ true
+      by : (o : Option Candidate) → IsIn name (option_map_or occupied_names o []) → option_map_or (occupies_name name) o false ≡ true
       by None h = absurd h
       by (Some k) h = listed_is_occupied k name h
 
-  pub occupied_is_listed_at : (a : ℕ) (name : List ℕ) → is_at pool (occupies_name name) a ≡ true → IsMember name (occupied_names_at pool a)
+  pub occupied_is_listed_at : (a : ℕ) (name : List ℕ) → is_at pool (occupies_name name) a ≡ true → IsIn name (occupied_names_at pool a)
   occupied_is_listed_at a name h = by (candidate_at pool a) h
     where
-      by : (o : Option Candidate) → option_map_or (occupies_name name) o false ≡ true → IsMember name (option_map_or occupied_names o [])
+      by : (o : Option Candidate) → option_map_or (occupies_name name) o false ≡ true → IsIn name (option_map_or occupied_names o [])
       by None h = absurd (cc)
       by (Some k) h = occupied_is_listed k name h
 
   module _ (S : List ℕ) where
-    kept_out : IsSatisfying pool S → (a b : ℕ) → IsMember a S → IsMember b S → a ≢ b → keeps_out pool a b ≡ true → ⊥
+    kept_out : IsSatisfying pool S → (a b : ℕ) → IsIn a S → IsIn b S → a ≢ b → keeps_out pool a b ≡ true → ⊥
     kept_out s a b ha hb n h = elim (or_true (conflicts_with pool a b) (share_a_name pool a b) h) [
       | inl e ↦ let no_way : true ≡ false = sym e ∙ s.no_conflict a b ha hb n in absurd (cc)
       | inr e ↦
@@ -97,11 +97,11 @@ module _ (pool : SealedPool) where
           n (s.names_alone a b one.0 ha hb (listed_is_occupied_at a one.0 one.1) one.2)
     ]
 
-    find_nothing : {X : Type 0} (p : X → Bool) (xs : List X) → ((x : X) → IsMember x xs → p x ≡ false) → find p xs ≡ None
+    find_nothing : {X : Type 0} (p : X → Bool) (xs : List X) → ((x : X) → IsIn x xs → p x ≡ false) → find p xs ≡ None
     find_nothing p [] all = refl
     find_nothing p (x ∷ xs) all = rw (all x (inl refl)) (find_nothing p xs (λ y h. all y (inr h)))
 
-    filter_nothing : {X : Type 0} (p : X → Bool) (xs : List X) → ((x : X) → IsMember x xs → p x ≡ false) → filter p xs ≡ []
+    filter_nothing : {X : Type 0} (p : X → Bool) (xs : List X) → ((x : X) → IsIn x xs → p x ≡ false) → filter p xs ≡ []
     filter_nothing p [] all = refl
     filter_nothing p (x ∷ xs) all = rw (all x (inl refl)) (filter_nothing p xs (λ y h. all y (inr h)))
 
@@ -143,7 +143,7 @@ module _ (pool : SealedPool) where
     pub satisfying_of_closed : IsSolution pool S → IsSatisfying pool S
     satisfying_of_closed closed =
         let clean = closed.0 in
-        let all = λ (q : Need) (h : IsMember q (needs pool S)). next_none pool S q closed.1 h in
+        let all = λ (q : Need) (h : IsIn q (needs pool S)). next_none pool S q closed.1 h in
         let of : ℕ → List Need = λ c. positive_needs (depends_at pool c) in
         record {
           once = clean.0;

@@ -3,7 +3,7 @@ use Rattle.std.proofs.Common.{◌≡◌, ◌⊎◌, inl, inr, ℕ, false, List, 
 use Rattle.std.specs.Prelude.{not, filter, ◌==◌}
 use Rattle.pool_core.specs.Candidates.{Need}
 use Rattle.pool_core.specs.Rank.{SealedPool}
-use Rattle.pool_core.specs.Options.{IsMember, options_for}
+use Rattle.pool_core.specs.Options.{IsIn, options_for}
 use Rattle.solve_core.specs.Selection.{AreMembers, AreDistinct, exclude_each_other}
 use Rattle.solve_core.specs.Reasons.{AreCompatible, IsReason, RulesOut, FrameValue, options_in, AreRuledOut, IsFrameOf, IsSpentFrame, IsFrameTaking, AreTurnsFrom, choices_in, others_in, dead_end_reason, HasSameMembers}
 use Rattle.solve_core.specs.Choices.{IsSearch, HasOptions, IsConsistent, choices_of, pool_of}
@@ -31,7 +31,7 @@ module _ (pool : SealedPool) where
   )
 
   -- a fitting option joins the choices
-  pub fits_in : ((need : Need) → HasOptions pool need) → (t : List ℕ) (g : FrameValue) (c : ℕ) → IsFrameTaking pool t g c → AreCompatible pool t → ((m : ℕ) → IsMember m t → exclude_each_other pool m c ≡ false) → AreCompatible pool (t ++ c ∷ [])
+  pub fits_in : ((need : Need) → HasOptions pool need) → (t : List ℕ) (g : FrameValue) (c : ℕ) → IsFrameTaking pool t g c → AreCompatible pool t → ((m : ℕ) → IsIn m t → exclude_each_other pool m c ≡ false) → AreCompatible pool (t ++ c ∷ [])
   fits_in has t g c taken clean free =
       law.take_clean (pool_facts pool has) t (options_in g.0) g.1 c (taken.0, taken.1, taken.2, law_dead) clean (λ m h bad. let no : exclude_each_other pool m c ≡ false = free m h in absurd (cc))
     where
@@ -69,7 +69,7 @@ module _ (pool : SealedPool) where
       others_within t [] why c h = absurd h
       others_within t (p ∷ ps) why c h = elim (in_append c p.1 (others_in ps) h) [ inl a ↦ why.0.within c a | inr b ↦ others_within t ps why.1 c b ]
 
-      each_dead : (ps : List (ℕ × List ℕ)) (G : List ℕ) → AreMembers (others_in ps) G → AreRuledOut pool t ps → (c : ℕ) → IsMember c (options_in ps) → IsReason pool (c ∷ G)
+      each_dead : (ps : List (ℕ × List ℕ)) (G : List ℕ) → AreMembers (others_in ps) G → AreRuledOut pool t ps → (c : ℕ) → IsIn c (options_in ps) → IsReason pool (c ∷ G)
       each_dead [] G sub why c h = absurd h
       each_dead (p ∷ ps) G sub why c (inl e) = λ S closed inside. why.0.dead S closed (λ o h. elim h [
         | inl q ↦ inside o (inl (q ∙ sym e))
@@ -105,13 +105,13 @@ searching_less old new turns f c search consistent pool popped =
     )
 
 -- a choice that is not to blame is jumped over
-pub jumped : (members rest all : List ℕ) (c : ℕ) → AreMembers members all → all ≡ rest ++ c ∷ [] → (IsMember c members → ⊥) → AreMembers members rest
-jumped members rest all c sub is out o h = elim (in_append o rest (c ∷ []) (subst (λ (z : List ℕ). IsMember o z) is (sub o h))) [
+pub jumped : (members rest all : List ℕ) (c : ℕ) → AreMembers members all → all ≡ rest ++ c ∷ [] → (IsIn c members → ⊥) → AreMembers members rest
+jumped members rest all c sub is out o h = elim (in_append o rest (c ∷ []) (subst (λ (z : List ℕ). IsIn o z) is (sub o h))) [
   | inl a ↦ a
-  | inr b ↦ elim b [ inl e ↦ absurd (out (subst (λ (z : ℕ). IsMember z members) e h)) | inr bad ↦ absurd bad ]
+  | inr b ↦ elim b [ inl e ↦ absurd (out (subst (λ (z : ℕ). IsIn z members) e h)) | inr bad ↦ absurd bad ]
 ]
 
-filter_sub : (c : ℕ) (xs : List ℕ) (o : ℕ) → IsMember o (filter (λ id. not (id == c)) xs) → IsMember o xs × (o ≡ c → ⊥)
+filter_sub : (c : ℕ) (xs : List ℕ) (o : ℕ) → IsIn o (filter (λ id. not (id == c)) xs) → IsIn o xs × (o ≡ c → ⊥)
 filter_sub c [] o h = absurd h
 filter_sub c (x ∷ xs) o h = elim (eqb_tells x c) [
   | inl e ↦ let r = filter_sub c xs o (rw e.0 at h) in (inr r.0, r.1)
@@ -121,7 +121,7 @@ filter_sub c (x ∷ xs) o h = elim (eqb_tells x c) [
   ]
 ]
 
-sub_filter : (c : ℕ) (xs : List ℕ) (o : ℕ) → IsMember o xs → (o ≡ c) ⊎ IsMember o (filter (λ id. not (id == c)) xs)
+sub_filter : (c : ℕ) (xs : List ℕ) (o : ℕ) → IsIn o xs → (o ≡ c) ⊎ IsIn o (filter (λ id. not (id == c)) xs)
 sub_filter c [] o h = absurd h
 sub_filter c (x ∷ xs) o h = elim (eqb_tells x c) [
   | inl e ↦ elim h [
@@ -138,20 +138,20 @@ sub_filter c (x ∷ xs) o h = elim (eqb_tells x c) [
 pub hit_reason : (pool : SealedPool) (members rest all others : List ℕ) (c : ℕ) → AreMembers members all → all ≡ rest ++ c ∷ [] → IsReason pool members → others ≡ filter (λ id. not (id == c)) members → RulesOut pool rest c others
 hit_reason pool members rest all others c sub is dead e = record {
   within = λ o h.
-      let f = filter_sub c members o (subst (λ (z : List ℕ). IsMember o z) e h) in
-      elim (in_append o rest (c ∷ []) (subst (λ (z : List ℕ). IsMember o z) is (sub o f.0))) [
+      let f = filter_sub c members o (subst (λ (z : List ℕ). IsIn o z) e h) in
+      elim (in_append o rest (c ∷ []) (subst (λ (z : List ℕ). IsIn o z) is (sub o f.0))) [
         | inl a ↦ a
         | inr b ↦ elim b [ inl q ↦ absurd (f.1 q) | inr bad ↦ absurd bad ]
       ];
   dead = λ S closed inside. dead S closed (λ o h. elim (sub_filter c members o h) [
     | inl q ↦ inside o (inl q)
-    | inr r ↦ inside o (inr (subst (λ (z : List ℕ). IsMember o z) (sym e) r))
+    | inr r ↦ inside o (inr (subst (λ (z : List ℕ). IsIn o z) (sym e) r))
   ]);
 }
 
 pub dead_empty : (pool : SealedPool) (members chosen : List ℕ) → AreMembers members chosen → chosen ≡ [] → IsReason pool members → IsReason pool []
 dead_empty pool members chosen sub is dead S closed inside =
-    dead S closed (λ o h. let bad : ⊥ = subst (λ (z : List ℕ). IsMember o z) is (sub o h) in absurd bad)
+    dead S closed (λ o h. let bad : ⊥ = subst (λ (z : List ℕ). IsIn o z) is (sub o h) in absurd bad)
 
 pub no_choices : (turns : List (FrameValue × ℕ)) → turns ≡ [] → choices_in turns ≡ []
 no_choices turns e = ap choices_in e

@@ -3,7 +3,7 @@ use Rattle.std.proofs.Common.{◌≡◌, ℕ, true, List, [], ◌∷◌, ◌++�
 use Rattle.std.specs.Prelude.{Some, None, slice_get, zero, suc}
 use Rattle.pool_core.specs.Candidates.{Need}
 use Rattle.pool_core.specs.Rank.{SealedPool, is_eligible_at, is_better, meets_at}
-use Rattle.pool_core.specs.Options.{IsMember, options_for}
+use Rattle.pool_core.specs.Options.{IsIn, options_for}
 use Rattle.solve_core.specs.Selection.{AreMembers, exclude_each_other, needs, next_need}
 use Rattle.solve_core.specs.Reasons.{AreCompatible, RulesOut, FrameValue, options_in, AreRuledOut, IsFrameOf, IsFrameTaking, AreTurnsFrom, choices_in}
 use Rattle.solve_core.proofs.Theory as law
@@ -11,7 +11,7 @@ use Rattle.solve_core.proofs.Theory.{Facts, in_left, in_right, in_append}
 
 abbrev pub PoolFacts : SealedPool → Type 0
 PoolFacts pool =
-    Facts Need (next_need pool) (λ chosen q. IsMember q (needs pool chosen)) (λ c q. meets_at pool c q ≡ true)
+    Facts Need (next_need pool) (λ chosen q. IsIn q (needs pool chosen)) (λ c q. meets_at pool c q ≡ true)
     (λ c. is_eligible_at pool c ≡ true) (AreCompatible pool) (λ a b. exclude_each_other pool a b ≡ true) (options_for pool)
     (λ q a b. is_better pool q a b ≡ true)
 
@@ -27,7 +27,7 @@ module _ (pool : SealedPool) (facts : PoolFacts pool) where
   -- an option passed over is dead with the choices before the frame
   pub reasons_dead : (t : List ℕ) (ps : List (ℕ × List ℕ)) → AreRuledOut pool t ps → law.AllDead facts t (options_in ps)
   reasons_dead t ps why o h =
-      law.why_dead facts t ps (reasons_why t ps why) o (subst (λ (z : List ℕ). IsMember o z) (options_firsts ps) h)
+      law.why_dead facts t ps (reasons_why t ps why) o (subst (λ (z : List ℕ). IsIn o z) (options_firsts ps) h)
 
   pub turns_led : (u : List ℕ) (turns : List (FrameValue × ℕ)) → AreTurnsFrom pool u turns → law.Led facts u (choices_in turns)
   turns_led u [] taken = tt

@@ -7,7 +7,7 @@ use Rattle.std.specs.declared.cmp.Ordering.{Ordering}
 use Rattle.std.specs.declared.cmp.Ordering.TheVariants.{Less, Equal, Greater}
 use Rattle.pool_core.specs.Candidates.{Need, is_eligible}
 use Rattle.pool_core.specs.Rank.{SealedPool, is_better, meets_at, rank_cmp}
-use Rattle.pool_core.specs.Options.{IsBestFirst, IsMember, options_for, places_from}
+use Rattle.pool_core.specs.Options.{IsBestFirst, IsIn, options_for, places_from}
 use Rattle.solve_core.specs.Choices.{HasOptions}
 use Rattle.solve_core.specs.Selection.{AreMembers, ComesBefore, ComesBeforeFrom, IsFirstSelection, IsSatisfying, IsWalk, IsWalkFrom, next_need}
 use Rattle.solve_core.proofs.Theory as law
@@ -149,7 +149,7 @@ module _ (pool : SealedPool) (total : (need : Need) → IsTotalOrder (rank_cmp p
     pub first_exists : (selection : List ℕ) → IsSatisfying pool selection → (trace : List ℕ) × IsFirstSelection pool trace
     first_exists selection s =
         let all = places_from 0 (is_eligible pool.world) pool.candidates in
-        elim (first_or_none pool facts all (λ c h. let z : 0 + c ≡ c = omega arith in subst (λ (k : ℕ). IsMember k all) z (in_places 0 (is_eligible pool.world) pool.candidates c h))) [
+        elim (first_or_none pool facts all (λ c h. let z : 0 + c ≡ c = omega arith in subst (λ (k : ℕ). IsIn k all) z (in_places 0 (is_eligible pool.world) pool.candidates c h))) [
           | inl found ↦ (
             found.0,
             record {

@@ -1,11 +1,11 @@
 -- A set of candidates as a list with marks.
 use Rattle.std.specs.Prelude.{ℕ, Bool, false, List, slice_index_or}
 use Rattle.std.specs.Bool.{MatchBool}
-use Rattle.pool_core.specs.Options.{IsMember}
+use Rattle.pool_core.specs.Options.{IsIn}
 use Rattle.solve_core.specs.Selection.{AreDistinct}
 
 -- a place is marked exactly where it is one of the list, and the list is of different candidates
 pub record AreMarks (marks : List Bool) (ids : List ℕ) : Type 0 where
-  pub told : (c : ℕ) → MatchBool (slice_index_or marks c false) (IsMember c ids) (IsMember c ids →
+  pub told : (c : ℕ) → MatchBool (slice_index_or marks c false) (IsIn c ids) (IsIn c ids →
       ⊥)
   pub once : AreDistinct ids

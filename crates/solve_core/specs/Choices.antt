@@ -2,7 +2,7 @@
 use Rattle.std.specs.Prelude.{◌≡◌, ◌<◌, length, ℕ, true, List, [], ◌∷◌, ◌++◌}
 use Rattle.pool_core.specs.Candidates.{Need}
 use Rattle.pool_core.specs.Rank.{SealedPool, is_eligible_at, is_better, meets_at}
-use Rattle.pool_core.specs.Options.{IsMember, IsBestFirst, options_for}
+use Rattle.pool_core.specs.Options.{IsIn, IsBestFirst, options_for}
 use Rattle.solve_core.specs.Excluders.{AreListed}
 use Rattle.solve_core.specs.InstallIf.{AreInstallIfs, AreUnasked}
 use Rattle.solve_core.specs.Queue.{AreMet, queue_of}
@@ -35,7 +35,7 @@ AreCheckpoints pool install_ifs u (c ∷ cs) (b ∷ bs) =
 -- the queue is of the choices, those in front of the cursors are met and do not ask, the conflicts
 -- of the choices are listed, and each choice can be taken back
 pub record IsConsistent (chosen : Choices) : Type 0 where
-  pub within : (c : ℕ) → IsMember c (choices_of chosen) → c < length (pool_of chosen).candidates
+  pub within : (c : ℕ) → IsIn c (choices_of chosen) → c < length (pool_of chosen).candidates
   pub queue : chosen.queue.items ≡ queue_of (pool_of chosen) (choices_of chosen)
   pub met : AreMet (pool_of chosen) (choices_of chosen) chosen.cursor
   pub install_ifs :
@@ -56,8 +56,8 @@ pub record IsSearch (chosen : Choices) (turns : List (FrameValue × ℕ)) : Type
 
 -- what a pool promises of the options of a need
 pub record HasOptions (pool : SealedPool) (need : Need) : Type 0 where
-  pub those : (c : ℕ) → IsMember c (options_for pool need) → (is_eligible_at pool c ≡ true)
+  pub those : (c : ℕ) → IsIn c (options_for pool need) → (is_eligible_at pool c ≡ true)
       × (meets_at pool c need ≡ true)
   pub each : (c : ℕ) → is_eligible_at pool c ≡ true → meets_at pool c need ≡ true →
-      IsMember c (options_for pool need)
+      IsIn c (options_for pool need)
   pub best_first : IsBestFirst (is_better pool need) (options_for pool need)

@@ -2,7 +2,7 @@
 use Rattle.std.specs.Prelude.{◌≡◌, ℕ, Bool, true, false, List}
 use Rattle.dep_core.specs.Dependency.{Dependency}
 use Rattle.pool_core.specs.Candidates.{Candidate, meets_dependency, occupies_name}
-use Rattle.pool_core.specs.Options.{IsMember}
+use Rattle.pool_core.specs.Options.{IsIn}
 use Rattle.pool_core.specs.Rank.{SealedPool, is_at}
 use Rattle.solve_core.specs.Conflicts.{conflicts_among}
 use Rattle.solve_core.specs.NameTable.{items_of}
@@ -16,12 +16,12 @@ AreListed pool chosen conflicts =
 
 -- a choice that excludes the candidate
 abbrev pub IsExcluder : SealedPool → List ℕ → ℕ → ℕ → Type 0
-IsExcluder pool chosen id k = IsMember k chosen × (exclude_each_other pool k id ≡ true)
+IsExcluder pool chosen id k = IsIn k chosen × (exclude_each_other pool k id ≡ true)
 
 -- at a name of the candidate: it meets no conflict of the choices, and, where it occupies the name,
 -- no choice does
 abbrev pub IsFreeAt : SealedPool → List ℕ → Candidate → List ℕ → Bool → Type 0
 IsFreeAt pool chosen details name is_occupied =
-    ((k : ℕ) (d : Dependency) → IsMember k chosen → IsMember d (depends_at pool k) →
+    ((k : ℕ) (d : Dependency) → IsIn k chosen → IsIn d (depends_at pool k) →
     d.conflict ≡ true → d.name ≡ name → meets_dependency d details ≡ false)
-    × (is_occupied ≡ true → (k : ℕ) → IsMember k chosen → is_at pool (occupies_name name) k ≡ false)
+    × (is_occupied ≡ true → (k : ℕ) → IsIn k chosen → is_at pool (occupies_name name) k ≡ false)

@@ -6,8 +6,8 @@ use Rattle.std.specs.List.{list_all}
 use Rattle.std.specs.Ordering.{is_lt}
 use Rattle.dep_core.specs.Dependency.{Dependency}
 use Rattle.pool_core.specs.Candidates.{Candidate, entry, has_usable_install_if, named}
-use Rattle.pool_core.specs.Options.{IsMember}
-use Rattle.pool_core.specs.Rank.{SealedPool, byte_cmp, candidate_at, is_at}
+use Rattle.pool_core.specs.Options.{IsIn}
+use Rattle.pool_core.specs.Rank.{SealedPool, bytes_cmp, candidate_at, is_at}
 use Rattle.solve_core.specs.NameTable.{items_of}
 use Rattle.solve_core.specs.Selection.{is_met, is_unmet}
 
@@ -38,20 +38,20 @@ install_if_at pool k = option_map_or (λ (c : Candidate). c.install_if) (candida
 
 -- the name of the first comes before that of the second, in byte order
 abbrev pub has_lesser_name : SealedPool → ℕ → ℕ → Bool
-has_lesser_name pool a b = is_lt (byte_cmp (name_at pool a) (name_at pool b))
+has_lesser_name pool a b = is_lt (bytes_cmp (name_at pool a) (name_at pool b))
 
 -- the candidates whose install-if can come to apply, in byte order of their names; and a table that
 -- leads from the name of each entry of an install-if to the rank of its candidate
 pub record AreInstallIfs (pool : SealedPool) (by_name : List ℕ) (waiting : List (List ℕ × List ℕ)) :
     Type 0 where
-  pub those : (k : ℕ) → IsMember k by_name → is_usable_at pool k ≡ true
-  pub each : (k : ℕ) → is_usable_at pool k ≡ true → IsMember k by_name
+  pub those : (k : ℕ) → IsIn k by_name → is_usable_at pool k ≡ true
+  pub each : (k : ℕ) → is_usable_at pool k ≡ true → IsIn k by_name
   pub rising :
       (i j d : ℕ) → i ≤ j → j < length by_name →
       has_lesser_name pool (get_or by_name j d) (get_or by_name i d) ≡ false
   pub entries :
       (rank k : ℕ) (d : Dependency) → slice_get by_name rank ≡ Some k →
-      IsMember d (install_if_at pool k) → IsMember rank (items_of waiting d.name)
+      IsIn d (install_if_at pool k) → IsIn rank (items_of waiting d.name)
 
 -- whether the candidate of that rank asks
 abbrev pub rank_asks : SealedPool → List ℕ → List ℕ → ℕ → Bool

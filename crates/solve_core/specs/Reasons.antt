@@ -3,14 +3,14 @@
 use Rattle.std.specs.Prelude.{◌≡◌, ℕ, true, List, [], ◌∷◌, ◌++◌, Some, None}
 use Rattle.pool_core.specs.Candidates.{Need}
 use Rattle.pool_core.specs.Rank.{SealedPool, is_eligible_at}
-use Rattle.pool_core.specs.Options.{IsMember, options_for}
+use Rattle.pool_core.specs.Options.{IsIn, options_for}
 use Rattle.solve_core.specs.Selection.{AreMembers, AreDistinct, exclude_each_other, needs, next_need}
 
 -- each member may be selected, none stands twice, and no two exclude each other
 abbrev pub AreCompatible : SealedPool → List ℕ → Type 0
 AreCompatible pool chosen =
-    AreDistinct chosen × ((c : ℕ) → IsMember c chosen → is_eligible_at pool c ≡ true)
-    × ((a b : ℕ) → IsMember a chosen → IsMember b chosen → exclude_each_other pool a b ≡ true → ⊥)
+    AreDistinct chosen × ((c : ℕ) → IsIn c chosen → is_eligible_at pool c ≡ true)
+    × ((a b : ℕ) → IsIn a chosen → IsIn b chosen → exclude_each_other pool a b ≡ true → ⊥)
 
 -- satisfying, as the search knows it: compatible, and no need is left to be met
 abbrev pub IsSolution : SealedPool → List ℕ → Type 0
@@ -46,7 +46,7 @@ abbrev pub IsFrameOf : SealedPool → List ℕ → FrameValue → Type 0
 IsFrameOf pool chosen f =
     (need : Need) × (next_need pool chosen ≡ Some need) × (options_for pool need ≡ options_in f.0
     ++ f.1)
-    × AreMembers f.2 chosen × IsMember need (needs pool f.2) × AreRuledOut pool chosen f.0
+    × AreMembers f.2 chosen × IsIn need (needs pool f.2) × AreRuledOut pool chosen f.0
 
 -- the same, where an option is taken
 abbrev pub IsFrameTaking : SealedPool → List ℕ → FrameValue → ℕ → Type 0

@@ -1,12 +1,12 @@
 -- Selections that satisfy a world, the walk of one, and the first of them.
 use Rattle.std.specs.Prelude.{◌≡◌, ◌≢◌, ℕ, ◌==◌, Bool, true, false, not, ◌&&◌, ◌||◌, if◌then◌else◌, List, [], ◌∷◌, ◌++◌, map, Option, Some, None, is_some, ◌⊎◌}
-use Rattle.std.specs.Option.{option_map, option_map_or}
+use Rattle.std.specs.Option.{option_map, option_map_or, option_or}
 use Rattle.std.specs.List.{filter, find, flat_map, list_all, list_any}
 use Rattle.std.specs.Ordering.{is_lt}
 use Rattle.dep_core.specs.Dependency.{Dependency}
 use Rattle.pool_core.specs.Candidates.{Candidate, Need, entry, named, occupies_name, has_usable_install_if, meets_dependency}
-use Rattle.pool_core.specs.Rank.{SealedPool, byte_cmp, candidate_at, is_at, is_eligible_at, is_better, meets_at}
-use Rattle.pool_core.specs.Options.{IsMember}
+use Rattle.pool_core.specs.Rank.{SealedPool, bytes_cmp, candidate_at, is_at, is_eligible_at, is_better, meets_at}
+use Rattle.pool_core.specs.Options.{IsIn}
 pub use Rattle.pool_core.specs.Options.{AreMembers, AreDistinct}
 
 -- ---- needs
@@ -51,22 +51,18 @@ needs pool chosen = raised_needs pool chosen ++ map named (names_by_install_if p
 -- the byte-lesser of a name and another, if there is another
 abbrev pub lesser_name : List ℕ → Option (List ℕ) → List ℕ
 lesser_name name None = name
-lesser_name name (Some other) = if is_lt (byte_cmp other name) then other else name
+lesser_name name (Some other) = if is_lt (bytes_cmp other name) then other else name
 
 -- the byte-least of some names
 abbrev pub least_name : List (List ℕ) → Option (List ℕ)
 least_name [] = None
 least_name (name ∷ names) = Some (lesser_name name (least_name names))
 
-abbrev pub first_some : {X : Type 0} → Option X → Option X → Option X
-first_some None other = other
-first_some (Some x) other = Some x
-
 -- the first need that no choice meets: of what is raised in its order, else the byte-least of the
 -- names whose install-if applies
 unfoldable pub next_need : SealedPool → List ℕ → Option Need
 next_need pool chosen =
-    first_some (find (is_unmet pool chosen) (raised_needs pool chosen))
+    option_or (find (is_unmet pool chosen) (raised_needs pool chosen))
     (option_map named
     (least_name (filter (λ name. is_unmet pool chosen (named name))
     (names_by_install_if pool chosen))))
@@ -109,20 +105,20 @@ exclude_each_other pool a b = not (a == b) && (keeps_out pool a b || keeps_out p
 -- name is occupied by one member at most; and each name whose install-if applies is a member's
 pub record IsSatisfying (pool : SealedPool) (selection : List ℕ) : Type 0 where
   pub once : AreDistinct selection
-  pub eligible : (c : ℕ) → IsMember c selection → is_eligible_at pool c ≡ true
+  pub eligible : (c : ℕ) → IsIn c selection → is_eligible_at pool c ≡ true
   pub world_met :
-      (q : Need) → IsMember q (positive_needs pool.world) → is_met pool selection q ≡ true
+      (q : Need) → IsIn q (positive_needs pool.world) → is_met pool selection q ≡ true
   pub depends_met :
-      (c : ℕ) (q : Need) → IsMember c selection → IsMember q (positive_needs (depends_at pool c)) →
+      (c : ℕ) (q : Need) → IsIn c selection → IsIn q (positive_needs (depends_at pool c)) →
       is_met pool selection q ≡ true
   pub no_conflict :
-      (a b : ℕ) → IsMember a selection → IsMember b selection → a ≢ b →
+      (a b : ℕ) → IsIn a selection → IsIn b selection → a ≢ b →
       conflicts_with pool a b ≡ false
   pub names_alone :
-      (a b : ℕ) (name : List ℕ) → IsMember a selection → IsMember b selection →
+      (a b : ℕ) (name : List ℕ) → IsIn a selection → IsIn b selection →
       is_at pool (occupies_name name) a ≡ true → is_at pool (occupies_name name) b ≡ true → a ≡ b
   pub asked_met :
-      (name : List ℕ) → IsMember name (names_by_install_if pool selection) →
+      (name : List ℕ) → IsIn name (names_by_install_if pool selection) →
       is_met pool selection (named name) ≡ true
 
 -- ---- the walk of a selection
@@ -130,8 +126,8 @@ pub record IsSatisfying (pool : SealedPool) (selection : List ℕ) : Type 0 wher
 -- the best ranked member that meets the need
 abbrev pub IsBestMember : SealedPool → List ℕ → Need → ℕ → Type 0
 IsBestMember pool selection need c =
-    IsMember c selection × (meets_at pool c need ≡ true)
-    × ((o : ℕ) → IsMember o selection → meets_at pool o need ≡ true →
+    IsIn c selection × (meets_at pool c need ≡ true)
+    × ((o : ℕ) → IsIn o selection → meets_at pool o need ≡ true →
     (o ≡ c) ⊎ (is_better pool need c o ≡ true))
 
 -- behind some choices: the best ranked member for each next need, until there is none

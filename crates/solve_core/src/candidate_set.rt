@@ -1,6 +1,6 @@
 //! A list of candidates, each once, that answers at once whether it has one.
 ghost use Rattle.std.specs.Prelude.{◌≡◌, ◌<◌, ◌^◌, ℕ, List, [], ◌∷◌, ◌++◌, false, length, MatchBool, OnOk, Some, vec_len, slice_index_or};
-ghost use Rattle.pool_core.specs.Options.{IsMember};
+ghost use Rattle.pool_core.specs.Options.{IsIn};
 ghost use Rattle.solve_core.specs.Reasons.{HasSameMembers};
 
 use pool_core::CandId;
@@ -39,7 +39,7 @@ impl CandidateSet {
 
     /// Whether a candidate is one of them.
     pub(crate) fn has(&self, id: CandId) -> bool
-        ensures { MatchBool result (IsMember id self.now) (IsMember id self.now → ⊥) }
+        ensures { MatchBool result (IsIn id self.now) (IsIn id self.now → ⊥) }
     {
         let place = id.place as usize;
         if place < self.marks.len() {
@@ -72,7 +72,7 @@ impl CandidateSet {
 
     /// Puts a candidate behind the others, none of which it is. A refused call changes nothing.
     pub(crate) fn push(&mut self, id: CandId) -> Result<(), AllocError>
-        requires { IsMember id self.old → ⊥ }
+        requires { IsIn id self.old → ⊥ }
         ensures { OnOk result (self.new ≡ self.old ++ id ∷ []) }
     {
         let place = id.place as usize;

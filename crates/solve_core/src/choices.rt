@@ -5,7 +5,7 @@ ghost use Rattle.dep_core.specs.Dependency.{Dependency};
 ghost use Rattle.dep_core.specs.Meets.{dependency};
 ghost use Rattle.pool_core.specs.Candidates.{entry};
 ghost use Rattle.pool_core.specs.Candidates.{offers_name};
-ghost use Rattle.pool_core.specs.Options.{IsMember, options_for};
+ghost use Rattle.pool_core.specs.Options.{IsIn, options_for};
 ghost use Rattle.solve_core.specs.InstallIf.{AreUnasked, IsLeastAsking, IsNoneAsking, rank_asks};
 ghost use Rattle.solve_core.specs.NameTable.{items_of};
 ghost use Rattle.solve_core.specs.Queue.{AreMet, is_unmet_dep, queue_of};
@@ -77,7 +77,7 @@ impl<'p> Choices<'p> {
     pub(crate) fn push(&mut self, id: CandId) -> Result<(), AllocError>
         requires consistent { IsConsistent self.old }
         requires within { id < length (pool_of self.old).candidates }
-        requires once { IsMember id (choices_of self.old) → ⊥ }
+        requires once { IsIn id (choices_of self.old) → ⊥ }
         ensures consistent { OnOk result (IsConsistent self.new) }
         ensures pool { pool_of self.new ≡ pool_of self.old }
         ensures choices { OnOk result (choices_of self.new ≡ choices_of self.old ++ id ∷ []) }
@@ -278,7 +278,7 @@ impl<'p> Choices<'p> {
     fn least_rank_asking(&self, details: &Details<'_>) -> usize
         ensures less { result ≤ self.now.asking_cursor }
         ensures unasked { (name : List ℕ) (rank : ℕ) → offers_name name details.now ≡ true →
-            IsMember rank (items_of self.now.install_ifs.waiting name) → rank < result →
+            IsIn rank (items_of self.now.install_ifs.waiting name) → rank < result →
             rank_asks (pool_of self.now) (choices_of self.now) (install_ifs_of self.now) rank
             ≡ false }
     {
@@ -289,8 +289,8 @@ impl<'p> Choices<'p> {
     // A rank, or the least one in front of it that asks and waits for a name of these entries.
     fn least_rank_provided(&self, provides: &Deps<'_>, cursor: usize) -> usize
         ensures less { result ≤ cursor }
-        ensures unasked { (d : Dependency) (rank : ℕ) → IsMember d provides.now →
-            IsMember rank (items_of self.now.install_ifs.waiting d.name) → rank < result →
+        ensures unasked { (d : Dependency) (rank : ℕ) → IsIn d provides.now →
+            IsIn rank (items_of self.now.install_ifs.waiting d.name) → rank < result →
             rank_asks (pool_of self.now) (choices_of self.now) (install_ifs_of self.now) rank
             ≡ false }
     {
@@ -305,7 +305,7 @@ impl<'p> Choices<'p> {
     fn least_rank_waiting(&self, name: &[u8], cursor: usize) -> usize
         ensures less { result ≤ cursor }
         ensures unasked { (rank : ℕ) →
-            IsMember rank (items_of self.now.install_ifs.waiting name.now) → rank < result →
+            IsIn rank (items_of self.now.install_ifs.waiting name.now) → rank < result →
             rank_asks (pool_of self.now) (choices_of self.now) (install_ifs_of self.now) rank
             ≡ false }
     {

@@ -1,8 +1,8 @@
 //! The candidates whose install-if can come to apply, and which of them wait for a name.
 ghost use Rattle.std.specs.Prelude.{◌≡◌, ◌≤◌, ◌<◌, ℕ, List, length, get_or, true, false, IfOk, OnOk, slice_get};
 ghost use Rattle.dep_core.specs.Dependency.{Dependency};
-ghost use Rattle.pool_core.specs.Options.{AreMembers, IsMember};
-ghost use Rattle.pool_core.specs.Rank.{byte_cmp};
+ghost use Rattle.pool_core.specs.Options.{AreMembers, IsIn};
+ghost use Rattle.pool_core.specs.Rank.{bytes_cmp};
 ghost use Rattle.solve_core.specs.InstallIf.{AreInstallIfs, has_lesser_name, install_if_at, is_usable_at, name_at};
 ghost use Rattle.solve_core.specs.NameTable.{items_of};
 
@@ -50,10 +50,10 @@ impl<'p> InstallIfs<'p> {
 
 // The candidates whose install-if can come to apply, in byte order of their names.
 fn in_byte_order(alloc: Global, pool: &Sealed<'_>) -> Result<Vec<CandId>, AllocError>
-    ensures those { IfOk result (λ ids. (k : ℕ) → IsMember k ids.items →
+    ensures those { IfOk result (λ ids. (k : ℕ) → IsIn k ids.items →
         is_usable_at pool.now k ≡ true) }
     ensures each { IfOk result (λ ids. (k : ℕ) → is_usable_at pool.now k ≡ true →
-        IsMember k ids.items) }
+        IsIn k ids.items) }
     ensures rising { IfOk result (λ ids. (i j d : ℕ) → i ≤ j → j < length ids.items →
         has_lesser_name pool.now (get_or ids.items j d) (get_or ids.items i d) ≡ false) }
 {
@@ -64,7 +64,7 @@ fn in_byte_order(alloc: Global, pool: &Sealed<'_>) -> Result<Vec<CandId>, AllocE
 
 // The order of two candidates' names.
 fn by_names(pool: &Sealed<'_>, a: CandId, b: CandId) -> Ordering
-    ensures { result ≡ byte_cmp (name_at pool.now a) (name_at pool.now b) }
+    ensures { result ≡ bytes_cmp (name_at pool.now a) (name_at pool.now b) }
 {
     name_at(pool, a).cmp(&name_at(pool, b))
 }
@@ -89,8 +89,8 @@ fn add_install_if<'p>(
     ensures more { OnOk result ((name : List ℕ) →
         AreMembers (items_of waiting.old name) (items_of waiting.new name)) }
     ensures each { OnOk result ((d : Dependency) →
-        IsMember d (install_if_at pool.entry.now id) →
-        IsMember rank (items_of waiting.new d.name)) }
+        IsIn d (install_if_at pool.entry.now id) →
+        IsIn rank (items_of waiting.new d.name)) }
 {
     if let Some(details) = pool.at(id) {
         add_entries(waiting, &details.install_if(), rank)?;
@@ -106,8 +106,8 @@ fn add_entries<'p>(
 ) -> Result<(), AllocError>
     ensures more { OnOk result ((name : List ℕ) →
         AreMembers (items_of waiting.old name) (items_of waiting.new name)) }
-    ensures each { OnOk result ((d : Dependency) → IsMember d deps.now →
-        IsMember rank (items_of waiting.new d.name)) }
+    ensures each { OnOk result ((d : Dependency) → IsIn d deps.now →
+        IsIn rank (items_of waiting.new d.name)) }
 {
     for i in 0..deps.len() {
         waiting.add(deps.get(i).name, rank)?;

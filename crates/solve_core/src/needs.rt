@@ -2,7 +2,7 @@
 ghost use Rattle.std.specs.Prelude.{◌≡◌, ℕ, false, true, MatchBool, MatchOption, IfOk, OnOk};
 ghost use Rattle.dep_core.specs.Meets.{dependency};
 ghost use Rattle.pool_core.specs.Candidates.{entry, meets_need, need_name, occupies_name};
-ghost use Rattle.pool_core.specs.Options.{IsMember, places_offering};
+ghost use Rattle.pool_core.specs.Options.{IsIn, places_offering};
 ghost use Rattle.pool_core.specs.Rank.{is_at, meets_at};
 ghost use Rattle.pool_core.specs.Values.{need_by};
 ghost use Rattle.solve_core.specs.Selection.{is_met, AreMembers};
@@ -21,7 +21,7 @@ pub(crate) fn choice_meeting(
     need: &NeedRef<'_>,
 ) -> Option<CandId>
     ensures { MatchOption result (is_met pool.now choices.now (need_by need.now)
-        ≡ false) (λ id. IsMember id choices.now × (meets_at pool.now id (need_by need.now)
+        ≡ false) (λ id. IsIn id choices.now × (meets_at pool.now id (need_by need.now)
         ≡ true)) }
 {
     let offers = offers_for(pool, need);
@@ -49,8 +49,8 @@ fn choice_among(
     ids: &[CandId],
     need: &NeedRef<'_>,
 ) -> Option<CandId>
-    ensures { MatchOption result ((k : ℕ) → IsMember k ids.now → IsMember k choices.now →
-        meets_at pool.now k (need_by need.now) ≡ false) (λ id. IsMember id choices.now
+    ensures { MatchOption result ((k : ℕ) → IsIn k ids.now → IsIn k choices.now →
+        meets_at pool.now k (need_by need.now) ≡ false) (λ id. IsIn id choices.now
         × (meets_at pool.now id (need_by need.now) ≡ true)) }
 {
     for id in ids {
@@ -68,8 +68,8 @@ fn is_choice_meeting(
     id: CandId,
     need: &NeedRef<'_>,
 ) -> bool
-    ensures { MatchBool result (IsMember id choices.now × (meets_at pool.now id
-        (need_by need.now) ≡ true)) (IsMember id choices.now →
+    ensures { MatchBool result (IsIn id choices.now × (meets_at pool.now id
+        (need_by need.now) ≡ true)) (IsIn id choices.now →
         meets_at pool.now id (need_by need.now) ≡ false) }
 {
     if choices.has(id) {
@@ -212,8 +212,8 @@ fn push_met(
 /// A choice that occupies a name. It is looked for among all choices where these are fewer than
 /// the candidates that offer the name.
 pub(crate) fn occupant(pool: &Sealed<'_>, choices: &CandidateSet, name: &[u8]) -> Option<CandId>
-    ensures { MatchOption result ((k : ℕ) → IsMember k choices.now →
-        is_at pool.now (occupies_name name.now) k ≡ false) (λ id. IsMember id choices.now
+    ensures { MatchOption result ((k : ℕ) → IsIn k choices.now →
+        is_at pool.now (occupies_name name.now) k ≡ false) (λ id. IsIn id choices.now
         × (is_at pool.now (occupies_name name.now) id ≡ true)) }
 {
     let offers = pool.offers(name);
@@ -230,8 +230,8 @@ fn occupant_among(
     ids: &[CandId],
     name: &[u8],
 ) -> Option<CandId>
-    ensures { MatchOption result ((k : ℕ) → IsMember k ids.now → IsMember k choices.now →
-        is_at pool.now (occupies_name name.now) k ≡ false) (λ id. IsMember id choices.now
+    ensures { MatchOption result ((k : ℕ) → IsIn k ids.now → IsIn k choices.now →
+        is_at pool.now (occupies_name name.now) k ≡ false) (λ id. IsIn id choices.now
         × (is_at pool.now (occupies_name name.now) id ≡ true)) }
 {
     for id in ids {
@@ -244,8 +244,8 @@ fn occupant_among(
 
 // Whether the candidate is a choice that occupies the name.
 fn is_choice_occupying(pool: &Sealed<'_>, choices: &CandidateSet, id: CandId, name: &[u8]) -> bool
-    ensures { MatchBool result (IsMember id choices.now
-        × (is_at pool.now (occupies_name name.now) id ≡ true)) (IsMember id choices.now →
+    ensures { MatchBool result (IsIn id choices.now
+        × (is_at pool.now (occupies_name name.now) id ≡ true)) (IsIn id choices.now →
         is_at pool.now (occupies_name name.now) id ≡ false) }
 {
     if choices.has(id) {

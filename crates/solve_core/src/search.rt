@@ -1,6 +1,6 @@
 //! The search: it takes options, rules options out, and steps back at a dead end.
 ghost use Rattle.std.specs.Prelude.{◌≡◌, ◌<◌, ◌^◌, ◌≤◌, ◌==◌, not, filter, ℕ, [], ◌∷◌, ◌++◌, false, true, length, IfOk, OnOk, IfSome, MatchOption, None, Some, slice_get};
-ghost use Rattle.pool_core.specs.Options.{IsMember};
+ghost use Rattle.pool_core.specs.Options.{IsIn};
 ghost use Rattle.solve_core.specs.Selection.{AreMembers, exclude_each_other, next_need};
 ghost use Rattle.solve_core.specs.Reasons.{AreCompatible, FrameValue, IsReason, HasSameMembers, RulesOut, IsFrameOf, IsSpentFrame, IsFrameTaking, dead_end_reason};
 ghost use Rattle.solve_core.specs.Measure.{weight_of};
@@ -107,9 +107,9 @@ impl<'p> Search<'p> {
     fn reason_against(&self, id: CandId) -> Result<Option<Vec<CandId>>, AllocError>
         requires search { IsSearch self.now.chosen self.now.turns.items }
         requires within { id < length (pool_of self.now.chosen).candidates }
-        requires once { IsMember id (choices_of self.now.chosen) → ⊥ }
+        requires once { IsIn id (choices_of self.now.chosen) → ⊥ }
         ensures { IfOk result (λ found. MatchOption found ((other : ℕ) →
-            IsMember other (choices_of self.now.chosen) →
+            IsIn other (choices_of self.now.chosen) →
             exclude_each_other (pool_of self.now.chosen) other id ≡ false)
             (λ others. RulesOut (pool_of self.now.chosen) (choices_of self.now.chosen) id
             others.items)) }

@@ -1,6 +1,6 @@
 -- The next need, apart from how it is found.
 use Rattle.std.proofs.Common.{◌≡◌, ◌⊎◌, ℕ, Bool, true, false, true≢false, not, cond, List, [], ◌∷◌, ◌++◌, map, Option, Some, None, Ordering, inl, inr, refl, ap, sym, ◌∙◌, subst}
-use Rattle.std.specs.Option.{option_map}
+use Rattle.std.specs.Option.{option_map, option_or}
 use Rattle.std.specs.Ordering.{is_lt, ordering_reverse}
 use Rattle.std.specs.declared.cmp.Ordering.TheVariants.{Less, Equal, Greater}
 use Rattle.std.specs.List.{filter, find, flat_map, list_all, list_any}
@@ -9,9 +9,9 @@ use Rattle.dep_core.specs.Dependency.{Dependency}
 use Rattle.dep_core.proofs.Worlds.{names_total}
 use Rattle.list_order.specs.ByteOrder.{bytes_cmp, precedes}
 use Rattle.pool_core.specs.Candidates.{Candidate, Need, entry, named, has_usable_install_if}
-use Rattle.pool_core.specs.Options.{IsMember}
+use Rattle.pool_core.specs.Options.{IsIn}
 use Rattle.pool_core.specs.Rank.{SealedPool, meets_at}
-use Rattle.solve_core.specs.Selection.{depends_at, first_some, install_if_applies, is_met, is_unmet, least_name, lesser_name, names_by_install_if, next_need, positive_needs, raised_needs}
+use Rattle.solve_core.specs.Selection.{depends_at, install_if_applies, is_met, is_unmet, least_name, lesser_name, names_by_install_if, next_need, positive_needs, raised_needs}
 use Rattle.solve_core.proofs.PoolFacts.{any_in, filter_in, in_filter, in_map, least_in, least_none, map_in}
 use Rattle.world_laws.specs.NextNeed.{AreMetByChoices, AreMetOfEach, IsAskedByInstallIf, IsFirstOfChoices, IsFirstUnmet, IsMetByChoice, IsNextOrNone}
 
@@ -41,19 +41,19 @@ not_before y m n h k = by (bytes_cmp y n) refl (bytes_cmp m y) refl
     by Less e Equal f = absurd (true≢false (sym (ap is_lt (names_total.congr m y n f ∙ e)) ∙ h))
     by Less e Greater f = absurd (true≢false (sym (ap is_lt (names_total.antisymm y m ∙ ap ordering_reverse f)) ∙ k))
 
-least_first : (xs : List (List ℕ)) (x : List ℕ) → least_name xs ≡ Some x → (y : List ℕ) → IsMember y xs → precedes y x ≡ false
+least_first : (xs : List (List ℕ)) (x : List ℕ) → least_name xs ≡ Some x → (y : List ℕ) → IsIn y xs → precedes y x ≡ false
 least_first [] x e y here = absurd here
 least_first (n ∷ xs) x e y here = by (least_name xs) refl e here (λ m f. least_first xs m f y)
   where
-    by : (r : Option (List ℕ)) → least_name xs ≡ r → Some (lesser_name n r) ≡ Some x → IsMember y (n ∷ xs)
-        → ((m : List ℕ) → least_name xs ≡ Some m → IsMember y xs → precedes y m ≡ false) → precedes y x ≡ false
+    by : (r : Option (List ℕ)) → least_name xs ≡ r → Some (lesser_name n r) ≡ Some x → IsIn y (n ∷ xs)
+        → ((m : List ℕ) → least_name xs ≡ Some m → IsIn y xs → precedes y m ≡ false) → precedes y x ≡ false
     by None f e (inl is) more =
         let same : n ≡ x = cc in
         subst (λ (z : List ℕ). precedes y z ≡ false) same (subst (λ (z : List ℕ). precedes z n ≡ false) (sym is) (not_before_self n))
-    by None f e (inr behind) more = absurd (subst (λ (l : List (List ℕ)). IsMember y l) (least_none xs f) behind)
+    by None f e (inr behind) more = absurd (subst (λ (l : List (List ℕ)). IsIn y l) (least_none xs f) behind)
     by (Some m) f e here more = by_test (is_lt (bytes_cmp m n)) refl e here
       where
-        by_test : (b : Bool) → is_lt (bytes_cmp m n) ≡ b → Some (cond b m n) ≡ Some x → IsMember y (n ∷ xs) → precedes y x ≡ false
+        by_test : (b : Bool) → is_lt (bytes_cmp m n) ≡ b → Some (cond b m n) ≡ Some x → IsIn y (n ∷ xs) → precedes y x ≡ false
         by_test true t e (inl is) =
             let same : m ≡ x = cc in
             subst (λ (z : List ℕ). precedes y z ≡ false) same (subst (λ (z : List ℕ). precedes z m ≡ false) (sym is) (below_not m n (bytes_cmp m n) refl t))
@@ -69,16 +69,16 @@ least_first (n ∷ xs) x e y here = by (least_name xs) refl e here (λ m f. leas
 
 -- ---- needs that are met
 
-in_any : (test : ℕ → Bool) (xs : List ℕ) (x : ℕ) → IsMember x xs → test x ≡ true → list_any test xs ≡ true
+in_any : (test : ℕ → Bool) (xs : List ℕ) (x : ℕ) → IsIn x xs → test x ≡ true → list_any test xs ≡ true
 in_any test [] x here t = absurd here
 in_any test (y ∷ ys) x (inl is) t = or_left (test y) (list_any test ys) (ap test (sym is) ∙ t)
 in_any test (y ∷ ys) x (inr more) t = or_right (test y) (list_any test ys) (in_any test ys x more t)
 
-all_pass : (test : Dependency → Bool) (xs : List Dependency) → ((x : Dependency) → IsMember x xs → test x ≡ true) → list_all test xs ≡ true
+all_pass : (test : Dependency → Bool) (xs : List Dependency) → ((x : Dependency) → IsIn x xs → test x ≡ true) → list_all test xs ≡ true
 all_pass test [] h = refl
 all_pass test (y ∷ ys) h = and_from (test y) (list_all test ys) (h y (inl refl)) (all_pass test ys (λ x here. h x (inr here)))
 
-all_in : (test : Dependency → Bool) (xs : List Dependency) (x : Dependency) → list_all test xs ≡ true → IsMember x xs → test x ≡ true
+all_in : (test : Dependency → Bool) (xs : List Dependency) (x : Dependency) → list_all test xs ≡ true → IsIn x xs → test x ≡ true
 all_in test [] x h here = absurd here
 all_in test (y ∷ ys) x h (inl is) = ap test is ∙ (and_parts (test y) (list_all test ys) h).0
 all_in test (y ∷ ys) x h (inr more) = all_in test ys x (and_parts (test y) (list_all test ys) h).1 more
@@ -209,17 +209,17 @@ module _ (pool : SealedPool) (chosen : List ℕ) where
   abbrev unmet_names : List (List ℕ)
   unmet_names = filter (λ name. is_unmet pool chosen (named name)) (names_by_install_if pool chosen)
 
-  asked_in : (name : List ℕ) → IsAskedByInstallIf pool chosen name → IsMember name unmet_names
+  asked_in : (name : List ℕ) → IsAskedByInstallIf pool chosen name → IsIn name unmet_names
   asked_in name a =
       let applies : install_if_applies pool chosen a.candidate ≡ true =
       and_from (has_usable_install_if pool.world a.candidate) (list_all (λ (d : Dependency). is_met pool chosen (entry d)) a.candidate.install_if) a.usable
       (all_pass (λ (d : Dependency). is_met pool chosen (entry d)) a.candidate.install_if (λ d here. is_met_by (entry d) (a.applies d here))) in
       let here = in_filter (install_if_applies pool chosen) a.candidate pool.candidates a.stands applies in
-      let there : IsMember a.candidate.name (names_by_install_if pool chosen) = in_map (λ (c : Candidate). c.name) a.candidate (filter (install_if_applies pool chosen) pool.candidates) here in
-      in_filter (λ n. is_unmet pool chosen (named n)) name (names_by_install_if pool chosen) (subst (λ (n : List ℕ). IsMember n (names_by_install_if pool chosen)) a.is_named there)
+      let there : IsIn a.candidate.name (names_by_install_if pool chosen) = in_map (λ (c : Candidate). c.name) a.candidate (filter (install_if_applies pool chosen) pool.candidates) here in
+      in_filter (λ n. is_unmet pool chosen (named n)) name (names_by_install_if pool chosen) (subst (λ (n : List ℕ). IsIn n (names_by_install_if pool chosen)) a.is_named there)
       (is_unmet_by (named name) a.unmet (is_met pool chosen (named name)) refl)
 
-  in_asked : (name : List ℕ) → IsMember name unmet_names → IsAskedByInstallIf pool chosen name
+  in_asked : (name : List ℕ) → IsIn name unmet_names → IsAskedByInstallIf pool chosen name
   in_asked name here =
       let kept = filter_in (λ n. is_unmet pool chosen (named n)) name (names_by_install_if pool chosen) here in
       let from = map_in (λ (c : Candidate). c.name) name (filter (install_if_applies pool chosen) pool.candidates) kept.0 in
@@ -235,7 +235,7 @@ module _ (pool : SealedPool) (chosen : List ℕ) where
       }
 
   by_names : AreMetByChoices pool chosen pool.world → AreMetOfEach pool chosen chosen → (r : Option (List ℕ)) → least_name unmet_names ≡ r → IsNextOrNone pool chosen (option_map named r)
-  by_names world each None e = (world, each, λ name asked. subst (λ (l : List (List ℕ)). IsMember name l) (least_none unmet_names e) (asked_in name asked))
+  by_names world each None e = (world, each, λ name asked. subst (λ (l : List (List ℕ)). IsIn name l) (least_none unmet_names e) (asked_in name asked))
   by_names world each (Some name) e = (
     world,
     each,
@@ -250,10 +250,10 @@ module _ (pool : SealedPool) (chosen : List ℕ) where
   abbrev by_install_if : Option Need
   by_install_if = option_map named (least_name unmet_names)
 
-  by_raised : (found : Option Need) → Splits pool.world found (find test (raised chosen)) → SplitsChoices chosen (find test (raised chosen)) → IsNextOrNone pool chosen (first_some found by_install_if)
-  by_raised found (inl (d, first, is)) more = subst (λ (r : Option Need). IsNextOrNone pool chosen (first_some r by_install_if)) (sym is) (inl first)
-  by_raised found (inr (world, is)) (inl (d, first, from)) = subst (λ (r : Option Need). IsNextOrNone pool chosen (first_some r by_install_if)) (sym (is ∙ from)) (inr (world, first))
-  by_raised found (inr (world, is)) (inr (each, from)) = subst (λ (r : Option Need). IsNextOrNone pool chosen (first_some r by_install_if)) (sym (is ∙ from)) (by_names world each (least_name unmet_names) refl)
+  by_raised : (found : Option Need) → Splits pool.world found (find test (raised chosen)) → SplitsChoices chosen (find test (raised chosen)) → IsNextOrNone pool chosen (option_or found by_install_if)
+  by_raised found (inl (d, first, is)) more = subst (λ (r : Option Need). IsNextOrNone pool chosen (option_or r by_install_if)) (sym is) (inl first)
+  by_raised found (inr (world, is)) (inl (d, first, from)) = subst (λ (r : Option Need). IsNextOrNone pool chosen (option_or r by_install_if)) (sym (is ∙ from)) (inr (world, first))
+  by_raised found (inr (world, is)) (inr (each, from)) = subst (λ (r : Option Need). IsNextOrNone pool chosen (option_or r by_install_if)) (sym (is ∙ from)) (by_names world each (least_name unmet_names) refl)
 
   pub next : IsNextOrNone pool chosen (next_need pool chosen)
   unfolding next_need

@@ -6,20 +6,20 @@ use Rattle.dep_core.specs.Dependency.{Dependency}
 use Rattle.dep_core.proofs.Worlds.{cmp-equal, names_total}
 use Rattle.list_order.specs.ByteOrder.{bytes_cmp}
 use Rattle.pool_core.specs.Candidates.{Need, entry, named}
-use Rattle.pool_core.specs.Options.{IsMember}
+use Rattle.pool_core.specs.Options.{IsIn}
 use Rattle.pool_core.specs.Rank.{SealedPool}
 use Rattle.solve_core.specs.Selection.{depends_at}
 use Rattle.world_laws.specs.NextNeed.{AreMetByChoices, AreMetOfEach, IsFirstByInstallIf, IsFirstOfChoices, IsFirstUnmet, IsMetByChoice, IsNext, IsNextOrNone}
 
 -- ---- the first place of a list
 
-member_at : {X : Type 0} (front : List X) (x : X) (behind : List X) → IsMember x (front ++ x ∷ behind)
+member_at : {X : Type 0} (front : List X) (x : X) (behind : List X) → IsIn x (front ++ x ∷ behind)
 member_at [] x behind = inl refl
 member_at (y ∷ front) x behind = inr (member_at front x behind)
 
 -- all that stands before each of two places is done, and what stands there is not: they are one
 one_place : {X : Type 0} (Done : X → Type 0) (f g : List X) (x y : X) (a b : List X) → f ++ x ∷ a ≡ g ++ y ∷ b
-    → ((z : X) → IsMember z f → Done z) → ((z : X) → IsMember z g → Done z) → ¬ Done x → ¬ Done y → x ≡ y
+    → ((z : X) → IsIn z f → Done z) → ((z : X) → IsIn z g → Done z) → ¬ Done x → ¬ Done y → x ≡ y
 one_place Done [] [] x y a b e p q n m = cc
 one_place Done [] (z ∷ g) x y a b e p q n m = let same : z ≡ x = cc in absurd (n (subst Done same (q z (inl refl))))
 one_place Done (z ∷ f) [] x y a b e p q n m = let same : z ≡ y = cc in absurd (m (subst Done same (p z (inl refl))))
@@ -42,7 +42,7 @@ module _ (pool : SealedPool) (chosen : List ℕ) where
 
   not_met : (deps : List Dependency) (d : Dependency) → IsFirstUnmet pool chosen deps d → ¬ AreMetByChoices pool chosen deps
   not_met deps d f all =
-      f.unmet (all d (subst (λ (l : List Dependency). IsMember d l) (sym f.stands) (member_at f.front d f.behind)) f.positive)
+      f.unmet (all d (subst (λ (l : List Dependency). IsIn d l) (sym f.stands) (member_at f.front d f.behind)) f.positive)
 
   one_choice : (d e : Dependency) → IsFirstOfChoices pool chosen chosen d → IsFirstOfChoices pool chosen chosen e → d ≡ e
   one_choice d e f g =
@@ -52,7 +52,7 @@ module _ (pool : SealedPool) (chosen : List ℕ) where
 
   not_each : (d : Dependency) → IsFirstOfChoices pool chosen chosen d → ¬ AreMetOfEach pool chosen chosen
   not_each d f all =
-      not_met (depends_at pool f.choice) d f.first (all f.choice (subst (λ (l : List ℕ). IsMember f.choice l) (sym f.stands) (member_at f.front f.choice f.behind)))
+      not_met (depends_at pool f.choice) d f.first (all f.choice (subst (λ (l : List ℕ). IsIn f.choice l) (sym f.stands) (member_at f.front f.choice f.behind)))
 
   one_name : (n m : List ℕ) → IsFirstByInstallIf pool chosen n → IsFirstByInstallIf pool chosen m → n ≡ m
   one_name n m f g =

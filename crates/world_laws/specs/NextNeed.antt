@@ -3,19 +3,19 @@ use Rattle.std.specs.Prelude.{◌≡◌, ◌⊎◌, ℕ, true, false, List, ◌�
 use Rattle.dep_core.specs.Dependency.{Dependency}
 use Rattle.list_order.specs.ByteOrder.{precedes}
 use Rattle.pool_core.specs.Candidates.{Candidate, Need, entry, named, has_usable_install_if}
-use Rattle.pool_core.specs.Options.{IsMember}
+use Rattle.pool_core.specs.Options.{IsIn}
 use Rattle.pool_core.specs.Rank.{SealedPool, meets_at}
 use Rattle.solve_core.specs.Selection.{depends_at}
 
 -- a chosen candidate meets it
 abbrev pub IsMetByChoice : SealedPool → List ℕ → Need → Type 0
-IsMetByChoice pool chosen need = (c : ℕ) × IsMember c chosen × (meets_at pool c need ≡ true)
+IsMetByChoice pool chosen need = (c : ℕ) × IsIn c chosen × (meets_at pool c need ≡ true)
 
 -- ---- dependencies
 
 -- each of them that is no conflict is met
 abbrev pub AreMetByChoices : SealedPool → List ℕ → List Dependency → Type 0
-AreMetByChoices pool chosen deps = (d : Dependency) → IsMember d deps → d.conflict ≡ false
+AreMetByChoices pool chosen deps = (d : Dependency) → IsIn d deps → d.conflict ≡ false
     → IsMetByChoice pool chosen (entry d)
 
 -- of them this is the first that is no conflict and is not met
@@ -32,7 +32,7 @@ pub record IsFirstUnmet (pool : SealedPool) (chosen : List ℕ) (deps : List Dep
 
 -- the dependencies of each of these choices are met
 abbrev pub AreMetOfEach : SealedPool → List ℕ → List ℕ → Type 0
-AreMetOfEach pool chosen choices = (c : ℕ) → IsMember c choices
+AreMetOfEach pool chosen choices = (c : ℕ) → IsIn c choices
     → AreMetByChoices pool chosen (depends_at pool c)
 
 -- it is the first unmet dependency of a choice, and those of the choices before it are met
@@ -51,10 +51,10 @@ pub record IsFirstOfChoices (pool : SealedPool) (chosen choices : List ℕ)
 -- meets the name
 pub record IsAskedByInstallIf (pool : SealedPool) (chosen name : List ℕ) : Type 0 where
   pub candidate : Candidate
-  pub stands : IsMember candidate pool.candidates
+  pub stands : IsIn candidate pool.candidates
   pub is_named : candidate.name ≡ name
   pub usable : has_usable_install_if pool.world candidate ≡ true
-  pub applies : (d : Dependency) → IsMember d candidate.install_if
+  pub applies : (d : Dependency) → IsIn d candidate.install_if
       → IsMetByChoice pool chosen (entry d)
   pub unmet : ¬ IsMetByChoice pool chosen (named name)
 

@@ -4,7 +4,7 @@ ghost use Rattle.std.specs.Prelude.{◌≡◌, ◌<◌, ℕ, length, true, false
 ghost use Rattle.dep_core.specs.Dependency.{Dependency};
 ghost use Rattle.dep_core.specs.Meets.{dependency};
 ghost use Rattle.pool_core.specs.Candidates.{entry};
-ghost use Rattle.pool_core.specs.Options.{IsMember};
+ghost use Rattle.pool_core.specs.Options.{IsIn};
 ghost use Rattle.pool_core.specs.Rank.{candidate_at};
 ghost use Rattle.solve_core.specs.Choices.{IsConsistent, choices_of, pool_of};
 ghost use Rattle.solve_core.specs.Excluders.{AreListed, IsExcluder, IsFreeAt};
@@ -20,8 +20,8 @@ impl<'p> Choices<'p> {
     pub(crate) fn excluder(&self, id: CandId) -> Option<CandId>
         requires consistent { IsConsistent self.now }
         requires within { id < length (pool_of self.now).candidates }
-        requires once { IsMember id (choices_of self.now) → ⊥ }
-        ensures { MatchOption result ((k : ℕ) → IsMember k (choices_of self.now) →
+        requires once { IsIn id (choices_of self.now) → ⊥ }
+        ensures { MatchOption result ((k : ℕ) → IsIn k (choices_of self.now) →
             exclude_each_other (pool_of self.now) k id ≡ false)
             (λ k. IsExcluder (pool_of self.now) (choices_of self.now) id k) }
     {
@@ -46,8 +46,8 @@ impl<'p> Choices<'p> {
     ) -> Option<CandId>
         requires listed { AreListed (pool_of self.now) (choices_of self.now) self.now.conflicts }
         requires here { candidate_at (pool_of self.now) id ≡ Some details.now }
-        requires once { IsMember id (choices_of self.now) → ⊥ }
-        requires occupied { is_occupied ≡ true → IsMember name.now (occupied_names details.now) }
+        requires once { IsIn id (choices_of self.now) → ⊥ }
+        requires occupied { is_occupied ≡ true → IsIn name.now (occupied_names details.now) }
         ensures { MatchOption result
             (IsFreeAt (pool_of self.now) (choices_of self.now) details.now name.now is_occupied)
             (λ k. IsExcluder (pool_of self.now) (choices_of self.now) id k) }
@@ -65,8 +65,8 @@ impl<'p> Choices<'p> {
     fn excluder_provided(&self, details: &Details<'_>, id: CandId) -> Option<CandId>
         requires listed { AreListed (pool_of self.now) (choices_of self.now) self.now.conflicts }
         requires here { candidate_at (pool_of self.now) id ≡ Some details.now }
-        requires once { IsMember id (choices_of self.now) → ⊥ }
-        ensures { MatchOption result ((p : Dependency) → IsMember p details.now.provides →
+        requires once { IsIn id (choices_of self.now) → ⊥ }
+        ensures { MatchOption result ((p : Dependency) → IsIn p details.now.provides →
             p.conflict ≡ false → IsFreeAt (pool_of self.now) (choices_of self.now) details.now
             p.name (is_some p.version))
             (λ k. IsExcluder (pool_of self.now) (choices_of self.now) id k) }
@@ -90,8 +90,8 @@ impl<'p> Choices<'p> {
     ) -> Option<CandId>
         requires listed { AreListed (pool_of self.now) (choices_of self.now) self.now.conflicts }
         requires here { candidate_at (pool_of self.now) id ≡ Some details.now }
-        requires once { IsMember id (choices_of self.now) → ⊥ }
-        requires provided { IsMember (dependency entry.now) details.now.provides }
+        requires once { IsIn id (choices_of self.now) → ⊥ }
+        requires provided { IsIn (dependency entry.now) details.now.provides }
         ensures { MatchOption result ((dependency entry.now).conflict ≡ false →
             IsFreeAt (pool_of self.now) (choices_of self.now) details.now
             (dependency entry.now).name (is_some (dependency entry.now).version))
@@ -106,8 +106,8 @@ impl<'p> Choices<'p> {
     // A choice that meets a conflict of the candidate.
     fn excluder_meeting(&self, details: &Details<'_>, id: CandId) -> Option<CandId>
         requires here { candidate_at (pool_of self.now) id ≡ Some details.now }
-        requires once { IsMember id (choices_of self.now) → ⊥ }
-        ensures { MatchOption result ((d : Dependency) → IsMember d details.now.depends →
+        requires once { IsIn id (choices_of self.now) → ⊥ }
+        ensures { MatchOption result ((d : Dependency) → IsIn d details.now.depends →
             d.conflict ≡ true → is_met (pool_of self.now) (choices_of self.now) (entry d) ≡ false)
             (λ k. IsExcluder (pool_of self.now) (choices_of self.now) id k) }
     {
@@ -129,8 +129,8 @@ impl<'p> Choices<'p> {
         id: CandId,
     ) -> Option<CandId>
         requires here { candidate_at (pool_of self.now) id ≡ Some details.now }
-        requires once { IsMember id (choices_of self.now) → ⊥ }
-        requires depends { IsMember (dependency dep.now) details.now.depends }
+        requires once { IsIn id (choices_of self.now) → ⊥ }
+        requires depends { IsIn (dependency dep.now) details.now.depends }
         ensures { MatchOption result ((dependency dep.now).conflict ≡ true →
             is_met (pool_of self.now) (choices_of self.now) (entry (dependency dep.now)) ≡ false)
             (λ k. IsExcluder (pool_of self.now) (choices_of self.now) id k) }

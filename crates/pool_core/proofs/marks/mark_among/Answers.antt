@@ -4,7 +4,7 @@ use Rattle.dep_core.specs.Dependency.{Dependency}
 use Rattle.dep_core.specs.Meets.{dependency}
 use Rattle.pool_core.specs.Candidates.{Candidate, offers_name}
 use Rattle.pool_core.specs.Marks.{affects, mark_at}
-use Rattle.pool_core.specs.Options.{IsMember}
+use Rattle.pool_core.specs.Options.{IsIn}
 use Rattle.pool_core.specs.Packages.{candidates_of_packages}
 use Rattle.pool_core.proofs.MarksThroughTable.{length-marks_among, marks_among, marks_among-snoc, marks_at_offers}
 use Rattle.pool_core.proofs.OfferLists.{places_below}
@@ -16,7 +16,7 @@ mark_one-requires-clause-within c =
     let cs : List Candidate = candidates_of_packages c.args.packages.now in
     let d : Dependency = dependency c.args.entry.now in
     let there = member_at c.args.ids.now c.loop-id.id-index c.id-item.result (omega arith) c.id-item.is in
-    let below = places_below 0 (offers_name d.name) cs c.id-item.result (subst (λ (z : List ℕ). IsMember c.id-item.result z) c.requires.offers there) in
+    let below = places_below 0 (offers_name d.name) cs c.id-item.result (subst (λ (z : List ℕ). IsIn c.id-item.result z) c.requires.offers there) in
     omega (arith, below)
 
 pub mark_one-requires-clause-each : goal.mark_one-requires-clause-each

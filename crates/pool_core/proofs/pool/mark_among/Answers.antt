@@ -4,7 +4,7 @@ use Rattle.std.specs.List.{list_any}
 use Rattle.std.proofs.lemmas.List.{take_all, take_more}
 use Rattle.pool_core.specs.Candidates.{Candidate, offers_name}
 use Rattle.pool_core.specs.CandidateList.{is_same_at, marked_at}
-use Rattle.pool_core.specs.Options.{IsMember}
+use Rattle.pool_core.specs.Options.{IsIn}
 use Rattle.pool_core.specs.Packages.{candidates_of_packages}
 use Rattle.pool_core.proofs.Installed.{any_same, length-marked_among, marked_all, marked_among, marked_more, same_among_still}
 use Rattle.pool_core.proofs.OfferLists.{places_below}
@@ -16,7 +16,7 @@ mark_one-found-requires c =
     let cs : List Candidate = candidates_of_packages c.args.packages.now in
     let installed : Candidate = c.args.installed.now in
     let there = member_at c.args.ids.now c.loop-id.id-index c.id-item.result (omega arith) c.id-item.is in
-    let below = places_below 0 (offers_name installed.name) cs c.id-item.result (subst (λ (z : List ℕ). IsMember c.id-item.result z) c.requires there) in
+    let below = places_below 0 (offers_name installed.name) cs c.id-item.result (subst (λ (z : List ℕ). IsIn c.id-item.result z) c.requires there) in
     let same : length (candidates_of_packages c.loop-id.packages) ≡ length cs = ap length c.loop-id.invariant.0 ∙ length-marked_among installed (take c.loop-id.id-index c.args.ids.now) cs in
     omega (arith, below, same)
 

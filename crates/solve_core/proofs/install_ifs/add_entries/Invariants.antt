@@ -1,11 +1,11 @@
 use Rattle.std.proofs.Common.{ℕ, List, take}
 use Rattle.dep_core.specs.Dependency.{Dependency}
-use Rattle.pool_core.specs.Options.{AreMembers, IsMember}
+use Rattle.pool_core.specs.Options.{AreMembers, IsIn}
 use Rattle.solve_core.specs.NameTable.{items_of}
 use Rattle.solve_core.proofs.install_ifs.add_entries.Given as goal
 
 abbrev pub invariant-loop-i : goal.invariant-loop-i
 invariant-loop-i l = record {
   more : (name : List ℕ) → AreMembers (items_of l.initial.waiting name) (items_of l.waiting name);
-  each : (d : Dependency) → IsMember d (take l.i l.deps) → IsMember l.rank (items_of l.waiting d.name);
+  each : (d : Dependency) → IsIn d (take l.i l.deps) → IsIn l.rank (items_of l.waiting d.name);
 }

@@ -2,14 +2,14 @@ use Rattle.std.proofs.Common.{◌≡◌, ◌≤◌, ℕ, List, true, subst, leng
 use Rattle.std.proofs.lemmas.List.{take_all}
 use Rattle.dep_core.specs.Dependency.{Dependency}
 use Rattle.dep_core.specs.Meets.{dependency}
-use Rattle.pool_core.specs.Options.{IsMember}
+use Rattle.pool_core.specs.Options.{IsIn}
 use Rattle.solve_core.specs.InstallIf.{all_met}
 use Rattle.solve_core.proofs.Raisers.{raisers_more}
 use Rattle.solve_core.proofs.needs.raisers.Goals as goal
 
 pub loop-i-init : goal.loop-i-init
 loop-i-init c = record {
-  within = λ k h. absurd (subst (λ (z : List ℕ). IsMember k z) c.new-by.ensures.items h);
+  within = λ k h. absurd (subst (λ (z : List ℕ). IsIn k z) c.new-by.ensures.items h);
   met = λ h. refl;
 }
 

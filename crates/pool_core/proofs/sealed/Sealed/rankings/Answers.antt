@@ -2,7 +2,7 @@ use Rattle.std.proofs.Common.{◌≡◌, ◌∙◌, ◌+◌, ◌++◌, ◌∷◌
 use Rattle.std.specs.Prelude.{All}
 use Rattle.std.proofs.lemmas.List.{map-append, take_more}
 use Rattle.std.proofs.lemmas.List.Elements.{All-push}
-use Rattle.pool_core.specs.Options.{IsMember, may_meet}
+use Rattle.pool_core.specs.Options.{IsIn, may_meet}
 use Rattle.pool_core.specs.Ranking.{IsRankingIn, Ranking}
 use Rattle.pool_core.specs.Values.{need_by}
 use Rattle.pool_core.specs.VersionRanks.{IsReadOf, text_at}
@@ -15,7 +15,7 @@ pub ranking-requires-clause-within : goal.ranking-requires-clause-within
 ranking-requires-clause-within c =
     let pool = c.args.self.now in
     let there = member_at c.args.ids.now c.loop-id.id-index c.id-item.result (omega arith) c.id-item.is in
-    let below = places_below 0 (may_meet pool (need_by c.args.need.now)) pool.candidates c.id-item.result (subst (λ (z : List ℕ). IsMember c.id-item.result z) c.requires.those there) in
+    let below = places_below 0 (may_meet pool (need_by c.args.need.now)) pool.candidates c.id-item.result (subst (λ (z : List ℕ). IsIn c.id-item.result z) c.requires.those there) in
     omega (arith, below)
 
 pub loop-id-preserved : goal.loop-id-preserved

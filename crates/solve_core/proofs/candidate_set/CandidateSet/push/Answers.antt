@@ -1,6 +1,6 @@
 use Rattle.std.proofs.Common.{◌≡◌, ◌∙◌, ◌++◌, ◌∷◌, [], ◌<◌, ℕ, List, true, ap, sym, subst, length, arith}
 use Rattle.std.specs.Prelude.{slice_set}
-use Rattle.pool_core.specs.Options.{IsMember}
+use Rattle.pool_core.specs.Options.{IsIn}
 use Rattle.solve_core.specs.CandidateSet.{AreMarks}
 use Rattle.solve_core.proofs.Marks.{marked_more}
 use Rattle.solve_core.proofs.candidate_set.CandidateSet.push.Goals as goal
@@ -13,4 +13,4 @@ invariant_of-self-2 c =
     let within : place < length c.grow.new.marks.items = omega (arith, c.in_ok-grow.ensures.room, c.grow.new.marks.ok) in
     subst (λ (z : List ℕ). AreMarks (slice_set c.grow.new.marks.items place true) z) (sym is)
     (marked_more c.self.inside.marks.items c.grow.new.marks.items ids place c.self.invariant c.grow.ensures.same
-    (λ h. c.requires (subst (λ (z : List ℕ). IsMember c.args.id z) c.self.view_is (subst (λ (k : ℕ). IsMember k ids) c.id.view_is h))) within)
+    (λ h. c.requires (subst (λ (z : List ℕ). IsIn c.args.id z) c.self.view_is (subst (λ (k : ℕ). IsIn k ids) c.id.view_is h))) within)

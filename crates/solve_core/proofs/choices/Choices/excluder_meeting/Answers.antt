@@ -2,7 +2,7 @@ use Rattle.std.proofs.Common.{◌≡◌, ◌≤◌, List, true, false, length, s
 use Rattle.dep_core.specs.Dependency.{Dependency}
 use Rattle.dep_core.specs.Meets.{dependency}
 use Rattle.pool_core.specs.Candidates.{entry}
-use Rattle.pool_core.specs.Options.{IsMember}
+use Rattle.pool_core.specs.Options.{IsIn}
 use Rattle.solve_core.specs.Choices.{choices_of, pool_of}
 use Rattle.solve_core.specs.Selection.{is_met}
 use Rattle.solve_core.proofs.Asking.{there_is}
@@ -14,7 +14,7 @@ loop-i-init c = λ d h. absurd h
 
 pub excluder_meeting_one-requires-clause-depends : goal.excluder_meeting_one-requires-clause-depends
 excluder_meeting_one-requires-clause-depends c =
-    subst (λ (z : List Dependency). IsMember (dependency c.get.result) z) c.depends-depends.ensures (there_is c.depends-depends.result c.loop-i.i (dependency c.get.result) c.get.ensures).1
+    subst (λ (z : List Dependency). IsIn (dependency c.get.result) z) c.depends-depends.ensures (there_is c.depends-depends.result c.loop-i.i (dependency c.get.result) c.get.ensures).1
 
 pub loop-i-preserved : goal.loop-i-preserved
 loop-i-preserved c =
@@ -26,4 +26,4 @@ returns c =
     let P : Dependency → Type 0 = λ d. d.conflict ≡ true → is_met (pool_of c.args.self.now) (choices_of c.args.self.now) (entry d) ≡ false in
     let deps : List Dependency = c.depends-depends.result in
     let past : length deps ≤ c.loop-i.i = omega arith in
-    λ d h. each_all P deps c.loop-i.i past c.loop-i.invariant d (subst (λ (z : List Dependency). IsMember d z) (sym c.depends-depends.ensures) h)
+    λ d h. each_all P deps c.loop-i.i past c.loop-i.invariant d (subst (λ (z : List Dependency). IsIn d z) (sym c.depends-depends.ensures) h)

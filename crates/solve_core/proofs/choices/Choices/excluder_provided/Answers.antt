@@ -2,7 +2,7 @@ use Rattle.std.proofs.Common.{◌≡◌, ◌≤◌, List, false, length, sym, su
 use Rattle.std.specs.Prelude.{is_some}
 use Rattle.dep_core.specs.Dependency.{Dependency}
 use Rattle.dep_core.specs.Meets.{dependency}
-use Rattle.pool_core.specs.Options.{IsMember}
+use Rattle.pool_core.specs.Options.{IsIn}
 use Rattle.solve_core.specs.Choices.{choices_of, pool_of}
 use Rattle.solve_core.specs.Excluders.{IsFreeAt}
 use Rattle.solve_core.proofs.Asking.{there_is}
@@ -14,7 +14,7 @@ loop-i-init c = λ p h. absurd h
 
 pub excluder_of_entry-requires-clause-provided : goal.excluder_of_entry-requires-clause-provided
 excluder_of_entry-requires-clause-provided c =
-    subst (λ (z : List Dependency). IsMember (dependency c.get.result) z) c.provides-provides.ensures (there_is c.provides-provides.result c.loop-i.i (dependency c.get.result) c.get.ensures).1
+    subst (λ (z : List Dependency). IsIn (dependency c.get.result) z) c.provides-provides.ensures (there_is c.provides-provides.result c.loop-i.i (dependency c.get.result) c.get.ensures).1
 
 pub loop-i-preserved : goal.loop-i-preserved
 loop-i-preserved c =
@@ -26,4 +26,4 @@ returns c =
     let P : Dependency → Type 0 = λ p. p.conflict ≡ false → IsFreeAt (pool_of c.args.self.now) (choices_of c.args.self.now) c.args.details.now p.name (is_some p.version) in
     let deps : List Dependency = c.provides-provides.result in
     let past : length deps ≤ c.loop-i.i = omega arith in
-    λ p h. each_all P deps c.loop-i.i past c.loop-i.invariant p (subst (λ (z : List Dependency). IsMember p z) (sym c.provides-provides.ensures) h)
+    λ p h. each_all P deps c.loop-i.i past c.loop-i.invariant p (subst (λ (z : List Dependency). IsIn p z) (sym c.provides-provides.ensures) h)

@@ -1,6 +1,6 @@
 use Rattle.std.proofs.Common.{◌≡◌, ◌∙◌, inl, inr, ℕ, List, sym, subst, arith}
 use Rattle.dep_core.specs.Dependency.{Dependency}
-use Rattle.pool_core.specs.Options.{IsMember}
+use Rattle.pool_core.specs.Options.{IsIn}
 use Rattle.solve_core.specs.NameTable.{items_of}
 use Rattle.solve_core.proofs.Asking.{offered_names}
 use Rattle.solve_core.proofs.choices.Choices.least_rank_asking.Goals as goal
@@ -10,6 +10,6 @@ returns-clause-unasked c = λ name rank offers waits low.
     let table : List (List ℕ × List ℕ) = c.args.self.now.install_ifs.waiting in
     let provided : c.provides.result ≡ c.args.details.now.provides = c.provides.ensures in
     elim (offered_names name c.args.details.now offers) [
-      | inl e ↦ c.least_rank_waiting-own.ensures.unasked rank (subst (λ (n : List ℕ). IsMember rank (items_of table n)) (e ∙ sym c.name.ensures) waits) (omega (arith, low, c.least_rank_provided.ensures.less))
-      | inr p ↦ c.least_rank_provided.ensures.unasked p.0 rank (subst (λ (z : List Dependency). IsMember p.0 z) (sym provided) p.1) (subst (λ (n : List ℕ). IsMember rank (items_of table n)) p.2 waits) low
+      | inl e ↦ c.least_rank_waiting-own.ensures.unasked rank (subst (λ (n : List ℕ). IsIn rank (items_of table n)) (e ∙ sym c.name.ensures) waits) (omega (arith, low, c.least_rank_provided.ensures.less))
+      | inr p ↦ c.least_rank_provided.ensures.unasked p.0 rank (subst (λ (z : List Dependency). IsIn p.0 z) (sym provided) p.1) (subst (λ (n : List ℕ). IsIn rank (items_of table n)) p.2 waits) low
     ]

@@ -1,6 +1,6 @@
 use Rattle.std.proofs.Common.{◌≡◌, ◌≤◌, ◌<◌, ℕ, false, take}
 use Rattle.dep_core.specs.Dependency.{Dependency}
-use Rattle.pool_core.specs.Options.{IsMember}
+use Rattle.pool_core.specs.Options.{IsIn}
 use Rattle.solve_core.specs.Choices.{choices_of, install_ifs_of, pool_of}
 use Rattle.solve_core.specs.InstallIf.{rank_asks}
 use Rattle.solve_core.specs.NameTable.{items_of}
@@ -9,5 +9,5 @@ use Rattle.solve_core.proofs.choices.Choices.least_rank_provided.Given as goal
 abbrev pub invariant-loop-i : goal.invariant-loop-i
 invariant-loop-i l = record {
   less : l.least ≤ l.cursor;
-  unasked : (d : Dependency) → IsMember d (take l.i l.provides) → (rank : ℕ) → IsMember rank (items_of l.self.install_ifs.waiting d.name) → rank < l.least → rank_asks (pool_of l.self) (choices_of l.self) (install_ifs_of l.self) rank ≡ false;
+  unasked : (d : Dependency) → IsIn d (take l.i l.provides) → (rank : ℕ) → IsIn rank (items_of l.self.install_ifs.waiting d.name) → rank < l.least → rank_asks (pool_of l.self) (choices_of l.self) (install_ifs_of l.self) rank ≡ false;
 }

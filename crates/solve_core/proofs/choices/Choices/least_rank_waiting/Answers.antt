@@ -1,6 +1,6 @@
 use Rattle.std.proofs.Common.{◌≡◌, ◌≤◌, ◌<◌, ◌+◌, ◌∙◌, ◌++◌, ◌∷◌, [], ℕ, List, false, take, length, get_or, sym, subst, arith}
 use Rattle.std.proofs.lemmas.List.{take_more, take_all}
-use Rattle.pool_core.specs.Options.{IsMember}
+use Rattle.pool_core.specs.Options.{IsIn}
 use Rattle.solve_core.specs.Choices.{choices_of, install_ifs_of, pool_of}
 use Rattle.solve_core.specs.InstallIf.{rank_asks}
 use Rattle.solve_core.proofs.Offered.{in_more}
@@ -16,11 +16,11 @@ loop-rank-preserved c =
     record {
       less = omega (arith, c.lesser_rank-least.ensures.less, c.loop-rank.invariant.less);
       unasked = λ r h. in_more P (take c.loop-rank.rank-index items) rank
-          (λ j g low. c.loop-rank.invariant.unasked j g (omega (arith, low, c.lesser_rank-least.ensures.less))) c.lesser_rank-least.ensures.unasked r (subst (λ (z : List ℕ). IsMember r z) one h);
+          (λ j g low. c.loop-rank.invariant.unasked j g (omega (arith, low, c.lesser_rank-least.ensures.less))) c.lesser_rank-least.ensures.unasked r (subst (λ (z : List ℕ). IsIn r z) one h);
     }
 
 pub returns-clause-unasked : goal.returns-clause-unasked
 returns-clause-unasked c =
     let items : List ℕ = c.waiting_for-rank-items.result.now in
     let past : length items ≤ c.loop-rank.rank-index = omega arith in
-    λ r h. c.loop-rank.invariant.unasked r (subst (λ (z : List ℕ). IsMember r z) (sym (take_all c.loop-rank.rank-index items past ∙ c.waiting_for-rank-items.ensures)) h)
+    λ r h. c.loop-rank.invariant.unasked r (subst (λ (z : List ℕ). IsIn r z) (sym (take_all c.loop-rank.rank-index items past ∙ c.waiting_for-rank-items.ensures)) h)

@@ -1,5 +1,5 @@
 use Rattle.std.proofs.Common.{◌≡◌, ◌≤◌, ◌<◌, ℕ, false, take}
-use Rattle.pool_core.specs.Options.{IsMember}
+use Rattle.pool_core.specs.Options.{IsIn}
 use Rattle.solve_core.specs.Choices.{choices_of, install_ifs_of, pool_of}
 use Rattle.solve_core.specs.InstallIf.{rank_asks}
 use Rattle.solve_core.proofs.choices.Choices.least_rank_waiting.Given as goal
@@ -7,5 +7,5 @@ use Rattle.solve_core.proofs.choices.Choices.least_rank_waiting.Given as goal
 abbrev pub invariant-loop-rank : goal.invariant-loop-rank
 invariant-loop-rank l = record {
   less : l.least ≤ l.cursor;
-  unasked : (rank : ℕ) → IsMember rank (take l.rank-index l.rank-items) → rank < l.least → rank_asks (pool_of l.self) (choices_of l.self) (install_ifs_of l.self) rank ≡ false;
+  unasked : (rank : ℕ) → IsIn rank (take l.rank-index l.rank-items) → rank < l.least → rank_asks (pool_of l.self) (choices_of l.self) (install_ifs_of l.self) rank ≡ false;
 }

@@ -7,7 +7,7 @@ use Rattle.solve_core.proofs.Theory.{in_left}
 use Rattle.solve_core.proofs.Steps.{empty_list}
 use Rattle.solve_core.proofs.Queued.{queue_more, take_front}
 use Rattle.solve_core.proofs.Consistency.{never_empty, checkpoints_less, checkpoints_none, consistent_by}
-use Rattle.pool_core.specs.Options.{IsMember}
+use Rattle.pool_core.specs.Options.{IsIn}
 use Rattle.solve_core.proofs.choices.Choices.pop.Goals as goal
 
 pub returns-in-Some-clause-consistent : goal.returns-in-Some-clause-consistent
@@ -22,7 +22,7 @@ returns-in-Some-clause-consistent c =
     let is : c.pop-in-Some.new.self ≡ rest = c.pop-in-Some.ensures.last rest less.1 (ap choices_of others ∙ less.2) in
     let queue : c.truncate.new.self.items ≡ queue_of pool rest =
     c.truncate.ensures.items ∙ (ap (take before.queue_len) (ap (λ (z : Choices). z.queue.items) others ∙ (c.requires.queue ∙ (ap (queue_of pool) less.2 ∙ queue_more pool rest less.1))) ∙ take_front (queue_of pool rest) (raised_deps_at pool less.1) before.queue_len less.4.0) in
-    let front : (k : ℕ) → IsMember k rest → IsMember k old = λ k h. subst (λ (z : List ℕ). IsMember k z) (sym less.2) (in_left k rest (less.1 ∷ []) h) in
+    let front : (k : ℕ) → IsIn k rest → IsIn k old = λ k h. subst (λ (z : List ℕ). IsIn k z) (sym less.2) (in_left k rest (less.1 ∷ []) h) in
     consistent_by c.args.self.now _ rest (record { pool = ap pool_of others; choices = is; install_ifs = ap (λ (z : Choices). z.install_ifs) others }) c.requires.install_ifs
     (λ k h. c.requires.within k (front k h)) queue less.4.1 less.4.2 (c.take_conflicts_away.ensures.listed rest less.1 less.2)
     (subst (λ (z : List Checkpoint). AreCheckpoints pool order [] rest z) (sym (ap (λ (z : Choices). z.checkpoints.items) others)) less.3)

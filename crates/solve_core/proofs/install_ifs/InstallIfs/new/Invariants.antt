@@ -1,10 +1,10 @@
 use Rattle.std.proofs.Common.{◌≡◌, ◌<◌, ℕ}
 use Rattle.std.specs.Prelude.{Some, slice_get}
 use Rattle.dep_core.specs.Dependency.{Dependency}
-use Rattle.pool_core.specs.Options.{IsMember}
+use Rattle.pool_core.specs.Options.{IsIn}
 use Rattle.solve_core.specs.InstallIf.{install_if_at}
 use Rattle.solve_core.specs.NameTable.{items_of}
 use Rattle.solve_core.proofs.install_ifs.InstallIfs.new.Given as goal
 
 abbrev pub invariant-loop-rank : goal.invariant-loop-rank
-invariant-loop-rank l = (rank k : ℕ) (d : Dependency) → rank < l.rank → slice_get l.by_name.items rank ≡ Some k → IsMember d (install_if_at l.pool k) → IsMember rank (items_of l.waiting d.name)
+invariant-loop-rank l = (rank k : ℕ) (d : Dependency) → rank < l.rank → slice_get l.by_name.items rank ≡ Some k → IsIn d (install_if_at l.pool k) → IsIn rank (items_of l.waiting d.name)

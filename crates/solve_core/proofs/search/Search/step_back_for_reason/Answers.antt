@@ -1,5 +1,5 @@
 use Rattle.std.proofs.Common.{◌≡◌, ◌<◌, ◌^◌, ◌∙◌, ◌∷◌, ◌++◌, [], ℕ, List, length, subst, sym, ap, refl, arith, append_assoc, append-nil}
-use Rattle.pool_core.specs.Options.{IsMember}
+use Rattle.pool_core.specs.Options.{IsIn}
 use Rattle.pool_core.specs.Rank.{SealedPool}
 use Rattle.solve_core.specs.Choices.{IsSearch, choices_of, pool_of}
 use Rattle.solve_core.specs.Reasons.{FrameValue, IsReason, IsFrameOf, IsFrameTaking}
@@ -29,7 +29,7 @@ loop-turn-preserved c =
       pool = c.pop-in-Some.ensures.pool ∙ c.loop-turn.invariant.pool;
       search = less.0;
       front = (turn ∷ c.loop-turn.invariant.front.0, c.loop-turn.invariant.front.1 ∙ (ap (λ (z : List (FrameValue × ℕ)). z ++ c.loop-turn.invariant.front.0) items ∙ append_assoc c.pop.new.self.items (turn ∷ []) c.loop-turn.invariant.front.0));
-      within = jumped c.loop-turn.self.reason (choices_of c.pop-in-Some.new.self) (choices_of c.loop-turn.self.chosen) turn.1 c.loop-turn.invariant.within less.2 (λ h. out (subst (λ (z : ℕ). IsMember z c.loop-turn.self.reason) (sym choice) h));
+      within = jumped c.loop-turn.self.reason (choices_of c.pop-in-Some.new.self) (choices_of c.loop-turn.self.chosen) turn.1 c.loop-turn.invariant.within less.2 (λ h. out (subst (λ (z : ℕ). IsIn z c.loop-turn.self.reason) (sym choice) h));
       dead = subst (λ (p : SealedPool). IsReason p c.loop-turn.self.reason) (sym c.pop-in-Some.ensures.pool) c.loop-turn.invariant.dead;
     }
 
