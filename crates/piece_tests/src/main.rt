@@ -11,10 +11,8 @@ ghost use Rattle.adb_tables.specs.declared.tables.Which.TheVariants as Tables;
 mod made;
 mod package;
 
-use crate::made::{add_cuts, bytes_of};
-use crate::package::{
-    add_back, add_changed, add_ends, add_read, add_repeated, add_shortened, add_spoiled,
-};
+use crate::made::{bytes_of, payload_of};
+use crate::package::{Asked, add_asked, add_fronts};
 use adb_schema::Checked;
 use adb_tables::{Which, shape};
 use adb_view::Adb;
@@ -22,8 +20,6 @@ use base_core::{Cause, Words};
 use piece_core::{FileCheck, Part, open_file};
 use pkg_core::Walk;
 use row_lines::{Subject, add_number, add_word, number_of, run_program, value_named, word_at};
-use sha1::Sha1;
-use sha2::Digest;
 use std::alloc::{AllocError, Global};
 use std::io;
 use std::process::ExitCode;
@@ -34,9 +30,8 @@ const MOST_BYTES: u32 = 1_000_000;
 /// The most pieces of a row's file.
 const MOST_PIECES: usize = 100;
 
-/// The payload of a package with the file `f` of 3 bytes, and the SHA-1 of `abc`.
-const ONE: &[u8] =
-    b"\0\0\0\0h\0\0\xe0\x01a\x011\x03\0\0\0\x08\0\0\x80\x0a\0\0\x80\x01f\x14\xa9\x99>6G\x06\x81j\xba>%qxP\xc2l\x9c\xd0\xd8\x9d\0\x06\0\0\0\x18\0\0\x80\0\0\0\0\x03\0\0\x10\0\0\0\0\x1a\0\0\x80\x02\0\0\00\0\0\xe0\x04\0\0\0\0\0\0\0\0\0\0\0H\0\0\xd0\x02\0\0\0P\0\0\xe0\x03\0\0\0\x0c\0\0\xe0`\0\0\xd0";
+/// How many bytes the file has whose contents are opened.
+const OPENED: u32 = 3;
 
 /// What is asked.
 #[derive(Clone, Copy)]
@@ -44,13 +39,7 @@ enum Question {
     Pieces,
     Open,
     Cuts,
-    Read,
-    Spoil,
-    Repeat,
-    Shorten,
-    Back,
-    Change,
-    Ends,
+    Package(Asked),
 }
 
 #[rattlefmt::skip]
@@ -58,13 +47,13 @@ const QUESTIONS: [(&[u8], Question); 10] = [
     (b"pieces", Question::Pieces),
     (b"open", Question::Open),
     (b"cuts", Question::Cuts),
-    (b"read", Question::Read),
-    (b"spoil", Question::Spoil),
-    (b"repeat", Question::Repeat),
-    (b"shorten", Question::Shorten),
-    (b"back", Question::Back),
-    (b"change", Question::Change),
-    (b"ends", Question::Ends),
+    (b"read", Question::Package(Asked::Read)),
+    (b"spoil", Question::Package(Asked::Spoil)),
+    (b"repeat", Question::Package(Asked::Repeat)),
+    (b"shorten", Question::Package(Asked::Shorten)),
+    (b"back", Question::Package(Asked::Back)),
+    (b"change", Question::Package(Asked::Change)),
+    (b"ends", Question::Package(Asked::Ends)),
 ];
 
 /// The contents of a package's files.
@@ -82,14 +71,8 @@ impl Subject for Files {
         match value_named(&QUESTIONS, word_at(words, 0)) {
             Some(Question::Pieces) => add_pieces(alloc, words, answer),
             Some(Question::Open) => add_opened(alloc, words, answer),
-            Some(Question::Cuts) => add_cuts(alloc, word_at(words, 1), answer),
-            Some(Question::Read) => add_read(alloc, words, answer),
-            Some(Question::Spoil) => add_spoiled(alloc, words, answer),
-            Some(Question::Repeat) => add_repeated(alloc, words, answer),
-            Some(Question::Shorten) => add_shortened(alloc, words, answer),
-            Some(Question::Back) => add_back(alloc, words, answer),
-            Some(Question::Change) => add_changed(alloc, words, answer),
-            Some(Question::Ends) => add_ends(alloc, words, answer),
+            Some(Question::Cuts) => add_fronts(alloc, word_at(words, 1), answer),
+            Some(Question::Package(asked)) => add_asked(alloc, asked, words, answer),
             None => answer.extend_from_slice(b"no question"),
         }
     }
@@ -99,17 +82,6 @@ impl Subject for Files {
 pub(crate) fn small_number(word: &[u8]) -> u32 {
     let number = number_of(word).unwrap_or(0);
     u32::try_from(number).unwrap_or(0).min(MOST_BYTES)
-}
-
-/// The payload of a package with one file of so many bytes, which have this SHA-1.
-fn payload_with(alloc: Global, size: u32, hash: [u8; 20]) -> Result<Vec<u8>, AllocError> {
-    let mut payload = Vec::new(alloc);
-    payload.extend_from_slice(&ONE[..27])?;
-    payload.extend_from_slice(&hash)?;
-    payload.extend_from_slice(&ONE[47..60])?;
-    payload.extend_from_slice(&(0x1000_0000 | size).to_le_bytes())?;
-    payload.extend_from_slice(&ONE[64..])?;
-    Ok(payload)
 }
 
 /// The positions that contents begin with.
@@ -134,7 +106,7 @@ fn values(alloc: Global, payload: &[u8]) -> Option<Checked<'_>>
 fn add_pieces(alloc: Global, words: &Words, answer: &mut Vec<u8>) -> Result<(), AllocError> {
     let len = small_number(word_at(words, 1));
     let mut bytes = bytes_of(alloc, len)?;
-    let payload = payload_with(alloc, len, Sha1::digest(&bytes))?;
+    let payload = payload_of(alloc, &[len])?;
     if let Some(at) = number_of(word_at(words, 2)) {
         let at = usize::try_from(at).unwrap_or(0);
         if at < bytes.len() {
@@ -213,7 +185,8 @@ pub(crate) fn add_cause(
 /// Adds what blocks of contents come to in a package whose one file has three bytes: `open FOLDER
 /// FILE LEN`, by the positions and the length of the payload, and the same once more.
 fn add_opened(alloc: Global, words: &Words, answer: &mut Vec<u8>) -> Result<(), AllocError> {
-    let Some(checked) = values(alloc, ONE) else {
+    let payload = payload_of(alloc, &[OPENED])?;
+    let Some(checked) = values(alloc, &payload) else {
         return add_word(answer, b"no package");
     };
     let mut walk = Walk::new(checked.package().paths());

@@ -1,10 +1,10 @@
-//! Packages in a tree whose files are read in pieces.
+//! Packages in a tree: their fronts, and their files, which are read in pieces.
 
 use crate::made::{Flaw, low_word, package_of};
 use crate::{add_cause, add_part, small_number};
 use adb_schema::PACKAGE_WORD;
 use base_core::{Name, TreeFault, Words};
-use package_test::{PackageRead, read_package};
+use package_test::{PackageRead, TestedPackage, read_package};
 use piece_reader::{FilePieces, Piece, PieceFault, PieceReader};
 use pkg_core::PackageFault;
 use pkg_pieces::{Contents, Front, FrontFault, read_front};
@@ -15,102 +15,107 @@ use tree_memory::MemoryTree;
 /// The most pieces of a row's package, and the most files.
 const MOST: usize = 100;
 
-/// Adds the pieces of a package, by the sizes of its files, and how it was read: `read SIZES`.
-pub(crate) fn add_read(
-    alloc: Global,
-    words: &Words,
-    answer: &mut Vec<u8>,
-) -> Result<(), AllocError> {
-    let file = package_with(alloc, words, 1, Flaw::None)?;
-    add_package(alloc, &file, None, 0, true, answer)
+/// What is asked of a package with files of some sizes.
+#[derive(Clone, Copy)]
+pub(crate) enum Asked {
+    /// Its pieces, and how it was read: `read SIZES`.
+    Read,
+    /// Its pieces where a byte of the last file is another: `spoil AT SIZES`.
+    Spoil,
+    /// The same where the first block of contents stands in place of the last: `repeat SIZES`.
+    Repeat,
+    /// The same where the last block of contents has so many bytes: `shorten LEN SIZES`.
+    Shorten,
+    /// Its pieces, and then how long those of each file are once more, from one that is not there
+    /// to the first: `back SIZES`.
+    Back,
+    /// The same from the last to the first, where a byte of the last file was changed in between:
+    /// `change AT SIZES`.
+    Change,
+    /// What it comes to that is cut at each length, from one offset on: `ends FROM SIZES`.
+    Ends,
 }
 
-/// The same where a byte of the last file is another: `spoil AT SIZES`.
-pub(crate) fn add_spoiled(
-    alloc: Global,
-    words: &Words,
-    answer: &mut Vec<u8>,
-) -> Result<(), AllocError> {
-    let at = small_number(word_at(words, 1)) as usize;
-    let file = package_with(alloc, words, 2, Flaw::Spoiled(at))?;
-    add_package(alloc, &file, None, 0, false, answer)
+/// What is read of a package.
+#[derive(Clone, Copy)]
+struct Reading<'r> {
+    /// The front alone.
+    front: bool,
+    /// How many calls of the tree there are behind the front, and the longest read of them.
+    counts: bool,
+    /// So many of its files once more, from the last to the first.
+    back: u32,
+    /// In between these bytes come in place of the package.
+    changed: Option<&'r [u8]>,
 }
 
-/// The same where the first block of contents stands in place of the last: `repeat SIZES`.
-pub(crate) fn add_repeated(
-    alloc: Global,
-    words: &Words,
-    answer: &mut Vec<u8>,
-) -> Result<(), AllocError> {
-    let file = package_with(alloc, words, 1, Flaw::Repeated)?;
-    add_package(alloc, &file, None, 0, false, answer)
+impl Reading<'_> {
+    /// The pieces alone.
+    const PIECES: Reading<'static> = Reading {
+        front: false,
+        counts: false,
+        back: 0,
+        changed: None,
+    };
 }
 
-/// The same where the last block of contents has so many bytes: `shorten LEN SIZES`.
-pub(crate) fn add_shortened(
+/// Answers what is asked of a package; a number stands before the sizes of its files where that
+/// takes one.
+pub(crate) fn add_asked(
     alloc: Global,
+    asked: Asked,
     words: &Words,
     answer: &mut Vec<u8>,
 ) -> Result<(), AllocError> {
-    let len = small_number(word_at(words, 1)) as usize;
-    let file = package_with(alloc, words, 2, Flaw::Shortened(len))?;
-    add_package(alloc, &file, None, 0, false, answer)
+    let number = small_number(word_at(words, 1)) as usize;
+    let (first, flaw) = match asked {
+        Asked::Read | Asked::Back => (1, Flaw::None),
+        Asked::Repeat => (1, Flaw::Repeated),
+        Asked::Spoil => (2, Flaw::Spoiled(number)),
+        Asked::Shorten => (2, Flaw::Shortened(number)),
+        Asked::Change | Asked::Ends => (2, Flaw::None),
+    };
+    let sizes = sizes_from(alloc, words, first)?;
+    let file = package_of(alloc, &sizes, flaw)?;
+    add_asked_of(alloc, asked, number, &sizes, &file, answer)
 }
 
-/// The pieces of a package, and then how long those of each file are once more, from one that is
-/// not there to the first: `back SIZES`.
-pub(crate) fn add_back(
+/// The same of a package that was made.
+fn add_asked_of(
     alloc: Global,
-    words: &Words,
+    asked: Asked,
+    number: usize,
+    sizes: &[u32],
+    file: &[u8],
     answer: &mut Vec<u8>,
 ) -> Result<(), AllocError> {
-    let file = package_with(alloc, words, 1, Flaw::None)?;
-    let sizes = sizes_from(alloc, words, 1)?;
-    add_package(alloc, &file, None, low_word(sizes.len()) + 1, false, answer)
-}
-
-/// The pieces of a package, and then how long those of each file are once more, from the last to
-/// the first, where a byte of the last file was changed in between: `change AT SIZES`.
-pub(crate) fn add_changed(
-    alloc: Global,
-    words: &Words,
-    answer: &mut Vec<u8>,
-) -> Result<(), AllocError> {
-    let at = small_number(word_at(words, 1)) as usize;
-    let file = package_with(alloc, words, 2, Flaw::None)?;
-    let changed = package_with(alloc, words, 2, Flaw::Spoiled(at))?;
-    let sizes = sizes_from(alloc, words, 2)?;
-    add_package(
-        alloc,
-        &file,
-        Some(&changed),
-        low_word(sizes.len()),
-        false,
-        answer,
-    )
-}
-
-/// What a package comes to that is cut at each length, from one offset on, and each length at which
-/// that is another than at the length before: `ends FROM SIZES`.
-pub(crate) fn add_ends(
-    alloc: Global,
-    words: &Words,
-    answer: &mut Vec<u8>,
-) -> Result<(), AllocError> {
-    let first = small_number(word_at(words, 1)) as usize;
-    let file = package_with(alloc, words, 2, Flaw::None)?;
-    let mut last = Vec::new(alloc);
-    for len in first..=file.len() {
-        let mut found = Vec::new(alloc);
-        add_package(alloc, &file[..len], None, 0, false, &mut found)?;
-        if found != last {
-            add_word(answer, b"from ")?;
-            add_number(alloc, answer, len as u128)?;
-            add_word(answer, &found)?;
-        }
-        last = found;
+    let mut reading = Reading::PIECES;
+    match asked {
+        Asked::Ends => return add_cuts(alloc, file, number, reading, answer),
+        Asked::Change => return add_changed(alloc, file, sizes, number, answer),
+        Asked::Read => reading.counts = true,
+        Asked::Back => reading.back = low_word(sizes.len()) + 1,
+        _ => {}
     }
-    Ok(())
+    add_package(alloc, file, reading, answer)
+}
+
+/// Adds what is read of a package that is changed at an offset of its last file in between.
+fn add_changed(
+    alloc: Global,
+    file: &[u8],
+    sizes: &[u32],
+    at: usize,
+    answer: &mut Vec<u8>,
+) -> Result<(), AllocError> {
+    let changed = package_of(alloc, sizes, Flaw::Spoiled(at))?;
+    let reading = Reading {
+        front: false,
+        counts: false,
+        back: low_word(sizes.len()),
+        changed: Some(&changed),
+    };
+    add_package(alloc, file, reading, answer)
 }
 
 /// The sizes that the words from a place on tell.
@@ -124,27 +129,63 @@ fn sizes_from(alloc: Global, words: &Words, first: usize) -> Result<Vec<u32>, Al
     Ok(sizes)
 }
 
-/// A package with files of the sizes that the words from a place on tell, and with a flaw.
-fn package_with(
+/// Answers `cuts BYTES`: what the front of a package comes to where its file is cut at each length.
+pub(crate) fn add_fronts(
     alloc: Global,
-    words: &Words,
-    first: usize,
-    flaw: Flaw,
-) -> Result<Vec<u8>, AllocError> {
-    let sizes = sizes_from(alloc, words, first)?;
-    package_of(alloc, &sizes, flaw)
+    file: &[u8],
+    answer: &mut Vec<u8>,
+) -> Result<(), AllocError> {
+    let mut reading = Reading::PIECES;
+    reading.front = true;
+    add_cuts(alloc, file, 0, reading, answer)
 }
 
-/// Adds what is read of a package in a tree: all its pieces, and the pieces of each of the first
-/// `back` files once more, from the last to the first, of the changed bytes if there are any; and
-/// where it is asked for how many calls of the tree there were behind the front, and the longest
-/// read of them.
+/// Adds what a package comes to that is cut at each length from one on, at each length at which
+/// that is another than at the length before.
+fn add_cuts(
+    alloc: Global,
+    file: &[u8],
+    first: usize,
+    reading: Reading<'_>,
+    answer: &mut Vec<u8>,
+) -> Result<(), AllocError> {
+    let mut last = Vec::new(alloc);
+    for len in first..=file.len() {
+        let found = package_text(alloc, &file[..len], reading)?;
+        if found != last {
+            add_cut(alloc, len, &found, answer)?;
+        }
+        last = found;
+    }
+    Ok(())
+}
+
+/// Adds a length, and what was found there.
+fn add_cut(
+    alloc: Global,
+    len: usize,
+    found: &[u8],
+    answer: &mut Vec<u8>,
+) -> Result<(), AllocError> {
+    add_word(answer, b"from ")?;
+    add_number(alloc, answer, len as u128)?;
+    add_word(answer, found)
+}
+
+/// What is read of a package.
+fn package_text(alloc: Global, file: &[u8], reading: Reading<'_>) -> Result<Vec<u8>, AllocError> {
+    let mut text = Vec::new(alloc);
+    add_package(alloc, file, reading, &mut text)?;
+    Ok(text)
+}
+
+// ---- a package in a tree
+
+/// Adds what is read of a package that is a file of these bytes in a tree.
 fn add_package(
     alloc: Global,
     file: &[u8],
-    changed: Option<&[u8]>,
-    back: u32,
-    counts: bool,
+    reading: Reading<'_>,
     answer: &mut Vec<u8>,
 ) -> Result<(), AllocError> {
     let Some(name) = Name::read(alloc, b"p")? else {
@@ -152,26 +193,7 @@ fn add_package(
     };
     let mut tree = MemoryTree::new(alloc);
     put(&mut tree, &name, file)?;
-    let front = match read_front(alloc, &mut tree, &name, PACKAGE_WORD) {
-        Ok(Some(front)) => front,
-        Ok(None) => return add_word(answer, b"no file"),
-        Err(FrontFault::Bad(cause)) => return add_cause(alloc, cause, answer),
-        Err(FrontFault::Disk) => return add_word(answer, b"a fault"),
-        Err(FrontFault::Memory) => return Err(AllocError),
-    };
-    let calls = tree.calls();
-    add_passes(alloc, &mut tree, &name, &front, changed, back, answer)?;
-    if counts {
-        add_word(answer, b"calls ")?;
-        add_number(
-            alloc,
-            answer,
-            u128::from(tree.calls().saturating_sub(calls)),
-        )?;
-        add_word(answer, b"longest ")?;
-        add_number(alloc, answer, u128::from(tree.longest_read()))?;
-    }
-    Ok(())
+    add_readings(alloc, &mut tree, &name, reading, answer)
 }
 
 /// Sets a file of the tree.
@@ -182,32 +204,106 @@ fn put(tree: &mut MemoryTree, name: &Name, bytes: &[u8]) -> Result<(), AllocErro
     Ok(())
 }
 
+/// Adds what is read of the package under a name.
+fn add_readings(
+    alloc: Global,
+    tree: &mut MemoryTree,
+    name: &Name,
+    reading: Reading<'_>,
+    answer: &mut Vec<u8>,
+) -> Result<(), AllocError> {
+    match read_front(alloc, tree, name, PACKAGE_WORD) {
+        Ok(Some(front)) => add_behind_front(alloc, tree, name, &front, reading, answer),
+        Ok(None) => add_word(answer, b"no file"),
+        Err(FrontFault::Bad(cause)) => add_cause(alloc, cause, answer),
+        Err(FrontFault::Disk) => add_word(answer, b"a fault"),
+        Err(FrontFault::Memory) => Err(AllocError),
+    }
+}
+
 /// Adds the pieces behind a front, and of files once more.
-fn add_passes(
+fn add_behind_front(
     alloc: Global,
     tree: &mut MemoryTree,
     name: &Name,
     front: &Front,
-    changed: Option<&[u8]>,
-    back: u32,
+    reading: Reading<'_>,
     answer: &mut Vec<u8>,
 ) -> Result<(), AllocError> {
-    let contents = match Contents::new(alloc, front) {
-        Ok(contents) => contents,
-        Err(PackageFault::Bad(cause)) => return add_cause(alloc, cause, answer),
-        Err(PackageFault::Memory) => return Err(AllocError),
-    };
-    let mut reader = PieceReader::new(front, &contents, name);
-    if !add_all(alloc, tree, &mut reader, answer)? {
-        return add_next(alloc, tree, &mut reader, answer);
+    let calls = tree.calls();
+    let whole = add_contents(alloc, tree, name, front, reading.front, answer)?;
+    if whole && reading.back > 0 {
+        add_again(alloc, tree, name, reading, answer)?;
     }
-    if back == 0 {
-        return Ok(());
+    if reading.counts {
+        add_counts(alloc, tree, calls, answer)?;
     }
-    add_again(alloc, tree, name, changed, back, answer)
+    Ok(())
 }
 
-/// Adds all pieces that are still to come, and tells whether the end came.
+/// Adds how many calls of the tree there were behind so many, and its longest read.
+fn add_counts(
+    alloc: Global,
+    tree: &MemoryTree,
+    before: u64,
+    answer: &mut Vec<u8>,
+) -> Result<(), AllocError> {
+    let calls = tree.calls().saturating_sub(before);
+    add_word(answer, b"calls ")?;
+    add_number(alloc, answer, u128::from(calls))?;
+    add_word(answer, b"longest ")?;
+    add_number(alloc, answer, u128::from(tree.longest_read()))
+}
+
+/// Adds what the values behind a front come to, or its pieces, and tells whether all were read.
+fn add_contents(
+    alloc: Global,
+    tree: &mut MemoryTree,
+    name: &Name,
+    front: &Front,
+    front_alone: bool,
+    answer: &mut Vec<u8>,
+) -> Result<bool, AllocError> {
+    match Contents::new(alloc, front) {
+        Ok(contents) => add_pieces(alloc, tree, name, front, &contents, front_alone, answer),
+        Err(PackageFault::Bad(cause)) => {
+            add_cause(alloc, cause, answer)?;
+            Ok(false)
+        }
+        Err(PackageFault::Memory) => Err(AllocError),
+    }
+}
+
+/// Adds how many folders there are where the front alone is read, or else the pieces.
+fn add_pieces(
+    alloc: Global,
+    tree: &mut MemoryTree,
+    name: &Name,
+    front: &Front,
+    contents: &Contents<'_>,
+    front_alone: bool,
+    answer: &mut Vec<u8>,
+) -> Result<bool, AllocError> {
+    if front_alone {
+        return add_folders(alloc, contents, answer);
+    }
+    let mut reader = PieceReader::new(front, contents, name);
+    add_all(alloc, tree, &mut reader, answer)
+}
+
+/// Adds how many folders the values of a package have; no piece is read.
+fn add_folders(
+    alloc: Global,
+    contents: &Contents<'_>,
+    answer: &mut Vec<u8>,
+) -> Result<bool, AllocError> {
+    add_word(answer, b"a package with folders: ")?;
+    add_number(alloc, answer, contents.view().paths().len() as u128)?;
+    Ok(false)
+}
+
+/// Adds all pieces that are still to come, and tells whether the end came. Behind a fault the
+/// reader is asked once more.
 fn add_all(
     alloc: Global,
     tree: &mut MemoryTree,
@@ -215,6 +311,7 @@ fn add_all(
     answer: &mut Vec<u8>,
 ) -> Result<bool, AllocError> {
     let mut piece = Piece::new();
+    let mut faulty = false;
     for _ in 0..MOST {
         match reader.next_piece(tree, &mut piece) {
             Ok(Some(part)) => add_part(alloc, part, piece.bytes().len(), answer)?,
@@ -224,58 +321,58 @@ fn add_all(
             }
             Err(fault) => {
                 add_fault(alloc, fault, answer)?;
-                return Ok(false);
+                if faulty {
+                    return Ok(false);
+                }
+                faulty = true;
             }
         }
     }
     Ok(false)
 }
 
-/// Adds what one more call answers.
-fn add_next(
-    alloc: Global,
-    tree: &mut MemoryTree,
-    reader: &mut PieceReader<'_>,
-    answer: &mut Vec<u8>,
-) -> Result<(), AllocError> {
-    let mut piece = Piece::new();
-    match reader.next_piece(tree, &mut piece) {
-        Ok(Some(part)) => add_part(alloc, part, piece.bytes().len(), answer),
-        Ok(None) => add_word(answer, b"end"),
-        Err(fault) => add_fault(alloc, fault, answer),
-    }
-}
-
-/// Adds how long the pieces of each of the first `back` files of a package are that is read once,
-/// from the last file to the first; of the changed bytes if there are any.
+/// Adds how long the pieces of each of the last files of a package are that is read once, from the
+/// last file to the first; of the changed bytes if there are any.
 fn add_again(
     alloc: Global,
     tree: &mut MemoryTree,
     name: &Name,
-    changed: Option<&[u8]>,
+    reading: Reading<'_>,
+    answer: &mut Vec<u8>,
+) -> Result<(), AllocError> {
+    match read_package(alloc, tree, name) {
+        Ok(PackageRead::Sound(package)) => {
+            if let Some(bytes) = reading.changed {
+                put(tree, name, bytes)?;
+            }
+            add_files(alloc, tree, &package, reading.back, answer)
+        }
+        Ok(PackageRead::Bad(cause)) => add_cause(alloc, cause, answer),
+        Ok(PackageRead::Absent) => add_word(answer, b"no file"),
+        Err(TreeFault::Disk) => add_word(answer, b"a fault"),
+        Err(TreeFault::Memory) => Err(AllocError),
+    }
+}
+
+/// Adds how long the pieces of each of the last files are, until one has a fault.
+fn add_files(
+    alloc: Global,
+    tree: &mut MemoryTree,
+    package: &TestedPackage,
     back: u32,
     answer: &mut Vec<u8>,
 ) -> Result<(), AllocError> {
-    let package = match read_package(alloc, tree, name) {
-        Ok(PackageRead::Sound(package)) => package,
-        Ok(PackageRead::Bad(cause)) => return add_cause(alloc, cause, answer),
-        Ok(PackageRead::Absent) => return add_word(answer, b"no file"),
-        Err(TreeFault::Disk) => return add_word(answer, b"a fault"),
-        Err(TreeFault::Memory) => return Err(AllocError),
-    };
-    if let Some(bytes) = changed {
-        put(tree, name, bytes)?;
-    }
     for i in 0..back {
         let mut file = package.file(1, back - i);
         if !add_file(alloc, tree, &mut file, answer)? {
-            return add_next_of_file(alloc, tree, &mut file, answer);
+            return Ok(());
         }
     }
     Ok(())
 }
 
-/// Adds how long the pieces of a file are, and tells whether the end came.
+/// Adds how long the pieces of a file are, and tells whether the end came. Behind a fault the file
+/// is asked once more.
 fn add_file(
     alloc: Global,
     tree: &mut MemoryTree,
@@ -283,6 +380,7 @@ fn add_file(
     answer: &mut Vec<u8>,
 ) -> Result<bool, AllocError> {
     let mut piece = Piece::new();
+    let mut faulty = false;
     for _ in 0..MOST {
         match file.next_piece(tree, &mut piece) {
             Ok(true) => add_len(alloc, &piece, answer)?,
@@ -292,26 +390,14 @@ fn add_file(
             }
             Err(fault) => {
                 add_fault(alloc, fault, answer)?;
-                return Ok(false);
+                if faulty {
+                    return Ok(false);
+                }
+                faulty = true;
             }
         }
     }
     Ok(false)
-}
-
-/// Adds what one more call for a file answers.
-fn add_next_of_file(
-    alloc: Global,
-    tree: &mut MemoryTree,
-    file: &mut FilePieces<'_>,
-    answer: &mut Vec<u8>,
-) -> Result<(), AllocError> {
-    let mut piece = Piece::new();
-    match file.next_piece(tree, &mut piece) {
-        Ok(true) => add_len(alloc, &piece, answer),
-        Ok(false) => add_word(answer, b"end"),
-        Err(fault) => add_fault(alloc, fault, answer),
-    }
 }
 
 /// Adds how long a piece is.

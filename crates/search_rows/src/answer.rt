@@ -1,16 +1,21 @@
 //! What is asked of a row, and the answers as texts.
 ghost use Rattle.std.specs.Prelude.{◌≡◌, IfOk};
 
-use crate::package::index_payload;
-use crate::row::{Repository, Row, split_word};
+use crate::row::{Row, split_word};
 use adb_schema::{Checked, IndexView, Which, shape};
 use adb_view::Adb;
 use base_core::Words;
 use dep_core::{World, read_dep};
 use pool_core::{CandId, Need, Pool, PoolFault, Sealed, Upgrade};
-use row_lines::{add_number, value_named};
+use row_lines::{add_number, add_word, value_named};
 use solve_core::{Trace, solve};
 use std::alloc::{AllocError, AllocFailed, Global};
+
+/// The most names that a command upgrades in a row.
+const MOST_NAMES: usize = 1000;
+
+/// What is answered where a text of the row is not read, or a question is unknown.
+const NO_ROW: &[u8] = b"no row";
 
 /// Why a row has no answer.
 #[derive(Clone, Copy)]
@@ -47,6 +52,7 @@ impl From<PoolFault> for RowFault {
 /// What a question asks for.
 #[derive(Clone, Copy)]
 enum Question {
+    Bytes,
     Packages,
     Candidates,
     Twice,
@@ -57,8 +63,9 @@ enum Question {
     Count,
 }
 
-/// The words that questions begin with, but `bytes`, which is answered before.
-const QUESTIONS: [(&[u8], Question); 8] = [
+/// The words that questions begin with.
+const QUESTIONS: [(&[u8], Question); 9] = [
+    (b"bytes", Question::Bytes),
     (b"packages", Question::Packages),
     (b"candidates", Question::Candidates),
     (b"twice", Question::Twice),
@@ -69,200 +76,224 @@ const QUESTIONS: [(&[u8], Question); 8] = [
     (b"count", Question::Count),
 ];
 
+/// What a question asks for, and the name or the dependency that stands behind it.
+#[derive(Clone, Copy)]
+struct Query<'q> {
+    question: Question,
+    rest: &'q [u8],
+}
+
+/// What a command asks for.
+#[derive(Clone, Copy)]
+struct Command<'a> {
+    world: &'a World,
+    upgrade: Upgrade<'a>,
+}
+
 /// The answer of a question, as often as the row says, or what stands in its way.
 pub fn answer(alloc: Global, row: &Row<'_>, query: &[u8]) -> Result<Vec<u8>, AllocError> {
-    match answer_of(alloc, row, query) {
-        Ok(text) => Ok(text),
-        Err(RowFault::Memory) => Err(AllocError),
-        Err(RowFault::Text) => Vec::from_slice(alloc, b"no row"),
-        Err(RowFault::TooMany(count)) => too_many(alloc, count),
-    }
-}
-
-// How it is told that there are too many candidates.
-fn too_many(alloc: Global, count: u64) -> Result<Vec<u8>, AllocError> {
-    let mut text = number_text(alloc, count)?;
-    text.extend_from_slice(b" candidates are too many")?;
-    Ok(text)
-}
-
-// A number in decimal.
-fn number_text(alloc: Global, number: u64) -> Result<Vec<u8>, AllocError> {
     let mut text = Vec::new(alloc);
-    add_number(alloc, &mut text, u128::from(number))?;
+    add_answer(alloc, row, query, &mut text)?;
     Ok(text)
 }
 
-// Makes the indexes of the row, and answers over them.
-fn answer_of(alloc: Global, row: &Row<'_>, query: &[u8]) -> Result<Vec<u8>, RowFault> {
-    let mut payloads = Vec::new(alloc);
-    for repository in &row.repositories {
-        payloads.push(index_payload(alloc, repository.packages)?)?;
+// Adds the answer, or what stands in its way.
+fn add_answer(
+    alloc: Global,
+    row: &Row<'_>,
+    query: &[u8],
+    text: &mut Vec<u8>,
+) -> Result<(), AllocError> {
+    match add_to_answer(alloc, row, query, text) {
+        Ok(()) => Ok(()),
+        Err(RowFault::Memory) => Err(AllocError),
+        Err(RowFault::Text) => text.extend_from_slice(NO_ROW),
+        Err(RowFault::TooMany(count)) => {
+            add_number(alloc, text, u128::from(count))?;
+            text.extend_from_slice(b" candidates are too many")
+        }
     }
-    let installed = index_payload(alloc, row.installed)?;
-    answer_over(alloc, row, query, &payloads, &installed)
 }
 
-// The answer over the payloads of a row.
-fn answer_over<'a>(
+// Reads the question, world and the names that are upgraded, and answers.
+fn add_to_answer(
     alloc: Global,
-    row: &'a Row<'a>,
+    row: &Row<'_>,
     query: &[u8],
-    payloads: &'a [Vec<u8>],
-    installed: &'a [u8],
-) -> Result<Vec<u8>, RowFault> {
+    text: &mut Vec<u8>,
+) -> Result<(), RowFault> {
+    let (word, rest) = split_word(query);
+    let Some(question) = value_named(&QUESTIONS, word) else {
+        return Err(RowFault::Text);
+    };
     let Ok(world) = World::read(alloc, row.world) else {
         return Err(RowFault::Text);
     };
     let upgraded = words_of(alloc, row.upgraded)?;
-    let packages = Packages {
-        repositories: &row.repositories,
-        payloads,
-        installed,
+    let command = Command {
+        world: &world,
         upgrade: upgrade_of(row.upgraded, &upgraded),
     };
-    packages.last_answer(alloc, &world, query, row.times)
+    add_last_answer(alloc, row, command, Query { question, rest }, text)
 }
 
-/// The packages of a row, as payloads, and what the command upgrades.
-#[derive(Clone, Copy)]
-struct Packages<'a> {
-    repositories: &'a [Repository<'a>],
-    payloads: &'a [Vec<u8>],
-    installed: &'a [u8],
-    upgrade: Upgrade<'a>,
+// Adds the answer, which is computed as often as the row says.
+fn add_last_answer(
+    alloc: Global,
+    row: &Row<'_>,
+    command: Command<'_>,
+    query: Query<'_>,
+    text: &mut Vec<u8>,
+) -> Result<(), RowFault> {
+    for _ in 0..row.times {
+        text.clear();
+        add_one_answer(alloc, row, command, query, text)?;
+    }
+    Ok(())
 }
 
-impl<'a> Packages<'a> {
-    // The answer, computed so many times.
-    fn last_answer(
-        &self,
-        alloc: Global,
-        world: &'a World,
-        query: &[u8],
-        times: u64,
-    ) -> Result<Vec<u8>, RowFault> {
-        let (word, rest) = split_word(query);
-        if word == b"bytes".as_slice() {
-            return Ok(number_text(alloc, self.byte_count())?);
-        }
-        let Some(question) = value_named(&QUESTIONS, word) else {
+// Adds the answer, over the pool unless none is asked for.
+fn add_one_answer(
+    alloc: Global,
+    row: &Row<'_>,
+    command: Command<'_>,
+    query: Query<'_>,
+    text: &mut Vec<u8>,
+) -> Result<(), RowFault> {
+    match query.question {
+        Question::Bytes => add_count(alloc, byte_count(row), text),
+        Question::Packages => add_count(alloc, package_count(alloc, row)?, text),
+        Question::Twice => add_two_counts(alloc, row, command, text),
+        _ => add_answer_of_row(alloc, row, command, query, text),
+    }
+}
+
+// Adds the answer over the pool of the row.
+fn add_answer_of_row(
+    alloc: Global,
+    row: &Row<'_>,
+    command: Command<'_>,
+    query: Query<'_>,
+    text: &mut Vec<u8>,
+) -> Result<(), RowFault> {
+    let pool = sealed(alloc, row, command.world, command.upgrade)?;
+    Ok(add_answer_of_pool(alloc, &pool, command.world, query, text)?)
+}
+
+// Adds a number in decimal.
+fn add_count(alloc: Global, count: u64, text: &mut Vec<u8>) -> Result<(), RowFault> {
+    Ok(add_number(alloc, text, u128::from(count))?)
+}
+
+// How many bytes the payloads of the repositories have.
+fn byte_count(row: &Row<'_>) -> u64 {
+    let mut count = 0u64;
+    for repository in &row.repositories {
+        count = count.saturating_add(repository.payload.len() as u64);
+    }
+    count
+}
+
+// How many packages the repositories have, whose indexes are tested.
+fn package_count(alloc: Global, row: &Row<'_>) -> Result<u64, RowFault> {
+    let mut count = 0u64;
+    for repository in &row.repositories {
+        let Some(view) = view_of(alloc, &repository.payload) else {
             return Err(RowFault::Text);
         };
-        let mut text = Vec::new(alloc);
-        for _ in 0..times {
-            text = self.answer(alloc, world, question, rest)?;
-        }
-        Ok(text)
+        let packages = view.packages();
+        count = count.saturating_add(packages.len() as u64);
     }
-
-    // The answer over the pool, unless none is asked for.
-    fn answer(
-        &self,
-        alloc: Global,
-        world: &'a World,
-        question: Question,
-        rest: &[u8],
-    ) -> Result<Vec<u8>, RowFault> {
-        match question {
-            Question::Packages => Ok(number_text(alloc, self.package_count(alloc)?)?),
-            _ => self.answer_of_pool(alloc, world, question, rest),
-        }
-    }
-
-    // Answers what is asked of a sealed pool.
-    fn answer_of_pool(
-        &self,
-        alloc: Global,
-        world: &'a World,
-        question: Question,
-        rest: &[u8],
-    ) -> Result<Vec<u8>, RowFault> {
-        let sealed = self.sealed(alloc, world)?;
-        match question {
-            Question::Packages | Question::Candidates => {
-                Ok(number_text(alloc, sealed.len() as u64)?)
-            }
-            Question::Twice => self.counts_of_two(alloc, world, &sealed),
-            Question::Offers => texts_of(alloc, &sealed, sealed.offers(rest)),
-            Question::Options => options_of(alloc, &sealed, rest),
-            Question::Named => named_options(alloc, &sealed, rest),
-            Question::Select => selection(alloc, &sealed, world),
-            Question::Count => selection_count(alloc, &sealed, world),
-        }
-    }
-
-    // How many candidates a pool has, and a second one that stands beside it.
-    fn counts_of_two(
-        &self,
-        alloc: Global,
-        world: &'a World,
-        first: &Sealed<'_>,
-    ) -> Result<Vec<u8>, RowFault> {
-        let second = self.sealed(alloc, world)?;
-        let mut text = number_text(alloc, first.len() as u64)?;
-        text.push(b' ')?;
-        add_number(alloc, &mut text, second.len() as u128)?;
-        Ok(text)
-    }
-
-    // How many packages the repositories have, whose indexes are tested.
-    fn package_count(&self, alloc: Global) -> Result<u64, RowFault> {
-        let mut count = 0u64;
-        for payload in self.payloads {
-            let packages = view_of(alloc, payload)?.packages();
-            count = count.saturating_add(packages.len() as u64);
-        }
-        Ok(count)
-    }
-
-    // How many bytes the payloads of the repositories have.
-    fn byte_count(&self) -> u64 {
-        let mut count = 0u64;
-        for payload in self.payloads {
-            count = count.saturating_add(payload.len() as u64);
-        }
-        count
-    }
-
-    // The pool of all packages, sealed.
-    fn sealed(&self, alloc: Global, world: &'a World) -> Result<Sealed<'a>, RowFault>
-        ensures { IfOk result (λ sealed. world.entry.now ≡ sealed.world) }
-    {
-        let pool = self.pool(alloc)?;
-        Ok(pool.seal(world, self.upgrade)?)
-    }
-
-    // The pool of all packages.
-    fn pool(&self, alloc: Global) -> Result<Pool<'a>, RowFault> {
-        let mut pool = Pool::new(alloc);
-        for (repository, payload) in self.repositories.iter().zip(self.payloads) {
-            pool.add_index(view_of(alloc, payload)?, repository.number, repository.tag)?;
-        }
-        let packages = view_of(alloc, self.installed)?.packages();
-        for i in 0..packages.len() {
-            pool.add_installed(packages.get(i + 1))?;
-        }
-        Ok(pool)
-    }
+    Ok(count)
 }
 
-// The view of a payload of an index.
-fn view_of<'a>(alloc: Global, payload: &'a [u8]) -> Result<IndexView<'a>, RowFault> {
-    let Ok(adb) = Adb::new(payload) else {
-        return Err(RowFault::Text);
-    };
-    let Ok(shaped) = shape(adb, Which::Index) else {
-        return Err(RowFault::Text);
-    };
-    match Checked::new(alloc, shaped) {
-        Ok(checked) => Ok(checked.index()),
-        Err(_) => Err(RowFault::Text),
-    }
+// Adds how many candidates a pool has, and a second one that stands beside it.
+fn add_two_counts(
+    alloc: Global,
+    row: &Row<'_>,
+    command: Command<'_>,
+    text: &mut Vec<u8>,
+) -> Result<(), RowFault> {
+    let first = sealed(alloc, row, command.world, command.upgrade)?;
+    let second = sealed(alloc, row, command.world, command.upgrade)?;
+    Ok(add_counts(alloc, first.len(), second.len(), text)?)
 }
 
-/// The most names that a row upgrades.
-const MOST_NAMES: usize = 1000;
+// Adds two numbers in decimal.
+fn add_counts(
+    alloc: Global,
+    first: usize,
+    second: usize,
+    text: &mut Vec<u8>,
+) -> Result<(), AllocError> {
+    add_number(alloc, text, first as u128)?;
+    text.push(b' ')?;
+    add_number(alloc, text, second as u128)
+}
+
+// ---- the pool
+
+// The pool of all packages, sealed.
+fn sealed<'a>(
+    alloc: Global,
+    row: &'a Row<'a>,
+    world: &'a World,
+    upgrade: Upgrade<'a>,
+) -> Result<Sealed<'a>, RowFault>
+    ensures { IfOk result (λ sealed. world.entry.now ≡ sealed.world) }
+{
+    let pool = pool_of(alloc, row)?;
+    Ok(pool.seal(world, upgrade)?)
+}
+
+// The pool of all packages.
+fn pool_of<'a>(alloc: Global, row: &'a Row<'a>) -> Result<Pool<'a>, RowFault> {
+    let mut pool = Pool::new(alloc);
+    add_repositories(alloc, row, &mut pool)?;
+    if let Some(payload) = &row.installed {
+        add_installed(alloc, payload, &mut pool)?;
+    }
+    Ok(pool)
+}
+
+// Adds the packages of all repositories.
+fn add_repositories<'a>(
+    alloc: Global,
+    row: &'a Row<'a>,
+    pool: &mut Pool<'a>,
+) -> Result<(), RowFault> {
+    for repository in &row.repositories {
+        let Some(view) = view_of(alloc, &repository.payload) else {
+            return Err(RowFault::Text);
+        };
+        pool.add_index(view, repository.number, repository.tag)?;
+    }
+    Ok(())
+}
+
+// Adds the installed packages.
+fn add_installed<'a>(
+    alloc: Global,
+    payload: &'a [u8],
+    pool: &mut Pool<'a>,
+) -> Result<(), RowFault> {
+    let Some(view) = view_of(alloc, payload) else {
+        return Err(RowFault::Text);
+    };
+    let packages = view.packages();
+    for i in 0..packages.len() {
+        pool.add_installed(packages.get(i + 1))?;
+    }
+    Ok(())
+}
+
+// The view of a payload of an index; none where a test fails.
+fn view_of<'a>(alloc: Global, payload: &'a [u8]) -> Option<IndexView<'a>> {
+    let adb = Adb::new(payload).ok()?;
+    let shaped = shape(adb, Which::Index).ok()?;
+    let checked = Checked::new(alloc, shaped).ok()?;
+    Some(checked.index())
+}
 
 // The names of a row that are to be upgraded.
 fn words_of(alloc: Global, text: &[u8]) -> Result<Words, RowFault> {
@@ -287,74 +318,120 @@ fn upgrade_of<'a>(text: &[u8], words: &'a Words) -> Upgrade<'a> {
     Upgrade::Listed(words)
 }
 
-// The options of a dependency.
-fn options_of(alloc: Global, pool: &Sealed<'_>, text: &[u8]) -> Result<Vec<u8>, RowFault> {
-    let Some(dep) = read_dep(text) else {
-        return Err(RowFault::Text);
-    };
-    let options = pool.options(alloc, &Need::Entry(dep))?;
-    texts_of(alloc, pool, options.into_ids().as_slice())
-}
+// ---- answers of the pool
 
-// The options of a name that an install-if raises.
-fn named_options(alloc: Global, pool: &Sealed<'_>, name: &[u8]) -> Result<Vec<u8>, RowFault> {
-    let options = pool.options(alloc, &Need::Named(name))?;
-    texts_of(alloc, pool, options.into_ids().as_slice())
-}
-
-// The choices of the first selection, or `none`.
-fn selection(alloc: Global, pool: &Sealed<'_>, world: &World) -> Result<Vec<u8>, RowFault>
+// Adds what is asked of a sealed pool.
+fn add_answer_of_pool(
+    alloc: Global,
+    pool: &Sealed<'_>,
+    world: &World,
+    query: Query<'_>,
+    text: &mut Vec<u8>,
+) -> Result<(), AllocError>
     requires { world.now ≡ pool.now.world }
 {
-    match solve(alloc, pool, world)? {
-        Some(trace) => choices_of(alloc, pool, &trace),
-        None => Ok(Vec::from_slice(alloc, b"none")?),
+    match query.question {
+        Question::Offers => add_candidates(alloc, pool, pool.offers(query.rest), text),
+        Question::Options => add_options_of_text(alloc, pool, query.rest, text),
+        Question::Named => add_options(alloc, pool, &Need::Named(query.rest), text),
+        Question::Select => add_selection(alloc, pool, world, text),
+        Question::Count => add_selection_count(alloc, pool, world, text),
+        _ => add_number(alloc, text, pool.len() as u128),
     }
 }
 
-// How many choices the first selection has, or `none`.
-fn selection_count(alloc: Global, pool: &Sealed<'_>, world: &World) -> Result<Vec<u8>, RowFault>
-    requires { world.now ≡ pool.now.world }
-{
-    match solve(alloc, pool, world)? {
-        Some(trace) => Ok(number_text(alloc, trace.len() as u64)?),
-        None => Ok(Vec::from_slice(alloc, b"none")?),
+// Adds the options of a dependency, best first.
+fn add_options_of_text(
+    alloc: Global,
+    pool: &Sealed<'_>,
+    dependency: &[u8],
+    text: &mut Vec<u8>,
+) -> Result<(), AllocError> {
+    match read_dep(dependency) {
+        Some(dep) => add_options(alloc, pool, &Need::Entry(dep), text),
+        None => text.extend_from_slice(NO_ROW),
     }
 }
 
-// The choices of a selection, in their order.
-fn choices_of(alloc: Global, pool: &Sealed<'_>, trace: &Trace) -> Result<Vec<u8>, RowFault> {
-    let mut ids: Vec<CandId> = Vec::new(alloc);
+// Adds the options of a need, best first.
+fn add_options(
+    alloc: Global,
+    pool: &Sealed<'_>,
+    need: &Need<'_>,
+    text: &mut Vec<u8>,
+) -> Result<(), AllocError> {
+    let options = pool.options(alloc, need)?.into_ids();
+    add_candidates(alloc, pool, &options, text)
+}
+
+// Adds the choices of the first selection, or `none`.
+fn add_selection(
+    alloc: Global,
+    pool: &Sealed<'_>,
+    world: &World,
+    text: &mut Vec<u8>,
+) -> Result<(), AllocError>
+    requires { world.now ≡ pool.now.world }
+{
+    match solve(alloc, pool, world)? {
+        Some(trace) => add_choices(alloc, pool, &trace, text),
+        None => text.extend_from_slice(b"none"),
+    }
+}
+
+// Adds how many choices the first selection has, or `none`.
+fn add_selection_count(
+    alloc: Global,
+    pool: &Sealed<'_>,
+    world: &World,
+    text: &mut Vec<u8>,
+) -> Result<(), AllocError>
+    requires { world.now ≡ pool.now.world }
+{
+    match solve(alloc, pool, world)? {
+        Some(trace) => add_number(alloc, text, trace.len() as u128),
+        None => text.extend_from_slice(b"none"),
+    }
+}
+
+// Adds the choices of a selection, in their order.
+fn add_choices(
+    alloc: Global,
+    pool: &Sealed<'_>,
+    trace: &Trace,
+    text: &mut Vec<u8>,
+) -> Result<(), AllocError> {
     for i in 0..trace.len() {
-        ids.push(trace.get(i))?;
+        add_candidate(alloc, pool, trace.get(i), text)?;
     }
-    texts_of(alloc, pool, ids.as_slice())
+    Ok(())
 }
 
-// The names and versions of candidates, each with the number of its repository behind `/` unless it
-// is 1; it is 0 where it has none.
-fn texts_of(alloc: Global, pool: &Sealed<'_>, ids: &[CandId]) -> Result<Vec<u8>, RowFault> {
-    let mut text = Vec::new(alloc);
+// Adds candidates, in their order.
+fn add_candidates(
+    alloc: Global,
+    pool: &Sealed<'_>,
+    ids: &[CandId],
+    text: &mut Vec<u8>,
+) -> Result<(), AllocError> {
     for id in ids {
-        if !text.is_empty() {
-            text.push(b' ')?;
-        }
-        add_candidate(alloc, &mut text, pool, *id)?;
+        add_candidate(alloc, pool, *id, text)?;
     }
-    Ok(text)
+    Ok(())
 }
 
-// Adds a candidate as `NAME-VERSION`, with its repository where that is not the first.
+// Adds the name and the version of a candidate, and the number of its repository behind `/` unless
+// it is 1; it is 0 where it has none.
 fn add_candidate(
     alloc: Global,
-    text: &mut Vec<u8>,
     pool: &Sealed<'_>,
     id: CandId,
-) -> Result<(), RowFault> {
+    text: &mut Vec<u8>,
+) -> Result<(), AllocError> {
     let Some(details) = pool.at(id) else {
-        return Err(RowFault::Text);
+        return add_word(text, b"none of the pool");
     };
-    text.extend_from_slice(details.name())?;
+    add_word(text, details.name())?;
     text.push(b'-')?;
     if let Some(version) = details.version() {
         text.extend_from_slice(version.text())?;

@@ -1,35 +1,16 @@
-//! A row: the packages to choose from, world, and what is asked. It borrows its text.
-use row_lines::value_named;
+//! A row: the packages to choose from, world, and what a command upgrades. It borrows its text.
+use crate::package::index_payload;
 use std::alloc::{AllocError, Global};
 
-/// What a line says of a row.
-#[derive(Clone, Copy)]
-enum Part {
-    Repository,
-    Installed,
-    World,
-    Upgrade,
-    Times,
-}
-
-/// The words that lines of a row begin with.
-const PARTS: [(&[u8], Part); 5] = [
-    (b"repository", Part::Repository),
-    (b"installed", Part::Installed),
-    (b"world", Part::World),
-    (b"upgrade", Part::Upgrade),
-    (b"times", Part::Times),
-];
-
-/// The packages of a repository.
-#[derive(Clone, Copy)]
+/// A repository.
+#[derive(Drop)]
 pub struct Repository<'t> {
     /// Its number; where the row says none, how many there are with it.
     pub number: u64,
     /// Its tag, if it has one.
     pub tag: Option<&'t [u8]>,
-    /// Its packages, as `package` reads them.
-    pub packages: &'t [u8],
+    /// The payload of its index.
+    pub payload: Vec<u8>,
 }
 
 /// What stands between two lines that begin a row.
@@ -39,8 +20,8 @@ pub struct Row<'t> {
     pub name: &'t [u8],
     /// The repositories, in their order.
     pub repositories: Vec<Repository<'t>>,
-    /// The installed packages.
-    pub installed: &'t [u8],
+    /// The payload of an index of the installed packages, if there are any.
+    pub installed: Option<Vec<u8>>,
     /// World's entries.
     pub world: &'t [u8],
     /// The names that the command upgrades, or `all`.
@@ -49,66 +30,42 @@ pub struct Row<'t> {
     pub times: u64,
 }
 
-/// What a line that is no row's says of it.
-pub enum Said {
-    /// It was part of the row.
-    Row,
-    /// It says nothing of a row.
-    Nothing,
-}
-
 impl<'t> Row<'t> {
     /// A row without packages.
     pub fn new(alloc: Global, name: &'t [u8]) -> Row<'t> {
         Row {
             name,
             repositories: Vec::new(alloc),
-            installed: b"",
+            installed: None,
             world: b"",
             upgraded: b"",
             times: 1,
         }
     }
 
-    /// Takes what a line says of the row.
-    pub fn take_line(&mut self, line: &'t [u8]) -> Result<Said, AllocError> {
-        let (word, rest) = split_word(line);
-        let Some(part) = value_named(&PARTS, word) else {
-            return Ok(Said::Nothing);
+    /// Adds a repository: its packages, before which its tag may stand behind `@`, or its number
+    /// behind `/`.
+    pub fn add_repository(&mut self, alloc: Global, text: &'t [u8]) -> Result<(), AllocError> {
+        let next = (self.repositories.len() as u64).saturating_add(1);
+        let (word, rest) = split_word(text);
+        let (number, tag, packages) = match word {
+            [b'@', tag @ ..] => (next, Some(tag), rest),
+            [b'/', digits @ ..] => (number_of(digits), None, rest),
+            _ => (next, None, text),
         };
-        match part {
-            Part::Repository => {
-                let number = (self.repositories.len() as u64).saturating_add(1);
-                self.repositories.push(repository_of(rest, number))?;
-            }
-            Part::Installed => self.installed = rest,
-            Part::World => self.world = rest,
-            Part::Upgrade => self.upgraded = rest,
-            Part::Times => self.times = number_of(rest),
-        }
-        Ok(Said::Row)
+        let payload = index_payload(alloc, packages)?;
+        self.repositories.push(Repository {
+            number,
+            tag,
+            payload,
+        })?;
+        Ok(())
     }
-}
 
-// The repository of a line, whose tag stands first behind `@`, or its number behind `/`.
-fn repository_of<'t>(text: &'t [u8], number: u64) -> Repository<'t> {
-    let (word, rest) = split_word(text);
-    match word {
-        [b'@', tag @ ..] => Repository {
-            number,
-            tag: Some(tag),
-            packages: rest,
-        },
-        [b'/', digits @ ..] => Repository {
-            number: number_of(digits),
-            tag: None,
-            packages: rest,
-        },
-        _ => Repository {
-            number,
-            tag: None,
-            packages: text,
-        },
+    /// Sets the installed packages.
+    pub fn set_installed(&mut self, alloc: Global, packages: &[u8]) -> Result<(), AllocError> {
+        self.installed = Some(index_payload(alloc, packages)?);
+        Ok(())
     }
 }
 

@@ -1,7 +1,7 @@
 //! All rows of a text, and what is printed of them.
 use crate::answer::answer;
-use crate::row::{Row, Said, split_word};
-use row_lines::{add_number, value_named};
+use crate::row::{Row, number_of, split_word};
+use row_lines::value_named;
 use std::alloc::{AllocError, Global};
 
 /// Runs all rows of a text, adds a line for each answer that is not the wanted one, and one with
@@ -15,11 +15,7 @@ pub fn run_rows(alloc: Global, text: &[u8], report: &mut Vec<u8>) -> Result<bool
         answers: 0,
         failed: 0,
     };
-    for line in text.split(|byte| *byte == b'\n') {
-        run.take_line(line, report)?;
-    }
-    run.end_row(report)?;
-    run.add_counts(report)?;
+    run.take_text(text, report)?;
     Ok(run.failed == 0)
 }
 
@@ -28,16 +24,26 @@ pub fn run_rows(alloc: Global, text: &[u8], report: &mut Vec<u8>) -> Result<bool
 enum Line {
     Comment,
     Row,
+    Repository,
+    Installed,
+    World,
+    Upgrade,
+    Times,
     Question,
     Wanted,
     Printed,
 }
 
 /// The words that lines begin with.
-const LINES: [(&[u8], Line); 6] = [
+const LINES: [(&[u8], Line); 11] = [
     (b"", Line::Comment),
     (b"#", Line::Comment),
     (b"row", Line::Row),
+    (b"repository", Line::Repository),
+    (b"installed", Line::Installed),
+    (b"world", Line::World),
+    (b"upgrade", Line::Upgrade),
+    (b"times", Line::Times),
     (b"$", Line::Question),
     (b">", Line::Wanted),
     (b"?", Line::Printed),
@@ -55,18 +61,42 @@ struct Run<'t> {
 }
 
 impl<'t> Run<'t> {
-    // Takes a line by its first word; one without is a line of the row.
+    // Takes all lines of a text, and adds the counts.
+    fn take_text(&mut self, text: &'t [u8], report: &mut Vec<u8>) -> Result<(), AllocError> {
+        for line in text.split(|byte| *byte == b'\n') {
+            self.take_line(line, report)?;
+        }
+        self.end_row(report)?;
+        self.add_counts(report)
+    }
+
+    // Takes a line by its first word.
     fn take_line(&mut self, line: &'t [u8], report: &mut Vec<u8>) -> Result<(), AllocError> {
         let (word, rest) = split_word(line);
         let Some(kind) = value_named(&LINES, word) else {
-            return self.take_row_line(line, report);
+            return self.fail(line, b"the line is no row's", report);
         };
         match kind {
             Line::Comment => Ok(()),
             Line::Row => self.begin_row(rest, report),
+            Line::Repository => self.row.add_repository(self.alloc, rest),
+            Line::Installed => self.row.set_installed(self.alloc, rest),
             Line::Question => self.begin_question(rest, report),
-            Line::Wanted => self.compare(rest, report),
-            Line::Printed => self.print(report),
+            Line::Wanted => self.end_question(Some(rest), report),
+            Line::Printed => self.end_question(None, report),
+            _ => {
+                self.set(kind, rest);
+                Ok(())
+            }
+        }
+    }
+
+    // Takes what else a line says of the row.
+    fn set(&mut self, kind: Line, rest: &'t [u8]) {
+        match kind {
+            Line::World => self.row.world = rest,
+            Line::Upgrade => self.row.upgraded = rest,
+            _ => self.row.times = number_of(rest),
         }
     }
 
@@ -94,38 +124,22 @@ impl<'t> Run<'t> {
         }
     }
 
-    // Takes a line that says what the row has.
-    fn take_row_line(&mut self, line: &'t [u8], report: &mut Vec<u8>) -> Result<(), AllocError> {
-        match self.row.take_line(line)? {
-            Said::Row => Ok(()),
-            Said::Nothing => self.fail(line, b"the line is no row's", report),
-        }
-    }
-
-    // Compares the answer of the last question with the wanted one.
-    fn compare(&mut self, wanted: &[u8], report: &mut Vec<u8>) -> Result<(), AllocError> {
+    // Compares the answer of the last question with the wanted one; prints it where none is wanted.
+    fn end_question(
+        &mut self,
+        wanted: Option<&[u8]>,
+        report: &mut Vec<u8>,
+    ) -> Result<(), AllocError> {
         let Some(query) = self.query.take() else {
-            return self.fail(wanted, b"nothing is asked", report);
+            return self.fail(wanted.unwrap_or(b"?"), b"nothing is asked", report);
         };
         self.answers = self.answers.saturating_add(1);
         let found = answer(self.alloc, &self.row, query)?;
-        if found.as_slice() == wanted {
-            return Ok(());
+        match wanted {
+            None => self.add_line(&[self.row.name, b": ", query, b": ", &found], report),
+            Some(wanted) if wanted == found.as_slice() => Ok(()),
+            Some(_) => self.fail(query, &found, report),
         }
-        self.fail(query, found.as_slice(), report)
-    }
-
-    // Prints the answer of the last question.
-    fn print(&mut self, report: &mut Vec<u8>) -> Result<(), AllocError> {
-        let Some(query) = self.query.take() else {
-            return self.fail(b"?", b"nothing is asked", report);
-        };
-        self.answers = self.answers.saturating_add(1);
-        let found = answer(self.alloc, &self.row, query)?;
-        self.add_line(
-            &[self.row.name, b": ", query, b": ", found.as_slice()],
-            report,
-        )
     }
 
     // Adds a line of the report.
@@ -147,11 +161,10 @@ impl<'t> Run<'t> {
 
     // Reports how many rows and answers there were, and how many failed.
     fn add_counts(&self, report: &mut Vec<u8>) -> Result<(), AllocError> {
-        add_number(self.alloc, report, u128::from(self.rows))?;
-        report.extend_from_slice(b" rows, ")?;
-        add_number(self.alloc, report, u128::from(self.answers))?;
-        report.extend_from_slice(b" answers, ")?;
-        add_number(self.alloc, report, u128::from(self.failed))?;
-        report.extend_from_slice(b" failed\n")
+        let text = format!(in self.alloc;
+            "{} rows, {} answers, {} failed\n",
+            self.rows, self.answers, self.failed
+        )?;
+        report.extend_from_slice(text.as_bytes())
     }
 }

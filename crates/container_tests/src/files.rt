@@ -1,0 +1,51 @@
+//! The contents that a package gives of its files.
+use base_core::Cause;
+use pkg_core::{FileContents, Package, PackageFault};
+use row_lines::{add_number, add_word};
+use std::alloc::{AllocError, Global};
+
+/// How often the next file is asked for.
+const CALLS: u32 = 3;
+
+/// Answers `package BYTES`: the identity of a package, how many folders it has, and what three
+/// calls for its next file answer.
+pub fn add_files(alloc: Global, file: &[u8], answer: &mut Vec<u8>) -> Result<(), AllocError> {
+    match Package::new(alloc, file) {
+        Ok(package) => add_calls(alloc, package, answer),
+        Err(PackageFault::Bad(cause)) => add_cause(alloc, cause, answer),
+        Err(PackageFault::Memory) => Err(AllocError),
+    }
+}
+
+/// Adds what a package answers.
+fn add_calls(alloc: Global, package: Package<'_>, answer: &mut Vec<u8>) -> Result<(), AllocError> {
+    let mut package = package;
+    add_word(answer, &package.id())?;
+    add_word(answer, b"folders ")?;
+    add_number(alloc, answer, package.view().paths().len() as u128)?;
+    for _ in 0..CALLS {
+        match package.next_file() {
+            Ok(Some(contents)) => add_contents(alloc, &contents, answer)?,
+            Ok(None) => add_word(answer, b"end")?,
+            Err(cause) => add_cause(alloc, cause, answer)?,
+        }
+    }
+    Ok(())
+}
+
+/// Adds the positions of a file and its bytes.
+fn add_contents(
+    alloc: Global,
+    contents: &FileContents<'_>,
+    answer: &mut Vec<u8>,
+) -> Result<(), AllocError> {
+    let text = format!(in alloc; "{}.{}", contents.path, contents.file)?;
+    add_word(answer, text.as_bytes())?;
+    add_word(answer, contents.bytes)
+}
+
+/// Adds a cause, as its variant and its fields.
+fn add_cause(alloc: Global, cause: Cause, answer: &mut Vec<u8>) -> Result<(), AllocError> {
+    let text = format!(in alloc; "{cause:?}")?;
+    add_word(answer, text.as_bytes())
+}

@@ -1,0 +1,231 @@
+//! Values that a writer or a draft is given, from the words of a row: `.` is null, `#` and a number
+//! an integer, `'` and bytes a blob, what stands between `[` and `]` an array, and what stands
+//! between `{` and `}` an object. Behind `*` stands how often a value is written, and `~` leaves out
+//! the words of the values before it.
+use adb_schema::PACKAGE_WORD;
+use adb_values::Draft;
+use adb_view::Val;
+use adb_write::{WriteFault, Writer, file_of};
+use base_core::Words;
+use row_lines::{add_number, add_word, number_of, word_at};
+use std::alloc::{AllocError, Global};
+
+/// The most bytes of a payload.
+const MOST_BYTES: usize = 268_435_455;
+
+/// What a word of a row stands for.
+#[derive(Clone, Copy)]
+enum Part<'a> {
+    Null,
+    Int(u64),
+    Blob(&'a [u8]),
+    Open,
+    Array,
+    Object,
+    LeaveOut,
+}
+
+/// What a word stands for, and how often that is written.
+fn part_of(word: &[u8]) -> (Part<'_>, u64) {
+    match word.iter().position(|byte| *byte == b'*') {
+        Some(at) => (part_named(&word[..at]), long_of(&word[at + 1..])),
+        None => (part_named(word), 1),
+    }
+}
+
+/// What a word stands for without how often.
+fn part_named(word: &[u8]) -> Part<'_> {
+    match word {
+        [b'\'', bytes @ ..] => Part::Blob(bytes),
+        [b'#', digits @ ..] => Part::Int(long_of(digits)),
+        [b'['] | [b'{'] => Part::Open,
+        [b']'] => Part::Array,
+        [b'}'] => Part::Object,
+        [b'~'] => Part::LeaveOut,
+        _ => Part::Null,
+    }
+}
+
+/// The number that a word is; 0 where it is none.
+fn long_of(word: &[u8]) -> u64 {
+    number_of(word)
+        .and_then(|number| u64::try_from(number).ok())
+        .unwrap_or(0)
+}
+
+// ---- a writer
+
+/// What a writer was given.
+#[derive(Drop)]
+struct Written {
+    writer: Writer,
+    /// The entries of each list that is open.
+    open: Vec<Vec<Val>>,
+    /// The words of the values that stand in no list.
+    words: Vec<Val>,
+}
+
+impl Written {
+    /// Writes what a word stands for.
+    fn add(&mut self, alloc: Global, part: Part<'_>, times: u64) -> Result<(), AllocError> {
+        match part {
+            Part::Open => self.open.push(Vec::new(alloc))?,
+            Part::Array | Part::Object => self.close(part, times)?,
+            Part::LeaveOut => self.words.clear(),
+            _ => self.add_times(part, &[], times)?,
+        }
+        Ok(())
+    }
+
+    /// Closes the list that was opened last.
+    fn close(&mut self, part: Part<'_>, times: u64) -> Result<(), AllocError> {
+        match self.open.pop() {
+            Some(entries) => self.add_times(part, &entries, times),
+            None => Ok(()),
+        }
+    }
+
+    /// Writes a value so many times; each is an entry of the list that is open.
+    fn add_times(&mut self, part: Part<'_>, entries: &[Val], times: u64) -> Result<(), AllocError> {
+        for _ in 0..times {
+            let word = self.word_of(part, entries)?;
+            match self.open.last_mut() {
+                Some(list) => list.push(word)?,
+                None => self.words.push(word)?,
+            }
+        }
+        Ok(())
+    }
+
+    /// Writes a value; a list has these entries.
+    fn word_of(&mut self, part: Part<'_>, entries: &[Val]) -> Result<Val, AllocError> {
+        match part {
+            Part::Null | Part::Open | Part::LeaveOut => Ok(Val::of(0)),
+            Part::Int(number) => self.writer.int(number),
+            Part::Blob(bytes) => self.writer.blob(bytes),
+            Part::Array => self.writer.arr(entries),
+            Part::Object => self.writer.obj(entries),
+        }
+    }
+}
+
+/// What a writer is given by the words of a row from the second on.
+fn write_values(alloc: Global, words: &Words) -> Result<Written, AllocError> {
+    let mut written = Written {
+        writer: Writer::new(alloc),
+        open: Vec::new(alloc),
+        words: Vec::new(alloc),
+    };
+    for i in 1..words.len() {
+        let (part, times) = part_of(words.word(i));
+        written.add(alloc, part, times)?;
+    }
+    Ok(written)
+}
+
+/// The payload of what was written, whose root is the last value.
+fn payload_of(written: Written) -> Result<Vec<u8>, WriteFault> {
+    let root = match written.words.last() {
+        Some(word) => *word,
+        None => Val::of(0),
+    };
+    written.writer.finish(root)
+}
+
+/// Answers `write VALUES`: the words of the values, and the payload whose root is the last.
+pub fn add_written(alloc: Global, words: &Words, answer: &mut Vec<u8>) -> Result<(), AllocError> {
+    let written = write_values(alloc, words)?;
+    for word in &written.words {
+        let number = word.word();
+        let text = format!(in alloc; "{number:08x}")?;
+        add_word(answer, text.as_bytes())?;
+    }
+    match payload_of(written) {
+        Ok(payload) => add_word(answer, &payload),
+        Err(fault) => add_fault(alloc, fault, answer),
+    }
+}
+
+/// Answers `file VALUES`: the file of the payload, as one of a package.
+pub fn add_file(alloc: Global, words: &Words, answer: &mut Vec<u8>) -> Result<(), AllocError> {
+    match payload_of(write_values(alloc, words)?) {
+        Ok(payload) => add_file_of(alloc, &payload, answer),
+        Err(fault) => add_fault(alloc, fault, answer),
+    }
+}
+
+/// Adds the file of a payload.
+fn add_file_of(alloc: Global, payload: &[u8], answer: &mut Vec<u8>) -> Result<(), AllocError> {
+    if payload.len() > MOST_BYTES {
+        return add_word(answer, b"too many bytes");
+    }
+    add_word(answer, &file_of(alloc, PACKAGE_WORD, payload)?)
+}
+
+/// Adds the counts just behind the first value at which one passes its limit.
+fn add_fault(alloc: Global, fault: WriteFault, answer: &mut Vec<u8>) -> Result<(), AllocError> {
+    match fault {
+        WriteFault::TooLarge { bytes, values } => {
+            let text = format!(in alloc; "too large: {bytes} bytes, {values} values")?;
+            add_word(answer, text.as_bytes())
+        }
+        WriteFault::Memory => Err(AllocError),
+    }
+}
+
+// ---- a draft
+
+/// Adds to a draft the values of the words from a place on.
+fn add_values(draft: &mut Draft, words: &Words, first: usize) -> Result<(), AllocError> {
+    for i in first..words.len() {
+        let (part, times) = part_of(words.word(i));
+        for _ in 0..times {
+            add_part(draft, part)?;
+        }
+    }
+    Ok(())
+}
+
+/// Gives a draft what a word stands for.
+fn add_part(draft: &mut Draft, part: Part<'_>) -> Result<(), AllocError> {
+    match part {
+        Part::Null => draft.null(),
+        Part::Int(number) => draft.int(number),
+        Part::Blob(bytes) => draft.blob(bytes),
+        Part::Open => draft.open_list(),
+        Part::Array => draft.close_array(),
+        Part::Object => draft.close_object(),
+        Part::LeaveOut => Ok(()),
+    }
+}
+
+/// Answers `draft VALUES`: the payload of a draft of these values.
+pub fn add_draft(alloc: Global, words: &Words, answer: &mut Vec<u8>) -> Result<(), AllocError> {
+    let mut draft = Draft::new(alloc);
+    add_values(&mut draft, words, 1)?;
+    match draft.finish() {
+        Ok(payload) => add_word(answer, &payload),
+        Err(fault) => add_fault(alloc, fault, answer),
+    }
+}
+
+/// Answers `repeated N VALUES`: how many bytes the payload of a draft has that is an array of so
+/// many times these values.
+pub fn add_repeated(alloc: Global, words: &Words, answer: &mut Vec<u8>) -> Result<(), AllocError> {
+    let mut draft = Draft::new(alloc);
+    draft.open_list()?;
+    for _ in 0..long_of(word_at(words, 1)) {
+        add_values(&mut draft, words, 2)?;
+    }
+    draft.close_array()?;
+    match draft.finish() {
+        Ok(payload) => add_len(alloc, &payload, answer),
+        Err(fault) => add_fault(alloc, fault, answer),
+    }
+}
+
+/// Adds how many bytes a payload has.
+pub fn add_len(alloc: Global, payload: &[u8], answer: &mut Vec<u8>) -> Result<(), AllocError> {
+    add_word(answer, b"bytes ")?;
+    add_number(alloc, answer, payload.len() as u128)
+}
