@@ -5,3 +5,4 @@ pub mod ChangeClaims
 pub mod TreeLoops
 pub mod FoundFiles
 pub mod OneFile
+pub mod MarkedClaims

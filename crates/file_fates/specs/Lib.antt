@@ -4,3 +4,4 @@ pub mod Sides
 pub mod Fates
 pub mod Going
 pub mod Found
+pub mod Parts

@@ -27,7 +27,7 @@ use std::marker::PhantomData;
 
 /// What becomes of a file that comes, and of the one that stands under its path.
 #[derive(Clone, Copy)]
-pub enum Fate {
+pub(crate) enum Fate {
     /// It takes the path.
     GoesIn,
     /// The user's file stays, and the new one is not laid down.
@@ -163,7 +163,7 @@ fn add_fate(fates: &mut Vec<Fate>, fate: Fate) -> Result<(), AllocError>
 }
 
 /// What becomes of each file that comes.
-pub fn fates_of<T: Tree>(
+pub(crate) fn fates_of<T: Tree>(
     alloc: Global,
     tree: &mut T,
     change: &Change<'_, '_, '_>,

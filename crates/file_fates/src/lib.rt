@@ -4,7 +4,8 @@
 //!
 //! The contracts cite `ClaimEntries` (the claims of packages, and what their entries say), `Sides`
 //! (a change, as claims before and after it), `Fates` and `Going` (what becomes of a file that
-//! comes, and of one that is left over) and `Found` (the same, as the tree shows it) of `specs/`.
+//! comes, and of one that is left over), `Found` (the same, as the tree shows it) and `Parts` of
+//! `specs/`.
 #![tactic(auto)]
 
 mod change;
@@ -16,6 +17,5 @@ mod parts;
 
 pub use change::Change;
 pub use coming::{comes, coming_claims};
-pub use fate::{Fate, fates_of};
 pub use guarded::name_beside;
-pub use parts::{claims_where, claims_with, left_claims, stays_of};
+pub use parts::{Parts, parts_of};

@@ -4,18 +4,21 @@ ghost use Rattle.std.specs.Prelude.{◌≡◌, IfOk, OnOk, Some, [], ◌∷◌, 
 ghost use Rattle.std.specs.List.{filter};
 ghost use Rattle.std.specs.List.Sorted.{IsSorted};
 ghost use Rattle.adb_fields.specs.JoinedPath.{joined_path};
+ghost use Rattle.base_core.specs.Listed.{IsRising};
 ghost use Rattle.base_core.specs.Read.{OnlyReads};
+ghost use Rattle.db_core.specs.Seen.{members_of};
 ghost use Rattle.path_claims.specs.Claims.{claim_cmp};
 ghost use Rattle.path_claims.specs.Seen.{claim_seen};
 ghost use Rattle.file_fates.specs.ClaimEntries.{AreClaimsOf, IsClaimOf, members_before};
 ghost use Rattle.file_fates.specs.Fates.{fate_seen, is_fate, is_flag, marked_claims};
 ghost use Rattle.file_fates.specs.Found.{AreByFiles, IsByFile};
 ghost use Rattle.file_fates.specs.Going.{does_stay, is_beside, is_left};
+ghost use Rattle.file_fates.specs.Parts.{AreParts};
 ghost use Rattle.file_fates.specs.Sides.{HasClaims, claims_before, file_change_of};
 
 use crate::change::Change;
 use crate::entries::listed_before;
-use crate::fate::{Fate, is_changed};
+use crate::fate::{Fate, fates_of, is_changed};
 use crate::guarded::{is_guarded, path_beside};
 use adb_fields::FilePath;
 use base_core::{Tree, TreeFault};
@@ -38,7 +41,7 @@ fn is_fate(one: Fate, other: Fate) -> bool
 }
 
 /// The claims of the files that come with this fate.
-pub fn claims_with<'n>(
+fn claims_with<'n>(
     alloc: Global,
     coming: &[Claim<'n>],
     fates: &[Fate],
@@ -89,7 +92,7 @@ fn is_left(
 
 /// The claims of the packages before whose paths no package lists any more, and under which nothing
 /// is laid beside another file.
-pub fn left_claims<'o>(
+fn left_claims<'o>(
     alloc: Global,
     change: &Change<'_, 'o, '_>,
     asides: &[Claim<'_>],
@@ -141,7 +144,7 @@ fn add_flag(flags: &mut Vec<bool>, flag: bool) -> Result<(), AllocError>
 }
 
 /// For each claim of a path that is left over whether the user's file stays there.
-pub fn stays_of<T: Tree>(
+fn stays_of<T: Tree>(
     alloc: Global,
     tree: &mut T,
     change: &Change<'_, '_, '_>,
@@ -169,7 +172,7 @@ fn is_flag(one: bool, other: bool) -> bool
 }
 
 /// The claims whose flag is this one.
-pub fn claims_where<'o>(
+fn claims_where<'o>(
     alloc: Global,
     left: &[Claim<'o>],
     flags: &[bool],
@@ -186,4 +189,47 @@ pub fn claims_where<'o>(
         }
     }
     Ok(some)
+}
+
+/// The files of a change by what becomes of them, in the order of paths.
+#[derive(Drop)]
+pub struct Parts<'o, 'n> {
+    /// Those that take their paths.
+    pub ins: Vec<Claim<'n>>,
+    /// Those that are laid beside the user's.
+    pub asides: Vec<Claim<'n>>,
+    /// The paths that are removed.
+    pub removed: Vec<Claim<'o>>,
+    /// The paths at which the user's file stays.
+    pub kept: Vec<Claim<'o>>,
+}
+
+/// The files that come and those that go.
+pub fn parts_of<'o, 'n, T: Tree>(
+    alloc: Global,
+    tree: &mut T,
+    change: &Change<'_, 'o, 'n>,
+    coming: &[Claim<'n>],
+) -> Result<Parts<'o, 'n>, TreeFault>
+    requires claims { HasClaims change.now }
+    requires files { AreClaimsOf (members_of change.now.members.now) (map claim_seen coming.now) }
+    requires rising { IsRising (map (λ c. c.path) (map claim_seen coming.now)) }
+    ensures parts { IfOk result
+        (AreParts change.now (T.history tree.old) (map claim_seen coming.now)) }
+    ensures tree { OnlyReads TreeFault.Disk (T.history tree.old) (T.history tree.new)
+        (T.counts tree.old) (T.counts tree.new) result }
+{
+    let fates = fates_of(alloc, tree, change, coming)?;
+    let ins = claims_with(alloc, coming, &fates, Fate::GoesIn)?;
+    let asides = claims_with(alloc, coming, &fates, Fate::GoesAside)?;
+    let left = left_claims(alloc, change, &asides)?;
+    let stays = stays_of(alloc, tree, change, &left)?;
+    let removed = claims_where(alloc, &left, &stays, false)?;
+    let kept = claims_where(alloc, &left, &stays, true)?;
+    Ok(Parts {
+        ins,
+        asides,
+        removed,
+        kept,
+    })
 }

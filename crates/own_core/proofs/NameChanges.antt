@@ -24,10 +24,10 @@ use Rattle.file_fates.specs.ClaimEntries.{claim_entry, comes_at, comes_if_any, i
 use Rattle.file_fates.specs.Fates.{claim_fate}
 use Rattle.file_fates.specs.Found.{said_of}
 use Rattle.file_fates.specs.Going.{does_stay, is_beside}
-use Rattle.own_core.specs.Parts.{AreParts, asides_of, kept_of_parts, left_claims_by}
+use Rattle.file_fates.specs.Parts.{AreParts, asides_of, kept_of_parts, left_claims_by}
 use Rattle.file_fates.specs.Sides.{HasClaims, claims_after, claims_before, file_change_of}
 use Rattle.file_fates.specs.declared.change.Change.{Change}
-use Rattle.own_core.specs.declared.planning.Parts.{Parts}
+use Rattle.file_fates.specs.declared.parts.Parts.{Parts}
 use Rattle.file_fates.proofs.ChangeClaims.{claimed_after}
 use Rattle.file_fates.proofs.Endings.{ending, found_front, front_of}
 use Rattle.file_fates.proofs.Listings.{IsPlaced, each_placed}

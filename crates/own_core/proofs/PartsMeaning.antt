@@ -1,5 +1,5 @@
 -- The parts of a change and their lists, over the files of the tree, and what is known of them over any tree.
-use Rattle.std.proofs.Common.{◌≡◌, inl, inr, ℕ, suc, zero, Bool, true, false, cond, List, [], ◌∷◌, ◌++◌, map, Some, refl, ap, sym, ◌∙◌, subst, true≢false}
+use Rattle.std.proofs.Common.{◌≡◌, ℕ, suc, zero, Bool, true, false, cond, List, [], ◌∷◌, ◌++◌, map, Some, refl, ap, sym, ◌∙◌, subst, true≢false}
 use Rattle.std.specs.Prelude.{slice_get, option_and_then, is_some}
 use Rattle.std.specs.List.{filter, find}
 use Rattle.std.specs.List.Sorted.{IsSorted}
@@ -24,84 +24,19 @@ use Rattle.file_fates.specs.Fates.{claim_fate, is_fate, is_flag, is_free_beside,
 use Rattle.file_fates.specs.Found.{AreByFiles, said_of}
 use Rattle.file_fates.specs.Going.{does_stay, is_beside, is_left}
 use Rattle.own_core.specs.ListsSeen.{AreListsOfParts}
-use Rattle.own_core.specs.Parts.{AreParts, asides_of, ins_of, kept_of_parts, left_claims_by, removed_of}
+use Rattle.file_fates.specs.Parts.{AreParts, asides_of, ins_of, kept_of_parts, left_claims_by, removed_of}
 use Rattle.own_core.specs.Planned.{ArePlanLists}
 use Rattle.file_fates.specs.Sides.{HasClaims, claims_after, claims_before, file_change_of}
 use Rattle.own_core.specs.WritesSeen.{HaveNamesBeside, aside_write, claim_write, write_cmp}
 use Rattle.file_fates.specs.declared.change.Change.{Change}
 use Rattle.own_core.specs.declared.planning.FilePlan.{FilePlan}
-use Rattle.own_core.specs.declared.planning.Parts.{Parts}
+use Rattle.file_fates.specs.declared.parts.Parts.{Parts}
 use Rattle.file_fates.proofs.ChangeClaims.{rising_sorted}
 use Rattle.file_fates.proofs.Kept.{marked_by}
+use Rattle.file_fates.proofs.MarkedClaims.{found_from, filter_from, marked_from, marked_rises, filtered_rises}
 use Rattle.own_core.proofs.OwnNames.{aside_free, is_short}
 use Rattle.own_core.proofs.Meaning.{aside_are, beside_is, going, kept_are, removals_are, with_fate}
 use Rattle.own_core.proofs.WritesMeaning.{each_finds_itself, writes_are}
-
--- ---- some of a list
-
-pub found_from : {X : Type 0} (p : X → Bool) (xs : List X) (x : X) → find p xs ≡ Some x → (k : ℕ) × (slice_get xs k ≡ Some x)
-found_from p [] x e = absurd (no_some x e)
-found_from p (y ∷ ys) x e = go (p y) (λ f. found_from p ys x f) e
-  where
-    go : (b : Bool) → (find p ys ≡ Some x → (k : ℕ) × (slice_get ys k ≡ Some x)) → cond b (Some y) (find p ys) ≡ Some x → (k : ℕ) × (slice_get (y ∷ ys) k ≡ Some x)
-    go true rest f = (zero, f)
-    go false rest f = let r = rest f in (suc r.0, r.1)
-
-pub filter_from : {X : Type 0} (p : X → Bool) (xs : List X) (i : ℕ) (x : X) → slice_get (filter p xs) i ≡ Some x → (k : ℕ) × (slice_get xs k ≡ Some x)
-filter_from p [] i x e = absurd (no_some x e)
-filter_from p (y ∷ ys) i x e = go (p y) i (λ j f. filter_from p ys j x f) e
-  where
-    go : (b : Bool) (i : ℕ) → ((j : ℕ) → slice_get (filter p ys) j ≡ Some x → (k : ℕ) × (slice_get ys k ≡ Some x)) → slice_get (cond b (y ∷ filter p ys) (filter p ys)) i ≡ Some x → (k : ℕ) × (slice_get (y ∷ ys) k ≡ Some x)
-    go true zero rest f = (zero, f)
-    go true (suc i) rest f = let r = rest i f in (suc r.0, r.1)
-    go false i rest f = let r = rest i f in (suc r.0, r.1)
-
-pub marked_from : {Y : Type 0} (test : Y → Bool) (cs : List PathClaim) (ms : List Y) (i : ℕ) (c : PathClaim) → slice_get (marked_claims test cs ms) i ≡ Some c → (k : ℕ) × (slice_get cs k ≡ Some c)
-marked_from test [] ms i c e = absurd (no_some c e)
-marked_from test (d ∷ cs) [] i c e = absurd (no_some c e)
-marked_from test (d ∷ cs) (m ∷ ms) i c e = go (test m) i (λ j f. marked_from test cs ms j c f) e
-  where
-    go : (b : Bool) (i : ℕ) → ((j : ℕ) → slice_get (marked_claims test cs ms) j ≡ Some c → (k : ℕ) × (slice_get cs k ≡ Some c)) → slice_get (cond b (d ∷ marked_claims test cs ms) (marked_claims test cs ms)) i ≡ Some c
-        → (k : ℕ) × (slice_get (d ∷ cs) k ≡ Some c)
-    go true zero rest f = (zero, f)
-    go true (suc i) rest f = let r = rest i f in (suc r.0, r.1)
-    go false i rest f = let r = rest i f in (suc r.0, r.1)
-
-in_marked : {Y : Type 0} (test : Y → Bool) (cs : List PathClaim) (ms : List Y) (q : List ℕ) → Names.IsIn q (paths (marked_claims test cs ms)) → Names.IsIn q (paths cs)
-in_marked test [] ms q here = here
-in_marked test (d ∷ cs) [] q here = absurd here
-in_marked test (d ∷ cs) (m ∷ ms) q here = go (test m) (in_marked test cs ms q) here
-  where
-    go : (b : Bool) → (Names.IsIn q (paths (marked_claims test cs ms)) → Names.IsIn q (paths cs)) → Names.IsIn q (paths (cond b (d ∷ marked_claims test cs ms) (marked_claims test cs ms))) → Names.IsIn q (paths (d ∷ cs))
-    go true rest (inl is) = inl is
-    go true rest (inr old) = inr (rest old)
-    go false rest old = inr (rest old)
-
-pub marked_rises : {Y : Type 0} (test : Y → Bool) (cs : List PathClaim) (ms : List Y) → Names.Rises (paths cs) → Names.Rises (paths (marked_claims test cs ms))
-marked_rises test [] ms r = tt
-marked_rises test (d ∷ cs) [] r = tt
-marked_rises test (d ∷ cs) (m ∷ ms) r = go (test m) (marked_rises test cs ms r.1)
-  where
-    go : (b : Bool) → Names.Rises (paths (marked_claims test cs ms)) → Names.Rises (paths (cond b (d ∷ marked_claims test cs ms) (marked_claims test cs ms)))
-    go true rest = (λ q here. r.0 q (in_marked test cs ms q here), rest)
-    go false rest = rest
-
-in_filtered : (t : PathClaim → Bool) (cs : List PathClaim) (q : List ℕ) → Names.IsIn q (paths (filter t cs)) → Names.IsIn q (paths cs)
-in_filtered t [] q here = here
-in_filtered t (c ∷ cs) q here = go (t c) (in_filtered t cs q) here
-  where
-    go : (b : Bool) → (Names.IsIn q (paths (filter t cs)) → Names.IsIn q (paths cs)) → Names.IsIn q (paths (cond b (c ∷ filter t cs) (filter t cs))) → Names.IsIn q (paths (c ∷ cs))
-    go true rest (inl is) = inl is
-    go true rest (inr old) = inr (rest old)
-    go false rest old = inr (rest old)
-
-pub filtered_rises : (t : PathClaim → Bool) (cs : List PathClaim) → Names.Rises (paths cs) → Names.Rises (paths (filter t cs))
-filtered_rises t [] r = tt
-filtered_rises t (c ∷ cs) r = go (t c) (filtered_rises t cs r.1)
-  where
-    go : (b : Bool) → Names.Rises (paths (filter t cs)) → Names.Rises (paths (cond b (c ∷ filter t cs) (filter t cs)))
-    go true rest = (λ q here. r.0 q (in_filtered t cs q here), rest)
-    go false rest = rest
 
 -- ---- claims that come, over any tree
 

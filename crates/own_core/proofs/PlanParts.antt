@@ -1,5 +1,5 @@
 -- What the parts of a change ask for, and what they give.
-use Rattle.std.proofs.Common.{◌≡◌, ℕ, suc, zero, Bool, true, false, List, [], ◌∷◌, ◌++◌, length, map, All, Option, Some, Result, Ok, Err, refl, ap, sym, ◌∙◌, subst, arith}
+use Rattle.std.proofs.Common.{◌≡◌, ℕ, suc, zero, Bool, true, false, List, [], ◌∷◌, ◌++◌, map, All, Option, Some, Result, Ok, Err, refl, sym, ◌∙◌, subst, arith}
 use Rattle.std.specs.Prelude.{◌&&◌, ◌||◌, not, slice_get, option_map, is_some, bytes_eq, if◌then◌else◌, IfOk}
 use Rattle.std.specs.List.{filter, find, list_any}
 use Rattle.std.specs.List.Sorted.{IsSorted}
@@ -16,10 +16,7 @@ use Rattle.list_order.proofs.Sorting.{Each, sorted_up}
 use Rattle.db_core.specs.Members.{Member, member_listings}
 use Rattle.db_core.specs.Seen.{members_of}
 use Rattle.path_claims.specs.Claims.{PathClaim, claim_cmp, is_of_path}
-use Rattle.path_claims.specs.Seen.{claim_seen}
-use Rattle.path_claims.specs.declared.claim.Claim.{Claim}
 use Rattle.path_claims.proofs.ClaimOrder.{paths_total}
-use Rattle.path_claims.proofs.Places.{map_len}
 use Rattle.path_clashes.specs.Clash.{NameChange}
 use Rattle.path_clashes.specs.ClashSeen.{clash_seen}
 use Rattle.path_clashes.specs.FirstClash.{IsClashOf, MayBeClashOf}
@@ -31,37 +28,21 @@ use Rattle.change_files.specs.Fate.{aside_name}
 use Rattle.change_files.specs.FilesAfter.{database_name, world_name}
 use Rattle.change_files.specs.NamesAfter.{name_change}
 use Rattle.file_fates.specs.ClaimEntries.{AreClaimsOf, comes_at, is_of_coming_owner, members_before}
-use Rattle.file_fates.specs.Fates.{claim_fate, marked_claims}
-use Rattle.file_fates.specs.Found.{AreByFiles}
+use Rattle.file_fates.specs.Fates.{claim_fate}
 use Rattle.file_fates.specs.Going.{does_stay}
-use Rattle.own_core.specs.Parts.{AreParts, asides_of, is_let_go_by, kept_of_parts, left_claims_by, names_changed_by, names_written_by}
+use Rattle.file_fates.specs.Parts.{AreParts, asides_of, kept_of_parts, left_claims_by}
+use Rattle.own_core.specs.NamesChanged.{is_let_go_by, names_changed_by, names_written_by}
 use Rattle.file_fates.specs.Sides.{HasClaims, claims_after, claims_before, file_change_of}
 use Rattle.own_core.specs.WritesSeen.{HaveNamesBeside}
 use Rattle.file_fates.specs.declared.change.Change.{Change}
-use Rattle.own_core.specs.declared.planning.Parts.{Parts}
-use Rattle.file_fates.proofs.ChangeClaims.{rising_sorted}
+use Rattle.file_fates.specs.declared.parts.Parts.{Parts}
 use Rattle.file_fates.proofs.Endings.{aside_is_name}
 use Rattle.file_fates.proofs.FoundFiles.{by_tree}
 use Rattle.file_fates.proofs.Listings.{are_claims, each_both}
 use Rattle.own_core.proofs.NameChanges.{all_written, same_names}
-use Rattle.own_core.proofs.PartsMeaning.{each_at, filter_from, found_from, marked_rises}
-use Rattle.file_fates.proofs.TreeLoops.{found_len}
+use Rattle.file_fates.proofs.MarkedClaims.{found_from}
+use Rattle.own_core.proofs.PartsMeaning.{each_at}
 use Rattle.own_core.proofs.WritesMeaning.{each_finds_itself}
-
--- ---- parts
-
-pub marks_len : {Y Z : Type 0} (s : Z → Y) (said : PathClaim → Option (List ℕ) → Y) (h : List TreeState) (xs : List Claim) (fs : List Z) → AreByFiles said h (map claim_seen xs) (map s fs) → length fs ≡ length xs
-marks_len s said h xs fs are = sym (map_len s fs) ∙ (found_len said h (map claim_seen xs) (map s fs) are ∙ map_len claim_seen xs)
-
-pub flags_len : (said : PathClaim → Option (List ℕ) → Bool) (h : List TreeState) (xs : List Claim) (fs : List Bool) → AreByFiles said h (map claim_seen xs) fs → length fs ≡ length xs
-flags_len said h xs fs are = found_len said h (map claim_seen xs) fs are ∙ map_len claim_seen xs
-
-pub marked_sorted : {Y : Type 0} (test : Y → Bool) (cs xs : List PathClaim) (ms : List Y) → Names.Rises (paths cs) → xs ≡ marked_claims test cs ms → IsSorted claim_cmp xs
-marked_sorted test cs xs ms r e =
-    rising_sorted xs (Names.pairs_from_rises (paths xs) (subst (λ ys. Names.Rises (paths ys)) (sym e) (marked_rises test cs ms r)))
-
-pub files_kept : (members : List Member) (p : PathClaim → Bool) (cs xs : List PathClaim) → AreClaimsOf members cs → xs ≡ filter p cs → AreClaimsOf members xs
-files_kept members p cs xs h e i c g = let f = filter_from p cs i c (ap (λ ys. slice_get ys i) (sym e) ∙ g) in h f.0 c f.1
 
 -- ---- names that are written
 

@@ -27,7 +27,7 @@ use Rattle.change_files.specs.PlanLists.{first_reserved}
 use Rattle.file_fates.specs.ClaimEntries.{comes_at, comes_if_any, is_reserved_coming}
 use Rattle.file_fates.proofs.Listings.{IsPlaced, each_all, each_placed}
 use Rattle.own_core.proofs.NamesOnce.{in_sorted_names}
-use Rattle.own_core.proofs.PartsMeaning.{found_from}
+use Rattle.file_fates.proofs.MarkedClaims.{found_from}
 
 -- ---- what is kept of a sorted list is sorted
 

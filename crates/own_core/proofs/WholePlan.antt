@@ -28,19 +28,22 @@ use Rattle.file_fates.specs.ClaimEntries.{AreClaimsOf, is_of_coming_owner}
 use Rattle.file_fates.specs.Fates.{claim_fate}
 use Rattle.file_fates.specs.Going.{does_stay, is_beside, is_left}
 use Rattle.own_core.specs.ListsSeen.{AreListsOfParts}
-use Rattle.own_core.specs.Parts.{AreParts, asides_of, left_claims_by, names_changed_by}
+use Rattle.file_fates.specs.Parts.{AreParts, asides_of, left_claims_by}
+use Rattle.own_core.specs.NamesChanged.{names_changed_by}
 use Rattle.own_core.specs.Planned.{IsClashBySome, IsOwnedBy, IsPlanOf, MayBeRefusalOf}
 use Rattle.file_fates.specs.Sides.{HasClaims, claims_after, claims_before, file_change_of}
 use Rattle.file_fates.specs.declared.change.Change.{Change}
 use Rattle.own_core.specs.declared.fault.PlanFault.{PlanFault}
 use Rattle.own_core.specs.declared.fault.PlanFault.TheVariants.{Disk, Memory, Owned, PathClash, Reserved}
 use Rattle.own_core.specs.declared.planning.FilePlan.{FilePlan}
-use Rattle.own_core.specs.declared.planning.Parts.{Parts}
+use Rattle.file_fates.specs.declared.parts.Parts.{Parts}
 use Rattle.file_fates.proofs.ChangeClaims.{claimed_after}
 use Rattle.own_core.proofs.NameChanges.{same_names}
 use Rattle.file_fates.proofs.FoundFiles.{AreFilesFound, files_found}
-use Rattle.own_core.proofs.PartsMeaning.{filter_from, filtered_rises, found_from, planned}
-use Rattle.own_core.proofs.PlanParts.{files_first, files_kept}
+use Rattle.file_fates.proofs.MarkedClaims.{filter_from, filtered_rises, found_from}
+use Rattle.own_core.proofs.PartsMeaning.{planned}
+use Rattle.file_fates.proofs.MarkedClaims.{files_kept}
+use Rattle.own_core.proofs.PlanParts.{files_first}
 
 -- the claims of owners that come, over other copies of the lists
 pub firsts_over : (members : List Member) (all again coming once : List Claim) → again ≡ all → once ≡ coming → HasFirsts (filter (is_of_coming_owner members) (map claim_seen again)) (map claim_seen coming)

@@ -2,6 +2,6 @@
 pub mod WritesSeen
 pub mod Planned
 -- what only inner contracts and proofs use
-pub mod Parts
+pub mod NamesChanged
 pub mod ListsSeen
 pub mod FaultsSeen

@@ -1,10 +1,10 @@
 -- The lists of a plan, by the parts of a change.
 use Rattle.std.specs.Prelude.{◌≡◌, Bool, List, ◌++◌, map}
 use Rattle.list_order.specs.Sorted.{sorted_by}
-use Rattle.own_core.specs.Parts.{asides_of, ins_of, kept_of_parts, removed_of}
+use Rattle.file_fates.specs.Parts.{asides_of, ins_of, kept_of_parts, removed_of}
 use Rattle.own_core.specs.WritesSeen.{aside_write, claim_write, write_cmp, writes_in}
 use Rattle.own_core.specs.declared.planning.FilePlan.{FilePlan}
-use Rattle.own_core.specs.declared.planning.Parts.{Parts}
+use Rattle.file_fates.specs.declared.parts.Parts.{Parts}
 
 -- Of what goes in, is laid beside, is removed and is kept; only the writes have to be put in order,
 -- since they join two of these.

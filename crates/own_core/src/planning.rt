@@ -3,7 +3,6 @@
 ghost use Rattle.std.specs.Prelude.{◌≡◌, ◌<◌, All, IfErr, IfOk, None, Some, length, map, option_map};
 ghost use Rattle.std.specs.List.{filter};
 ghost use Rattle.base_core.specs.Calls.{IfObservable};
-ghost use Rattle.base_core.specs.Listed.{IsRising};
 ghost use Rattle.base_core.specs.Name.{IsName};
 ghost use Rattle.base_core.specs.Read.{OnlyReads};
 ghost use Rattle.base_core.specs.Tree.{files_of};
@@ -22,7 +21,8 @@ ghost use Rattle.path_clashes.specs.ClashSeen.{clash_seen};
 ghost use Rattle.path_clashes.specs.FirstClash.{IsClashOf, MayBeClashOf};
 ghost use Rattle.file_fates.specs.ClaimEntries.{AreClaimsOf, IsClaimOf, is_of_coming_owner, is_reserved_coming};
 ghost use Rattle.own_core.specs.ListsSeen.{AreListsOfParts};
-ghost use Rattle.own_core.specs.Parts.{AreParts, asides_of, ins_of, kept_of_parts, names_changed_by, removed_of};
+ghost use Rattle.file_fates.specs.Parts.{AreParts, asides_of, ins_of, kept_of_parts, removed_of};
+ghost use Rattle.own_core.specs.NamesChanged.{names_changed_by};
 ghost use Rattle.own_core.specs.Planned.{HasOwnNames, HasSources, IsOwnedBy, IsPlanFor, IsPlanOf, IsRefusalFor, IsRefusalOf, MayBeRefusalOf, change_by, member_name_at};
 ghost use Rattle.file_fates.specs.Sides.{HasClaims, claims_after, file_change_of};
 ghost use Rattle.own_core.specs.WritesSeen.{HaveNamesBeside};
@@ -34,9 +34,7 @@ use adb_schema::is_reserved_file;
 use base_core::{Name, Names, Text, Tree, TreeFault};
 use claim_lists::{name_of_path, names_of_claims, one_of_each_path};
 use db_core::{Db, Members, Owned};
-use file_fates::{
-    Change, Fate, claims_where, claims_with, comes, coming_claims, fates_of, left_claims, stays_of,
-};
+use file_fates::{Change, Parts, comes, coming_claims, parts_of};
 use file_owners::{Contested, claims_in_database, owners_of_files};
 use path_claims::Claim;
 use path_clashes::{Clash, first_clash};
@@ -87,45 +85,6 @@ impl FilePlan {
     {
         &self.kept
     }
-}
-
-/// The files of a change by what becomes of them, in the order of paths.
-#[derive(Drop)]
-struct Parts<'o, 'n> {
-    ins: Vec<Claim<'n>>,
-    asides: Vec<Claim<'n>>,
-    removed: Vec<Claim<'o>>,
-    kept: Vec<Claim<'o>>,
-}
-
-/// The files that come and those that go.
-fn parts_of<'o, 'n, T: Tree>(
-    alloc: Global,
-    tree: &mut T,
-    change: &Change<'_, 'o, 'n>,
-    coming: &[Claim<'n>],
-) -> Result<Parts<'o, 'n>, TreeFault>
-    requires claims { HasClaims change.now }
-    requires files { AreClaimsOf (members_of change.now.members.now) (map claim_seen coming.now) }
-    requires rising { IsRising (map (λ c. c.path) (map claim_seen coming.now)) }
-    ensures parts { IfOk result
-        (AreParts change.now (T.history tree.old) (map claim_seen coming.now)) }
-    ensures tree { OnlyReads TreeFault.Disk (T.history tree.old) (T.history tree.new)
-        (T.counts tree.old) (T.counts tree.new) result }
-{
-    let fates = fates_of(alloc, tree, change, coming)?;
-    let ins = claims_with(alloc, coming, &fates, Fate::GoesIn)?;
-    let asides = claims_with(alloc, coming, &fates, Fate::GoesAside)?;
-    let left = left_claims(alloc, change, &asides)?;
-    let stays = stays_of(alloc, tree, change, &left)?;
-    let removed = claims_where(alloc, &left, &stays, false)?;
-    let kept = claims_where(alloc, &left, &stays, true)?;
-    Ok(Parts {
-        ins,
-        asides,
-        removed,
-        kept,
-    })
 }
 
 /// The first two names after the change of which one is a folder of the other.

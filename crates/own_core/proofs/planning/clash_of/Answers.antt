@@ -9,7 +9,7 @@ use Rattle.list_order.specs.Sorted.{sorted_by}
 use Rattle.path_claims.specs.Claims.{claim_cmp, is_of_path}
 use Rattle.path_claims.specs.Seen.{claim_seen}
 use Rattle.path_claims.specs.declared.claim.Claim.{Claim}
-use Rattle.own_core.specs.Parts.{asides_of}
+use Rattle.file_fates.specs.Parts.{asides_of}
 use Rattle.file_fates.specs.Sides.{claims_after, claims_before}
 use Rattle.own_core.specs.WritesSeen.{HaveNamesBeside}
 use Rattle.file_fates.proofs.ChangeClaims.{after_sorted, before_sorted}

@@ -1,23 +1,17 @@
 -- The files that come and those that go, as the program holds them.
-use Rattle.std.specs.Prelude.{◌≡◌, ◌&&◌, ◌||◌, ◌++◌, ◌∷◌, [], ℕ, Bool, true, false, not, List, map, bytes_eq, is_some}
-use Rattle.std.specs.List.{filter, find, list_any}
+use Rattle.std.specs.Prelude.{◌≡◌, Bool, true, false, List, map}
+use Rattle.std.specs.List.{filter}
 use Rattle.base_core.specs.Tree.{TreeState}
-use Rattle.db_core.specs.Seen.{members_of}
-use Rattle.list_order.specs.ByteOrder.{bytes_cmp}
-use Rattle.list_order.specs.Sorted.{sorted_by}
-use Rattle.path_claims.specs.Claims.{PathClaim, is_of_path}
+use Rattle.path_claims.specs.Claims.{PathClaim}
 use Rattle.path_claims.specs.Seen.{claim_seen}
 use Rattle.change_files.specs.Fate as Fates
-use Rattle.change_files.specs.Fate.{aside_name, goes_aside, goes_in}
-use Rattle.change_files.specs.FilesAfter.{database_name, world_name}
-use Rattle.path_clashes.specs.Clash.{NameChange}
-use Rattle.file_fates.specs.ClaimEntries.{comes_at}
+use Rattle.change_files.specs.Fate.{goes_aside, goes_in}
 use Rattle.file_fates.specs.Fates.{claim_fate, is_fate, is_flag, marked_claims}
 use Rattle.file_fates.specs.Found.{AreByFiles}
 use Rattle.file_fates.specs.Going.{does_stay, is_left}
-use Rattle.file_fates.specs.Sides.{claims_after, claims_before, file_change_of}
+use Rattle.file_fates.specs.Sides.{claims_before, file_change_of}
 use Rattle.file_fates.specs.declared.change.Change.{Change}
-use Rattle.own_core.specs.declared.planning.Parts.{Parts}
+use Rattle.file_fates.specs.declared.parts.Parts.{Parts}
 
 -- the claims of files that go in, of those laid beside, and of paths removed and kept
 abbrev pub ins_of : Parts → List PathClaim
@@ -54,27 +48,3 @@ pub record AreParts (change : Change) (history : List TreeState) (coming : List 
       ≡ marked_claims (is_flag false) (left_claims_by change (asides_of parts)) stays
   pub kept : kept_of_parts parts
       ≡ marked_claims (is_flag true) (left_claims_by change (asides_of parts)) stays
-
--- ---- what the change does with names
-
--- the database, the world, the paths that members which come list, and the names beside others
-abbrev pub names_written_by : Change → Parts → List (List ℕ)
-names_written_by change parts =
-    database_name ∷ world_name ∷ [] ++ map (λ c. c.path)
-    (filter (λ c. comes_at (members_of change.members.now) c.member) (claims_after change))
-    ++ map (λ c. aside_name c.path) (asides_of parts)
-
--- a path that packages before list, that no package lists any more and where no file is kept
-abbrev pub is_let_go_by : Change → Parts → List ℕ → Bool
-is_let_go_by change parts name =
-    is_some (find (is_of_path name) (claims_before change))
-    && not (is_some (find (is_of_path name) (claims_after change))
-    || is_some (find (is_of_path name) (kept_of_parts parts)))
-
--- which names count as written and which are let go, as the search for clashes asks
-abbrev pub names_changed_by : Change → Parts → NameChange
-names_changed_by change parts = record {
-  counts_as_written = λ name.
-      list_any (bytes_eq name) (sorted_by bytes_cmp (names_written_by change parts));
-  lets_go = is_let_go_by change parts;
-}

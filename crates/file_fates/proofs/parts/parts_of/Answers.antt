@@ -10,12 +10,12 @@ use Rattle.file_fates.specs.ClaimEntries.{members_before}
 use Rattle.file_fates.specs.Fates.{claim_fate, fate_seen, is_fate, is_flag, marked_claims}
 use Rattle.file_fates.specs.Found.{AreByFiles}
 use Rattle.file_fates.specs.Going.{does_stay, is_left}
-use Rattle.own_core.specs.Parts.{left_claims_by}
+use Rattle.file_fates.specs.Parts.{left_claims_by}
 use Rattle.file_fates.specs.Sides.{claims_before, file_change_of}
 use Rattle.file_fates.specs.declared.fate.Fate.{Fate}
 use Rattle.path_claims.specs.declared.claim.Claim.{Claim}
-use Rattle.own_core.proofs.PlanParts.{files_kept, flags_len, marked_sorted, marks_len}
-use Rattle.own_core.proofs.planning.parts_of.Goals as goal
+use Rattle.file_fates.proofs.MarkedClaims.{files_kept, flags_len, marked_sorted, marks_len}
+use Rattle.file_fates.proofs.parts.parts_of.Goals as goal
 
 pub claims_with-requires : goal.claims_with-requires
 claims_with-requires g c = ap length c.deref.ensures.value ∙ marks_len fate_seen (claim_fate (file_change_of c.args.change.now)) _ c.args.coming.now c.in_ok-fates.fates.items c.in_ok-fates.ensures.fates

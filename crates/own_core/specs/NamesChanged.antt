@@ -1,0 +1,37 @@
+-- What a change does with names, by the parts of its files.
+use Rattle.std.specs.Prelude.{◌&&◌, ◌||◌, ◌++◌, ◌∷◌, [], ℕ, Bool, not, List, map, bytes_eq, is_some}
+use Rattle.std.specs.List.{filter, find, list_any}
+use Rattle.db_core.specs.Seen.{members_of}
+use Rattle.list_order.specs.ByteOrder.{bytes_cmp}
+use Rattle.list_order.specs.Sorted.{sorted_by}
+use Rattle.path_claims.specs.Claims.{is_of_path}
+use Rattle.change_files.specs.Fate.{aside_name}
+use Rattle.change_files.specs.FilesAfter.{database_name, world_name}
+use Rattle.path_clashes.specs.Clash.{NameChange}
+use Rattle.file_fates.specs.ClaimEntries.{comes_at}
+use Rattle.file_fates.specs.Parts.{asides_of, kept_of_parts}
+use Rattle.file_fates.specs.Sides.{claims_after, claims_before}
+use Rattle.file_fates.specs.declared.change.Change.{Change}
+use Rattle.file_fates.specs.declared.parts.Parts.{Parts}
+
+-- the database, the world, the paths that members which come list, and the names beside others
+abbrev pub names_written_by : Change → Parts → List (List ℕ)
+names_written_by change parts =
+    database_name ∷ world_name ∷ [] ++ map (λ c. c.path)
+    (filter (λ c. comes_at (members_of change.members.now) c.member) (claims_after change))
+    ++ map (λ c. aside_name c.path) (asides_of parts)
+
+-- a path that packages before list, that no package lists any more and where no file is kept
+abbrev pub is_let_go_by : Change → Parts → List ℕ → Bool
+is_let_go_by change parts name =
+    is_some (find (is_of_path name) (claims_before change))
+    && not (is_some (find (is_of_path name) (claims_after change))
+    || is_some (find (is_of_path name) (kept_of_parts parts)))
+
+-- which names count as written and which are let go, as the search for clashes asks
+abbrev pub names_changed_by : Change → Parts → NameChange
+names_changed_by change parts = record {
+  counts_as_written = λ name.
+      list_any (bytes_eq name) (sorted_by bytes_cmp (names_written_by change parts));
+  lets_go = is_let_go_by change parts;
+}
