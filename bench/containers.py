@@ -141,15 +141,19 @@ def overlapping_names(text, starts):
     return b"ADB.pckg" + block(0, payload.done(payload.object([info, payload.array([folder])])))
 
 
-def overlapping_tags(count):
-    """An index of one package with so many tags of 4 MB, each of which begins four bytes behind the one before: its length is there."""
-    payload = Payload()
-    info = [payload.blob(b"a"), payload.blob(b"1"), payload.blob(bytes(32))] + [0] * 17
+def tags_that_overlap(payload, count):
+    """So many tags of 4 MB, each of which begins four bytes behind the one before: its length is there. So all are equal."""
     payload.pad(4)
     at = len(payload.bytes)
     payload.bytes += struct.pack("<I", 4 << 20) * (count + (1 << 20) + 1)
-    tags = payload.array([0xA0000000 | at + 4 * i for i in range(count)])
-    packages = payload.array([payload.object(info + [tags])])
+    return payload.array([0xA0000000 | at + 4 * i for i in range(count)])
+
+
+def overlapping_tags(count):
+    """An index of one package with so many tags that overlap."""
+    payload = Payload()
+    info = [payload.blob(b"a"), payload.blob(b"1"), payload.blob(bytes(32))] + [0] * 17
+    packages = payload.array([payload.object(info + [tags_that_overlap(payload, count)])])
     return b"ADB.indx" + block(0, payload.done(payload.object([0, packages])))
 
 
@@ -163,6 +167,13 @@ def shared_tags(size, places):
     payload = Payload()
     info = [payload.blob(b"a"), payload.blob(b"1")] + [0] * 18
     return package_of(payload, info + [payload.array([payload.blob(b"t" * size)] * places)])
+
+
+def package_of_overlapping_tags(count):
+    """A package with so many tags that overlap."""
+    payload = Payload()
+    info = [payload.blob(b"a"), payload.blob(b"1")] + [0] * 18
+    return package_of(payload, info + [tags_that_overlap(payload, count)])
 
 
 def write(path, *pieces):

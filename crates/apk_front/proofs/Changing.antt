@@ -164,6 +164,8 @@ module _ (command : CommandLine) (changes : effect_of command.applet ≡ Changes
         candidate = spoiled.candidate;
         comes = spoiled.comes;
         cause = spoiled.cause;
+        file = spoiled.file;
+        spoiled = spoiled.spoiled;
         refusal = refl;
       }),
     ),

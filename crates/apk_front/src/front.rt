@@ -40,8 +40,8 @@ pub fn apk<T: Tree, O: Sink, E: Sink>(
     // ---- what is answered, printed and left
 
     // The answer, the bytes of the two sinks and the files left are the outcome's, also where it
-    // is a refusal; or in its place stands a fault of the tree or of a sink, with its cause, or want
-    // of memory. Behind a sink's fault the files left are the outcome's all the same.
+    // is a refusal; or in its place stands a fault of the tree or of a sink, with its cause, or
+    // want of memory. Behind a sink's fault the files left are the outcome's all the same.
     ensures stated { IfObservable (T.history tree.old) (λ v.
         IsAnswerTo words.now (files_of v) (LeavesFiles (T.history tree.new))
         (HasCause (T.counts tree.old) (T.counts tree.new)) result
@@ -64,7 +64,8 @@ pub fn apk<T: Tree, O: Sink, E: Sink>(
 
     // On every tree: the answer and the bytes are what the specification gives for some listing,
     // some contents at each read, and the first clash of names among some files; or a package that
-    // comes is no longer what was tested. That these are the real ones of a file system is trusted.
+    // comes is no longer what was tested, and is told as bad as some file is that has its identity
+    // and other contents. That these are the real ones of a file system is trusted.
     ensures found { IsAnswerOf (IsFoundOutcome words.now) LeavesAny
         (HasCause (T.counts tree.old) (T.counts tree.new)) result
         (sink_change O.bytes O.counts out.old out.new)

@@ -1,4 +1,4 @@
--- A package that comes has the name and the version of its candidate.
+-- A package that comes has the identity, the name and the version of its candidate.
 use Rattle.std.proofs.Common.{◌≡◌, ℕ, zero, suc, Bool, true, false, cond, List, [], ◌∷◌, Contains, Option, Some, None, Result, Ok, Err, refl, sym, ap, subst, ◌∙◌, arith, true≢false}
 use Rattle.std.specs.Prelude.{if◌then◌else◌, is_some, not, option_map}
 use Rattle.std.specs.List.{cons_option, filter, find}
@@ -68,22 +68,22 @@ module _ (selected : List Candidate) where
   Comes m = is_coming m.member ≡ true → IsOfCandidate selected m.member
 
   module _ (c : Candidate) (inside : Contains selected c) where
-    of_coming : (pkg : ComingPackage) → c.name ≡ package_name pkg.value → selected_version c ≡ version_text pkg.value → Comes (coming_found pkg)
-    of_coming pkg name version coming = record { candidate = c; comes = inside; name = name; version = version }
+    of_coming : (pkg : ComingPackage) → is_same_id c.id pkg.id ≡ true → c.name ≡ package_name pkg.value → selected_version c ≡ version_text pkg.value → Comes (coming_found pkg)
+    of_coming pkg id name version coming = record { candidate = c; comes = inside; id = id; name = name; version = version }
 
-    by_tests : (p pkg : ComingPackage) (a b d : Bool) (e f g : Refusal) → bytes_eq c.name (package_name p.value) ≡ b → bytes_eq (selected_version c) (version_text p.value) ≡ d
+    by_tests : (p pkg : ComingPackage) (a b d : Bool) (e f g : Refusal) → is_same_id c.id p.id ≡ a → bytes_eq c.name (package_name p.value) ≡ b → bytes_eq (selected_version c) (version_text p.value) ≡ d
         → (if not a then Err e else if not b then Err f else if not d then Err g else Ok p) ≡ Ok pkg → Comes (coming_found pkg)
-    by_tests p pkg false b d e f g named versioned is = absurd (cc (is))
-    by_tests p pkg true false d e f g named versioned is = absurd (cc (is))
-    by_tests p pkg true true false e f g named versioned is = absurd (cc (is))
-    by_tests p pkg true true true e f g named versioned is =
+    by_tests p pkg false b d e f g identified named versioned is = absurd (cc (is))
+    by_tests p pkg true false d e f g identified named versioned is = absurd (cc (is))
+    by_tests p pkg true true false e f g identified named versioned is = absurd (cc (is))
+    by_tests p pkg true true true e f g identified named versioned is =
         subst (λ (q : ComingPackage). Comes (coming_found q)) (same_Ok p pkg is)
-        (of_coming p ((bytes_eq-Decides c.name (package_name p.value)).0 named) ((bytes_eq-Decides (selected_version c) (version_text p.value)).0 versioned))
+        (of_coming p identified ((bytes_eq-Decides c.name (package_name p.value)).0 named) ((bytes_eq-Decides (selected_version c) (version_text p.value)).0 versioned))
 
     by_fault : (file : List ℕ) (fault : Option Cause) (pkg : ComingPackage) → unless_package_bad c fault (package_in_file file) ≡ Ok pkg → Comes (coming_found pkg)
     by_fault file None pkg is =
         let p = package_in_file file in
-        by_tests p pkg (is_same_id c.id p.id) (bytes_eq c.name (package_name p.value)) (bytes_eq (selected_version c) (version_text p.value)) _ _ _ refl refl is
+        by_tests p pkg (is_same_id c.id p.id) (bytes_eq c.name (package_name p.value)) (bytes_eq (selected_version c) (version_text p.value)) _ _ _ refl refl refl is
     by_fault file (Some cause) pkg is = absurd (cc (is))
 
     by_file : (found : Option (List ℕ)) (pkg : ComingPackage) → package_found c found ≡ Ok pkg → Comes (coming_found pkg)

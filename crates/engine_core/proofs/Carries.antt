@@ -30,7 +30,7 @@ use Rattle.engine_core.proofs.Once.{once_both}
 use Rattle.change_laws.proofs.Leading.{acted_is}
 use Rattle.change_laws.proofs.Room.{room}
 use Rattle.change_outcome.specs.ChangeOutcome.{Actions, ChangeDone, ChangeWishes, actions_of, bytes_under, change_done, does_something, file_change, is_other_file, name_if_needed, new_records, unless_overflow, written_records}
-use Rattle.change_outcome.specs.MembersAfter.{MemberFound, candidates_that_come, contents_found}
+use Rattle.change_outcome.specs.MembersAfter.{MemberFound, candidates_that_come, contents_found, members_found}
 use Rattle.journal_core.specs.Recovery.{after_actions, intent_name}
 use Rattle.journal_core.specs.Staged.{HasRoomBeside, HasRoomToStage, IsEmptyStage, Staging, action_count, new_stage, with_staged}
 use Rattle.journal_intent.specs.IntentValue.{intent_of_lists, value_of_intent}
@@ -45,7 +45,10 @@ use Rattle.report_core.specs.declared.refusal.Refusal.{Refusal}
 use Rattle.report_core.specs.declared.refusal.Refusal.TheVariants.{PackageBad}
 use Rattle.root_names.specs.RootNames.{database_name, text_database_name, world_name}
 use Rattle.stage_files.specs.Carried.{IsCarriedTo}
-use Rattle.stage_files.specs.Sources.{HasFileOf, IsFileAt, StandForEach}
+use Rattle.stage_files.specs.Sources.{StandForEach}
+use Rattle.stage_files.specs.Spoiled.{HasSpoiledFile, IsSpoiledAt, IsSpoiledFile}
+use Rattle.package_test.specs.Tested.{IsTestedOf}
+use Rattle.package_test.specs.declared.package.TestedPackage.{TestedPackage}
 use Rattle.stage_files.specs.declared.writes.Source.{Source}
 use Rattle.stage_files.specs.declared.writes.Source.TheVariants.{Bytes, File, Link}
 use Rattle.stage_files.specs.declared.writes.StageFault.{StageFault}
@@ -60,6 +63,7 @@ use Rattle.engine_core.specs.declared.finishing.NewRecords.{NewRecords}
 use Rattle.engine_core.specs.declared.writes.RecordWrites.{RecordWrites}
 use Rattle.engine_core.proofs.Early.{comes_to_failure, comes_to_idle, comes_to_refusal, if_told, nothing_read}
 use Rattle.engine_core.proofs.Sources.{FilesAreRead, all_at, all_stand}
+use Rattle.engine_core.proofs.SpoiledPackages.{spoiled_package}
 
 -- ---- limits of the writer
 
@@ -159,34 +163,41 @@ module _ (history : List TreeState) (wishes : ChangeWishes) (p : Planned) (found
 contained : {X : Type 0} (P : X → Type 0) (xs : List X) (x : X) → All P xs → Contains xs x → P x
 contained P xs x all (k, less, is) = subst P is (all k x less)
 
--- the package of a file that is written comes
+-- the package of a file that is written comes, and it is the one that is spoiled
 module _ (history : List TreeState) (wishes : ChangeWishes) (p : Planned) (found : List MemberFound) (files : Files) (plan : IsPlanned history wishes p found files)
-    (writes : List StagedWrite) (rw : RecordWrites) (each : All (IsWriteBy (members_arrived p.arrived.now) (package_at p.arrived.now.arrivals.now) (writes_in p.plan.now.writes) rw) writes) where
-  given_no_file : (member : ℕ) (bytes : List ℕ) (s : Source) → HasBytes bytes s → IsFileAt member s → ⊥
-  given_no_file member bytes (Bytes own) has is = is
-  given_no_file member bytes (Link target) has is = is
-  given_no_file member bytes (File f) has is = has
+    (writes : List StagedWrite) (rw : RecordWrites) (each : All (IsWriteBy (members_arrived p.arrived.now) (package_at p.arrived.now.arrivals.now) (writes_in p.plan.now.writes) rw) writes) (member : ℕ) (cause : Cause) where
+  given_no_file : (bytes : List ℕ) (s : Source) → HasBytes bytes s → IsSpoiledAt member cause s → ⊥
+  given_no_file bytes (Bytes own) has is = is
+  given_no_file bytes (Link target) has is = is
+  given_no_file bytes (File f) has is = has
 
-  record_no_file : (member : ℕ) (name : List ℕ) (opt : Option (Bor (List ℕ))) (w : StagedWrite) → IsRecordOf name opt w → IsFileAt member w.source → ⊥
-  record_no_file member name None w is at = is
-  record_no_file member name (Some bytes) w is at = given_no_file member bytes.now w.source is.source at
+  record_no_file : (name : List ℕ) (opt : Option (Bor (List ℕ))) (w : StagedWrite) → IsRecordOf name opt w → IsSpoiledAt member cause w.source → ⊥
+  record_no_file name None w is at = is
+  record_no_file name (Some bytes) w is at = given_no_file bytes.now w.source is.source at
 
-  planned_at : (member : ℕ) (w : FileWrite) (s : Source) → IsSourceOfWrite (members_arrived p.arrived.now) (package_at p.arrived.now.arrivals.now) w s → IsFileAt member s → w.member ≡ member
-  planned_at member w (Bytes own) source at = absurd at
-  planned_at member w (Link target) source at = absurd at
-  planned_at member w (File f) source at = sym source.1.member ∙ at
+  abbrev Spoiled : ℕ → Type 0
+  Spoiled place = (pkg : TestedPackage) × (package_at p.arrived.now.arrivals.now place ≡ Some pkg)
+      × ((name tested : List ℕ) → IsTestedOf name tested pkg → (file : List ℕ) × IsSpoiledFile tested file cause)
 
-  by_write : (member : ℕ) (w : StagedWrite) → IsWriteBy (members_arrived p.arrived.now) (package_at p.arrived.now.arrivals.now) (writes_in p.plan.now.writes) rw w → IsFileAt member w.source
-      → (m : Member) × (slice_get (members_arrived p.arrived.now) member ≡ Some m) × (is_coming m ≡ true)
-  by_write member w (inl f) at =
+  planned_at : (w : FileWrite) (s : Source) → IsSourceOfWrite (members_arrived p.arrived.now) (package_at p.arrived.now.arrivals.now) w s → IsSpoiledAt member cause s → (w.member ≡ member) × Spoiled w.member
+  planned_at w (Bytes own) source at = absurd at
+  planned_at w (Link target) source at = absurd at
+  planned_at w (File f) source at = (sym source.1.member ∙ at.0, (f.package.now, source.1.read, at.1))
+
+  abbrev ComesSpoiled : Type 0
+  ComesSpoiled = (m : Member) × (slice_get (members_arrived p.arrived.now) member ≡ Some m) × (is_coming m ≡ true) × Spoiled member
+
+  by_write : (w : StagedWrite) → IsWriteBy (members_arrived p.arrived.now) (package_at p.arrived.now.arrivals.now) (writes_in p.plan.now.writes) rw w → IsSpoiledAt member cause w.source → ComesSpoiled
+  by_write w (inl f) at =
       let of = contained (IsOfComingFile (members_arrived p.arrived.now)) (writes_in p.plan.now.writes) f.file plan.sources f.planned_file in
-      (of.member, subst (λ (n : ℕ). slice_get (members_arrived p.arrived.now) n ≡ Some of.member) (planned_at member f.file w.source f.source at) of.at, of.comes)
-  by_write member w (inr (inl r)) at = absurd (record_no_file member rw.database_name.now rw.database w r at)
-  by_write member w (inr (inr r)) at = absurd (record_no_file member rw.world_name.now rw.world w r at)
+      let (here, spoiled) = planned_at f.file w.source f.source at in
+      (of.member, subst (λ (n : ℕ). slice_get (members_arrived p.arrived.now) n ≡ Some of.member) here of.at, of.comes, subst Spoiled here spoiled)
+  by_write w (inr (inl r)) at = absurd (record_no_file rw.database_name.now rw.database w r at)
+  by_write w (inr (inr r)) at = absurd (record_no_file rw.world_name.now rw.world w r at)
 
-  pub file_comes : (member : ℕ) → HasFileOf member writes → (m : Member) × (slice_get (members_arrived p.arrived.now) member ≡ Some m) × (is_coming m ≡ true)
-  file_comes member has =
-      by_write member has.write
+  pub file_comes : HasSpoiledFile member cause writes → ComesSpoiled
+  file_comes has =
+      by_write has.write
       (all_at (IsWriteBy (members_arrived p.arrived.now) (package_at p.arrived.now.arrivals.now) (writes_in p.plan.now.writes) rw) writes has.number has.write each has.at) has.is
 
 module _ (history : List TreeState) (wishes : ChangeWishes) (p : Planned) (found : List MemberFound) (files : Files) (own : NewRecords)
@@ -352,7 +363,7 @@ module _ (history : List TreeState) (wishes : ChangeWishes) (p : Planned) (found
       proper = proper_where;
     }
 
-    module _ (member : ℕ) (cause : Cause) (has : HasFileOf member writes) (fault : StageFault) (is_bad : fault ≡ Stages.Bad member cause) (run : Carried (Err fault)) where
+    module _ (member : ℕ) (cause : Cause) (has : HasSpoiledFile member cause writes) (fault : StageFault) (is_bad : fault ≡ Stages.Bad member cause) (run : Carried (Err fault)) where
       unseen : IfObservable history (λ v. v.names intent_name ≡ None → IsEmptyStage (files_of v) → ⊥)
       unseen = if_told history _ _ run (λ v carried absent empty. never (sym is_bad ∙ (carried absent empty).err))
         where
@@ -365,9 +376,11 @@ module _ (history : List TreeState) (wishes : ChangeWishes) (p : Planned) (found
       pub bad_comes : (refused : Refused) → IsRefusedPackage (members_arrived p.arrived.now) member cause refused → ComesTo candidates wanted history now before after (Err refused)
       bad_comes (IsRefused refusal) bad =
           let (m, at, told) = bad in
-          let coming = file_comes history wishes p found files ready.plan writes rw ready.each member has in
+          let coming = file_comes history wishes p found files ready.plan writes rw ready.each member cause has in
           let same : coming.0 ≡ m = (let one = coming.1 in cc) in
-          let candidate = ready.plan.arrived.read.coming member m (subst (λ (ms : List Member). slice_get ms member ≡ Some m) ready.plan.arrived.members at) (subst (λ (x : Member). is_coming x ≡ true) same coming.2) in
+          let place : slice_get (members_found found) member ≡ Some m = subst (λ (ms : List Member). slice_get ms member ≡ Some m) ready.plan.arrived.members at in
+          let candidate = ready.plan.arrived.read.coming member m place (subst (λ (x : Member). is_coming x ≡ true) same coming.2) in
+          let spoiled = spoiled_package candidates history _ _ found member m coming.3.0 cause ready.plan.arrived.read.read place coming.3.1 candidate coming.3.2 in
           record {
             told = inr (record {
               unseen = unseen;
@@ -375,6 +388,8 @@ module _ (history : List TreeState) (wishes : ChangeWishes) (p : Planned) (found
               candidate = candidate.candidate;
               comes = candidate.comes;
               cause = cause;
+              file = spoiled.0;
+              spoiled = spoiled.1;
               refusal = ap (λ (r : Refusal). Err (IsRefused r)) (told ∙ (λ i. PackageBad (sym candidate.name i) (sym candidate.version i) cause));
             });
             run = run_where (Err (IsRefused refusal));

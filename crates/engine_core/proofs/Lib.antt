@@ -9,6 +9,7 @@ pub mod WholeRuns
 pub mod Members
 pub mod Reporting
 pub mod Sources
+pub mod SpoiledPackages
 pub mod Carries
 pub mod Elements
 pub mod Written

@@ -1,16 +1,19 @@
 -- What a run of a change answers, and what it makes of the tree.
-use Rattle.std.specs.Prelude.{◌≡◌, ◌⊎◌, ℕ, true, List, [], Option, None, Result, Ok, Err, OnOk, IfErr, Contains}
+use Rattle.std.specs.Prelude.{◌≡◌, ◌⊎◌, ℕ, true, List, [], Option, Some, None, Result, Ok, Err, OnOk, IfErr, Contains}
 use Rattle.base_core.specs.Calls.{IfObservable}
 use Rattle.base_core.specs.Faults.{Counts}
 use Rattle.base_core.specs.Files.{Files}
 use Rattle.base_core.specs.Tree.{TreeState, files_of}
 use Rattle.base_core.specs.declared.cause.Cause.{Cause}
+use Rattle.base_core.specs.declared.cause.Cause.TheVariants.{HashDiffers}
+use Rattle.base_core.specs.declared.cause.Digest.{Digest}
 use Rattle.change_inputs.specs.Answers.{AgreesUnlessDisk}
 use Rattle.change_inputs.specs.Chains.{and_then}
 use Rattle.change_inputs.specs.declared.root.Refused.{Refused}
 use Rattle.change_inputs.specs.declared.root.Refused.TheVariants.{Disk, Refusal as IsRefused}
 use Rattle.change_outcome.specs.ChangeOutcome.{ChangeDone}
 use Rattle.change_outcome.specs.MembersAfter.{candidates_that_come}
+use Rattle.change_outcome.specs.PackageFiles.{package_in_file, unless_different}
 use Rattle.command_core.specs.Command.{CommandLine}
 use Rattle.journal_core.specs.Recovery.{intent_name}
 use Rattle.journal_core.specs.Staged.{HasRoomToStage, IsEmptyStage}
@@ -18,6 +21,7 @@ use Rattle.make_info.specs.Reads.{Reads}
 use Rattle.package_files.specs.Runs.{AreObserved}
 use Rattle.package_changes.specs.Changes.{selected_version}
 use Rattle.path_clashes.specs.Clash.{NamePair}
+use Rattle.pkg_core.specs.Whole.{package_fault}
 use Rattle.pool_core.specs.Candidates.{Candidate}
 use Rattle.report_core.specs.declared.refusal.Refusal.{Refusal}
 use Rattle.report_core.specs.declared.refusal.Refusal.TheVariants.{PackageBad}
@@ -41,9 +45,18 @@ abbrev pub DoesCommit : Result ChangeDone Refusal → Type 0
 DoesCommit (Ok done) = done.commits ≡ true
 DoesCommit (Err refusal) = ⊥
 
+-- By its identity, name and version the file is the package of the candidate. But as a package it is
+-- refused with this cause: a digest of contents differs.
+pub record IsSpoiledPackage (c : Candidate) (file : List ℕ) (cause : Cause) : Type 0 where
+  pub agrees : unless_different c (package_in_file file) ≡ Ok (package_in_file file)
+  pub wanted : Digest
+  pub found : Digest
+  pub digest : cause ≡ HashDiffers wanted found
+  pub fault : package_fault file ≡ Some cause
+
 -- The file of a package that comes is not what it was when it was tested, as its contents are read
--- once more. Where a tree shows its files, and neither an intent is read nor anything waits, this
--- does not happen.
+-- once more: what is told of it is told of some file with other contents. Where a tree shows its
+-- files, and neither an intent is read nor anything waits, this does not happen.
 pub record IsFoundChanged (coming : List Candidate) (wanted : Result ChangeDone Refusal)
     (history : List TreeState) (result : Result (List ℕ) Refused) : Type 0 where
   pub unseen : IfObservable history (λ v. v.names intent_name ≡ None → IsEmptyStage (files_of v)
@@ -52,6 +65,8 @@ pub record IsFoundChanged (coming : List Candidate) (wanted : Result ChangeDone 
   pub candidate : Candidate
   pub comes : Contains coming candidate
   pub cause : Cause
+  pub file : List ℕ
+  pub spoiled : IsSpoiledPackage candidate file cause
   pub refusal : result
       ≡ Err (IsRefused (PackageBad candidate.name (selected_version candidate) cause))
 

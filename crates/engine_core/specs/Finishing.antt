@@ -1,5 +1,5 @@
 -- What is known of a change as it is made ready.
-use Rattle.std.specs.Prelude.{◌≡◌, ℕ, Bool, true, false, not, List, All, Contains, Option, Some, None, bytes_eq, slice_get}
+use Rattle.std.specs.Prelude.{◌≡◌, ℕ, Bool, true, false, not, List, All, Contains, Option, Some, None, IfSome, bytes_eq, slice_get}
 use Rattle.std.specs.Option.{option_copied}
 use Rattle.adb_rules.specs.Reserved.{is_reserved}
 use Rattle.arrivals.specs.Arrivals.{AreMembersRead, arrivals_seen}
@@ -10,7 +10,7 @@ use Rattle.change_files.specs.FileChange.{old_listings}
 use Rattle.change_files.specs.NamesAfter.{name_change}
 use Rattle.file_owners.specs.Replaces.{version_text}
 use Rattle.path_clashes.specs.Clash.{HasNoClash}
-use Rattle.pool_core.specs.Candidates.{Candidate}
+use Rattle.pool_core.specs.Candidates.{Candidate, is_same_id}
 use Rattle.change_inputs.specs.Inputs.{Inputs}
 use Rattle.change_laws.specs.Premises.{IsRootOfFiles}
 use Rattle.change_outcome.specs.ChangeOutcome.{ChangeWishes, file_change, is_other_file}
@@ -38,10 +38,11 @@ IsRootRead history inputs = IfObservable history (λ v. IsRootOfFiles (files_of 
 
 -- ---- the packages
 
--- one of these candidates has its name and version
+-- one of these candidates has its identity, its name and its version
 pub record IsOfCandidate (coming : List Candidate) (m : Member) : Type 0 where
   pub candidate : Candidate
   pub comes : Contains coming candidate
+  pub id : IfSome m.id (λ id. is_same_id candidate.id id ≡ true)
   pub name : candidate.name ≡ member_name m
   pub version : selected_version candidate ≡ version_text m.pkg
 

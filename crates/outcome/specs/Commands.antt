@@ -11,7 +11,7 @@ use Rattle.report_core.specs.declared.refusal.Refusal.TheVariants.{IntentBad, Pa
 use Rattle.command_core.specs.Command.{CommandLine}
 use Rattle.command_core.specs.declared.command.Applet.{Applet}
 use Rattle.command_core.specs.declared.command.Applet.TheVariants.{Adbdump, Demo, Info, Mkndx, Mkpkg, Verify, Version}
-use Rattle.engine_core.specs.ChangeRun.{coming_in}
+use Rattle.engine_core.specs.ChangeRun.{IsSpoiledPackage, coming_in}
 use Rattle.engine_core.specs.Changed.{selected_for}
 use Rattle.outcome.specs.Changing.{change}
 use Rattle.outcome.specs.Dump.{adbdump}
@@ -74,7 +74,8 @@ IsOutcomeOf (Ok command) files outcome =
 -- ---- over a tree whose files no contract knows, as a folder of the host
 
 -- The file of a package that comes is read once more when a change is carried out. Where it is not
--- what it was when it was tested, the change is refused.
+-- what it was when it was tested, the change is refused: with the cause of some file that has the
+-- same values, and other contents.
 pub record IsSpoiled (command : CommandLine) (read : Reads) (given : Given) (files : Files)
     (outcome : Outcome) : Type 0 where
   pub changes : effect_of command.applet ≡ Changes
@@ -82,6 +83,8 @@ pub record IsSpoiled (command : CommandLine) (read : Reads) (given : Given) (fil
   pub candidate : Candidate
   pub comes : Contains (coming_in (selected_for command read given.chosen)) candidate
   pub cause : Cause
+  pub file : List ℕ
+  pub spoiled : IsSpoiledPackage candidate file cause
   pub refusal : outcome
       ≡ just_refusal files (PackageBad candidate.name (selected_version candidate) cause)
 

@@ -1,18 +1,25 @@
 -- A file of a package is read while others come to wait.
-use Rattle.std.proofs.Common.{◌≡◌, ℕ, List, Result, Ok, Err, refl, ap, sym, subst, ◌∙◌, Bor}
+use Rattle.std.proofs.Common.{◌≡◌, ℕ, List, Option, Some, None, Result, Ok, Err, refl, ap, sym, subst, ◌∙◌, Bor}
 use Rattle.std.specs.Prelude.{◌∷◌, drop, OnOk}
+use Rattle.adb_schema.specs.Soundness.{payload_in, root_value}
+use Rattle.adb_tables.specs.declared.tables.Which.TheVariants.{Package}
+use Rattle.adb_view.specs.Plain.{Plain}
 use Rattle.base_core.specs.Files.{Files}
-use Rattle.package_test.specs.Tested.{IsTestedOf, tested_len, tested_name}
-use Rattle.piece_reader.specs.FileReading.{IsFileReading, len_around_file, package_of_file}
+use Rattle.base_core.specs.declared.cause.Cause.{Cause}
+use Rattle.package_test.specs.Tested.{IsTestedOf, tested_len, tested_name, tested_value}
+use Rattle.piece_reader.specs.FileReading.{HaveOtherDigest, IsFileReading, file_due, kept_fault, len_around_file, package_of_file}
 use Rattle.piece_reader.specs.declared.one_file.FilePieces.{FilePieces}
-use Rattle.pkg_core.specs.Contents.{bytes_of_file, contents_in}
-use Rattle.pkg_core.specs.Whole.{files_in_file}
+use Rattle.pkg_core.specs.Contents.{Expected, bytes_of_file, contents_in, expected_contents}
+use Rattle.pkg_core.specs.Opened.{expected_with_positions}
+use Rattle.pkg_core.specs.Whole.{files_in_file, package_fault}
 use Rattle.stage_files.specs.Reading.{IsReadingIn}
 use Rattle.stage_files.specs.Sources.{AreListedFor, IsFileSource, MayStandFor, StandsForBytes}
+use Rattle.stage_files.specs.Spoiled.{IsSpoiledFile, IsSpoiledSince}
 use Rattle.stage_files.specs.declared.writes.PackagedFile.{PackagedFile}
 use Rattle.stage_files.specs.declared.writes.Source.{Source}
 use Rattle.stage_files.specs.declared.writes.Source.TheVariants.{Bytes, File, Link}
 use Rattle.file_guard.specs.AsListed.{link_to}
+use Rattle.stage_files.proofs.OtherContents.{spoiled}
 
 pub source_reading : (files : Files) (f : PackagedFile) (bytes : List ℕ) (file : FilePieces)
     → package_of_file file ≡ tested_name f.package.now → len_around_file file ≡ tested_len f.package.now
@@ -51,3 +58,18 @@ link_listed source target Waits is waits = (link_to target.now, subst (λ (x : S
 pub file_listed : {A E : Type 0} (r : Result A E) (source : Source) (f : PackagedFile) (Waits : List ℕ → Type 0) → source ≡ File f → OnOk r ((bytes : List ℕ) × AreListedFor f bytes × Waits bytes) → OnOk r ((bytes : List ℕ) × MayStandFor source bytes × Waits bytes)
 file_listed (Ok x) source f Waits is found = (found.0, subst (λ (s : Source). MayStandFor s found.0) (sym is) found.1, found.2)
 file_listed (Err e) source f Waits is found = tt
+
+-- ---- a package that was changed since
+
+spoiled_by_due : (tested : List ℕ) (f : PackagedFile) (cause : Cause) (bytes : List ℕ) (due : Option Expected) → package_fault tested ≡ None → expected_with_positions f.folder f.file (expected_contents (root_value Package (payload_in tested))) ≡ due → HaveOtherDigest due bytes cause
+    → (file : List ℕ) × IsSpoiledFile tested file cause
+spoiled_by_due tested f cause bytes None sound due other = absurd other
+spoiled_by_due tested f cause bytes (Some e) sound due other = spoiled tested f.folder f.file e bytes cause sound due other.0 other.1
+
+pub spoiled_since : (f : PackagedFile) (file : FilePieces) (cause : Cause) → file_due file ≡ expected_with_positions f.folder f.file (expected_contents (tested_value f.package.now))
+    → ((name pkg : List ℕ) → IsTestedOf name pkg f.package.now → IsFileReading file pkg (bytes_of_file f.folder f.file (contents_in (files_in_file pkg))))
+    → (kept_fault file ≡ None → (bytes : List ℕ) × HaveOtherDigest (file_due file) bytes cause) → IsSpoiledSince f cause
+spoiled_since f file cause due reading bad name tested is =
+    let (bytes, other) = bad (reading name tested is).0 in
+    spoiled_by_due tested f cause bytes (file_due file) is.sound
+    (sym (due ∙ ap (λ (v : Plain). expected_with_positions f.folder f.file (expected_contents v)) is.value)) other

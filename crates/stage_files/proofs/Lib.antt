@@ -1,4 +1,5 @@
 pub mod OneFile
 pub mod Each
+pub mod OtherContents
 pub mod Files
 pub mod Carried

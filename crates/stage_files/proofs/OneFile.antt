@@ -1,5 +1,5 @@
 -- A file is staged piece by piece.
-use Rattle.std.proofs.Common.{◌≡◌, ℕ, Bool, true, false, List, [], ◌∷◌, ◌++◌, Option, Some, None, Result, Ok, Err, refl, sym, ap, subst, ◌∙◌, append_assoc, arith}
+use Rattle.std.proofs.Common.{◌≡◌, ◌⊎◌, inl, inr, ℕ, Bool, true, false, List, [], ◌∷◌, ◌++◌, Option, Some, None, Result, Ok, Err, refl, sym, ap, subst, ◌∙◌, append_assoc, arith}
 use Rattle.std.proofs.lemmas.List.{append-nil}
 use Rattle.std.specs.Prelude.{OnErr, OnOk, IfErr}
 use Rattle.std.specs.Result.{IsErrAnd}
@@ -7,11 +7,12 @@ use Rattle.base_core.specs.Calls.{HasNow, IfObservable}
 use Rattle.base_core.specs.Faults.{Counts, GoesOn, IsNoFault}
 use Rattle.base_core.specs.Files.{Files}
 use Rattle.base_core.specs.Tree.{TreeState, files_of}
+use Rattle.base_core.specs.declared.cause.Cause.{Cause}
 use Rattle.journal_core.specs.Recovery.{is_staged}
 use Rattle.journal_core.specs.Staged.{HasRoomBeside, IsEmptyStage, Staging}
 use Rattle.journal_core.proofs.Chain.{by_now}
 use Rattle.journal_core.proofs.History.{History, now_map, now_since}
-use Rattle.piece_reader.specs.FileReading.{AreAsDue, ComesBehind, GivesBytes, HaveCome, IsFileReading, file_due, len_around_file, package_of_file}
+use Rattle.piece_reader.specs.FileReading.{AreAsDue, ComesBehind, GivesBytes, HaveCome, HaveOtherDigest, IsFileReading, file_due, kept_fault, len_around_file, package_of_file}
 use Rattle.piece_reader.specs.declared.piece.PieceFault.{PieceFault}
 use Rattle.piece_reader.specs.declared.piece.PieceFault.TheVariants.{Bad, Disk}
 use Rattle.piece_reader.specs.declared.one_file.FilePieces.{FilePieces}
@@ -182,6 +183,31 @@ module _ (start stage : Staging) (whole file next : FilePieces) (piece : List �
       let (so_far, came, half) = listed come contents v first staging in
       let behind = subst (λ (r : Result Bool PieceFault). ComesBehind file so_far piece r next) is (tested so_far came) in
       (so_far, subst (λ (d : Option Expected). AreAsDue d so_far) due behind.1, half)
+
+-- ---- a test that fails
+
+-- no test failed, and just some bytes came
+abbrev pub HasComeOn : FilePieces → FilePieces → Type 0
+HasComeOn whole file = HaveCome whole [] → kept_fault whole ≡ None → (so_far : List ℕ) × HaveCome file so_far × (kept_fault file ≡ None)
+
+pub come_first : (whole : FilePieces) → HasComeOn whole whole
+come_first whole come none = ([], come, none)
+
+module _ (whole file next : FilePieces) (piece : List ℕ) (result : Result Bool PieceFault) (has : HasComeOn whole file) (tested : (so_far : List ℕ) → HaveCome file so_far → ComesBehind file so_far piece result next) where
+  pub come_more : result ≡ Ok true → HasComeOn whole next
+  come_more is come none =
+      let (so_far, came, kept) = has come none in
+      let behind = subst (λ (r : Result Bool PieceFault). ComesBehind file so_far piece r next) is (tested so_far came) in
+      (so_far ++ piece, behind.1, behind.0)
+
+  pub come_bad : file_due file ≡ file_due whole → HaveCome whole [] → kept_fault whole ≡ None → (cause : Cause) → result ≡ Err (Bad cause) → (bytes : List ℕ) × HaveOtherDigest (file_due whole) bytes cause
+  come_bad due come none cause is =
+      let (so_far, came, kept) = has come none in
+      by so_far kept (subst (λ (r : Result Bool PieceFault). ComesBehind file so_far piece r next) is (tested so_far came))
+    where
+      by : (so_far : List ℕ) → kept_fault file ≡ None → (kept_fault file ≡ Some cause) ⊎ HaveOtherDigest (file_due file) (so_far ++ piece) cause → (bytes : List ℕ) × HaveOtherDigest (file_due whole) bytes cause
+      by so_far kept (inl before) = absurd (let e : None ≡ Some cause = sym kept ∙ before in cc (e))
+      by so_far kept (inr other) = (so_far ++ piece, subst (λ (d : Option Expected). HaveOtherDigest d (so_far ++ piece) cause) due other)
 
 -- ---- the first and the last call
 

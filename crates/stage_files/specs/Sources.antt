@@ -41,12 +41,6 @@ MayStandFor (Bytes own) bytes = bytes ≡ own.now
 MayStandFor (Link target) bytes = bytes ≡ link_to target.now
 MayStandFor (File f) bytes = AreListedFor f bytes
 
--- it is a file of the package at this place
-abbrev pub IsFileAt : ℕ → Source → Type 0
-IsFileAt member (Bytes own) = ⊥
-IsFileAt member (Link target) = ⊥
-IsFileAt member (File f) = f.member ≡ member
-
 -- ---- those of several writes
 
 -- the source of each stands for the bytes at its place
@@ -63,10 +57,3 @@ MayStandForEach [] (bytes ∷ others) = ⊥
 MayStandForEach (w ∷ writes) [] = ⊥
 MayStandForEach (w ∷ writes) (bytes ∷ others) =
     MayStandFor w.source bytes × MayStandForEach writes others
-
--- one of them is a file of the package at this place
-pub record HasFileOf (member : ℕ) (writes : List StagedWrite) : Type 0 where
-  pub number : ℕ
-  pub write : StagedWrite
-  pub at : slice_get writes number ≡ Some write
-  pub is : IsFileAt member write.source

@@ -8,7 +8,8 @@ ghost use Rattle.base_core.specs.declared.cause.Cause.{Cause};
 ghost use Rattle.journal_core.specs.Recovery.{after_actions, intent_name};
 ghost use Rattle.journal_core.specs.Staged.{HasRoomBeside, IsEmptyStage, new_stage, with_staged};
 ghost use Rattle.stage_files.specs.Carried.{IsCarriedTo};
-ghost use Rattle.stage_files.specs.Sources.{HasFileOf, MayStandForEach, StandForEach};
+ghost use Rattle.stage_files.specs.Sources.{MayStandForEach, StandForEach};
+ghost use Rattle.stage_files.specs.Spoiled.{HasSpoiledFile};
 ghost use Rattle.stage_files.specs.declared.writes.StageFault.TheVariants.{Bad, Disk as DiskFault};
 ghost use Rattle.stage_run.specs.StageRun.{IsStageRun, IsStageRunDone, IsStaging, IsStagingRun};
 
@@ -66,7 +67,7 @@ fn stage_each<T: Tree>(
         → OnOk result ((contents : List (List ℕ)) × MayStandForEach writes.now contents
         × IsStaging stage.new contents None v first (T.history tree.new)) }
     ensures bad { (member : ℕ) (cause : Cause) → IsErrOf result (Bad member cause)
-        → HasFileOf member writes.now }
+        → HasSpoiledFile member cause writes.now }
     ensures view { OnOk result (stage.new ≡ record stage.old { staged = length writes.now }) }
     ensures goes_on { GoesOn (T.counts tree.old) (T.counts tree.new) }
     ensures disk { IsErrOf result DiskFault → HasCause (T.counts tree.old) (T.counts tree.new) }
@@ -126,8 +127,10 @@ pub fn carry_out<T: Tree>(
         ⊎ ((contents : List (List ℕ)) × MayStandForEach writes.now contents
         × IsStageRun (after_actions stage.old.intent (with_staged 1 contents (files_of v)))
         v (T.history tree.old) (T.history tree.new)))) }
+    // A package is told as bad only with the cause of some file that has the values of the one that
+    // was tested, and other contents.
     ensures bad { (member : ℕ) (cause : Cause) → IsErrOf result (Bad member cause)
-        → HasFileOf member writes.now }
+        → HasSpoiledFile member cause writes.now }
     ensures goes_on { GoesOn (T.counts tree.old) (T.counts tree.new) }
     ensures disk { IsErrOf result DiskFault → HasCause (T.counts tree.old) (T.counts tree.new) }
     ensures kept { OnOk result (IsNoFault (T.counts tree.old) (T.counts tree.new)) }

@@ -3,8 +3,9 @@ ghost use Rattle.std.specs.Prelude.{◌≡◌, ◌<◌, ◌+◌, ◌++◌, ◌�
 ghost use Rattle.base_core.specs.Faults.{GoesOn, HasCause, IsNoFault};
 ghost use Rattle.base_core.specs.Tree.{TreeState, files_of};
 ghost use Rattle.journal_core.specs.Staged.{HasRoomBeside};
-ghost use Rattle.piece_reader.specs.FileReading.{AreAsDue, HaveCome, file_due};
-ghost use Rattle.piece_reader.specs.declared.piece.PieceFault.TheVariants.{Disk as DiskFault};
+ghost use Rattle.base_core.specs.declared.cause.Cause.{Cause};
+ghost use Rattle.piece_reader.specs.FileReading.{AreAsDue, HaveCome, HaveOtherDigest, file_due, kept_fault};
+ghost use Rattle.piece_reader.specs.declared.piece.PieceFault.TheVariants.{Bad, Disk as DiskFault};
 ghost use Rattle.stage_files.specs.Reading.{IsReadingIn};
 ghost use Rattle.stage_run.specs.StageRun.{IsStaging, IsStagingRun};
 
@@ -48,6 +49,11 @@ pub(crate) fn stage_file<T: Tree>(
         (first : List TreeState) → IsStaging stage.old contents None v first (T.history tree.old)
         → OnOk result ((bytes : List ℕ) × AreAsDue (file_due file.entry) bytes
         × IsStaging stage.new (contents ++ bytes ∷ []) None v first (T.history tree.new)) }
+    // Where it was not refused from the start: a test fails only of bytes that have the size that
+    // is due, and another digest.
+    ensures bad { HaveCome file.entry [] → kept_fault file.entry ≡ None → (cause : Cause)
+        → IsErrOf result (Bad cause)
+        → (bytes : List ℕ) × HaveOtherDigest (file_due file.entry) bytes cause }
     ensures view { OnOk result (stage.new ≡ record stage.old { staged = stage.old.staged + 1 }) }
     ensures goes_on { GoesOn (T.counts tree.old) (T.counts tree.new) }
     ensures disk { IsErrOf result DiskFault → HasCause (T.counts tree.old) (T.counts tree.new) }

@@ -2,7 +2,8 @@
 //! piece, and the change is carried through.
 //!
 //! `carry_out` does this from a stage that is begun on. The contracts cite `Sources` (which bytes a
-//! source stands for) and `Carried` of `specs/`, and `StageRun` of `stage_run`.
+//! source stands for), `Carried` and `Spoiled` (what is told of a package that was changed since)
+//! of `specs/`, and `StageRun` of `stage_run`.
 #![tactic(auto)]
 
 mod carrying;

@@ -7,7 +7,8 @@ ghost use Rattle.base_core.specs.Files.{Files};
 ghost use Rattle.base_core.specs.Tree.{TreeState, files_of};
 ghost use Rattle.base_core.specs.declared.cause.Cause.{Cause};
 ghost use Rattle.journal_core.specs.Staged.{HasRoomBeside};
-ghost use Rattle.stage_files.specs.Sources.{AreListedFor, IsFileAt, IsFileSource, MayStandFor, StandsForBytes};
+ghost use Rattle.stage_files.specs.Sources.{AreListedFor, IsFileSource, MayStandFor, StandsForBytes};
+ghost use Rattle.stage_files.specs.Spoiled.{IsSpoiledAt, IsSpoiledSince};
 ghost use Rattle.stage_files.specs.declared.writes.StageFault.TheVariants.{Bad, Disk as DiskFault};
 ghost use Rattle.stage_run.specs.StageRun.{IsStaging, IsStagingRun};
 
@@ -59,8 +60,9 @@ fn stage_packaged<T: Tree>(
         → IsStaging stage.old contents None v first (T.history tree.old)
         → OnOk result ((bytes : List ℕ) × AreListedFor f.now bytes
         × IsStaging stage.new (contents ++ bytes ∷ []) None v first (T.history tree.new)) }
+    // The cause is that of a file with the values of the one that was tested.
     ensures bad { (member : ℕ) (cause : Cause) → IsErrOf result (Bad member cause)
-        → f.now.member ≡ member }
+        → (f.now.member ≡ member) × IsSpoiledSince f.now cause }
     ensures view { OnOk result (stage.new ≡ record stage.old { staged = stage.old.staged + 1 }) }
     ensures goes_on { GoesOn (T.counts tree.old) (T.counts tree.new) }
     ensures disk { IsErrOf result DiskFault → HasCause (T.counts tree.old) (T.counts tree.new) }
@@ -108,7 +110,7 @@ pub(crate) fn stage_write<T: Tree>(
         → OnOk result ((bytes : List ℕ) × MayStandFor source.now bytes
         × IsStaging stage.new (contents ++ bytes ∷ []) None v first (T.history tree.new)) }
     ensures bad { (member : ℕ) (cause : Cause) → IsErrOf result (Bad member cause)
-        → IsFileAt member source.now }
+        → IsSpoiledAt member cause source.now }
     ensures view { OnOk result (stage.new ≡ record stage.old { staged = stage.old.staged + 1 }) }
     ensures goes_on { GoesOn (T.counts tree.old) (T.counts tree.new) }
     ensures disk { IsErrOf result DiskFault → HasCause (T.counts tree.old) (T.counts tree.new) }

@@ -9,7 +9,7 @@ use Rattle.db_core.specs.Members.{Member}
 use Rattle.journal_core.specs.Staged.{new_stage}
 use Rattle.root_names.specs.RootNames.{text_database_name}
 use Rattle.stage_files.specs.Carried.{IsCarriedTo}
-use Rattle.stage_files.specs.Sources.{HasFileOf}
+use Rattle.stage_files.specs.Spoiled.{HasSpoiledFile}
 use Rattle.stage_files.specs.declared.writes.StagedWrite.{StagedWrite}
 use Rattle.engine_core.specs.Carrying.{ready_change}
 use Rattle.engine_core.specs.ChangeRun.{ComesTo}
@@ -103,8 +103,8 @@ refused_package-requires g c =
     let found = c.requires.plan.0 in
     let files = c.requires.plan.1 in
     let planned = c.requires.plan.2 in
-    let has = subst (λ (ws : List StagedWrite). HasFileOf c.in-Err-Bad.member ws) c.deref-2.ensures.value (c.in-Err-Bad.ensures.bad c.in-Err-Bad.member c.in-Err-Bad.cause (ap Err c.in-Err-Bad.field-0-is)) in
-    let coming = file_comes (g.T.Tree.history c.args.tree.now) (wishes_of c.args.command.now) c.args.planned.now found files planned c.in_ok-writes.writes.items c.record_writes_of-record_writes.result c.in_ok-writes.ensures.each c.in-Err-Bad.member has in
+    let has = subst (λ (ws : List StagedWrite). HasSpoiledFile c.in-Err-Bad.member c.in-Err-Bad.cause ws) c.deref-2.ensures.value (c.in-Err-Bad.ensures.bad c.in-Err-Bad.member c.in-Err-Bad.cause (ap Err c.in-Err-Bad.field-0-is)) in
+    let coming = file_comes (g.T.Tree.history c.args.tree.now) (wishes_of c.args.command.now) c.args.planned.now found files planned c.in_ok-writes.writes.items c.record_writes_of-record_writes.result c.in_ok-writes.ensures.each c.in-Err-Bad.member c.in-Err-Bad.cause has in
     within_length _ c.in-Err-Bad.member coming.0 coming.1
 
 pub returns-in-Err-Bad-clause-comes : goal.returns-in-Err-Bad-clause-comes
@@ -122,7 +122,7 @@ returns-in-Err-Bad-clause-comes g c = λ found files planned.
     let read : FilesAreRead (g.T.Tree.history c.args.tree.now) found (package_at c.args.planned.now.arrived.now.arrivals.now) = λ place pkg is. c.a_package_that_was_read_is_that_of_its_file.ensures.file _ _ _ found planned.arrived.read.read place pkg is in
     let is = fits_by (g.T.Tree.history c.args.tree.now) (wishes_of c.args.command.now) c.args.planned.now found files c.args.records.now c.record_writes_of-record_writes.result c.in_ok-writes.writes.items c.in_ok-removals.removals ready c.in_ok-names.names (c.in_ok-names.ensures ∙ ap (map write_name) c.deref.ensures.value) c.in_ok-stage.ensures.told in
     let commits = commits_by (g.T.Tree.history c.args.tree.now) (wishes_of c.args.command.now) c.args.planned.now found files c.args.records.now c.record_writes_of-record_writes.result c.in_ok-writes.writes.items c.in_ok-removals.removals ready c.in_ok-names.names (c.in_ok-names.ensures ∙ ap (map write_name) c.deref.ensures.value) false c.is_idle.result c.is_idle.ensures c.if-is_idle.false in
-    let has = subst (λ (ws : List StagedWrite). HasFileOf c.in-Err-Bad.member ws) c.deref-2.ensures.value (c.in-Err-Bad.ensures.bad c.in-Err-Bad.member c.in-Err-Bad.cause (ap Err c.in-Err-Bad.field-0-is)) in
+    let has = subst (λ (ws : List StagedWrite). HasSpoiledFile c.in-Err-Bad.member c.in-Err-Bad.cause ws) c.deref-2.ensures.value (c.in-Err-Bad.ensures.bad c.in-Err-Bad.member c.in-Err-Bad.cause (ap Err c.in-Err-Bad.field-0-is)) in
     bad_comes (g.T.Tree.history c.args.tree.now) (wishes_of c.args.command.now) c.args.planned.now found files c.args.records.now c.record_writes_of-record_writes.result c.in_ok-writes.writes.items c.in_ok-removals.removals ready is commits (g.T.Tree.history c.carry_out.new.tree) (g.T.Tree.counts c.args.tree.now) (g.T.Tree.counts c.carry_out.new.tree)
     (proper_shown (g.T.Tree.history c.args.tree.now) (wishes_of c.args.command.now) c.args.planned.now found files c.args.records.now c.record_writes_of-record_writes.result c.in_ok-writes.writes.items c.in_ok-removals.removals ready few c.in_ok-stage.stage new c.deref-2.result.now c.deref-2.ensures.value _ _ read c.in-Err-Bad.ensures.proper) c.in-Err-Bad.member c.in-Err-Bad.cause has c.in-Err-Bad.field-0 c.in-Err-Bad.field-0-is
     (where_shown (g.T.Tree.history c.args.tree.now) (wishes_of c.args.command.now) c.args.planned.now found files c.args.records.now c.record_writes_of-record_writes.result c.in_ok-writes.writes.items c.in_ok-removals.removals ready few c.in_ok-stage.stage new c.deref-2.result.now c.deref-2.ensures.value (λ v left. IsCarriedTo {A = Unit {0}} left v (g.T.Tree.history c.args.tree.now) (g.T.Tree.history c.carry_out.new.tree) (Err c.in-Err-Bad.field-0)) read c.in-Err-Bad.ensures.run) c.refused_package.result c.refused_package.ensures

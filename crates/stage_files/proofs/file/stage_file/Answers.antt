@@ -1,5 +1,6 @@
-use Rattle.std.proofs.Common.{ap, refl, sym, ◌∙◌, Ok}
-use Rattle.stage_files.proofs.OneFile.{begun_first, begun_listed, begun_more, begun_read, begun_run, goes_through, half_proper, if_disk, kept_through, listed_more, listed_whole, read_fails, read_more, read_proper, read_whole, same_bytes, same_history}
+use Rattle.std.proofs.Common.{ap, refl, sym, ◌∙◌, Ok, Err}
+use Rattle.piece_reader.specs.declared.piece.PieceFault.TheVariants.{Bad}
+use Rattle.stage_files.proofs.OneFile.{begun_first, begun_listed, begun_more, begun_read, begun_run, come_bad, come_first, come_more, goes_through, half_proper, if_disk, kept_through, listed_more, listed_whole, read_fails, read_more, read_proper, read_whole, same_bytes, same_fault, same_history}
 use Rattle.stage_files.proofs.file.stage_file.Goals as goal
 
 pub pieces-init : goal.pieces-init
@@ -8,6 +9,7 @@ pieces-init g c = record {
   begun = begun_first _ _ _ _ c.in_ok-begin_file.ensures.staging;
   read = begun_read _ _ _ _ _ c.in_ok-begin_file.ensures.staging;
   listed = begun_listed _ _ c.args.file _ _ c.in_ok-begin_file.ensures.staging;
+  come = come_first c.args.file;
   due = refl;
   goes_on = c.in_ok-begin_file.ensures.goes_on;
   kept = c.in_ok-begin_file.ensures.kept;
@@ -23,6 +25,11 @@ returns-in_err-next_piece-clause-good g c = λ contents v first bytes staging re
     if_disk c.from_residual-in_err-next_piece.result c.in_err-next_piece.field-0.0 c.from_residual-in_err-next_piece.ensures.1
     (read_fails c.args.stage.now c.pieces.stage c.args.file c.pieces.file c.next_piece.new.self c.next_piece.new.piece _ (g.T.Tree.history c.pieces.tree) (g.T.Tree.history c.args.tree.now) c.next_piece.result
     c.pieces.invariant.read c.next_piece.ensures.piece contents v first bytes staging reading c.in_err-next_piece.field-0.0 c.in_err-next_piece.was)
+
+pub returns-in_err-next_piece-clause-bad : goal.returns-in_err-next_piece-clause-bad
+returns-in_err-next_piece-clause-bad g c = λ come none cause is.
+    come_bad c.args.file c.pieces.file c.next_piece.new.self c.next_piece.new.piece c.next_piece.result c.pieces.invariant.come c.next_piece.ensures.tested c.pieces.invariant.due come none cause
+    (c.in_err-next_piece.was ∙ ap Err (same_fault c.from_residual-in_err-next_piece.result c.in_err-next_piece.field-0.0 (Bad cause) c.from_residual-in_err-next_piece.ensures.1 is))
 
 pub returns-in_err-next_piece-clause-proper : goal.returns-in_err-next_piece-clause-proper
 returns-in_err-next_piece-clause-proper g c =
@@ -41,6 +48,7 @@ pieces-preserved g c = record {
       c.pieces.invariant.listed c.next_piece.ensures.tested c.append_piece.new.stage (c.in_ok-next_piece.was ∙ ap Ok c.if-branch.true)
       (λ contents so_far v first staging. same_bytes _ contents so_far _ _ v first _ (sym c.bytes.ensures.bytes)
       (c.in_ok-append_piece.ensures.staging contents so_far v first (same_history _ _ _ _ _ _ _ c.in_ok-next_piece.ensures.tree.same staging)));
+  come = come_more c.args.file c.pieces.file c.next_piece.new.self c.next_piece.new.piece c.next_piece.result c.pieces.invariant.come c.next_piece.ensures.tested (c.in_ok-next_piece.was ∙ ap Ok c.if-branch.true);
   due = c.next_piece.ensures.due ∙ c.pieces.invariant.due;
   goes_on = goes_through _ _ _ (goes_through _ _ _ c.pieces.invariant.goes_on c.in_ok-next_piece.ensures.tree.goes_on) c.in_ok-append_piece.ensures.goes_on;
   kept = kept_through _ _ _ (kept_through _ _ _ c.pieces.invariant.kept c.in_ok-next_piece.ensures.tree.kept) c.in_ok-append_piece.ensures.kept;

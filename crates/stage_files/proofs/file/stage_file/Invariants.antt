@@ -1,7 +1,7 @@
 use Rattle.std.proofs.Common.{◌≡◌, true}
 use Rattle.base_core.specs.Faults.{GoesOn, IsNoFault}
 use Rattle.piece_reader.specs.FileReading.{bytes_left_of, file_due}
-use Rattle.stage_files.proofs.OneFile.{IsBegunOn, IsListedOn, IsProperOn, IsReadOn}
+use Rattle.stage_files.proofs.OneFile.{HasComeOn, IsBegunOn, IsListedOn, IsProperOn, IsReadOn}
 use Rattle.stage_files.proofs.file.stage_file.Given as goal
 
 abbrev pub invariant-pieces : goal.invariant-pieces
@@ -10,6 +10,7 @@ invariant-pieces g l = record {
   begun : IsBegunOn l.fn.stage l.stage (g.T.Tree.history l.fn.tree) (g.T.Tree.history l.tree);
   read : IsReadOn l.fn.stage l.stage l.fn.file l.file (g.T.Tree.history l.fn.tree) (g.T.Tree.history l.tree);
   listed : IsListedOn l.fn.stage l.stage l.fn.file l.file (g.T.Tree.history l.fn.tree) (g.T.Tree.history l.tree);
+  come : HasComeOn l.fn.file l.file;
   due : file_due l.file ≡ file_due l.fn.file;
   goes_on : GoesOn (g.T.Tree.counts l.fn.tree) (g.T.Tree.counts l.tree);
   kept : IsNoFault (g.T.Tree.counts l.fn.tree) (g.T.Tree.counts l.tree);
