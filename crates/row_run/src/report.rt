@@ -1,8 +1,9 @@
 //! A whole text of rows, and what is printed of each: that it passed, or what differs and where.
 use crate::run::run_row;
 use row_check::{Program, RowFault, add_number};
-use row_text::{Fault, read_rows};
+use row_text::{Fault, Row, read_rows};
 use std::alloc::{AllocError, Global};
+use tree_memory::MemoryTree;
 
 /// Runs all rows of a text, and adds a line for each. Answers whether the text is one of rows and
 /// none failed.
@@ -19,24 +20,47 @@ pub fn run_text<P: Program>(
             return Ok(false);
         }
     };
+    run_rows(alloc, program, &rows, report)
+}
+
+/// The same of rows that were read.
+fn run_rows<P: Program>(
+    alloc: Global,
+    program: &P,
+    rows: &[Row],
+    report: &mut Vec<u8>,
+) -> Result<bool, AllocError> {
     let mut left = Vec::new(alloc);
     let mut failed = 0u64;
-    for row in &rows {
-        let end = match run_row(alloc, program, row, &left) {
-            Ok(tree) => {
-                add_line(report, b"ok ", &row.name, b"")?;
-                Some(tree)
-            }
-            Err(fault) => {
-                failed = failed.saturating_add(1);
-                add_failure(report, &row.name, &fault)?;
-                None
-            }
-        };
+    for row in rows {
+        let end = run_and_report(alloc, program, row, &left, report)?;
+        if end.is_none() {
+            failed = failed.saturating_add(1);
+        }
         left.push(end)?;
     }
     add_counts(alloc, report, rows.len() as u64, failed)?;
     Ok(failed == 0)
+}
+
+/// Runs a row, and adds its line. Answers what it leaves; none where it fails.
+fn run_and_report<P: Program>(
+    alloc: Global,
+    program: &P,
+    row: &Row,
+    left: &[Option<MemoryTree>],
+    report: &mut Vec<u8>,
+) -> Result<Option<MemoryTree>, AllocError> {
+    match run_row(alloc, program, row, left) {
+        Ok(tree) => {
+            add_line(report, b"ok ", &row.name, b"")?;
+            Ok(Some(tree))
+        }
+        Err(fault) => {
+            add_failure(report, &row.name, &fault)?;
+            Ok(None)
+        }
+    }
 }
 
 // Adds the line that is no row, and why.

@@ -41,19 +41,37 @@ fn run_step<P: Program>(
     step: &Step,
     before: &MemoryTree,
 ) -> Result<MemoryTree, RowFault> {
+    let tree = planned_tree(alloc, step, before)?;
+    let run = run_once(alloc, program, step, tree, StreamEnds::NONE);
+    check_step(alloc, program, step, before, &run)?;
+    Ok(copy_of(alloc, &run.tree)?)
+}
+
+/// The tree that a command line finds, whose calls fail as it is planned.
+fn planned_tree(alloc: Global, step: &Step, before: &MemoryTree) -> Result<MemoryTree, RowFault> {
     let mut tree = copy_of(alloc, before)?;
     if let TreePlan::Fail(calls) = &step.tree {
         tree.fail_at(calls)?;
     }
-    let run = run_once(alloc, program, step, tree, StreamEnds::NONE);
-    check_run(alloc, program, step, before, &run)?;
+    Ok(tree)
+}
+
+/// All that is wanted of a command line is seen, also where it is run again with what goes wrong.
+fn check_step<P: Program>(
+    alloc: Global,
+    program: &P,
+    step: &Step,
+    before: &MemoryTree,
+    run: &Run,
+) -> Result<(), RowFault> {
+    check_run(alloc, program, step, before, run)?;
     if !matches!(&step.tree, TreePlan::Fail(_)) {
         check_images(alloc, step, &run.tree)?;
     }
     if is_swept(step) {
-        sweep(alloc, program, step, before, &run)?;
+        return sweep(alloc, program, step, before, run);
     }
-    Ok(copy_of(alloc, &run.tree)?)
+    Ok(())
 }
 
 /// Whether further runs are planned of a command line.
@@ -80,21 +98,7 @@ fn sweep<P: Program>(
         sides: &sides,
         again: &again,
     };
-    if let TreePlan::Each(sweeps) = &step.tree {
-        if sweeps.fail {
-            swept.fail_each(alloc)?;
-        }
-        if sweeps.stop {
-            swept.stop_each(alloc)?;
-        }
-    }
-    if step.out_plan.each {
-        swept.end_each(alloc, true)?;
-    }
-    if step.err_plan.each {
-        swept.end_each(alloc, false)?;
-    }
-    Ok(())
+    swept.run_all(alloc)
 }
 
 /// Runs the words of a command line.

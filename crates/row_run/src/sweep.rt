@@ -5,7 +5,7 @@ use row_check::{
     Found, Program, RowFault, Run, Sides, add_number, check_run, check_streams, compare,
     compare_numbers, copy_of, differs, images_of,
 };
-use row_text::Step;
+use row_text::{Step, TreePlan};
 use std::alloc::{AllocError, Global};
 use tree_memory::MemoryTree;
 
@@ -31,52 +31,96 @@ pub(crate) struct Swept<'a, P: Program> {
     pub(crate) again: &'a Run,
 }
 
+/// What is seen of a run: its status and its two streams.
+#[derive(Clone, Copy)]
+struct Seen<'s> {
+    status: u64,
+    out: &'s [u8],
+    err: &'s [u8],
+}
+
 impl<'a, P: Program> Swept<'a, P> {
+    /// Makes the runs that are planned.
+    pub(crate) fn run_all(&self, alloc: Global) -> Result<(), RowFault> {
+        if let TreePlan::Each(sweeps) = &self.step.tree {
+            if sweeps.fail {
+                self.fail_each(alloc)?;
+            }
+            if sweeps.stop {
+                self.stop_each(alloc)?;
+            }
+        }
+        if self.step.out_plan.each {
+            self.end_each(alloc, true)?;
+        }
+        if self.step.err_plan.each {
+            self.end_each(alloc, false)?;
+        }
+        Ok(())
+    }
+
     /// Lets each call fail in turn. What is left, and what a crash leaves of it, has the files of
     /// before or of behind, and the same command line goes on from there.
-    pub(crate) fn fail_each(&self, alloc: Global) -> Result<(), RowFault> {
+    fn fail_each(&self, alloc: Global) -> Result<(), RowFault> {
         for call in 1..MOST_CALLS {
-            let mut tree = copy_of(alloc, self.before)?;
-            tree.fail_at(&[call])?;
-            let failed = run_once(alloc, self.program, self.step, tree, StreamEnds::NONE);
+            let failed = self.run_failing(alloc, call)?;
             if failed.tree.calls() < call {
-                return check_run(alloc, self.program, self.step, self.before, &failed);
+                return self.check_whole(alloc, &failed);
             }
             self.check_fault(alloc, call, &failed)?;
             self.look(alloc, call, &failed.tree)?;
-            let Run { mut tree, .. } = failed;
-            tree.fail_at(&[])?;
-            let place = at_call(alloc, call, b", what is left")?;
-            let copy = copy_of(alloc, &tree)?;
-            let found = self
-                .sides
-                .find(alloc, self.program, self.step, copy, &place)?;
-            self.go_on(alloc, call, found, tree)?;
+            self.go_on_from(alloc, call, failed)?;
         }
         Err(self.too_many(alloc))
     }
 
+    /// Runs the command line with one call failing.
+    fn run_failing(&self, alloc: Global, call: u64) -> Result<Run, RowFault> {
+        let mut tree = copy_of(alloc, self.before)?;
+        tree.fail_at(&[call])?;
+        Ok(self.run_over(alloc, tree))
+    }
+
     /// Stops behind each call in turn. A crash then leaves the files of before or of behind, the
     /// latter are seen, and the same command line goes on from what is left.
-    pub(crate) fn stop_each(&self, alloc: Global) -> Result<(), RowFault> {
+    fn stop_each(&self, alloc: Global) -> Result<(), RowFault> {
         let mut new_seen = false;
         for calls in 0..MOST_CALLS {
-            let mut tree = copy_of(alloc, self.before)?;
-            tree.stop_after(calls);
-            let cut = run_once(alloc, self.program, self.step, tree, StreamEnds::NONE);
+            let cut = self.run_stopped(alloc, calls)?;
             if cut.tree.calls() <= calls {
-                let changes = !self.sides.are_alike(alloc)?;
-                if changes && !new_seen {
-                    let what: &[u8] = b"no stop leaves the files of behind";
-                    return Err(differs(alloc, self.step.line, &[what]));
-                }
-                return check_run(alloc, self.program, self.step, self.before, &cut);
+                return self.check_end_of_stops(alloc, new_seen, &cut);
             }
             self.check_fault(alloc, calls, &cut)?;
             let seen = self.look(alloc, calls, &cut.tree)?;
             new_seen = new_seen || seen;
         }
         Err(self.too_many(alloc))
+    }
+
+    /// Runs the command line with all calls failing behind so many.
+    fn run_stopped(&self, alloc: Global, calls: u64) -> Result<Run, RowFault> {
+        let mut tree = copy_of(alloc, self.before)?;
+        tree.stop_after(calls);
+        Ok(self.run_over(alloc, tree))
+    }
+
+    /// The last run is whole, and a stop before it left the files of behind where these are others.
+    fn check_end_of_stops(&self, alloc: Global, new_seen: bool, run: &Run) -> Result<(), RowFault> {
+        if !new_seen && !self.sides.are_alike(alloc)? {
+            let what: &[u8] = b"no stop leaves the files of behind";
+            return Err(differs(alloc, self.step.line, &[what]));
+        }
+        self.check_whole(alloc, run)
+    }
+
+    /// Runs the command line over a tree.
+    fn run_over(&self, alloc: Global, tree: MemoryTree) -> Run {
+        run_once(alloc, self.program, self.step, tree, StreamEnds::NONE)
+    }
+
+    /// All that is wanted of a run is seen.
+    fn check_whole(&self, alloc: Global, run: &Run) -> Result<(), RowFault> {
+        check_run(alloc, self.program, self.step, self.before, run)
     }
 
     /// Told where a command line makes more calls than are swept.
@@ -86,11 +130,27 @@ impl<'a, P: Program> Swept<'a, P> {
 
     /// A run whose tree failed says so, and nothing else.
     fn check_fault(&self, alloc: Global, call: u64, run: &Run) -> Result<(), RowFault> {
-        let line = self.step.line;
         let what = at_call(alloc, call, b", what is seen")?;
-        compare_numbers(alloc, line, &what, u64::from(run.status), TREE_FAULT)?;
-        compare(alloc, line, &what, run.out.bytes(), b"")?;
-        compare(alloc, line, &what, run.err.bytes(), TREE_FAULT_TEXT)
+        let wanted = Seen {
+            status: TREE_FAULT,
+            out: b"",
+            err: TREE_FAULT_TEXT,
+        };
+        self.check_seen(alloc, &what, run, wanted)
+    }
+
+    /// Compares what is seen of a run with what is wanted.
+    fn check_seen(
+        &self,
+        alloc: Global,
+        what: &[u8],
+        run: &Run,
+        wanted: Seen<'_>,
+    ) -> Result<(), RowFault> {
+        let line = self.step.line;
+        compare_numbers(alloc, line, what, u64::from(run.status), wanted.status)?;
+        compare(alloc, line, what, run.out.bytes(), wanted.out)?;
+        compare(alloc, line, what, run.err.bytes(), wanted.err)
     }
 
     /// Each image that a crash may leave has the files of before or of behind, and the command line
@@ -98,32 +158,54 @@ impl<'a, P: Program> Swept<'a, P> {
     fn look(&self, alloc: Global, call: u64, tree: &MemoryTree) -> Result<bool, RowFault> {
         let mut new_seen = false;
         for choice in 0..images_of(tree) {
-            let image = tree.pick_image(alloc, choice)?;
             let place = at_image(alloc, call, choice)?;
-            let copy = copy_of(alloc, &image)?;
-            let found = self
-                .sides
-                .find(alloc, self.program, self.step, copy, &place)?;
-            self.go_on(alloc, call, found, image)?;
+            let image = tree.pick_image(alloc, choice)?;
+            let found = self.follow(alloc, call, image, &place)?;
             new_seen = new_seen || found.after;
         }
         Ok(new_seen)
     }
 
+    /// What a run leaves whose call failed has the files of before or of behind, and the command
+    /// line goes on from there.
+    fn go_on_from(&self, alloc: Global, call: u64, failed: Run) -> Result<(), RowFault> {
+        let place = at_call(alloc, call, b", what is left")?;
+        let Run { mut tree, .. } = failed;
+        tree.fail_at(&[])?;
+        self.follow(alloc, call, tree, &place)?;
+        Ok(())
+    }
+
+    /// Which files a tree has, from which the command line goes on.
+    fn follow(
+        &self,
+        alloc: Global,
+        call: u64,
+        tree: MemoryTree,
+        place: &[u8],
+    ) -> Result<Found, RowFault> {
+        let copy = copy_of(alloc, &tree)?;
+        let found = self
+            .sides
+            .find(alloc, self.program, self.step, copy, place)?;
+        let second = self.run_over(alloc, tree);
+        self.check_second(alloc, call, found, &second)?;
+        Ok(found)
+    }
+
     /// A second run ends as the row says where it finds the files of before, and else as one does
     /// that finds what the row leaves.
-    fn go_on(
+    fn check_second(
         &self,
         alloc: Global,
         call: u64,
         found: Found,
-        tree: MemoryTree,
+        second: &Run,
     ) -> Result<(), RowFault> {
-        let second = run_once(alloc, self.program, self.step, tree, StreamEnds::NONE);
         if found.before {
-            check_streams(alloc, self.step, &second)?;
+            check_streams(alloc, self.step, second)?;
         } else {
-            self.check_again(alloc, call, &second)?;
+            self.check_again(alloc, call, second)?;
         }
         self.sides
             .check_images(alloc, self.program, self.step, &second.tree)
@@ -132,45 +214,51 @@ impl<'a, P: Program> Swept<'a, P> {
     /// Compares a second run, behind a recovery, with the wanted one: its status and what it
     /// prints.
     fn check_again(&self, alloc: Global, call: u64, second: &Run) -> Result<(), RowFault> {
-        let line = self.step.line;
         let what = at_call(alloc, call, b" and a second run, what is seen")?;
-        let (found, wanted) = (u64::from(second.status), u64::from(self.again.status));
-        compare_numbers(alloc, line, &what, found, wanted)?;
-        compare(
-            alloc,
-            line,
-            &what,
-            second.out.bytes(),
-            self.again.out.bytes(),
-        )?;
-        compare(
-            alloc,
-            line,
-            &what,
-            second.err.bytes(),
-            self.again.err.bytes(),
-        )
+        let wanted = Seen {
+            status: u64::from(self.again.status),
+            out: self.again.out.bytes(),
+            err: self.again.err.bytes(),
+        };
+        self.check_seen(alloc, &what, second, wanted)
     }
 
     /// Lets a stream end behind each number of bytes in turn. It has these bytes then, and the
     /// files are those of behind.
-    pub(crate) fn end_each(&self, alloc: Global, is_out: bool) -> Result<(), RowFault> {
+    fn end_each(&self, alloc: Global, is_out: bool) -> Result<(), RowFault> {
         let whole = wanted_text(self.step, is_out);
         for count in 0..whole.len() {
-            let ends = StreamEnds {
-                out: if is_out { Some(count) } else { None },
-                err: if is_out { None } else { Some(count) },
-            };
-            let tree = copy_of(alloc, self.before)?;
-            let cut = run_once(alloc, self.program, self.step, tree, ends);
-            let what = at_end(alloc, count as u64)?;
-            let line = self.step.line;
-            compare_numbers(alloc, line, &what, u64::from(cut.status), STREAM_FAULT)?;
-            compare(alloc, line, &what, seen_text(&cut, is_out), &whole[..count])?;
-            self.sides
-                .check_images(alloc, self.program, self.step, &cut.tree)?;
+            self.end_after(alloc, is_out, &whole[..count])?;
         }
         Ok(())
+    }
+
+    /// Lets a stream end behind these bytes.
+    fn end_after(&self, alloc: Global, is_out: bool, bytes: &[u8]) -> Result<(), RowFault> {
+        let count = bytes.len();
+        let ends = StreamEnds {
+            out: if is_out { Some(count) } else { None },
+            err: if is_out { None } else { Some(count) },
+        };
+        let tree = copy_of(alloc, self.before)?;
+        let cut = run_once(alloc, self.program, self.step, tree, ends);
+        self.check_end(alloc, is_out, bytes, &cut)
+    }
+
+    /// The stream that ended has these bytes, and the files are those of behind.
+    fn check_end(
+        &self,
+        alloc: Global,
+        is_out: bool,
+        bytes: &[u8],
+        cut: &Run,
+    ) -> Result<(), RowFault> {
+        let what = at_end(alloc, bytes.len() as u64)?;
+        let line = self.step.line;
+        compare_numbers(alloc, line, &what, u64::from(cut.status), STREAM_FAULT)?;
+        compare(alloc, line, &what, seen_text(cut, is_out), bytes)?;
+        self.sides
+            .check_images(alloc, self.program, self.step, &cut.tree)
     }
 }
 

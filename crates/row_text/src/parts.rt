@@ -4,7 +4,15 @@ use crate::reader::{Form, Reader, Target, first_word};
 use crate::row::{Content, NamedFile, SinkPlan, Sweeps, TreePlan, Trouble};
 use crate::words::{add_hex, number};
 use base_core::Name;
+use row_lines::value_named;
 use std::alloc::Global;
+
+#[rattlefmt::skip]
+const FORMS: [(&[u8], Form); 3] = [
+    (b"text", Form::Text),
+    (b"hex", Form::Hex),
+    (b"dump", Form::Dump),
+];
 
 /// Files.
 impl Reader {
@@ -121,11 +129,9 @@ pub(crate) fn name_of(alloc: Global, path: &[u8]) -> Result<Name, Trouble> {
 
 /// How a file's lines are read: as text, as hexadecimal digits, or as a dump text.
 fn form_of(word: &[u8]) -> Result<Form, Trouble> {
-    match word {
-        b"text" => Ok(Form::Text),
-        b"hex" => Ok(Form::Hex),
-        b"dump" => Ok(Form::Dump),
-        _ => Err(Trouble::UnknownWord),
+    match value_named(&FORMS, word) {
+        Some(form) => Ok(form),
+        None => Err(Trouble::UnknownWord),
     }
 }
 

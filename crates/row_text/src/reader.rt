@@ -3,6 +3,7 @@
 use crate::parts::{add_line, name_of, number_at_most};
 use crate::row::{Fault, Row, SinkPlan, Step, TreePlan, Trouble};
 use crate::words::{number, words_of};
+use row_lines::value_named;
 use std::alloc::{AllocError, Global};
 
 /// What the next line of text belongs to.
@@ -24,6 +25,43 @@ pub(crate) enum Form {
     Hex,
     Dump,
 }
+
+/// What a line says that begins with a word.
+#[derive(Clone, Copy)]
+enum Word {
+    Row,
+    From,
+    In,
+    File,
+    Then,
+    Names,
+    Status,
+    Calls,
+    Writes,
+    Reads,
+    Fail,
+    Stop,
+    Out,
+    Err,
+}
+
+#[rattlefmt::skip]
+const WORDS: [(&[u8], Word); 14] = [
+    (b"row", Word::Row),
+    (b"from", Word::From),
+    (b"in", Word::In),
+    (b"file", Word::File),
+    (b"then", Word::Then),
+    (b"names", Word::Names),
+    (b"status", Word::Status),
+    (b"calls", Word::Calls),
+    (b"writes", Word::Writes),
+    (b"reads", Word::Reads),
+    (b"fail", Word::Fail),
+    (b"stop", Word::Stop),
+    (b"out", Word::Out),
+    (b"err", Word::Err),
+];
 
 /// A text that is read.
 #[derive(Drop)]
@@ -119,33 +157,31 @@ impl Reader {
         }
     }
 
-    /// Reads a line that begins with a word and says something of a row or of files.
+    /// Reads a line that begins with a word.
     fn read_words(&mut self, line: &[u8]) -> Result<(), Trouble> {
         let (word, rest) = first_word(line);
         self.target = Target::Nothing;
-        match word {
-            b"row" => self.begin_row(rest),
-            b"from" => self.begin_with(rest),
-            b"in" => self.keep_in_memory(rest),
-            b"file" => self.add_given(rest),
-            b"then" => self.add_wanted(rest),
-            b"names" => self.add_names(rest),
-            _ => self.read_numbers(word, rest),
+        match value_named(&WORDS, word) {
+            Some(word) => self.read_word(word, rest),
+            None => Err(Trouble::UnknownWord),
         }
     }
 
-    /// Reads a line that gives counts or plans failures.
-    fn read_numbers(&mut self, word: &[u8], rest: &[u8]) -> Result<(), Trouble> {
+    /// Reads what stands behind the word of a line.
+    fn read_word(&mut self, word: Word, rest: &[u8]) -> Result<(), Trouble> {
         match word {
-            b"status" => self.add_status(number(rest)?),
-            b"calls" => self.add_calls(number(rest)?),
-            b"writes" => self.add_writes(number(rest)?),
-            b"reads" => self.add_reads(number_at_most(rest)?),
-            b"fail" => self.plan_failures(rest),
-            b"stop" => self.plan_stops(rest),
-            b"out" => self.plan_out(rest),
-            b"err" => self.plan_err(rest),
-            _ => Err(Trouble::UnknownWord),
+            Word::Row => self.begin_row(rest),
+            Word::From => self.begin_with(rest),
+            Word::In => self.keep_in_memory(rest),
+            Word::File => self.add_given(rest),
+            Word::Then => self.add_wanted(rest),
+            Word::Names => self.add_names(rest),
+            Word::Fail => self.plan_failures(rest),
+            Word::Stop => self.plan_stops(rest),
+            Word::Out => self.plan_out(rest),
+            Word::Err => self.plan_err(rest),
+            Word::Reads => self.add_count(word, number_at_most(rest)),
+            Word::Status | Word::Calls | Word::Writes => self.add_count(word, number(rest)),
         }
     }
 }
@@ -291,36 +327,19 @@ impl Reader {
         add_line(&mut step.err, piece)
     }
 
-    /// The exit status that is wanted.
-    fn add_status(&mut self, number: u64) -> Result<(), Trouble> {
+    /// A count that is wanted: the exit status, how many calls there are of the tree, how many of
+    /// them write, or the most bytes that one read may ask for.
+    fn add_count(&mut self, word: Word, number: Result<u64, Trouble>) -> Result<(), Trouble> {
+        let number = number?;
         let Some(step) = &mut self.step else {
             return Err(Trouble::NoCommand);
         };
-        set_once(&mut step.status, number)
-    }
-
-    /// How many calls of the tree are wanted.
-    fn add_calls(&mut self, number: u64) -> Result<(), Trouble> {
-        let Some(step) = &mut self.step else {
-            return Err(Trouble::NoCommand);
-        };
-        set_once(&mut step.calls, number)
-    }
-
-    /// How many of them write.
-    fn add_writes(&mut self, number: u64) -> Result<(), Trouble> {
-        let Some(step) = &mut self.step else {
-            return Err(Trouble::NoCommand);
-        };
-        set_once(&mut step.writes, number)
-    }
-
-    /// The most bytes that one read may ask for.
-    fn add_reads(&mut self, number: u64) -> Result<(), Trouble> {
-        let Some(step) = &mut self.step else {
-            return Err(Trouble::NoCommand);
-        };
-        set_once(&mut step.reads, number)
+        match word {
+            Word::Status => set_once(&mut step.status, number),
+            Word::Calls => set_once(&mut step.calls, number),
+            Word::Writes => set_once(&mut step.writes, number),
+            _ => set_once(&mut step.reads, number),
+        }
     }
 
     /// All names that there are, in byte order.

@@ -7,8 +7,8 @@ use row_lines::word_at;
 use std::alloc::{AllocError, Global};
 use tree_memory::MemoryTree;
 
-/// More calls than a change or a recovery makes.
-const CALLS: u64 = 80;
+/// More runs than there are pairs of a call of a recovery and one of a second recovery.
+const RUNS: u64 = 6400;
 
 /// The place of the first file in a row.
 const FILES: usize = 3;
@@ -29,13 +29,12 @@ enum Recovered {
 }
 
 /// How many recovered trees have the old files, how many the new ones, and how many others, or
-/// other ones behind a second recovery; and whether the last planned failure came.
+/// other ones behind a second recovery.
 #[derive(Clone, Copy)]
 struct Tally {
     old: u64,
     new: u64,
     other: u64,
-    fails: bool,
 }
 
 impl Tally {
@@ -45,7 +44,6 @@ impl Tally {
             old: 0,
             new: 0,
             other: 0,
-            fails: false,
         }
     }
 
@@ -57,13 +55,6 @@ impl Tally {
             Recovered::New => tally.new = tally.new.saturating_add(1),
             Recovered::Other => tally.other = tally.other.saturating_add(1),
         }
-        tally
-    }
-
-    /// Notes whether a recovery failed.
-    fn that_fails(self, fails: bool) -> Tally {
-        let mut tally = self;
-        tally.fails = fails;
         tally
     }
 
@@ -221,6 +212,29 @@ struct Failing {
     second: u64,
 }
 
+impl Failing {
+    /// The numbers behind these, if there are any: the second recovery fails at each of its calls,
+    /// for each call of the first one.
+    fn next(self, run: Recoveries) -> Option<Failing> {
+        let mut next = self;
+        if run.second_failed {
+            next.second = next.second.saturating_add(1);
+            return Some(next);
+        }
+        next.first = next.first.saturating_add(1);
+        next.second = 1;
+        if run.first_failed { Some(next) } else { None }
+    }
+}
+
+/// Whether two recoveries of a change failed, and what a third one left.
+#[derive(Clone, Copy)]
+struct Recoveries {
+    first_failed: bool,
+    second_failed: bool,
+    found: Recovered,
+}
+
 /// Answers `fault CHANGE CALL (NAME BYTES)..`: how far a change comes whose call with this number
 /// fails, and what a third recovery leaves, behind one and a second that fail, each at each of its
 /// calls.
@@ -232,7 +246,7 @@ pub fn add_fault(alloc: Global, words: &Words, answer: &mut Vec<u8>) -> Result<(
         return answer.extend_from_slice(b"no change");
     };
     add_failed_change(alloc, words, change, answer)?;
-    tally_of_first(alloc, words, change, &wanted)?.add_to(alloc, answer)
+    tally_of_faults(alloc, words, change, &wanted)?.add_to(alloc, answer)
 }
 
 /// Runs the change on a tree whose call with this number fails.
@@ -260,87 +274,40 @@ fn run_failing(
     run_change(alloc, change, tree)
 }
 
-/// With each call of the first recovery failing.
-fn tally_of_first(
+/// What a third recovery leaves, behind each call of a first and of a second one that fails.
+fn tally_of_faults(
     alloc: Global,
     words: &Words,
     change: StagedChange,
     wanted: &Wanted,
 ) -> Result<Tally, AllocError> {
-    let call = long_at(words, 2);
+    let mut failing = Failing {
+        call: long_at(words, 2),
+        first: 1,
+        second: 1,
+    };
     let mut tally = Tally::none();
-    for first in 1..CALLS {
-        let failing = Failing {
-            call,
-            first,
-            second: 1,
-        };
-        tally = tally_of_second(alloc, words, change, wanted, failing, tally)?;
-        if !tally.fails {
+    for _ in 0..RUNS {
+        let run = run_and_recover(alloc, words, change, wanted, failing)?;
+        tally = tally.with(run.found);
+        let Some(next) = failing.next(run) else {
             break;
-        }
+        };
+        failing = next;
     }
     Ok(tally)
 }
 
-/// With each call of a second recovery failing; whether the first one failed is kept.
-fn tally_of_second(
-    alloc: Global,
-    words: &Words,
-    change: StagedChange,
-    wanted: &Wanted,
-    failing: Failing,
-    tally: Tally,
-) -> Result<Tally, AllocError> {
-    let mut tally = tally;
-    for second in 1..CALLS {
-        let failing = Failing {
-            call: failing.call,
-            first: failing.first,
-            second,
-        };
-        tally = tally_of_third(alloc, words, change, wanted, failing, tally)?;
-        if !tally.fails {
-            break;
-        }
-    }
-    let fails = first_fails(alloc, words, change, failing)?;
-    Ok(tally.that_fails(fails))
-}
-
-/// Whether the first recovery fails.
-fn first_fails(
-    alloc: Global,
-    words: &Words,
-    change: StagedChange,
-    failing: Failing,
-) -> Result<bool, AllocError> {
-    let mut tree = tree_of(alloc, words, FILES)?;
-    run_and_recover(alloc, change, &mut tree, failing)
-}
-
-/// Whether the recovery of a change that failed fails too.
+/// Runs the change on the files of a row, and recovers three times.
 fn run_and_recover(
     alloc: Global,
-    change: StagedChange,
-    tree: &mut MemoryTree,
-    failing: Failing,
-) -> Result<bool, AllocError> {
-    run_failing(alloc, change, tree, failing.call)?;
-    recovery_fails(alloc, tree, failing.first)
-}
-
-/// With what the third recovery leaves; whether the second one failed is kept.
-fn tally_of_third(
-    alloc: Global,
     words: &Words,
     change: StagedChange,
     wanted: &Wanted,
     failing: Failing,
-    tally: Tally,
-) -> Result<Tally, AllocError> {
+) -> Result<Recoveries, AllocError> {
     let mut tree = tree_of(alloc, words, FILES)?;
-    recover_thrice(alloc, change, wanted, &mut tree, failing, tally)
+    recover_thrice(alloc, change, wanted, &mut tree, failing)
 }
 
 /// Recovers three times, where a call of each of the first two fails.
@@ -350,12 +317,16 @@ fn recover_thrice(
     wanted: &Wanted,
     tree: &mut MemoryTree,
     failing: Failing,
-    tally: Tally,
-) -> Result<Tally, AllocError> {
-    run_and_recover(alloc, change, tree, failing)?;
-    let fails = recovery_fails(alloc, tree, failing.second)?;
+) -> Result<Recoveries, AllocError> {
+    run_failing(alloc, change, tree, failing.call)?;
+    let first_failed = recovery_fails(alloc, tree, failing.first)?;
+    let second_failed = recovery_fails(alloc, tree, failing.second)?;
     let found = found_in(alloc, wanted, tree, failing.second)?;
-    Ok(tally.with(found).that_fails(fails))
+    Ok(Recoveries {
+        first_failed,
+        second_failed,
+        found,
+    })
 }
 
 /// Whether the recovery of a tree fails where its call with this number does.
