@@ -2,7 +2,7 @@
 //! which bytes were tested to have one is kept, so that of the texts there that are equal few are
 //! looked at.
 
-ghost use Rattle.std.specs.Prelude.{◌≡◌, ◌≤◌, ◌+◌, [], All, length, take, drop, IfSome, OnOk};
+ghost use Rattle.std.specs.Prelude.{◌≡◌, ◌≤◌, ◌+◌, ℕ, List, [], All, length, take, drop, IfOk, IfSome, OnOk};
 ghost use Rattle.std.specs.Bool.{OnTrue};
 ghost use Rattle.adb_copy.specs.Known.{HasPeriod, AreEqualUnder, IsPhaseOf};
 ghost use Rattle.adb_tables.specs.Values.{text_in, value_at};
@@ -72,6 +72,9 @@ pub struct Overlaps {
     words: BTreeMap<(usize, usize), u32>,
     /// Where a text begins, by the word that it has in the draft and by its stretch.
     places: BTreeMap<(u32, usize), usize>,
+    /// The last range that was found with two texts, by how far apart they begin, and the length
+    /// and the stretch of the one in front.
+    repeats: BTreeMap<(usize, usize, usize), usize>,
 }
 
 impl Overlaps {
@@ -84,6 +87,7 @@ impl Overlaps {
             latest: BTreeMap::new(alloc),
             words: BTreeMap::new(alloc),
             places: BTreeMap::new(alloc),
+            repeats: BTreeMap::new(alloc),
         }
     }
 
@@ -99,6 +103,76 @@ impl Overlaps {
         let kept = *self.words.get(&(index, range.phase_of(text)?))?;
         let same = range.shows_equal(text_place(adb, Val::of(kept))?, text);
         if same { Some(kept) } else { None }
+    }
+
+    /// Whether the texts of two words are equal. Where a range shows it, no byte is looked at.
+    pub(crate) fn find_equal(
+        &mut self,
+        adb: Adb<'_>,
+        kept: Val,
+        word: Val,
+    ) -> Result<bool, AllocError>
+        requires { All (HasPeriod (payload_of adb)) self.old.ranges.items }
+        ensures ranges { OnOk result
+            (All (HasPeriod (payload_of adb.entry)) self.new.ranges.items) }
+        ensures equal { IfOk result (λ same. OnTrue same
+            (text_in (value_at (payload_of adb.entry) Kinds.Text kept)
+            ≡ text_in (value_at (payload_of adb.entry) Kinds.Text word))) }
+    {
+        let (Some(first), Some(second)) = (text_place(adb, kept), text_place(adb, word)) else {
+            return Ok(false);
+        };
+        match self.range_with(adb, first, second)? {
+            Some(range) => Ok(range.shows_equal(first, second)),
+            None => Ok(false),
+        }
+    }
+
+    /// A range with two texts, if they are equal: one that is kept, or else the one around them.
+    fn range_with(
+        &mut self,
+        adb: Adb<'_>,
+        first: TextPlace,
+        second: TextPlace,
+    ) -> Result<Option<PeriodicRange>, AllocError>
+        requires first { first.from + first.len ≤ length (payload_of adb) }
+        requires second { second.from + second.len ≤ length (payload_of adb) }
+        requires ranges { All (HasPeriod (payload_of adb)) self.old.ranges.items }
+        ensures ranges { OnOk result
+            (All (HasPeriod (payload_of adb.entry)) self.new.ranges.items) }
+        ensures range { IfOk result
+            (λ range. IfSome range (HasPeriod (payload_of adb.entry))) }
+    {
+        let distance = first.from.abs_diff(second.from);
+        let earlier = TextPlace {
+            from: first.from.min(second.from),
+            len: first.len.min(second.len),
+        };
+        let place = (distance, earlier.len, earlier.stretch());
+        let kept = self.repeat_at(place);
+        if let Some(range) = kept
+            && range.shows_equal(first, second)
+        {
+            return Ok(kept);
+        }
+        let both = TextPlace {
+            from: earlier.from,
+            len: distance + earlier.len,
+        };
+        let Some(range) = periodic_range(adb.payload(), both, distance, earlier.len / PART) else {
+            return Ok(None);
+        };
+        self.repeats.insert(place, self.ranges.len())?;
+        self.ranges.push(range)?;
+        Ok(Some(range))
+    }
+
+    /// The range that was found last with two texts, by how they stand.
+    fn repeat_at(&self, place: (usize, usize, usize)) -> Option<PeriodicRange>
+        ensures { (payload : List ℕ) → All (HasPeriod payload) self.now.ranges.items
+            → IfSome result (HasPeriod payload) }
+    {
+        self.ranges.get(*self.repeats.get(&place)?).copied()
     }
 
     /// Keeps a text that was not known, by its word and the word that it has in a draft, which is
@@ -139,7 +213,7 @@ impl Overlaps {
             Some(range) => common_divisor(range.period, distance),
             None => distance,
         };
-        let Some(range) = periodic_range(adb.payload(), text, period) else {
+        let Some(range) = periodic_range(adb.payload(), text, period, text.len / PART) else {
             return Ok(());
         };
         self.latest
@@ -183,7 +257,7 @@ impl Overlaps {
 }
 
 /// Where the text of a word stands.
-fn text_place(adb: Adb<'_>, word: Val) -> Option<TextPlace>
+pub(crate) fn text_place(adb: Adb<'_>, word: Val) -> Option<TextPlace>
     ensures text { IfSome result (λ text. text_in (value_at (payload_of adb.entry) Kinds.Text word)
         ≡ take text.len (drop text.from (payload_of adb.entry))) }
     ensures within { IfSome result (λ text. text.from + text.len ≤ length (payload_of adb.entry)) }
@@ -197,32 +271,37 @@ fn text_place(adb: Adb<'_>, word: Val) -> Option<TextPlace>
     }
 }
 
-/// The bytes around a text that have a period, if those of the text have it. None where the period
-/// is 0, since two words then lead to one place, or where it is longer than the text, whose bytes
-/// then show nothing.
-fn periodic_range(bytes: &[u8], text: TextPlace, period: usize) -> Option<PeriodicRange>
+/// The bytes around a text that have a period, if those of the text have it, no further from it than
+/// they are to reach. None where the period is 0, since two words then lead to one place, or where
+/// it is longer than the text, whose bytes then show nothing.
+fn periodic_range(
+    bytes: &[u8],
+    text: TextPlace,
+    period: usize,
+    reach: usize,
+) -> Option<PeriodicRange>
     requires { text.from + text.len ≤ length bytes.now }
     ensures { IfSome result (HasPeriod bytes.now) }
 {
     if period == 0 || period > text.len {
         return None;
     }
-    let from = first_in_period(bytes, text, period);
-    let end = end_of_period(bytes, text, period);
+    let from = first_in_period(bytes, text, period, reach);
+    let end = end_of_period(bytes, text, period, reach);
     if bytes[from + period..end] != bytes[from..end - period] {
         return None;
     }
     Some(PeriodicRange { from, end, period })
 }
 
-/// The offset from which on the bytes in front of a text go on with its period, as far as texts of
-/// its stretch may begin.
-fn first_in_period(bytes: &[u8], text: TextPlace, period: usize) -> usize
+/// The offset from which on the bytes in front of a text go on with its period, no further than they
+/// are to reach.
+fn first_in_period(bytes: &[u8], text: TextPlace, period: usize, reach: usize) -> usize
     requires within { text.from + text.len ≤ length bytes.now }
     requires period { period ≤ text.len }
     ensures { result ≤ text.from }
 {
-    let least = text.from.saturating_sub(text.len / PART);
+    let least = text.from.saturating_sub(reach);
     let mut from = text.from;
     while from > least && bytes[from - 1] == bytes[from - 1 + period] {
         from -= 1;
@@ -230,16 +309,16 @@ fn first_in_period(bytes: &[u8], text: TextPlace, period: usize) -> usize
     from
 }
 
-/// The offset up to which the bytes behind a text go on with its period, as far as texts of its
-/// stretch may reach.
-fn end_of_period(bytes: &[u8], text: TextPlace, period: usize) -> usize
+/// The offset up to which the bytes behind a text go on with its period, no further than they are to
+/// reach.
+fn end_of_period(bytes: &[u8], text: TextPlace, period: usize, reach: usize) -> usize
     requires within { text.from + text.len ≤ length bytes.now }
     requires period { period ≤ text.len }
     ensures behind { text.from + text.len ≤ result }
     ensures within { result ≤ length bytes.now }
 {
     let mut end = text.from + text.len;
-    let most = bytes.len().min(end.saturating_add(text.len / PART));
+    let most = bytes.len().min(end.saturating_add(reach));
     while end < most && bytes[end] == bytes[end - period] {
         end += 1;
     }
