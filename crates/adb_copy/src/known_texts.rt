@@ -111,10 +111,13 @@ impl KnownTexts {
         let Some(kept) = self.fingerprints.likely_equal(adb, word) else {
             return Ok(None);
         };
-        if self.overlaps.find_equal(adb, Val::of(kept), word)? {
-            return Ok(self.words.get(&kept).copied());
-        }
-        Ok(None)
+        let Some(known) = self.words.get(&kept).copied() else {
+            return Ok(None);
+        };
+        let same = self
+            .overlaps
+            .find_equal(adb, Val::of(kept), Val::of(known), word)?;
+        Ok(if same { Some(known) } else { None })
     }
 
     /// Writes a text whose word is not known, and keeps the word.
@@ -133,7 +136,6 @@ impl KnownTexts {
         match self.word_of_equal(adb, word)? {
             Some(known) => {
                 self.words.insert(word.word(), known)?;
-                self.overlaps.keep(adb, word, Val::of(known))?;
                 draft.blob_again(Val::of(known))
             }
             None => self.write_new(draft, adb, word),

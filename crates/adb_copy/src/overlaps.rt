@@ -72,8 +72,7 @@ pub struct Overlaps {
     words: BTreeMap<(usize, usize), u32>,
     /// Where a text begins, by the word that it has in the draft and by its stretch.
     places: BTreeMap<(u32, usize), usize>,
-    /// The last range that was found with two texts, by how far apart they begin, and the length
-    /// and the stretch of the one in front.
+    /// The last range that was found with two equal texts, by how they stand.
     repeats: BTreeMap<(usize, usize, usize), usize>,
 }
 
@@ -105,11 +104,13 @@ impl Overlaps {
         if same { Some(kept) } else { None }
     }
 
-    /// Whether the texts of two words are equal. Where a range shows it, no byte is looked at.
+    /// Whether the text of a word equals a kept one, which has this word in a draft. Where a range
+    /// shows it, no byte is looked at.
     pub(crate) fn find_equal(
         &mut self,
         adb: Adb<'_>,
         kept: Val,
+        known: Val,
         word: Val,
     ) -> Result<bool, AllocError>
         requires { All (HasPeriod (payload_of adb)) self.old.ranges.items }
@@ -122,14 +123,41 @@ impl Overlaps {
         let (Some(first), Some(second)) = (text_place(adb, kept), text_place(adb, word)) else {
             return Ok(false);
         };
-        match self.range_with(adb, first, second)? {
-            Some(range) => Ok(range.shows_equal(first, second)),
-            None => Ok(false),
+        if self.shows_equal(first, second) {
+            return Ok(true);
+        }
+        let Some(range) = self.keep_repeat(adb, first, second)? else {
+            return Ok(false);
+        };
+        self.keep(adb, word, known)?;
+        Ok(range.shows_equal(first, second))
+    }
+
+    /// Whether the range that was found last with two texts that stand so shows that these are
+    /// equal.
+    fn shows_equal(&self, first: TextPlace, second: TextPlace) -> bool
+        ensures { (payload : List ℕ) → All (HasPeriod payload) self.now.ranges.items
+            → OnTrue result (take first.len (drop first.from payload)
+            ≡ take second.len (drop second.from payload)) }
+    {
+        match self.repeat_of(first, second) {
+            Some(range) => range.shows_equal(first, second),
+            None => false,
         }
     }
 
-    /// A range with two texts, if they are equal: one that is kept, or else the one around them.
-    fn range_with(
+    /// That range.
+    fn repeat_of(&self, first: TextPlace, second: TextPlace) -> Option<PeriodicRange>
+        ensures { (payload : List ℕ) → All (HasPeriod payload) self.now.ranges.items
+            → IfSome result (HasPeriod payload) }
+    {
+        let place = repeat_place(first, second);
+        self.ranges.get(*self.repeats.get(&place)?).copied()
+    }
+
+    /// Keeps the range with two texts, if they are equal: it has the distance between them for its
+    /// period.
+    fn keep_repeat(
         &mut self,
         adb: Adb<'_>,
         first: TextPlace,
@@ -144,35 +172,18 @@ impl Overlaps {
             (λ range. IfSome range (HasPeriod (payload_of adb.entry))) }
     {
         let distance = first.from.abs_diff(second.from);
-        let earlier = TextPlace {
-            from: first.from.min(second.from),
-            len: first.len.min(second.len),
-        };
-        let place = (distance, earlier.len, earlier.stretch());
-        let kept = self.repeat_at(place);
-        if let Some(range) = kept
-            && range.shows_equal(first, second)
-        {
-            return Ok(kept);
-        }
+        let len = first.len.min(second.len);
         let both = TextPlace {
-            from: earlier.from,
-            len: distance + earlier.len,
+            from: first.from.min(second.from),
+            len: distance + len,
         };
-        let Some(range) = periodic_range(adb.payload(), both, distance, earlier.len / PART) else {
+        let Some(range) = periodic_range(adb.payload(), both, distance, len / PART) else {
             return Ok(None);
         };
+        let place = repeat_place(first, second);
         self.repeats.insert(place, self.ranges.len())?;
         self.ranges.push(range)?;
         Ok(Some(range))
-    }
-
-    /// The range that was found last with two texts, by how they stand.
-    fn repeat_at(&self, place: (usize, usize, usize)) -> Option<PeriodicRange>
-        ensures { (payload : List ℕ) → All (HasPeriod payload) self.now.ranges.items
-            → IfSome result (HasPeriod payload) }
-    {
-        self.ranges.get(*self.repeats.get(&place)?).copied()
     }
 
     /// Keeps a text that was not known, by its word and the word that it has in a draft, which is
@@ -254,6 +265,16 @@ impl Overlaps {
     fn index_around(&self, text: TextPlace) -> Option<usize> {
         self.latest.get(&(text.len, text.stretch())).copied()
     }
+}
+
+/// How two texts stand: how far apart they begin, and the length and the stretch of the one in front.
+fn repeat_place(first: TextPlace, second: TextPlace) -> (usize, usize, usize) {
+    let front = TextPlace {
+        from: first.from.min(second.from),
+        len: first.len.min(second.len),
+    };
+    let distance = first.from.abs_diff(second.from);
+    (distance, front.len, front.stretch())
 }
 
 /// Where the text of a word stands.
