@@ -2,7 +2,7 @@
 //! which bytes were tested to have one is kept, so that of the texts there that are equal few are
 //! looked at.
 
-ghost use Rattle.std.specs.Prelude.{◌≡◌, ◌≤◌, ◌+◌, ℕ, List, [], All, length, take, drop, IfOk, IfSome, OnOk};
+ghost use Rattle.std.specs.Prelude.{◌≡◌, ◌<◌, ◌≤◌, ◌+◌, ℕ, List, [], All, length, take, drop, IfOk, IfSome, OnOk};
 ghost use Rattle.std.specs.Bool.{OnTrue};
 ghost use Rattle.adb_copy.specs.Known.{HasPeriod, AreEqualUnder, IsPhaseOf};
 ghost use Rattle.adb_tables.specs.Values.{text_in, value_at};
@@ -15,6 +15,9 @@ use std::collections::BTreeMap;
 
 /// A stretch is the length of a text divided by this, and one byte.
 const PART: usize = 4;
+
+/// How many bytes around a text are compared at once.
+const STEP: usize = 64;
 
 /// Where a text stands in its payload.
 #[derive(Clone, Copy)]
@@ -323,9 +326,22 @@ fn first_in_period(bytes: &[u8], text: TextPlace, period: usize, reach: usize) -
     ensures { result ≤ text.from }
 {
     let least = text.from.saturating_sub(reach);
-    let mut from = text.from;
-    while from > least && bytes[from - 1] == bytes[from - 1 + period] {
-        from -= 1;
+    let from = first_by_steps(bytes, text.from, least, period, STEP);
+    first_by_steps(bytes, from, least, period, 1)
+}
+
+/// The same in front of an offset, where so many bytes at a time are compared.
+fn first_by_steps(bytes: &[u8], start: usize, least: usize, period: usize, step: usize) -> usize
+    requires within { start + period ≤ length bytes.now }
+    requires some { 0 < step }
+    ensures { result ≤ start }
+{
+    let mut from = start;
+    while from >= step
+        && from - step >= least
+        && bytes[from - step..from] == bytes[from - step + period..from + period]
+    {
+        from -= step;
     }
     from
 }
@@ -338,10 +354,27 @@ fn end_of_period(bytes: &[u8], text: TextPlace, period: usize, reach: usize) -> 
     ensures behind { text.from + text.len ≤ result }
     ensures within { result ≤ length bytes.now }
 {
-    let mut end = text.from + text.len;
-    let most = bytes.len().min(end.saturating_add(reach));
-    while end < most && bytes[end] == bytes[end - period] {
-        end += 1;
+    let start = text.from + text.len;
+    let most = bytes.len().min(start.saturating_add(reach));
+    let end = end_by_steps(bytes, start, most, period, STEP);
+    end_by_steps(bytes, end, most, period, 1)
+}
+
+/// The same behind an offset, where so many bytes at a time are compared.
+fn end_by_steps(bytes: &[u8], start: usize, most: usize, period: usize, step: usize) -> usize
+    requires period { period ≤ start }
+    requires start { start ≤ length bytes.now }
+    requires most { most ≤ length bytes.now }
+    requires some { 0 < step }
+    ensures behind { start ≤ result }
+    ensures within { result ≤ length bytes.now }
+{
+    let mut end = start;
+    while end <= most
+        && most - end >= step
+        && bytes[end..end + step] == bytes[end - period..end - period + step]
+    {
+        end += step;
     }
     end
 }

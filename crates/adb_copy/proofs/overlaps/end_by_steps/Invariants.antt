@@ -1,9 +1,9 @@
-use Rattle.std.proofs.Common.{◌≤◌, ◌+◌, ◌-◌, length}
-use Rattle.adb_copy.proofs.overlaps.end_of_period.Given as goal
+use Rattle.std.proofs.Common.{◌≤◌, ◌-◌, length}
+use Rattle.adb_copy.proofs.overlaps.end_by_steps.Given as goal
 
 abbrev pub invariant-loop-end : goal.invariant-loop-end
 invariant-loop-end l = record {
-  behind : l.fn.text.from + l.fn.text.len ≤ l.end;
+  behind : l.fn.start ≤ l.end;
   within : l.end ≤ length l.bytes;
 }
 
