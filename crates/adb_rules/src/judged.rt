@@ -1,5 +1,7 @@
 //! The rules that look at each byte of a text, and the long texts of a payload that were found to
-//! keep one. Many places may share a text, so a long one is judged once.
+//! keep one. Many places may share a text, so a long one is judged once. Which rules there are
+//! stands in the table of `docs/formats.md`, "The texts"; that each long text is judged once is
+//! what the README of this crate says of `Judged::keeps`.
 
 ghost use Rattle.std.specs.Prelude.{◌≡◌, All, IfOk};
 ghost use Rattle.std.specs.Bool.{OnTrue};
@@ -16,10 +18,12 @@ use std::alloc::{AllocError, Global};
 use std::collections::BTreeSet;
 use version_core::OverlappingVersions;
 
-/// How many bytes a text has at most that is judged at each place where it stands.
+/// How many bytes a text has at most that is judged at each place where it stands: to keep its
+/// answer would cost more than to judge it again. Any number gives the same answers.
 const SHORT: usize = 64;
 
-/// A rule that looks at each byte of a text, and at nothing around it.
+/// A rule that looks at each byte of a text, and at nothing around the text; each is named for what
+/// the text has to be.
 #[derive(Clone, Copy, Debug, PartialEq, Eq, PartialOrd, Ord)]
 pub enum TextRule {
     DependencyName,
@@ -33,7 +37,7 @@ pub enum TextRule {
 }
 
 impl TextRule {
-    /// Whether a text keeps it.
+    /// Whether a text keeps this rule.
     fn is_kept_by(self, text: &[u8]) -> bool
         ensures { result ≡ keeps_text_rule self text.now }
     {
@@ -61,7 +65,7 @@ pub struct Judged<'a> {
 }
 
 impl<'a> Judged<'a> {
-    /// Nothing is known of a payload's texts.
+    /// A payload of whose texts nothing is known yet.
     pub fn new(alloc: Global, adb: Adb<'a>) -> Judged<'a>
         ensures { result.adb ≡ adb.entry }
     {
@@ -72,7 +76,7 @@ impl<'a> Judged<'a> {
         }
     }
 
-    /// The payload.
+    /// The opened payload whose texts are judged.
     pub fn adb(&self) -> Adb<'a>
         ensures { result ≡ self.now.adb }
     {
@@ -107,8 +111,8 @@ impl<'a> Judged<'a> {
         self.good.contains(&(rule, word.word()))
     }
 
-    /// The same of a text that is judged here. A version has no limit of length, and many may
-    /// overlap.
+    /// Whether a long text, which is the text of a word, keeps a rule, judged here. A version has
+    /// no limit of length, and many may overlap.
     fn long_text_keeps(
         &mut self,
         rule: TextRule,

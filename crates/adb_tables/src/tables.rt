@@ -1,6 +1,6 @@
-//! The ten tables of the containers, which stand in `docs/formats.md`, "Schemas": what a field is, the constants, and the fields of
-//! each table. A new table is a new constant here, its variant of `Which`, and its lines in
-//! `fields_of` and `number_of`.
+//! The ten tables of the containers: what a field is, the constants, and the fields of each table.
+//! The tables stand in `docs/formats.md`, "Schemas". A new table is a new constant here, its
+//! variant of `Which`, and its lines in `fields_of` and `number_of`.
 
 ghost use Rattle.std.specs.Prelude.{◌≡◌, ◌≤◌};
 ghost use Rattle.adb_tables.specs.Schema.{table, schema_number, shape_of, shapes_of};
