@@ -1,4 +1,5 @@
--- What may stand at the root of a container.
+-- What may stand at the root of a container. The rules stand in `docs/formats.md`, "Tests of a
+-- container", and the limits in "Canonical layout", fourth paragraph.
 use Rattle.std.specs.Prelude.{◌≡◌, ◌≤◌, None}
 use Rattle.adb_view.specs.Plain.{Plain, IsNormal}
 use Rattle.adb_view.specs.Shaped.{HasShape}
