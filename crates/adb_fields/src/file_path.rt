@@ -14,7 +14,9 @@ use std::cmp::Ordering;
 /// name. The two parts stay where they are, so that a path takes no memory.
 #[derive(Clone, Copy)]
 pub struct FilePath<'a> {
+    /// The path of the folder; empty for the root folder.
     pub folder: &'a [u8],
+    /// The name of the file in the folder.
     pub name: &'a [u8],
 }
 

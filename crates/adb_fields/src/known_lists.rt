@@ -29,8 +29,11 @@ const SHORT: usize = 16;
 /// looked through the first pair of its names, by the list's word.
 #[derive(Drop)]
 pub(crate) struct KnownLists<'a> {
+    /// The payload in which the lists stand.
     adb: Adb<'a>,
+    /// The table of their objects.
     which: Which,
+    /// By the word of a list: its pair, or that no name stands twice in it.
     pairs: BTreeMap<u32, Option<Pair>>,
     ghost named: { kind_at which 0 ≡ Some Kinds.Text },
     ghost exact: { ArePairsOf (payload_of adb) which pairs },

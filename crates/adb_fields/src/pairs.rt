@@ -18,7 +18,9 @@ use std::cmp::Ordering;
 /// Two positions at which one name stands. They count from 1.
 #[derive(Clone, Copy)]
 pub(crate) struct Pair {
+    /// The smaller one.
     pub first: u32,
+    /// The greater one.
     pub second: u32,
 }
 
@@ -26,7 +28,9 @@ pub(crate) struct Pair {
 /// name is a path.
 #[derive(Clone, Copy)]
 pub(crate) struct PathWithPosition<'a> {
+    /// The name, in the root folder, or the path.
     pub path: FilePath<'a>,
+    /// Where it stands, counted from 1.
     pub position: u32,
 }
 

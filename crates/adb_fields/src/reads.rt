@@ -1,7 +1,9 @@
 //! Reads of sound words, and of the fields of sound objects: they cannot fail. Fields count from 0,
 //! and a field that is missing is Null. What a word, a field and an entry mean stands in
 //! `docs/formats.md`, "Values"; which field has which index is table by table in "Schemas", where
-//! fields count from 1. By name the indices stand in `FieldIndexes` of `adb_tables`.
+//! fields count from 1. By name the indices stand in `FieldIndexes` of `adb_tables`. In the clauses
+//! `sound` says that a word has a plain value under its kind, or its table, and `kind` which kind
+//! of value the field holds.
 
 ghost use Rattle.std.specs.Prelude.{◌≡◌, ◌<◌, true, Some, length, slice_index, slice_index_or};
 ghost use Rattle.adb_view.specs.Adb.{payload_of};

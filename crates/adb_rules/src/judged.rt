@@ -26,13 +26,21 @@ const SHORT: usize = 64;
 /// the text has to be.
 #[derive(Clone, Copy, Debug, PartialEq, Eq, PartialOrd, Ord)]
 pub enum TextRule {
+    /// A dependency's name (field 101).
     DependencyName,
+    /// A package's name (301).
     PackageName,
+    /// A version (302).
     Version,
+    /// Empty, or a version (102).
     VersionOrEmpty,
+    /// A path below the root (1001, 1002).
     Name,
+    /// Empty, or a path (501).
     FolderName,
+    /// One part of a path (401).
     OnePart,
+    /// Empty, or a link's target (406).
     Target,
 }
 
@@ -57,8 +65,11 @@ impl TextRule {
 /// A payload, and the words of its long texts that were found to keep a rule, each with the rule.
 #[derive(Drop)]
 pub struct Judged<'a> {
+    /// The opened payload.
     adb: Adb<'a>,
+    /// Each rule with the words of the long texts that keep it.
     good: BTreeSet<(TextRule, u32)>,
+    /// The bytes of the payload, with the leaps over versions in it.
     versions: OverlappingVersions<'a>,
     ghost kept: { All (KeepsTextRule (payload_of adb)) good.keys },
     ghost same: { versions ≡ payload_of adb },

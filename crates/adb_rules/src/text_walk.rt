@@ -1,6 +1,7 @@
 //! The text walk: each number and text of a walked payload, against the rule of its field. The
 //! order and the rules stand in `docs/formats.md`, "The texts". The indices of fields that are
-//! named here are those of `FieldIndexes` of `adb_tables`.
+//! named here are those of `FieldIndexes` of `adb_tables`. Each call that is lent a `Judged` leaves
+//! its payload the same (clause `payload`), so that what is known of its words stays true.
 
 ghost use Rattle.std.specs.Prelude.{ℕ, List, ◌↔◌, None, ◌≡◌, ◌==◌, ◌*◌, true, false, length, ◌+◌, ◌<◌, ◌≤◌, ◌^◌, IfOk, [], ◌∷◌};
 ghost use Rattle.std.specs.Bool.{OnTrue};

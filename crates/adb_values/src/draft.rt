@@ -20,6 +20,7 @@ use std::marker::Model;
 /// A call that is refused memory leaves the draft as it was.
 #[derive(Drop)]
 pub struct Draft {
+    /// What writes the values.
     writer: Writer,
     /// The words of the values that are in no closed list.
     words: Vec<Val>,

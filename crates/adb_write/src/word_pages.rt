@@ -9,7 +9,9 @@
 //! each of 256: at most 12.25 bytes a locator, and 1.2 kB where there is one page.
 //!
 //! How locators are kept is told in the README of this crate, second paragraph; that equal values
-//! are stored once stands in `docs/formats.md`, "Canonical layout", third paragraph.
+//! are stored once stands in `docs/formats.md`, "Canonical layout", third paragraph. In the clauses
+//! `filled` says that no page is empty, `rising` that locators stand in the order of their keys,
+//! `stored` that each names an item of the payload, `inside` that a slot is one of these pages.
 
 ghost use Rattle.std.specs.Prelude.{◌≡◌, ◌≤◌, ◌<◌, ℕ, List, [], ◌∷◌, ◌++◌, length, take, drop, insert, IfOk, OnOk, OnErr};
 ghost use Rattle.std.specs.List.{concat};
@@ -45,15 +47,20 @@ const NEARBY: usize = 12;
 /// Where a locator would stand: the index of its page, and its index there.
 #[derive(Clone, Copy)]
 pub(crate) struct Slot {
+    /// The index of the page.
     pub page: usize,
+    /// The index in the page.
     pub index: usize,
 }
 
 /// Locators in the rising order of their keys, in pages that are not empty.
 #[derive(Drop)]
 pub(crate) struct WordPages {
+    /// What gives memory for pages.
     alloc: Global,
+    /// The locators of each page.
     pub pages: Vec<Vec<u64>>,
+    /// The first locator of each page once more, side by side.
     firsts: FirstLocators,
 }
 

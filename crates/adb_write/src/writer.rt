@@ -57,7 +57,9 @@ const MOST_VALUES: u64 = 4_194_304;
 /// How many bytes a payload has, and how many values, the root counted.
 #[derive(Clone, Copy)]
 struct PayloadCounts {
+    /// How many bytes, the head counted.
     pub bytes: u64,
+    /// How many values, the root counted.
     pub values: u64,
 }
 
@@ -83,7 +85,10 @@ const HEAD: u64 = 8;
 /// counts. Contracts see what was written and the counts: `Writing` of `specs/`.
 #[derive(Drop)]
 pub struct Writer {
+    /// What was written.
     store: Store,
+    /// The counts of what was written, or, past a limit, those just behind the value that passed
+    /// it.
     counts: PayloadCounts,
 }
 
