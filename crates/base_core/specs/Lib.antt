@@ -1,4 +1,5 @@
 -- what the contract of `apk` says
+pub mod Lists
 pub mod Name
 pub mod Files
 pub mod Tree

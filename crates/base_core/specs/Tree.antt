@@ -1,5 +1,6 @@
 -- A tree of files at one moment, what each call makes of it, and where a call is a misuse.
 use Rattle.std.specs.Prelude.{◌≡◌, ◌⊎◌, ◌≢◌, ◌≤◌, ◌<◌, ℕ, ◌+◌, Bool, true, false, if◌then◌else◌, ◌==◌, List, [], ◌∷◌, ◌++◌, Option, Some, None, IsSome, length}
+use Rattle.base_core.specs.Lists.{IsIn}
 use Rattle.base_core.specs.Files.{Files, NameMap, put_name, drop_name, move_name, AreNames, IsFile, IsFolderLike, IsWithin}
 
 -- a file: its bytes as read, and whether a crash leaves just these
@@ -121,14 +122,9 @@ pub record CanRename (from to : List ℕ) (v : TreeState) : Type 0 where
 
 -- ---- the maps of names
 
--- one of several maps
-abbrev pub IsAmong : NameMap → List NameMap → Type 0
-IsAmong map [] = ⊥
-IsAmong map (x ∷ xs) = (map ≡ x) ⊎ IsAmong map xs
-
 -- one of the maps that a crash may leave: the one as read, or one since the names were last synced
 abbrev pub IsMapOf : TreeState → NameMap → Type 0
-IsMapOf v map = IsAmong map (v.names ∷ v.older)
+IsMapOf v map = IsIn map (v.names ∷ v.older)
 
 -- what holds of every state that a tree shows: in each map of names finitely many names are
 -- present, each is a name, none is a folder of another, and each leads to a file that was made; and
