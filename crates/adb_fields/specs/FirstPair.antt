@@ -1,14 +1,10 @@
 -- Which pair of positions is the first at which one name stands, in the words of `docs/formats.md`,
 -- "Names that stand twice". Serves the laws of `src/pairs.rt`.
 use Rattle.std.specs.Prelude.{◌≡◌, ℕ, ◌<◌, ◌≤◌, ◌⊎◌, List, [], ◌∷◌, Option, Some, None}
+pub use Rattle.base_core.specs.Lists.{IsIn}
 use Rattle.adb_fields.specs.Pairs.{NameWithPosition}
 use Rattle.adb_fields.specs.Repeated.{numbered_from}
 use Rattle.adb_fields.specs.declared.pairs.Pair.{Pair}
-
--- an element stands in a list
-abbrev pub IsIn : {A : Type 0} → A → List A → Type 0
-IsIn x [] = ⊥
-IsIn x (y ∷ ys) = (x ≡ y) ⊎ IsIn x ys
 
 -- one name stands at both positions of the pair, the first of which is the smaller
 pub record IsPair (names : List NameWithPosition) (p : Pair) : Type 0 where

@@ -2,6 +2,7 @@
 -- to read them, and the head of each file where its rule stands.
 
 -- what the contract of `apk` says
+pub mod Lists
 pub mod Name
 pub mod Files
 pub mod Tree

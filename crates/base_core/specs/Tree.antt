@@ -2,6 +2,7 @@
 -- rules stand in `docs/crash-safety.md`, "A tree at one moment", "What each call does" and
 -- "Misuses, faults and counts".
 use Rattle.std.specs.Prelude.{◌≡◌, ◌⊎◌, ◌≢◌, ◌≤◌, ◌<◌, ℕ, ◌+◌, Bool, true, false, if◌then◌else◌, ◌==◌, List, [], ◌∷◌, ◌++◌, Option, Some, None, IsSome, length}
+use Rattle.base_core.specs.Lists.{IsIn}
 use Rattle.base_core.specs.Files.{Files, NameMap, put_name, drop_name, move_name, AreNames, IsFile, IsFolderLike, IsWithin}
 
 -- a file: its bytes as read, and whether a crash leaves just these
@@ -125,14 +126,9 @@ pub record CanRename (from to : List ℕ) (v : TreeState) : Type 0 where
 
 -- ---- the maps of names
 
--- a map of names is one of several
-abbrev pub IsAmong : NameMap → List NameMap → Type 0
-IsAmong map [] = ⊥
-IsAmong map (x ∷ xs) = (map ≡ x) ⊎ IsAmong map xs
-
 -- one of the maps that a crash may leave: the one as read, or one since the names were last synced
 abbrev pub IsMapOf : TreeState → NameMap → Type 0
-IsMapOf v map = IsAmong map (v.names ∷ v.older)
+IsMapOf v map = IsIn map (v.names ∷ v.older)
 
 -- what holds of every state that a tree shows: in each map of names finitely many names are
 -- present, each is a name, none is a folder of another, and each leads to a file that was made; and
