@@ -8,10 +8,13 @@ use Rattle.adb_fields.specs.declared.pairs.Pair.{Pair}
 
 -- one name stands at both positions of the pair, the first of which is the smaller
 pub record IsPair (names : List NameWithPosition) (p : Pair) : Type 0 where
+  -- the name at the first position
   pub one : NameWithPosition
+  -- the name at the second one
   pub other : NameWithPosition
   pub one_in : IsIn one names
   pub other_in : IsIn other names
+  -- it is one name
   pub alike : one.name ≡ other.name
   pub first : p.first ≡ one.position
   pub second : p.second ≡ other.position
@@ -21,7 +24,9 @@ pub record IsPair (names : List NameWithPosition) (p : Pair) : Type 0 where
 -- second position none a smaller first one
 pub record IsFirst (IsOne : Pair → Type 0) (p : Pair) : Type 0 where
   pub is_one : IsOne p
+  -- no pair has a smaller second position
   pub second : (q : Pair) → IsOne q → p.second ≤ q.second
+  -- of those with the same second position none has a smaller first one
   pub first : (q : Pair) → IsOne q → q.second ≡ p.second → p.first ≤ q.first
 
 -- of all pairs of a kind this is the first, or there is none
@@ -31,6 +36,7 @@ IsFirstOf IsOne (Some p) = IsFirst IsOne p
 
 -- one of several lists has one name at both positions of the pair
 pub record IsPairInOne (lists : List (List (List ℕ))) (p : Pair) : Type 0 where
+  -- the list that has the name twice
   pub names : List (List ℕ)
   pub names_in : IsIn names lists
   pub is_pair : IsPair (numbered_from 1 names) p

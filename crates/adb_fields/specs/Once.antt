@@ -33,13 +33,17 @@ AreApart (names ∷ lists) = ((name : List ℕ) → IsIn name names → ¬ IsInO
 
 -- no package lists a folder twice, and none of its folders a file
 pub record StandOnceInside (packages : List Plain) : Type 0 where
+  -- each folder stands once in its package
   pub folders : AllDistinct (map (λ pkg. map name_of (folders_in pkg)) packages)
+  -- each file stands once in its folder
   pub files : AllDistinct
       (flat_map (λ pkg. map (λ folder. map name_of (files_in folder)) (folders_in pkg)) packages)
 
 -- no two packages have one name, and no two list one path
 pub record StandOnceBetween (packages : List Plain) : Type 0 where
+  -- each package stands once
   pub packages_once : AreDistinctNames (map package_name packages)
+  -- no path stands in two packages
   pub paths_once : AreApart (map paths_in packages)
 
 -- no name stands twice in a container, by the table of its root, that may stand once alone; of

@@ -9,11 +9,14 @@ use Rattle.adb_rules.specs.Texts.{Leaf, keeps_rule, number_of_leaf}
 
 -- a number or a text (a leaf) breaks the rule of its field, and none before it does
 pub record IsFirstBad (all : List Leaf) (c : Cause) : Type 0 where
+  -- how many leaves stand before it
   pub i : ℕ
+  -- the leaf that breaks its rule
   pub leaf : Leaf
   pub at : slice_get all i ≡ Some leaf
   pub broken : keeps_rule leaf ≡ false
   pub cause : c ≡ BadText (number_of_leaf leaf)
+  -- each leaf before it keeps its own
   pub before : (j : ℕ) → (other : Leaf) → j < i → slice_get all j ≡ Some other → keeps_rule other
       ≡ true
 

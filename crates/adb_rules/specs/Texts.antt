@@ -22,8 +22,11 @@ use Rattle.adb_tables.specs.declared.tables.Kind.TheVariants.{Obj}
 -- what stands around a value, as far as a rule looks at it: the table of the container's root, the
 -- name of the folder, and whether the file has contents
 pub record Surroundings : Type 0 where
+  -- the table of the container's root
   pub root : Which
+  -- the name of the folder; empty outside of folders, and in the root folder
   pub folder : List ℕ
+  -- whether the file has contents; false outside of files
   pub has_contents : Bool
 
 -- ---- rules that look around

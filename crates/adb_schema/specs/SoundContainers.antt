@@ -15,8 +15,11 @@ use Rattle.adb_schema.specs.Soundness.{first_fault}
 -- the value is one that a sound container with this table at its root holds: by its shape, its
 -- rules, and its names
 pub record IsSoundValue (which : Which) (v : Plain) : Type 0 where
+  -- it has the shape of the table
   pub shape : HasShape (shape_of (Obj which)) v
+  -- each text and number keeps the rule of its field
   pub rules : KeepsRules which v
+  -- no name stands twice
   pub once : NamesStandOnce which v
 
 -- a file passes every test as a container with this table at its root

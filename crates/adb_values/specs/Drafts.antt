@@ -8,8 +8,11 @@ use Rattle.adb_write.specs.Writing.{Writing, empty_writing, calls}
 -- a draft: what its writer wrote, the words of the values that are in no closed list, and for each
 -- open list how many of them stand before it. Only the definitions below look into it
 pub record DraftState : Type 0 where
+  -- what its writer wrote
   pub writing : Writing
+  -- the words of the values that are in no closed list
   pub words : List ℕ
+  -- how many words stand before each open list, the one that was opened last standing last
   pub starts : List ℕ
 
 -- the draft that has these parts

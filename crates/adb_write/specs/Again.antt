@@ -25,8 +25,11 @@ len_by kind front =
 
 -- an item whose kind and first bytes tell how many bytes it has
 pub record TellsItsLength (i : Item) : Type 0 where
+  -- it has bytes
   pub some : 0 < length i.bytes
+  -- all the bytes are there that tell its length
   pub long : front_len i.kind ≤ length i.bytes
+  -- and they tell it
   pub len : length i.bytes ≡ len_by i.kind (take (front_len i.kind) i.bytes)
 
 -- an item that tells its length stands where a written item is said to stand

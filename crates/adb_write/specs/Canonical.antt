@@ -14,9 +14,13 @@ gap align n = (align - n % align) % align
 -- what one value takes outside its word: the kind of its word, at a multiple of how many bytes it
 -- stands, its bytes, and how many entries it has
 pub record Item : Type 0 where
+  -- the kind of the words that lead to it
   pub kind : ℕ
+  -- it stands at a multiple of this
   pub align : ℕ
+  -- its bytes
   pub bytes : List ℕ
+  -- how many entries it has, which count as values
   pub entries : ℕ
 
 -- a value as it is written: its word alone, or a word that leads to an item
@@ -78,14 +82,19 @@ trimmed_words (w ∷ ws) = keep_word w (trimmed_words ws)
 -- an item that was written: the kind of the words that lead to it, and how far behind the payload's
 -- head of 8 bytes it stands
 pub record WrittenItem : Type 0 where
+  -- the kind of the words that lead to it
   pub kind : ℕ
+  -- its offset, without the head of 8 bytes
   pub offset : ℕ
 
 -- what was written so far: the payload behind its head of 8 bytes, its items, the latest first, and
 -- the number of values with the root
 pub record Layout : Type 0 where
+  -- the payload behind its head
   pub body : List ℕ
+  -- the items in it, the latest first
   pub items : List WrittenItem
+  -- how many values there are, the root counted
   pub values : ℕ
 
 -- the layout before anything is written: the root alone counts as a value

@@ -80,15 +80,20 @@ pub record IsFoundIn (payload : List ℕ) (words : List ℕ) (key : List ℕ) (w
 -- this key
 pub record IsBetween (payload : List ℕ) (pages : List (List ℕ)) (key : List ℕ)
     (slot : Slot) : Type 0 where
+  -- the slot is one of the pages
   pub inside : IsSlotIn pages slot.page slot.index
+  -- all before it have lower keys
   pub lower : AllCompare Greater payload key (words_before pages slot.page slot.index)
+  -- all behind it have higher keys
   pub higher : AllCompare Less payload key (words_behind pages slot.page slot.index)
 
 -- the page at k is the one in which a locator with this key would stand
 pub record IsPageFor (payload : List ℕ) (pages : List (List ℕ)) (key : List ℕ)
     (k : ℕ) : Type 0 where
   pub inside : IsSlotIn pages k 0
+  -- all pages before it have lower keys
   pub lower : AllCompare Greater payload key (words_before pages k 0)
+  -- all pages behind it have higher keys
   pub higher : AllCompare Less payload key (words_behind pages (suc k) 0)
 
 -- the page at k begins at or before this key, and the next one behind it, if there is a next one

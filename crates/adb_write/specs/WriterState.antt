@@ -48,7 +48,9 @@ IsSmall (stored_list kind ws) = AllByRecursion (λ w. w < 2 ^ 32) ws × (suc (le
 pub record IsStoredAt (payload : List ℕ) (what : Stored) (word : ℕ) : Type 0 where
   pub small : IsSmall what
   pub kind : kind_of word ≡ (item_of_stored what).kind
+  -- it stands behind the head
   pub behind_head : 8 ≤ low_of word
+  -- its bytes stand at the word's offset
   pub there : take (length (item_of_stored what).bytes) (drop (low_of word) payload)
       ≡ (item_of_stored what).bytes
 
@@ -91,9 +93,13 @@ items_of_locators (locator ∷ locators) =
 pub record IsWriterState (payload : List ℕ) (pages : List (List ℕ))
     (bytes values : ℕ) : Type 0 where
   pub head : HasHead payload
+  -- the count of bytes is the payload's own, unless a limit was passed
   pub agree : passes (bytes, values) ≡ false → bytes ≡ 8 + length (drop 8 payload)
+  -- no page is empty
   pub filled : AreFilled pages
+  -- locators stand in the order of their keys
   pub rising : HaveRisingKeys payload (concat pages)
+  -- each locator names an item of the payload
   pub stored : AreStored payload (concat pages)
 
 -- the word leads to the written item that is equal to this one

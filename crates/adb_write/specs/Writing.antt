@@ -9,9 +9,13 @@ use Rattle.adb_write.specs.Canonical.{WrittenItem, Cell, in_place, apart, int_ce
 -- a writer: the payload behind its head of 8 bytes, its items, the latest first, and the two counts
 -- of what was written, or, once a value passed a limit, the ones just behind that value
 pub record Writing : Type 0 where
+  -- the payload behind its head
   pub body : List ℕ
+  -- the items in it, the latest first
   pub items : List WrittenItem
+  -- how many bytes, the head counted
   pub bytes : ℕ
+  -- how many values, the root counted
   pub values : ℕ
 
 -- the writer that has written these bytes and items, with these counts
