@@ -165,6 +165,7 @@ fn read_head(bytes: &[u8]) -> Option<BlockHead>
         return None;
     }
     let word = word_at(bytes, 0);
+    // A header of 4 bytes: the kind in the top two bits, and below them the raw size.
     if word >> 30 != 3 {
         return Some(BlockHead {
             kind: word >> 30,
@@ -175,6 +176,7 @@ fn read_head(bytes: &[u8]) -> Option<BlockHead>
     if bytes.len() < 16 {
         return None;
     }
+    // A header of 16 bytes: the kind in the low 30 bits, and the raw size in 8 bytes of its own.
     Some(BlockHead {
         kind: word & 0x3fff_ffff,
         len: 16,
@@ -201,6 +203,7 @@ fn frame_by_head(
     if !comes_after(last, kind) {
         return Err(Cause::BlockOrder { at });
     }
+    // The raw size counts the header too.
     if head.raw < head.len || head.raw > left {
         return Err(Cause::Truncated { at });
     }

@@ -17,8 +17,8 @@ is_digest_length len = (len == 20) || (len == 32) || (len == 64)
 abbrev pub is_digest_length_or_none : ℕ → Bool
 is_digest_length_or_none len = (len == 0) || is_digest_length len
 
--- whether so many bytes are what an index says of a package: the SHA-256 of its payload, or the
--- first 20 bytes of it
+-- whether so many bytes are what an index has of a package as its id: the SHA-256 of the package's
+-- payload, or the first 20 bytes of it
 abbrev pub is_id_length : ℕ → Bool
 is_id_length len = (len == 20) || (len == 32)
 

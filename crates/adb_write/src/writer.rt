@@ -248,12 +248,14 @@ impl Writer {
             Ok(locator) => return Ok(self.repeat(parts, word_of_locator(locator))),
             Err(slot) => slot,
         };
+        // The item goes to the next offset that its alignment allows.
         let before = self.counts;
         let at = before.bytes + gap(parts.width().len() as u64, before.bytes);
         let counts = PayloadCounts {
             bytes: at + parts.len(),
             values: before.values + parts.entries(),
         };
+        // The first value past a limit is counted, and not written.
         if counts.passes() {
             self.counts = counts;
             return Ok(Val::of(0));
