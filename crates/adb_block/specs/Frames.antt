@@ -1,6 +1,6 @@
 -- A block as its header frames it, and a header and a read block of the program as the definitions
 -- have them. Serves the contracts of `frame_of` and `head_len` (their row in the README of this
--- crate); what a header says stands in `docs/formats.md`, "Container", second paragraph.
+-- crate); what a header says stands in `docs/formats.md`, "Container" ("A block is a header").
 use Rattle.std.specs.Prelude.{◌≡◌, ◌≤◌, ℕ, ◌+◌, ◌/◌, ◌^◌, ◌==◌, nat_lt, if◌then◌else◌, List, length, take, drop, Option, Some, None, Result, Ok, Err}
 use Rattle.base_core.specs.declared.Cause.{Cause}
 use Rattle.adb_block.specs.Piece.{Piece, padding_of}

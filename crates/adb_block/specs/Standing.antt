@@ -1,5 +1,5 @@
--- Where a reader of blocks stands. The rule stands in `docs/formats.md`, "Container", first
--- paragraph: the first block begins at offset 8.
+-- Where a reader of blocks stands. The rule stands in `docs/formats.md`, "Container" ("Blocks
+-- follow, the first at offset 8").
 use Rattle.std.specs.Prelude.{ℕ, List, drop, Option, None}
 use Rattle.adb_block.specs.declared.block.BlockKind.{BlockKind}
 

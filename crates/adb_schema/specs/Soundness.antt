@@ -1,6 +1,6 @@
 -- The first failed test of a whole container, in the order of the tests. The order stands in
 -- `docs/formats.md`, "Tests of a container"; what is tested behind the first block, in "The other
--- blocks", third paragraph.
+-- blocks" ("Outside of a package no block may hold contents").
 use Rattle.std.specs.Prelude.{ℕ, List, [], take, drop, length, Bool, false, nat_lt, ◌==◌, if◌then◌else◌, Option, Some, None, Result, Ok, Err}
 use Rattle.std.specs.Option.{option_or}
 use Rattle.std.specs.Int.{w32, from_le_bytes}

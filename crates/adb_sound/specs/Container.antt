@@ -1,6 +1,6 @@
 -- A container that is made of a value, and of a package the contents of its files behind it. The
--- rules stand in `docs/formats.md`, "The other blocks" (contents) and "Canonical layout", last
--- paragraph.
+-- rules stand in `docs/formats.md`, "The other blocks" (contents) and "Canonical layout" ("In a
+-- container each block is padded").
 use Rattle.std.specs.Prelude.{ℕ, List, ◌∷◌, ◌++◌, map}
 use Rattle.std.specs.Int.{w32, to_le_bytes}
 use Rattle.adb_block.specs.Piece.{Piece}

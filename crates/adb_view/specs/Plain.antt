@@ -1,6 +1,5 @@
 -- Plain values, the shapes that tables of fields give them, and the plain value of a word. The
--- rules stand in `docs/formats.md`, "Values", the paragraph that begins "A table of fields gives
--- each word a shape".
+-- rules stand in `docs/formats.md`, "Values" ("A table of fields gives each word a shape").
 use Rattle.std.specs.Prelude.{◌≡◌, ◌≢◌, ℕ, suc, ◌<◌, ◌^◌, List, [], ◌∷◌, Option, Some, None, option_map, option_and_then, Result, Ok, Err, ◌==◌, if◌then◌else◌}
 use Rattle.adb_view.specs.Readers.{int_of, blob_of, run_of, ARRAY, OBJECT}
 use Rattle.adb_view.specs.Head.{root_of}

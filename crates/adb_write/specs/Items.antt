@@ -1,5 +1,5 @@
 -- An item of the program as the layout has it. Serves the contracts of `src/item.rt`; the layout
--- stands in `docs/formats.md`, "Canonical layout", second paragraph.
+-- stands in `docs/formats.md`, "Canonical layout" ("Values are written depth first").
 use Rattle.std.specs.Prelude.{ℕ, ◌<◌, ◌^◌, List, []}
 use Rattle.std.specs.List.{flat_map}
 use Rattle.std.specs.Int.{w32, to_le_bytes}

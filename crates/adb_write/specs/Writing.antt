@@ -1,6 +1,6 @@
 -- A writer as contracts see it: what it wrote, its two counts, and what each call makes of it. The
--- rules stand in `docs/formats.md`, "Canonical layout"; what is answered past a limit, in its
--- fourth paragraph.
+-- rules stand in `docs/formats.md`, "Canonical layout"; what is answered past a limit, below "A
+-- payload has at most".
 use Rattle.std.specs.Prelude.{ℕ, ◌<◌, Bool, List, [], ◌∷◌, length, Result, Ok, Err, if◌then◌else◌}
 use Rattle.adb_view.specs.Plain.{Plain, null, int, blob, arr, obj, Plains, none, more}
 use Rattle.adb_view.specs.Readers.{ARRAY, OBJECT}

@@ -1,6 +1,7 @@
 //! The writer of a payload with its limits and its refusals, and the file around a payload. The
-//! rules stand in `docs/formats.md`, "Canonical layout": the layout in its second paragraph, the
-//! limits in its fourth, the file in its last.
+//! rules stand in `docs/formats.md`, "Canonical layout": the layout below "Values are written depth
+//! first", the limits below "A payload has at most", the file below "In a container each block is
+//! padded".
 
 ghost use Rattle.std.specs.Prelude.{◌≡◌, ◌<◌, ◌≤◌, ◌+◌, ◌^◌, false, IfOk, OnErr, length};
 ghost use Rattle.adb_write.specs.Canonical.{MOST_BYTES, passes, gap, in_place, apart, run_cell, trimmed_words};

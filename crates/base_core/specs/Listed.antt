@@ -1,5 +1,5 @@
--- The listing of a folder. The rules stand in `docs/crash-safety.md`, "A tree at one moment" (its
--- end) and "What each call does" (`list`).
+-- The listing of a folder. The rules stand in `docs/crash-safety.md`, "A tree at one moment" ("Each
+-- state that a tree shows is *whole*") and "What each call does" (`list`).
 use Rattle.std.specs.Prelude.{◌≡◌, ◌↔◌, ℕ, List, Option, IsSome, All, AllPairs, Contains}
 use Rattle.std.specs.Ordering.{nat_cmp}
 use Rattle.std.specs.Cmp.Lexicographic.{slice_cmp}

@@ -1,5 +1,5 @@
 -- Which versions an operator of a dependency takes (apk-package(5), "depend"). The rule stands in
--- `docs/formats.md`, "Versions", last paragraph ("An operator has four bits").
+-- `docs/formats.md`, "Versions" ("An operator has four bits").
 use Rattle.std.specs.Prelude.{ℕ, ◌==◌, Bool, true, false, ◌&&◌, ◌||◌, not, if◌then◌else◌, List, [], ◌∷◌, length, take, Option, Some, None, bit_and}
 use Rattle.std.specs.Str.{bytes_eq}
 use Rattle.std.specs.Ordering.{is_lt, is_eq, is_gt}

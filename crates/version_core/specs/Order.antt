@@ -1,5 +1,5 @@
 -- The order of versions, after apk-package(5): by tokens, and the first that differ decide. The
--- rule stands in `docs/formats.md`, "Versions", second paragraph.
+-- rule stands in `docs/formats.md`, "Versions" ("A version is compared by its tokens").
 use Rattle.std.specs.Prelude.{ℕ, suc, zero, ◌-◌, Bool, true, false, not, if◌then◌else◌, List, [], ◌∷◌, Option, Some, None}
 use Rattle.std.specs.List.{list_all}
 use Rattle.std.specs.Ordering.{nat_cmp, on, then_cmp}

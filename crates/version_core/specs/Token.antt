@@ -1,6 +1,6 @@
 -- The tokens that a version's text is made of, after apk-package(5). The rule stands in
--- `docs/formats.md`, "Versions", first paragraph. Byte values: 46 `.`, 48 `0`, 95 `_`, 97 to 102
--- `a` to `f`, 114 `r`, 126 `~`, 45 `-`.
+-- `docs/formats.md`, "Versions" ("A version is a number"). Byte values: 46 `.`, 48 `0`, 95 `_`, 97
+-- to 102 `a` to `f`, 114 `r`, 126 `~`, 45 `-`.
 use Rattle.std.specs.Prelude.{ℕ, ◌+◌, ◌==◌, Bool, true, false, ◌&&◌, ◌||◌, nat_lt, nat_le, if◌then◌else◌, List, [], ◌∷◌, length, codes, Option, Some, None}
 use Rattle.std.specs.Char.{is_ascii_digit, is_ascii_lowercase}
 use Rattle.std.specs.List.{take_while}
