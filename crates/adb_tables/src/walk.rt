@@ -1,5 +1,6 @@
 //! The walk over a payload's values that tests their shape: depth first, each visit counted and
-//! then tested. The rule stands in `docs/formats.md`, "The shape".
+//! then tested. The rule stands in `docs/formats.md`, "The shape". In the clauses `bound` says that
+//! the count of visits stays within its limit.
 
 ghost use Rattle.std.specs.Prelude.{◌<◌, slice_index, ◌≡◌, ◌≤◌, ◌+◌, IfOk, true, is_some, length, is_none, ◌↔◌, ℕ, List, Some, None};
 ghost use Rattle.std.specs.Result.{result_err};

@@ -22,6 +22,7 @@ const HEAD: usize = 8;
 /// An ADB payload (apk-v3(5)) whose head has been tested.
 #[derive(Clone, Copy)]
 pub struct Adb<'a> {
+    /// The whole payload, its head with it.
     payload: &'a [u8],
     ghost whole: { 8 ≤ length payload.now },
 }
