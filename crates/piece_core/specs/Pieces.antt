@@ -89,7 +89,7 @@ pieces_by_blocks es (fault c) = refusal c
 pieces_by_blocks es (more b at r) =
     pieces_at_block b.kind b.payload at (λ left. pieces_by_blocks left r) es
 
--- the first failed test
+-- the fault that ended the pieces, if one did
 abbrev pub refusal_in : PiecesRead → Option Cause
 refusal_in no_piece = None
 refusal_in (refusal c) = Some c

@@ -105,6 +105,6 @@ opened_value pkg = checked_value pkg.checked
 abbrev pub opened_payload : Package → List ℕ
 opened_payload pkg = pkg.payload.now
 
--- the files that are still to be given
+-- the files of a package that are still to be given
 abbrev pub opened_files : Package → FilesRead
 opened_files pkg = unless_refused pkg.refused (files_left pkg.rest)
