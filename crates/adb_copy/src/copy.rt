@@ -27,16 +27,16 @@ use std::alloc::{AllocError, Global};
 /// The index of `depends` among the fields of a package's information (15 in table 3).
 const DEPENDS: usize = 14;
 
-// The index of `provides` (16 in table 3).
+/// The index of `provides` (16 in table 3).
 const PROVIDES: usize = 15;
 
-// The index of `replaces` (17 in table 3).
+/// The index of `replaces` (17 in table 3).
 const REPLACES: usize = 16;
 
-// The index of `install-if` (18 in table 3).
+/// The index of `install-if` (18 in table 3).
 const INSTALL_IF: usize = 17;
 
-// The index of `recommends` (19 in table 3).
+/// The index of `recommends` (19 in table 3).
 const RECOMMENDS: usize = 18;
 
 /// The index of `tags` (21 in table 3).

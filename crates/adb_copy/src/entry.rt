@@ -24,34 +24,34 @@ use std::alloc::AllocError;
 /// The index of the mode among the fields of an access list (1 in table 2).
 const MODE: usize = 0;
 
-// The index of the user (2 in table 2).
+/// The index of the user (2 in table 2).
 const USER: usize = 1;
 
-// The index of the group (3 in table 2).
+/// The index of the group (3 in table 2).
 const GROUP: usize = 2;
 
-// The index of the extended attributes (4 in table 2).
+/// The index of the extended attributes (4 in table 2).
 const XATTRS: usize = 3;
 
 /// The index of the name among the fields of a file (1 in table 4).
 const NAME: usize = 0;
 
-// The index of the access list (2 in table 4).
+/// The index of the access list (2 in table 4).
 const ACL: usize = 1;
 
-// The index of the size (3 in table 4).
+/// The index of the size (3 in table 4).
 const SIZE: usize = 2;
 
-// The index of the time of the last change (4 in table 4).
+/// The index of the time of the last change (4 in table 4).
 const MTIME: usize = 3;
 
-// The index of the hash (5 in table 4).
+/// The index of the hash (5 in table 4).
 const HASHES: usize = 4;
 
-// The index of the target (6 in table 4).
+/// The index of the target (6 in table 4).
 const TARGET: usize = 5;
 
-// The index of the field that is kept free (7 in table 4).
+/// The index of the field that is kept free (7 in table 4).
 const UNUSED: usize = 6;
 
 /// Writes the access list with a word of a payload once more.

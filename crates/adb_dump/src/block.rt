@@ -46,8 +46,9 @@ pub fn dump(alloc: Global, shaped: &Shaped<'_>) -> Result<Text, AllocError>
     }
 }
 
-/// How many times as many bytes as its payload a text may have that is not counted first. Most
-/// texts have fewer: a name of a field and the spaces before it stand for a word of four bytes.
+/// How many times as many bytes as its payload a text may have that is not counted first. Any
+/// number is right: with a greater one more memory is asked for, with a lesser one more texts are
+/// written twice.
 const MOST_TIMES: usize = 4;
 
 /// The text of a payload, where there is memory for `MOST_TIMES` as many bytes as the payload has,

@@ -11,7 +11,8 @@ ghost use Rattle.adb_tables.specs.Schema.{field_name_text};
 
 use adb_schema::FieldName;
 
-/// How many levels of two spaces stand in each front: more than nearly all lines have.
+/// How many levels of two spaces stand in each front. Any number is right: it decides which lines
+/// are begun by one put.
 pub(crate) const FRONT_LEVELS: u32 = 8;
 
 /// How many spaces these are: two for each level.
