@@ -15,7 +15,7 @@ use std::io::{ErrorKind, Write};
 const MOST_WORDS: usize = 4294967294;
 
 /// How often the buffer for a word is doubled before it counts as want of memory. It begins with
-/// 4,096 bytes, so a word may have four gigabytes.
+/// 4,096 bytes, so a word may have about two gigabytes.
 const MOST_DOUBLINGS: u32 = 20;
 
 /// Why the words are not read.
