@@ -10,8 +10,10 @@ use Rattle.adb_tables.specs.CountedWalk.{each_walk}
 use Rattle.adb_tables.specs.CountedWalk.{walk_visit}
 use Rattle.adb_tables.specs.CountedWalk.{◌>>=◌}
 use Rattle.adb_view.specs.Visits.{or_empty, fault_at, MOST_VALUES}
-use Rattle.std.specs.Result.{result_err}
+use Rattle.std.specs.Result.{result_err, result_ok}
+use Rattle.std.specs.Prelude.{is_some}
 use Rattle.adb_tables.specs.Schema.{schema_number, table, shape_of, shapes_of}
+use Rattle.adb_tables.specs.Leaves.{is_sound_leaf}
 use Rattle.adb_tables.specs.Rank.{rank, rank_of_all}
 use Rattle.adb_tables.specs.Shapes.{object_shape, objects_shape, texts_shape, int_shape, text_shape, hash_shape}
 use Rattle.base_core.specs.declared.cause.Cause.{Cause}
@@ -20,6 +22,7 @@ use Rattle.adb_tables.specs.declared.tables.Which.{Which}
 use Rattle.adb_tables.specs.declared.tables.Which.TheVariants.{Dep, Acl, PkgInfo, File, Dir, Scripts, Package, Index, Idb, Intent}
 use Rattle.adb_tables.specs.declared.tables.Kind.TheVariants.{Int, Text, Hash, Obj, TextArr, ObjArr}
 use Rattle.adb_tables.specs.declared.tables.Field.{Field}
+use Rattle.adb_tables.specs.declared.tables.Kind.{Kind}
 
 -- ---- over a list
 
@@ -166,3 +169,21 @@ object_ok p which n w ws lt e = walk_object p which n w lt ∙ bound_ok (run_of 
 
 pub object_err : (p : List ℕ) (which : Which) (n w : ℕ) (c : Cause) → n < MOST_VALUES → run_of OBJECT p w ≡ Err c → walk p (shape_of (Obj which)) n w ≡ Err c
 object_err p which n w c lt e = walk_object p which n w lt ∙ bound_err (run_of OBJECT p w) _ c e
+
+-- ---- a leaf
+
+leaf_step : {A : Type 0} (r : Result A Cause) (n : ℕ) → is_some (result_ok r) ≡ true → (r >>= λ x. Ok (n + 1)) ≡ Ok (n + 1)
+leaf_step (Ok x) n e = refl
+leaf_step (Err c) n e = absurd cc
+
+leaf_walk : (p : List ℕ) (kind : Kind) (n w : ℕ) → n < MOST_VALUES → is_sound_leaf p kind w ≡ true → walk p (shape_of kind) n w ≡ Ok (n + 1)
+leaf_walk p Int n w lt e = walk_int p n w lt ∙ leaf_step (int_of p w) n e
+leaf_walk p Text n w lt e = walk_text p n w lt ∙ leaf_step (blob_of p w) n e
+leaf_walk p Hash n w lt e = walk_hash p n w lt ∙ leaf_step (blob_of p w) n e
+leaf_walk p (Obj which) n w lt e = absurd cc
+leaf_walk p TextArr n w lt e = absurd cc
+leaf_walk p (ObjArr which) n w lt e = absurd cc
+
+pub fields_leaf : (p : List ℕ) (fs : List Field) (n : ℕ) (ws : List ℕ) (i : ℕ) (d : Field) → i < length fs → i < length ws → n < MOST_VALUES → is_sound_leaf p (get_or fs i d).kind (get_or ws i 0) ≡ true
+    → fields_walk p (shapes_of (drop i fs)) n (drop i ws) ≡ fields_walk p (shapes_of (drop (i + 1) fs)) (n + 1) (drop (i + 1) ws)
+fields_leaf p fs n ws i d lt lt' few e = fields_more p fs n ws i (n + 1) d lt lt' (leaf_walk p (get_or fs i d).kind n (get_or ws i 0) few e)

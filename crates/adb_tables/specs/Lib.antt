@@ -11,3 +11,4 @@ pub mod Shaped
 pub mod Rank
 pub mod Shapes
 pub mod VisitFault
+pub mod Leaves

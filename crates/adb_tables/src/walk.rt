@@ -22,7 +22,7 @@ ghost use Rattle.base_core.specs.declared.cause.Cause.{Cause};
 ghost use Rattle.adb_tables.specs.declared.tables.Which.{Which};
 ghost use Rattle.adb_tables.specs.declared.tables.Kind.TheVariants as Kinds;
 
-use crate::readers::{read_array, read_blob, read_int, read_object};
+use crate::readers::{is_sound_leaf, read_array, read_blob, read_int, read_object};
 use crate::shaped::Shaped;
 use crate::tables::{Field, Kind, Which, fields_of};
 use crate::visit_fault::VisitFault;
@@ -127,7 +127,7 @@ fn walk_entries(adb: Adb<'_>, kind: Kind, before: u32, entries: Arr<'_>) -> Resu
 
 /// Visits the entries of an object that have one of these fields.
 #[cycle(walk)]
-#[tactic(auto, using(crate::proofs::WalkSteps::fields_more, crate::proofs::WalkSteps::fields_stop, crate::proofs::WalkSteps::fields_past, crate::proofs::WalkSteps::fields_past_words, crate::proofs::WalkSteps::field_rank))]
+#[tactic(auto, using(crate::proofs::WalkSteps::fields_more, crate::proofs::WalkSteps::fields_stop, crate::proofs::WalkSteps::fields_past, crate::proofs::WalkSteps::fields_past_words, crate::proofs::WalkSteps::field_rank, crate::proofs::WalkSteps::fields_leaf))]
 fn walk_each_field(
     adb: Adb<'_>,
     fields: &[Field],
@@ -145,7 +145,12 @@ fn walk_each_field(
         if i >= entries.len() {
             break;
         }
-        count = walk_value(adb, field.kind, count, entry_word(entries, i))?;
+        let word = entry_word(entries, i);
+        if count < MOST_VISITS && is_sound_leaf(adb, field.kind, word) {
+            count += 1;
+        } else {
+            count = walk_value(adb, field.kind, count, word)?;
+        }
     }
     Ok(count)
 }
