@@ -13,11 +13,15 @@ use crate::visit_fault::VisitFault;
 use crate::walk::object_entries;
 use adb_view::{Adb, Arr, Val};
 
-/// Whether a value of this kind has none below it and can be read from the word. Most words of a
-/// payload are such, and none of them needs a call of its own.
+/// Whether nothing stands below the word and it can be read: NULL, or an integer, a text or a hash,
+/// as the kind asks. Most words of a payload are such, and none of them needs a call of its own.
+#[tactic(auto, unfolding(adb_view::specs::Readers::int_of, adb_view::specs::Readers::blob_of))]
 pub(crate) fn is_sound_leaf(adb: Adb<'_>, kind: Kind, word: Val) -> bool
     ensures { result ≡ is_sound_leaf (payload_of adb.entry) kind word }
 {
+    if word.is_null() {
+        return true;
+    }
     match kind {
         Kind::Int => match adb.find_int(word) {
             Some(_) => true,

@@ -127,7 +127,7 @@ fn walk_entries(adb: Adb<'_>, kind: Kind, before: u32, entries: Arr<'_>) -> Resu
 
 /// Visits the entries of an object that have one of these fields.
 #[cycle(walk)]
-#[tactic(auto, using(crate::proofs::WalkSteps::fields_more, crate::proofs::WalkSteps::fields_stop, crate::proofs::WalkSteps::fields_past, crate::proofs::WalkSteps::fields_past_words, crate::proofs::WalkSteps::field_rank, crate::proofs::WalkSteps::fields_leaf))]
+#[tactic(auto, using(crate::proofs::WalkSteps::fields_more, crate::proofs::WalkSteps::fields_stop, crate::proofs::WalkSteps::fields_end, crate::proofs::WalkSteps::field_rank, crate::proofs::WalkSteps::fields_leaf))]
 fn walk_each_field(
     adb: Adb<'_>,
     fields: &[Field],
@@ -141,15 +141,13 @@ fn walk_each_field(
     ensures bound { IfOk result (λ n. n ≤ MOST_VALUES) }
 {
     let mut count = before;
-    for (i, field) in fields.iter().enumerate() {
-        if i >= entries.len() {
-            break;
-        }
+    for i in 0..fields.len().min(entries.len()) {
+        let kind = fields[i].kind;
         let word = entry_word(entries, i);
-        if count < MOST_VISITS && is_sound_leaf(adb, field.kind, word) {
+        if count < MOST_VISITS && is_sound_leaf(adb, kind, word) {
             count += 1;
         } else {
-            count = walk_value(adb, field.kind, count, word)?;
+            count = walk_value(adb, kind, count, word)?;
         }
     }
     Ok(count)
