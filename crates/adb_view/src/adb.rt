@@ -175,13 +175,13 @@ impl<'a> Adb<'a> {
         if v.is_null() {
             return Some(&[]);
         }
-        let width = match v.kind() {
-            kind::BLOB_8 => Width::One,
-            kind::BLOB_16 => Width::Two,
-            kind::BLOB_32 => Width::Four,
-            _ => return None,
-        };
-        let (from, end) = counted_range(self.payload, v.low() as usize, width)?;
+        let at = v.low() as usize;
+        let (from, end) = match v.kind() {
+            kind::BLOB_8 => counted_range(self.payload, at, Width::One),
+            kind::BLOB_16 => counted_range(self.payload, at, Width::Two),
+            kind::BLOB_32 => counted_range(self.payload, at, Width::Four),
+            _ => None,
+        }?;
         Some(&self.payload[from..end])
     }
 
