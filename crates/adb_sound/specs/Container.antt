@@ -17,7 +17,7 @@ use Rattle.pkg_core.specs.Whole.{Packed}
 abbrev pub contents_payload : Contents → List ℕ
 contents_payload c = to_le_bytes w32 c.folder ++ (to_le_bytes w32 c.file ++ c.bytes)
 
--- the block of the contents of one file
+-- the block in which the contents of one file stand
 abbrev pub contents_piece : Contents → Piece
 contents_piece c = record { kind = Kinds.Contents; payload = contents_payload c }
 

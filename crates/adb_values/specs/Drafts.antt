@@ -15,7 +15,7 @@ pub record DraftState : Type 0 where
   -- how many words stand before each open list, the one that was opened last standing last
   pub starts : List ℕ
 
--- the draft that has these parts
+-- the draft of a writer that has written this, with these words and these beginnings of open lists
 abbrev pub draft_by : Writing → List ℕ → List ℕ → DraftState
 draft_by writing words starts = record { writing = writing; words = words; starts = starts }
 

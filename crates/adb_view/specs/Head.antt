@@ -14,6 +14,6 @@ head_fault payload =
     else if slice_index payload 0 == 0 then None
     else Some CompatVersion
 
--- the word of the root value
+-- the word of a payload's root value, in its bytes 4 to 7
 abbrev pub root_of : List ℕ → ℕ
 root_of payload = from_le_bytes w32 (take 4 (drop 4 payload))

@@ -19,7 +19,7 @@ width_len Two = 2
 width_len Four = 4
 width_len Eight = 8
 
--- the kind of the words that lead to a list
+-- the kind of the words that lead to a list: an array or an object
 abbrev pub list_kind : ListKind → ℕ
 list_kind Array = ARRAY
 list_kind Object = OBJECT

@@ -32,7 +32,7 @@ pub record Parts : Type 0 where
   -- the digits of the revision
   pub revision : Option (List ℕ)
 
--- whether a part that may be left out passes a test where it stands
+-- whether a part that may be left out passes a test, or is left out
 abbrev pub if_some : {X : Type 0} → (X → Bool) → Option X → Bool
 if_some test None = true
 if_some test (Some x) = test x
