@@ -205,7 +205,7 @@ impl<'a> Kinded for IdbView<'a> {
 impl<'a> View<'a> for IdbView<'a> {
     ghost shows = { λ view. value_at (payload_of view.adb) (Kinds.Obj Tables.Idb) view.word };
 
-    /// The view of a word that is sound as a database.
+    // The view of a word that is sound as a database.
     fn of(adb: Adb<'a>, word: Val) -> IdbView<'a> {
         IdbView { adb, word }
     }
@@ -240,7 +240,7 @@ impl<'a> Kinded for IntentView<'a> {
 impl<'a> View<'a> for IntentView<'a> {
     ghost shows = { λ view. value_at (payload_of view.adb) (Kinds.Obj Tables.Intent) view.word };
 
-    /// The view of a word that is sound as an intent.
+    // The view of a word that is sound as an intent.
     fn of(adb: Adb<'a>, word: Val) -> IntentView<'a> {
         IntentView { adb, word }
     }

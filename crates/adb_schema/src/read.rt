@@ -58,7 +58,7 @@ impl From<Cause> for ReadFault {
 
     ghost from_gives = { λ cause fault. fault ≡ Bad cause };
 
-    /// The first failed test as the fault of a read.
+    // The first failed test as the fault of a read.
     fn from(cause: Cause) -> ReadFault {
         ReadFault::Bad(cause)
     }
@@ -70,7 +70,7 @@ impl From<AllocError> for ReadFault {
 
     ghost from_gives = { λ _ fault. fault ≡ Memory };
 
-    /// Want of memory as the fault of a read.
+    // Want of memory as the fault of a read.
     fn from(_: AllocError) -> ReadFault {
         ReadFault::Memory
     }
