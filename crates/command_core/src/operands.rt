@@ -140,6 +140,7 @@ pub struct Operand {
 #[derive(Drop)]
 struct OperandEntry {
     operand: Operand,
+    // Read at once, so that lending it wants no memory.
     file: Option<Name>,
 }
 

@@ -106,6 +106,7 @@ impl OptionValue {
 #[derive(Drop)]
 struct ValueEntry {
     value: OptionValue,
+    // Read at once, so that lending it wants no memory.
     file: Option<Name>,
 }
 

@@ -20,9 +20,11 @@ const PATHS_IN_A_ROW: u32 = 4;
 /// The folder that the last paths stood in. The root is the empty path.
 #[derive(Drop)]
 pub struct LastFolder {
+    // Its path.
     path: Vec<u8>,
     // How many paths in a row stood in it.
     paths: u32,
+    // The folder held open, where it is deep and was asked for often enough.
     opened: Option<OpenFolder>,
 }
 

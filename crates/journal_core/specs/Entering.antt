@@ -43,7 +43,7 @@ pub record IsReady (intent : Intent) (base : Files) (made : ℕ) (v : TreeState)
   -- each file that waits for a write is synced; the writes are numbered from 1
   pub synced : (k n : ℕ) → 1 ≤ k → k < 1 + length intent.writes → v.names (stage_name k) ≡ Some n
       → (v.files n).synced ≡ true
-  -- its writes can be numbered, and its actions leave the intent and the stage alone
+  -- its writes can be numbered in 64 bits, and its actions leave the intent and the stage alone
   pub few : length intent.writes < 2 ^ 63
   pub free : HasFreeNames intent
 

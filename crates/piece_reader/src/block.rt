@@ -25,7 +25,9 @@ const POSITIONS_LEN: u64 = 8;
 /// where it has as many.
 #[derive(Clone, Copy)]
 pub(crate) struct BlockRead {
+    /// What its header frames; None where no block is left.
     pub framing: Option<Frame>,
+    /// The positions that its payload begins with; zeros where it has no eight bytes.
     pub positions: [u8; 8],
 }
 
@@ -80,6 +82,7 @@ pub(crate) fn next_block<'a, T: Tree>(
 
 /// The file that a block at an offset opens: its bytes stand behind the header and the positions.
 fn file_at<'a>(file: FileCheck<'a>, at: u64, framing: Option<Frame>) -> OpenFile<'a>
+    // Offsets have 64 bits; 8 bytes are the two positions.
     requires { at + head_size framing + 8 < 2 ^ 64 }
     ensures file { result.file ≡ file.entry }
     ensures at { result.at ≡ at + head_size framing + 8 }

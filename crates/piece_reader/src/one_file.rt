@@ -17,7 +17,9 @@ use pkg_pieces::Contents;
 /// `specs/`, which bytes of a package are still to come.
 #[derive(Drop)]
 pub struct FilePieces<'a> {
+    // The name of the package.
     pub(crate) name: &'a Name,
+    // How many bytes the package has.
     pub(crate) len: u64,
     // The values of the package, which tell what is due.
     pub(crate) contents: Contents<'a>,
@@ -167,7 +169,8 @@ impl<'a> FilePieces<'a> {
         }
     }
 
-    /// Reads the next piece, where no test failed.
+    /// Reads the next piece, where no test failed. The clauses are those of `next_piece`, but that
+    /// a failed test is not kept yet.
     fn read_next<T: Tree>(&mut self, tree: &mut T, piece: &mut Piece) -> Result<bool, PieceFault>
         requires { kept_fault self.old ≡ None }
         ensures piece { IfObservable (T.history tree.old) (λ v. (pkg left : List ℕ)

@@ -41,6 +41,7 @@ impl<'a> OpenFile<'a> {
         name: &Name,
         piece: &mut Piece,
     ) -> Result<(Part, Option<OpenFile<'a>>), PieceFault>
+        // Offsets have 64 bits.
         requires { self.at + file_bytes_left self.file < 2 ^ 64 }
         ensures seen { NotDisk result → (file_len : ℕ)
             → IsSeen (T.history tree.old) name.now file_len self.entry.at piece.new }

@@ -13,7 +13,9 @@ use thiserror::Error;
 /// A buffer for one piece, of up to 65,536 bytes. Contracts see the bytes that it holds.
 #[derive(Drop)]
 pub struct Piece {
+    /// Room for the longest piece.
     bytes: [u8; PIECE_LEN],
+    /// How many bytes the piece has.
     len: usize,
 }
 
@@ -38,7 +40,7 @@ impl Piece {
         }
     }
 
-    /// The bytes that the piece holds.
+    /// The bytes that the piece holds, at most 65,536 (`PIECE_LEN` of `piece_core`).
     pub fn bytes(&self) -> &[u8]
         ensures bytes { result.now ≡ self.now }
         ensures few { length result.now ≤ 65536 }

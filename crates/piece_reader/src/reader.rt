@@ -35,6 +35,7 @@ pub(crate) enum Due {
 /// whose piece came last.
 #[derive(Drop)]
 pub struct PieceReader<'a> {
+    /// The name of the package.
     pub(crate) name: &'a Name,
     /// Where the reader stands in the blocks: behind the one of the file that is open.
     pub(crate) place: BlockPlace<'a>,
@@ -42,6 +43,7 @@ pub struct PieceReader<'a> {
     pub(crate) opened: Option<OpenFile<'a>>,
     /// The offset at which the file begins whose piece came last.
     pub(crate) start: u64,
+    /// Whether files are left, the last block was passed, or a test failed.
     pub(crate) due: Due,
     ghost within: { place.at ≤ place.len },
     ghost behind: { open_end opened ≤ place.at },
@@ -158,7 +160,7 @@ impl<'a> PieceReader<'a> {
     }
 
     /// Reads the next piece, where files are left, and keeps the end or a failed test for the next
-    /// calls.
+    /// calls. The clauses are those of `next_piece`.
     fn read_due<T: Tree>(
         &mut self,
         tree: &mut T,
@@ -204,7 +206,8 @@ impl<'a> PieceReader<'a> {
         }
     }
 
-    /// Reads the next piece of the file that is open, or of the next one.
+    /// Reads the next piece of the file that is open, or of the next one. The clauses are those of
+    /// `next_piece`, but that a failed test is not kept yet.
     fn read_next<T: Tree>(
         &mut self,
         tree: &mut T,

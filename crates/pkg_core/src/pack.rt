@@ -61,6 +61,7 @@ impl From<ReadFault> for PackageFault {
 /// that hold it, and the files that are left.
 #[derive(Drop)]
 pub struct Package<'a> {
+    /// The values.
     checked: Checked<'a>,
     /// The payload of the first block, of which the id is taken.
     payload: &'a [u8],

@@ -60,7 +60,9 @@ pub fn read_front<T: Tree>(
 /// see the bytes.
 #[derive(Drop)]
 struct Header {
+    /// `ADB.` and the schema; what was not read is 0.
     bytes: [u8; 8],
+    /// How many bytes were read.
     len: usize,
 }
 
@@ -142,6 +144,7 @@ fn read_present<T: Tree>(
     if found != schema {
         return Err(FrontFault::Bad(Cause::WrongSchema { found }));
     }
+    // The file's header has eight bytes, and the first block stands behind it.
     let head = HeadBytes::read(tree, name, 8, len - 8)?;
     let framed = first_framed(len - 8, &head)?;
     let padding = padding_behind(framed, len - 8);

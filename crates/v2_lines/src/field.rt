@@ -7,23 +7,41 @@ ghost use Rattle.v2_lines.specs.InfoFields.{info_field_among, field_of_letter, g
 /// A field of a package that a line gives (the installed database of apk-tools 2).
 #[derive(Clone, Copy, Debug, PartialEq, Eq)]
 pub enum InfoField {
+    /// Of lines `C:`.
     Hashes,
+    /// Of lines `P:`.
     Name,
+    /// Of lines `V:`.
     Version,
+    /// Of lines `A:`.
     Arch,
+    /// Of lines `T:`.
     Description,
+    /// Of lines `U:`.
     Url,
+    /// Of lines `L:`.
     License,
+    /// Of lines `o:`.
     Origin,
+    /// Of lines `m:`.
     Maintainer,
+    /// Of lines `I:`.
     InstalledSize,
+    /// Of lines `t:`.
     BuildTime,
+    /// Of lines `k:`.
     ProviderPriority,
+    /// Of lines `q:`.
     ReplacesPriority,
+    /// Of lines `c:`.
     RepoCommit,
+    /// Of lines `D:`.
     Depends,
+    /// Of lines `p:`.
     Provides,
+    /// Of lines `r:`.
     Replaces,
+    /// Of lines `i:`.
     InstallIf,
 }
 
