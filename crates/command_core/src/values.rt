@@ -94,7 +94,8 @@ pub struct OptionValue {
 }
 
 impl OptionValue {
-    /// Of a value TYPE:FILE, as `--script` has, the part before the first `:`.
+    /// The type of a script: of a value TYPE:FILE, as `--script` has, the part before the first
+    /// `:`.
     pub fn script_type(&self) -> &[u8]
         ensures { result.now ≡ script_type self.now.text }
     {

@@ -69,7 +69,7 @@ fn is_deep(folder: &[u8]) -> bool {
 /// An open folder, and the path by which the host leads to it in one step.
 #[derive(Drop)]
 struct OpenFolder {
-    // It stays open as long as the path is used.
+    // The open folder, which stays open as long as the path is used.
     _file: File,
     // The path of the folder and a slash, with the part that was asked for last.
     path: Vec<u8>,

@@ -23,8 +23,8 @@ pub record IsWritten (place : List ℕ) (file : File) (start v : TreeState) : Ty
   pub kept : (q : List ℕ) (n : ℕ) → q ≢ place → v.names q ≡ Some n → v.files n ≡ start.files n
 
 -- a moment before the publishing at which all waits: the intent under the name with number 0, and the
--- files of its writes; `base` are the files as read without the intent, and `made` is the number of
--- files made before it
+-- files of its writes; `base` are the files as read without the intent, and `made` is how many files
+-- were made before it
 pub record IsReady (intent : Intent) (base : Files) (made : ℕ) (v : TreeState) : Type 0 where
   -- no intent stands under its name
   pub absent : v.names intent_name ≡ None

@@ -37,7 +37,7 @@ pub(crate) fn intent_file(
         ≡ Some (bytes, values) }
     ensures fits { OnOk result
         (overflow_of (value_of_intent (intent_of_lists removals.now writes.now)) ≡ None) }
-    // So the count of all names, and the number behind it, have 64 bits.
+    // The count of all names, and the number behind it, have 64 bits.
     ensures few { OnOk result (length removals.now + length writes.now < 2 ^ 63) }
 {
     an_intent_is_read_back();

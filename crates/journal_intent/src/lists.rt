@@ -34,7 +34,7 @@ pub(crate) struct IntentLists {
 pub(crate) fn read_lists(alloc: Global, file: &[u8]) -> Result<IntentLists, ReadFault>
     ensures intent { IfOk result
         (λ lists. read_intent file.now ≡ Some (intent_of_lists lists.removals lists.writes)) }
-    // So the count of all names, and the number behind it, have 64 bits.
+    // The count of all names, and the number behind it, have 64 bits.
     ensures few { IfOk result (λ lists. length lists.removals + length lists.writes < 2 ^ 63) }
     ensures bad { IfErr result (λ fault. IsReadFault fault (first_fault IntentTable file.now)) }
     ensures good { OnOk result (first_fault IntentTable file.now ≡ None) }

@@ -68,7 +68,7 @@ pub fn recover<T: Tree>(alloc: Global, tree: &mut T) -> Result<(), RecoverFault>
         → Since (λ w. w.names intent_name ≡ None → ShownNamesLast w)
         (T.history tree.old) (T.history tree.new)) }
 
-    // Nor does a crash bring the intent back.
+    // Once it has answered Ok, no crash brings an intent back that it found.
     ensures gone { IfObservable (T.history tree.old) (λ v. IsSome (v.names intent_name)
         → OnOk result (HasNow (T.history tree.new) (IsInNoMap intent_name))) }
 

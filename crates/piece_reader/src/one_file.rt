@@ -143,7 +143,7 @@ impl<'a> FilePieces<'a> {
         ensures piece { IfObservable (T.history tree.old) (λ v. (pkg left : List ℕ)
             → files_of v (package_of_file self.old) ≡ Some pkg → IsFileReading self.old pkg left
             → GivesBytes (IsFileReading self.new pkg) left piece.new result) }
-        // Of each package, also of one that was changed since: the last piece and the end come only
+        // For each package, also one that was changed since: the last piece and the end come only
         // where all bytes together have the size and the digest that are due.
         ensures tested { (so_far : List ℕ) → HaveCome self.old so_far
             → ComesBehind self.old so_far piece.new result self.new }

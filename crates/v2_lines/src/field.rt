@@ -7,41 +7,41 @@ ghost use Rattle.v2_lines.specs.InfoFields.{info_field_among, field_of_letter, g
 /// A field of a package that a line gives (the installed database of apk-tools 2).
 #[derive(Clone, Copy, Debug, PartialEq, Eq)]
 pub enum InfoField {
-    /// Of lines `C:`.
+    /// The field of lines `C:value`.
     Hashes,
-    /// Of lines `P:`.
+    /// The field of lines `P:value`.
     Name,
-    /// Of lines `V:`.
+    /// The field of lines `V:value`.
     Version,
-    /// Of lines `A:`.
+    /// The field of lines `A:value`.
     Arch,
-    /// Of lines `T:`.
+    /// The field of lines `T:value`.
     Description,
-    /// Of lines `U:`.
+    /// The field of lines `U:value`.
     Url,
-    /// Of lines `L:`.
+    /// The field of lines `L:value`.
     License,
-    /// Of lines `o:`.
+    /// The field of lines `o:value`.
     Origin,
-    /// Of lines `m:`.
+    /// The field of lines `m:value`.
     Maintainer,
-    /// Of lines `I:`.
+    /// The field of lines `I:value`.
     InstalledSize,
-    /// Of lines `t:`.
+    /// The field of lines `t:value`.
     BuildTime,
-    /// Of lines `k:`.
+    /// The field of lines `k:value`.
     ProviderPriority,
-    /// Of lines `q:`.
+    /// The field of lines `q:value`.
     ReplacesPriority,
-    /// Of lines `c:`.
+    /// The field of lines `c:value`.
     RepoCommit,
-    /// Of lines `D:`.
+    /// The field of lines `D:value`.
     Depends,
-    /// Of lines `p:`.
+    /// The field of lines `p:value`.
     Provides,
-    /// Of lines `r:`.
+    /// The field of lines `r:value`.
     Replaces,
-    /// Of lines `i:`.
+    /// The field of lines `i:value`.
     InstallIf,
 }
 
