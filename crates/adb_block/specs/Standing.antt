@@ -1,4 +1,5 @@
--- Where a reader of blocks stands.
+-- Where a reader of blocks stands. The rule stands in `docs/formats.md`, "Container", first
+-- paragraph: the first block begins at offset 8.
 use Rattle.std.specs.Prelude.{ℕ, List, drop, Option, None}
 use Rattle.adb_block.specs.declared.block.BlockKind.{BlockKind}
 
@@ -10,6 +11,7 @@ pub record Standing : Type 0 where
   pub at : ℕ
   pub left : List ℕ
 
--- behind the header, which has 8 bytes, and before the first block
+-- where a reader stands at first: behind the file's header, which has 8 bytes, and before the first
+-- block
 abbrev pub start_of : ℕ → List ℕ → Standing
 start_of schema file = record { schema = schema; last = None; at = 8; left = drop 8 file }

@@ -2,6 +2,7 @@
 -- counted from 0.
 use Rattle.std.specs.Prelude.{ℕ, zero, suc, ◌+◌, ◌-◌, ◌*◌, ◌^◌, List, [], ◌∷◌, ◌++◌, length, drop, codes, bytes_eq, Option, Some, None, option_map, option_and_then, Result, Ok, Err, nat_lt, ◌==◌, if◌then◌else◌}
 use Rattle.std.specs.Str.Parse.{digits_value}
+use Rattle.base_core.specs.Lists.{and_then}
 use Rattle.adb_view.specs.Plain.{Plain, null, int, blob, arr, obj, Plains, none, more, Shape, number, text, hash, array, object, Fields, no_fields, field}
 use Rattle.adb_tables.specs.Schema.{shape_of}
 use Rattle.adb_tables.specs.declared.tables.Which.{Which}
@@ -16,11 +17,6 @@ LinesRead A = Result A ℕ
 abbrev pub after_lines : {A B : Type 0} → ℕ → (A → B) → LinesRead A → LinesRead B
 after_lines n f (Ok x) = Ok (f x)
 after_lines n f (Err k) = Err (n + k)
-
--- goes on with what was read; the number of a bad line stays
-abbrev pub bind : {A B : Type 0} → LinesRead A → (A → LinesRead B) → LinesRead B
-bind (Ok x) f = f x
-bind (Err k) f = Err k
 
 -- what stands behind a front, if the line begins with it
 abbrev pub strip_prefix : List ℕ → List ℕ → Option (List ℕ)
@@ -110,7 +106,7 @@ if_form form l (Some v) = if bytes_eq (form v) l then Ok v else Err 0
 abbrev pub only_line : (Line → LinesRead Plain) → List Line → LinesRead Plain
 only_line f [] = Err 0
 only_line f (l ∷ []) = f l
-only_line f (l ∷ m ∷ ls) = bind (f l) (λ v. Err 1)
+only_line f (l ∷ m ∷ ls) = and_then (f l) (λ v. Err 1)
 
 -- ---- lists
 
@@ -124,7 +120,7 @@ abbrev pub after_dash : (List Line → LinesRead Plain) → (List Line → Lines
     → List Line × List Line → Option Line → LinesRead Plains
 after_dash f g r None = Err 0
 after_dash f g r (Some l) =
-    bind (entry_read f l r.0) (λ v. after_lines (1 + length r.0) (more v) (g r.1))
+    and_then (entry_read f l r.0) (λ v. after_lines (1 + length r.0) (more v) (g r.1))
 
 -- The number bounds the turns; the length is enough.
 abbrev pub entries_read : (List Line → LinesRead Plain) → ℕ → List Line → LinesRead Plains
@@ -147,13 +143,13 @@ obj_read (more v vs) = Ok (obj (more v vs))
 abbrev pub field_on_line : (Line → LinesRead Plain) → (List Line → LinesRead Plains) → List Line
     → Option Line → LinesRead Plains
 field_on_line f g ls None = Err 0
-field_on_line f g ls (Some l) = bind (f l) (λ v. after_lines 1 (more v) (g ls))
+field_on_line f g ls (Some l) = and_then (f l) (λ v. after_lines 1 (more v) (g ls))
 
 -- a value below its name, behind which nothing stands on the line, and then the other fields
 abbrev pub field_below : (List Line → LinesRead Plain) → (List Line → LinesRead Plains)
     → List Line × List Line → Line → LinesRead Plains
 field_below f g r [] =
-    bind (after_lines 1 (λ v. v) (f r.0)) (λ v. after_lines (1 + length r.0) (more v) (g r.1))
+    and_then (after_lines 1 (λ v. v) (f r.0)) (λ v. after_lines (1 + length r.0) (more v) (g r.1))
 field_below f g r (c ∷ cs) = Err 0
 
 -- the line begins another field, or what is behind `name:`
@@ -167,8 +163,8 @@ unfoldable mutual
   block_read number ls = only_line (λ l. if_form int_line l (int_read l)) ls
   block_read text ls = only_line (λ l. if_form text_line l (text_read l)) ls
   block_read hash ls = only_line (λ l. if_form hash_line l (hash_read l)) ls
-  block_read (array s) ls = bind (entries_read (block_read s) (length ls) ls) arr_read
-  block_read (object schema fs) ls = bind (fields_read fs ls) obj_read
+  block_read (array s) ls = and_then (entries_read (block_read s) (length ls) ls) arr_read
+  block_read (object schema fs) ls = and_then (fields_read fs ls) obj_read
 
   -- the value of a field, from behind `name:` on, and then the other fields
   pub named_read : Shape → (List Line → LinesRead Plains) → List Line → Line → LinesRead Plains
@@ -179,8 +175,8 @@ unfoldable mutual
   named_read hash g ls l = field_on_line (λ l. if_form hash_line l (hash_read l)) g ls
       (strip_prefix (codes " ") l)
   named_read (array s) g ls l = field_below
-      (λ ls. bind (entries_read (block_read s) (length ls) ls) arr_read) g (split_block ls) l
-  named_read (object schema fs) g ls l = field_below (λ ls. bind (fields_read fs ls) obj_read) g
+      (λ ls. and_then (entries_read (block_read s) (length ls) ls) arr_read) g (split_block ls) l
+  named_read (object schema fs) g ls l = field_below (λ ls. and_then (fields_read fs ls) obj_read) g
       (split_block ls) l
 
   -- the fields of an object in order; one whose name does not come next is Null

@@ -1,13 +1,9 @@
 -- In the words of the format: which pair of positions is the first at which one name stands.
 use Rattle.std.specs.Prelude.{◌≡◌, ℕ, ◌<◌, ◌≤◌, ◌⊎◌, List, [], ◌∷◌, Option, Some, None}
+pub use Rattle.base_core.specs.Lists.{IsIn}
 use Rattle.adb_fields.specs.Pairs.{NameWithPosition}
 use Rattle.adb_fields.specs.Repeated.{numbered_from}
 use Rattle.adb_fields.specs.declared.pairs.Pair.{Pair}
-
--- what is in a list, by recursion on it
-abbrev pub IsIn : {A : Type 0} → A → List A → Type 0
-IsIn x [] = ⊥
-IsIn x (y ∷ ys) = (x ≡ y) ⊎ IsIn x ys
 
 -- one name stands at both positions
 pub record IsPair (names : List NameWithPosition) (p : Pair) : Type 0 where

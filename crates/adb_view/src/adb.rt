@@ -1,5 +1,6 @@
 //! An opened payload and its four readers, and what follows from the definitions, for every
-//! payload.
+//! payload. The rules stand in `docs/formats.md`, "Values": the head in its first paragraph, the
+//! kinds of words in its table, what each reader answers below it.
 
 ghost use Rattle.std.specs.Prelude.{◌≡◌, ◌≤◌, length, slice_range, IfOk, ◌<◌, ℕ, List, All, IfSome, is_some};
 ghost use Rattle.std.specs.Result.{result_err, result_ok};
@@ -15,7 +16,7 @@ use crate::run::{Arr, Obj};
 use crate::words::{Val, Width, counted_range, kind, number};
 use base_core::Cause;
 
-/// The bytes before the values.
+/// How many bytes stand before the values: the version, what nobody looks at, and the root's word.
 const HEAD: usize = 8;
 
 /// An ADB payload (apk-v3(5)) whose head has been tested.
@@ -48,14 +49,14 @@ impl<'a> Adb<'a> {
         Ok(Adb { payload })
     }
 
-    /// The whole payload, the head with it.
+    /// All bytes of the payload, its head with them.
     pub fn payload(&self) -> &'a [u8]
         ensures { result.now ≡ payload_of self.now }
     {
         self.payload
     }
 
-    /// The root value.
+    /// The word of the payload's root value.
     pub fn root(&self) -> Val
         ensures { result ≡ root_of (payload_of self.now) }
     {

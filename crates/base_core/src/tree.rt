@@ -1,4 +1,6 @@
 //! What holds files: the trait `Tree` with the meaning of its calls, and a read of a whole file.
+//! What each call does stands in `docs/crash-safety.md`, "What each call does"; where a call is a
+//! misuse, and what is counted, in "Misuses, faults and counts".
 ghost use Rattle.std.specs.Prelude.{◌≡◌, List, Option, length, take, drop, IfOk, OnOk, IfSome, IsErrOf, All};
 ghost use Rattle.std.specs.Option.{option_map};
 ghost use Rattle.base_core.specs.Tree.{TreeState, files_of, after_create, after_append, after_failed_append, after_sync, after_rename, after_remove, after_sync_names, same_state, Anywhere, HasName, CanRead, CanCreate, CanRename, IsWhole};
@@ -31,6 +33,7 @@ pub enum TreeFault {
 impl From<Disk> for TreeFault {
     ghost from_gives = { λ _ fault. fault ≡ DiskFault };
 
+    /// The fault of a tree as the fault of a call that reads it into memory.
     fn from(_: Disk) -> TreeFault {
         TreeFault::Disk
     }
@@ -39,6 +42,7 @@ impl From<Disk> for TreeFault {
 impl From<AllocError> for TreeFault {
     ghost from_gives = { λ _ fault. fault ≡ Memory };
 
+    /// Want of memory as the fault of such a call.
     fn from(_: AllocError) -> TreeFault {
         TreeFault::Memory
     }

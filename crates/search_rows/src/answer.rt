@@ -91,7 +91,7 @@ struct Command<'a> {
 }
 
 /// The answer of a question, as often as the row says, or what stands in its way.
-pub fn answer(alloc: Global, row: &Row<'_>, query: &[u8]) -> Result<Vec<u8>, AllocError> {
+pub(crate) fn answer(alloc: Global, row: &Row<'_>, query: &[u8]) -> Result<Vec<u8>, AllocError> {
     let mut text = Vec::new(alloc);
     add_answer(alloc, row, query, &mut text)?;
     Ok(text)

@@ -29,7 +29,7 @@ const FIELDS: [(&[u8], (usize, Form)); 5] = [
 
 /// The payload of an index with these packages. What is no part of a package is passed over, and
 /// an index that passes a limit has none.
-pub fn index_payload(alloc: Global, text: &[u8]) -> Result<Vec<u8>, AllocError> {
+pub(crate) fn index_payload(alloc: Global, text: &[u8]) -> Result<Vec<u8>, AllocError> {
     let mut writer = Writer::new(alloc);
     let mut packages = Vec::new(alloc);
     for part in text.split(|byte| *byte == b';') {

@@ -6,7 +6,11 @@ use std::alloc::{AllocError, Global};
 
 /// Runs all rows of a text, adds a line for each answer that is not the wanted one, and one with
 /// counts. Answers whether none failed.
-pub fn run_rows(alloc: Global, text: &[u8], report: &mut Vec<u8>) -> Result<bool, AllocError> {
+pub(crate) fn run_rows(
+    alloc: Global,
+    text: &[u8],
+    report: &mut Vec<u8>,
+) -> Result<bool, AllocError> {
     let mut run = Run {
         alloc,
         row: Row::new(alloc, b""),

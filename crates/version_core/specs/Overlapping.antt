@@ -1,4 +1,6 @@
--- Places in bytes that versions stand in, and what it is that one place leads to another.
+-- Places in bytes that versions stand in, and what it is that one place leads to another. Serves
+-- the proof of `OverlappingVersions` (its row in the README of this crate); what a version is
+-- stands in `docs/formats.md`, "Versions".
 use Rattle.std.specs.Prelude.{◌≡◌, ℕ, ◌<◌, ◌≤◌, Bool, if◌then◌else◌, List, slice_range, Some}
 use Rattle.version_core.specs.Order.{are_in_grammar, tokens_behind}
 use Rattle.version_core.specs.Reading.{is_hash, unread_len}
@@ -9,13 +11,13 @@ use Rattle.version_core.specs.declared.overlapping.Place.{Place}
 abbrev pub passed_len : Lexeme → ℕ
 passed_len found = if is_hash found.token.class then 2 else found.width
 
--- whether so much of a text may follow in a version behind a place; of a hash, the place may stand
--- between its digits
+-- whether this text may be all that follows in a version behind a place, which may stand between
+-- the digits of a hash
 abbrev pub is_good_rest : Place → List ℕ → Bool
 is_good_rest place rest =
     are_in_grammar (tokens_behind (Some place.class) (unread_len (Some place.class) rest) rest)
 
--- whether what stands between a place and an end may follow there
+-- whether what stands between a place and an end may be all that follows in a version there
 abbrev pub can_follow : List ℕ → Place → ℕ → Bool
 can_follow bytes place end = is_good_rest place (slice_range bytes place.at end)
 

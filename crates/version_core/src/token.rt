@@ -1,4 +1,6 @@
-//! The classes of tokens, the order of tokens, and the tokens of a text one after the other.
+//! The classes of tokens, the order of tokens, and the tokens of a text one after the other. The
+//! rules stand in `docs/formats.md`, "Versions": the classes and their order in the second
+//! paragraph, what a fuzzy match allows in the third.
 
 ghost use Rattle.std.specs.Prelude.{◌≡◌, ◌<◌, Some, false, [], ◌∷◌, drop, if◌then◌else◌};
 ghost use Rattle.version_core.specs.Token.{is_before_hash, is_before_revision, is_component, is_suffix};
@@ -26,7 +28,7 @@ pub enum Class {
 }
 
 impl Class {
-    /// Its place in the order of classes, the first with 0.
+    /// The place of the class in the order of classes, the first with 0.
     fn rank(self) -> u8
         ensures { result ≡ class_rank self }
     {
@@ -40,21 +42,21 @@ impl Class {
         matches!(self, Class::End | Class::Stray)
     }
 
-    /// Whether it is of a component of the number.
+    /// Whether a token of this class is a component, so that a component or a letter may follow.
     pub fn is_component(self) -> bool
         ensures { result ≡ is_component self }
     {
         matches!(self, Class::ZeroComponent | Class::Component)
     }
 
-    /// Whether it is of a suffix.
+    /// Whether a token of this class is a suffix, so that a number without a mark may follow.
     pub fn is_suffix(self) -> bool
         ensures { result ≡ is_suffix self }
     {
         matches!(self, Class::PreRelease | Class::Suffix)
     }
 
-    /// Whether a suffix or a hash may follow.
+    /// Whether a suffix or a hash may follow a token of this class.
     pub fn is_before_hash(self) -> bool
         ensures { result ≡ is_before_hash self }
     {
@@ -64,7 +66,7 @@ impl Class {
         }
     }
 
-    /// Whether a revision may follow.
+    /// Whether a revision may follow a token of this class.
     pub fn is_before_revision(self) -> bool
         ensures { result ≡ is_before_revision self }
     {
@@ -119,7 +121,7 @@ pub struct Tokens<'a> {
 }
 
 impl<'a> Tokens<'a> {
-    /// The tokens of a text.
+    /// All tokens of a text, from its front on.
     #[tactic(auto, unfolding(crate::specs::Order::tokens))]
     pub fn of(text: &'a [u8]) -> Tokens<'a>
         ensures { tokens_left result ≡ tokens text.entry.now }
@@ -141,7 +143,7 @@ impl<'a> Tokens<'a> {
         }
     }
 
-    /// Takes the next token.
+    /// Takes the next token. Behind the last one, the end or a stray one, nothing is to be taken.
     pub fn next(&mut self) -> TokenAt<'a>
         ensures tokens { tokens_left self.old
             ≡ token_view result ∷ (if is_last result.class then [] else tokens_left self.new) }
@@ -154,7 +156,7 @@ impl<'a> Tokens<'a> {
         lexeme.token
     }
 
-    /// What is left behind the token before.
+    /// What stands behind the token that was taken last, also behind the digits of a hash.
     fn unread_text(&self) -> &'a [u8]
         ensures { result.now ≡ drop (unread_len self.now.last self.now.rest.now) self.now.rest.now }
     {
