@@ -222,6 +222,7 @@ impl Operands {
     {
         match &self.entries[i].file {
             Some(file) => file,
+            // Each operand is a file here, so that its name was read.
             None => unreachable!(),
         }
     }

@@ -246,6 +246,7 @@ impl Values {
     {
         match &self.entries[i].file {
             Some(file) => file,
+            // The value is of a script and has a file, so that its name was read.
             None => unreachable!(),
         }
     }

@@ -157,6 +157,7 @@ fn fill<T: Tree>(tree: &mut T, name: &Name, bytes: &[u8]) -> Result<(), Disk>
     ensures others { IfObservable (T.history tree.old) (λ v.
         Since (KeepsMapsBut (name.now ∷ []) v) (T.history tree.old) (T.history tree.new)) }
 {
+    // Laws that the proof needs; they compute nothing.
     a_crash_may_leave_the_files_as_read();
     order_outlasts_a_crash::<Journal>();
     remove(tree, name)?;
@@ -189,6 +190,7 @@ fn settle<T: Tree>(tree: &mut T, from: &Name, to: &Name) -> Result<(), Disk>
     ensures proper { IfObservable (T.history tree.old) (λ v. CanRename from.now to.now v
         → (T.counts tree.new).misuses ≡ (T.counts tree.old).misuses) }
 {
+    // Laws that the proof needs; they compute nothing.
     a_crash_may_leave_the_files_as_read();
     order_outlasts_a_crash::<Journal>();
     rename(tree, from, to)?;

@@ -59,6 +59,7 @@ pub(crate) fn act<T: Tree>(
         → IsActing (acting_stage intent.now acted) files v → HasRoomBeside files
         → (T.counts tree.new).misuses ≡ (T.counts tree.old).misuses) }
 {
+    // A law that the proof needs; it computes nothing.
     intent.names_are_free();
     let removals = intent.removals_len();
     if acted < removals {
@@ -105,6 +106,7 @@ fn remove_one<T: Tree>(intent: &PreparedIntent, i: usize, tree: &mut T) -> Resul
     ensures proper { IfObservable (T.history tree.old)
         (λ v. (T.counts tree.new).misuses ≡ (T.counts tree.old).misuses) }
 {
+    // Laws that the proof needs; they compute nothing.
     a_crash_may_leave_the_files_as_read();
     order_outlasts_a_crash::<Journal>();
     intent.names_are_free();
@@ -152,6 +154,7 @@ fn move_one<T: Tree>(
         → IsActing (acting_stage intent.now acted) files v → HasRoomBeside files
         → (T.counts tree.new).misuses ≡ (T.counts tree.old).misuses) }
 {
+    // Laws that the proof needs; they compute nothing.
     a_crash_may_leave_the_files_as_read();
     order_outlasts_a_crash::<Journal>();
     intent.names_are_free();

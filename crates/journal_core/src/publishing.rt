@@ -73,6 +73,7 @@ pub(crate) fn publish_intent<T: Tree>(tree: &mut T, intent: &PreparedIntent) -> 
         (base : Files) → IsStaged (full_stage intent.now) contents None base v
         → HasRoomToStage base → (T.counts tree.new).misuses ≡ (T.counts tree.old).misuses) }
 {
+    // A law that the proof needs; it computes nothing.
     intent.names_are_free();
     write_waiting(tree, intent.stage_name(0), intent.file())?;
     enter(tree, intent.stage_name(0), intent.name())
@@ -107,6 +108,7 @@ fn write_waiting<T: Tree>(tree: &mut T, place: &Name, bytes: &[u8]) -> Result<()
     ensures proper { IfObservable (T.history tree.old) (λ v. CanCreate place.now v
         → (T.counts tree.new).misuses ≡ (T.counts tree.old).misuses) }
 {
+    // Laws that the proof needs; they compute nothing.
     a_crash_may_leave_the_files_as_read();
     order_outlasts_a_crash::<Journal>();
     create(tree, place)?;
@@ -158,6 +160,7 @@ fn enter<T: Tree>(tree: &mut T, place: &Name, name: &Name) -> Result<(), Disk>
     ensures proper { IfObservable (T.history tree.old) (λ v. CanRename place.now name.now v
         → (T.counts tree.new).misuses ≡ (T.counts tree.old).misuses) }
 {
+    // Laws that the proof needs; they compute nothing.
     a_crash_may_leave_the_files_as_read();
     order_outlasts_a_crash::<Journal>();
     sync_all_names(tree)?;

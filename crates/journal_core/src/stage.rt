@@ -123,6 +123,7 @@ impl Stage {
     pub(crate) fn has_more(&self) -> bool
         ensures { result ≡ nat_lt self.now.acted (action_count self.now.intent) }
     {
+        // A law that the proof needs; it computes nothing.
         self.intent.names_are_free();
         self.acted < self.intent.removals_len() + self.intent.writes_len()
     }
@@ -133,6 +134,7 @@ impl Stage {
         ensures free { HasFreeNames self.now.intent }
         ensures few { action_count self.now.intent < 2 ^ 63 }
     {
+        // A law that the proof needs; it computes nothing.
         self.intent.names_are_free();
     }
 
@@ -141,6 +143,7 @@ impl Stage {
         requires { self.now.staged < length self.now.intent.writes }
         ensures { IsNextName result.now self.now }
     {
+        // A law that the proof needs; it computes nothing.
         self.intent.names_are_free();
         self.intent.stage_name(self.staged + 1)
     }
@@ -150,6 +153,7 @@ impl Stage {
         requires { self.now.is_open ≡ true }
         ensures { IsNextName result.now self.now }
     {
+        // A law that the proof needs; it computes nothing.
         self.intent.names_are_free();
         self.intent.stage_name(self.staged + 1)
     }
@@ -192,6 +196,7 @@ impl Stage {
             (base : Files) → IsStaged self.old contents None base v → HasRoomToStage base
             → (T.counts tree.new).misuses ≡ (T.counts tree.old).misuses) }
     {
+        // Laws that the proof needs; they compute nothing.
         a_crash_may_leave_the_files_as_read();
         order_outlasts_a_crash::<Journal>();
         create(tree, self.next_name())?;
@@ -236,6 +241,7 @@ impl Stage {
             (so_far : List ℕ) (base : Files) → IsStaged self.old contents (Some so_far) base v
             → (T.counts tree.new).misuses ≡ (T.counts tree.old).misuses) }
     {
+        // Laws that the proof needs; they compute nothing.
         a_crash_may_leave_the_files_as_read();
         order_outlasts_a_crash::<Journal>();
         append(tree, self.open_name(), piece)
@@ -277,6 +283,7 @@ impl Stage {
             (so_far : List ℕ) (base : Files) → IsStaged self.old contents (Some so_far) base v
             → (T.counts tree.new).misuses ≡ (T.counts tree.old).misuses) }
     {
+        // Laws that the proof needs; they compute nothing.
         a_crash_may_leave_the_files_as_read();
         order_outlasts_a_crash::<Journal>();
         sync_file(tree, self.open_name())?;
@@ -469,6 +476,7 @@ impl Stage {
         ensures proper { IfObservable (T.history tree.old)
             (λ v. (T.counts tree.new).misuses ≡ (T.counts tree.old).misuses) }
     {
+        // Laws that the proof needs; they compute nothing.
         a_crash_may_leave_the_files_as_read();
         order_outlasts_a_crash::<Journal>();
         sync_all_names(tree)?;

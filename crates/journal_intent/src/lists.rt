@@ -39,6 +39,7 @@ pub(crate) fn read_lists(alloc: Global, file: &[u8]) -> Result<IntentLists, Read
     ensures bad { IfErr result (λ fault. IsReadFault fault (first_fault IntentTable file.now)) }
     ensures good { OnOk result (first_fault IntentTable file.now ≡ None) }
 {
+    // A law that the proof needs; it computes nothing.
     sound_containers_hold_sound_values();
     let checked = read_adb(alloc, file, Which::Intent)?;
     let intent = checked.intent();

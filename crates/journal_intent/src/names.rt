@@ -80,6 +80,7 @@ pub fn a_read_intent_has_free_names()
     ensures { (file : List ℕ) (intent : Intent) → read_intent file ≡ Some intent
         → HasFreeNames intent }
 {
+    // A law that the proof needs; it computes nothing.
     sound_containers_hold_sound_values();
 }
 

@@ -291,6 +291,7 @@ fn remove_all<T: Tree>(tree: &mut T, names: &Names) -> Result<(), Disk>
     ensures proper { IfObservable (T.history tree.old) (λ v. (T.counts tree.new).misuses
         ≡ (T.counts tree.old).misuses) }
 {
+    // Laws that the proof needs; they compute nothing.
     a_crash_may_leave_the_files_as_read();
     order_outlasts_a_crash::<Journal>();
     for i in 0..names.len() {

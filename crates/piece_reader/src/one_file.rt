@@ -150,9 +150,12 @@ impl<'a> FilePieces<'a> {
         ensures due { file_due self.new ≡ file_due self.old }
         ensures left { IfOk result (HasFewerLeft self.old (length piece.new) self.new) }
         ensures refused { IfErr result (λ fault. HasRefusedFile fault self.new) }
+        // A test that failed is answered by every later call.
         ensures again { IfSome (kept_fault self.old) (λ cause. result ≡ Err (Bad cause)) }
         ensures name { package_of_file self.new ≡ package_of_file self.old }
         ensures len { len_around_file self.new ≡ len_around_file self.old }
+        // The tree stays as it is; a failed tree is answered only where it failed, and no call is a
+        // misuse where the file is as long as it was.
         ensures tree { ReadsFile (package_of_file self.old) (len_around_file self.old) DiskFault
             (T.history tree.old) (T.history tree.new) (T.counts tree.old) (T.counts tree.new)
             result }
@@ -182,6 +185,8 @@ impl<'a> FilePieces<'a> {
         ensures left { IfOk result (HasFewerLeft self.old (length piece.new) self.new) }
         ensures name { package_of_file self.new ≡ package_of_file self.old }
         ensures len { len_around_file self.new ≡ len_around_file self.old }
+        // The tree stays as it is; a failed tree is answered only where it failed, and no call is a
+        // misuse where the file is as long as it was.
         ensures tree { ReadsFile (package_of_file self.old) (len_around_file self.old) DiskFault
             (T.history tree.old) (T.history tree.new) (T.counts tree.old) (T.counts tree.new)
             result }

@@ -63,6 +63,8 @@ impl Piece {
         ensures disk { IfErr result (λ fault. fault ≡ DiskFault) }
         ensures seen { OnOk result ((file_len : ℕ)
             → IsSeen (T.history tree.old) name.now file_len at self.new) }
+        // The tree stays as it is; a failed tree is answered only where it failed, and no call is a
+        // misuse where the file is as long as it was.
         ensures tree { (file_len : ℕ) → at + len ≤ file_len
             → ReadsFile name.now file_len DiskFault (T.history tree.old) (T.history tree.new)
             (T.counts tree.old) (T.counts tree.new) result }

@@ -44,6 +44,8 @@ pub fn read_front<T: Tree>(
         × (front_end front ≡ length seen)
         × ((file : List ℕ) → length file ≡ front_file_len front → HasAt file 0 seen
         → IsFrontOf schema file front))) }
+    // The tree stays as it is; a failed tree is answered only where it failed, and no call is a
+    // misuse.
     ensures tree { OnlyReads DiskFault (T.history tree.old) (T.history tree.new)
         (T.counts tree.old) (T.counts tree.new) result }
 {
@@ -84,6 +86,8 @@ impl Header {
         ensures seen { IfOk result (λ header. (file_len : ℕ)
             → IsSeen (T.history tree.old) name.now file_len 0 header) }
         ensures disk { IfErr result (λ fault. fault ≡ DiskFault) }
+        // The tree stays as it is; a failed tree is answered only where it failed, and no call is a
+        // misuse where the file is as long as it was.
         ensures tree { ReadsFile name.now len DiskFault (T.history tree.old) (T.history tree.new)
             (T.counts tree.old) (T.counts tree.new) result }
     {
@@ -115,6 +119,8 @@ fn read_payload<T: Tree>(
     ensures seen { IfOk result (λ payload. (file_len : ℕ)
         → IsSeen (T.history tree.old) name.now file_len at payload.items) }
     ensures good { IfErr result (λ fault. IsNotBad fault) }
+    // The tree stays as it is; a failed tree is answered only where it failed, and no call is a
+    // misuse where the file is as long as it was.
     ensures tree { (file_len : ℕ) → at + len ≤ file_len → ReadsFile name.now file_len DiskFault
         (T.history tree.old) (T.history tree.new) (T.counts tree.old) (T.counts tree.new) result }
 {
@@ -136,6 +142,8 @@ fn read_present<T: Tree>(
     ensures front { (seen : List ℕ) × IsSeenIn (T.history tree.old) name.now len 0 seen
         × ((file : List ℕ) → length file ≡ len → HasAt file 0 seen
         → IsPresentRead schema result (length seen) file) }
+    // The tree stays as it is; a failed tree is answered only where it failed, and no call is a
+    // misuse where the file is as long as it was.
     ensures tree { ReadsFile name.now len DiskFault (T.history tree.old) (T.history tree.new)
         (T.counts tree.old) (T.counts tree.new) result }
 {
@@ -172,6 +180,7 @@ fn first_framed(left: u64, head: &HeadBytes) -> Result<Frame, Cause>
 {
     match frame_of(None, 8, head.bytes(), left)? {
         Some(framed) => Ok(framed),
+        // A file that ends in front of its first block is a fault, and not the end.
         None => unreachable!(),
     }
 }
