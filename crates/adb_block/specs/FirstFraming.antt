@@ -69,9 +69,14 @@ HaveBlockFault last at bytes c =
 -- a file has this as its first fault of framing: there are blocks that pass their tests, and behind
 -- them, at the offset of the rest, a block that has it
 pub record IsFirstFramingFault (file : List ℕ) (c : Cause) : Type 0 where
+  -- the blocks that pass their tests
   pub blocks : List Piece
+  -- the bytes behind them
   pub rest : List ℕ
+  -- behind the file's header of 8 bytes the file begins with these blocks
   pub before : BeginWithBlocks None (drop 8 file) blocks rest
+  -- the offset of the rest
   pub at : ℕ
   pub stands : at + length rest ≡ length file
+  -- the next block has this fault
   pub fault : HaveBlockFault (last_kind None blocks) at rest c

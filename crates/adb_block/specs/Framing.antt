@@ -12,8 +12,11 @@ use Rattle.adb_block.specs.declared.block.BlockKind.TheVariants.{Adb, Signature,
 -- what a block's header says: the number of its kind, how many bytes the header has, and the raw
 -- size, which counts these and the payload
 pub record HeadFields : Type 0 where
+  -- the number of the kind
   pub kind : ℕ
+  -- how many bytes the header has
   pub len : ℕ
+  -- how many bytes the header and the payload have
   pub raw : ℕ
 
 -- what a header of four bytes says by its number: two bits of kind, 30 of size

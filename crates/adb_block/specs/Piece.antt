@@ -7,7 +7,9 @@ use Rattle.adb_block.specs.declared.block.BlockKind.TheVariants.{Adb, Signature,
 
 -- a block, without where it stands
 pub record Piece : Type 0 where
+  -- what the block holds
   pub kind : BlockKind
+  -- its bytes, without header and padding
   pub payload : List ℕ
 
 -- the number of a kind of block, as a header has it

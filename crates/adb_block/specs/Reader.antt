@@ -54,16 +54,24 @@ IsStep s (Err c) t = next_step s.last s.at s.left ≡ failed c
 -- a block was read: where it stood, that it may stand there, its header, payload and padding, and
 -- where the reader stands then
 pub record Advances (s : Standing) (b : Block) (t : Standing) : Type 0 where
+  -- the block's offset is the one where the reader stood
   pub at : b.at ≡ s.at
+  -- it may stand there
   pub follows : MayFollow s.last (piece_of b)
+  -- its header, payload and padding stand there
   pub is_block : IsBlock (piece_of b) s.left t.left
+  -- the reader then stands behind its padding
   pub stands : t ≡ standing_behind s b.kind (t.at - s.at)
+  -- fewer bytes are left, so a loop over all blocks ends
   pub shorter : length t.left < length s.left
 
 -- nothing is left, at least one block was read, and the reader stays
 pub record Ends (s t : Standing) : Type 0 where
+  -- nothing is left
   pub empty : s.left ≡ []
+  -- at least one block was read
   pub later : IsSome s.last
+  -- the reader stands where it stood
   pub stays : t ≡ s
 
 -- the reading from where the reader stood, by its answer and the reading from where it stands then

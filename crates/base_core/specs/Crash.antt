@@ -30,6 +30,7 @@ pub record IsOrderly (rests_on : Files → List ℕ → Type 0) (v : TreeState) 
 
 -- P holds of each state that was added since; `old` is the history then, `new` the history now
 pub record Since (P : TreeState → Type 0) (old new : List TreeState) : Type 0 where
+  -- the states that were added, the newest first
   pub added : List TreeState
   pub is : new ≡ added ++ old
   pub each : All P added

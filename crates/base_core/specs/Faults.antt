@@ -27,12 +27,14 @@ pub record GoesOn (before now : Counts) : Type 0 where
   pub faults : before.faults ≤ now.faults
   pub misuses : before.misuses ≤ now.misuses
   pub wants : before.wants ≤ now.wants
+  -- what cannot fail for another reason does not become able to
   pub fallible : IsTrue now.fallible → IsTrue before.fallible
 
 -- a failure was counted, and has its reason: one of the world's, a misuse, or want of the object's
 -- own memory
 pub record HasCause (before now : Counts) : Type 0 where
   pub fault : Rose before.faults now.faults
+  -- one of the world's, which `fallible` allows, a misuse, or want of the object's own memory
   pub reason : IsTrue before.fallible ⊎ (Rose before.misuses now.misuses
       ⊎ Rose before.wants now.wants)
 

@@ -15,11 +15,13 @@ IsRising names = AllPairs (λ a b. slice_cmp nat_cmp a b ≡ Less) names
 -- the names that are present in a map, just these, in byte order
 pub record IsNamesOf {X : Type 0} (map : List ℕ → Option X) (names : List (List ℕ)) : Type 0 where
   pub rising : IsRising names
+  -- just the present names stand in it
   pub each : (q : List ℕ) → Contains names q ↔ IsSome (map q)
 
 -- the listing of a folder: just the present names below it, at any depth, in byte order
 pub record IsListOf (folder : List ℕ) (v : TreeState) (names : List (List ℕ)) : Type 0 where
   pub rising : IsRising names
+  -- just the present names below the folder stand in it
   pub each : (q : List ℕ) → Contains names q ↔ (IsSome (v.names q) × IsFolderOf folder q)
 
 -- a name below the folder

@@ -11,17 +11,25 @@ use Rattle.version_core.specs.Token.{Token, bare_token, number_token, text_token
 
 -- a suffix of a version: its word, and the digits of its number where it has one
 pub record SuffixPart : Type 0 where
+  -- one of the words, such as `rc`
   pub name : List ℕ
+  -- the digits behind the word
   pub number : Option (List ℕ)
 
 -- the parts of a version: the digits of its first component and of each later one, and what may
 -- follow them: a letter, suffixes, the digits of a hash and those of a revision
 pub record Parts : Type 0 where
+  -- the digits of the first component
   pub first : List ℕ
+  -- the digits of each later component
   pub later : List (List ℕ)
+  -- the letter behind them
   pub letter : Option ℕ
+  -- the suffixes in their order
   pub suffixes : List SuffixPart
+  -- the hexadecimal digits of the hash
   pub hash : Option (List ℕ)
+  -- the digits of the revision
   pub revision : Option (List ℕ)
 
 -- whether a part that may be left out passes a test where it stands

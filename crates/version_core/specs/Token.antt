@@ -12,8 +12,11 @@ use Rattle.version_core.specs.declared.token.Class.TheVariants.{Stray, PreReleas
 -- a part of a version as it is compared: of which class it is, and its value, a number or a text
 -- (the other of the two is 0 or empty)
 pub record Token : Type 0 where
+  -- of which class it is
   pub class : Class
+  -- its value as a number, else 0
   pub number : ℕ
+  -- its value as a text, else empty
   pub text : List ℕ
 
 -- a token that is its class alone
@@ -30,7 +33,9 @@ text_token class text = record { class = class; number = 0; text = text }
 
 -- a token, and how many bytes spell it
 pub record Lexeme : Type 0 where
+  -- the token
   pub token : Token
+  -- how many bytes spell it, its mark counted
   pub width : ℕ
 
 -- the lexeme of a token and of how many bytes spell it

@@ -27,6 +27,7 @@ const FUZZY: u8 = 8;
 /// match (apk-package(5), "depend").
 #[derive(Clone, Copy, Debug, PartialEq, Eq)]
 pub struct Op {
+    /// The four match bits.
     bits: u8,
 }
 
@@ -74,6 +75,7 @@ impl Op {
 /// A version, seen as its text (apk-package(5)).
 #[derive(Drop)]
 pub struct Version<'a> {
+    /// The text, which is a version.
     text: &'a [u8],
 }
 
