@@ -1,6 +1,6 @@
 //! Answers questions to `version_core` and `dep_core`: versions and their order, dependencies,
 //! worlds and lists of repositories. Its stored run has all rows; `tests/lines.md` describes their
-//! form.
+//! form. The README of this crate has a row for each question.
 #![tactic(auto)]
 
 mod versions;
@@ -14,7 +14,7 @@ use std::process::ExitCode;
 use versions::{add_operators, match_of, order_of, reads_as_itself};
 use worlds::{add_dependency, add_edits, add_meeting, add_repositories, add_world, is_name};
 
-/// What is asked.
+/// What is asked; the README of this crate says what each question answers.
 #[derive(Clone, Copy)]
 enum Question {
     Version,
@@ -29,6 +29,7 @@ enum Question {
     Repositories,
 }
 
+// The words that questions begin with.
 #[rattlefmt::skip]
 const QUESTIONS: [(&[u8], Question); 12] = [
     (b"version", Question::Version),

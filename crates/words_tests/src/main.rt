@@ -1,6 +1,6 @@
 //! Answers questions to `command_core`, `words_core` and `report_core`: command lines, kinds of
 //! operands and values, the lines of refusals, and reports. Its stored run has all rows;
-//! `tests/lines.md` describes their form.
+//! `tests/lines.md` describes their form. The README of this crate has a row for each question.
 #![tactic(auto)]
 
 mod lines;
@@ -14,7 +14,7 @@ use std::io;
 use std::process::ExitCode;
 use texts::{add_refusal, add_report};
 
-/// What is asked.
+/// What is asked; the README of this crate says what each question answers.
 #[derive(Clone, Copy)]
 enum Question {
     Line,
@@ -28,6 +28,7 @@ enum Question {
     Report,
 }
 
+// The words that questions begin with.
 #[rattlefmt::skip]
 const QUESTIONS: [(&[u8], Question); 9] = [
     (b"line", Question::Line),
