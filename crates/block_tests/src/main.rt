@@ -17,9 +17,13 @@ const MOST_BLOCKS: usize = 100;
 /// What is asked; the README of this crate says what each question answers.
 #[derive(Clone, Copy)]
 enum Question {
+    /// `blocks BYTES`.
     Blocks,
+    /// `cuts BYTES`.
     Cuts,
+    /// `head KIND LEN`.
     Head,
+    /// `frame KIND LEFT HEAD`.
     Frame,
 }
 

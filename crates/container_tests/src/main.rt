@@ -20,11 +20,17 @@ use values::{add_draft, add_file, add_repeated, add_written};
 /// What is asked; the README of this crate says what each question answers.
 #[derive(Clone, Copy)]
 enum Question {
+    /// `write VALUE ..`.
     Write,
+    /// `file VALUE ..`.
     File,
+    /// `draft VALUE ..`.
     Draft,
+    /// `repeated N VALUE ..`.
     Repeated,
+    /// `numbers ORDER`.
     Numbers,
+    /// `package BYTES`.
     Package,
 }
 

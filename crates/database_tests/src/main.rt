@@ -20,11 +20,17 @@ use std::process::ExitCode;
 /// What is asked; the README of this crate says what each question answers.
 #[derive(Clone, Copy)]
 enum Question {
+    /// `start`.
     Start,
+    /// `package NAME VERSION FOLDER/ FILE ..`.
     Package,
+    /// `change FLAGS NAME ..`.
     Change,
+    /// `again`.
     Again,
+    /// `find NAME`.
     Find,
+    /// `owner PATH`.
     Owner,
 }
 

@@ -17,8 +17,11 @@ use std::process::ExitCode;
 /// What is asked; the README of this crate says what each question answers.
 #[derive(Clone, Copy)]
 enum Question {
+    /// `new`.
     New,
+    /// `package NAME VERSION PRIORITY PATHS REPLACES ..`.
     Package,
+    /// `owners`.
     Owners,
 }
 

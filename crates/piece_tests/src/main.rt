@@ -36,8 +36,11 @@ const OPENED: u32 = 3;
 /// What is asked; the README of this crate says what each question answers.
 #[derive(Clone, Copy)]
 enum Question {
+    /// `pieces LEN`, `pieces LEN AT`.
     Pieces,
+    /// `open FOLDER FILE LEN`.
     Open,
+    /// `cuts BYTES`.
     Cuts,
     /// Of a package with files of some sizes.
     Package(Asked),

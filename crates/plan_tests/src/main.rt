@@ -22,14 +22,23 @@ use tree_memory::MemoryTree;
 /// What is asked; the README of this crate says what each question answers.
 #[derive(Clone, Copy)]
 enum Question {
+    /// `new`.
     New,
+    /// `installed NAME VERSION PRIORITY FILES REPLACES ..`.
     Installed,
+    /// `stays NAME`, `comes NAME VERSION PRIORITY FILES REPLACES ..`.
     After,
+    /// `file PATH BYTES`.
     Tree,
+    /// `fail_at N`.
     Fail,
+    /// `plan`.
     Plan,
+    /// `purge`.
     Purge,
+    /// `calls N`.
     Calls,
+    /// `owner PATH`.
     Owner,
 }
 

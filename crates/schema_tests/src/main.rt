@@ -21,15 +21,25 @@ use words::{add_head, add_reads};
 /// What is asked; the README of this crate says what each question answers.
 #[derive(Clone, Copy)]
 enum Question {
+    /// `payload BYTES`.
     Payload,
+    /// `head`.
     Head,
+    /// `word W`.
     Word,
+    /// `shape TABLE MORE WORD ..`.
     Shape,
+    /// `faults TABLE`.
     Faults,
+    /// `visits TABLE BEFORE WORD ..`.
     Visits,
+    /// `many_files N`.
     ManyFiles,
+    /// `rules TABLE VALUE`.
     Rules,
+    /// `view TABLE VALUE`.
     View,
+    /// `container BYTES TABLE`.
     Container,
 }
 

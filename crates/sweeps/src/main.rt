@@ -25,12 +25,19 @@ use sweeping::{add_fault, add_stop};
 /// What is asked; the README of this crate says what each question shows.
 #[derive(Clone, Copy)]
 enum Question {
+    /// `change CHANGE CALLS NAME BYTES ..`.
     Change,
+    /// `stop CHANGE CALLS NAME BYTES ..`.
     Stop,
+    /// `fault CHANGE CALL NAME BYTES ..`.
     Fault,
+    /// `recover NAME BYTES ..`.
     Recover,
+    /// `cuts INTENT NAME BYTES ..`.
     Cuts,
+    /// `many WRITES WAITING`.
     Many,
+    /// `replace NAME CALLS`.
     Replace,
 }
 

@@ -22,23 +22,41 @@ use trees::{
 /// What is asked; the README of this crate says what each question answers.
 #[derive(Clone, Copy)]
 enum Question {
+    /// `name TEXT`.
     Name,
+    /// `names WORD ..`.
     Names,
+    /// `new_sink`.
     NewSink,
+    /// `fail_after N`, `take_at_most N`.
     SetSink,
+    /// `write BYTES`, `write_all BYTES`.
     Write,
+    /// `sink_bytes`.
     SinkBytes,
+    /// `new_tree`.
     NewTree,
+    /// `put NAME BYTES`, `can_put NAME`.
     Put,
+    /// `file NAME`.
     File,
+    /// `size NAME`.
     Size,
+    /// `read NAME AT LEN`.
     Read,
+    /// `list NAME`.
     List,
+    /// `fail_at N ..`, `stop_after N`.
     Plan,
+    /// `counts`.
     Counts,
+    /// `image N`.
     Image,
+    /// `turns N HERE THERE`.
     Turns,
+    /// `sync_names`.
     SyncNames,
+    /// `create NAME`, `append NAME BYTES`, `sync NAME`, `remove NAME`, `rename NAME NAME`.
     Call,
 }
 

@@ -14,8 +14,11 @@ use texts::{add_package_count, add_read};
 /// What is asked; the README of this crate says what each question answers.
 #[derive(Clone, Copy)]
 enum Question {
+    /// `read TEXT`.
     Read,
+    /// `read_repeated FRONT N PART BACK`.
     ReadRepeated,
+    /// `count_packages N`.
     CountPackages,
 }
 

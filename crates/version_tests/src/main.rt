@@ -17,15 +17,25 @@ use worlds::{add_dependency, add_edits, add_meeting, add_repositories, add_world
 /// What is asked; the README of this crate says what each question answers.
 #[derive(Clone, Copy)]
 enum Question {
+    /// `version TEXT`.
     Version,
+    /// `order VERSION VERSION`.
     Order,
+    /// `match VERSION BITS WANTED`.
     Match,
+    /// `operators`.
     Operators,
+    /// `dependency TEXT`, `value NAME VERSION MATCH`.
     Dependency,
+    /// `meets DEPENDENCY NAME VERSION`.
     Meets,
+    /// `name TEXT`, `package TEXT`.
     Name,
+    /// `world TEXT`.
     World,
+    /// `edits WORLD EDIT ..`.
     Edits,
+    /// `repositories TEXT`.
     Repositories,
 }
 

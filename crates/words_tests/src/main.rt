@@ -17,14 +17,23 @@ use texts::{add_refusal, add_report};
 /// What is asked; the README of this crate says what each question answers.
 #[derive(Clone, Copy)]
 enum Question {
+    /// `line WORD ..`.
     Line,
+    /// `many N WORD WORD ..`.
     Many,
+    /// `command WORD ..`.
     Command,
+    /// `values WORD ..`.
     Values,
+    /// `letters WORD ..`.
     Letters,
+    /// `value KIND TEXT`.
     Value,
+    /// `operand KIND TEXT`.
     Operand,
+    /// `refusal NAME FIELD ..`.
     Refusal,
+    /// `report WORD ..`.
     Report,
 }
 

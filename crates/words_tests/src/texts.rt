@@ -166,7 +166,7 @@ fn refusal_with_cause(
     }))
 }
 
-/// The refusal of a package's file, by its words; none where one of them is bad.
+/// The refusal of a package's file, by its words; none where its cause is none.
 fn refusal_of_package(
     alloc: Global,
     named: Named,
