@@ -17,7 +17,7 @@ use crate::contest::{Contest, Rivals, first_rivals, winner};
 use adb_fields::FilePath;
 use std::alloc::{AllocError, Global};
 
-/// A path that no member owns, and two that claim it, neither of which takes it over.
+/// A path that no member owns, with its rivals.
 #[derive(Clone, Copy)]
 pub struct Contested<'a> {
     /// The path.
