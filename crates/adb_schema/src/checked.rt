@@ -1,6 +1,8 @@
 //! A checked payload, and the four views of its root. The tests stand in `docs/formats.md`, "The
 //! texts"; the fields of the roots in "Schemas", tables 7 to 10. A clause has a field's index,
 //! which counts from 0; its number, by which the document and causes name the field, is one more.
+//! In the clauses of `Checked::new` `bad` says which cause a refusal has, and `sound` that no text
+//! is bad.
 
 ghost use Rattle.std.specs.Prelude.{◌≡◌, true, is_none, None, IfErr, IfOk};
 ghost use Rattle.adb_view.specs.Adb.{payload_of};
