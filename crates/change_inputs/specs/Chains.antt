@@ -1,4 +1,6 @@
--- What comes of a value that may be refused.
+-- What comes of a value that may be refused. Serves the definitions of this crate and of those
+-- above, which put one test behind another; the order of the refusals stands in `docs/commands.md`,
+-- "`add` and `del`".
 use Rattle.std.specs.Prelude.{Option, Some, None, Result, Ok, Err}
 pub use Rattle.base_core.specs.Lists.{and_then}
 use Rattle.base_core.specs.declared.cause.Cause.{Cause}

@@ -1,7 +1,7 @@
 -- The lines of refusals and faults.
 -- The rules stand in `docs/commands.md`, "Error lines"; the lines of a failed tree and of want of
 -- memory in "Answers and statuses".
-use Rattle.std.specs.Prelude.{ℕ, List, ◌∷◌, [], ◌++◌, ◌==◌, if◌then◌else◌, codes}
+use Rattle.std.specs.Prelude.{ℕ, List, ◌++◌, ◌==◌, if◌then◌else◌, codes}
 use Rattle.std.specs.Fmt.{decimal}
 use Rattle.std.specs.Int.{w32, to_be_bytes}
 use Rattle.hex.specs.Hex.{encode_lower}

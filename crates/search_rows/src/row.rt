@@ -1,23 +1,24 @@
-//! A row: the packages to choose from, world, and what a command upgrades. It borrows its text.
+//! A row: the packages to choose from, world, and what a command upgrades. It borrows its text. The
+//! lines stand in the README of this crate.
 use crate::package::index_payload;
 use std::alloc::{AllocError, Global};
 
-/// A repository.
+/// A repository of a row.
 #[derive(Drop)]
 pub struct Repository<'t> {
     /// Its number; where the row says none, its position among the row's repositories, counted
     /// from 1.
     pub number: u64,
-    /// Its tag, if it has one.
+    /// The tag of the repository, if it has one.
     pub tag: Option<&'t [u8]>,
-    /// The payload of its index.
+    /// The payload of the repository's index.
     pub payload: Vec<u8>,
 }
 
 /// What stands between two lines that begin a row.
 #[derive(Drop)]
 pub struct Row<'t> {
-    /// Its name.
+    /// The name of the row.
     pub name: &'t [u8],
     /// The repositories, in their order.
     pub repositories: Vec<Repository<'t>>,
