@@ -1,10 +1,10 @@
 //! Which of two candidates is taken first for a need. Each key of an option is read once, versions
-//! are compared by their ranks, and the first key that differs decides.
+//! are compared by their texts or their ranks, and the first key that differs decides.
 ghost use Rattle.std.specs.Prelude.{◌≡◌};
 ghost use Rattle.std.specs.Option.{option_cmp};
 ghost use Rattle.std.specs.Ordering.{bool_cmp, flip_args, then_cmp};
 ghost use Rattle.pool_core.specs.Rank.{bytes_cmp, earlier_repository, greater_version};
-ghost use Rattle.pool_core.specs.Ranking.{candidate_ranking_cmp, merit_ranking_cmp, name_ranking_cmp, priority_ranking_cmp, quality_ranking_cmp, ranking_cmp, repository_ranking_cmp, unpinned_ranking_cmp};
+ghost use Rattle.pool_core.specs.Ranking.{candidate_ranking_cmp, merit_ranking_cmp, name_ranking_cmp, priority_ranking_cmp, quality_ranking_cmp, ranking_cmp, repository_ranking_cmp, unpinned_ranking_cmp, version_key_cmp, version_order};
 ghost use Rattle.pool_core.specs.VersionRanks.{version_of, with_rank};
 
 use crate::candidate::CandId;
@@ -12,6 +12,15 @@ use crate::versions::{RankedVersion, VersionKind};
 use std::cmp::Ordering;
 use std::marker::Model;
 use version_core::Version;
+
+/// What the versions of two options are compared by.
+#[derive(Clone, Copy)]
+pub(crate) enum VersionKey {
+    /// Their ranks, which all of them have then.
+    ByRank,
+    /// Their texts.
+    ByText,
+}
 
 /// What an option is ranked by.
 #[derive(Drop)]
@@ -61,12 +70,12 @@ impl<'a> RankedOption<'a> {
         }
     }
 
-    /// The order of two options whose versions are ranked.
+    /// The order of two options.
     #[tactic(auto, unfolding(crate::specs::Ranking::ranking_cmp))]
-    pub(crate) fn compare(&self, other: &RankedOption<'_>) -> Ordering
-        ensures { result ≡ ranking_cmp self.now other.now }
+    pub(crate) fn compare(&self, other: &RankedOption<'_>, key: VersionKey) -> Ordering
+        ensures { result ≡ ranking_cmp key self.now other.now }
     {
-        match self.by_candidate(other) {
+        match self.by_candidate(other, key) {
             Ordering::Less => Ordering::Less,
             Ordering::Greater => Ordering::Greater,
             Ordering::Equal => self.id.place.cmp(&other.id.place),
@@ -74,24 +83,24 @@ impl<'a> RankedOption<'a> {
     }
 
     // The order by all keys but the place.
-    fn by_candidate(&self, other: &RankedOption<'_>) -> Ordering
-        ensures { result ≡ candidate_ranking_cmp self.now other.now }
+    fn by_candidate(&self, other: &RankedOption<'_>, key: VersionKey) -> Ordering
+        ensures { result ≡ candidate_ranking_cmp key self.now other.now }
     {
         match truth_first(self.pinned, other.pinned) {
             Ordering::Less => Ordering::Less,
             Ordering::Greater => Ordering::Greater,
-            Ordering::Equal => self.by_unpinned(other),
+            Ordering::Equal => self.by_unpinned(other, key),
         }
     }
 
     // The same without the pin.
-    fn by_unpinned(&self, other: &RankedOption<'_>) -> Ordering
-        ensures { result ≡ unpinned_ranking_cmp self.now other.now }
+    fn by_unpinned(&self, other: &RankedOption<'_>, key: VersionKey) -> Ordering
+        ensures { result ≡ unpinned_ranking_cmp key self.now other.now }
     {
         match self.by_quality(other) {
             Ordering::Less => Ordering::Less,
             Ordering::Greater => Ordering::Greater,
-            Ordering::Equal => self.by_merit_and_repo(other),
+            Ordering::Equal => self.by_merit_and_repo(other, key),
         }
     }
 
@@ -106,10 +115,11 @@ impl<'a> RankedOption<'a> {
     }
 
     // The order by how well the need is met, and then by repository.
-    fn by_merit_and_repo(&self, other: &RankedOption<'_>) -> Ordering
-        ensures { result ≡ then_cmp merit_ranking_cmp repository_ranking_cmp self.now other.now }
+    fn by_merit_and_repo(&self, other: &RankedOption<'_>, key: VersionKey) -> Ordering
+        ensures { result
+            ≡ then_cmp (merit_ranking_cmp key) repository_ranking_cmp self.now other.now }
     {
-        match self.by_merit(other) {
+        match self.by_merit(other, key) {
             Ordering::Less => Ordering::Less,
             Ordering::Greater => Ordering::Greater,
             Ordering::Equal => by_repo(self.repo, other.repo),
@@ -117,35 +127,37 @@ impl<'a> RankedOption<'a> {
     }
 
     // The order by how well the need is met.
-    fn by_merit(&self, other: &RankedOption<'_>) -> Ordering
-        ensures { result ≡ merit_ranking_cmp self.now other.now }
+    fn by_merit(&self, other: &RankedOption<'_>, key: VersionKey) -> Ordering
+        ensures { result ≡ merit_ranking_cmp key self.now other.now }
     {
-        match self.under.rank.cmp(&other.under.rank) {
+        match by_version_key(key, VersionKind::Under, &self.under, &other.under) {
             Ordering::Less => Ordering::Less,
             Ordering::Greater => Ordering::Greater,
-            Ordering::Equal => self.by_priority(other),
+            Ordering::Equal => self.by_priority(other, key),
         }
     }
 
     // The order by priority, name and version.
-    fn by_priority(&self, other: &RankedOption<'_>) -> Ordering
-        ensures { result ≡ priority_ranking_cmp self.now other.now }
+    fn by_priority(&self, other: &RankedOption<'_>, key: VersionKey) -> Ordering
+        ensures { result ≡ priority_ranking_cmp key self.now other.now }
     {
         match other.priority.cmp(&self.priority) {
             Ordering::Less => Ordering::Less,
             Ordering::Greater => Ordering::Greater,
-            Ordering::Equal => self.by_name(other),
+            Ordering::Equal => self.by_name(other, key),
         }
     }
 
     // The order by name and version.
-    fn by_name(&self, other: &RankedOption<'_>) -> Ordering
-        ensures { result ≡ name_ranking_cmp self.now other.now }
+    fn by_name(&self, other: &RankedOption<'_>, key: VersionKey) -> Ordering
+        ensures { result ≡ name_ranking_cmp key self.now other.now }
     {
         match self.name.cmp(other.name) {
             Ordering::Less => Ordering::Less,
             Ordering::Greater => Ordering::Greater,
-            Ordering::Equal => self.version.rank.cmp(&other.version.rank),
+            Ordering::Equal => {
+                by_version_key(key, VersionKind::Own, &self.version, &other.version)
+            }
         }
     }
 }
@@ -157,8 +169,37 @@ fn truth_first(one: bool, other: bool) -> Ordering
     other.cmp(&one)
 }
 
-/// The order of two versions: the greater first, none last.
-pub(crate) fn by_version(one: &Option<Version<'_>>, other: &Option<Version<'_>>) -> Ordering
+// The order of two versions of a kind, by their ranks or by their texts.
+fn by_version_key(
+    key: VersionKey,
+    kind: VersionKind,
+    one: &RankedVersion<'_>,
+    other: &RankedVersion<'_>,
+) -> Ordering
+    ensures { result ≡ version_key_cmp key kind one.now other.now }
+{
+    match key {
+        VersionKey::ByRank => one.rank.cmp(&other.rank),
+        VersionKey::ByText => compare_versions(kind, &one.version, &other.version),
+    }
+}
+
+/// The order of two versions of a kind.
+pub(crate) fn compare_versions(
+    kind: VersionKind,
+    one: &Option<Version<'_>>,
+    other: &Option<Version<'_>>,
+) -> Ordering
+    ensures { result ≡ version_order kind one.now other.now }
+{
+    match kind {
+        VersionKind::Under => by_version(one, other),
+        VersionKind::Own => by_version(one, other).then(by_version_text(one, other)),
+    }
+}
+
+// The order of two versions: the greater first, none last.
+fn by_version(one: &Option<Version<'_>>, other: &Option<Version<'_>>) -> Ordering
     ensures { result ≡ greater_version one.now other.now }
 {
     match (one, other) {
@@ -169,8 +210,8 @@ pub(crate) fn by_version(one: &Option<Version<'_>>, other: &Option<Version<'_>>)
     }
 }
 
-/// The order of two versions by their texts, none first.
-pub(crate) fn by_version_text(one: &Option<Version<'_>>, other: &Option<Version<'_>>) -> Ordering
+// The order of two versions by their texts, none first.
+fn by_version_text(one: &Option<Version<'_>>, other: &Option<Version<'_>>) -> Ordering
     ensures { result ≡ option_cmp bytes_cmp one.now other.now }
 {
     match (one, other) {
