@@ -1,4 +1,6 @@
-//! The walk over a payload's values that tests their shape.
+//! The walk over a payload's values that tests their shape: depth first, each visit counted and
+//! then tested. The rule stands in `docs/formats.md`, "The shape". In the clauses `bound` says that
+//! the count of visits stays within its limit.
 
 ghost use Rattle.std.specs.Prelude.{◌<◌, slice_index, ◌≡◌, ◌≤◌, ◌+◌, IfOk, true, is_some, length, is_none, ◌↔◌, ℕ, List, Some, None};
 ghost use Rattle.std.specs.Result.{result_err};
@@ -22,21 +24,21 @@ ghost use Rattle.base_core.specs.declared.cause.Cause.{Cause};
 ghost use Rattle.adb_tables.specs.declared.tables.Which.{Which};
 ghost use Rattle.adb_tables.specs.declared.tables.Kind.TheVariants as Kinds;
 
-use crate::readers::{read_array, read_blob, read_int, read_object};
+use crate::readers::{is_sound_leaf, read_array, read_blob, read_int, read_object};
 use crate::shaped::Shaped;
 use crate::tables::{Field, Kind, Which, fields_of};
 use crate::visit_fault::VisitFault;
 use adb_view::{Adb, Arr, Val, value_is_found_where_visits_are_sound};
 use base_core::Cause;
 
-/// The entries of an object, those past its fields too.
+/// The entries of the object that a word is, those past its table's fields too.
 pub fn object_entries<'a>(adb: Adb<'a>, object: Val) -> Result<Arr<'a>, Cause>
     ensures { Gives array_entries result (run_of OBJECT (payload_of adb.entry) object) }
 {
     Ok(adb.obj::<0>(object)?.entries())
 }
 
-/// The word of an entry, counted from 0.
+/// The word of an entry, by its index, which counts from 0.
 pub fn entry_word(entries: Arr<'_>, i: usize) -> Val
     requires { i < length (array_entries entries) }
     ensures { result ≡ slice_index (array_entries entries.entry) i }
@@ -46,8 +48,8 @@ pub fn entry_word(entries: Arr<'_>, i: usize) -> Val
     entries.get(i + 1)
 }
 
-/// How many visits the walk of a payload may have; a word that stands at two places is visited
-/// twice.
+/// How many visits the walk of a payload may have (`docs/formats.md`, "The shape"); a word that
+/// stands at two places is visited twice.
 const MOST_VISITS: u32 = 4_194_304;
 
 /// Walks a payload's values from its root, as an object of this table: a word, then its entries in
@@ -72,8 +74,8 @@ pub fn shape(adb: Adb<'_>, which: Which) -> Result<Shaped<'_>, Cause>
     }
 }
 
-/// Visits a word and what lies below it, behind so many visits, and answers how many there were
-/// then.
+/// Visits a word and what lies below it. `before` is how many visits there were, and the answer how
+/// many there are then.
 #[cycle(walk)]
 #[tactic(auto, using(crate::proofs::WalkSteps::walk_full, crate::proofs::WalkSteps::int_ok, crate::proofs::WalkSteps::int_err, crate::proofs::WalkSteps::text_ok, crate::proofs::WalkSteps::text_err, crate::proofs::WalkSteps::hash_ok, crate::proofs::WalkSteps::hash_err, crate::proofs::WalkSteps::texts_ok, crate::proofs::WalkSteps::texts_err, crate::proofs::WalkSteps::objects_ok, crate::proofs::WalkSteps::objects_err, crate::proofs::WalkSteps::object_ok, crate::proofs::WalkSteps::object_err))]
 fn walk_value(adb: Adb<'_>, kind: Kind, before: u32, word: Val) -> Result<u32, VisitFault>
@@ -109,7 +111,7 @@ fn walk_value(adb: Adb<'_>, kind: Kind, before: u32, word: Val) -> Result<u32, V
     }
 }
 
-/// Visits the entries of an array.
+/// Visits the entries of an array, each by this kind, and counts as `walk_value` does.
 #[cycle(walk)]
 fn walk_entries(adb: Adb<'_>, kind: Kind, before: u32, entries: Arr<'_>) -> Result<u32, VisitFault>
     requires { before ≤ MOST_VALUES }
@@ -125,9 +127,10 @@ fn walk_entries(adb: Adb<'_>, kind: Kind, before: u32, entries: Arr<'_>) -> Resu
     Ok(count)
 }
 
-/// Visits the entries of an object that have one of these fields.
+/// Visits the entries of an object that have one of these fields, each by its field's kind, and
+/// counts as `walk_value` does. Entries past the fields are not looked at.
 #[cycle(walk)]
-#[tactic(auto, using(crate::proofs::WalkSteps::fields_more, crate::proofs::WalkSteps::fields_stop, crate::proofs::WalkSteps::fields_past, crate::proofs::WalkSteps::fields_past_words, crate::proofs::WalkSteps::field_rank))]
+#[tactic(auto, using(crate::proofs::WalkSteps::fields_more, crate::proofs::WalkSteps::fields_stop, crate::proofs::WalkSteps::fields_end, crate::proofs::WalkSteps::field_rank, crate::proofs::WalkSteps::fields_leaf))]
 fn walk_each_field(
     adb: Adb<'_>,
     fields: &[Field],
@@ -141,11 +144,14 @@ fn walk_each_field(
     ensures bound { IfOk result (λ n. n ≤ MOST_VALUES) }
 {
     let mut count = before;
-    for (i, field) in fields.iter().enumerate() {
-        if i >= entries.len() {
-            break;
+    for i in 0..fields.len().min(entries.len()) {
+        let kind = fields[i].kind;
+        let word = entry_word(entries, i);
+        if count < MOST_VISITS && is_sound_leaf(adb, kind, word) {
+            count += 1;
+        } else {
+            count = walk_value(adb, kind, count, word)?;
         }
-        count = walk_value(adb, field.kind, count, entry_word(entries, i))?;
     }
     Ok(count)
 }

@@ -1,7 +1,8 @@
--- The values that a field of a shape may have; Null is one of each shape.
+-- The values that a field of a shape may have; Null is one of each shape. Serves the law
+-- `values_have_their_shape`; what a shape is stands in `docs/formats.md`, "Values".
 use Rattle.adb_view.specs.Plain.{Plain, null, int, blob, arr, obj, Plains, none, more, Shape, number, text, hash, array, object, Fields, no_fields, field}
 
--- each entry has the fact
+-- P holds of each of the values
 abbrev pub Each : (Plain → Type 0) → Plains → Type 0
 Each P none = Unit {0}
 Each P (more v vs) = P v × Each P vs
@@ -38,7 +39,8 @@ IsObjectOf P (blob b) = ⊥
 IsObjectOf P (arr vs) = ⊥
 IsObjectOf P (obj vs) = P vs
 
--- an object has no more values than the shape has fields
+-- a value is one that a field of this shape may have; an object has no more values than its shape
+-- has fields
 unfoldable mutual
   pub HasShape : Shape → Plain → Type 0
   HasShape number v = IsNumber v
@@ -47,6 +49,7 @@ unfoldable mutual
   HasShape (array s) v = IsArrayOf (HasShape s) v
   HasShape (object schema fs) v = IsObjectOf (HaveShapes fs) v
 
+  -- the values of an object are such by its fields, in order
   pub HaveShapes : Fields → Plains → Type 0
   HaveShapes no_fields none = Unit {0}
   HaveShapes no_fields (more v vs) = ⊥

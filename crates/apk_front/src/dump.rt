@@ -1,4 +1,5 @@
-//! `adbdump`: a container is printed as text.
+//! `adbdump`: a container is printed as text. The rules stand in `docs/commands.md`,
+//! "`adbdump FILE`" (which tests are made, and in which order), and `docs/formats.md`, "Dump text".
 ghost use Rattle.std.specs.Prelude.{◌≡◌, None, Ok, IsTrue, IfOk, IfErr, is_some, length};
 ghost use Rattle.std.specs.Result.{result_err};
 ghost use Rattle.adb_block.specs.Reading.{reading_of};
@@ -29,7 +30,8 @@ use command_core::Operands;
 use report_core::Refusal;
 use std::alloc::{AllocError, Global};
 
-/// Prints the text of the file that the one operand names.
+/// Prints the text of the file that the one operand names. Of a tree that shows its files it is
+/// that file's text (`found`), of each tree that of some bytes (`by_reads`).
 pub(crate) fn adbdump<T: Tree>(
     alloc: Global,
     operands: &Operands,
@@ -51,7 +53,7 @@ pub(crate) fn adbdump<T: Tree>(
     Ok(verdict)
 }
 
-// The text of what was found, or its refusal.
+// The text of the file that was found, or its refusal.
 fn verdict_of(alloc: Global, place: u32, found: &Option<Vec<u8>>) -> Result<Verdict, AllocError>
     ensures { IfOk result (λ verdict. (files : Files)
         → as_outcome files verdict ≡ dump_outcome files place (bytes_in found.now)) }
@@ -82,7 +84,7 @@ fn text_of(alloc: Global, bytes: &[u8]) -> Result<Text, ReadFault>
     }
 }
 
-// The table at the root of a container with this schema.
+// The table at the root of a container with this schema (`docs/formats.md`, "Schemas").
 fn root_of_schema(schema: u32) -> Option<Which>
     ensures { result ≡ root_of_schema schema }
 {

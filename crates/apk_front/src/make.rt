@@ -1,4 +1,6 @@
-//! `mkpkg` and `mkndx`: a container is made, and stands whole under its name.
+//! `mkpkg` and `mkndx`: a container is made, and stands whole under its name. The rules stand in
+//! `docs/commands.md`, "`mkpkg`" and "`mkndx PACKAGE..`", and of the writing in
+//! `docs/crash-safety.md`, "A whole file replaced". The container is made by `make_core`.
 ghost use Rattle.std.specs.Prelude.{◌≡◌, ◌≢◌, ◌⊎◌, ℕ, false, true, List, Ok, Err, IsSome, IfOk, IsErrOf, OnOk};
 ghost use Rattle.make_package.specs.Answers.{IsMadeBySome};
 ghost use Rattle.apk_front.specs.Containers.{IsIndexMade, IsIndexFound, IsIndexOutcome, IsPackageMade, IsPackageOutcome, OnMade, is_cut, is_cut_off, made_in};
@@ -38,7 +40,8 @@ use outcome::a_listing_of_a_tree_is_that_of_its_files;
 use report_core::Refusal;
 use std::alloc::{AllocError, Global};
 
-/// Makes a package, and writes it under the output's name. It reports nothing.
+/// Makes a package, and writes it under the output's name. It reports nothing. Beside the clauses
+/// of `run_recovered`, which calls this, `refused` says that a refusal writes nothing.
 pub(crate) fn mkpkg<T: Tree>(
     alloc: Global,
     command: &Command,
@@ -76,7 +79,8 @@ pub(crate) fn mkpkg<T: Tree>(
     finish(alloc, command, container, report, tree)
 }
 
-/// Makes an index, writes it under the output's name, and reports how many packages it has.
+/// Makes an index, writes it under the output's name, and reports how many packages it has. The
+/// clauses are those of `mkpkg`.
 pub(crate) fn mkndx<T: Tree>(
     alloc: Global,
     command: &Command,
@@ -114,7 +118,7 @@ pub(crate) fn mkndx<T: Tree>(
     finish(alloc, command, container, report, tree)
 }
 
-// What a package is made of, read and made.
+// Reads what a package is made of, and makes its container in memory.
 fn package<T: Tree>(alloc: Global, command: &Command, tree: &mut T) -> Result<Vec<u8>, MakeFault>
     requires { command.now.applet ≡ Mkpkg }
     ensures made { IfObservable (T.history tree.old) (λ v.
@@ -127,7 +131,7 @@ fn package<T: Tree>(alloc: Global, command: &Command, tree: &mut T) -> Result<Ve
     make_core::mkpkg(alloc, command, tree)
 }
 
-// The packages of an index, read, and the index made.
+// Reads the packages of an index, and makes its container in memory.
 fn index<T: Tree>(alloc: Global, command: &Command, tree: &mut T) -> Result<Vec<u8>, MakeFault>
     requires { command.now.applet ≡ Mkndx }
     ensures made { IfObservable (T.history tree.old) (λ v.
@@ -139,7 +143,7 @@ fn index<T: Tree>(alloc: Global, command: &Command, tree: &mut T) -> Result<Vec<
     make_core::mkndx(alloc, command, tree)
 }
 
-// The report of an index.
+// The report of `mkndx` over so many packages.
 fn index_line(alloc: Global, count: usize) -> Result<Text, AllocError>
     ensures { IfOk result (λ line. line ≡ index_line count) }
 {
@@ -147,7 +151,9 @@ fn index_line(alloc: Global, count: usize) -> Result<Text, AllocError>
     Text::of(alloc, line.as_bytes())
 }
 
-// Writes what was made, or refuses.
+// Writes the container that was made, or refuses. Clauses as of `mkpkg`; `done` and `cut`: where a
+// fault stopped the making, nothing is judged and nothing is written; `lost`: a fault of the tree
+// is not told as want of memory.
 fn finish<T: Tree>(
     alloc: Global,
     command: &Command,
@@ -187,7 +193,8 @@ fn finish<T: Tree>(
     }
 }
 
-// Writes a container under the output's name, unless that is reserved.
+// Writes a container under the output's name, unless that name is reserved. The clauses are those
+// of `mkpkg`.
 fn write<T: Tree>(
     alloc: Global,
     command: &Command,
@@ -230,7 +237,7 @@ fn write<T: Tree>(
     Ok(Verdict::reported(report))
 }
 
-// Refuses what was not made.
+// The verdict where no container was made: its refusal, or the fault that stopped the making.
 fn refuse(alloc: Global, command: &Command, fault: MakeFault) -> Result<Verdict, TreeFault>
     ensures reported { IfOk result (λ verdict. (files : Files) (report : List ℕ)
         → Reports verdict (make_outcome files (output_name command.now) report (Err fault))) }
@@ -243,7 +250,8 @@ fn refuse(alloc: Global, command: &Command, fault: MakeFault) -> Result<Verdict,
     Ok(Verdict::refused(alloc, refusal))
 }
 
-// Why it was not made.
+// Why no container was made: the refusal, or the fault that stopped the making. A reserved name
+// comes before a result too large.
 fn refusal_of(alloc: Global, command: &Command, fault: MakeFault) -> Result<Refusal, TreeFault>
     ensures reported { IfOk result (λ refusal. (files : Files) (report : List ℕ)
         → make_outcome files (output_name command.now) report (Err fault)
@@ -265,7 +273,7 @@ fn refusal_of(alloc: Global, command: &Command, fault: MakeFault) -> Result<Refu
     }
 }
 
-// The refusal of a container that is too large: a reserved output is refused before that.
+// The refusal where a container is too large; a reserved output is refused before that.
 fn too_large(
     alloc: Global,
     command: &Command,

@@ -1,4 +1,5 @@
-//! `verify`: containers are tested.
+//! `verify`: containers are tested. The rules stand in `docs/commands.md`, "`verify FILE..`", and
+//! the tests in `docs/formats.md`, "Tests of a container".
 ghost use Rattle.std.specs.Prelude.{◌≡◌, List, Option, ℕ, IsTrue, IfOk};
 ghost use Rattle.apk_front.specs.Verdicts.{as_outcome};
 ghost use Rattle.base_core.specs.Calls.{IfObservable};
@@ -20,7 +21,8 @@ use report_core::Refusal;
 use std::alloc::{AllocError, Global};
 
 /// Tests the files that the operands name, one after another up to the first that is no sound
-/// container.
+/// container. On a tree that shows its files these are tested (`found`), on each tree some bytes
+/// (`by_reads`).
 pub(crate) fn verify<T: Tree>(
     alloc: Global,
     operands: &Operands,
@@ -40,7 +42,7 @@ pub(crate) fn verify<T: Tree>(
     Ok(verdict)
 }
 
-// The refusal, or a line for each operand.
+// The verdict with the refusal of the first bad operand, or with a line for each operand.
 fn verdict_by(
     alloc: Global,
     operands: &Operands,
@@ -143,7 +145,7 @@ fn refusal_of(
     }
 }
 
-// A line for each operand.
+// The report where all files are sound: a line `FILE: OK` for each operand.
 fn lines(alloc: Global, operands: &Operands) -> Result<Text, AllocError>
     requires { IsTrue (are_files operands.now) }
     ensures { IfOk result (λ report. report ≡ sound_lines operands.now) }

@@ -9,7 +9,11 @@ const CALLS: u32 = 3;
 
 /// Answers `package BYTES`: the identity of a package, how many folders it has, and what three
 /// calls for its next file answer.
-pub fn add_files(alloc: Global, file: &[u8], answer: &mut Vec<u8>) -> Result<(), AllocError> {
+pub(crate) fn add_files(
+    alloc: Global,
+    file: &[u8],
+    answer: &mut Vec<u8>,
+) -> Result<(), AllocError> {
     match Package::new(alloc, file) {
         Ok(package) => add_calls(alloc, package, answer),
         Err(PackageFault::Bad(cause)) => add_cause(alloc, cause, answer),

@@ -44,7 +44,11 @@ fn words_of(alloc: Global, writer: &mut Writer, order: Order) -> Result<Vec<Val>
 
 /// Answers `numbers ORDER`: whether each blob has its word again, and how many bytes the payload
 /// has.
-pub fn add_numbers(alloc: Global, order: &[u8], answer: &mut Vec<u8>) -> Result<(), AllocError> {
+pub(crate) fn add_numbers(
+    alloc: Global,
+    order: &[u8],
+    answer: &mut Vec<u8>,
+) -> Result<(), AllocError> {
     let Some(order) = value_named(&ORDERS, order) else {
         return add_word(answer, b"no order");
     };

@@ -133,7 +133,11 @@ fn payload_of(written: Written) -> Result<Vec<u8>, WriteFault> {
 }
 
 /// Answers `write VALUES`: the words of the values, and the payload whose root is the last.
-pub fn add_written(alloc: Global, words: &Words, answer: &mut Vec<u8>) -> Result<(), AllocError> {
+pub(crate) fn add_written(
+    alloc: Global,
+    words: &Words,
+    answer: &mut Vec<u8>,
+) -> Result<(), AllocError> {
     let written = write_values(alloc, words)?;
     for word in &written.words {
         let number = word.word();
@@ -147,7 +151,11 @@ pub fn add_written(alloc: Global, words: &Words, answer: &mut Vec<u8>) -> Result
 }
 
 /// Answers `file VALUES`: the file of the payload, as one of a package.
-pub fn add_file(alloc: Global, words: &Words, answer: &mut Vec<u8>) -> Result<(), AllocError> {
+pub(crate) fn add_file(
+    alloc: Global,
+    words: &Words,
+    answer: &mut Vec<u8>,
+) -> Result<(), AllocError> {
     match payload_of(write_values(alloc, words)?) {
         Ok(payload) => add_file_of(alloc, &payload, answer),
         Err(fault) => add_fault(alloc, fault, answer),
@@ -200,7 +208,11 @@ fn add_part(draft: &mut Draft, part: Part<'_>) -> Result<(), AllocError> {
 }
 
 /// Answers `draft VALUES`: the payload of a draft of these values.
-pub fn add_draft(alloc: Global, words: &Words, answer: &mut Vec<u8>) -> Result<(), AllocError> {
+pub(crate) fn add_draft(
+    alloc: Global,
+    words: &Words,
+    answer: &mut Vec<u8>,
+) -> Result<(), AllocError> {
     let mut draft = Draft::new(alloc);
     add_values(&mut draft, words, 1)?;
     match draft.finish() {
@@ -211,7 +223,11 @@ pub fn add_draft(alloc: Global, words: &Words, answer: &mut Vec<u8>) -> Result<(
 
 /// Answers `repeated N VALUES`: how many bytes the payload of a draft has that is an array of so
 /// many times these values.
-pub fn add_repeated(alloc: Global, words: &Words, answer: &mut Vec<u8>) -> Result<(), AllocError> {
+pub(crate) fn add_repeated(
+    alloc: Global,
+    words: &Words,
+    answer: &mut Vec<u8>,
+) -> Result<(), AllocError> {
     let mut draft = Draft::new(alloc);
     draft.open_list()?;
     for _ in 0..long_of(word_at(words, 1)) {
@@ -225,7 +241,11 @@ pub fn add_repeated(alloc: Global, words: &Words, answer: &mut Vec<u8>) -> Resul
 }
 
 /// Adds how many bytes a payload has.
-pub fn add_len(alloc: Global, payload: &[u8], answer: &mut Vec<u8>) -> Result<(), AllocError> {
+pub(crate) fn add_len(
+    alloc: Global,
+    payload: &[u8],
+    answer: &mut Vec<u8>,
+) -> Result<(), AllocError> {
     add_word(answer, b"bytes ")?;
     add_number(alloc, answer, payload.len() as u128)
 }

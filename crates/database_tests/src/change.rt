@@ -13,7 +13,7 @@ use std::marker::PhantomData;
 /// The database after `change FLAGS NAME ..`: the packages of the database without those of these
 /// names, and behind them those that come, with the files whose flag is 1. A file that is none has
 /// no packages. None: they are not in order, one that comes is bad, or the database is too large.
-pub fn changed_database(
+pub(crate) fn changed_database(
     alloc: Global,
     file: &[u8],
     coming: &[Vec<u8>],
@@ -67,7 +67,7 @@ fn change_of<'a>(
 }
 
 /// Whether a database is written again as it was read.
-pub fn unchanged_database(alloc: Global, file: &[u8]) -> Result<bool, AllocError> {
+pub(crate) fn unchanged_database(alloc: Global, file: &[u8]) -> Result<bool, AllocError> {
     match Db::read(alloc, file) {
         Ok(db) => is_written_again(alloc, &db, file),
         Err(ReadFault::Bad(_)) => Ok(false),

@@ -11,7 +11,7 @@ const MOST_BYTES: usize = 268_435_455;
 
 /// The file of `package NAME VERSION ..`: a word that ends in a slash is a folder, another one a
 /// file in the folder before it. The root is a slash alone.
-pub fn package_file(alloc: Global, words: &Words) -> Result<Vec<u8>, AllocError> {
+pub(crate) fn package_file(alloc: Global, words: &Words) -> Result<Vec<u8>, AllocError> {
     let mut writer = Writer::new(alloc);
     let root = write_package(alloc, &mut writer, words)?;
     match writer.finish(root) {

@@ -1,4 +1,6 @@
 //! A whole file in the place of another.
+//! The rules stand in `docs/crash-safety.md`, "A whole file replaced", its four steps and what
+//! follows of them.
 ghost use Rattle.std.specs.Prelude.{◌≡◌, ◌≢◌, ◌≤◌, [], ◌∷◌, ℕ, Bool, List, length, IfOk, OnOk, OnErr, IsErrOf};
 ghost use Rattle.base_core.specs.Calls.{HasNow, IfObservable};
 ghost use Rattle.base_core.specs.Crash.{Since, IsOrderly};
@@ -31,6 +33,7 @@ pub fn replace<T: Tree>(
     name: &Name,
     bytes: &[u8],
 ) -> Result<(), TreeFault>
+    // 1,016: the scratch name has eight bytes more, and a name at most 1,024.
     requires length { length name.now ≤ 1016 }
     requires apart { name.now ≢ intent_name }
 
@@ -87,7 +90,8 @@ pub fn replace<T: Tree>(
     Ok(())
 }
 
-/// The name under which the new file is made.
+/// The scratch name of an output, under which the new file is made: eight bytes longer, so that it
+/// is a name where the output's has at most 1,016.
 fn scratch_name(alloc: Global, name: &Name) -> Result<Name, AllocError>
     requires { length name.now ≤ 1016 }
     ensures { IfOk result (λ scratch. scratch ≡ scratch_of name.now) }
@@ -123,7 +127,8 @@ fn write_beside<T: Tree>(
     settle(tree, scratch, name)
 }
 
-/// Makes a new file with these bytes under a name on which no state rests, and syncs it.
+/// Makes a new file with these bytes under a name on which no state rests, in place of what stands
+/// there, and syncs it: only a synced file may be moved to its name.
 fn fill<T: Tree>(tree: &mut T, name: &Name, bytes: &[u8]) -> Result<(), Disk>
     ensures moments { IfObservable (T.history tree.old) (λ v.
         Since (IsUntouched name.now v) (T.history tree.old) (T.history tree.new)) }
@@ -148,7 +153,8 @@ fn fill<T: Tree>(tree: &mut T, name: &Name, bytes: &[u8]) -> Result<(), Disk>
     sync_file(tree, name)
 }
 
-/// Moves a synced file to its name, and makes the names last.
+/// Moves a synced file to its name, and makes the names last: without the second a crash could
+/// still bring the old file back behind an Ok.
 fn settle<T: Tree>(tree: &mut T, from: &Name, to: &Name) -> Result<(), Disk>
     requires { to.now ≢ intent_name }
     ensures moments { IfObservable (T.history tree.old) (λ v. (bytes : List ℕ) (start : TreeState)

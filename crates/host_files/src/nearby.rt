@@ -1,4 +1,6 @@
 //! The folder that the last paths stood in, and a shorter way to its files where it is deep.
+//! The rules stand in `docs/crash-safety.md`, "What the host's tree does", the point of a deep
+//! folder.
 
 use super::Host;
 use super::failure::HostFault;
@@ -25,7 +27,7 @@ pub struct LastFolder {
 }
 
 impl LastFolder {
-    /// A folder that no path stood in so far.
+    /// The folder at a path, in which no path stood so far.
     pub fn new(path: Vec<u8>) -> LastFolder {
         LastFolder {
             path,
@@ -39,7 +41,7 @@ impl LastFolder {
         self.path.as_slice() == path
     }
 
-    /// A path in this folder as the host takes it.
+    /// A path in this folder as the host takes it, which counts as one more path in a row.
     pub fn host_path<'b, R: Host>(
         &'b mut self,
         rt: &R,
@@ -69,6 +71,7 @@ struct OpenFolder {
     _file: File,
     // The path of the folder and a slash, with the part that was asked for last.
     path: Vec<u8>,
+    // How long the path of the folder and the slash are.
     folder_len: usize,
 }
 
@@ -96,7 +99,7 @@ impl OpenFolder {
         }))
     }
 
-    /// The path to a part of the folder.
+    /// The path by which the host takes a file or a folder in the open folder, by its last part.
     fn path_to(&mut self, part: &[u8]) -> Result<&str, HostFault> {
         self.path.truncate(self.folder_len);
         self.path.extend_from_slice(part)?;
@@ -104,7 +107,7 @@ impl OpenFolder {
     }
 }
 
-/// Whether what stands at a path itself is an open file.
+/// Whether an open file is what stands at a path itself.
 fn leads_to<R: Host>(rt: &R, path: &str, file: &File) -> bool {
     match (fs::symlink_metadata(rt, path), file.metadata()) {
         (Ok(found), Ok(opened)) => is_same(&found, &opened),

@@ -1,4 +1,6 @@
 //! The actions of an intent, one after another: its removals, and behind them its moves.
+//! The rules stand in `docs/crash-safety.md`, "A change of several files", step 3 of the table and
+//! what is said of the actions below it.
 ghost use Rattle.std.specs.Prelude.{◌≡◌, ◌≤◌, ◌<◌, ◌+◌, ℕ, Bool, List, length, IfOk, OnOk, OnErr, IsSome};
 ghost use Rattle.base_core.specs.Calls.{HasNow, IfObservable};
 ghost use Rattle.base_core.specs.Crash.{IsOrderly, Since};
@@ -16,7 +18,8 @@ use crate::laws::Journal;
 use base_core::{Disk, Name, Tree, a_crash_may_leave_the_files_as_read, order_outlasts_a_crash};
 use journal_intent::PreparedIntent;
 
-/// Does the action behind so many, where there is one; and answers how many are done then.
+/// Does the next action of an intent, where `acted` are done and one is left, and answers how many
+/// are done then.
 pub(crate) fn act<T: Tree>(
     intent: &PreparedIntent,
     acted: usize,
@@ -63,7 +66,7 @@ pub(crate) fn act<T: Tree>(
     Ok(acted)
 }
 
-/// The removal behind so many.
+/// Does the removal with this index, where so many removals are done.
 fn remove_one<T: Tree>(intent: &PreparedIntent, i: usize, tree: &mut T) -> Result<(), Disk>
     requires { i < length intent.now.removals }
     ensures moments { IfObservable (T.history tree.old) (λ v. (ignored : List ℕ → Bool)
@@ -96,7 +99,7 @@ fn remove_one<T: Tree>(intent: &PreparedIntent, i: usize, tree: &mut T) -> Resul
     remove(tree, intent.removal(i))
 }
 
-/// The move behind so many, and behind the removals.
+/// Does the move of the write with this index, where the removals are done and so many writes.
 fn move_one<T: Tree>(
     intent: &PreparedIntent,
     j: usize,
@@ -136,7 +139,7 @@ fn move_one<T: Tree>(
     move_waiting(tree, intent.stage_name(j + 1), intent.write(j))
 }
 
-/// Moves a waiting file to its name; one that is absent was moved before.
+/// Moves the file that waits at a place to its name; one that is absent was moved before.
 fn move_waiting<T: Tree>(tree: &mut T, place: &Name, name: &Name) -> Result<(), Disk>
     ensures moves { MovesIfThere place.now name.now (T.history tree.old) (T.history tree.new)
         result }

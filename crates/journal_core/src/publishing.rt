@@ -1,4 +1,6 @@
 //! The intent of a stage comes to stand under its name.
+//! The rules stand in `docs/crash-safety.md`, "A change of several files", step 2 of the table, and
+//! the syncs before and behind the rename of the intent.
 ghost use Rattle.std.specs.Prelude.{◌≡◌, ◌⊎◌, ◌∷◌, [], ℕ, Bool, List, None, IsSome, OnOk, OnErr};
 ghost use Rattle.base_core.specs.Calls.{HasNow, IfObservable};
 ghost use Rattle.base_core.specs.Crash.{IsOrderly, Since};
@@ -19,7 +21,8 @@ use crate::laws::Journal;
 use base_core::{Disk, Name, Tree, a_crash_may_leave_the_files_as_read, order_outlasts_a_crash};
 use journal_intent::PreparedIntent;
 
-/// Writes the intent as a waiting file, and moves it to its name.
+/// Writes the intent as the waiting file 0, and moves it to its name. Here a change is published:
+/// from the moment on at which the intent is read, a recovery does its actions.
 pub(crate) fn publish_intent<T: Tree>(tree: &mut T, intent: &PreparedIntent) -> Result<(), Disk>
     ensures moments { IfObservable (T.history tree.old) (λ v. (ignored : List ℕ → Bool)
         (contents : List (List ℕ)) (base : Files) → IsOrderly (RestsOn ignored) v
@@ -69,7 +72,8 @@ pub(crate) fn publish_intent<T: Tree>(tree: &mut T, intent: &PreparedIntent) -> 
     enter(tree, intent.stage_name(0), intent.name())
 }
 
-/// Makes a waiting file with these bytes, and syncs it.
+/// Makes the waiting file 0 with these bytes, and syncs it, so that no crash leaves other bytes
+/// under the intent's name.
 fn write_waiting<T: Tree>(tree: &mut T, place: &Name, bytes: &[u8]) -> Result<(), Disk>
     requires { place.now ≡ stage_name 0 }
     ensures moments { IfObservable (T.history tree.old) (λ v. (ignored : List ℕ → Bool)
@@ -99,7 +103,8 @@ fn write_waiting<T: Tree>(tree: &mut T, place: &Name, bytes: &[u8]) -> Result<()
     sync_file(tree, place)
 }
 
-/// Moves the intent that waits to its name, and makes the names last before and behind it.
+/// Moves the intent that waits to its name. The names are synced before, so that no crash keeps the
+/// intent without a file that waits for it, and behind, so that no crash undoes the publishing.
 fn enter<T: Tree>(tree: &mut T, place: &Name, name: &Name) -> Result<(), Disk>
     requires place { place.now ≡ stage_name 0 }
     requires name { name.now ≡ intent_name }

@@ -1,4 +1,5 @@
 //! A stage: new files wait under names of their own until one step lets all of them count.
+//! The rules stand in `docs/crash-safety.md`, "A change of several files".
 ghost use Rattle.std.specs.Prelude.{◌≡◌, ◌⊎◌, ◌≤◌, ◌<◌, ◌+◌, ◌++◌, ◌∷◌, [], ◌^◌, ℕ, Bool, true, false, List, Some, None, length, IfOk, OnOk, OnErr, IsErrOf, IsSome, nat_lt};
 ghost use Rattle.adb_schema.specs.Soundness.{first_fault};
 ghost use Rattle.adb_tables.specs.declared.tables.Which.TheVariants.{Intent as IntentTable};
@@ -96,7 +97,8 @@ impl Stage {
         })
     }
 
-    /// The stage whose intent was found in a file, and is published.
+    /// The stage whose intent was found in a file: all its files were staged, it is published, and
+    /// none of its actions counts as done, since each may be done twice.
     pub fn found(alloc: Global, file: Vec<u8>) -> Result<Stage, RecoverFault>
         ensures intent { IfOk result (λ stage. read_intent file.items ≡ Some stage.intent) }
         ensures published { IfOk result (λ stage. stage.published ≡ true) }
@@ -125,7 +127,7 @@ impl Stage {
         self.acted < self.intent.removals_len() + self.intent.writes_len()
     }
 
-    /// The names of its actions are free, and no write stands twice.
+    /// The names of the stage's actions are free, and no write stands twice.
     pub fn names_are_free(&self)
         ensures free { HasFreeNames self.now.intent }
         ensures few { action_count self.now.intent < 2 ^ 63 }
@@ -133,7 +135,7 @@ impl Stage {
         self.intent.names_are_free();
     }
 
-    /// The name of the next write's file.
+    /// The name under which the file of the next write waits: the writes are numbered from 1.
     fn next_name(&self) -> &Name
         requires { self.now.staged < length self.now.intent.writes }
         ensures { IsNextName result.now self.now }
@@ -142,7 +144,7 @@ impl Stage {
         self.intent.stage_name(self.staged + 1)
     }
 
-    /// The name of the file that is begun.
+    /// The name under which the file that is begun waits.
     fn open_name(&self) -> &Name
         requires { self.now.is_open ≡ true }
         ensures { IsNextName result.now self.now }
@@ -420,7 +422,7 @@ impl Stage {
     }
 }
 
-/// Does all actions that are left.
+/// Does all actions of a published stage that are left.
 pub fn apply_all<T: Tree>(stage: &mut Stage, tree: &mut T) -> Result<(), Disk>
     requires published { stage.old.published ≡ true }
     requires within { stage.old.acted ≤ action_count stage.old.intent }

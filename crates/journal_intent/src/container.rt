@@ -1,4 +1,5 @@
-//! The container of an intent is written.
+//! The container of an intent is written, and is read back as this intent. The rules stand in
+//! `docs/formats.md`, "Schemas", table 10, and "Canonical layout".
 ghost use Rattle.std.specs.Prelude.{◌≡◌, ◌++◌, ◌<◌, ◌+◌, ◌^◌, ℕ, List, Some, None, length, IfOk, OnOk, IsErrOf};
 ghost use Rattle.adb_schema.specs.declared.read.TheConstants.{INTENT_WORD};
 ghost use Rattle.adb_values.specs.Drafts.{draft_with};
@@ -49,8 +50,8 @@ pub(crate) fn intent_file(
     Ok(file)
 }
 
-/// The container of an intent's canonical payload is read as this intent, and has not too many
-/// names.
+/// The container of an intent's canonical payload is read as this intent, and the intent has fewer
+/// than 2^63 names.
 fn an_intent_is_read_back()
     ensures read { (removals writes : List (List ℕ)) → AreChangeNames (removals ++ writes)
         → overflow_of (value_of_intent (intent_of_lists removals writes)) ≡ None
@@ -70,7 +71,7 @@ fn an_intent_is_read_back()
     what_a_container_is_made_of_is_read_back();
 }
 
-/// Writes an array of names.
+/// Writes names into a draft, as an array of texts.
 fn write_names(draft: &mut Draft, names: &Names) -> Result<(), AllocError>
     ensures { OnOk result
         (draft.new ≡ draft_with (arr_value (text_plains names.now)) draft.old) }
@@ -82,7 +83,7 @@ fn write_names(draft: &mut Draft, names: &Names) -> Result<(), AllocError>
     draft.close_array()
 }
 
-/// Equal names.
+/// A copy of names.
 pub(crate) fn copy_of_names(alloc: Global, names: &Names) -> Result<Names, AllocError>
     ensures { IfOk result (λ copy. copy ≡ names.now) }
 {

@@ -1,4 +1,5 @@
 //! The lists of an intent are read from its container.
+//! The rules stand in `docs/formats.md`, "Schemas", table 10, and "Tests of a container".
 ghost use Rattle.std.specs.Prelude.{◌≡◌, ◌<◌, ◌+◌, ◌^◌, Some, None, length, map, IfOk, IfErr, OnOk};
 ghost use Rattle.adb_fields.specs.ListValue.{list_value};
 ghost use Rattle.adb_fields.specs.Repeated.{list_of};
@@ -18,7 +19,9 @@ use std::alloc::{AllocError, Global};
 /// The two lists of an intent.
 #[derive(Drop)]
 pub(crate) struct IntentLists {
+    /// The names to be removed.
     pub(crate) removals: Names,
+    /// The names to be written.
     pub(crate) writes: Names,
 }
 
@@ -43,7 +46,7 @@ pub(crate) fn read_lists(alloc: Global, file: &[u8]) -> Result<IntentLists, Read
     Ok(IntentLists { removals, writes })
 }
 
-/// The names of a list, each of which is one.
+/// The names in a list of texts, each of which is a name.
 fn names_in<'a>(alloc: Global, list: List<'a, &'a [u8]>) -> Result<Names, AllocError>
     requires { AllNamed (entries_in (list_value list)) }
     ensures value { IfOk result

@@ -1,5 +1,7 @@
 //! The fixed names of a change: that of the intent, the folder of the stage, and those of the files
 //! that wait in it. Laws say what follows of them and of an intent that is read.
+//! The rules stand in `docs/crash-safety.md`, "A change of several files", the table of names; the
+//! law of free names in `docs/formats.md`, "The texts" and "Names that stand twice".
 
 ghost use Rattle.std.specs.Prelude.{◌≡◌, IfOk, ◌≢◌, ◌<◌, ◌^◌, ◌++◌, ℕ, true, List, Some, None};
 ghost use Rattle.journal_intent.specs.FreeNames.{stage_names_from, HasFreeNames, IsTakenName};
@@ -80,7 +82,7 @@ pub fn a_read_intent_has_free_names()
     sound_containers_hold_sound_values();
 }
 
-/// So are the names of a change that is to be made.
+/// The names of a change that is to be made are free, no write stands twice, and none is removed.
 pub fn the_names_of_a_change_are_free()
     ensures { (removals writes : List (List ℕ)) → AreChangeNames (removals ++ writes)
         → HasFreeNames (intent_of_lists removals writes) }

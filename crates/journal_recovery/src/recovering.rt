@@ -1,4 +1,6 @@
 //! What an earlier change left to do is done, and nothing waits any more.
+//! The rules stand in `docs/crash-safety.md`, "Recovery"; which actions an intent has, in "A change
+//! of several files".
 ghost use Rattle.std.specs.Prelude.{◌≡◌, [], ℕ, Bool, true, List, Some, None, IsSome, OnOk, OnErr, IsErrOf};
 ghost use Rattle.adb_schema.specs.Soundness.{first_fault};
 ghost use Rattle.adb_tables.specs.declared.tables.Which.TheVariants.{Intent as IntentTable};
@@ -103,7 +105,7 @@ pub fn recover<T: Tree>(alloc: Global, tree: &mut T) -> Result<(), RecoverFault>
     Ok(())
 }
 
-/// Finishes what the intent says, if there is one.
+/// Does the actions of the intent and takes it away, if one stands there.
 fn replay<T: Tree>(alloc: Global, tree: &mut T) -> Result<(), RecoverFault>
     ensures moments { IfObservable (T.history tree.old) (λ v. (ignored : List ℕ → Bool)
         → IsOrderly (RestsOn ignored) v
@@ -156,7 +158,8 @@ fn replay<T: Tree>(alloc: Global, tree: &mut T) -> Result<(), RecoverFault>
     }
 }
 
-/// Does what the intent of this file says.
+/// Does the actions of the intent that this file spells, all of them, since which were done before
+/// is not told, and takes the intent away. The file is what stands under the intent's name.
 fn replay_file<T: Tree>(alloc: Global, tree: &mut T, file: Vec<u8>) -> Result<(), RecoverFault>
     ensures moments { IfObservable (T.history tree.old) (λ v. (ignored : List ℕ → Bool)
         → IsOrderly (RestsOn ignored) v → files_of v intent_name ≡ Some file.items
@@ -204,7 +207,7 @@ fn replay_file<T: Tree>(alloc: Global, tree: &mut T, file: Vec<u8>) -> Result<()
     Ok(())
 }
 
-/// Takes away all that waits.
+/// Takes away every name below the stage.
 fn empty_stage<T: Tree>(alloc: Global, tree: &mut T) -> Result<(), TreeFault>
     ensures moments { IfObservable (T.history tree.old) (λ v. (ignored : List ℕ → Bool)
         → IsOrderly (RestsOn ignored) v → v.names intent_name ≡ None

@@ -1,7 +1,11 @@
 //! Lists in order: what it is that a list is sorted, and byte order.
 //!
-//! The contracts of the crates above cite `Sorted` and `ByteOrder` of `specs/`; two laws say
-//! what follows from them.
+//! The contracts of the crates above cite `Sorted` and `ByteOrder` of `specs/`; two laws say what
+//! follows from them.
+//!
+//! What it means is not told by a format: it stands in the README of this crate and in
+//! `docs/names.md` (*sorted*), and the orders of names in `docs/formats.md`, "World" and "The
+//! database after a change", stand on it.
 #![tactic(auto)]
 
 ghost use Rattle.list_order.specs.ByteOrder.{bytes_cmp, smallest_text};

@@ -13,7 +13,7 @@ use Rattle.make_info.specs.Reads.{Reads}
 use Rattle.make_info.specs.declared.fault.MakeFault.{MakeFault}
 use Rattle.make_package.specs.Making.{or_info_bad}
 use Rattle.package_files.specs.Package.{Script, SourceFolder, contents_of_folders, installed_size, value_of_package}
-use Rattle.package_files.specs.Sources.{folders_below, on_success, scripts_from, texts_of, values_with}
+use Rattle.package_files.specs.Sources.{folders_below, and_then, scripts_from, texts_of, values_with}
 use Rattle.pkg_core.specs.Whole.{Packed}
 
 -- by what was read of each part, in the order in which they are read
@@ -28,9 +28,9 @@ packed_of_parts command scripts about folders =
 -- the value and the contents of the package that a command asks for
 abbrev pub packed_package : CommandLine → List (List ℕ) → Reads → Result Packed MakeFault
 packed_package command names read =
-    on_success (scripts_from read 0 (values_with SCRIPT command.values)) (λ scripts.
-    on_success (or_info_bad (information command)) (λ about.
-    on_success (folders_below read (length scripts) (values_with FILES command.values) names)
+    and_then (scripts_from read 0 (values_with SCRIPT command.values)) (λ scripts.
+    and_then (or_info_bad (information command)) (λ about.
+    and_then (folders_below read (length scripts) (values_with FILES command.values) names)
     (packed_of_parts command scripts about)))
 
 -- the entries in their order; or the fault of the first operand that gives none

@@ -13,7 +13,7 @@ use Rattle.make_info.specs.Reads.{Reads}
 use Rattle.make_info.specs.declared.fault.MakeFault.{MakeFault}
 use Rattle.make_info.specs.declared.fault.MakeFault.TheVariants.{InfoBad, TooLarge}
 use Rattle.package_files.specs.Package.{SourceFolder, Script, value_of_package, installed_size, contents_of_folders}
-use Rattle.package_files.specs.Sources.{on_success, values_with, texts_of, scripts_from, folders_below}
+use Rattle.package_files.specs.Sources.{and_then, values_with, texts_of, scripts_from, folders_below}
 
 -- ---- the file
 
@@ -46,7 +46,7 @@ package_of_parts command scripts about folders =
 -- scripts first, then the information, then the files below the folder
 unfoldable pub made_package : CommandLine → List (List ℕ) → Reads → Result (List ℕ) MakeFault
 made_package command names read =
-    on_success (scripts_from read 0 (values_with SCRIPT command.values)) (λ scripts.
-    on_success (or_info_bad (information command)) (λ about.
-    on_success (folders_below read (length scripts) (values_with FILES command.values) names)
+    and_then (scripts_from read 0 (values_with SCRIPT command.values)) (λ scripts.
+    and_then (or_info_bad (information command)) (λ about.
+    and_then (folders_below read (length scripts) (values_with FILES command.values) names)
     (package_of_parts command scripts about)))

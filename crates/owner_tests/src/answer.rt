@@ -11,7 +11,7 @@ use std::alloc::{AllocError, Global};
 /// Adds who owns the files of packages, which all come: for each path `PATH=PLACE`, or `PATH=?`
 /// where none owns it, then for each file that is listed `1` or `0` for whether its package owns
 /// it, and then the path that is contested and the places of two packages that contend for it.
-pub fn add_owners(
+pub(crate) fn add_owners(
     alloc: Global,
     containers: &[Vec<u8>],
     answer: &mut Vec<u8>,

@@ -1,5 +1,6 @@
 -- What a package is made of, as reads find it: the script files, and the files of each folder.
 use Rattle.std.specs.Prelude.{ℕ, ◌+◌, ◌==◌, List, [], ◌∷◌, length, map, filter, Option, Some, None, Result, Ok, Err}
+pub use Rattle.base_core.specs.Lists.{and_then}
 use Rattle.base_core.specs.Listed.{AreNamesBelow}
 use Rattle.command_core.specs.Values.{script_type, script_file}
 use Rattle.command_core.specs.Files.{without_dot}
@@ -9,12 +10,6 @@ use Rattle.make_info.specs.declared.fault.MakeFault.{MakeFault}
 use Rattle.make_info.specs.declared.fault.MakeFault.TheVariants.{FileMissing}
 use Rattle.package_files.specs.Folders.{last_part_of, FolderListing, folders_of}
 use Rattle.package_files.specs.Package.{Source, SourceFolder, Script}
-
--- what comes of a result, or its fault
-abbrev pub on_success :
-    {A B : Type 0} → Result A MakeFault → (A → Result B MakeFault) → Result B MakeFault
-on_success (Ok x) next = next x
-on_success (Err fault) next = Err fault
 
 -- what was found for the argument at a place
 abbrev pub found_at : ℕ → Option (List ℕ) → Result (List ℕ) MakeFault
@@ -27,8 +22,8 @@ abbrev pub each_from :
     {X Y : Type 0} → (X → ℕ) → (ℕ → X → Result Y MakeFault) → ℕ → List X → Result (List Y) MakeFault
 each_from count of n [] = Ok []
 each_from count of n (x ∷ xs) =
-    on_success (of n x)
-    (λ y. on_success (each_from count of (n + count x) xs) (λ ys. Ok (y ∷ ys)))
+    and_then (of n x)
+    (λ y. and_then (each_from count of (n + count x) xs) (λ ys. Ok (y ∷ ys)))
 
 -- ---- the values of options
 
@@ -54,7 +49,7 @@ script_with kind bytes = record { field = kind; bytes = bytes }
 -- the script that a value gives as TYPE:FILE
 abbrev pub script_at : Reads → ℕ → OptionValue → Result Script MakeFault
 script_at read n v =
-    on_success (found_at v.place (read n (without_dot (script_file v.text))))
+    and_then (found_at v.place (read n (without_dot (script_file v.text))))
     (λ bytes. Ok (script_with (script_type v.text) bytes))
 
 -- of all values of `-s`, from the read with this number on, or the fault of the first whose file is
@@ -71,7 +66,7 @@ source_with name bytes = record { name = last_part_of name; bytes = bytes }
 -- the file under a name in the tree, which the argument at a place lists
 abbrev pub file_at : ℕ → Reads → ℕ → List ℕ → Result Source MakeFault
 file_at place read n name =
-    on_success (found_at place (read n name)) (λ bytes. Ok (source_with name bytes))
+    and_then (found_at place (read n name)) (λ bytes. Ok (source_with name bytes))
 
 -- of files, each with a read of its own; the place is that of `-F`, where a file that is gone is
 -- reported
@@ -81,7 +76,7 @@ sources_from place read n names = each_from (λ name. 1) (file_at place read) n 
 -- a folder with its files, the first of which is the read with this number
 abbrev pub folder_at : ℕ → Reads → ℕ → FolderListing → Result SourceFolder MakeFault
 folder_at place read n folder =
-    on_success (sources_from place read n folder.files)
+    and_then (sources_from place read n folder.files)
     (λ files. Ok (record { name = folder.name; files = files }))
 
 -- of folders, one read behind another

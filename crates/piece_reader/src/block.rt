@@ -1,5 +1,6 @@
 //! What is read of a block: its header, and the positions that contents begin with; and the next
 //! file whose contents a block holds.
+//! The rules stand in `docs/formats.md`, "The other blocks"; the framing of a block in "Container".
 
 ghost use Rattle.std.specs.Prelude.{◌≡◌, ◌≤◌, ◌<◌, ◌+◌, ◌-◌, ◌^◌, ℕ, List, length, IfErr, IfOk, IfSome, OnOk};
 ghost use Rattle.adb_block.specs.Frames.{raw_size};
@@ -16,7 +17,8 @@ use base_core::{Name, Tree};
 use piece_core::{BlockPlace, FileCheck, Step};
 use pkg_pieces::HeadBytes;
 
-/// The bytes in front of a file's own in its contents: the positions of its folder and of itself.
+/// 8: the bytes in front of a file's own in its contents, which are the positions of its folder and
+/// of itself, four bytes each.
 const POSITIONS_LEN: u64 = 8;
 
 /// What was read of a block: what its header frames, and the first eight bytes of its payload,
@@ -53,7 +55,7 @@ pub(crate) fn next_block<'a, T: Tree>(
     place: &mut BlockPlace<'a>,
 ) -> Result<BlockStep<'a>, PieceFault>
     requires { place.old.at ≤ place.old.len }
-    // Of each package that is so long and has the bytes that were seen.
+    // For each package that is so long and has the bytes that were seen.
     ensures block { (seen : List ℕ)
         × IsSeenIn (T.history tree.old) name.now place.old.len place.old.at seen
         × IfOk result (λ step. EndsBefore (place.old.at + length seen) step place.new)
@@ -92,7 +94,7 @@ fn file_at<'a>(file: FileCheck<'a>, at: u64, framing: Option<Frame>) -> OpenFile
     }
 }
 
-/// Reads what has to be known of the block at a place.
+/// Reads what has to be known of the block at a place: its header and the positions.
 pub(crate) fn read_block<T: Tree>(
     tree: &mut T,
     name: &Name,
@@ -146,7 +148,8 @@ fn read_positions<T: Tree>(
     Ok(positions)
 }
 
-/// Goes on to the next file whose contents a block holds; None behind the last block.
+/// Goes on to the next file whose contents a block holds, past blocks that hold none; None behind
+/// the last block.
 pub(crate) fn next_file<'a, T: Tree>(
     tree: &mut T,
     name: &Name,

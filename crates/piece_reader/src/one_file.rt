@@ -1,4 +1,5 @@
 //! The pieces of a single file of a package.
+//! The rules stand in `docs/formats.md`, "The other blocks", the paragraph of pieces.
 
 ghost use Rattle.std.specs.Option.{ForSome};
 ghost use Rattle.std.specs.Prelude.{◌≡◌, ◌<◌, ◌≤◌, Some};
@@ -18,11 +19,13 @@ use pkg_pieces::Contents;
 pub struct FilePieces<'a> {
     pub(crate) name: &'a Name,
     pub(crate) len: u64,
-    // They tell what is due.
+    // The values of the package, which tell what is due.
     pub(crate) contents: Contents<'a>,
     // What the bytes are compared with; None where the file has no contents.
     pub(crate) due: Option<Wanted<'a>>,
+    // The file with what is left of it; None behind its last piece.
     pub(crate) opened: Option<OpenFile<'a>>,
+    // The test that failed, if one did.
     pub(crate) refused: Option<Cause>,
     ghost within: { open_end opened ≤ len },
     ghost more: { ForSome opened (λ o. 0 < file_bytes_left o.file) },
@@ -80,7 +83,8 @@ impl<'a> FilePieces<'a> {
         }
     }
 
-    /// A file with contents that begins at this offset.
+    /// The pieces of a file with contents, which begins at this offset; each call is refused where
+    /// it has no place there.
     fn of(
         name: &'a Name,
         len: u64,
@@ -179,7 +183,7 @@ impl<'a> FilePieces<'a> {
             (T.history tree.old) (T.history tree.new) (T.counts tree.old) (T.counts tree.new)
             result }
     {
-        // The file ends within the package.
+        // The proof needs that the file ends within the package.
         let _len = self.len;
         let Some(file) = self.opened.take() else {
             return Ok(false);

@@ -1,4 +1,5 @@
 //! A piece: the buffer that holds it, and why there is no next one.
+//! The rules stand in `docs/formats.md`, "The other blocks", the paragraph of pieces.
 
 ghost use Rattle.std.specs.Prelude.{◌≡◌, ◌≤◌, ◌+◌, ℕ, [], length, IfErr, OnOk};
 ghost use Rattle.pkg_pieces.specs.Seen.{IsSeen, ReadsFile};
@@ -37,7 +38,7 @@ impl Piece {
         }
     }
 
-    /// The bytes that it holds.
+    /// The bytes that the piece holds.
     pub fn bytes(&self) -> &[u8]
         ensures bytes { result.now ≡ self.now }
         ensures few { length result.now ≤ 65536 }
@@ -45,7 +46,8 @@ impl Piece {
         &self.bytes[..self.len]
     }
 
-    /// Reads so many bytes of a file, from an offset on. After an error it holds some bytes.
+    /// Reads so many bytes of a file, from an offset on, into the piece. After an error the piece
+    /// holds some bytes.
     #[tactic(auto, using(pkg_pieces::proofs::SeenBytes::seen_by_read, pkg_pieces::proofs::SeenBytes::proper_where_long))]
     pub(crate) fn read<T: Tree>(
         &mut self,
@@ -86,6 +88,7 @@ impl From<Cause> for PieceFault {
 
     ghost from_gives = { λ cause fault. fault ≡ Bad cause };
 
+    /// A failed test is why there is no piece.
     fn from(cause: Cause) -> PieceFault {
         PieceFault::Bad(cause)
     }
@@ -97,6 +100,7 @@ impl From<Disk> for PieceFault {
 
     ghost from_gives = { λ _ fault. fault ≡ DiskFault };
 
+    /// A failed call of the tree is why there is no piece.
     fn from(_: Disk) -> PieceFault {
         PieceFault::Disk
     }

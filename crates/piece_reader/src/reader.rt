@@ -1,4 +1,6 @@
 //! A reader of the pieces of a package's files, one after the other.
+//! The rules stand in `docs/formats.md`, "The other blocks", the paragraph of pieces; the order of
+//! the files in the paragraph above it.
 
 ghost use Rattle.std.specs.Option.{ForSome};
 ghost use Rattle.std.specs.Prelude.{◌≤◌, ◌≡◌, List};
@@ -16,7 +18,7 @@ use piece_core::{BlockPlace, Part};
 use pkg_core::Walk;
 use pkg_pieces::{Contents, Front};
 
-/// What is still to come.
+/// What is still to come of a reader.
 #[derive(Clone, Copy)]
 pub(crate) enum Due {
     /// The pieces of the files that are left.
@@ -34,8 +36,11 @@ pub(crate) enum Due {
 #[derive(Drop)]
 pub struct PieceReader<'a> {
     pub(crate) name: &'a Name,
+    /// Where the reader stands in the blocks: behind the one of the file that is open.
     pub(crate) place: BlockPlace<'a>,
+    /// The file of which a piece came and more are to come.
     pub(crate) opened: Option<OpenFile<'a>>,
+    /// The offset at which the file begins whose piece came last.
     pub(crate) start: u64,
     pub(crate) due: Due,
     ghost within: { place.at ≤ place.len },
@@ -118,7 +123,7 @@ impl<'a> PieceReader<'a> {
         tree: &mut T,
         piece: &mut Piece,
     ) -> Result<Option<Part>, PieceFault>
-        // Of each package that is so long and has the bytes that were seen, from where the reader
+        // For each package that is so long and has the bytes that were seen, from where the reader
         // stood to where it stands then.
         ensures piece { (seen : List ℕ)
             × IsSeenIn (T.history tree.old) (name_in_tree self.old) (package_len self.old)
@@ -152,7 +157,8 @@ impl<'a> PieceReader<'a> {
         }
     }
 
-    /// Reads the next piece, where files are left.
+    /// Reads the next piece, where files are left, and keeps the end or a failed test for the next
+    /// calls.
     fn read_due<T: Tree>(
         &mut self,
         tree: &mut T,
@@ -232,7 +238,7 @@ impl<'a> PieceReader<'a> {
         let Some(file) = self.open_next(tree)? else {
             return Ok(None);
         };
-        // The file ends in front of the next block.
+        // The proof needs that the file ends in front of the next block.
         let _end = self.place.at;
         let (part, rest) = file.next_piece(tree, self.name, piece)?;
         self.opened = rest;

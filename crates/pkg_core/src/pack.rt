@@ -1,4 +1,5 @@
-//! A package that is read.
+//! A package that is read: its values, and the contents of its files one after the other. The rules
+//! stand in `docs/formats.md`, "Tests of a container" and "The other blocks".
 
 ghost use Rattle.std.specs.Prelude.{◌≡◌, None, IfOk, IfErr};
 ghost use Rattle.sha2.specs.Sha256.{sha256};
@@ -34,6 +35,7 @@ impl From<Cause> for PackageFault {
 
     ghost from_gives = { λ cause fault. fault ≡ Bad cause };
 
+    /// A failed test is one of the package.
     fn from(cause: Cause) -> PackageFault {
         PackageFault::Bad(cause)
     }
@@ -45,6 +47,7 @@ impl From<ReadFault> for PackageFault {
 
     ghost from_gives = { λ read fault. fault ≡ fault_of_read read };
 
+    /// A failed test of the values is one of the package, and so is want of memory for them.
     fn from(fault: ReadFault) -> PackageFault {
         match fault {
             ReadFault::Bad(cause) => PackageFault::Bad(cause),
@@ -59,8 +62,11 @@ impl From<ReadFault> for PackageFault {
 #[derive(Drop)]
 pub struct Package<'a> {
     checked: Checked<'a>,
+    /// The payload of the first block, of which the id is taken.
     payload: &'a [u8],
+    /// The blocks and the files that are still to be read.
     rest: Rest<'a>,
+    /// The test that failed, if one did.
     refused: Option<Cause>,
     ghost table: { which_of checked ≡ Tables.Package },
 }
@@ -108,7 +114,7 @@ impl<'a> Package<'a> {
         self.checked.values_keep_their_rules();
     }
 
-    /// The package's values.
+    /// The values of the package, as a view of its table.
     pub fn view(&self) -> PackageView<'a>
         ensures { package_value result ≡ opened_value self.now }
     {

@@ -1,4 +1,6 @@
 //! The values of a package whose front was read.
+//! The rules stand in `docs/formats.md`, "Tests of a container": the shape, the texts, and names
+//! that stand twice.
 
 ghost use Rattle.std.specs.Prelude.{◌≡◌, true, None, IfOk, IfErr, is_none};
 ghost use Rattle.adb_schema.specs.ReadFaults.{IsReadFault};
@@ -84,7 +86,7 @@ impl<'a> Contents<'a> {
         tested_payloads_hold_sound_values();
     }
 
-    /// The package's values.
+    /// The values of the package, as a view of its table.
     pub fn view(&self) -> PackageView<'a>
         ensures { package_value result ≡ value_of_contents self.now }
     {
@@ -100,7 +102,7 @@ impl<'a> Contents<'a> {
     }
 }
 
-/// Tests the payload of a package, and gives it opened.
+/// Tests the payload of a package in the order that `new` tells, and gives it opened.
 fn check_payload<'a>(alloc: Global, payload: &'a [u8]) -> Result<Adb<'a>, ReadFault>
     ensures bad { IfErr result
         (λ fault. IsReadFault fault (payload_fault Tables.Package payload.entry.now)) }

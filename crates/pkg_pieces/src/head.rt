@@ -1,4 +1,5 @@
 //! The header of a block in a file of a tree.
+//! The rules stand in `docs/formats.md`, "Container", the paragraph of a block.
 
 ghost use Rattle.std.specs.Prelude.{◌≡◌, ◌≤◌, ◌<◌, ◌+◌, ◌^◌, ℕ, [], ◌++◌, length, IfOk};
 ghost use Rattle.adb_block.specs.Frames.{HoldsHead, head_len};
@@ -8,7 +9,8 @@ use adb_block::head_len;
 use base_core::{Disk, Name, Tree};
 use std::marker::Model;
 
-/// What was read of a block's header (apk-v3(5)), at most 16 bytes. Contracts see the bytes.
+/// What was read of a block's header, at most 16 bytes: a short header has 4, an extended one 16.
+/// Contracts see the bytes.
 #[derive(Drop)]
 pub struct HeadBytes {
     bytes: [u8; 16],
@@ -26,7 +28,7 @@ impl Model for HeadBytes {
 }
 
 impl HeadBytes {
-    /// The bytes.
+    /// The bytes of the header that were read.
     pub fn bytes(&self) -> &[u8]
         ensures { result.now ≡ self.now }
     {
@@ -65,7 +67,7 @@ impl HeadBytes {
     }
 }
 
-/// A header of which nothing is there.
+/// The header of which nothing is there.
 fn no_head() -> HeadBytes
     ensures { result ≡ [] }
 {
@@ -75,7 +77,7 @@ fn no_head() -> HeadBytes
     }
 }
 
-/// A header of which four bytes were read.
+/// The header of which four bytes were read: a short one, or the front of one that is not whole.
 #[tactic(auto, using(crate::proofs::Heads::four_kept))]
 fn head_of_four(first: [u8; 4]) -> HeadBytes
     ensures { result ≡ first }
@@ -85,7 +87,7 @@ fn head_of_four(first: [u8; 4]) -> HeadBytes
     HeadBytes { bytes, len: 4 }
 }
 
-/// A header of which sixteen bytes were read.
+/// The header of which all sixteen bytes were read: an extended one.
 #[tactic(auto, using(crate::proofs::Heads::sixteen_kept))]
 fn head_of_sixteen(first: [u8; 4], rest: [u8; 12]) -> HeadBytes
     ensures { result ≡ first ++ rest }

@@ -22,7 +22,7 @@ pub struct ToldChange {
 }
 
 /// Adds the plan of a change. The database after it goes out; no bytes where there is none.
-pub fn add_plan(
+pub(crate) fn add_plan(
     alloc: Global,
     tree: &mut MemoryTree,
     change: &ToldChange,

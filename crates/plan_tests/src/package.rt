@@ -34,14 +34,14 @@ const LINK: &[u8] = b"\x00\xa0";
 const MARKS: &[u8] = b"=#:>";
 
 /// The container of the package of a row, without contents.
-pub fn package_file(alloc: Global, row: &Words) -> Result<Vec<u8>, AllocError> {
+pub(crate) fn package_file(alloc: Global, row: &Words) -> Result<Vec<u8>, AllocError> {
     let mut writer = Writer::new(alloc);
     let root = write_package(alloc, &mut writer, row)?;
     container(alloc, writer, root, PACKAGE_WORD)
 }
 
 /// The container of the database with the packages of these rows.
-pub fn database_file(alloc: Global, rows: &[Words]) -> Result<Vec<u8>, AllocError> {
+pub(crate) fn database_file(alloc: Global, rows: &[Words]) -> Result<Vec<u8>, AllocError> {
     let mut writer = Writer::new(alloc);
     let mut packages = Vec::new(alloc);
     for row in rows {

@@ -32,7 +32,7 @@ const TABLES: [(&[u8], Which); 10] = [
 ];
 
 /// The table of a name; that of packages where it is none.
-pub fn table_of(name: &[u8]) -> Which {
+pub(crate) fn table_of(name: &[u8]) -> Which {
     value_named(&TABLES, name).unwrap_or(Which::Package)
 }
 
@@ -47,7 +47,11 @@ struct Payload {
 
 /// The payload of a value: `.` is null, `#` and a number an integer, `'` and bytes a text, what
 /// stands between `[` and `]` an array, and what stands between `{` and `}` an object.
-pub fn payload_of(alloc: Global, words: &Words, first: usize) -> Result<Vec<u8>, AllocError> {
+pub(crate) fn payload_of(
+    alloc: Global,
+    words: &Words,
+    first: usize,
+) -> Result<Vec<u8>, AllocError> {
     let mut payload = Payload {
         values: Vec::new(alloc),
         open: Vec::new(alloc),
@@ -118,7 +122,7 @@ impl Payload {
 }
 
 /// Writes a run: its count of words, which counts itself, and its entries.
-pub fn add_run(bytes: &mut Vec<u8>, entries: &[u32]) -> Result<(), AllocError> {
+pub(crate) fn add_run(bytes: &mut Vec<u8>, entries: &[u32]) -> Result<(), AllocError> {
     let count = (entries.len() % 65_536) as u32 + 1;
     bytes.extend_from_slice(&count.to_le_bytes())?;
     for entry in entries {
@@ -128,7 +132,11 @@ pub fn add_run(bytes: &mut Vec<u8>, entries: &[u32]) -> Result<(), AllocError> {
 }
 
 /// A payload whose root is an object with these words, and behind it more bytes.
-pub fn object_payload(alloc: Global, entries: &[u32], more: &[u8]) -> Result<Vec<u8>, AllocError> {
+pub(crate) fn object_payload(
+    alloc: Global,
+    entries: &[u32],
+    more: &[u8],
+) -> Result<Vec<u8>, AllocError> {
     let mut payload = Vec::new(alloc);
     payload.extend_from_slice(b"\0\0\0\0\x08\0\0\xe0")?;
     add_run(&mut payload, entries)?;
@@ -137,7 +145,7 @@ pub fn object_payload(alloc: Global, entries: &[u32], more: &[u8]) -> Result<Vec
 }
 
 /// The words of a row that are numbers, from a place on.
-pub fn ints_of(alloc: Global, words: &Words, first: usize) -> Result<Vec<u32>, AllocError> {
+pub(crate) fn ints_of(alloc: Global, words: &Words, first: usize) -> Result<Vec<u32>, AllocError> {
     let mut ints = Vec::new(alloc);
     for i in first..words.len() {
         ints.push(int_of(words.word(i)))?;

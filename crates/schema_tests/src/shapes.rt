@@ -24,7 +24,11 @@ fn fault_of(payload: &[u8], which: Which) -> Result<(), Cause> {
 
 /// Adds the fault of the payload of `shape TABLE MORE WORD ..`: an object with these words, and
 /// more bytes behind it.
-pub fn add_shape(alloc: Global, words: &Words, answer: &mut Vec<u8>) -> Result<(), AllocError> {
+pub(crate) fn add_shape(
+    alloc: Global,
+    words: &Words,
+    answer: &mut Vec<u8>,
+) -> Result<(), AllocError> {
     let entries = ints_of(alloc, words, 3)?;
     let payload = object_payload(alloc, &entries, word_at(words, 2))?;
     let found = fault_of(&payload, table_of(word_at(words, 1)));
@@ -51,7 +55,11 @@ fn outside(kind: Kind) -> u32 {
 
 /// Adds for how many fields of a table both faults of a value are reported, where the fields before
 /// are null, and then the fault of words behind the last field, at which nothing looks.
-pub fn add_faults(alloc: Global, table: &[u8], answer: &mut Vec<u8>) -> Result<(), AllocError> {
+pub(crate) fn add_faults(
+    alloc: Global,
+    table: &[u8],
+    answer: &mut Vec<u8>,
+) -> Result<(), AllocError> {
     let which = table_of(table);
     let mut before = Vec::new(alloc);
     let mut told = 0u64;
@@ -102,7 +110,11 @@ fn fault_behind(
 
 /// Adds how many values are visited once the words of `visits TABLE BEFORE WORD ..` are walked as
 /// fields of the table, behind so many visits, or the fault.
-pub fn add_visits(alloc: Global, words: &Words, answer: &mut Vec<u8>) -> Result<(), AllocError> {
+pub(crate) fn add_visits(
+    alloc: Global,
+    words: &Words,
+    answer: &mut Vec<u8>,
+) -> Result<(), AllocError> {
     let entries = ints_of(alloc, words, 3)?;
     let payload = object_payload(alloc, &entries, b"")?;
     let before = int_of(word_at(words, 2));
@@ -123,7 +135,11 @@ fn visits_of(payload: &[u8], which: Which, before: u32) -> Result<u32, Cause> {
 }
 
 /// Adds the fault of a package of one folder of so many files, which stands at as many places.
-pub fn add_many_files(alloc: Global, count: &[u8], answer: &mut Vec<u8>) -> Result<(), AllocError> {
+pub(crate) fn add_many_files(
+    alloc: Global,
+    count: &[u8],
+    answer: &mut Vec<u8>,
+) -> Result<(), AllocError> {
     let count = int_of(count) % 65_536;
     // At 20 a folder, at 36 its files, and behind them the folders.
     let mut more = Vec::new(alloc);
@@ -139,7 +155,11 @@ pub fn add_many_files(alloc: Global, count: &[u8], answer: &mut Vec<u8>) -> Resu
 }
 
 /// Adds the fault of the value of `rules TABLE VALUE`.
-pub fn add_rule(alloc: Global, words: &Words, answer: &mut Vec<u8>) -> Result<(), AllocError> {
+pub(crate) fn add_rule(
+    alloc: Global,
+    words: &Words,
+    answer: &mut Vec<u8>,
+) -> Result<(), AllocError> {
     let payload = payload_of(alloc, words, 2)?;
     let checked = check(alloc, &payload, table_of(word_at(words, 1)));
     add_outcome(alloc, cause_in(checked)?, answer)
@@ -153,7 +173,11 @@ fn check(alloc: Global, payload: &[u8], which: Which) -> Result<(), ReadFault> {
 }
 
 /// Adds the first failed test of the file of `container BYTES TABLE`.
-pub fn add_container(alloc: Global, words: &Words, answer: &mut Vec<u8>) -> Result<(), AllocError> {
+pub(crate) fn add_container(
+    alloc: Global,
+    words: &Words,
+    answer: &mut Vec<u8>,
+) -> Result<(), AllocError> {
     let read = read_adb(alloc, word_at(words, 1), table_of(word_at(words, 2)));
     add_outcome(alloc, cause_in(read)?, answer)
 }

@@ -12,7 +12,11 @@ use std::alloc::{AllocError, Global};
 
 /// Adds each field of the value of `view TABLE VALUE`: of a list what of each entry tells it from
 /// others, between brackets; of an object inside another one its first field.
-pub fn add_view(alloc: Global, words: &Words, answer: &mut Vec<u8>) -> Result<(), AllocError> {
+pub(crate) fn add_view(
+    alloc: Global,
+    words: &Words,
+    answer: &mut Vec<u8>,
+) -> Result<(), AllocError> {
     let payload = payload_of(alloc, words, 2)?;
     let adb = match Adb::new(&payload) {
         Ok(adb) => adb,

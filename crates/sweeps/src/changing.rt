@@ -26,7 +26,7 @@ pub enum Reached {
 }
 
 /// The change that a word names.
-pub fn change_named(word: &[u8]) -> Option<StagedChange> {
+pub(crate) fn change_named(word: &[u8]) -> Option<StagedChange> {
     value_named(
         &[
             (b"one", StagedChange::OneWrite),
@@ -37,7 +37,7 @@ pub fn change_named(word: &[u8]) -> Option<StagedChange> {
 }
 
 /// Adds the word for how far a change came.
-pub fn add_reached(answer: &mut Vec<u8>, reached: Reached) -> Result<(), AllocError> {
+pub(crate) fn add_reached(answer: &mut Vec<u8>, reached: Reached) -> Result<(), AllocError> {
     match reached {
         Reached::Nothing => add_word(answer, b"nothing"),
         Reached::Published => add_word(answer, b"published"),
@@ -46,7 +46,7 @@ pub fn add_reached(answer: &mut Vec<u8>, reached: Reached) -> Result<(), AllocEr
 }
 
 /// Recovers the tree, and makes the change.
-pub fn run_change(
+pub(crate) fn run_change(
     alloc: Global,
     change: StagedChange,
     tree: &mut MemoryTree,

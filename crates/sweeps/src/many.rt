@@ -23,7 +23,11 @@ const MOST: u64 = 65_536;
 /// Answers `many WRITES WAITING`: whether an intent of so many writes is read back, name by name,
 /// and what a recovery makes of it, where the last so many files wait and the others were moved
 /// before: how many calls of it write, and how many of the files then stand under their names.
-pub fn add_many(alloc: Global, words: &Words, answer: &mut Vec<u8>) -> Result<(), AllocError> {
+pub(crate) fn add_many(
+    alloc: Global,
+    words: &Words,
+    answer: &mut Vec<u8>,
+) -> Result<(), AllocError> {
     let count = long_at(words, 1).min(MOST) as usize;
     let waiting = long_at(words, 2).min(MOST) as usize;
     let Some(file) = intent_file(alloc, count)? else {

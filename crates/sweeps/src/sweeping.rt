@@ -145,7 +145,11 @@ fn recovers_to(alloc: Global, tree: &mut MemoryTree, text: &[u8]) -> Result<bool
 
 /// Answers `stop CHANGE CALLS (NAME BYTES)..`: how far a change comes that is cut off behind so
 /// many calls, how many maps of names a crash may then leave, and what the images recover to.
-pub fn add_stop(alloc: Global, words: &Words, answer: &mut Vec<u8>) -> Result<(), AllocError> {
+pub(crate) fn add_stop(
+    alloc: Global,
+    words: &Words,
+    answer: &mut Vec<u8>,
+) -> Result<(), AllocError> {
     let Some(change) = change_named(word_at(words, 1)) else {
         return answer.extend_from_slice(b"no change");
     };
@@ -238,7 +242,11 @@ struct Recoveries {
 /// Answers `fault CHANGE CALL (NAME BYTES)..`: how far a change comes whose call with this number
 /// fails, and what a third recovery leaves, behind one and a second that fail, each at each of its
 /// calls.
-pub fn add_fault(alloc: Global, words: &Words, answer: &mut Vec<u8>) -> Result<(), AllocError> {
+pub(crate) fn add_fault(
+    alloc: Global,
+    words: &Words,
+    answer: &mut Vec<u8>,
+) -> Result<(), AllocError> {
     let Some(change) = change_named(word_at(words, 1)) else {
         return answer.extend_from_slice(b"no change");
     };

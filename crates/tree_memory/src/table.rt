@@ -1,4 +1,5 @@
 //! A table of names in byte order, each with the number of its file.
+//! Names and folders are those of `docs/crash-safety.md`, "A tree at one moment".
 ghost use Rattle.std.specs.Prelude.{◌≡◌, ◌↔◌, ℕ, [], ◌∷◌, ◌++◌, false, List, IsTrue, IsSome, IfOk, IfErr, OnOk, OnErr};
 ghost use Rattle.std.specs.Ordering.{nat_cmp, is_lt};
 ghost use Rattle.std.specs.Str.{bytes_eq};
@@ -25,7 +26,7 @@ pub struct NameTable {
 }
 
 impl NameTable {
-    /// No names.
+    /// The table without names.
     pub fn new(alloc: Global) -> NameTable
         ensures { result.entries.items ≡ [] }
     {
@@ -34,7 +35,7 @@ impl NameTable {
         }
     }
 
-    /// The number that a name leads to.
+    /// The number that a name leads to, if it is in the table.
     pub fn find(&self, name: &[u8]) -> Option<usize>
         ensures { result ≡ lookup self.now.entries.items name.now }
     {
@@ -44,7 +45,7 @@ impl NameTable {
         }
     }
 
-    // Where the name stands, or else where it would have to stand.
+    // The place of the name, or else the one where it would have to stand.
     fn place(&self, name: &[u8]) -> Result<usize, usize>
         ensures found { IfOk result (λ i. IsNamed self.now.entries.items i name.now) }
         ensures absent { IfErr result (λ i. IsPlace self.now.entries.items i name.now) }
@@ -53,7 +54,7 @@ impl NameTable {
             .binary_search_by(|entry| entry.name.as_bytes().cmp(name))
     }
 
-    /// Lets a name lead to a number. A refused one changes nothing.
+    /// Lets a name lead to a number. Where there is no memory nothing changes.
     pub fn set(&mut self, name: Name, file: usize) -> Result<(), AllocError>
         ensures ok { OnOk result ((q : List ℕ)
             → lookup self.new.entries.items q
@@ -128,7 +129,7 @@ impl NameTable {
         false
     }
 
-    // Where the names below a folder begin.
+    // The place where the names below a folder begin, or would.
     fn start(&self, folder: &[u8]) -> usize
         ensures { IsStart self.now.entries.items result folder.now }
     {
@@ -136,7 +137,7 @@ impl NameTable {
             .partition_point(|entry| is_before(entry.name.as_bytes(), folder))
     }
 
-    /// The names in byte order.
+    /// All names, in byte order.
     pub fn list(&self, alloc: Global) -> Result<Names, AllocError>
         ensures { IfOk result (λ names. names ≡ names_of self.now.entries.items) }
     {

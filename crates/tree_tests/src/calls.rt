@@ -11,7 +11,7 @@ const LONGEST: usize = 4096;
 
 /// Reads `read NAME AT LEN` into a buffer of sevens, and adds whether that succeeded, what is
 /// then in the buffer, and the longest read so far.
-pub fn add_read(
+pub(crate) fn add_read(
     alloc: Global,
     tree: &mut MemoryTree,
     words: &Words,
@@ -55,7 +55,7 @@ const CALLS: [(&[u8], Call); 5] = [
 
 /// Makes a call that writes, and adds whether it succeeded, how many maps of names there are, and
 /// what then stands in the tree.
-pub fn add_call(
+pub(crate) fn add_call(
     alloc: Global,
     tree: &mut MemoryTree,
     words: &Words,
@@ -92,7 +92,7 @@ fn moves(
 
 /// Syncs the names, and adds what `add_call` adds: whether it succeeded, how many maps of names
 /// there are, and what then stands in the tree.
-pub fn add_sync_names(
+pub(crate) fn add_sync_names(
     alloc: Global,
     tree: &mut MemoryTree,
     answer: &mut Vec<u8>,
@@ -115,7 +115,11 @@ fn add_written(
 }
 
 /// Moves a file to and fro as often as `turns TIMES HERE THERE` says.
-pub fn make_turns(alloc: Global, tree: &mut MemoryTree, words: &Words) -> Result<(), AllocError> {
+pub(crate) fn make_turns(
+    alloc: Global,
+    tree: &mut MemoryTree,
+    words: &Words,
+) -> Result<(), AllocError> {
     let Some(here) = name_at(alloc, words, 2)? else {
         return Ok(());
     };

@@ -1,4 +1,6 @@
 //! The fields of a package that lines of a text database give, by the letters of the lines.
+//! The rules stand in `docs/formats.md`, "Text database of version 2", the table, from C to the row
+//! D, p, r, i.
 ghost use Rattle.std.specs.Prelude.{◌≡◌, ◌==◌};
 ghost use Rattle.v2_lines.specs.InfoFields.{info_field_among, field_of_letter, grammar_of, adds_to_list, letter_of};
 
@@ -25,7 +27,7 @@ pub enum InfoField {
     InstallIf,
 }
 
-/// What a value has to be.
+/// What a value of a field has to be.
 #[derive(Clone, Copy)]
 pub enum Grammar {
     /// `Q1` and the base64 of the 20 bytes of a SHA-1.
@@ -44,7 +46,7 @@ pub enum Grammar {
     Dependencies,
 }
 
-// All fields.
+// All fields, in the order of the table of letters.
 static FIELDS: [InfoField; 18] = [
     InfoField::Hashes,
     InfoField::Name,
@@ -75,7 +77,7 @@ impl InfoField {
         find_by_letter(&FIELDS, letter)
     }
 
-    /// The letter with which its lines begin.
+    /// The letter with which the lines of the field begin.
     fn letter(self) -> u8
         ensures { result ≡ letter_of self }
     {
@@ -101,7 +103,7 @@ impl InfoField {
         }
     }
 
-    /// What a value of it has to be.
+    /// What a value of the field has to be.
     pub(crate) fn grammar(self) -> Grammar
         ensures { result ≡ grammar_of self }
     {
@@ -125,7 +127,7 @@ impl InfoField {
         }
     }
 
-    /// Whether a record may have several lines of it, each of which adds to a list.
+    /// Whether a record may have several lines of the field, each of which adds to a list.
     pub fn adds_to_list(self) -> bool
         ensures { result ≡ adds_to_list self }
     {

@@ -13,7 +13,7 @@ use std::alloc::{AllocError, Global};
 use v2_core::{V2Fault, read_v2};
 
 /// Adds the dump of the database that a text says, or why the text is refused.
-pub fn add_read(alloc: Global, text: &[u8], answer: &mut Vec<u8>) -> Result<(), AllocError> {
+pub(crate) fn add_read(alloc: Global, text: &[u8], answer: &mut Vec<u8>) -> Result<(), AllocError> {
     match read_v2(alloc, text) {
         Ok(payload) => add_dump(alloc, &payload, answer),
         Err(fault) => add_fault(alloc, fault, answer),
@@ -53,7 +53,7 @@ fn add_fault(alloc: Global, fault: V2Fault, answer: &mut Vec<u8>) -> Result<(), 
 }
 
 /// Adds how many packages are read of a text that has so many.
-pub fn add_package_count(
+pub(crate) fn add_package_count(
     alloc: Global,
     packages: u32,
     answer: &mut Vec<u8>,

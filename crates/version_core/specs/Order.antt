@@ -1,4 +1,5 @@
--- The order of versions, after apk-package(5): by tokens, and the first that differ decide.
+-- The order of versions, after apk-package(5): by tokens, and the first that differ decide. The
+-- rule stands in `docs/formats.md`, "Versions", second paragraph.
 use Rattle.std.specs.Prelude.{ℕ, suc, zero, ◌-◌, Bool, true, false, not, if◌then◌else◌, List, [], ◌∷◌, Option, Some, None}
 use Rattle.std.specs.List.{list_all}
 use Rattle.std.specs.Ordering.{nat_cmp, on, then_cmp}
@@ -8,7 +9,7 @@ use Rattle.version_core.specs.declared.token.Class.{Class}
 use Rattle.version_core.specs.declared.token.Class.TheVariants.{Stray, PreRelease, End, Revision, Hash, SuffixNumber, Suffix, Letter, ZeroComponent, Component}
 use Rattle.version_core.specs.Token.{Token, lexeme_at}
 
--- whether a token stands for bytes that no token may be
+-- whether a token is the one for bytes that no token may be
 abbrev pub is_stray : Class → Bool
 is_stray Stray = true
 is_stray _ = false
@@ -34,15 +35,15 @@ tokens_behind last zero (b ∷ rest) =
 unfoldable pub tokens : List ℕ → List Token
 tokens text = tokens_behind None 0 text
 
--- whether a text of these tokens is a version: none of them is stray
+-- whether tokens are those of a version: none of them is stray
 abbrev pub are_in_grammar : List Token → Bool
 are_in_grammar found = list_all (λ token. not (is_stray token.class)) found
 
--- whether the text is a version
+-- whether a text is a version
 unfoldable pub is_version : List ℕ → Bool
 is_version text = are_in_grammar (tokens text)
 
--- the classes from least to greatest
+-- the place of a class in the order of classes, from the least, 0, to the greatest
 abbrev pub class_rank : Class → ℕ
 class_rank Stray = 0
 class_rank PreRelease = 1

@@ -6,7 +6,7 @@ use std::cmp::Ordering;
 use version_core::{Op, Version};
 
 /// Whether a text is a version, which lends that text.
-pub fn reads_as_itself(text: &[u8]) -> bool {
+pub(crate) fn reads_as_itself(text: &[u8]) -> bool {
     match Version::read(text) {
         Some(version) => version.text() == text,
         None => false,
@@ -14,7 +14,7 @@ pub fn reads_as_itself(text: &[u8]) -> bool {
 }
 
 /// The sign between the two versions of `order A B`; none where the two ways differ.
-pub fn order_of(words: &Words) -> &'static [u8] {
+pub(crate) fn order_of(words: &Words) -> &'static [u8] {
     let (Some(left), Some(right)) = (
         Version::read(word_at(words, 1)),
         Version::read(word_at(words, 2)),
@@ -33,7 +33,7 @@ pub fn order_of(words: &Words) -> &'static [u8] {
 }
 
 /// Whether the version A of `match A BITS B` matches B with the operator of these bits.
-pub fn match_of(words: &Words) -> &'static [u8] {
+pub(crate) fn match_of(words: &Words) -> &'static [u8] {
     let (Some(found), Some(op), Some(wanted)) = (
         Version::read(word_at(words, 1)),
         operator_of(word_at(words, 2)),
@@ -55,7 +55,7 @@ fn operator_of(bits: &[u8]) -> Option<Op> {
 }
 
 /// Adds the bits that are an operator.
-pub fn add_operators(alloc: Global, answer: &mut Vec<u8>) -> Result<(), AllocError> {
+pub(crate) fn add_operators(alloc: Global, answer: &mut Vec<u8>) -> Result<(), AllocError> {
     for bits in 0..=u8::MAX {
         if Op::of(bits).map(|op| op.bits()) == Some(bits) {
             add_word(answer, b"")?;

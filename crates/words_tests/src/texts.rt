@@ -6,7 +6,11 @@ use std::alloc::{AllocError, Global};
 use tree_memory::MemorySink;
 
 /// Adds the pieces of a report, one behind another: a word of digits is a number, another is text.
-pub fn add_report(alloc: Global, words: &Words, answer: &mut Vec<u8>) -> Result<(), AllocError> {
+pub(crate) fn add_report(
+    alloc: Global,
+    words: &Words,
+    answer: &mut Vec<u8>,
+) -> Result<(), AllocError> {
     let mut report = Report::new(alloc);
     for i in 0..words.len() {
         match number_of(words.word(i)) {
@@ -18,7 +22,11 @@ pub fn add_report(alloc: Global, words: &Words, answer: &mut Vec<u8>) -> Result<
 }
 
 /// Adds the line of a refusal: its name, and its fields in order.
-pub fn add_refusal(alloc: Global, words: &Words, answer: &mut Vec<u8>) -> Result<(), AllocError> {
+pub(crate) fn add_refusal(
+    alloc: Global,
+    words: &Words,
+    answer: &mut Vec<u8>,
+) -> Result<(), AllocError> {
     let Some(refusal) = refusal_of(alloc, words)? else {
         return answer.extend_from_slice(b"no refusal");
     };
