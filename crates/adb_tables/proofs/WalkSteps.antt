@@ -9,7 +9,7 @@ use Rattle.adb_tables.specs.CountedWalk.{fields_walk}
 use Rattle.adb_tables.specs.CountedWalk.{walk}
 use Rattle.adb_tables.specs.CountedWalk.{each_walk}
 use Rattle.adb_tables.specs.CountedWalk.{walk_visit}
-use Rattle.adb_tables.specs.CountedWalk.{◌>>=◌}
+use Rattle.base_core.specs.Lists.{and_then}
 use Rattle.adb_view.specs.Visits.{or_empty, fault_at, MOST_VALUES}
 use Rattle.std.specs.Result.{result_err, result_ok}
 use Rattle.std.specs.Prelude.{is_some}
@@ -66,11 +66,11 @@ fields_end p fs n ws i le = elim (leb_tells (length fs) (length ws)) [
 
 -- ---- one word
 
-ok_step : {A : Type 0} (n : ℕ) (s : Shape) (w : ℕ) (p : List ℕ) (r : Result A Cause) → fault_at p s w ≡ result_err r → n < MOST_VALUES → walk_visit p n s w ≡ (r >>= λ x. Ok (n + 1))
+ok_step : {A : Type 0} (n : ℕ) (s : Shape) (w : ℕ) (p : List ℕ) (r : Result A Cause) → fault_at p s w ≡ result_err r → n < MOST_VALUES → walk_visit p n s w ≡ (and_then r (λ x. Ok (n + 1)))
 ok_step n s w p (Ok x) e lt = let t : ltb MOST_VALUES (n + 1) ≡ false = le-ltb _ _ (omega arith) in rw (t, e) refl
 ok_step n s w p (Err c) e lt = let t : ltb MOST_VALUES (n + 1) ≡ false = le-ltb _ _ (omega arith) in rw (t, e) refl
 
-bind_run : (r : Result (List ℕ) Cause) (n : ℕ) (f : ℕ → List ℕ → Result ℕ Cause) → ((r >>= λ x. Ok (n + 1)) >>= λ m. f m (or_empty r)) ≡ (r >>= λ ws. f (n + 1) ws)
+bind_run : (r : Result (List ℕ) Cause) (n : ℕ) (f : ℕ → List ℕ → Result ℕ Cause) → (and_then (and_then r (λ x. Ok (n + 1))) (λ m. f m (or_empty r))) ≡ (and_then r (λ ws. f (n + 1) ws))
 bind_run (Ok ws) n f = refl
 bind_run (Err c) n f = refl
 
@@ -82,36 +82,36 @@ unfolding walk
 walk_full p number n w le = full_step p n number w le
 walk_full p text n w le = full_step p n text w le
 walk_full p hash n w le = full_step p n hash w le
-walk_full p (array s) n w le = ap (λ r. r >>= λ m. each_walk (walk p s) m (or_empty (run_of ARRAY p w))) (full_step p n (array s) w le)
-walk_full p (object which fs) n w le = ap (λ r. r >>= λ m. fields_walk p fs m (or_empty (run_of OBJECT p w))) (full_step p n (object which fs) w le)
+walk_full p (array s) n w le = ap (λ r. and_then r (λ m. each_walk (walk p s) m (or_empty (run_of ARRAY p w)))) (full_step p n (array s) w le)
+walk_full p (object which fs) n w le = ap (λ r. and_then r (λ m. fields_walk p fs m (or_empty (run_of OBJECT p w)))) (full_step p n (object which fs) w le)
 
-pub walk_int : (p : List ℕ) (n w : ℕ) → n < MOST_VALUES → walk p (shape_of Int) n w ≡ (int_of p w >>= λ x. Ok (n + 1))
+pub walk_int : (p : List ℕ) (n w : ℕ) → n < MOST_VALUES → walk p (shape_of Int) n w ≡ (and_then (int_of p w) (λ x. Ok (n + 1)))
 unfolding walk
 walk_int p n w lt = ap (λ s. walk p s n w) int_shape ∙ ok_step n number w p (int_of p w) refl lt
 
-pub walk_text : (p : List ℕ) (n w : ℕ) → n < MOST_VALUES → walk p (shape_of Text) n w ≡ (blob_of p w >>= λ x. Ok (n + 1))
+pub walk_text : (p : List ℕ) (n w : ℕ) → n < MOST_VALUES → walk p (shape_of Text) n w ≡ (and_then (blob_of p w) (λ x. Ok (n + 1)))
 unfolding walk
 walk_text p n w lt = ap (λ s. walk p s n w) text_shape ∙ ok_step n text w p (blob_of p w) refl lt
 
-pub walk_hash : (p : List ℕ) (n w : ℕ) → n < MOST_VALUES → walk p (shape_of Hash) n w ≡ (blob_of p w >>= λ x. Ok (n + 1))
+pub walk_hash : (p : List ℕ) (n w : ℕ) → n < MOST_VALUES → walk p (shape_of Hash) n w ≡ (and_then (blob_of p w) (λ x. Ok (n + 1)))
 unfolding walk
 walk_hash p n w lt = ap (λ s. walk p s n w) hash_shape ∙ ok_step n hash w p (blob_of p w) refl lt
 
-array_step : (p : List ℕ) (s : Shape) (n w : ℕ) → n < MOST_VALUES → walk p (array s) n w ≡ (run_of ARRAY p w >>= λ ws. each_walk (walk p s) (n + 1) ws)
+array_step : (p : List ℕ) (s : Shape) (n w : ℕ) → n < MOST_VALUES → walk p (array s) n w ≡ (and_then (run_of ARRAY p w) (λ ws. each_walk (walk p s) (n + 1) ws))
 unfolding walk
-array_step p s n w lt = ap (λ r. r >>= λ m. each_walk (walk p s) m (or_empty (run_of ARRAY p w))) (ok_step n (array s) w p (run_of ARRAY p w) refl lt) ∙ bind_run (run_of ARRAY p w) n (λ m ws. each_walk (walk p s) m ws)
+array_step p s n w lt = ap (λ r. and_then r (λ m. each_walk (walk p s) m (or_empty (run_of ARRAY p w)))) (ok_step n (array s) w p (run_of ARRAY p w) refl lt) ∙ bind_run (run_of ARRAY p w) n (λ m ws. each_walk (walk p s) m ws)
 
-pub walk_texts : (p : List ℕ) (n w : ℕ) → n < MOST_VALUES → walk p (shape_of TextArr) n w ≡ (run_of ARRAY p w >>= λ ws. each_walk (walk p (shape_of Text)) (n + 1) ws)
+pub walk_texts : (p : List ℕ) (n w : ℕ) → n < MOST_VALUES → walk p (shape_of TextArr) n w ≡ (and_then (run_of ARRAY p w) (λ ws. each_walk (walk p (shape_of Text)) (n + 1) ws))
 walk_texts p n w lt = ap (λ s. walk p s n w) texts_shape ∙ array_step p (shape_of Text) n w lt
 
-pub walk_objects : (p : List ℕ) (which : Which) (n w : ℕ) → n < MOST_VALUES → walk p (shape_of (ObjArr which)) n w ≡ (run_of ARRAY p w >>= λ ws. each_walk (walk p (shape_of (Obj which))) (n + 1) ws)
+pub walk_objects : (p : List ℕ) (which : Which) (n w : ℕ) → n < MOST_VALUES → walk p (shape_of (ObjArr which)) n w ≡ (and_then (run_of ARRAY p w) (λ ws. each_walk (walk p (shape_of (Obj which))) (n + 1) ws))
 walk_objects p which n w lt = ap (λ s. walk p s n w) (objects_shape which) ∙ array_step p (shape_of (Obj which)) n w lt
 
-pub walk_object : (p : List ℕ) (which : Which) (n w : ℕ) → n < MOST_VALUES → walk p (shape_of (Obj which)) n w ≡ (run_of OBJECT p w >>= λ ws. fields_walk p (shapes_of (table which)) (n + 1) ws)
+pub walk_object : (p : List ℕ) (which : Which) (n w : ℕ) → n < MOST_VALUES → walk p (shape_of (Obj which)) n w ≡ (and_then (run_of OBJECT p w) (λ ws. fields_walk p (shapes_of (table which)) (n + 1) ws))
 unfolding walk
 walk_object p which n w lt =
     ap (λ s. walk p s n w) (object_shape which)
-    ∙ ap (λ r. r >>= λ m. fields_walk p (shapes_of (table which)) m (or_empty (run_of OBJECT p w))) (ok_step n (object (schema_number which) (shapes_of (table which))) w p (run_of OBJECT p w) refl lt)
+    ∙ ap (λ r. and_then r (λ m. fields_walk p (shapes_of (table which)) m (or_empty (run_of OBJECT p w)))) (ok_step n (object (schema_number which) (shapes_of (table which))) w p (run_of OBJECT p w) refl lt)
     ∙ bind_run (run_of OBJECT p w) n (λ m ws. fields_walk p (shapes_of (table which)) m ws)
 
 -- ---- depth
@@ -135,11 +135,11 @@ table_rank Intent = lit< tt
 
 -- ---- the same as the code meets them
 
-bound_ok : {A B : Type 0} (r : Result A Cause) (f : A → Result B Cause) (x : A) → r ≡ Ok x → (r >>= f) ≡ f x
-bound_ok r f x e = ap (λ r. r >>= f) e
+bound_ok : {A B : Type 0} (r : Result A Cause) (f : A → Result B Cause) (x : A) → r ≡ Ok x → (and_then r f) ≡ f x
+bound_ok r f x e = ap (λ r. and_then r f) e
 
-bound_err : {A B : Type 0} (r : Result A Cause) (f : A → Result B Cause) (c : Cause) → r ≡ Err c → (r >>= f) ≡ Err c
-bound_err r f c e = ap (λ r. r >>= f) e
+bound_err : {A B : Type 0} (r : Result A Cause) (f : A → Result B Cause) (c : Cause) → r ≡ Err c → (and_then r f) ≡ Err c
+bound_err r f c e = ap (λ r. and_then r f) e
 
 pub int_ok : (p : List ℕ) (n w x : ℕ) → n < MOST_VALUES → int_of p w ≡ Ok x → walk p (shape_of Int) n w ≡ Ok (n + 1)
 int_ok p n w x lt e = walk_int p n w lt ∙ bound_ok (int_of p w) _ x e
@@ -179,7 +179,7 @@ object_err p which n w c lt e = walk_object p which n w lt ∙ bound_err (run_of
 
 -- ---- a leaf
 
-leaf_step : {A : Type 0} (r : Result A Cause) (n : ℕ) → is_some (result_ok r) ≡ true → (r >>= λ x. Ok (n + 1)) ≡ Ok (n + 1)
+leaf_step : {A : Type 0} (r : Result A Cause) (n : ℕ) → is_some (result_ok r) ≡ true → (and_then r (λ x. Ok (n + 1))) ≡ Ok (n + 1)
 leaf_step (Ok x) n e = refl
 leaf_step (Err c) n e = absurd cc
 
@@ -188,13 +188,13 @@ unfolding run_of
 null_run kind p = refl
 
 null_object : (p : List ℕ) (which : Which) (n : ℕ) → n < MOST_VALUES → walk p (shape_of (Obj which)) n 0 ≡ Ok (n + 1)
-null_object p which n lt = walk_object p which n 0 lt ∙ ap (λ r. r >>= λ ws. fields_walk p (shapes_of (table which)) (n + 1) ws) (null_run OBJECT p) ∙ no_words p (table which) (n + 1)
+null_object p which n lt = walk_object p which n 0 lt ∙ ap (λ r. and_then r (λ ws. fields_walk p (shapes_of (table which)) (n + 1) ws)) (null_run OBJECT p) ∙ no_words p (table which) (n + 1)
 
 null_texts : (p : List ℕ) (n : ℕ) → n < MOST_VALUES → walk p (shape_of TextArr) n 0 ≡ Ok (n + 1)
-null_texts p n lt = walk_texts p n 0 lt ∙ ap (λ r. r >>= λ ws. each_walk (walk p (shape_of Text)) (n + 1) ws) (null_run ARRAY p)
+null_texts p n lt = walk_texts p n 0 lt ∙ ap (λ r. and_then r (λ ws. each_walk (walk p (shape_of Text)) (n + 1) ws)) (null_run ARRAY p)
 
 null_objects : (p : List ℕ) (which : Which) (n : ℕ) → n < MOST_VALUES → walk p (shape_of (ObjArr which)) n 0 ≡ Ok (n + 1)
-null_objects p which n lt = walk_objects p which n 0 lt ∙ ap (λ r. r >>= λ ws. each_walk (walk p (shape_of (Obj which))) (n + 1) ws) (null_run ARRAY p)
+null_objects p which n lt = walk_objects p which n 0 lt ∙ ap (λ r. and_then r (λ ws. each_walk (walk p (shape_of (Obj which))) (n + 1) ws)) (null_run ARRAY p)
 
 pub leaf_walk : (p : List ℕ) (kind : Kind) (n w : ℕ) → n < MOST_VALUES → is_sound_leaf p kind w ≡ true → walk p (shape_of kind) n w ≡ Ok (n + 1)
 leaf_walk p Int n w lt e = walk_int p n w lt ∙ leaf_step (int_of p w) n e

@@ -1,5 +1,7 @@
 //! The readers of words, as the walk asks them. Each first asks the reader that makes no cause;
-//! only where that finds nothing it asks the one that tells the cause.
+//! only where that finds nothing it asks the one that tells the cause. What a reader answers stands
+//! in `docs/formats.md`, "Values" ("Who asks for an integer, a blob, an array or an object says
+//! which").
 
 ghost use Rattle.std.specs.Prelude.{◌≡◌, IfErr, IfOk, Err, Ok};
 ghost use Rattle.adb_view.specs.Adb.{payload_of};
@@ -36,7 +38,7 @@ pub(crate) fn is_sound_leaf(adb: Adb<'_>, kind: Kind, word: Val) -> bool
     }
 }
 
-/// The integer that a word is.
+/// The integer that a word is, or why it is none.
 #[tactic(auto, using(crate::proofs::ReaderFaults::int_fault, crate::proofs::ReaderFaults::read_ok))]
 pub(crate) fn read_int(adb: Adb<'_>, word: Val) -> Result<u64, VisitFault>
     ensures ok { IfOk result (λ n. int_of (payload_of adb.entry) word ≡ Ok n) }
@@ -52,7 +54,7 @@ pub(crate) fn read_int(adb: Adb<'_>, word: Val) -> Result<u64, VisitFault>
     }
 }
 
-/// The bytes of the blob that a word is.
+/// The bytes of the blob that a word is, or why it is none.
 #[tactic(auto, using(crate::proofs::ReaderFaults::blob_fault, crate::proofs::ReaderFaults::read_ok))]
 pub(crate) fn read_blob<'a>(adb: Adb<'a>, word: Val) -> Result<&'a [u8], VisitFault>
     ensures ok { IfOk result (λ bytes. blob_of (payload_of adb.entry) word ≡ Ok bytes.now) }
@@ -68,7 +70,7 @@ pub(crate) fn read_blob<'a>(adb: Adb<'a>, word: Val) -> Result<&'a [u8], VisitFa
     }
 }
 
-/// The entries of the array that a word is.
+/// The entries of the array that a word is, or why it is none.
 #[tactic(auto, using(crate::proofs::ReaderFaults::run_fault, crate::proofs::ReaderFaults::read_ok))]
 pub(crate) fn read_array<'a>(adb: Adb<'a>, word: Val) -> Result<Arr<'a>, VisitFault>
     ensures ok { IfOk result (λ words. run_of ARRAY (payload_of adb.entry) word
@@ -85,7 +87,7 @@ pub(crate) fn read_array<'a>(adb: Adb<'a>, word: Val) -> Result<Arr<'a>, VisitFa
     }
 }
 
-/// The entries of the object that a word is, those past its fields too.
+/// The entries of the object that a word is, those past its fields too, or why it is none.
 #[tactic(auto, using(crate::proofs::ReaderFaults::run_fault, crate::proofs::ReaderFaults::read_ok))]
 pub(crate) fn read_object<'a>(adb: Adb<'a>, word: Val) -> Result<Arr<'a>, VisitFault>
     ensures ok { IfOk result (λ words. run_of OBJECT (payload_of adb.entry) word

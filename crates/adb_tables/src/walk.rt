@@ -1,4 +1,6 @@
-//! The walk over a payload's values that tests their shape.
+//! The walk over a payload's values that tests their shape: depth first, each visit counted and
+//! then tested. The rule stands in `docs/formats.md`, "The shape". In the clauses `bound` says that
+//! the count of visits stays within its limit.
 
 ghost use Rattle.std.specs.Prelude.{min, drop, ◌<◌, slice_index, ◌≡◌, ◌≤◌, ◌+◌, IfOk, true, is_some, length, is_none, ◌↔◌, ℕ, List, Some, None};
 ghost use Rattle.std.specs.Result.{result_err};
@@ -30,14 +32,14 @@ use crate::visit_fault::VisitFault;
 use adb_view::{Adb, Arr, Val, value_is_found_where_visits_are_sound};
 use base_core::Cause;
 
-/// The entries of an object, those past its fields too.
+/// The entries of the object that a word is, those past its table's fields too.
 pub fn object_entries<'a>(adb: Adb<'a>, object: Val) -> Result<Arr<'a>, Cause>
     ensures { Gives array_entries result (run_of OBJECT (payload_of adb.entry) object) }
 {
     Ok(adb.obj::<0>(object)?.entries())
 }
 
-/// The word of an entry, counted from 0.
+/// The word of an entry, by its index, which counts from 0.
 pub fn entry_word(entries: Arr<'_>, i: usize) -> Val
     requires { i < length (array_entries entries) }
     ensures { result ≡ slice_index (array_entries entries.entry) i }
@@ -47,8 +49,8 @@ pub fn entry_word(entries: Arr<'_>, i: usize) -> Val
     entries.get(i + 1)
 }
 
-/// How many visits the walk of a payload may have; a word that stands at two places is visited
-/// twice.
+/// How many visits the walk of a payload may have (`docs/formats.md`, "The shape"); a word that
+/// stands at two places is visited twice.
 const MOST_VISITS: u32 = 4_194_304;
 
 /// Walks a payload's values from its root, as an object of this table: a word, then its entries in
@@ -73,8 +75,8 @@ pub fn shape(adb: Adb<'_>, which: Which) -> Result<Shaped<'_>, Cause>
     }
 }
 
-/// Visits a word and what lies below it, behind so many visits, and answers how many there were
-/// then.
+/// Visits a word and what lies below it. `before` is how many visits there were, and the answer how
+/// many there are then.
 #[cycle(walk)]
 #[tactic(auto, using(crate::proofs::WalkSteps::walk_full, crate::proofs::WalkSteps::int_ok, crate::proofs::WalkSteps::int_err, crate::proofs::WalkSteps::text_ok, crate::proofs::WalkSteps::text_err, crate::proofs::WalkSteps::hash_ok, crate::proofs::WalkSteps::hash_err, crate::proofs::WalkSteps::texts_ok, crate::proofs::WalkSteps::texts_err, crate::proofs::WalkSteps::objects_ok, crate::proofs::WalkSteps::objects_err))]
 fn walk_value(adb: Adb<'_>, kind: Kind, before: u32, word: Val) -> Result<u32, VisitFault>
@@ -107,7 +109,7 @@ fn walk_value(adb: Adb<'_>, kind: Kind, before: u32, word: Val) -> Result<u32, V
     }
 }
 
-/// Visits the entries of an array of texts.
+/// Visits the entries of an array of texts, and counts as `walk_value` does.
 #[cycle(walk)]
 #[tactic(auto, using(crate::proofs::WalkSteps::texts_leaf, crate::proofs::WalkSteps::each_more, crate::proofs::WalkSteps::each_stops, crate::proofs::WalkSteps::each_done))]
 fn walk_texts(adb: Adb<'_>, before: u32, texts: Arr<'_>) -> Result<u32, VisitFault>
@@ -129,7 +131,8 @@ fn walk_texts(adb: Adb<'_>, before: u32, texts: Arr<'_>) -> Result<u32, VisitFau
     Ok(count)
 }
 
-/// Visits the entries of an array of objects of a table, and what lies below them.
+/// Visits the entries of an array of objects of a table and what lies below them, and counts as
+/// `walk_value` does.
 #[cycle(walk)]
 fn walk_objects(
     adb: Adb<'_>,
@@ -150,7 +153,7 @@ fn walk_objects(
     Ok(count)
 }
 
-/// Visits an object of a table, and what lies below it.
+/// Visits an object of a table and what lies below it, and counts as `walk_value` does.
 #[cycle(walk)]
 #[inline(always)]
 #[tactic(auto, using(crate::proofs::WalkSteps::walk_full, crate::proofs::WalkSteps::object_ok, crate::proofs::WalkSteps::object_err))]
@@ -170,8 +173,9 @@ fn walk_object(adb: Adb<'_>, which: Which, before: u32, word: Val) -> Result<u32
     }
 }
 
-/// Visits the entries of an object that have one of these fields. Where there is room for the first
-/// of them that have nothing below, these are counted at once.
+/// Visits the entries of an object that have one of these fields, each by its field's kind, and
+/// counts as `walk_value` does. Entries past the fields are not looked at. Where there is room for
+/// the first that have nothing below them, these are counted at once.
 #[cycle(walk)]
 #[inline(always)]
 #[tactic(auto, using(crate::proofs::LeafSteps::leaves_walk, crate::proofs::LeafSteps::leaves_fit, crate::proofs::WalkSteps::fields_end))]

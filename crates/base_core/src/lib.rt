@@ -7,6 +7,9 @@
 //! what each call makes of it, and what a crash leaves of it), `Listed` (listings), `Faults` (the
 //! counts) and `Sink` of `specs/`; those that only inner contracts need are `Restart`, `Read` and
 //! `Write`.
+//!
+//! The rules stand in `docs/crash-safety.md`, sections "A tree at one moment" to "Misuses, faults
+//! and counts", and in `docs/commands.md`, "Words" (what a name is).
 #![tactic(auto)]
 
 mod cause;

@@ -1,4 +1,5 @@
-//! The database of a root alone.
+//! The database of a root alone, as `info` reads it. The rules stand in `docs/commands.md`,
+//! "`info`" and "A root of version 2".
 ghost use Rattle.base_core.specs.Read.{OnlyReads};
 ghost use Rattle.change_inputs.specs.Answers.{AgreesUnlessDisk};
 ghost use Rattle.change_inputs.specs.Inputs.{database_for};
@@ -45,7 +46,7 @@ impl Installed {
         Ok(Installed { database })
     }
 
-    /// The packages that are installed.
+    /// The packages that are installed, opened over the bytes that are kept.
     pub fn db(&self, alloc: Global) -> Result<Db<'_>, AllocError>
         ensures { IfOk result (λ db. packages_of db ≡ (installed_seen self.now).packages) }
     {

@@ -1,4 +1,6 @@
-//! What a change reads of a root, and the packages that it chooses from.
+//! What a change reads of a root, and the packages that it chooses from. The rules stand in
+//! `docs/commands.md`, "`add` and `del`": what is read, and the refusals in their order; of the
+//! candidates in `docs/selection.md`, "What there is to choose from".
 ghost use Rattle.base_core.specs.Read.{OnlyReads};
 ghost use Rattle.change_inputs.specs.Answers.{Agrees, AgreesUnlessDisk};
 ghost use Rattle.change_inputs.specs.Candidates.{candidates_from, candidates_of, root_pool};
@@ -53,7 +55,7 @@ impl Loaded {
         Loaded::of_files(alloc, command, files, tree)
     }
 
-    // By the files of a root, which say where the indexes lie.
+    // Goes on with the files of a root, once they are read: they say where the indexes lie.
     fn of_files<T: Tree>(
         alloc: Global,
         command: &Command,
@@ -72,7 +74,7 @@ impl Loaded {
         Ok(Loaded { root, indexes })
     }
 
-    /// The packages that are installed.
+    /// The packages that are installed, opened over the bytes that are kept.
     pub fn db(&self, alloc: Global) -> Result<Db<'_>, AllocError>
         ensures { IfOk result (λ db.
             packages_of db ≡ (inputs_seen self.now).root.database.packages) }
@@ -115,7 +117,7 @@ impl Loaded {
         &self.root.worlds.after
     }
 
-    /// The repositories.
+    /// The repositories, in the order of their file.
     pub fn repositories(&self) -> &Repos
         ensures { result.now ≡ (inputs_seen self.now).root.repositories }
     {
@@ -141,7 +143,8 @@ impl Loaded {
         }
     }
 
-    // The candidates of the indexes, and then those of the database.
+    // The candidates of the indexes, and then those of the database, up to the most that a pool
+    // holds.
     fn candidates(&self, alloc: Global) -> Result<Pool<'_>, PoolFault>
         ensures ok { IfOk result (λ pool. pool ≡ candidates_of (inputs_seen self.now)) }
         ensures fits { IfOk result (λ pool. length pool ≤ MOST_CANDIDATES) }
@@ -154,7 +157,7 @@ impl Loaded {
         Ok(pool)
     }
 
-    // Adds the packages of each index.
+    // Adds the packages of each index to an empty pool; repositories count from 1.
     fn add_indexes<'a>(&'a self, pool: &mut Pool<'a>) -> Result<(), PoolFault>
         requires { pool.old ≡ [] }
         ensures fits { OnOk result (length pool.new ≤ MOST_CANDIDATES) }

@@ -1,5 +1,6 @@
 //! The files of a root, and what they say for a command: how they are read, tested and opened
-//! again, and why a command does not come to its end.
+//! again, and why a command does not come to its end. The rules stand in `docs/commands.md`,
+//! "`add` and `del`", what is read and refused.
 
 ghost use Rattle.base_core.specs.Read.{OnlyReads, bytes_in};
 ghost use Rattle.change_inputs.specs.Answers.{Agrees, IsFailure, StandsAt};
@@ -30,21 +31,28 @@ use std::alloc::{AllocError, Global};
 /// is no other.
 #[derive(Drop)]
 pub(crate) struct RootFiles {
+    /// `lib/apk/db/installed.adb`.
     pub(crate) database: Option<Vec<u8>>,
+    /// `lib/apk/db/installed`, which version 2 wrote.
     pub(crate) text_database: Option<Vec<u8>>,
+    /// `etc/apk/world`.
     pub(crate) world: Option<Vec<u8>>,
+    /// `etc/apk/repositories`.
     pub(crate) repositories: Option<Vec<u8>>,
 }
 
-/// What the files of a root say for a command. All passed their tests.
+/// What the files of a root say for a command. All of them passed their tests.
 #[derive(Drop)]
 pub(crate) struct TestedRoot {
+    /// What is installed before the command.
     pub(crate) database: DatabaseFile,
+    /// World before the command, and the one that it asks for.
     pub(crate) worlds: Worlds,
+    /// The repositories that may be read.
     pub(crate) repositories: Repos,
 }
 
-/// Reads the files of a root.
+/// Reads the files of a root: first the databases, then world and the repositories.
 pub(crate) fn read_root<T: Tree>(alloc: Global, tree: &mut T) -> Result<RootFiles, Refused>
     ensures found { IfOk result (λ files. StandInRoot (T.history tree.old) files) }
     ensures failed { IfErr result IsFailure }
@@ -163,7 +171,7 @@ pub(crate) fn payload_in(file: &[u8]) -> &[u8]
 /// Why a command does not come to its end.
 #[derive(Drop)]
 pub enum Refused {
-    /// It is refused.
+    /// The command is refused.
     Refusal(Refusal),
     /// The tree failed.
     Disk,
@@ -177,6 +185,7 @@ impl From<AllocError> for Refused {
 
     ghost from_gives = { λ _ refused. refused ≡ Memory };
 
+    // Want of memory, as a command tells it.
     fn from(_: AllocError) -> Refused {
         Refused::Memory
     }
@@ -187,6 +196,7 @@ impl From<TreeFault> for Refused {
 
     ghost from_gives = { λ fault refused. IsRefusedOf fault refused };
 
+    // A fault of the tree, as a command tells it.
     fn from(fault: TreeFault) -> Refused {
         match fault {
             TreeFault::Disk => Refused::Disk,

@@ -1,4 +1,6 @@
-//! A change that is made ready is carried through.
+//! A change that is made ready is carried through. The rules stand in `docs/commands.md`,
+//! "`add` and `del`", what is written and refused, and in `docs/crash-safety.md`,
+//! "A change of several files".
 ghost use Rattle.base_core.specs.Files.{Files};
 ghost use Rattle.change_inputs.specs.Chains.{and_then};
 ghost use Rattle.change_outcome.specs.ChangeOutcome.{file_change, touched_paths, unless_too_large};
@@ -59,6 +61,7 @@ fn carry_change<T: Tree>(
     )?;
     let removals = removals_of(alloc, plan.removals(), loaded.is_from_text())?;
     let names = names_of(alloc, &writes)?;
+    // Two laws: what a list of names holds are names, so the intent of both lists is one.
     removals.are_names();
     names.are_names();
     let report = report_of(alloc, command, planned)?;
@@ -66,6 +69,7 @@ fn carry_change<T: Tree>(
     if is_idle(&removals, &names) {
         return Ok(report);
     }
+    // A law: none of the names is the intent's or below the stage.
     stage.names_are_free();
     let mut piece = Piece::new();
     match carry_out(&mut stage, tree, &writes, &mut piece) {

@@ -1,4 +1,6 @@
-//! A change of what is installed, from the words to its end, or only simulated.
+//! A change of what is installed, from the words to its end, or only simulated. The rules stand in
+//! `docs/commands.md`, "`add` and `del`" and "`upgrade` and `fix`": the refusals, in their order,
+//! and the report.
 
 ghost use Rattle.change_inputs.specs.Seen.{inputs_seen};
 ghost use Rattle.engine_core.specs.ChangeRun.{IsChangeRun};
@@ -51,7 +53,7 @@ pub fn change<T: Tree>(alloc: Global, command: &Command, tree: &mut T) -> Result
     change_loaded(alloc, command, &loaded, tree)
 }
 
-// By what was read of the root.
+// Goes on with what was read of the root: makes the candidates.
 fn change_loaded<T: Tree>(
     alloc: Global,
     command: &Command,
@@ -73,7 +75,7 @@ fn change_loaded<T: Tree>(
     }
 }
 
-// By the candidates.
+// Goes on with the candidates: refuses an operand that is not installed, and chooses.
 fn change_in_pool<'a, T: Tree>(
     alloc: Global,
     command: &Command,
@@ -106,7 +108,8 @@ fn change_in_pool<'a, T: Tree>(
     change_selected(alloc, command, &selection, tree)
 }
 
-// By the candidates that are selected.
+// Goes on with the candidates that are selected: reports with `--simulate`, and else makes the
+// change.
 fn change_selected<T: Tree>(
     alloc: Global,
     command: &Command,
@@ -129,7 +132,7 @@ fn change_selected<T: Tree>(
     make_change(alloc, command, selection, tree)
 }
 
-/// Reports what would change.
+/// Reports what would change, as `--simulate` asks for it.
 pub(crate) fn simulate(
     alloc: Global,
     command: &Command,

@@ -1,4 +1,6 @@
-//! A change is made: its packages are read, its files are planned, and it is carried through.
+//! A change is made: its packages are read, its files are planned, and it is carried through. The
+//! rules stand in `docs/commands.md`, "What a change does with files", and the order of the
+//! refusals in "`add` and `del`".
 ghost use Rattle.base_core.specs.Tree.{TreeState};
 ghost use Rattle.change_inputs.specs.Inputs.{Inputs};
 ghost use Rattle.change_outcome.specs.MembersAfter.{MemberFound};
@@ -27,7 +29,7 @@ use own_core::plan;
 use package_changes::PlacedNames;
 use std::alloc::Global;
 
-/// Makes the change of a selection.
+/// Makes the change of a selection: reads the packages that come, and goes on with them.
 ///
 /// # Errors
 ///
@@ -69,7 +71,8 @@ pub(crate) fn make_change<T: Tree>(
     change_members(alloc, command, selection, &names, &arrivals, tree)
 }
 
-/// Makes the change the packages of which were read.
+/// Goes on with the packages that were read: sets them beside those that stay, as the members after
+/// the change.
 fn change_members<'a, 'm, T: Tree>(
     alloc: Global,
     command: &Command,
@@ -102,7 +105,7 @@ fn change_members<'a, 'm, T: Tree>(
     plan_change(alloc, command, &arrived, tree)
 }
 
-/// Makes the change whose packages were read.
+/// Goes on with the members: plans the files of the change, or refuses it.
 fn plan_change<T: Tree>(
     alloc: Global,
     command: &Command,

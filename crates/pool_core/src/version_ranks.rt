@@ -1,5 +1,8 @@
 //! The ranks of the versions of options. Each text of a version is compared with others once for
 //! all the packages that share it, so that options are sorted by numbers.
+//! The rule stands in `docs/selection.md`, "Which selection is taken", keys 5, 8 and 9 of the
+//! table; how versions are compared says `docs/formats.md`, "Versions". That texts are told apart
+//! by where they stand saves time alone, as the README of this crate says.
 ghost use Rattle.std.specs.Prelude.{◌≡◌, ◌<◌, ◌-◌, true, All, OnOk, IfOk, Some, length, map, slice_get};
 ghost use Rattle.std.specs.List.Sorted.{IsSorted};
 ghost use Rattle.pool_core.specs.Ranking.{Ranking};
@@ -30,7 +33,8 @@ pub(crate) fn rank_versions<'a>(
     Ok(())
 }
 
-// The order of two versions by the places of their texts.
+// The order of two versions by the places of their texts. Any order does that puts those of one
+// place together, so the contract says nothing.
 fn by_place(one: &RankedVersion<'_>, other: &RankedVersion<'_>) -> Ordering {
     one.source
         .cmp(&other.source)
@@ -55,7 +59,7 @@ fn distinct_versions<'a>(
     Ok(versions)
 }
 
-// A copy; the text stays borrowed.
+// A copy of a version; its text stays borrowed.
 fn same_version<'a>(version: &Option<Version<'a>>) -> Option<Version<'a>>
     ensures { result ≡ version.entry.now }
 {
@@ -88,7 +92,8 @@ fn is_same_place(one: &RankedVersion<'_>, other: &RankedVersion<'_>) -> bool
         && one.word == other.word
 }
 
-// Gives each option the rank of its version among some.
+// Gives each option the rank of its version among some, which are sorted. An option that reads the
+// text of the one before it has the rank of that one.
 fn set_ranks<'a>(
     options: &mut Vec<RankedOption<'a>>,
     kind: VersionKind,
@@ -108,7 +113,7 @@ fn set_ranks<'a>(
     }
 }
 
-// How many of some versions come before one.
+// How many of some sorted versions come before one, found by halving.
 fn rank_among(
     kind: VersionKind,
     versions: &[Option<Version<'_>>],
@@ -121,7 +126,9 @@ fn rank_among(
     versions.partition_point(|one| compare_versions(kind, one, version).is_lt())
 }
 
-// The order of two versions of a kind.
+// The order of two versions of a kind: the greater first. Of the candidates' own versions, equal
+// ones are told apart by their texts, the byte-lesser first; under which of two equal texts a need
+// is met makes no difference.
 fn compare_versions(
     kind: VersionKind,
     one: &Option<Version<'_>>,
