@@ -218,9 +218,9 @@ change_or_refusal inputs r wishes read clash files =
 
 -- ---- the first clash
 
--- It is the first clash of the names after the change, where the packages after it are found; else
--- nothing is asked, and there is none. By these files configuration is kept or a file is laid beside
--- it, and among the standing ones names clash.
+-- The first clash of the names after a change, where the packages after it are found; else nothing
+-- is asked, and there is none. By `files` configuration is kept or a file is laid beside it, and
+-- among the `standing` ones names clash.
 abbrev pub IsClashFoundOver :
     Inputs → ChangeWishes → Files → Files → Result (List MemberFound) Refusal → Option NamePair
     → Type 0

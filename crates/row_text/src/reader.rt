@@ -74,6 +74,7 @@ const WORDS: [(&[u8], Word); 14] = [
 /// A text that is read.
 #[derive(Drop)]
 pub(crate) struct Reader {
+    /// Where memory is taken.
     pub(crate) alloc: Global,
     /// The number of the last line that was begun, counted from 1.
     pub(crate) line: u64,
@@ -92,8 +93,11 @@ pub(crate) struct Reader {
 /// What goes wrong in a command line: in its tree and its two streams.
 #[derive(Drop)]
 pub(crate) struct Plans {
+    /// Which calls of the tree fail.
     pub(crate) tree: TreePlan,
+    /// What standard output takes.
     pub(crate) out: SinkPlan,
+    /// What standard error takes.
     pub(crate) err: SinkPlan,
 }
 
