@@ -71,7 +71,7 @@ const WORDS: [(&[u8], Word); 14] = [
     (b"err", Word::Err),
 ];
 
-/// A text that is read.
+/// A text that is being read: the rows that are whole, and what has begun.
 #[derive(Drop)]
 pub(crate) struct Reader {
     /// Where memory is taken.
