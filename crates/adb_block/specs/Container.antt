@@ -1,5 +1,5 @@
 -- A container as a grammar on its whole bytes (apk-v3(5)). The rules stand in `docs/formats.md`,
--- "Container", first three paragraphs.
+-- "Container", from "A file begins with" to "One ADB block comes first".
 use Rattle.std.specs.Prelude.{◌≡◌, ℕ, ◌+◌, ◌*◌, ◌^◌, ◌<◌, ◌≤◌, ◌⊎◌, true, codes, List, [], ◌∷◌, ◌++◌, length, take, drop, Option, Some, None}
 use Rattle.std.specs.Int.{w32, w64, from_le_bytes}
 use Rattle.adb_block.specs.declared.block.BlockKind.{BlockKind}
@@ -9,14 +9,18 @@ use Rattle.adb_block.specs.Piece.{Piece, comes_after, kind_number, least_payload
 -- header's 4 bytes and the `len` of the payload
 pub record IsShortHead (kind : BlockKind) (len : ℕ) (head : List ℕ) : Type 0 where
   pub size : length head ≡ 4
+  -- the kind and the raw size, in one number
   pub word : from_le_bytes w32 head ≡ kind_number kind * 2 ^ 30 + (4 + len)
+  -- the raw size has room below the kind
   pub small : 4 + len < 2 ^ 30
 
 -- a header of sixteen bytes: the number 3 with the kind below it, four bytes that nobody looks at,
 -- and the raw size, which counts the header's 16 bytes and the `len` of the payload
 pub record IsLongHead (kind : BlockKind) (len : ℕ) (head : List ℕ) : Type 0 where
   pub size : length head ≡ 16
+  -- 3 in the top two bits, and the kind below
   pub word : from_le_bytes w32 (take 4 head) ≡ 3 * 2 ^ 30 + kind_number kind
+  -- the raw size, behind four bytes that nobody looks at
   pub raw : from_le_bytes w64 (drop 8 head) ≡ 16 + len
 
 -- a header of a block of this kind whose payload has `len` bytes; either form may stand
@@ -32,16 +36,21 @@ IsPadding size pad rest =
 -- the bytes begin with this block, whose header, payload and padding stand one behind the other,
 -- and go on with the rest
 pub record IsBlock (b : Piece) (bytes rest : List ℕ) : Type 0 where
+  -- the bytes of the header
   pub head : List ℕ
+  -- the padding
   pub pad : List ℕ
   pub is_head : IsHead b.kind (length b.payload) head
   pub parts : bytes ≡ head ++ (b.payload ++ (pad ++ rest))
+  -- as much as the size of header and payload asks for
   pub is_pad : IsPadding (length head + length b.payload) pad rest
 
 -- a block may stand behind one of the kind `last` (None: it is the first), and its payload is no
 -- shorter than its kind asks for
 pub record MayFollow (last : Option BlockKind) (b : Piece) : Type 0 where
+  -- its kind may stand here
   pub order : comes_after last b.kind ≡ true
+  -- its payload has the bytes that its kind asks for
   pub long : least_payload b.kind ≤ length b.payload
 
 -- the file may end here, since a block came before: no container is without one
@@ -58,7 +67,9 @@ SpellsBlocks last bytes (b ∷ bs) =
 -- a file is a container of this schema with these blocks: `ADB.`, the four bytes of the schema, and
 -- the blocks
 pub record Spells (file : List ℕ) (schema : ℕ) (pieces : List Piece) : Type 0 where
+  -- the four bytes of the schema
   pub word : List ℕ
+  -- the bytes of the blocks
   pub body : List ℕ
   pub parts : file ≡ codes "ADB." ++ (word ++ body)
   pub four : length word ≡ 4

@@ -1,6 +1,6 @@
 -- What stands at an offset: the end, a block and how far the next one is, or the first failed test.
--- The rules stand in `docs/formats.md`, "Container", second paragraph and the rows "each block, at
--- its offset" of its table.
+-- The rules stand in `docs/formats.md`, "Container" ("A block is a header") and the rows "each
+-- block, at its offset" of its table.
 use Rattle.std.specs.Prelude.{ℕ, zero, suc, ◌+◌, ◌-◌, ◌/◌, ◌%◌, ◌^◌, ◌||◌, ◌==◌, nat_lt, if◌then◌else◌, List, length, take, drop, Option, Some, None}
 use Rattle.base_core.specs.declared.Cause.{Cause}
 use Rattle.base_core.specs.declared.Cause.TheVariants.{Truncated, BlockOrder}
@@ -12,8 +12,11 @@ use Rattle.adb_block.specs.declared.block.BlockKind.TheVariants.{Adb, Signature,
 -- what a block's header says: the number of its kind, how many bytes the header has, and the raw
 -- size, which counts these and the payload
 pub record HeadFields : Type 0 where
+  -- the number of the kind
   pub kind : ℕ
+  -- how many bytes the header has
   pub len : ℕ
+  -- how many bytes the header and the payload have
   pub raw : ℕ
 
 -- what a header of four bytes says by its number: two bits of kind, 30 of size

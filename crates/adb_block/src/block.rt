@@ -1,7 +1,7 @@
 //! A block: its kind, its header as it is read and written, its framing, and how far the next one
-//! is. The rules stand in `docs/formats.md`, "Container", second paragraph (the header, the raw
-//! size, padding) and the rows "each block, at its offset" of its table; how a header is written,
-//! in "Canonical layout", last paragraph.
+//! is. The rules stand in `docs/formats.md`, "Container", "A block is a header" (the header, the
+//! raw size, padding) and the rows "each block, at its offset" of its table; how a header is
+//! written, in "Canonical layout" ("In a container each block is padded").
 
 ghost use Rattle.std.specs.Prelude.{◌≡◌, ◌≤◌, ◌<◌, ◌+◌, ◌-◌, ◌^◌, ◌⊎◌, ℕ, List, Option, None, true, IfOk, IfSome, IsSome, length, take};
 ghost use Rattle.std.specs.Option.{option_map};
@@ -30,8 +30,11 @@ pub enum BlockKind {
 /// the file: the bytes behind the header, without padding.
 #[derive(Clone, Copy)]
 pub struct Block<'a> {
+    /// What the block holds.
     pub kind: BlockKind,
+    /// The bytes behind the header, without padding.
     pub payload: &'a [u8],
+    /// The offset of the header.
     pub at: u64,
 }
 
@@ -39,8 +42,11 @@ pub struct Block<'a> {
 /// which counts the header and the payload.
 #[derive(Clone, Copy)]
 struct BlockHead {
+    /// The number of the kind, which may be unknown.
     kind: u32,
+    /// How many bytes the header has: 4 or 16.
     len: u64,
+    /// How many bytes the header and the payload have.
     raw: u64,
 }
 
@@ -48,8 +54,11 @@ struct BlockHead {
 /// payload have. The payload need not be held.
 #[derive(Clone, Copy)]
 pub struct Frame {
+    /// What the block holds.
     pub kind: BlockKind,
+    /// How many bytes the header has.
     pub head_len: u64,
+    /// How many bytes the payload has.
     pub payload_len: u64,
 }
 
@@ -57,8 +66,11 @@ pub struct Frame {
 /// padding.
 #[derive(Clone, Copy)]
 pub(crate) struct ReadBlock<'a> {
+    /// What the block holds.
     pub kind: BlockKind,
+    /// The bytes behind the header, without padding.
     pub payload: &'a [u8],
+    /// How many bytes lead to the next block: header, payload and padding.
     pub size: usize,
 }
 
@@ -120,6 +132,7 @@ pub fn frame_of(
     // What is left may be any bytes that begin so.
     ensures exact { (bytes : List ℕ) → length bytes ≡ left → take (length head.now) bytes ≡ head.now
         → IsFramed result bytes (next_step last at bytes) }
+    // There is always a first block, or an error.
     ensures first { last ≡ None → IfOk result (λ found. IsSome found) }
     ensures order { IfOk result (λ found. IfSome found (λ frame.
         comes_after last frame.kind ≡ true)) }
@@ -152,6 +165,7 @@ fn read_head(bytes: &[u8]) -> Option<BlockHead>
         return None;
     }
     let word = word_at(bytes, 0);
+    // A header of 4 bytes: the kind in the top two bits, and below them the raw size.
     if word >> 30 != 3 {
         return Some(BlockHead {
             kind: word >> 30,
@@ -162,6 +176,7 @@ fn read_head(bytes: &[u8]) -> Option<BlockHead>
     if bytes.len() < 16 {
         return None;
     }
+    // A header of 16 bytes: the kind in the low 30 bits, and the raw size in 8 bytes of its own.
     Some(BlockHead {
         kind: word & 0x3fff_ffff,
         len: 16,
@@ -188,6 +203,7 @@ fn frame_by_head(
     if !comes_after(last, kind) {
         return Err(Cause::BlockOrder { at });
     }
+    // The raw size counts the header too.
     if head.raw < head.len || head.raw > left {
         return Err(Cause::Truncated { at });
     }
@@ -251,7 +267,9 @@ const MOST_SHORT: u64 = 0x3fff_ffff;
 /// The header of a block, of 4 or 16 bytes. Contracts see its bytes.
 #[derive(Drop)]
 pub struct Head {
+    /// The bytes of the header, and zeros behind them.
     bytes: [u8; 16],
+    /// How many of these bytes the header has: 4 or 16.
     len: usize,
 }
 

@@ -22,9 +22,13 @@ use std::marker::Model;
 /// `specs/`.
 #[derive(Drop)]
 pub struct Blocks<'a> {
+    /// The whole file.
     bytes: &'a [u8],
+    /// The schema in its header.
     schema: u32,
+    /// The kind of the block that was read last; None before the first.
     last: Option<BlockKind>,
+    /// The offset of the next block.
     at: usize,
 }
 

@@ -1,6 +1,8 @@
 //! Long texts of a payload that overlap. Where equal texts overlap, their bytes have a period;
 //! which bytes were tested to have one is kept, so that of the texts there that are equal few are
 //! looked at.
+//! No document has a rule for this: the README of this crate says it, in the paragraph on periods,
+//! and *HasPeriod* of `specs/Known.antt` what a range promises. All of it saves time alone.
 
 ghost use Rattle.std.specs.Prelude.{◌≡◌, ◌≤◌, ◌+◌, [], All, length, take, drop, IfSome, OnOk};
 ghost use Rattle.std.specs.Bool.{OnTrue};
@@ -13,34 +15,43 @@ use adb_view::{Adb, Val};
 use std::alloc::{AllocError, Global};
 use std::collections::BTreeMap;
 
-/// A stretch is the length of a text divided by this, and one byte.
+/// A stretch is the length of a text divided by this, and one byte. Two equal texts that begin in
+/// one stretch are less than that apart, so they overlap and show a period. With a greater number
+/// fewer texts show one; with a lesser one more bytes around a text are tested.
 const PART: usize = 4;
 
 /// Where a text stands in its payload.
 #[derive(Clone, Copy)]
 pub(crate) struct TextPlace {
+    /// The offset in the payload at which the text begins.
     pub from: usize,
+    /// How many bytes the text has.
     pub len: usize,
 }
 
 impl TextPlace {
-    /// The stretch of the payload in which it begins. Equal texts of one stretch show a period.
+    /// The number of the stretch of the payload in which the text begins. Equal texts of one
+    /// stretch show a period.
     fn stretch(self) -> usize {
         self.from / (self.len / PART + 1)
     }
 }
 
-/// Bytes of a payload, each of which is the one that stands a period before it.
+/// Bytes of a payload, each of which is the one that stands a period before it, but for the first
+/// period.
 #[derive(Clone, Copy)]
 pub(crate) struct PeriodicRange {
+    /// The offset of the first of the bytes.
     pub from: usize,
+    /// The offset behind the last one.
     pub end: usize,
+    /// How many bytes the period has.
     pub period: usize,
 }
 
 impl PeriodicRange {
-    /// The phase of a text: how far behind the beginning of a period it begins. None where it does
-    /// not stand in the range.
+    /// The phase of a text: how far behind the beginning of a period it begins. None where the text
+    /// does not stand in the range.
     fn phase_of(self, text: TextPlace) -> Option<usize>
         ensures { IfSome result (IsPhaseOf self text) }
     {
@@ -50,7 +61,8 @@ impl PeriodicRange {
         (text.from - self.from).checked_rem(self.period)
     }
 
-    /// Whether it shows that two texts are equal.
+    /// Whether the range shows that two texts are equal: both stand in it, with one phase and one
+    /// length.
     fn shows_equal(self, left: TextPlace, right: TextPlace) -> bool
         ensures { OnTrue result (AreEqualUnder self left right) }
     {
@@ -65,17 +77,20 @@ impl PeriodicRange {
 /// ranges are guesses, which are tested where they are used.
 #[derive(Drop)]
 pub struct Overlaps {
+    /// The ranges that were found.
     ranges: Vec<PeriodicRange>,
-    /// The last range that was found around a text, by the text's length and stretch.
+    /// The place in `ranges`, counted from 0, of the last range that was found around a text, by
+    /// the text's length and stretch.
     latest: BTreeMap<(usize, usize), usize>,
-    /// The word of a text by its range and its phase there.
+    /// The word of a text that was kept, by the place of its range and its phase there.
     words: BTreeMap<(usize, usize), u32>,
-    /// Where a text begins, by the word that it has in the draft and by its stretch.
+    /// The offset at which a text begins that was kept, by the word that it has in the draft and by
+    /// its stretch.
     places: BTreeMap<(u32, usize), usize>,
 }
 
 impl Overlaps {
-    /// Nothing is known.
+    /// No text is kept.
     pub(crate) fn new(alloc: Global) -> Overlaps
         ensures { result.ranges.items ≡ [] }
     {
@@ -87,7 +102,8 @@ impl Overlaps {
         }
     }
 
-    /// The word of a text that was kept and equals the text of this word, if a range shows that.
+    /// The word of a text that was kept and equals the text of `word`, if a range shows that they
+    /// are equal.
     pub(crate) fn equal_word(&self, adb: Adb<'_>, word: Val) -> Option<u32>
         requires { All (HasPeriod (payload_of adb)) self.now.ranges.items }
         ensures { IfSome result (λ kept. text_in (value_at (payload_of adb.entry) Kinds.Text kept)
@@ -101,8 +117,8 @@ impl Overlaps {
         if same { Some(kept) } else { None }
     }
 
-    /// Keeps a text that was not known, by its word and the word that it has in a draft, which is
-    /// NULL where the draft passed a limit.
+    /// Keeps a text that was not known, by its word in the payload and the word that it has in a
+    /// draft, which is NULL where the draft passed a limit: then nothing is kept.
     pub(crate) fn keep(&mut self, adb: Adb<'_>, word: Val, known: Val) -> Result<(), AllocError>
         requires { All (HasPeriod (payload_of adb)) self.old.ranges.items }
         ensures { OnOk result (All (HasPeriod (payload_of adb.entry)) self.new.ranges.items) }
@@ -113,6 +129,7 @@ impl Overlaps {
         if known.is_null() {
             return Ok(());
         }
+        // The bytes of both have the distance to an equal text of this stretch as a period.
         let place = (known.word(), text.stretch());
         if let Some(from) = self.places.insert(place, text.from)? {
             self.keep_range(adb, text, text.from.abs_diff(from))?;
@@ -120,8 +137,8 @@ impl Overlaps {
         self.keep_word(text, word)
     }
 
-    /// Keeps the range around a text that has a period, where an equal text begins at this
-    /// distance from it.
+    /// Keeps the range around a text that has a period, where an equal text begins at this distance
+    /// from the text. A distance that is some periods of the range that is known shows nothing new.
     fn keep_range(
         &mut self,
         adb: Adb<'_>,
@@ -135,6 +152,8 @@ impl Overlaps {
         if self.is_some_periods(text, distance) {
             return Ok(());
         }
+        // Bytes with two periods mostly have the greatest common divisor of these as one, and it is
+        // tested below.
         let period = match self.range_around(text) {
             Some(range) => common_divisor(range.period, distance),
             None => distance,
@@ -148,7 +167,7 @@ impl Overlaps {
         Ok(())
     }
 
-    /// Whether a distance is some periods of the range that is known around a text.
+    /// Whether a distance is a multiple of the period of the range that is known around a text.
     fn is_some_periods(&self, text: TextPlace, distance: usize) -> bool {
         match self.range_around(text) {
             Some(range) => {
@@ -158,7 +177,7 @@ impl Overlaps {
         }
     }
 
-    /// Keeps the word of a text by its phase, if a range around it is known.
+    /// Keeps the word of a text by its phase, if a range around the text is known.
     fn keep_word(&mut self, text: TextPlace, word: Val) -> Result<(), AllocError>
         ensures { self.new.ranges.items ≡ self.old.ranges.items }
     {
@@ -171,18 +190,18 @@ impl Overlaps {
         Ok(())
     }
 
-    /// The range that was found last around a text of this length in this stretch.
+    /// The range that was found last around a text of this length in this stretch, if there is one.
     fn range_around(&self, text: TextPlace) -> Option<PeriodicRange> {
         self.ranges.get(self.index_around(text)?).copied()
     }
 
-    /// Its index.
+    /// The place of that range in `ranges`, counted from 0.
     fn index_around(&self, text: TextPlace) -> Option<usize> {
         self.latest.get(&(text.len, text.stretch())).copied()
     }
 }
 
-/// Where the text of a word stands.
+/// Where the text of a word stands in the payload; none where the word means no bytes at an offset.
 fn text_place(adb: Adb<'_>, word: Val) -> Option<TextPlace>
     ensures text { IfSome result (λ text. text_in (value_at (payload_of adb.entry) Kinds.Text word)
         ≡ take text.len (drop text.from (payload_of adb.entry))) }
@@ -246,7 +265,7 @@ fn end_of_period(bytes: &[u8], text: TextPlace, period: usize) -> usize
     end
 }
 
-/// The greatest number that divides both.
+/// The greatest number that divides both, by Euclid's steps.
 fn common_divisor(left: usize, right: usize) -> usize {
     let mut divided = left;
     let mut divisor = right;

@@ -8,9 +8,12 @@ use Rattle.base_core.specs.declared.cause.Cause.{Cause}
 -- the visit with the index i (its number, counted from 1, is one more) has this fault, and none
 -- before it has any
 pub record IsFirstFault (p : List ℕ) (vs : List Visit) (c : Cause) : Type 0 where
+  -- the index of the visit
   pub i : ℕ
+  -- the visit
   pub v : Visit
   pub at : slice_get vs i ≡ Some v
   pub fault : visit_fault p (i + 1) v ≡ Some c
+  -- no visit before it has a fault
   pub before : (j : ℕ) → (u : Visit) → j < i → slice_get vs j ≡ Some u → visit_fault p (j + 1) u
       ≡ None

@@ -13,3 +13,4 @@ pub mod Shaped
 pub mod Rank
 pub mod Shapes
 pub mod VisitFault
+pub mod Leaves

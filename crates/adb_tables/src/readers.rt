@@ -7,11 +7,35 @@ ghost use Rattle.std.specs.Prelude.{◌≡◌, IfErr, IfOk, Err, Ok};
 ghost use Rattle.adb_view.specs.Adb.{payload_of};
 ghost use Rattle.adb_view.specs.Entries.{array_entries};
 ghost use Rattle.adb_view.specs.Readers.{ARRAY, OBJECT, blob_of, int_of, run_of};
+ghost use Rattle.adb_tables.specs.Leaves.{is_sound_leaf};
 ghost use Rattle.adb_tables.specs.VisitFault.{cause_of_fault};
 
+use crate::tables::Kind;
 use crate::visit_fault::VisitFault;
 use crate::walk::object_entries;
 use adb_view::{Adb, Arr, Val};
+
+/// Whether nothing stands below the word and it can be read: NULL, or an integer, a text or a hash,
+/// as the kind asks. Most words of a payload are such, and none of them needs a call of its own.
+#[tactic(auto, unfolding(adb_view::specs::Readers::int_of, adb_view::specs::Readers::blob_of))]
+pub(crate) fn is_sound_leaf(adb: Adb<'_>, kind: Kind, word: Val) -> bool
+    ensures { result ≡ is_sound_leaf (payload_of adb.entry) kind word }
+{
+    if word.is_null() {
+        return true;
+    }
+    match kind {
+        Kind::Int => match adb.find_int(word) {
+            Some(_) => true,
+            None => false,
+        },
+        Kind::Text | Kind::Hash => match adb.find_blob(word) {
+            Some(_) => true,
+            None => false,
+        },
+        Kind::Obj(_) | Kind::TextArr | Kind::ObjArr(_) => false,
+    }
+}
 
 /// The integer that a word is, or why it is none.
 #[tactic(auto, using(crate::proofs::ReaderFaults::int_fault, crate::proofs::ReaderFaults::read_ok))]

@@ -1,6 +1,6 @@
-//! The ten tables of the containers, which stand in `docs/formats.md`, "Schemas": what a field is, the constants, and the fields of
-//! each table. A new table is a new constant here, its variant of `Which`, and its lines in
-//! `fields_of` and `number_of`.
+//! The ten tables of the containers: what a field is, the constants, and the fields of each table.
+//! The tables stand in `docs/formats.md`, "Schemas". A new table is a new constant here, its
+//! variant of `Which`, and its lines in `fields_of` and `number_of`.
 
 ghost use Rattle.std.specs.Prelude.{◌≡◌, ◌≤◌};
 ghost use Rattle.adb_tables.specs.Schema.{table, schema_number, shape_of, shapes_of};
@@ -9,32 +9,45 @@ ghost use Rattle.adb_tables.specs.FormatTables.{format_table, program_table};
 ghost use Rattle.adb_tables.specs.declared.tables.Which.{Which};
 ghost use Rattle.adb_tables.specs.declared.tables.Kind.TheVariants as Kinds;
 
-/// One of the ten tables: as which object a word is read. In their order: a dependency, an access
-/// list, the information of a package, a file, a folder, a package's scripts, a package, an index,
-/// an installed database, an intent.
+/// One of the ten tables: as which object a word is read.
 #[derive(Clone, Copy, Debug, PartialEq, Eq)]
 pub enum Which {
+    /// Table 1: a dependency.
     Dep,
+    /// Table 2: an access list.
     Acl,
+    /// Table 3: the information of a package.
     PkgInfo,
+    /// Table 4: a file of a folder.
     File,
+    /// Table 5: a folder of a package.
     Dir,
+    /// Table 6: a package's scripts.
     Scripts,
+    /// Table 7: a package.
     Package,
+    /// Table 8: an index of packages.
     Index,
+    /// Table 9: an installed database.
     Idb,
+    /// Table 10: what a change is about to remove and to write.
     Intent,
 }
 
-/// What a field holds: an integer, a text, a hash, an object of a table, or an array of texts or of
-/// such objects.
+/// Which kind of value a field holds.
 #[derive(Clone, Copy, Debug, PartialEq, Eq)]
 pub enum Kind {
+    /// An integer.
     Int,
+    /// A text.
     Text,
+    /// A hash.
     Hash,
+    /// An object of a table.
     Obj(Which),
+    /// An array of texts.
     TextArr,
+    /// An array of objects of a table.
     ObjArr(Which),
 }
 
@@ -57,7 +70,7 @@ pub struct Schema<const N: usize> {
     pub fields: [Field; N],
 }
 
-/// The name of a field; fields of several tables may have one name.
+/// The name of a field, spelled as `text` says; fields of several tables may have one name.
 #[derive(Clone, Copy, Debug, PartialEq, Eq)]
 pub enum FieldName {
     Name,
@@ -334,25 +347,34 @@ pub const INTENT: Schema<2> = Schema {
     fields: INTENT_FIELDS,
 };
 
-// The fields of each table as statics, so that `fields_of` can lend them.
+/// The fields of table 1 as a static, so that `fields_of` can lend them.
 static DEP_ROWS: [Field; 3] = DEP_FIELDS;
 
+/// The fields of table 2 as a static, so that `fields_of` can lend them.
 static ACL_ROWS: [Field; 4] = ACL_FIELDS;
 
+/// The fields of table 3 as a static, so that `fields_of` can lend them.
 static PKGINFO_ROWS: [Field; 22] = PKGINFO_FIELDS;
 
+/// The fields of table 4 as a static, so that `fields_of` can lend them.
 static FILE_ROWS: [Field; 7] = FILE_FIELDS;
 
+/// The fields of table 5 as a static, so that `fields_of` can lend them.
 static DIR_ROWS: [Field; 3] = DIR_FIELDS;
 
+/// The fields of table 6 as a static, so that `fields_of` can lend them.
 static SCRIPTS_ROWS: [Field; 7] = SCRIPTS_FIELDS;
 
+/// The fields of table 7 as a static, so that `fields_of` can lend them.
 static PACKAGE_ROWS: [Field; 5] = PACKAGE_FIELDS;
 
+/// The fields of table 8 as a static, so that `fields_of` can lend them.
 static INDEX_ROWS: [Field; 3] = INDEX_FIELDS;
 
+/// The fields of table 9 as a static, so that `fields_of` can lend them.
 static IDB_ROWS: [Field; 1] = IDB_FIELDS;
 
+/// The fields of table 10 as a static, so that `fields_of` can lend them.
 static INTENT_ROWS: [Field; 2] = INTENT_FIELDS;
 
 /// The fields of a table, in the order of their numbers.

@@ -1,5 +1,6 @@
 //! The walk over a payload's values that tests their shape: depth first, each visit counted and
-//! then tested. The rule stands in `docs/formats.md`, "The shape".
+//! then tested. The rule stands in `docs/formats.md`, "The shape". In the clauses `bound` says that
+//! the count of visits stays within its limit.
 
 ghost use Rattle.std.specs.Prelude.{◌<◌, slice_index, ◌≡◌, ◌≤◌, ◌+◌, IfOk, true, is_some, length, is_none, ◌↔◌, ℕ, List, Some, None};
 ghost use Rattle.std.specs.Result.{result_err};
@@ -23,7 +24,7 @@ ghost use Rattle.base_core.specs.declared.cause.Cause.{Cause};
 ghost use Rattle.adb_tables.specs.declared.tables.Which.{Which};
 ghost use Rattle.adb_tables.specs.declared.tables.Kind.TheVariants as Kinds;
 
-use crate::readers::{read_array, read_blob, read_int, read_object};
+use crate::readers::{is_sound_leaf, read_array, read_blob, read_int, read_object};
 use crate::shaped::Shaped;
 use crate::tables::{Field, Kind, Which, fields_of};
 use crate::visit_fault::VisitFault;
@@ -129,7 +130,7 @@ fn walk_entries(adb: Adb<'_>, kind: Kind, before: u32, entries: Arr<'_>) -> Resu
 /// Visits the entries of an object that have one of these fields, each by its field's kind, and
 /// counts as `walk_value` does. Entries past the fields are not looked at.
 #[cycle(walk)]
-#[tactic(auto, using(crate::proofs::WalkSteps::fields_more, crate::proofs::WalkSteps::fields_stop, crate::proofs::WalkSteps::fields_past, crate::proofs::WalkSteps::fields_past_words, crate::proofs::WalkSteps::field_rank))]
+#[tactic(auto, using(crate::proofs::WalkSteps::fields_more, crate::proofs::WalkSteps::fields_stop, crate::proofs::WalkSteps::fields_end, crate::proofs::WalkSteps::field_rank, crate::proofs::WalkSteps::fields_leaf))]
 fn walk_each_field(
     adb: Adb<'_>,
     fields: &[Field],
@@ -143,11 +144,14 @@ fn walk_each_field(
     ensures bound { IfOk result (λ n. n ≤ MOST_VALUES) }
 {
     let mut count = before;
-    for (i, field) in fields.iter().enumerate() {
-        if i >= entries.len() {
-            break;
+    for i in 0..fields.len().min(entries.len()) {
+        let kind = fields[i].kind;
+        let word = entry_word(entries, i);
+        if count < MOST_VISITS && is_sound_leaf(adb, kind, word) {
+            count += 1;
+        } else {
+            count = walk_value(adb, kind, count, word)?;
         }
-        count = walk_value(adb, field.kind, count, entry_word(entries, i))?;
     }
     Ok(count)
 }

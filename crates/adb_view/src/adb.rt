@@ -1,6 +1,6 @@
 //! An opened payload and its four readers, and what follows from the definitions, for every
-//! payload. The rules stand in `docs/formats.md`, "Values": the head in its first paragraph, the
-//! kinds of words in its table, what each reader answers below it.
+//! payload. The rules stand in `docs/formats.md`, "Values": the head below "An ADB payload begins
+//! with eight bytes", the kinds of words in its table, what each reader answers below it.
 
 ghost use Rattle.std.specs.Prelude.{◌≡◌, ◌≤◌, length, slice_range, IfOk, ◌<◌, ℕ, List, All, IfSome, is_some};
 ghost use Rattle.std.specs.Result.{result_err, result_ok};
@@ -22,6 +22,7 @@ const HEAD: usize = 8;
 /// An ADB payload (apk-v3(5)) whose head has been tested.
 #[derive(Clone, Copy)]
 pub struct Adb<'a> {
+    /// The whole payload, its head with it.
     payload: &'a [u8],
     ghost whole: { 8 ≤ length payload.now },
 }
@@ -174,13 +175,13 @@ impl<'a> Adb<'a> {
         if v.is_null() {
             return Some(&[]);
         }
-        let width = match v.kind() {
-            kind::BLOB_8 => Width::One,
-            kind::BLOB_16 => Width::Two,
-            kind::BLOB_32 => Width::Four,
-            _ => return None,
-        };
-        let (from, end) = counted_range(self.payload, v.low() as usize, width)?;
+        let at = v.low() as usize;
+        let (from, end) = match v.kind() {
+            kind::BLOB_8 => counted_range(self.payload, at, Width::One),
+            kind::BLOB_16 => counted_range(self.payload, at, Width::Two),
+            kind::BLOB_32 => counted_range(self.payload, at, Width::Four),
+            _ => None,
+        }?;
         Some(&self.payload[from..end])
     }
 

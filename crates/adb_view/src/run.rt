@@ -1,5 +1,5 @@
 //! Runs of words: the entries of an array, and of an object. The rule stands in `docs/formats.md`,
-//! "Values", the paragraph below the table ("The first word of a run").
+//! "Values" ("The first word of a run").
 
 ghost use Rattle.std.specs.Prelude.{◌≡◌, ◌≤◌, ◌<◌, ◌-◌, ◌*◌, ◌^◌, ◌==◌, length};
 ghost use Rattle.std.specs.Result.{result_ok};
@@ -12,6 +12,7 @@ use base_core::Cause;
 /// The entries of an array, as their words stand in the payload.
 #[derive(Clone, Copy)]
 pub struct Arr<'a> {
+    /// The words of the entries, four bytes each.
     bytes: &'a [u8],
     ghost counted: { length bytes.now < 4 * (2 ^ 32 - 1) },
 }
@@ -83,6 +84,7 @@ impl<'a> Arr<'a> {
 /// The entries of an object, to be read by the N fields of its table.
 #[derive(Clone, Copy)]
 pub struct Obj<'a, const N: usize> {
+    /// All entries, those past the N fields too.
     entries: Arr<'a>,
 }
 

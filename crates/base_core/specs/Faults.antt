@@ -2,7 +2,7 @@
 -- rules stand in `docs/crash-safety.md`, "Misuses, faults and counts".
 use Rattle.std.specs.Prelude.{◌≡◌, ◌⊎◌, ◌≤◌, ℕ, ◌+◌, ◌-◌, ◌^◌, min, Bool, IsTrue, Result, OnOk, OnErr}
 
--- what a tree or a sink counts, and whether it may still fail
+-- what a tree or a sink counts of its calls, and whether one may still fail
 pub record Counts : Type 0 where
   -- calls that failed
   pub faults : ℕ
@@ -27,16 +27,18 @@ pub record GoesOn (before now : Counts) : Type 0 where
   pub faults : before.faults ≤ now.faults
   pub misuses : before.misuses ≤ now.misuses
   pub wants : before.wants ≤ now.wants
+  -- what cannot fail for another reason does not become able to
   pub fallible : IsTrue now.fallible → IsTrue before.fallible
 
 -- a failure was counted, and has its reason: one of the world's, a misuse, or want of the object's
 -- own memory
 pub record HasCause (before now : Counts) : Type 0 where
   pub fault : Rose before.faults now.faults
+  -- one of the world's, which `fallible` allows, a misuse, or want of the object's own memory
   pub reason : IsTrue before.fallible ⊎ (Rose before.misuses now.misuses
       ⊎ Rose before.wants now.wants)
 
--- no fault was counted, and no want of memory
+-- between two moments no fault was counted, and no want of memory
 pub record IsNoFault (before now : Counts) : Type 0 where
   pub faults : now.faults ≡ before.faults
   pub wants : now.wants ≡ before.wants

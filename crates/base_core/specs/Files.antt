@@ -47,6 +47,7 @@ IsFolderLike map = (p q : List ℕ) → IsFolderOf p q → IsSome (map p) → Is
 
 -- the content of a file: bytes (numbers below 256), fewer than 2 ^ 64
 pub record IsFile (bytes : List ℕ) : Type 0 where
+  -- each is a byte
   pub each : All (λ b. b < 256) bytes
   pub few : length bytes < 2 ^ 64
 

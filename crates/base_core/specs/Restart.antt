@@ -7,8 +7,11 @@ use Rattle.base_core.specs.Tree.{TreeState, files_of}
 -- `w` is a tree that stands after a crash of `v`: an image, by one map of names, with each file
 -- synced
 pub record IsCrashOf (v w : TreeState) : Type 0 where
+  -- what is read then is what a crash may leave of `v`
   pub left : IsImage v (files_of w)
+  -- no change of names can be undone any more
   pub one_map : w.older ≡ []
+  -- each file that a name leads to is synced
   pub synced : (q : List ℕ) (n : ℕ) → w.names q ≡ Some n → (w.files n).synced ≡ true
 
 -- P holds at each moment of a list: it speaks of the moments before and of the state
@@ -19,6 +22,7 @@ EachMoment P (v ∷ earlier) = P earlier v × EachMoment P earlier
 -- P holds so at each moment that was added since; `old` is the history then, `new` that of now
 pub record SinceBy (P : List TreeState → TreeState → Type 0)
     (old new : List TreeState) : Type 0 where
+  -- the states that were added, the newest first
   pub added : List TreeState
   pub is : new ≡ added ++ old
   pub each : EachMoment P added

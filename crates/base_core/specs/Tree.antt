@@ -7,15 +7,21 @@ use Rattle.base_core.specs.Files.{Files, NameMap, put_name, drop_name, move_name
 
 -- a file: its bytes as read, and whether a crash leaves just these
 pub record File : Type 0 where
+  -- the bytes as a read gives them
   pub bytes : List ℕ
+  -- whether a crash leaves just these bytes
   pub synced : Bool
 
 -- a tree at one moment: the files by number, and how many were made; the names as read, and the
 -- maps of names before it, since the names were last synced, the newest first
 pub record TreeState : Type 0 where
+  -- the file of each number
   pub files : ℕ → File
+  -- how many files were made, which is the number of the next one
   pub made : ℕ
+  -- the map of names as read
   pub names : NameMap
+  -- the maps before it since the names were last synced, the newest first
   pub older : List NameMap
 
 -- the bytes of the file of a number, if there is a number
@@ -114,6 +120,7 @@ CanRead name at len v =
 -- for `create`: nothing stands under the name, and no file's name would be a folder of another
 pub record CanCreate (name : List ℕ) (v : TreeState) : Type 0 where
   pub absent : v.names name ≡ None
+  -- with the new name no name is a folder of another
   pub folders : IsFolderLike (put_name v.names name v.made)
 
 -- for `rename`: a file stands under the first name, the names differ, and no file's name would be a
@@ -134,8 +141,13 @@ IsMapOf v map = IsIn map (v.names ∷ v.older)
 -- present, each is a name, none is a folder of another, and each leads to a file that was made; and
 -- each file has fewer than 2 ^ 64 bytes
 pub record IsWhole (v : TreeState) : Type 0 where
+  -- finitely many names are present
   pub finite : (map : NameMap) → IsMapOf v map → (names : List (List ℕ)) × IsWithin names map
+  -- each is a name
   pub named : (map : NameMap) → IsMapOf v map → AreNames map
+  -- none is a folder of another
   pub folders : (map : NameMap) → IsMapOf v map → IsFolderLike map
+  -- each leads to a file that was made
   pub made : (map : NameMap) → IsMapOf v map → (q : List ℕ) (n : ℕ) → map q ≡ Some n → n < v.made
+  -- each file has fewer than 2 ^ 64 bytes
   pub bytes : (n : ℕ) → IsFile (v.files n).bytes

@@ -6,8 +6,11 @@
 /// bytes).
 #[derive(Clone, Copy, Debug, PartialEq, Eq)]
 pub enum Digest {
+    /// Of SHA-1.
     Sha1([u8; 20]),
+    /// Of SHA-256.
     Sha256([u8; 32]),
+    /// Of SHA-512.
     Sha512([u8; 64]),
 }
 

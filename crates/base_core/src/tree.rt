@@ -51,6 +51,10 @@ impl From<AllocError> for TreeFault {
 /// Files under names, as a folder of the host or a tree in memory. A call that would make one name
 /// a folder of another is a misuse. Each call answers `Disk` only where the tree's count of faults
 /// rose in it, also where its history is not observable.
+///
+/// In the clauses of the calls `same` says that the history stays, `moves` which states are added,
+/// `counts` what becomes of the counts, and `value` what is answered where the history is
+/// observable.
 pub trait Tree {
     /// The states so far, the newest first. It is empty where they are not observable.
     ghost history: { Self → List TreeState };
@@ -129,6 +133,7 @@ pub trait Tree {
     fn list(&mut self, alloc: Global, folder: &Name) -> Result<Names, TreeFault>
         ensures same { history self.new ≡ history self.old }
         ensures goes_on { GoesOn (counts self.old) (counts self.new) }
+        // A failed tree has its cause; no other answer raises faults or wants.
         ensures disk { IsErrOf result DiskFault → HasCause (counts self.old) (counts self.new) }
         ensures kept { OnOk result (IsNoFault (counts self.old) (counts self.new)) }
         ensures memory { IsErrOf result Memory → IsNoFault (counts self.old) (counts self.new) }

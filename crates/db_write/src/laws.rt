@@ -1,5 +1,10 @@
-//! What a database that is written says when it is read, and that nothing changes where nothing
-//! was to be changed.
+//! What a database that is written says when it is read, and that nothing changes where nothing was
+//! to be changed.
+//! The rules stand in `docs/formats.md`, "The database after a change", and in `docs/DECISIONS.md`,
+//! "The installed database" (what is asked of files that are owned). In the clauses numbers of
+//! fields count from 0: in `entries_at 0` of a database that of `packages`, in `entry_in` of a
+//! package 2 that of `scripts`, 3 of `triggers`, 4 of `replaces-priority`, and of a folder 1 that
+//! of its access list.
 ghost use Rattle.adb_copy.specs.Zeros.{without_zeros};
 ghost use Rattle.adb_fields.specs.FirstPair.{IsIn};
 ghost use Rattle.adb_fields.specs.Repeated.{entries_at, folders_in, list_of, name_of, paths_in};

@@ -1,4 +1,7 @@
 //! What is kept of a package until the index is written.
+//! The rule for what is kept stands in `docs/DECISIONS.md`, "Making": the file of a package whose
+//! information alone passes a limit of the writer is kept to the end. What an entry has, says
+//! `docs/commands.md`, "`mkndx PACKAGE..`".
 ghost use Rattle.adb_schema.specs.Soundness.{first_fault, root_value};
 ghost use Rattle.adb_tables.specs.Values.{is_sound, entry_in};
 ghost use Rattle.adb_view.specs.Head.{head_fault, root_of};
@@ -20,36 +23,38 @@ use adb_write::WriteFault;
 use pkg_core::{Package, PackageFault};
 use std::alloc::{AllocError, Global};
 
-/// A payload of its own for an entry, which is its root.
+/// A payload whose root is the entry of one package, and nothing else is in it.
 #[derive(Drop)]
 pub(crate) struct EntryPayload {
+    /// The bytes of the payload.
     pub(crate) payload: Vec<u8>,
     ghost head: { is_none (head_fault payload.items) ≡ true },
     ghost sound: { is_sound payload.items (Kinds.Obj Tables.PkgInfo) (root_of payload.items)
         ≡ true },
 }
 
-/// The file of a package.
+/// The file of a package whose entry alone passes a limit of the writer.
 #[derive(Drop)]
 pub(crate) struct PackageFile {
+    /// The bytes of the file.
     pub(crate) file: Vec<u8>,
     ghost sound: { is_none (first_fault Tables.Package file.items) ≡ true },
 }
 
-/// An entry of an index that is still to be written.
+/// What the entry of a package is written from.
 #[derive(Drop)]
 pub(crate) enum EntrySource {
     /// The entry in a payload of its own.
     Payload(EntryPayload),
     /// The package's file, where the entry alone passes a limit of the writer. An index with it is
-    /// too large.
+    /// too large, and the two counts that the refusal tells are found by writing the entry again.
     File(PackageFile),
 }
 
 impl EntrySource {
     ghost use Rattle.make_index.specs.Kept.{kept_value};
 
-    /// Writes the entry.
+    /// Writes the entry into a draft.
     pub(crate) fn write(&self, alloc: Global, draft: &mut Draft) -> Result<(), AllocError>
         ensures { OnOk result (draft.new ≡ draft_with (kept_value self.now) draft.old) }
     {
@@ -63,7 +68,7 @@ impl EntrySource {
 impl EntryPayload {
     ghost use Rattle.make_index.specs.Kept.{copy_of_entry};
 
-    /// Writes the entry.
+    /// Writes the entry into a draft, with the id and the length that it has.
     fn write(&self, alloc: Global, draft: &mut Draft) -> Result<(), AllocError>
         ensures { OnOk result (draft.new ≡ draft_with
             (copy_of_entry (root_value Tables.PkgInfo self.now.payload.items)) draft.old) }
@@ -77,7 +82,7 @@ impl EntryPayload {
 }
 
 impl PackageFile {
-    /// Writes the entry.
+    /// Writes the entry into a draft: the package is opened once more.
     fn write(&self, alloc: Global, draft: &mut Draft) -> Result<(), AllocError>
         ensures { OnOk result
             (draft.new ≡ draft_with (entry_of_package self.now.file.items) draft.old) }
@@ -90,7 +95,8 @@ impl PackageFile {
     }
 }
 
-/// Writes the entry of a package whose file has this length.
+/// Writes the entry of a package whose file has this length. In the clauses, 0 is the index of
+/// `info` among the fields of a package (1 in table 7 of `docs/formats.md`, "Schemas").
 fn write_package(
     alloc: Global,
     draft: &mut Draft,
@@ -106,7 +112,8 @@ fn write_package(
     write_info(alloc, draft, &info, &id, len)
 }
 
-/// The entry of a package in a payload of its own, or None where it passes a limit of the writer.
+/// The entry of a package in a payload of its own, or None where the entry passes a limit of the
+/// writer. `len` is the length of the package's file.
 pub(crate) fn entry_payload(
     alloc: Global,
     pkg: &Package<'_>,

@@ -1,4 +1,5 @@
 //! Where a reader stands in the blocks of a package, and what the next block comes to.
+//! The rules stand in `docs/formats.md`, "The other blocks"; the framing of a block in "Container".
 
 ghost use Rattle.std.specs.Prelude.{◌≡◌, ◌≤◌, ◌+◌, ◌-◌, ℕ, List, None, Some, Ok, length, drop, IfOk, IfSome, OnOk};
 ghost use Rattle.adb_block.specs.Framing.{ended};
@@ -12,8 +13,8 @@ use adb_block::{BlockKind, Frame, padding_of};
 use base_core::Cause;
 use pkg_core::Walk;
 
-/// How many bytes stand in front of a file's own in its contents: the positions of its folder and
-/// of itself.
+/// 8: the bytes in front of a file's own in its contents, which are the positions of its folder and
+/// of itself, four bytes each.
 const POSITIONS_LEN: u64 = 8;
 
 /// Where a reader stands in the blocks of a package behind the first one: in a file of `len` bytes,
@@ -21,9 +22,13 @@ const POSITIONS_LEN: u64 = 8;
 /// whose contents are due.
 #[derive(Clone, Copy)]
 pub struct BlockPlace<'a> {
+    /// How many bytes the file has.
     pub len: u64,
+    /// The files whose contents are due.
     pub walk: Walk<'a>,
+    /// The kind of the block before.
     pub last: BlockKind,
+    /// The offset of the next block.
     pub at: u64,
 }
 
@@ -70,7 +75,7 @@ impl<'a> BlockPlace<'a> {
         }
     }
 
-    /// Where no block is left, no file may be due.
+    /// Ends the walk where no block is left: no file may be due then.
     #[tactic(auto, using(crate::proofs::Placed::end_good, crate::proofs::Placed::end_bad))]
     fn end(&mut self) -> Result<Step<'a>, Cause>
         ensures step { (file : List ℕ) → step_at self.old file ≡ ended
@@ -86,7 +91,7 @@ impl<'a> BlockPlace<'a> {
         }
     }
 
-    /// Goes on behind this block.
+    /// Goes on behind a block that is there: one of contents opens a file, and another is passed.
     fn step_over(&mut self, frame: Frame, positions: &[u8; 8]) -> Result<Step<'a>, Cause>
         requires at { self.old.at ≤ self.old.len }
         requires fits { raw_size frame ≤ self.old.len - self.old.at }

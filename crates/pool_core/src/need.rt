@@ -40,14 +40,14 @@ impl<'a> NeedRef<'a> {
     }
 }
 
-/// The command upgrades no name: it is `add`, `del` or `fix`.
+/// The names that a command upgrades: of these, an installed candidate is not preferred.
 #[derive(Clone, Copy)]
 pub enum Upgrade<'a> {
-    /// The command upgrades every name: `upgrade` without names.
+    /// No name: the command is `add`, `del` or `fix`.
     Nothing,
-    /// The command upgrades the listed names: those of `upgrade`.
+    /// Every name: the command is `upgrade` without names.
     All,
-    /// The command upgrades the listed names.
+    /// The listed names, which `upgrade` is given.
     Listed(&'a Words),
 }
 

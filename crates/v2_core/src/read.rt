@@ -1,5 +1,6 @@
 //! Reads a text line by line, and writes each package at the end of its record; or tells why a text
 //! database is not taken over.
+//! The rules stand in `docs/formats.md`, "Text database of version 2".
 
 ghost use Rattle.std.specs.Prelude.{◌≡◌, ◌<◌, ◌-◌, ◌∷◌, IfErr, IfOk, List, None, OnOk, Ok, Result, ℕ, Err};
 ghost use Rattle.base_core.specs.declared.cause.Cause.TheVariants.{TextLine};
@@ -46,7 +47,7 @@ pub fn read_v2(alloc: Global, bytes: &[u8]) -> Result<Vec<u8>, V2Fault>
     }
 }
 
-// Tests a payload as an installed database's.
+// Tests a payload as that of an installed database.
 fn check_database(alloc: Global, payload: &[u8]) -> Result<(), ReadFault>
     ensures bad { IfErr result
         (λ fault. IsReadFault fault (payload_fault Tables.Idb payload.now)) }
@@ -90,7 +91,7 @@ fn write_database(alloc: Global, draft: &mut Draft, bytes: &[u8]) -> Result<(), 
     Ok(())
 }
 
-// Writes the packages that a text says.
+// Writes the packages that a text says, each at the end of its record.
 #[tactic(auto, unfolding(crate::specs::Reading::records_of))]
 fn write_packages(alloc: Global, draft: &mut Draft, bytes: &[u8]) -> Result<(), V2Fault>
     ensures ok { OnOk result (draft_with_read (records_of bytes.now) draft.old ≡ Ok draft.new) }
@@ -105,7 +106,8 @@ fn write_packages(alloc: Global, draft: &mut Draft, bytes: &[u8]) -> Result<(), 
     write_record(draft, &record, number)
 }
 
-// Reads the line with this number: an empty one ends the record, another belongs to it.
+// Reads the line with this number, counted from 1: an empty one ends the record, another belongs to
+// it.
 fn add_line<'a>(
     draft: &mut Draft,
     text_record: &mut Record<'a>,
@@ -162,7 +164,7 @@ fn write_record(draft: &mut Draft, text_record: &Record<'_>, lines: u64) -> Resu
     Ok(())
 }
 
-// The refusal of a line, which counts from 1.
+// The refusal of a line by its number, counted from 1.
 fn bad_line(line: u64) -> V2Fault
     ensures { result ≡ Bad (TextLine line) }
 {
@@ -190,6 +192,7 @@ impl From<AllocError> for V2Fault {
 
     ghost from_gives = { λ _ fault. fault ≡ Memory };
 
+    /// Where no memory was given the text is not read.
     fn from(_: AllocError) -> V2Fault {
         V2Fault::Memory
     }
@@ -201,6 +204,7 @@ impl From<Cause> for V2Fault {
 
     ghost from_gives = { λ cause fault. fault ≡ Bad cause };
 
+    /// A failed test refuses the text.
     fn from(cause: Cause) -> V2Fault {
         V2Fault::Bad(cause)
     }

@@ -1,7 +1,7 @@
 -- The grammar of a version, after apk-package(5):
 -- `number{.number}{letter}{_suffix{number}}{~hash}{-r#}`. Here it is told as the parts of a version
--- and how they are spelled. The rule stands in `docs/formats.md`, "Versions", first paragraph. Byte
--- values: 46 `.`, 95 `_`, 126 `~`, 45 `-`, 114 `r`.
+-- and how they are spelled. The rule stands in `docs/formats.md`, "Versions" ("A version is a
+-- number"). Byte values: 46 `.`, 95 `_`, 126 `~`, 45 `-`, 114 `r`.
 use Rattle.std.specs.Prelude.{◌≡◌, ◌==◌, ℕ, Bool, true, false, ◌&&◌, ◌||◌, nat_lt, List, [], ◌∷◌, ◌++◌, length, Option, Some, None, is_some, if◌then◌else◌}
 use Rattle.std.specs.Char.{is_ascii_digit, is_ascii_lowercase}
 use Rattle.std.specs.List.{list_all}
@@ -11,20 +11,28 @@ use Rattle.version_core.specs.Token.{Token, bare_token, number_token, text_token
 
 -- a suffix of a version: its word, and the digits of its number where it has one
 pub record SuffixPart : Type 0 where
+  -- one of the words, such as `rc`
   pub name : List ℕ
+  -- the digits behind the word
   pub number : Option (List ℕ)
 
 -- the parts of a version: the digits of its first component and of each later one, and what may
 -- follow them: a letter, suffixes, the digits of a hash and those of a revision
 pub record Parts : Type 0 where
+  -- the digits of the first component
   pub first : List ℕ
+  -- the digits of each later component
   pub later : List (List ℕ)
+  -- the letter behind them
   pub letter : Option ℕ
+  -- the suffixes in their order
   pub suffixes : List SuffixPart
+  -- the hexadecimal digits of the hash
   pub hash : Option (List ℕ)
+  -- the digits of the revision
   pub revision : Option (List ℕ)
 
--- whether a part that may be left out passes a test where it stands
+-- whether a part that may be left out passes a test, or is left out
 abbrev pub if_some : {X : Type 0} → (X → Bool) → Option X → Bool
 if_some test None = true
 if_some test (Some x) = test x

@@ -24,7 +24,10 @@ can_follow bytes place end = is_good_rest place (slice_range bytes place.at end)
 -- wherever a version ends that passes the first place, at the second or behind it, what follows the
 -- first may follow exactly where what follows the second may
 pub record IsLeap (bytes : List ℕ) (from to : Place) : Type 0 where
+  -- the second place is not before the first
   pub forth : from.at ≤ to.at
+  -- whatever end lies behind the second place, what follows is allowed behind both or behind
+  -- neither
   pub same : (end : ℕ) → to.at ≤ end → can_follow bytes from end ≡ can_follow bytes to end
 
 -- a version with this end that is at the first place comes to the second, and so does each other
@@ -33,4 +36,5 @@ pub record IsNextPlace (bytes : List ℕ) (end : ℕ) (from to : Place) : Type 0
   pub forth : from.at < to.at
   pub within : to.at ≤ end
   pub same : can_follow bytes from end ≡ can_follow bytes to end
+  -- unless the second place is the end, the first leads to it, whatever the end
   pub leads : to.at < end → IsLeap bytes from to

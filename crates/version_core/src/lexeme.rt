@@ -1,5 +1,7 @@
 //! The token that begins a text, and how many of its bytes its reader passes over. The grammar that
-//! the tokens follow stands in `docs/formats.md`, "Versions", first paragraph.
+//! the tokens follow stands in `docs/formats.md`, "Versions" ("A version is a number"). In the
+//! clauses `plain` says that a token is no hash, so that its reader moves on by all of its bytes at
+//! once.
 
 ghost use Rattle.std.specs.Prelude.{◌≡◌, ◌≤◌, ◌<◌, false, length, drop, position, not};
 ghost use Rattle.std.specs.Char.{is_ascii_digit, is_ascii_lowercase};
@@ -20,7 +22,9 @@ const MOST_DIGITS: usize = 18;
 /// mark alone, so that a long hash is read where it is compared.
 #[derive(Clone, Copy)]
 pub struct Lexeme<'a> {
+    /// The token that was read.
     pub token: TokenAt<'a>,
+    /// By how many bytes its reader moves on.
     pub advance: usize,
 }
 

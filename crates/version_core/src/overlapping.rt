@@ -1,7 +1,9 @@
 //! Versions that stand in the same bytes and may overlap. Where one has passed, another goes on in
 //! leaps. The contract is that of `OverlappingVersions::is_version`, as the README of this crate
 //! says; what a version is stands in `docs/formats.md`, "Versions". It serves the tests of texts
-//! that overlap in a payload (`adb_rules`), so that these take no quadratic time.
+//! that overlap in a payload (`adb_rules`), so that these take no quadratic time. In the clauses
+//! `order` and `within` say that offsets rise and lie in the bytes, `bytes` that these stay the
+//! same, `some` and `none` what is known where a place is found and where none is.
 
 ghost use Rattle.std.specs.Prelude.{◌≡◌, ◌<◌, ◌≤◌, false, length, slice_range, IfOk, IfSome, IfNone, Some};
 ghost use Rattle.version_core.specs.Order.{is_version};
@@ -20,7 +22,9 @@ const BLOCK: usize = 256;
 /// token.
 #[derive(Clone, Copy)]
 struct Place {
+    /// Its offset in the bytes.
     at: usize,
+    /// The class of the token before it.
     class: Class,
 }
 
@@ -28,7 +32,9 @@ struct Place {
 /// leads.
 #[derive(Clone, Copy)]
 struct Leap {
+    /// Where the leap begins.
     from: Place,
+    /// Where the leap leads.
     to: Place,
 }
 
@@ -36,7 +42,9 @@ struct Leap {
 /// passed it.
 #[derive(Drop)]
 pub struct OverlappingVersions<'a> {
+    /// The bytes in which the versions stand.
     bytes: &'a [u8],
+    /// A leap for each block of the bytes; one that leads nowhere where none is known.
     leaps: Vec<Leap>,
 }
 

@@ -1,6 +1,6 @@
 //! The classes of tokens, the order of tokens, and the tokens of a text one after the other. The
-//! rules stand in `docs/formats.md`, "Versions": the classes and their order in the second
-//! paragraph, what a fuzzy match allows in the third.
+//! rules stand in `docs/formats.md`, "Versions": the classes and their order below "A version is
+//! compared by its tokens", what a fuzzy match allows below "An operator has four bits".
 
 ghost use Rattle.std.specs.Prelude.{◌≡◌, ◌<◌, Some, false, [], ◌∷◌, drop, if◌then◌else◌};
 ghost use Rattle.version_core.specs.Token.{is_before_hash, is_before_revision, is_component, is_suffix};
@@ -11,19 +11,28 @@ ghost use Rattle.version_core.specs.Reading.{bytes_left, token_view, tokens_left
 use crate::lexeme::{behind, compare_hex_digits, leading_hex_digits, lexeme_at};
 use std::cmp::Ordering;
 
-/// The kinds of tokens, from the least to the greatest. `Stray` is what stands outside the grammar.
+/// The kinds of tokens, in their order from the least to the greatest.
 #[derive(Clone, Copy, Debug, PartialEq, Eq)]
 pub enum Class {
+    /// What stands outside the grammar.
     Stray,
+    /// One of the first four suffixes, such as `_rc`.
     PreRelease,
+    /// The end of the text.
     End,
+    /// The number behind `-r`.
     Revision,
+    /// The hexadecimal digits behind `~`.
     Hash,
+    /// The number of a suffix.
     SuffixNumber,
+    /// One of the other five suffixes, such as `_p`.
     Suffix,
+    /// The letter behind the components.
     Letter,
     /// A later component that begins with `0`, which is compared as text.
     ZeroComponent,
+    /// The first component, or a later one that does not begin with `0`.
     Component,
 }
 
@@ -82,8 +91,11 @@ impl Class {
 /// is not read to its end before it is compared.
 #[derive(Clone, Copy)]
 pub struct TokenAt<'a> {
+    /// Of which class the token is.
     pub class: Class,
+    /// Its value as a number; 0 where it is compared as text.
     pub number: u64,
+    /// Its value as a text; empty where it is compared as a number.
     pub text: &'a [u8],
 }
 

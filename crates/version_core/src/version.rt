@@ -1,5 +1,5 @@
 //! Versions and the operators that they are matched with. The rules stand in `docs/formats.md`,
-//! "Versions"; the operators and their match bits in its last paragraph.
+//! "Versions"; the operators and their match bits below "An operator has four bits".
 
 ghost use Rattle.std.specs.Prelude.{◌≡◌, IfSome, IsTrue, is_some};
 ghost use Rattle.version_core.specs.Op.{is_op};
@@ -27,6 +27,7 @@ const FUZZY: u8 = 8;
 /// match (apk-package(5), "depend").
 #[derive(Clone, Copy, Debug, PartialEq, Eq)]
 pub struct Op {
+    /// The four match bits.
     bits: u8,
 }
 
@@ -74,6 +75,7 @@ impl Op {
 /// A version, seen as its text (apk-package(5)).
 #[derive(Drop)]
 pub struct Version<'a> {
+    /// The text, which is a version.
     text: &'a [u8],
 }
 

@@ -1,4 +1,5 @@
-//! Reads a command.
+//! Reads the command of a command line, or finds the first place that offends. The rules stand in
+//! `docs/commands.md`, "Words".
 ghost use Rattle.std.specs.Prelude.{◌≡◌, IfOk, IfErr};
 ghost use Rattle.words_core.specs.Faults.{IsBehindApplet, IsWordsFault};
 ghost use Rattle.words_core.specs.Grammar.{command_of, line_start, verdict};
@@ -26,6 +27,7 @@ impl From<AllocError> for WordsFault {
 
     ghost from_gives = { λ _ fault. fault ≡ Memory };
 
+    /// Where no memory was given there is no command.
     fn from(_: AllocError) -> WordsFault {
         WordsFault::Memory
     }
@@ -51,7 +53,8 @@ pub fn read_words(alloc: Global, words: &Words) -> Result<Command, WordsFault>
     judge(start.applet, reading, place_behind(words.len()))
 }
 
-// The command that was read, or the first place that offends; one place is behind the last word.
+// The command that was read, or the first place that offends: an operand that is not taken, the
+// word that cannot be read, or the place behind the last word where a word is missing.
 #[tactic(auto, unfolding(crate::specs::Grammar::verdict))]
 fn judge(applet: Applet, reading: Reading, behind: u32) -> Result<Command, WordsFault>
     requires { IsSoundReading applet reading }
