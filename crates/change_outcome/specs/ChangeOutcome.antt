@@ -136,7 +136,7 @@ does_something actions = not (length actions.removals == 0) || not (length actio
 
 -- ---- the report
 
--- the size that a package has when it is installed
+-- the bytes that a package takes when it is installed, as its information says
 abbrev pub member_size : Member → ℕ
 member_size m = int_in (entry_in (entry_in m.pkg PACKAGE_INFO) INFO_INSTALLED_SIZE)
 
