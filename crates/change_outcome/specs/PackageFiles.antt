@@ -73,7 +73,8 @@ package_in_file file = record {
   contents = contents_in (files_in_file file);
 }
 
--- of the fields that have to agree with the index (table 3), the number of the name
+-- the number of a name in the table of package information (table 3); it, version and id have to
+-- agree with the index
 abbrev pub name_field : ℕ
 name_field = 1
 

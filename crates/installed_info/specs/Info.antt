@@ -74,7 +74,7 @@ info_refusal form packages (o ∷ operands) =
 
 -- ---- of a database
 
--- the names of all packages, in byte order
+-- a line with the name of each package, in byte order of the names
 abbrev pub names_info : List Plain → List ℕ
 names_info packages = report_lines (sorted_by bytes_cmp (map package_name packages))
 

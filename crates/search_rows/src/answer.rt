@@ -101,7 +101,9 @@ struct Query<'q> {
 /// What a command asks for: its world, and the names that it upgrades.
 #[derive(Clone, Copy)]
 struct Command<'a> {
+    /// World, as the row gives it.
     world: &'a World,
+    /// The names that it upgrades.
     upgrade: Upgrade<'a>,
 }
 

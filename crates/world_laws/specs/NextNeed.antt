@@ -19,7 +19,7 @@ abbrev pub AreMetByChoices : SealedPool → List ℕ → List Dependency → Typ
 AreMetByChoices pool chosen deps = (d : Dependency) → IsIn d deps → d.conflict ≡ false
     → IsMetByChoice pool chosen (entry d)
 
--- of some dependencies one is the first that is no conflict and is not met
+-- a dependency is the first of some that is no conflict and is not met
 pub record IsFirstUnmet (pool : SealedPool) (chosen : List ℕ) (deps : List Dependency)
     (d : Dependency) : Type 0 where
   pub front : List Dependency
@@ -59,7 +59,7 @@ pub record IsAskedByInstallIf (pool : SealedPool) (chosen name : List ℕ) : Typ
       → IsMetByChoice pool chosen (entry d)
   pub unmet : ¬ IsMetByChoice pool chosen (named name)
 
--- of the names that an install-if asks for one is the first in byte order
+-- a name is the first in byte order of those that an install-if asks for
 pub record IsFirstByInstallIf (pool : SealedPool) (chosen name : List ℕ) : Type 0 where
   pub asked : IsAskedByInstallIf pool chosen name
   pub first : (other : List ℕ) → IsAskedByInstallIf pool chosen other
