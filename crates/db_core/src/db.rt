@@ -37,10 +37,13 @@ pub struct Db<'a> {
     pub(crate) idb: Option<IdbView<'a>>,
     /// The names of the packages in byte order, each with the place of its package.
     pub(crate) names: Vec<NamePlace<'a>>,
+    // The names are those of the packages, in byte order.
     ghost by_name: { map name_seen names.items
         ≡ placed_names_in_order (packages_by (option_map idb_value idb)) },
+    // Each path that a package lists is a name, and none is reserved.
     ghost named: { list_all lists_names (packages_by (option_map idb_value idb)) ≡ true },
     ghost free: { list_all lists_no_reserved (packages_by (option_map idb_value idb)) ≡ true },
+    // The database passed all tests: its value is sound.
     ghost sound: { ∥ IsSoundDatabaseIfAny (option_map idb_value idb) ∥₁ },
 }
 

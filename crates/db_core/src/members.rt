@@ -60,10 +60,14 @@ impl<'a> Model for PackageWithId<'a> {
 pub struct Members<'a> {
     /// The packages, in byte order of their names.
     pub(crate) entries: Vec<PackageWithId<'a>>,
+    // The packages stand in byte order of their names, each name once.
     ghost in_order: { IsRising (map (λ e. member_name (member_by e)) entries.items) },
+    // There are no more packages than there may be.
     ghost few: { length entries.items ≤ MOST_MEMBERS },
+    // Each path that a package lists is a name; one that stays lists no reserved path.
     ghost named: { list_all (λ e. lists_names (member_by e).pkg) entries.items ≡ true },
     ghost free: { list_all (λ e. comes_or_lists_no_reserved (member_by e)) entries.items ≡ true },
+    // The packages come out of sound containers.
     ghost sound: { ∥ AreOfSoundContainers (map member_by entries.items) ∥₁ },
 }
 

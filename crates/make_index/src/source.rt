@@ -28,6 +28,7 @@ use std::alloc::{AllocError, Global};
 pub(crate) struct EntryPayload {
     /// The bytes of the payload.
     pub(crate) payload: Vec<u8>,
+    // The payload can be read, and its root is an object of the fields of table 3.
     ghost head: { is_none (head_fault payload.items) ≡ true },
     ghost sound: { is_sound payload.items (Kinds.Obj Tables.PkgInfo) (root_of payload.items)
         ≡ true },
@@ -38,6 +39,8 @@ pub(crate) struct EntryPayload {
 pub(crate) struct PackageFile {
     /// The bytes of the file.
     pub(crate) file: Vec<u8>,
+    // The first block of the file passes all tests of a package; the contents behind it were tested
+    // before.
     ghost sound: { is_none (first_fault Tables.Package file.items) ≡ true },
 }
 
