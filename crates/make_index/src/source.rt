@@ -76,6 +76,7 @@ impl EntryPayload {
         ensures { OnOk result (draft.new ≡ draft_with
             (copy_of_entry (root_value Tables.PkgInfo self.now.payload.items)) draft.old) }
     {
+        // The payload was written here, so its head is good.
         let Ok(adb) = Adb::new(&self.payload) else {
             unreachable!()
         };
@@ -93,6 +94,7 @@ impl PackageFile {
         match Package::new(alloc, &self.file) {
             Ok(pkg) => write_package(alloc, draft, &pkg, self.file.len() as u64),
             Err(PackageFault::Memory) => Err(AllocError),
+            // The file was opened before, and passed the tests.
             Err(PackageFault::Bad(_)) => unreachable!(),
         }
     }

@@ -102,6 +102,7 @@ pub(crate) fn folder_names<'a>(
     let mut folders = FolderNames::new(alloc);
     for i in 0..names.len() {
         let path = path_below(dir.len(), names.get(i).as_bytes());
+        // Where the folder is known, so are all above it.
         if folders.index_of(folder_of(path)).is_none() {
             folders.add_over(path)?;
         }

@@ -26,6 +26,7 @@ pub(crate) fn rank_versions<'a>(
     ensures { OnOk result (AreRankedFrom kind options.old.items options.new.items) }
 {
     order_is_total();
+    // Then options that read one text stand together.
     options.sort_by(|one, other| by_place(one.version_of(kind), other.version_of(kind)))?;
     let mut versions = distinct_versions(alloc, options, kind)?;
     versions.sort_by(|one, other| compare_versions(kind, one, other))?;
@@ -104,6 +105,7 @@ fn set_ranks<'a>(
     ensures { options.new.items ≡ map (with_rank_among kind versions.now) options.old.items }
 {
     for i in 0..options.len() {
+        // One search among the versions for each text.
         let rank = if reads_the_text_before(options, i, kind) {
             options[i - 1].version_of(kind).rank
         } else {
