@@ -28,6 +28,6 @@ abbrev pub blocks_behind : List ℕ → Result ℕ Cause → Result (List Piece)
 blocks_behind file (Ok schema) = rest_of (start_of schema file)
 blocks_behind file (Err c) = Err c
 
--- all blocks of a file, or the first failed test
+-- all blocks of a file, or the first failed test of its header or of its blocks
 unfoldable pub blocks_of : List ℕ → Result (List Piece) Cause
 blocks_of file = blocks_behind file (header_of file)

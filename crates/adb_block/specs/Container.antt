@@ -1,5 +1,5 @@
 -- A container as a grammar on its whole bytes (apk-v3(5)). The rules stand in `docs/formats.md`,
--- "Container", first three paragraphs.
+-- "Container", from "A file begins with" to "One ADB block comes first".
 use Rattle.std.specs.Prelude.{◌≡◌, ℕ, ◌+◌, ◌*◌, ◌^◌, ◌<◌, ◌≤◌, ◌⊎◌, true, codes, List, [], ◌∷◌, ◌++◌, length, take, drop, Option, Some, None}
 use Rattle.std.specs.Int.{w32, w64, from_le_bytes}
 use Rattle.adb_block.specs.declared.block.BlockKind.{BlockKind}

@@ -28,7 +28,7 @@ pub record LackHead (at : ℕ) (bytes : List ℕ) (c : Cause) : Type 0 where
   pub head : head_of bytes ≡ None
   pub cause : c ≡ Truncated at
 
--- the number is that of no kind, or the kind may not stand here
+-- a kind may not stand behind `last`, or there is none, since its number is that of no kind
 abbrev pub MayNotStand : Option BlockKind → Option BlockKind → Type 0
 MayNotStand last None = Unit {0}
 MayNotStand last (Some kind) = comes_after last kind ≡ false
@@ -59,7 +59,7 @@ pub record HaveWrongSize (last : Option BlockKind) (at : ℕ) (bytes : List ℕ)
   pub wrong : IsWrongSize head kind bytes
   pub cause : c ≡ Truncated at
 
--- one of the tests has this fault, and those before it have none
+-- the next block has this fault: one of its three tests fails, and those before it do not
 abbrev pub HaveBlockFault : Option BlockKind → ℕ → List ℕ → Cause → Type 0
 HaveBlockFault last at bytes c =
     LackHead at bytes c ⊎ (HaveWrongKind last at bytes c ⊎ HaveWrongSize last at bytes c)

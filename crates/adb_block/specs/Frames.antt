@@ -1,6 +1,6 @@
 -- A block as its header frames it, and a header and a read block of the program as the definitions
 -- have them. Serves the contracts of `frame_of` and `head_len` (their row in the README of this
--- crate); what a header says stands in `docs/formats.md`, "Container", second paragraph.
+-- crate); what a header says stands in `docs/formats.md`, "Container" ("A block is a header").
 use Rattle.std.specs.Prelude.{◌≡◌, ◌≤◌, ℕ, ◌+◌, ◌/◌, ◌^◌, ◌==◌, nat_lt, if◌then◌else◌, List, length, take, drop, Option, Some, None, Result, Ok, Err}
 use Rattle.base_core.specs.declared.Cause.{Cause}
 use Rattle.adb_block.specs.Piece.{Piece, padding_of}
@@ -32,7 +32,8 @@ abbrev pub framed_piece : Frame → List ℕ → Piece
 framed_piece frame bytes =
     record { kind = frame.kind; payload = take frame.payload_len (drop frame.head_len bytes) }
 
--- what is framed of bytes is what stands there: a block, the end, or the first failed test
+-- a frame of the bytes that are left is what the tests find there: a block, the end, or the first
+-- failed test
 abbrev pub IsFramed : Result (Option Frame) Cause → List ℕ → Step → Type 0
 IsFramed (Ok None) bytes s = s ≡ ended
 IsFramed (Ok (Some frame)) bytes s =
@@ -55,7 +56,8 @@ fields_of head = record { kind = head.kind; len = head.len; raw = head.raw }
 abbrev pub piece_in : ReadBlock → Piece
 piece_in b = record { kind = b.kind; payload = b.payload.now }
 
--- a read answers as the step does: the end, a block with its size in the file, or a fault
+-- what a read of the program answers is what the tests find: the end, a block with its size in the
+-- file, or a fault
 abbrev pub IsReadBlock : Result (Option ReadBlock) Cause → Step → Type 0
 IsReadBlock (Ok None) s = s ≡ ended
 IsReadBlock (Ok (Some b)) s = s ≡ block (piece_in b) b.size

@@ -1,6 +1,6 @@
 -- What stands at an offset: the end, a block and how far the next one is, or the first failed test.
--- The rules stand in `docs/formats.md`, "Container", second paragraph and the rows "each block, at
--- its offset" of its table.
+-- The rules stand in `docs/formats.md`, "Container" ("A block is a header") and the rows "each
+-- block, at its offset" of its table.
 use Rattle.std.specs.Prelude.{ℕ, zero, suc, ◌+◌, ◌-◌, ◌/◌, ◌%◌, ◌^◌, ◌||◌, ◌==◌, nat_lt, if◌then◌else◌, List, length, take, drop, Option, Some, None}
 use Rattle.base_core.specs.declared.Cause.{Cause}
 use Rattle.base_core.specs.declared.Cause.TheVariants.{Truncated, BlockOrder}

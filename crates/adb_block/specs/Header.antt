@@ -1,5 +1,5 @@
 -- The header of a file: its schema, or the first failed test. The rules stand in `docs/formats.md`,
--- "Container", first paragraph and the rows "header" of its table.
+-- "Container" ("A file begins with") and the rows "header" of its table.
 use Rattle.std.specs.Prelude.{ℕ, Bool, not, ◌||◌, nat_lt, if◌then◌else◌, List, length, take, drop, codes, Result, Ok, Err}
 use Rattle.std.specs.Str.{bytes_eq}
 use Rattle.std.specs.Int.{w32, w64, from_le_bytes}

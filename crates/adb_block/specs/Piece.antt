@@ -1,6 +1,6 @@
 -- A block by itself: its kind and its payload, and which kind may stand behind which. The rules
--- stand in `docs/formats.md`, "Container": the kinds and the padding in the second paragraph, the
--- order in the third.
+-- stand in `docs/formats.md`, "Container": the kinds and the padding below "A block is a header",
+-- the order below "One ADB block comes first".
 use Rattle.std.specs.Prelude.{ℕ, ◌-◌, ◌%◌, Bool, true, false, List, Option, Some, None}
 use Rattle.adb_block.specs.declared.block.BlockKind.{BlockKind}
 use Rattle.adb_block.specs.declared.block.BlockKind.TheVariants.{Adb, Signature, Contents}

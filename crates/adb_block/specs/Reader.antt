@@ -18,7 +18,8 @@ abbrev pub standing_behind : Standing → BlockKind → ℕ → Standing
 standing_behind s kind size =
     record { schema = s.schema; last = Some kind; at = s.at + size; left = drop size s.left }
 
--- the offset of the next block, or None where it is at or past the file's end
+-- the offset of the next block by where the reader stands, or None where it is at or past the
+-- file's end
 abbrev pub next_offset : Standing → Option ℕ
 next_offset s = if length s.left == 0 then None else Some s.at
 
@@ -35,9 +36,9 @@ abbrev pub BeginsWith : Piece → (List Piece → Type 0) → List Piece → Typ
 BeginsWith b Goes [] = ⊥
 BeginsWith b Goes (c ∷ bs) = (c ≡ b) × Goes bs
 
--- The blocks of the grammar and no others. With a block, what is spelled begins with it and goes on
--- as is spelled from where the reader stands then; with None nothing more is spelled; with an error
--- the file spells nothing at all.
+-- a call of the reader gives the blocks of the grammar and no others. With a block, what is spelled
+-- begins with it and goes on as is spelled from where the reader stands then; with None nothing
+-- more is spelled; with an error the file spells nothing at all
 abbrev pub Continues : Standing → Result (Option Block) Cause → Standing → Type 0
 Continues s (Ok None) t = (bs : List Piece) → SpelledFrom s bs ↔ (bs ≡ [])
 Continues s (Ok (Some b)) t =
@@ -51,8 +52,8 @@ IsStep s (Ok None) t = next_step s.last s.at s.left ≡ ended
 IsStep s (Ok (Some b)) t = next_step s.last s.at s.left ≡ block (piece_of b) (t.at - s.at)
 IsStep s (Err c) t = next_step s.last s.at s.left ≡ failed c
 
--- a block was read: where it stood, that it may stand there, its header, payload and padding, and
--- where the reader stands then
+-- a call of the reader has read a block: where the block stood, that it may stand there, its
+-- header, payload and padding, and where the reader stands then
 pub record Advances (s : Standing) (b : Block) (t : Standing) : Type 0 where
   -- the block's offset is the one where the reader stood
   pub at : b.at ≡ s.at
@@ -65,7 +66,8 @@ pub record Advances (s : Standing) (b : Block) (t : Standing) : Type 0 where
   -- fewer bytes are left, so a loop over all blocks ends
   pub shorter : length t.left < length s.left
 
--- nothing is left, at least one block was read, and the reader stays
+-- a call of the reader has found the end: nothing is left, at least one block was read, and the
+-- reader stays
 pub record Ends (s t : Standing) : Type 0 where
   -- nothing is left
   pub empty : s.left ≡ []
@@ -87,7 +89,8 @@ ContinuesRest r (Ok None) q = r ≡ Ok []
 ContinuesRest r (Ok (Some b)) q = r ≡ with_block (piece_of b) q
 ContinuesRest r (Err c) q = r ≡ Err c
 
--- all blocks of a file, by what the reader of its header answers
+-- all blocks of a file, by what the reader of its header answers: those from where it stands, or
+-- the fault
 abbrev pub BeginsRest : Result (List Piece) Cause → Result Standing Cause → Type 0
 BeginsRest r (Ok s) = r ≡ rest_of s
 BeginsRest r (Err c) = r ≡ Err c

@@ -1,10 +1,10 @@
--- Where a reader of blocks stands. The rule stands in `docs/formats.md`, "Container", first
--- paragraph: the first block begins at offset 8.
+-- Where a reader of blocks stands. The rule stands in `docs/formats.md`, "Container" ("Blocks
+-- follow, the first at offset 8").
 use Rattle.std.specs.Prelude.{ℕ, List, drop, Option, None}
 use Rattle.adb_block.specs.declared.block.BlockKind.{BlockKind}
 
--- A reader stands in a file of this schema, behind a block of the kind `last` (None: before the first
--- block), at this offset from the file's start; `left` are the bytes from there on.
+-- where a reader stands: in a file of this schema, behind a block of the kind `last` (None: before
+-- the first block), at this offset from the file's start; `left` are the bytes from there on
 pub record Standing : Type 0 where
   -- the schema of the file
   pub schema : ℕ

@@ -1,6 +1,6 @@
 -- How blocks and containers are written: the shortest header, and each block padded with zeros, the
--- last one too. The rules stand in `docs/formats.md`, "Canonical layout", last paragraph, and the
--- form of a header in "Container", second paragraph.
+-- last one too. The rules stand in `docs/formats.md`, "Canonical layout" ("In a container each
+-- block is padded"), and the form of a header in "Container" ("A block is a header").
 use Rattle.std.specs.Prelude.{ℕ, ◌+◌, ◌*◌, ◌^◌, codes, List, ◌++◌, length, replicate, nat_lt, if◌then◌else◌}
 use Rattle.std.specs.List.{flat_map}
 use Rattle.std.specs.Int.{w32, w64, to_le_bytes}

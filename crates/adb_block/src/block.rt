@@ -1,7 +1,7 @@
 //! A block: its kind, its header as it is read and written, its framing, and how far the next one
-//! is. The rules stand in `docs/formats.md`, "Container", second paragraph (the header, the raw
-//! size, padding) and the rows "each block, at its offset" of its table; how a header is written,
-//! in "Canonical layout", last paragraph.
+//! is. The rules stand in `docs/formats.md`, "Container", "A block is a header" (the header, the
+//! raw size, padding) and the rows "each block, at its offset" of its table; how a header is
+//! written, in "Canonical layout" ("In a container each block is padded").
 
 ghost use Rattle.std.specs.Prelude.{◌≡◌, ◌≤◌, ◌<◌, ◌+◌, ◌-◌, ◌^◌, ◌⊎◌, ℕ, List, Option, None, true, IfOk, IfSome, IsSome, length, take};
 ghost use Rattle.std.specs.Option.{option_map};
@@ -165,6 +165,7 @@ fn read_head(bytes: &[u8]) -> Option<BlockHead>
         return None;
     }
     let word = word_at(bytes, 0);
+    // A header of 4 bytes: the kind in the top two bits, and below them the raw size.
     if word >> 30 != 3 {
         return Some(BlockHead {
             kind: word >> 30,
@@ -175,6 +176,7 @@ fn read_head(bytes: &[u8]) -> Option<BlockHead>
     if bytes.len() < 16 {
         return None;
     }
+    // A header of 16 bytes: the kind in the low 30 bits, and the raw size in 8 bytes of its own.
     Some(BlockHead {
         kind: word & 0x3fff_ffff,
         len: 16,
@@ -201,6 +203,7 @@ fn frame_by_head(
     if !comes_after(last, kind) {
         return Err(Cause::BlockOrder { at });
     }
+    // The raw size counts the header too.
     if head.raw < head.len || head.raw > left {
         return Err(Cause::Truncated { at });
     }

@@ -1,7 +1,6 @@
-//! Paths of files whose parts are not joined, and their order. Serves the search for one path in
-//! two packages, as `FilePath::compare` in the README of this crate; the rule stands in
-//! `docs/formats.md`, "Names that stand twice". That a path is a folder's name, a slash and a
-//! file's name, "Schemas" implies by the tables 4 and 5.
+//! Paths of files whose parts are not joined, and their order. What the path of a file is stands in
+//! `docs/formats.md`, "Schemas" ("The path of a file"). Serves the search for one path in two
+//! packages ("Names that stand twice"), as `FilePath::compare` in the README of this crate.
 
 ghost use Rattle.std.specs.Prelude.{◌≡◌, ◌<◌, ◌≤◌, ◌+◌, ◌^◌, length, take, drop, slice_get, IfSome};
 ghost use Rattle.std.specs.Cmp.Lexicographic.{slice_cmp};

@@ -3,7 +3,8 @@
 //! `docs/formats.md`, "Values"; which field has which index is table by table in "Schemas", where
 //! fields count from 1. By name the indices stand in `FieldIndexes` of `adb_tables`. In the clauses
 //! `sound` says that a word has a plain value under its kind, or its table, and `kind` which kind
-//! of value the field holds.
+//! of value the field holds. `unreachable!` stands where a reader would refuse a word, since it
+//! refuses no sound one.
 
 ghost use Rattle.std.specs.Prelude.{◌≡◌, ◌<◌, true, Some, length, slice_index, slice_index_or};
 ghost use Rattle.adb_view.specs.Adb.{payload_of};

@@ -5,7 +5,7 @@ use Rattle.std.specs.Prelude.{ℕ, Bool, ◌||◌, List, [], ◌∷◌, ◌++◌
 use Rattle.std.specs.Str.{bytes_eq}
 use Rattle.std.specs.List.{list_any, starts_with}
 
--- a path is this name, or one below it
+-- whether a path is this name, or one below it
 abbrev pub is_at_or_below : List ℕ → List ℕ → Bool
 is_at_or_below top path = bytes_eq path top || starts_with nat_eq path (top ++ codes "/")
 

@@ -17,8 +17,8 @@ is_digest_length len = (len == 20) || (len == 32) || (len == 64)
 abbrev pub is_digest_length_or_none : ℕ → Bool
 is_digest_length_or_none len = (len == 0) || is_digest_length len
 
--- whether so many bytes are what an index says of a package: the SHA-256 of its payload, or the
--- first 20 bytes of it
+-- whether so many bytes are what an index has of a package as its id: the SHA-256 of the package's
+-- payload, or the first 20 bytes of it
 abbrev pub is_id_length : ℕ → Bool
 is_id_length len = (len == 20) || (len == 32)
 
@@ -38,8 +38,8 @@ is_one_part name = is_name name && not (list_any (λ b. b == 47) name)
 abbrev pub is_file_name : List ℕ → List ℕ → Bool
 is_file_name folder name = is_one_part name && nat_le (length (path_of folder name)) 1024
 
--- whether a change may remove or write the path: a name outside of what the change itself is kept
--- in
+-- whether a change may remove or write the path: a name that is neither the intent's nor that of
+-- the stage, nor below one of them
 abbrev pub is_change_name : List ℕ → Bool
 is_change_name path = is_name path && not (is_intent_or_stage_name path)
 

@@ -22,7 +22,7 @@ keeps_text_rule FolderName bytes = is_folder_name bytes
 keeps_text_rule OnePart bytes = is_one_part bytes
 keeps_text_rule Target bytes = is_target bytes
 
--- the text that a word means in a payload
+-- the text that a word means in a payload; empty for NULL
 abbrev pub text_at : List ℕ → ℕ → List ℕ
 text_at payload word = text_in (value_at payload Text word)
 

@@ -387,6 +387,7 @@ fn has_rule_below(which: Which) -> bool
     ensures { result ≡ false → (field_number : ℕ) → TakesEachValue (Kinds.Obj which) field_number }
 {
     match which {
+        // No field of these two tables has a rule.
         Which::Acl => false,
         Which::Scripts => false,
         _ => true,

@@ -1,6 +1,6 @@
 -- The first failed test of a whole container, in the order of the tests. The order stands in
 -- `docs/formats.md`, "Tests of a container"; what is tested behind the first block, in "The other
--- blocks", third paragraph.
+-- blocks" ("Outside of a package no block may hold contents").
 use Rattle.std.specs.Prelude.{ℕ, List, [], take, drop, length, Bool, false, nat_lt, ◌==◌, if◌then◌else◌, Option, Some, None, Result, Ok, Err}
 use Rattle.std.specs.Option.{option_or}
 use Rattle.std.specs.Int.{w32, from_le_bytes}
@@ -34,7 +34,7 @@ schema_word which = None
 
 -- ---- the first block
 
--- the value of a payload with this table at its root
+-- the plain value of a payload with this table at its root
 abbrev pub root_value : Which → List ℕ → Plain
 root_value which payload = value_at payload (Obj which) (root_of payload)
 
@@ -82,12 +82,12 @@ rest_fault which r = further_fault r
 
 -- ---- all tests in order
 
--- whether the schema is the one that the table has, if it has one
+-- whether a file's schema is the one of the table, if the table has one
 abbrev pub is_schema_wanted : Option ℕ → ℕ → Bool
 is_schema_wanted (Some word) schema = word == schema
 is_schema_wanted None schema = false
 
--- the fault of a container with another schema
+-- the fault of a file whose schema is not the one of the table; None where it is
 abbrev pub schema_fault : Which → ℕ → Option Cause
 schema_fault which schema = if is_schema_wanted (schema_word which) schema then None
     else Some (WrongSchema schema)

@@ -1,4 +1,4 @@
-//! A checked payload, the four views of its root. The tests stand in `docs/formats.md`, "The
+//! A checked payload, and the four views of its root. The tests stand in `docs/formats.md`, "The
 //! texts"; the fields of the roots in "Schemas", tables 7 to 10. A clause has a field's index,
 //! which counts from 0; its number, by which the document and causes name the field, is one more.
 

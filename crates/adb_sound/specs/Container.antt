@@ -1,6 +1,6 @@
 -- A container that is made of a value, and of a package the contents of its files behind it. The
--- rules stand in `docs/formats.md`, "The other blocks" (contents) and "Canonical layout", last
--- paragraph.
+-- rules stand in `docs/formats.md`, "The other blocks" (contents) and "Canonical layout" ("In a
+-- container each block is padded").
 use Rattle.std.specs.Prelude.{ℕ, List, ◌∷◌, ◌++◌, map}
 use Rattle.std.specs.Int.{w32, to_le_bytes}
 use Rattle.adb_block.specs.Piece.{Piece}
@@ -17,7 +17,7 @@ use Rattle.pkg_core.specs.Whole.{Packed}
 abbrev pub contents_payload : Contents → List ℕ
 contents_payload c = to_le_bytes w32 c.folder ++ (to_le_bytes w32 c.file ++ c.bytes)
 
--- the block of the contents of one file
+-- the block in which the contents of one file stand
 abbrev pub contents_piece : Contents → Piece
 contents_piece c = record { kind = Kinds.Contents; payload = contents_payload c }
 

@@ -1,5 +1,5 @@
 -- What may stand at the root of a container. The rules stand in `docs/formats.md`, "Tests of a
--- container", and the limits in "Canonical layout", fourth paragraph.
+-- container", and the limits in "Canonical layout" ("A payload has at most").
 use Rattle.std.specs.Prelude.{◌≡◌, ◌≤◌, None}
 use Rattle.adb_view.specs.Plain.{Plain, IsNormal}
 use Rattle.adb_view.specs.Shaped.{HasShape}

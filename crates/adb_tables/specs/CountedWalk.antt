@@ -20,7 +20,7 @@ ok_unless x (Some c) = Err c
 abbrev pub walk_visit : List ℕ → ℕ → Shape → ℕ → Result ℕ Cause
 walk_visit p n s w = ok_unless (n + 1) (visit_fault p (n + 1) (record { shape = s; word = w }))
 
--- the walks of some words in order, each behind the visits of those before it
+-- the walk over some words in order behind n visits, where `f` walks over each
 abbrev pub each_walk : (ℕ → ℕ → Result ℕ Cause) → ℕ → List ℕ → Result ℕ Cause
 each_walk f n [] = Ok n
 each_walk f n (w ∷ ws) = and_then (f n w) (λ m. each_walk f m ws)

@@ -8,7 +8,7 @@ use Rattle.adb_tables.specs.declared.tables.Which.TheVariants.{Dep, Acl, PkgInfo
 use Rattle.adb_tables.specs.declared.tables.Kind.{Kind}
 use Rattle.adb_tables.specs.declared.tables.Kind.TheVariants.{Int, Text, Hash, Obj, TextArr, ObjArr}
 
--- the number of a table, and its fields by name and kind, as the format's document lists them
+-- the number of a table, and its fields by name and kind, as the table of the document lists them
 abbrev pub format_table : Which → ℕ × List (List ℕ × Kind)
 format_table Dep = (1, (codes "name", Text) ∷ (codes "version", Text) ∷ (codes "match", Int) ∷ [])
 format_table Acl = (

@@ -1,6 +1,5 @@
 -- What views answer: the plain value of a word that is known to have one, and its fields. The rule
--- stands in `docs/formats.md`, "Values", the paragraph that begins "A table of fields gives each
--- word a shape".
+-- stands in `docs/formats.md`, "Values" ("A table of fields gives each word a shape").
 use Rattle.std.specs.Prelude.{ℕ, zero, suc, Bool, List, [], is_some, Option, unwrap_or, option_map, slice_get}
 use Rattle.adb_view.specs.Plain.{Plain, null, int, blob, arr, obj, Plains, none, more, plain_of}
 pub use Rattle.adb_view.specs.Plain.{count_of}

@@ -7,7 +7,7 @@ use Rattle.base_core.specs.declared.cause.Cause.TheVariants as Causes
 use Rattle.adb_tables.specs.declared.visit_fault.VisitFault.{VisitFault}
 use Rattle.adb_tables.specs.declared.visit_fault.VisitFault.TheVariants.{TooLarge, WrongKind, Outside}
 
--- the cause that a fault of the walk is told as
+-- the cause by which a fault of the walk is reported
 abbrev pub cause_of_fault : VisitFault → Cause
 cause_of_fault (TooLarge count) = Causes.TooLarge count
 cause_of_fault (WrongKind word) = Causes.WrongKind word

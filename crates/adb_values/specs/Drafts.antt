@@ -1,6 +1,6 @@
 -- A draft as contracts see it, and what each call makes of it: one value more, or an open list. The
--- rule stands in `docs/formats.md`, "Canonical layout", second paragraph ("Values are written depth
--- first"); how the calls chain, in the README of this crate.
+-- rule stands in `docs/formats.md`, "Canonical layout" ("Values are written depth first"); how the
+-- calls chain, in the README of this crate.
 use Rattle.std.specs.Prelude.{ℕ, List, [], ◌∷◌, ◌++◌, length}
 use Rattle.adb_view.specs.Plain.{Plain, Plains, none, more}
 use Rattle.adb_write.specs.Writing.{Writing, empty_writing, calls}
@@ -15,7 +15,7 @@ pub record DraftState : Type 0 where
   -- how many words stand before each open list, the one that was opened last standing last
   pub starts : List ℕ
 
--- the draft that has these parts
+-- the draft of a writer that has written this, with these words and these beginnings of open lists
 abbrev pub draft_by : Writing → List ℕ → List ℕ → DraftState
 draft_by writing words starts = record { writing = writing; words = words; starts = starts }
 

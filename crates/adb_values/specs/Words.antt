@@ -1,5 +1,5 @@
--- The words of the blobs that a draft has. The rule stands in `docs/formats.md`, "Canonical
--- layout", third paragraph ("Equal values are stored once").
+-- The words of the blobs that a draft has. The rule stands in `docs/formats.md`, "Canonical layout"
+-- ("Equal values are stored once").
 use Rattle.std.specs.Prelude.{ℕ, List}
 use Rattle.adb_write.specs.Again.{HasWholeItems, IsWordOfBlob}
 use Rattle.adb_values.specs.Drafts.{DraftState}

@@ -1,6 +1,6 @@
-//! A payload under construction. What is written stands in `docs/formats.md`, "Canonical layout",
-//! second paragraph; where a limit is passed, in its fourth. How the calls chain is told in the
-//! README of this crate.
+//! A payload under construction. What is written stands in `docs/formats.md`, "Canonical layout"
+//! ("Values are written depth first"); where a limit is passed, below "A payload has at most". How
+//! the calls chain is told in the README of this crate.
 
 ghost use Rattle.std.specs.Prelude.{◌≡◌, ℕ, ◌<◌, ◌≤◌, List, ◌∷◌, ◌++◌, [], length, take, true, false, IfOk, OnErr, OnOk, vec_capacity, vec_len};
 ghost use Rattle.adb_view.specs.Plain.{Plain, Plains, arr_value, blob_value, int, null, obj_value};

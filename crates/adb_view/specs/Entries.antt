@@ -1,5 +1,5 @@
 -- What the two views of a run show: the words of its entries. The rule stands in `docs/formats.md`,
--- "Values", the paragraph below the table: entries count from 1, and one past the last is NULL.
+-- "Values" ("The first word of a run"): entries count from 1, and one past the last is NULL.
 use Rattle.std.specs.Prelude.{ℕ, ◌/◌, ◌-◌, List, length, slice_index}
 use Rattle.adb_view.specs.Bytes.{words}
 use Rattle.adb_view.specs.declared.run.Arr.{Arr}

@@ -1,5 +1,6 @@
 -- The eight bytes before the values: the compatibility version, three bytes that nobody looks at,
--- and the root's word. The rule stands in `docs/formats.md`, "Values", first paragraph.
+-- and the root's word. The rule stands in `docs/formats.md`, "Values" ("An ADB payload begins with
+-- eight bytes").
 use Rattle.std.specs.Prelude.{ℕ, List, length, take, drop, slice_index, Option, Some, None, nat_lt, ◌==◌, if◌then◌else◌}
 use Rattle.std.specs.Int.{w32, from_le_bytes}
 use Rattle.base_core.specs.declared.cause.Cause.{Cause}
@@ -13,6 +14,6 @@ head_fault payload =
     else if slice_index payload 0 == 0 then None
     else Some CompatVersion
 
--- the word of the root value
+-- the word of a payload's root value, in its bytes 4 to 7
 abbrev pub root_of : List ℕ → ℕ
 root_of payload = from_le_bytes w32 (take 4 (drop 4 payload))

@@ -1,6 +1,5 @@
 -- Plain values, the shapes that tables of fields give them, and the plain value of a word. The
--- rules stand in `docs/formats.md`, "Values", the paragraph that begins "A table of fields gives
--- each word a shape".
+-- rules stand in `docs/formats.md`, "Values" ("A table of fields gives each word a shape").
 use Rattle.std.specs.Prelude.{◌≡◌, ◌≢◌, ℕ, suc, ◌<◌, ◌^◌, List, [], ◌∷◌, Option, Some, None, option_map, option_and_then, Result, Ok, Err, ◌==◌, if◌then◌else◌}
 use Rattle.adb_view.specs.Readers.{int_of, blob_of, run_of, ARRAY, OBJECT}
 use Rattle.adb_view.specs.Head.{root_of}
@@ -70,7 +69,7 @@ without_last_nulls (more v vs) = keep v (without_last_nulls vs)
 abbrev pub obj_value : Plains → Plain
 obj_value vs = obj_of (without_last_nulls vs)
 
--- how many values there are
+-- how many values a list of them has
 abbrev pub count_of : Plains → ℕ
 count_of none = 0
 count_of (more v vs) = suc (count_of vs)
@@ -91,11 +90,11 @@ abbrev pub from_answer : {A B : Type 0} → (A → Option B) → Result A Cause 
 from_answer f (Ok x) = f x
 from_answer f (Err c) = None
 
--- a value before others, where both were found
+-- a value with others behind it; None where one of them was not found
 abbrev pub then_more : Option Plain → Option Plains → Option Plains
 then_more v vs = option_and_then (λ v. option_map (more v) vs) v
 
--- the value of each word in order, where each has one
+-- the value of each word in order; None where one of the words has none
 abbrev pub each_plain : (ℕ → Option Plain) → List ℕ → Option Plains
 each_plain f [] = Some none
 each_plain f (w ∷ ws) = then_more (f w) (each_plain f ws)

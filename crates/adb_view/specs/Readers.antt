@@ -60,10 +60,10 @@ run_of kind payload word =
     else if kind_of word == kind then inside word (run_at payload (low_of word))
     else Err (WrongKind word)
 
--- the kind of a word that is an array
+-- the kind of a word that leads to an array
 abbrev pub ARRAY : ℕ
 ARRAY = 13
 
--- the kind of a word that is an object
+-- the kind of a word that leads to an object
 abbrev pub OBJECT : ℕ
 OBJECT = 14

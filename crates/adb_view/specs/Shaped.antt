@@ -7,7 +7,7 @@ abbrev pub Each : (Plain → Type 0) → Plains → Type 0
 Each P none = Unit {0}
 Each P (more v vs) = P v × Each P vs
 
--- an integer, or Null
+-- the value is an integer, or Null
 abbrev pub IsNumber : Plain → Type 0
 IsNumber null = Unit {0}
 IsNumber (int n) = Unit {0}
@@ -15,7 +15,7 @@ IsNumber (blob b) = ⊥
 IsNumber (arr vs) = ⊥
 IsNumber (obj vs) = ⊥
 
--- some bytes, or Null
+-- the value is some bytes, or Null
 abbrev pub IsBlob : Plain → Type 0
 IsBlob null = Unit {0}
 IsBlob (int n) = ⊥
@@ -23,7 +23,7 @@ IsBlob (blob b) = Unit {0}
 IsBlob (arr vs) = ⊥
 IsBlob (obj vs) = ⊥
 
--- an array of which P holds of each entry, or Null
+-- the value is an array of which P holds of each entry, or Null
 abbrev pub IsArrayOf : (Plain → Type 0) → Plain → Type 0
 IsArrayOf P null = Unit {0}
 IsArrayOf P (int n) = ⊥
@@ -31,7 +31,7 @@ IsArrayOf P (blob b) = ⊥
 IsArrayOf P (arr vs) = Each P vs
 IsArrayOf P (obj vs) = ⊥
 
--- an object of whose values P holds, or Null
+-- the value is an object of whose values P holds, or Null
 abbrev pub IsObjectOf : (Plains → Type 0) → Plain → Type 0
 IsObjectOf P null = Unit {0}
 IsObjectOf P (int n) = ⊥

@@ -6,7 +6,7 @@ use Rattle.adb_view.specs.Plain.{Shape, number, text, hash, array, object, Field
 use Rattle.adb_view.specs.Readers.{int_of, blob_of, run_of, ARRAY, OBJECT}
 use Rattle.base_core.specs.declared.cause.Cause.{Cause}
 
--- a word, and the shape that is asked of it
+-- a visit of a walk: the word that is looked at, and the shape that is asked of it
 pub record Visit : Type 0 where
   pub shape : Shape
   pub word : ℕ

@@ -1,5 +1,5 @@
 //! Runs of words: the entries of an array, and of an object. The rule stands in `docs/formats.md`,
-//! "Values", the paragraph below the table ("The first word of a run").
+//! "Values" ("The first word of a run").
 
 ghost use Rattle.std.specs.Prelude.{◌≡◌, ◌≤◌, ◌<◌, ◌-◌, ◌*◌, ◌^◌, ◌==◌, length};
 ghost use Rattle.std.specs.Result.{result_ok};

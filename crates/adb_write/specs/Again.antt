@@ -1,6 +1,7 @@
 -- Items that tell their length, so that an equal one is found again, and the word of a blob that is
 -- written again. Serves the contracts of `blob_word` and `blob_again` of `adb_values`; that equal
--- values are stored once stands in `docs/formats.md`, "Canonical layout", third paragraph.
+-- values are stored once stands in `docs/formats.md`, "Canonical layout" ("Equal values are stored
+-- once").
 use Rattle.std.specs.Prelude.{◌≡◌, ℕ, ◌+◌, ◌*◌, ◌<◌, ◌≤◌, ◌==◌, true, false, List, length, take, if◌then◌else◌}
 use Rattle.std.specs.List.{AllByRecursion}
 use Rattle.std.specs.Int.{w8, w16, w32, from_le_bytes}

@@ -7,7 +7,7 @@ use Rattle.adb_view.specs.Plain.{Plain, null, int, blob, arr, obj, Plains, none,
 use Rattle.adb_view.specs.Readers.{ARRAY, OBJECT}
 pub use Rattle.adb_view.specs.Visits.{MOST_VALUES}
 
--- how many bytes lead from n up to the next multiple of align
+-- how many zeros lead from the offset n up to the next multiple of align
 abbrev pub gap : ℕ → ℕ → ℕ
 gap align n = (align - n % align) % align
 
@@ -110,7 +110,7 @@ abbrev pub is_equal_item : List ℕ → Item → WrittenItem → Bool
 is_equal_item body i there =
     there.kind == i.kind && bytes_eq (take (length i.bytes) (drop there.offset body)) i.bytes
 
--- the word that leads to a written item
+-- the word that leads to a written item: its kind, and its offset with the head of 8 bytes
 abbrev pub word_of_item : WrittenItem → ℕ
 word_of_item there = there.kind * 2 ^ 28 + (8 + there.offset)
 

@@ -1,6 +1,6 @@
 -- What a writer did between two moments, where it wrote values depth first: of each list its values
--- in order, then the list. The rule stands in `docs/formats.md`, "Canonical layout", second
--- paragraph ("Values are written depth first").
+-- in order, then the list. The rule stands in `docs/formats.md`, "Canonical layout" ("Values are
+-- written depth first").
 use Rattle.std.specs.Prelude.{◌≡◌, ℕ, List}
 use Rattle.adb_view.specs.Plain.{Plain, Plains, none, more}
 use Rattle.adb_write.specs.Writing.{Writing, calls, calls_all}

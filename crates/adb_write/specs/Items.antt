@@ -1,5 +1,5 @@
 -- An item of the program as the layout has it. Serves the contracts of `src/item.rt`; the layout
--- stands in `docs/formats.md`, "Canonical layout", second paragraph.
+-- stands in `docs/formats.md`, "Canonical layout" ("Values are written depth first").
 use Rattle.std.specs.Prelude.{ℕ, ◌<◌, ◌^◌, List, []}
 use Rattle.std.specs.List.{flat_map}
 use Rattle.std.specs.Int.{w32, to_le_bytes}
@@ -19,7 +19,7 @@ width_len Two = 2
 width_len Four = 4
 width_len Eight = 8
 
--- the kind of the words that lead to a list
+-- the kind of the words that lead to a list: an array or an object
 abbrev pub list_kind : ListKind → ℕ
 list_kind Array = ARRAY
 list_kind Object = OBJECT

@@ -64,7 +64,7 @@ blob_fingerprint b = (four_bytes b 0 + 31 * four_bytes b (length b - 4) + length
 abbrev pub list_fingerprint : List ℕ → ℕ
 list_fingerprint words = get_or words (length words - 1) 0
 
--- the fingerprint of the item of some parts
+-- the fingerprint of an item: of an integer its low 32 bits, of a blob and a list as above
 abbrev pub fingerprint_of : Parts → ℕ
 fingerprint_of (Int n) = n % 2 ^ 32
 fingerprint_of (Blob b) = blob_fingerprint b.now
@@ -72,25 +72,25 @@ fingerprint_of (Listed kind ws) = list_fingerprint (low_words ws.now)
 
 -- ---- locators: an item's fingerprint, and the word that leads to it in the 32 bits below
 
--- the locator with this fingerprint and this word
+-- the locator of an item by its fingerprint, and the word that leads to it
 abbrev pub locator_of : ℕ → ℕ → ℕ
 locator_of fingerprint word = fingerprint * 2 ^ 32 + word
 
--- the word of a locator
+-- the word that leads to the item of a locator
 abbrev pub word_of_locator : ℕ → ℕ
 word_of_locator locator = locator % 2 ^ 32
 
--- the fingerprint of a locator
+-- the fingerprint of the item of a locator
 abbrev pub fingerprint_of_locator : ℕ → ℕ
 fingerprint_of_locator locator = locator / 2 ^ 32
 
--- ---- keys
+-- ---- keys, in whose order the locators stand: fingerprint, kind, and what the item holds
 
 -- the key of an item that has this fingerprint
 abbrev pub key_with : ℕ → Parts → List ℕ
 key_with fingerprint parts = fingerprint ∷ content_key_of parts
 
--- the key of the item of some parts
+-- the key of an item, by its own fingerprint
 abbrev pub key_of : Parts → List ℕ
 key_of parts = key_with (fingerprint_of parts) parts
 

@@ -31,7 +31,7 @@ pub record IsWordOf (out : Layout) (v : Plain) (word : ℕ) : Type 0 where
 abbrev pub StandsFor : Writing → Plain → ℕ → Type 0
 StandsFor w v word = is_over w ≡ false → IsWordOf (layout_of w) v word
 
--- the words stand for these values, one for one
+-- in what a writer wrote the words stand for these values, one for one
 abbrev pub AllStandFor : Writing → Plains → List ℕ → Type 0
 AllStandFor w none [] = Unit {0}
 AllStandFor w none (x ∷ xs) = ⊥

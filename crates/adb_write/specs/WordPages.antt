@@ -10,7 +10,7 @@ use Rattle.adb_write.specs.Keys.{key_at}
 use Rattle.adb_write.specs.declared.word_pages.Slot.{Slot}
 use Rattle.adb_write.specs.declared.word_pages.WordPages.{WordPages}
 
--- the locators of each page
+-- the locators of the program's pages, page by page
 abbrev pub pages_of : WordPages → List (List ℕ)
 pages_of words = map (λ page. page.items) words.pages.items
 

@@ -1,6 +1,6 @@
 -- A writer as contracts see it: what it wrote, its two counts, and what each call makes of it. The
--- rules stand in `docs/formats.md`, "Canonical layout"; what is answered past a limit, in its
--- fourth paragraph.
+-- rules stand in `docs/formats.md`, "Canonical layout"; what is answered past a limit, below "A
+-- payload has at most".
 use Rattle.std.specs.Prelude.{ℕ, ◌<◌, Bool, List, [], ◌∷◌, length, Result, Ok, Err, if◌then◌else◌}
 use Rattle.adb_view.specs.Plain.{Plain, null, int, blob, arr, obj, Plains, none, more}
 use Rattle.adb_view.specs.Readers.{ARRAY, OBJECT}
@@ -28,7 +28,7 @@ writing_by body items bytes values =
 abbrev pub empty_writing : Writing
 empty_writing = writing_by [] [] 8 1
 
--- the two counts of a writer
+-- the two counts of a writer: its bytes and its values
 abbrev pub writing_counts : Writing → PayloadCounts
 writing_counts w = (w.bytes, w.values)
 
@@ -62,7 +62,7 @@ call (apart i) w = if is_over w then (0, w) else unless_over w (put_cell (apart 
 abbrev pub Grows : Writing → Writing → Type 0
 Grows before later = length before.body < length later.body
 
--- the call for an integer
+-- the call for an integer, as each call below, by the value as it is written
 abbrev pub int_call : ℕ → Writing → ℕ × Writing
 int_call n w = call (int_cell n) w
 

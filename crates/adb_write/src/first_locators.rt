@@ -3,7 +3,7 @@
 //! What is answered here is a guess, which is tested where it is used.
 //!
 //! How locators are kept is told in the README of this crate, second paragraph; `docs/formats.md`,
-//! "Canonical layout", "Equal values are stored once", is what they serve.
+//! "Canonical layout" ("Equal values are stored once"), is what they serve.
 
 use crate::locator::fingerprint_of_locator;
 use std::alloc::{AllocError, Global};

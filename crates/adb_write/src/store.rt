@@ -1,8 +1,9 @@
 //! The bytes of a payload as they are written, and the locators by which they are found again. How
 //! locators are kept is told in the README of this crate, second paragraph; that equal values are
-//! stored once stands in `docs/formats.md`, "Canonical layout", third paragraph. In the clauses
-//! `filled` says that no page is empty, `rising` that locators stand in the order of their keys,
-//! `stored` that each names an item of the payload, `inside` that a slot is one of these pages.
+//! stored once stands in `docs/formats.md`, "Canonical layout" ("Equal values are stored once"). In
+//! the clauses `filled` says that no page is empty, `rising` that locators stand in the order of
+//! their keys, `stored` that each names an item of the payload, `inside` that a slot is one of
+//! these pages.
 
 ghost use Rattle.std.specs.Prelude.{◌≡◌, ◌≤◌, ◌-◌, [], ◌∷◌, ◌++◌, length, replicate, OnOk, OnErr};
 ghost use Rattle.std.specs.List.{concat};

@@ -3,15 +3,16 @@
 //! They stand in pages of at most 512, so that a new one moves few others. A page, and the index in
 //! it, are guessed first, and found by halving where the guess fails.
 //!
-//! One takes eight bytes. A page has room for at most 128 more than it holds, and with the others
-//! it holds at least 256; the lists of pages take at most 64 bytes a page, since a list that grows
-//! doubles. So a page takes at most 8 * 128 + 64 bytes beside its locators, which is 4.25 bytes for
-//! each of 256: at most 12.25 bytes a locator, and 1.2 kB where there is one page.
+//! A locator takes eight bytes. A page has room for at most 128 more than it holds, and with the
+//! others it holds at least 256; the lists of pages take at most 64 bytes a page, since a list that
+//! grows doubles. So a page takes at most 8 * 128 + 64 bytes beside its locators, which is 4.25
+//! bytes for each of 256: at most 12.25 bytes a locator, and 1.2 kB where there is one page.
 //!
 //! How locators are kept is told in the README of this crate, second paragraph; that equal values
-//! are stored once stands in `docs/formats.md`, "Canonical layout", third paragraph. In the clauses
-//! `filled` says that no page is empty, `rising` that locators stand in the order of their keys,
-//! `stored` that each names an item of the payload, `inside` that a slot is one of these pages.
+//! are stored once stands in `docs/formats.md`, "Canonical layout" ("Equal values are stored
+//! once"). In the clauses `filled` says that no page is empty, `rising` that locators stand in the
+//! order of their keys, `stored` that each names an item of the payload, `inside` that a slot is
+//! one of these pages.
 
 ghost use Rattle.std.specs.Prelude.{◌≡◌, ◌≤◌, ◌<◌, ℕ, List, [], ◌∷◌, ◌++◌, length, take, drop, insert, IfOk, OnOk, OnErr};
 ghost use Rattle.std.specs.List.{concat};

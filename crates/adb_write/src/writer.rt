@@ -1,6 +1,7 @@
 //! The writer of a payload with its limits and its refusals, and the file around a payload. The
-//! rules stand in `docs/formats.md`, "Canonical layout": the layout in its second paragraph, the
-//! limits in its fourth, the file in its last.
+//! rules stand in `docs/formats.md`, "Canonical layout": the layout below "Values are written depth
+//! first", the limits below "A payload has at most", the file below "In a container each block is
+//! padded".
 
 ghost use Rattle.std.specs.Prelude.{◌≡◌, ◌<◌, ◌≤◌, ◌+◌, ◌^◌, false, IfOk, OnErr, length};
 ghost use Rattle.adb_write.specs.Canonical.{MOST_BYTES, passes, gap, in_place, apart, run_cell, trimmed_words};
@@ -248,12 +249,14 @@ impl Writer {
             Ok(locator) => return Ok(self.repeat(parts, word_of_locator(locator))),
             Err(slot) => slot,
         };
+        // The item goes to the next offset that its alignment allows.
         let before = self.counts;
         let at = before.bytes + gap(parts.width().len() as u64, before.bytes);
         let counts = PayloadCounts {
             bytes: at + parts.len(),
             values: before.values + parts.entries(),
         };
+        // The first value past a limit is counted, and not written.
         if counts.passes() {
             self.counts = counts;
             return Ok(Val::of(0));

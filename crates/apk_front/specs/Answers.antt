@@ -98,10 +98,10 @@ LeavesAny outcome = Unit {0}
 
 -- ---- what failed
 
--- By the counts of the tree before and after, and of the sinks: behind Ok and a refusal nothing
--- failed. A fault of the tree has its cause there. Behind a fault of a sink just one sink failed,
--- and not the tree. Want of memory is answered only where the tree did not fail. A fault of the
--- tree and want of memory print just their line.
+-- What failed, by the answer, the counts of the tree before and after, and those of the sinks:
+-- behind Ok and a refusal nothing failed. A fault of the tree has its cause there. Behind a fault
+-- of a sink just one sink failed, and not the tree. Want of memory is answered only where the tree
+-- did not fail. A fault of the tree and want of memory print just their line.
 abbrev pub HasCauses : Answer → Counts → Counts → SinkChange → SinkChange → Type 0
 HasCauses Ok before after out err = IsNoFault before after × DidNotFail out × DidNotFail err
 HasCauses (Refused refusal) before after out err =

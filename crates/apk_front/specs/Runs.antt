@@ -102,7 +102,7 @@ pub record IsWholeRun (IsOne : Outcome → Type 0) (effect : Effect) (output : O
   pub left : IsWithoutCommit IsOne judged → (ignored : List ℕ → Bool)
       → IsOrderly (RestsOn ignored) v → Since (IsStill ignored v) old now
   pub idle : IsWithoutCommit IsOne judged → HasNothingToRecover effect v → now ≡ old
-  -- nor is anything written where the intent is bad
+  -- nothing is written either where the intent is bad
   pub bad : IsSome (recovery_fault effect (files_of v)) → now ≡ old
   pub reads : AreReadOnTheWay IsOne effect output v old now
   pub last : IsSome (v.names intent_name) → Since (UnreadNamesLast output) old now

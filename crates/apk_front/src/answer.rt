@@ -90,6 +90,7 @@ pub(crate) fn show<O: Sink, E: Sink>(
     ensures shown { IsShown judged result
         (sink_change O.bytes O.counts out.old out.new)
         (sink_change E.bytes E.counts err.old err.new) }
+    // Of each sink: no count falls, and no call is a misuse.
     ensures out_counts { IsProperUse (sink_change O.bytes O.counts out.old out.new) }
     ensures err_counts { IsProperUse (sink_change E.bytes E.counts err.old err.new) }
 {

@@ -121,9 +121,12 @@ pub(crate) fn mkndx<T: Tree>(
 // Reads what a package is made of, and makes its container in memory.
 fn package<T: Tree>(alloc: Global, command: &Command, tree: &mut T) -> Result<Vec<u8>, MakeFault>
     requires { command.now.applet ≡ Mkpkg }
+    // What is made of this tree's files, where it shows them.
     ensures made { IfObservable (T.history tree.old) (λ v.
         OnMade result (IsPackageMade command.now (files_of v))) }
+    // What is made of some contents at each read, on every tree.
     ensures found { OnMade result (IsMadeBySome command.now) }
+    // The tree is only read; a fault of it has its cause.
     ensures tree { OnlyReads MakeFault.Disk (T.history tree.old) (T.history tree.new)
         (T.counts tree.old) (T.counts tree.new) result }
 {
@@ -134,9 +137,12 @@ fn package<T: Tree>(alloc: Global, command: &Command, tree: &mut T) -> Result<Ve
 // Reads the packages of an index, and makes its container in memory.
 fn index<T: Tree>(alloc: Global, command: &Command, tree: &mut T) -> Result<Vec<u8>, MakeFault>
     requires { command.now.applet ≡ Mkndx }
+    // What is made of this tree's files, where it shows them.
     ensures made { IfObservable (T.history tree.old) (λ v.
         OnMade result (IsIndexMade command.now (files_of v))) }
+    // What is made of some contents at each read, on every tree.
     ensures found { OnMade result (IsIndexFound command.now) }
+    // The tree is only read; a fault of it has its cause.
     ensures tree { OnlyReads MakeFault.Disk (T.history tree.old) (T.history tree.new)
         (T.counts tree.old) (T.counts tree.new) result }
 {
@@ -242,7 +248,9 @@ fn refuse(alloc: Global, command: &Command, fault: MakeFault) -> Result<Verdict,
     ensures reported { IfOk result (λ verdict. (files : Files) (report : List ℕ)
         → Reports verdict (make_outcome files (output_name command.now) report (Err fault))) }
     ensures refused { IfOk result (λ verdict. IsSome verdict.refusal) }
+    // A fault that stops the making gives no verdict.
     ensures done { IfOk result (λ verdict. is_cut fault ≡ false) }
+    // A fault of the tree and want of memory stay what they are; memory may also be wanting here.
     ensures disk { IsErrOf result TreeFault.Disk → fault ≡ MakeFault.Disk }
     ensures lost { IsErrOf result TreeFault.Memory → fault ≢ MakeFault.Disk }
 {

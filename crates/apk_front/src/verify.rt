@@ -34,6 +34,7 @@ pub(crate) fn verify<T: Tree>(
         ≡ verify (reads_in (files_of v)) (files_of v) operands.now)) }
     ensures by_reads { IfOk result (λ verdict. (read : Reads)
         × (as_outcome no_names verdict ≡ verify read no_names operands.now)) }
+    // The tree is only read; a fault of it has its cause.
     ensures tree { OnlyReads TreeFault.Disk (T.history tree.old) (T.history tree.new)
         (T.counts tree.old) (T.counts tree.new) result }
 {
@@ -66,8 +67,10 @@ fn first_refusal<T: Tree>(
     tree: &mut T,
 ) -> Result<Option<Refusal>, TreeFault>
     requires { IsTrue (are_files operands.now) }
+    // On a tree that shows its files it is the refusal of these.
     ensures found { IfOk result (λ refusal. IfObservable (T.history tree.old) (λ v.
         refusal ≡ verify_refusal (reads_in (files_of v)) 0 operands.now)) }
+    // On each tree it is the refusal of some bytes at each read.
     ensures by_reads { IfOk result (λ refusal. (read : Reads)
         × (refusal ≡ verify_refusal read 0 operands.now)) }
     ensures tree { OnlyReads TreeFault.Disk (T.history tree.old) (T.history tree.new)
@@ -92,8 +95,10 @@ fn test_file<T: Tree>(
     file: &Name,
     tree: &mut T,
 ) -> Result<Option<Refusal>, TreeFault>
+    // On a tree that shows its files the file under this name is tested.
     ensures found { IfOk result (λ refusal. IfObservable (T.history tree.old) (λ v.
         refusal ≡ file_refusal place (files_of v file.now))) }
+    // On each tree some bytes are, or none.
     ensures by_reads { IfOk result (λ refusal. (found : Option (List ℕ))
         × (refusal ≡ file_refusal place found)) }
     ensures tree { OnlyReads TreeFault.Disk (T.history tree.old) (T.history tree.new)

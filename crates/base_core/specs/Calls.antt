@@ -29,7 +29,7 @@ pub record Moves {T E : Type 0} (can : TreeState → Type 0) (done failed : Tree
   -- a failure adds nothing, or, where the call was no misuse, the state `failed`
   pub err : OnErr result (IfObservable old (λ v. (new ≡ old) ⊎ (can v × (new ≡ failed v ∷ old))))
 
--- what a call does to the counts, where `can` says at which states it is no misuse
+-- what a call of a tree does to the counts, where `can` says at which states the call is no misuse
 pub record IsCounted {T E : Type 0} (can : TreeState → Type 0) (history : List TreeState)
     (before now : Counts) (result : Result T E) : Type 0 where
   -- no count falls

@@ -19,9 +19,9 @@ IsImageBy v map image = (q : List ℕ) → MayLeave v.files (map q) (image q)
 abbrev pub IsImage : TreeState → Files → Type 0
 IsImage v image = (map : NameMap) × IsMapOf v map × IsImageBy v map image
 
--- Each file that has to be durable is synced, in each map. Which files these are is a parameter:
--- only a crate above, which can read the file that says what is left to do, knows it. It is
--- decided by the files of that map.
+-- a tree is orderly: each file on which something rests is synced, in each map of names. What rests
+-- on which file is a parameter, decided by the files of that map: only a crate above, which can
+-- read the file that says what is left to do, knows it
 pub record IsOrderly (rests_on : Files → List ℕ → Type 0) (v : TreeState) : Type 0 where
   pub each : (map : NameMap) → IsMapOf v map → (q : List ℕ) (n : ℕ) → rests_on (files_by v map) q
       → map q ≡ Some n → (v.files n).synced ≡ true

@@ -2,7 +2,7 @@
 -- rules stand in `docs/crash-safety.md`, "Misuses, faults and counts".
 use Rattle.std.specs.Prelude.{◌≡◌, ◌⊎◌, ◌≤◌, ℕ, ◌+◌, ◌-◌, ◌^◌, min, Bool, IsTrue, Result, OnOk, OnErr}
 
--- what a tree or a sink counts, and whether it may still fail
+-- what a tree or a sink counts of its calls, and whether one may still fail
 pub record Counts : Type 0 where
   -- calls that failed
   pub faults : ℕ
@@ -38,7 +38,7 @@ pub record HasCause (before now : Counts) : Type 0 where
   pub reason : IsTrue before.fallible ⊎ (Rose before.misuses now.misuses
       ⊎ Rose before.wants now.wants)
 
--- no fault was counted, and no want of memory
+-- between two moments no fault was counted, and no want of memory
 pub record IsNoFault (before now : Counts) : Type 0 where
   pub faults : now.faults ≡ before.faults
   pub wants : now.wants ≡ before.wants

@@ -1,5 +1,5 @@
--- The listing of a folder. The rules stand in `docs/crash-safety.md`, "A tree at one moment" (its
--- end) and "What each call does" (`list`).
+-- The listing of a folder. The rules stand in `docs/crash-safety.md`, "A tree at one moment" ("Each
+-- state that a tree shows is *whole*") and "What each call does" (`list`).
 use Rattle.std.specs.Prelude.{◌≡◌, ◌↔◌, ℕ, List, Option, IsSome, All, AllPairs, Contains}
 use Rattle.std.specs.Ordering.{nat_cmp}
 use Rattle.std.specs.Cmp.Lexicographic.{slice_cmp}
@@ -8,7 +8,7 @@ use Rattle.base_core.specs.Files.{IsFolderOf}
 use Rattle.base_core.specs.Name.{IsName}
 use Rattle.base_core.specs.Tree.{TreeState}
 
--- names in byte order, each once
+-- the names stand in byte order, each once
 abbrev pub IsRising : List (List ℕ) → Type 0
 IsRising names = AllPairs (λ a b. slice_cmp nat_cmp a b ≡ Less) names
 
@@ -24,7 +24,7 @@ pub record IsListOf (folder : List ℕ) (v : TreeState) (names : List (List ℕ)
   -- just the present names below the folder stand in it
   pub each : (q : List ℕ) → Contains names q ↔ (IsSome (v.names q) × IsFolderOf folder q)
 
--- a name below the folder
+-- these bytes are a name, and the folder is a folder of it
 pub record IsNameBelow (folder name : List ℕ) : Type 0 where
   pub named : IsName name
   pub below : IsFolderOf folder name

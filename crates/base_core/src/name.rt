@@ -1,5 +1,5 @@
-//! Names of files, and lists of them. What a name is stands in `docs/commands.md`, "Words", last
-//! paragraph: a path below the root.
+//! Names of files, and lists of them. What a name is stands in `docs/commands.md`, "Words" ("A file
+//! is named by a path below the root").
 ghost use Rattle.std.specs.Prelude.{◌≡◌, ◌↔◌, ◌<◌, ◌==◌, ◌++◌, ◌∷◌, [], length, slice_get, Some, IfOk, IfSome, OnOk, OnErr, is_some, IsTrue, All};
 ghost use Rattle.std.specs.List.{list_all};
 ghost use Rattle.std.specs.Str.{is_utf8};

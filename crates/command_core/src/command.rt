@@ -41,16 +41,27 @@ pub enum Applet {
 /// An option without a value; the fields of `Flags` say what each asks for.
 #[derive(Clone, Copy)]
 pub enum Flag {
+    /// `--allow-untrusted`.
     AllowUntrusted,
+    /// `--no-scripts`.
     NoScripts,
+    /// `--initdb`.
     Initdb,
+    /// `--simulate`, `-s`.
     Simulate,
+    /// `--purge`.
     Purge,
+    /// `--installed`, `-e`.
     Installed,
+    /// `--contents`, `-L`.
     Contents,
+    /// `--depends`, `-R`.
     Depends,
+    /// `--who-owns`, `-W`.
     WhoOwns,
+    /// `--test`, `-t`.
     Test,
+    /// `--check`, `-c`.
     Check,
 }
 

@@ -140,6 +140,7 @@ pub struct Operand {
 #[derive(Drop)]
 struct OperandEntry {
     operand: Operand,
+    // Read at once, so that lending it wants no memory.
     file: Option<Name>,
 }
 
@@ -221,6 +222,7 @@ impl Operands {
     {
         match &self.entries[i].file {
             Some(file) => file,
+            // Each operand is a file here, so that its name was read.
             None => unreachable!(),
         }
     }

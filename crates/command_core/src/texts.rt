@@ -99,7 +99,7 @@ fn is_among(texts: &[&[u8]], text: &[u8]) -> bool
     texts.iter().any(|one| *one == text)
 }
 
-/// Of TYPE:FILE the part before the first `:`, or all where there is none.
+/// The type of a script: of TYPE:FILE the part before the first `:`, or all where there is none.
 pub(crate) fn script_type(text: &[u8]) -> &[u8]
     ensures { result.now ≡ script_type text.now }
 {
@@ -109,7 +109,8 @@ pub(crate) fn script_type(text: &[u8]) -> &[u8]
     }
 }
 
-/// Of TYPE:FILE the part behind the first `:`, or nothing where there is none.
+/// The file of a script: of TYPE:FILE the part behind the first `:`, or nothing where there is
+/// none.
 pub(crate) fn script_file(text: &[u8]) -> &[u8]
     ensures { result.now ≡ script_file text.now }
 {

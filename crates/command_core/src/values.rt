@@ -94,7 +94,8 @@ pub struct OptionValue {
 }
 
 impl OptionValue {
-    /// Of a value TYPE:FILE, as `--script` has, the part before the first `:`.
+    /// The type of a script: of a value TYPE:FILE, as `--script` has, the part before the first
+    /// `:`.
     pub fn script_type(&self) -> &[u8]
         ensures { result.now ≡ script_type self.now.text }
     {
@@ -106,6 +107,7 @@ impl OptionValue {
 #[derive(Drop)]
 struct ValueEntry {
     value: OptionValue,
+    // Read at once, so that lending it wants no memory.
     file: Option<Name>,
 }
 
@@ -244,6 +246,7 @@ impl Values {
     {
         match &self.entries[i].file {
             Some(file) => file,
+            // The value is of a script and has a file, so that its name was read.
             None => unreachable!(),
         }
     }

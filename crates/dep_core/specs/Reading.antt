@@ -29,11 +29,11 @@ is_not_at b = not (b == 64)
 abbrev pub any_version : Bool → List ℕ → Dependency
 any_version conflict name = dependency_by name None 1 conflict None
 
--- the same dependency with a tag
+-- a dependency with this tag in place of its own
 abbrev pub with_tag : Dependency → List ℕ → Dependency
 with_tag d tag = dependency_by d.name d.version d.bits d.conflict (Some tag)
 
--- the same dependency with a version and an operator
+-- a dependency with this wanted version and these match bits in place of its own
 abbrev pub with_constraint : Dependency → List ℕ → ℕ → Dependency
 with_constraint d version bits = dependency_by d.name (Some version) bits d.conflict d.tag
 

@@ -65,7 +65,7 @@ impl<'a> Dep<'a> {
         }
     }
 
-    /// The same dependency with a tag.
+    /// This dependency, with a tag.
     pub(crate) fn with_tag(self, tag: &'a [u8]) -> Dep<'a>
         requires { IsTrue (is_tag tag.now) }
         ensures { dependency result ≡ with_tag (dependency self.entry) tag.entry.now }
@@ -75,7 +75,7 @@ impl<'a> Dep<'a> {
         dep
     }
 
-    /// The same dependency, on the versions that compare so with the wanted one.
+    /// This dependency, on the versions that compare so with the wanted one.
     pub(crate) fn with_constraint(self, version: Version<'a>, op: Op) -> Dep<'a>
         requires { IsTrue (is_some (operator_text op)) }
         ensures { dependency result ≡ with_constraint (dependency self.entry) version.entry op }

@@ -28,6 +28,7 @@ impl From<AllocError> for ReposFault {
 
     ghost from_gives = { λ _ fault. fault ≡ Memory };
 
+    /// Where no memory was given the repositories are not read.
     fn from(_: AllocError) -> ReposFault {
         ReposFault::Memory
     }

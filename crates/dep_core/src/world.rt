@@ -36,6 +36,7 @@ impl From<AllocError> for WorldFault {
 
     ghost from_gives = { λ _ fault. fault ≡ Memory };
 
+    /// Where no memory was given the world is not read.
     fn from(_: AllocError) -> WorldFault {
         WorldFault::Memory
     }
@@ -139,6 +140,7 @@ impl World {
 /// A dependency that owns its parts.
 #[derive(Drop)]
 pub struct Entry {
+    // The parts are those of `Dep`, with texts of their own.
     name: Text,
     version: Option<Text>,
     op: Op,

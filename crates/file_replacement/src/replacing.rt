@@ -76,6 +76,8 @@ pub fn replace<T: Tree>(
     // Where there is no memory, no call of the tree was made.
     ensures memory { IsErrOf result TreeFault.Memory → tree.new ≡ tree.old }
 
+    // No count of faults falls; a fault of the tree is answered only where that count rose, and Ok
+    // only where it did not.
     ensures goes_on { GoesOn (T.counts tree.old) (T.counts tree.new) }
     ensures disk { IsErrOf result TreeFault.Disk
         → HasCause (T.counts tree.old) (T.counts tree.new) }
@@ -117,9 +119,14 @@ fn write_beside<T: Tree>(
     ensures others { IfObservable (T.history tree.old) (λ v.
         Since (KeepsMapsBut (name.now ∷ scratch.now ∷ []) v) (T.history tree.old)
         (T.history tree.new)) }
+
+    // No count of faults falls; a fault of the tree is answered only where that count rose, and Ok
+    // only where it did not.
     ensures goes_on { GoesOn (T.counts tree.old) (T.counts tree.new) }
     ensures cause { OnErr result (HasCause (T.counts tree.old) (T.counts tree.new)) }
     ensures kept { OnOk result (IsNoFault (T.counts tree.old) (T.counts tree.new)) }
+
+    // Where the names may have a file each, no call is a misuse.
     ensures proper { IfObservable (T.history tree.old) (λ v. HasBothPlaces scratch.now name.now v
         → (T.counts tree.new).misuses ≡ (T.counts tree.old).misuses) }
 {
@@ -135,9 +142,14 @@ fn fill<T: Tree>(tree: &mut T, name: &Name, bytes: &[u8]) -> Result<(), Disk>
     ensures filled { IfObservable (T.history tree.old)
         (λ v. OnOk result (IfObservable (T.history tree.new)
         (IsFilling name.now (synced_file bytes.now) v))) }
+
+    // No count of faults falls; a fault of the tree is answered only where that count rose, and Ok
+    // only where it did not.
     ensures goes_on { GoesOn (T.counts tree.old) (T.counts tree.new) }
     ensures cause { OnErr result (HasCause (T.counts tree.old) (T.counts tree.new)) }
     ensures kept { OnOk result (IsNoFault (T.counts tree.old) (T.counts tree.new)) }
+
+    // Where the name may have a file, no call is a misuse.
     ensures proper { IfObservable (T.history tree.old) (λ v. HasPlace name.now v
         → (T.counts tree.new).misuses ≡ (T.counts tree.old).misuses) }
     ensures names { IfObservable (T.history tree.old) (λ v.
@@ -145,6 +157,7 @@ fn fill<T: Tree>(tree: &mut T, name: &Name, bytes: &[u8]) -> Result<(), Disk>
     ensures others { IfObservable (T.history tree.old) (λ v.
         Since (KeepsMapsBut (name.now ∷ []) v) (T.history tree.old) (T.history tree.new)) }
 {
+    // Laws that the proof needs; they compute nothing.
     a_crash_may_leave_the_files_as_read();
     order_outlasts_a_crash::<Journal>();
     remove(tree, name)?;
@@ -166,12 +179,18 @@ fn settle<T: Tree>(tree: &mut T, from: &Name, to: &Name) -> Result<(), Disk>
     ensures others { IfObservable (T.history tree.old) (λ v.
         Since (KeepsMapsBut (to.now ∷ from.now ∷ []) v) (T.history tree.old)
         (T.history tree.new)) }
+
+    // No count of faults falls; a fault of the tree is answered only where that count rose, and Ok
+    // only where it did not.
     ensures goes_on { GoesOn (T.counts tree.old) (T.counts tree.new) }
     ensures cause { OnErr result (HasCause (T.counts tree.old) (T.counts tree.new)) }
     ensures kept { OnOk result (IsNoFault (T.counts tree.old) (T.counts tree.new)) }
+
+    // Where the file may be moved, no call is a misuse.
     ensures proper { IfObservable (T.history tree.old) (λ v. CanRename from.now to.now v
         → (T.counts tree.new).misuses ≡ (T.counts tree.old).misuses) }
 {
+    // Laws that the proof needs; they compute nothing.
     a_crash_may_leave_the_files_as_read();
     order_outlasts_a_crash::<Journal>();
     rename(tree, from, to)?;

@@ -20,9 +20,11 @@ const PATHS_IN_A_ROW: u32 = 4;
 /// The folder that the last paths stood in. The root is the empty path.
 #[derive(Drop)]
 pub struct LastFolder {
+    // Its path.
     path: Vec<u8>,
     // How many paths in a row stood in it.
     paths: u32,
+    // The folder held open, where it is deep and was asked for often enough.
     opened: Option<OpenFolder>,
 }
 
@@ -67,7 +69,7 @@ fn is_deep(folder: &[u8]) -> bool {
 /// An open folder, and the path by which the host leads to it in one step.
 #[derive(Drop)]
 struct OpenFolder {
-    // It stays open as long as the path is used.
+    // The open folder, which stays open as long as the path is used.
     _file: File,
     // The path of the folder and a slash, with the part that was asked for last.
     path: Vec<u8>,

@@ -18,7 +18,9 @@ use std::{fs, thread};
 pub struct Opened {
     path: Vec<u8>,
     file: File,
+    // How many bytes it has, as far as this run knows.
     len: u64,
+    // The offset at which the next read goes on; None where that is not known.
     at: Option<u64>,
 }
 

@@ -29,8 +29,8 @@ full_stage intent = record {
   acted = 0;
 }
 
--- what is done with a file that may wait at a place: a file that is there is moved to its name, also
--- where the answer is a fault or it stays, and nothing happens where none is there
+-- what the move of a file that may wait at a place makes of the tree: a file that is there is moved to
+-- its name, and nothing happens where none is there; after a fault the file was moved or not
 pub record MovesIfThere {T E : Type 0} (place name : List ℕ) (old new : List TreeState)
     (result : Result T E) : Type 0 where
   pub ok : OnOk result (IfObservable old (λ v.

@@ -23,8 +23,8 @@ pub record IsWritten (place : List ℕ) (file : File) (start v : TreeState) : Ty
   pub kept : (q : List ℕ) (n : ℕ) → q ≢ place → v.names q ≡ Some n → v.files n ≡ start.files n
 
 -- a moment before the publishing at which all waits: the intent under the name with number 0, and the
--- files of its writes; `base` are the files as read without the intent, and `made` is the number of
--- files made before it
+-- files of its writes; `base` are the files as read without the intent, and `made` is how many files
+-- were made before it
 pub record IsReady (intent : Intent) (base : Files) (made : ℕ) (v : TreeState) : Type 0 where
   -- no intent stands under its name
   pub absent : v.names intent_name ≡ None
@@ -43,7 +43,7 @@ pub record IsReady (intent : Intent) (base : Files) (made : ℕ) (v : TreeState)
   -- each file that waits for a write is synced; the writes are numbered from 1
   pub synced : (k n : ℕ) → 1 ≤ k → k < 1 + length intent.writes → v.names (stage_name k) ≡ Some n
       → (v.files n).synced ≡ true
-  -- its writes can be numbered, and its actions leave the intent and the stage alone
+  -- its writes can be numbered in 64 bits, and its actions leave the intent and the stage alone
   pub few : length intent.writes < 2 ^ 63
   pub free : HasFreeNames intent
 

@@ -22,7 +22,8 @@ use base_core::{Disk, Name, Tree, a_crash_may_leave_the_files_as_read, order_out
 use journal_intent::PreparedIntent;
 
 /// Writes the intent as the waiting file 0, and moves it to its name. Here a change is published:
-/// from the moment on at which the intent is read, a recovery does its actions.
+/// from the moment on at which the intent is read, a recovery does its actions. The clauses are
+/// those of `Stage::publish`, for a stage all of whose files wait.
 pub(crate) fn publish_intent<T: Tree>(tree: &mut T, intent: &PreparedIntent) -> Result<(), Disk>
     ensures moments { IfObservable (T.history tree.old) (λ v. (ignored : List ℕ → Bool)
         (contents : List (List ℕ)) (base : Files) → IsOrderly (RestsOn ignored) v
@@ -60,13 +61,19 @@ pub(crate) fn publish_intent<T: Tree>(tree: &mut T, intent: &PreparedIntent) -> 
         (T.history tree.old) (T.history tree.new)) }
     ensures only_intent { IfObservable (T.history tree.old) (λ v. OnOk result
         (HasNow (T.history tree.new) (KeepsFilesBut (λ q. q ≡ intent_name) v))) }
+
+    // No count of faults falls; a fault of the tree is answered only where that count rose, and Ok
+    // only where it did not.
     ensures goes_on { GoesOn (T.counts tree.old) (T.counts tree.new) }
     ensures cause { OnErr result (HasCause (T.counts tree.old) (T.counts tree.new)) }
     ensures kept { OnOk result (IsNoFault (T.counts tree.old) (T.counts tree.new)) }
+
+    // Where there is room for the stage, no call is a misuse.
     ensures proper { IfObservable (T.history tree.old) (λ v. (contents : List (List ℕ))
         (base : Files) → IsStaged (full_stage intent.now) contents None base v
         → HasRoomToStage base → (T.counts tree.new).misuses ≡ (T.counts tree.old).misuses) }
 {
+    // A law that the proof needs; it computes nothing.
     intent.names_are_free();
     write_waiting(tree, intent.stage_name(0), intent.file())?;
     enter(tree, intent.stage_name(0), intent.name())
@@ -90,12 +97,18 @@ fn write_waiting<T: Tree>(tree: &mut T, place: &Name, bytes: &[u8]) -> Result<()
         Since (KeepsMapsBut (stage_name 0 ∷ []) v) (T.history tree.old) (T.history tree.new)) }
     ensures absent { OnOk result
         (IfObservable (T.history tree.old) (λ v. v.names place.now ≡ None)) }
+
+    // No count of faults falls; a fault of the tree is answered only where that count rose, and Ok
+    // only where it did not.
     ensures goes_on { GoesOn (T.counts tree.old) (T.counts tree.new) }
     ensures cause { OnErr result (HasCause (T.counts tree.old) (T.counts tree.new)) }
     ensures kept { OnOk result (IsNoFault (T.counts tree.old) (T.counts tree.new)) }
+
+    // Where the file may be made, no call is a misuse.
     ensures proper { IfObservable (T.history tree.old) (λ v. CanCreate place.now v
         → (T.counts tree.new).misuses ≡ (T.counts tree.old).misuses) }
 {
+    // Laws that the proof needs; they compute nothing.
     a_crash_may_leave_the_files_as_read();
     order_outlasts_a_crash::<Journal>();
     create(tree, place)?;
@@ -104,7 +117,8 @@ fn write_waiting<T: Tree>(tree: &mut T, place: &Name, bytes: &[u8]) -> Result<()
 }
 
 /// Moves the intent that waits to its name. The names are synced before, so that no crash keeps the
-/// intent without a file that waits for it, and behind, so that no crash undoes the publishing.
+/// intent without a file that waits for it, and behind, so that no crash undoes the publishing. The
+/// clauses are those of `publish_intent`, from the moment on at which all waits.
 fn enter<T: Tree>(tree: &mut T, place: &Name, name: &Name) -> Result<(), Disk>
     requires place { place.now ≡ stage_name 0 }
     requires name { name.now ≡ intent_name }
@@ -135,12 +149,18 @@ fn enter<T: Tree>(tree: &mut T, place: &Name, name: &Name) -> Result<(), Disk>
         (T.history tree.old) (T.history tree.new)) }
     ensures moved { OnOk result
         (IfObservable (T.history tree.new) (λ w. w.names (stage_name 0) ≡ None)) }
+
+    // No count of faults falls; a fault of the tree is answered only where that count rose, and Ok
+    // only where it did not.
     ensures goes_on { GoesOn (T.counts tree.old) (T.counts tree.new) }
     ensures cause { OnErr result (HasCause (T.counts tree.old) (T.counts tree.new)) }
     ensures kept { OnOk result (IsNoFault (T.counts tree.old) (T.counts tree.new)) }
+
+    // Where the file may be moved, no call is a misuse.
     ensures proper { IfObservable (T.history tree.old) (λ v. CanRename place.now name.now v
         → (T.counts tree.new).misuses ≡ (T.counts tree.old).misuses) }
 {
+    // Laws that the proof needs; they compute nothing.
     a_crash_may_leave_the_files_as_read();
     order_outlasts_a_crash::<Journal>();
     sync_all_names(tree)?;

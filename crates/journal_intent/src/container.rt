@@ -37,8 +37,10 @@ pub(crate) fn intent_file(
         ≡ Some (bytes, values) }
     ensures fits { OnOk result
         (overflow_of (value_of_intent (intent_of_lists removals.now writes.now)) ≡ None) }
+    // The count of all names, and the number behind it, have 64 bits.
     ensures few { OnOk result (length removals.now + length writes.now < 2 ^ 63) }
 {
+    // A law that the proof needs; it computes nothing.
     an_intent_is_read_back();
     let mut draft = Draft::new(alloc);
     draft.open_list()?;
@@ -62,9 +64,11 @@ fn an_intent_is_read_back()
         → overflow_of (value_of_intent (intent_of_lists removals writes)) ≡ None
         → length removals + length writes < 2 ^ 63 }
 {
+    // Laws that the proof needs; they compute nothing.
     a_file_is_spelled();
     what_is_spelled_is_read();
     a_value_overflows_exactly_past_a_limit();
+    // Laws that the proof needs; they compute nothing.
     no_text_is_bad_where_each_keeps_its_rule();
     no_name_is_repeated_where_each_stands_once();
     a_container_of_a_good_value_is_sound();

@@ -34,10 +34,12 @@ pub(crate) struct IntentLists {
 pub(crate) fn read_lists(alloc: Global, file: &[u8]) -> Result<IntentLists, ReadFault>
     ensures intent { IfOk result
         (λ lists. read_intent file.now ≡ Some (intent_of_lists lists.removals lists.writes)) }
+    // The count of all names, and the number behind it, have 64 bits.
     ensures few { IfOk result (λ lists. length lists.removals + length lists.writes < 2 ^ 63) }
     ensures bad { IfErr result (λ fault. IsReadFault fault (first_fault IntentTable file.now)) }
     ensures good { OnOk result (first_fault IntentTable file.now ≡ None) }
 {
+    // A law that the proof needs; it computes nothing.
     sound_containers_hold_sound_values();
     let checked = read_adb(alloc, file, Which::Intent)?;
     let intent = checked.intent();
@@ -51,6 +53,7 @@ fn names_in<'a>(alloc: Global, list: List<'a, &'a [u8]>) -> Result<Names, AllocE
     requires { AllNamed (entries_in (list_value list)) }
     ensures value { IfOk result
         (λ names. names ≡ map text_in (list_of (entries_in (list_value list.entry)))) }
+    // A list in a payload counts its entries in 32 bits.
     ensures few { IfOk result (λ names. length names < 2 ^ 32) }
 {
     let mut names = Names::new(alloc);

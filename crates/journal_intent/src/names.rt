@@ -61,6 +61,7 @@ pub fn an_intent_is_read_from_a_sound_container()
 /// The files that wait for an intent's actions stand below the stage's folder, each under a name of
 /// its own.
 pub fn each_waiting_file_has_its_own_name()
+    // The numbers are those of the program, of 64 bits.
     ensures apart { (j k : ℕ) → j < 2 ^ 64 → k < 2 ^ 64 → stage_name j ≡ stage_name k → j ≡ k }
     ensures staged { (k : ℕ) → is_staged (stage_name k) ≡ true }
     ensures no_intent { (k : ℕ) → stage_name k ≢ intent_name }
@@ -79,6 +80,7 @@ pub fn a_read_intent_has_free_names()
     ensures { (file : List ℕ) (intent : Intent) → read_intent file ≡ Some intent
         → HasFreeNames intent }
 {
+    // A law that the proof needs; it computes nothing.
     sound_containers_hold_sound_values();
 }
 

@@ -175,7 +175,9 @@ impl PreparedIntent {
         ensures free { HasFreeNames self.now }
         ensures few { length self.now.removals + length self.now.writes < 2 ^ 63 }
     {
+        // A law that the proof needs; it computes nothing.
         a_read_intent_has_free_names();
+        // The proof needs that the file spells this intent.
         let _ = &self.file;
     }
 }

@@ -1,6 +1,6 @@
 -- Byte order: texts compared byte by byte, the first that differs decides, and a text comes before
--- those that it begins. In this order stand, by `docs/formats.md`, the names of "World" and of "The
--- database after a change".
+-- those that it begins. The rule is that of `docs/names.md`, *byte order*; in `docs/formats.md`,
+-- "World" and "The database after a change" stand on it.
 use Rattle.std.specs.Prelude.{ℕ, Bool, List, [], ◌∷◌, Option, Some, None, if◌then◌else◌}
 use Rattle.std.specs.Ordering.{nat_cmp, is_lt}
 use Rattle.std.specs.declared.cmp.Ordering.{Ordering}

@@ -3,9 +3,8 @@
 //! The contracts of the crates above cite `Sorted` and `ByteOrder` of `specs/`; two laws say what
 //! follows from them.
 //!
-//! What it means is not told by a format: it stands in the README of this crate and in
-//! `docs/names.md` (*sorted*), and the orders of names in `docs/formats.md`, "World" and "The
-//! database after a change", stand on it.
+//! The rules stand in `docs/names.md`, *sorted* and *byte order*; the orders of names in
+//! `docs/formats.md`, "World" and "The database after a change", stand on them.
 #![tactic(auto)]
 
 ghost use Rattle.list_order.specs.ByteOrder.{bytes_cmp, smallest_text};

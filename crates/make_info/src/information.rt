@@ -167,7 +167,9 @@ pub(crate) enum Value<'a> {
 /// An item of the information: a field, and one value of it.
 #[derive(Drop)]
 pub(crate) struct Item<'a> {
+    /// The field.
     pub field: Field,
+    /// What was given for it.
     pub value: Value<'a>,
 }
 

@@ -136,6 +136,7 @@ pub fn output_name(alloc: Global, command: &Command) -> Result<Option<Name>, All
 fn named_output(alloc: Global, command: &Command) -> Result<Option<Name>, AllocError>
     ensures { IfOk result (λ name. name ≡ named_output command.now.values) }
 {
+    // A law that the proof needs; it computes nothing.
     values_are_of_their_kind();
     match command.values().first_file(OUTPUT) {
         Some(file) => {
@@ -163,6 +164,7 @@ fn package_output(alloc: Global, command: &Command) -> Result<Option<Name>, Allo
     if let Some(name) = named_output(alloc, command)? {
         return Ok(Some(name));
     }
+    // A law that the proof needs; it computes nothing.
     versions_have_version_bytes();
     match default_output(alloc, command.values())? {
         Some(file) => Name::read(alloc, &file),
@@ -186,6 +188,7 @@ pub fn an_output_is_short()
     ensures { (command : CommandLine) (name : List ℕ) → IsCommand command
         → output_name command ≡ Some name → length name ≤ LONGEST_OUTPUT }
 {
+    // A law that the proof needs; it computes nothing.
     values_are_of_their_kind();
 }
 
@@ -200,5 +203,6 @@ pub fn an_index_has_an_output()
     ensures { (command : CommandLine) → IsCommand command → command.applet ≡ Mkndx
         → IsSome (output_name command) }
 {
+    // A law that the proof needs; it computes nothing.
     a_command_has_what_its_applet_may_have();
 }

@@ -45,9 +45,12 @@ pub(crate) fn read_files<T: Tree>(
         → HasAt pkg (front_end front.now) seen → AreFilesTested (files_by_blocks
         (expected_contents (value_of_contents contents.now))
         (reading_of (behind_front front.now pkg))) pkg test)) }
+    // The tree stays as it is; a failed tree is answered only where it failed, and no call is a
+    // misuse where the file is as long as it was.
     ensures tree { ReadsFile name.now (front_file_len front.now) DiskFault (T.history tree.old)
         (T.history tree.new) (T.counts tree.old) (T.counts tree.new) result }
 {
+    // Laws that the proof needs; they compute nothing.
     the_pieces_are_refused_for_the_first_fault_of_the_blocks();
     the_pieces_of_each_file_joined_are_its_contents();
     let mut reader = PieceReader::new(front, contents, name);

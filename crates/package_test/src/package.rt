@@ -16,6 +16,7 @@ use pkg_pieces::{Contents, Front};
 /// file begin. Contracts see, by `Tested` of `specs/`, what it shows and of which files it is.
 #[derive(Drop)]
 pub struct TestedPackage {
+    /// The name under which it was read.
     pub(crate) name: Name,
     /// The header and the first block, which holds the values.
     pub(crate) front: Front,

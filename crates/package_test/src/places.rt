@@ -13,8 +13,11 @@ use std::alloc::AllocError;
 /// which count from 1, and an offset.
 #[derive(Clone, Copy)]
 pub(crate) struct FilePlace {
+    /// The position of its folder.
     pub folder: u32,
+    /// Its position in the folder.
     pub file: u32,
+    /// The offset at which its contents begin in the package.
     pub at: u64,
 }
 

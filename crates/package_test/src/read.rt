@@ -49,6 +49,8 @@ pub fn read_package<T: Tree>(
     ensures read { IfOk result (λ read. (found : Option (List ℕ))
         × IfObservable (T.history tree.old) (λ v. found ≡ files_of v name.now)
         × IsReadOf name.now found read) }
+    // The tree stays as it is; a failed tree is answered only where it failed, and no call is a
+    // misuse.
     ensures tree { OnlyReads DiskFault (T.history tree.old) (T.history tree.new)
         (T.counts tree.old) (T.counts tree.new) result }
 {
@@ -68,6 +70,8 @@ fn read_named<T: Tree>(
     ensures read { IfOk result (λ read. (found : Option (List ℕ))
         × IfObservable (T.history tree.old) (λ v. found ≡ files_of v name.now)
         × IsReadOf name.now found read) }
+    // The tree stays as it is; a failed tree is answered only where it failed, and no call is a
+    // misuse.
     ensures tree { OnlyReads DiskFault (T.history tree.old) (T.history tree.new)
         (T.counts tree.old) (T.counts tree.new) result }
 {
@@ -113,6 +117,8 @@ fn read_behind<T: Tree>(
         × ((pkg : List ℕ) → IsFrontOf PACKAGE_WORD pkg front.now
         → HasAt pkg (front_end front.now) seen → IsWholeTested pkg test)) }
     ensures payload { IfOk result (HasSoundPayload front.now) }
+    // The tree stays as it is; a failed tree is answered only where it failed, and no call is a
+    // misuse where the file is as long as it was.
     ensures tree { ReadsFile name.now (front_file_len front.now) DiskFault (T.history tree.old)
         (T.history tree.new) (T.counts tree.old) (T.counts tree.new) result }
 {

@@ -45,6 +45,8 @@ pub fn test_package<T: Tree>(
     ensures tests { IfOk result (λ test. (found : Option (List ℕ))
         × IfObservable (T.history tree.old) (λ v. found ≡ files_of v name.now)
         × IsTestOf found test) }
+    // The tree stays as it is; a failed tree is answered only where it failed, and no call is a
+    // misuse.
     ensures tree { OnlyReads DiskFault (T.history tree.old) (T.history tree.new)
         (T.counts tree.old) (T.counts tree.new) result }
 {

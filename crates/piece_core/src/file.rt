@@ -173,8 +173,11 @@ pub const PIECE_LEN: usize = 65536;
 /// folder, which count from 1, and whether the piece is the last one of the file.
 #[derive(Clone, Copy, Debug, PartialEq, Eq)]
 pub struct Part {
+    /// The position of the folder.
     pub path: u32,
+    /// The position of the file in the folder.
     pub file: u32,
+    /// Whether it is the last piece of the file.
     pub last: bool,
 }
 

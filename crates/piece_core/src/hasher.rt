@@ -14,9 +14,13 @@ use sha2::{Digest, Sha256, Sha512};
 /// A digest of another length is not looked at.
 #[derive(Drop)]
 pub enum Hasher {
+    /// For a digest of 20 bytes.
     Sha1(Sha1),
+    /// For a digest of 32 bytes.
     Sha256(Sha256),
+    /// For a digest of 64 bytes.
     Sha512(Sha512),
+    /// For a digest of another length: nothing is compared.
     Other,
 }
 

@@ -22,9 +22,13 @@ const POSITIONS_LEN: u64 = 8;
 /// whose contents are due.
 #[derive(Clone, Copy)]
 pub struct BlockPlace<'a> {
+    /// How many bytes the file has.
     pub len: u64,
+    /// The files whose contents are due.
     pub walk: Walk<'a>,
+    /// The kind of the block before.
     pub last: BlockKind,
+    /// The offset of the next block.
     pub at: u64,
 }
 

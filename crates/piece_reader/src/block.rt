@@ -25,7 +25,9 @@ const POSITIONS_LEN: u64 = 8;
 /// where it has as many.
 #[derive(Clone, Copy)]
 pub(crate) struct BlockRead {
+    /// What its header frames; None where no block is left.
     pub framing: Option<Frame>,
+    /// The positions that its payload begins with; zeros where it has no eight bytes.
     pub positions: [u8; 8],
 }
 
@@ -65,6 +67,8 @@ pub(crate) fn next_block<'a, T: Tree>(
     ensures within { place.new.at ≤ place.new.len }
     ensures walk { IfOk result (λ step. GoesOnWith place.old.walk step place.new.walk) }
     ensures further { IfOk result (λ step. GoesFurther place.old step place.new) }
+    // The tree stays as it is; a failed tree is answered only where it failed, and no call is a
+    // misuse where the file is as long as it was.
     ensures tree { ReadsFile name.now place.old.len DiskFault (T.history tree.old)
         (T.history tree.new) (T.counts tree.old) (T.counts tree.new) result }
 {
@@ -80,6 +84,7 @@ pub(crate) fn next_block<'a, T: Tree>(
 
 /// The file that a block at an offset opens: its bytes stand behind the header and the positions.
 fn file_at<'a>(file: FileCheck<'a>, at: u64, framing: Option<Frame>) -> OpenFile<'a>
+    // Offsets have 64 bits; 8 bytes are the two positions.
     requires { at + head_size framing + 8 < 2 ^ 64 }
     ensures file { result.file ≡ file.entry }
     ensures at { result.at ≡ at + head_size framing + 8 }
@@ -110,6 +115,8 @@ pub(crate) fn read_block<T: Tree>(
         × IfOk result (λ read. IsInBlock read.framing (length seen))
         × ((file : List ℕ) → length file ≡ place.now.len → HasAt file place.now.at seen
         → IsBlockRead place.now file result) }
+    // The tree stays as it is; a failed tree is answered only where it failed, and no call is a
+    // misuse where the file is as long as it was.
     ensures tree { ReadsFile name.now place.now.len DiskFault (T.history tree.old)
         (T.history tree.new) (T.counts tree.old) (T.counts tree.new) result }
 {
@@ -134,6 +141,8 @@ fn read_positions<T: Tree>(
         × ((file_len : ℕ)
         → IsSeen (T.history tree.old) name.now file_len (at + head_size framing) seen)) }
     ensures disk { IfErr result (λ fault. fault ≡ DiskFault) }
+    // The tree stays as it is; a failed tree is answered only where it failed, and no call is a
+    // misuse where the file is as long as it was.
     ensures tree { (file_len : ℕ) → at ≤ file_len
         → IfSome framing (λ frame. at + raw_size frame ≤ file_len)
         → ReadsFile name.now file_len DiskFault (T.history tree.old) (T.history tree.new)
@@ -167,6 +176,8 @@ pub(crate) fn next_file<'a, T: Tree>(
     ensures walk { IfOk result (λ found. FindsFile place.old.walk found place.new.walk) }
     ensures room { IfOk result (λ found. IfSome found (λ next.
         next.at + file_bytes_left next.file ≤ place.new.at)) }
+    // The tree stays as it is; a failed tree is answered only where it failed, and no call is a
+    // misuse where the file is as long as it was.
     ensures tree { ReadsFile name.now place.old.len DiskFault (T.history tree.old)
         (T.history tree.new) (T.counts tree.old) (T.counts tree.new) result }
 {

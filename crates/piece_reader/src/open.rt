@@ -41,6 +41,7 @@ impl<'a> OpenFile<'a> {
         name: &Name,
         piece: &mut Piece,
     ) -> Result<(Part, Option<OpenFile<'a>>), PieceFault>
+        // Offsets have 64 bits.
         requires { self.at + file_bytes_left self.file < 2 ^ 64 }
         ensures seen { NotDisk result → (file_len : ℕ)
             → IsSeen (T.history tree.old) name.now file_len self.entry.at piece.new }
@@ -64,6 +65,8 @@ impl<'a> OpenFile<'a> {
         ensures room { IfOk result (λ read. IfSome read.1 (λ further.
             further.at + file_bytes_left further.file
             ≡ self.entry.at + file_bytes_left self.entry.file)) }
+        // The tree stays as it is; a failed tree is answered only where it failed, and no call is a
+        // misuse where the file is as long as it was.
         ensures tree { (file_len : ℕ) → self.entry.at + file_bytes_left self.entry.file ≤ file_len
             → ReadsFile name.now file_len DiskFault (T.history tree.old) (T.history tree.new)
             (T.counts tree.old) (T.counts tree.new) result }

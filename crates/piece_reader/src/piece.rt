@@ -13,7 +13,9 @@ use thiserror::Error;
 /// A buffer for one piece, of up to 65,536 bytes. Contracts see the bytes that it holds.
 #[derive(Drop)]
 pub struct Piece {
+    /// Room for the longest piece.
     bytes: [u8; PIECE_LEN],
+    /// How many bytes the piece has.
     len: usize,
 }
 
@@ -38,7 +40,7 @@ impl Piece {
         }
     }
 
-    /// The bytes that the piece holds.
+    /// The bytes that the piece holds, at most 65,536 (`PIECE_LEN` of `piece_core`).
     pub fn bytes(&self) -> &[u8]
         ensures bytes { result.now ≡ self.now }
         ensures few { length result.now ≤ 65536 }
@@ -61,6 +63,8 @@ impl Piece {
         ensures disk { IfErr result (λ fault. fault ≡ DiskFault) }
         ensures seen { OnOk result ((file_len : ℕ)
             → IsSeen (T.history tree.old) name.now file_len at self.new) }
+        // The tree stays as it is; a failed tree is answered only where it failed, and no call is a
+        // misuse where the file is as long as it was.
         ensures tree { (file_len : ℕ) → at + len ≤ file_len
             → ReadsFile name.now file_len DiskFault (T.history tree.old) (T.history tree.new)
             (T.counts tree.old) (T.counts tree.new) result }

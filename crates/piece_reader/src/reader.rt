@@ -35,6 +35,7 @@ pub(crate) enum Due {
 /// whose piece came last.
 #[derive(Drop)]
 pub struct PieceReader<'a> {
+    /// The name of the package.
     pub(crate) name: &'a Name,
     /// Where the reader stands in the blocks: behind the one of the file that is open.
     pub(crate) place: BlockPlace<'a>,
@@ -42,6 +43,7 @@ pub struct PieceReader<'a> {
     pub(crate) opened: Option<OpenFile<'a>>,
     /// The offset at which the file begins whose piece came last.
     pub(crate) start: u64,
+    /// Whether files are left, the last block was passed, or a test failed.
     pub(crate) due: Due,
     ghost within: { place.at ≤ place.len },
     ghost behind: { open_end opened ≤ place.at },
@@ -135,17 +137,23 @@ impl<'a> PieceReader<'a> {
             → (before : PiecesRead) → IsReading self.old pkg before
             → AnswersNext (IsReading self.new pkg) before piece.new result
             × IfOk result (λ found. HasPieceAt self.old pkg piece.new found self.new)) }
+        // The pieces come file by file, in the order of the package; behind a piece the reader goes on.
         ensures order { IfOk result (λ found.
             ComesInOrder (due_files self.old) found (due_files self.new)) }
         ensures goes_on { IfOk result (λ found. IfSome found (λ part.
             GoesOnBehind part self.old self.new)) }
+        // A piece that is not the last one stands wholly in front of what is read next.
         ensures bytes { IfOk result (λ found. IfSome found (λ part. part.last ≡ false
             → offset_of self.old + length piece.new ≤ offset_of self.new)) }
+        // The offset at which its file begins stays, and what was handed out grows by the piece.
         ensures start { IfOk result (λ found. IfSome found (λ part.
             KeepsStart part (length piece.new) self.old self.new)) }
+        // A test that failed is kept, and answered by every later call.
         ensures refused { IfErr result (λ fault. HasRefused fault self.new) }
         ensures name { name_in_tree self.new ≡ name_in_tree self.old }
         ensures len { package_len self.new ≡ package_len self.old }
+        // The tree stays as it is; a failed tree is answered only where it failed, and no call is a
+        // misuse where the file is as long as it was.
         ensures tree { ReadsFile (name_in_tree self.old) (package_len self.old) DiskFault
             (T.history tree.old) (T.history tree.new) (T.counts tree.old) (T.counts tree.new)
             result }
@@ -158,7 +166,7 @@ impl<'a> PieceReader<'a> {
     }
 
     /// Reads the next piece, where files are left, and keeps the end or a failed test for the next
-    /// calls.
+    /// calls. The clauses are those of `next_piece`.
     fn read_due<T: Tree>(
         &mut self,
         tree: &mut T,
@@ -186,6 +194,8 @@ impl<'a> PieceReader<'a> {
         ensures refused { IfErr result (λ fault. HasRefused fault self.new) }
         ensures name { name_in_tree self.new ≡ name_in_tree self.old }
         ensures len { package_len self.new ≡ package_len self.old }
+        // The tree stays as it is; a failed tree is answered only where it failed, and no call is a
+        // misuse where the file is as long as it was.
         ensures tree { ReadsFile (name_in_tree self.old) (package_len self.old) DiskFault
             (T.history tree.old) (T.history tree.new) (T.counts tree.old) (T.counts tree.new)
             result }
@@ -204,7 +214,8 @@ impl<'a> PieceReader<'a> {
         }
     }
 
-    /// Reads the next piece of the file that is open, or of the next one.
+    /// Reads the next piece of the file that is open, or of the next one. The clauses are those of
+    /// `next_piece`, but that a failed test is not kept yet.
     fn read_next<T: Tree>(
         &mut self,
         tree: &mut T,
@@ -231,6 +242,8 @@ impl<'a> PieceReader<'a> {
             is_none self.new.opened ≡ part.last)) }
         ensures name { name_in_tree self.new ≡ name_in_tree self.old }
         ensures len { package_len self.new ≡ package_len self.old }
+        // The tree stays as it is; a failed tree is answered only where it failed, and no call is a
+        // misuse where the file is as long as it was.
         ensures tree { ReadsFile (name_in_tree self.old) (package_len self.old) DiskFault
             (T.history tree.old) (T.history tree.new) (T.counts tree.old) (T.counts tree.new)
             result }
@@ -266,6 +279,8 @@ impl<'a> PieceReader<'a> {
         ensures due { self.new.due ≡ self.old.due }
         ensures name { name_in_tree self.new ≡ name_in_tree self.old }
         ensures len { package_len self.new ≡ package_len self.old }
+        // The tree stays as it is; a failed tree is answered only where it failed, and no call is a
+        // misuse where the file is as long as it was.
         ensures tree { ReadsFile (name_in_tree self.old) (package_len self.old) DiskFault
             (T.history tree.old) (T.history tree.new) (T.counts tree.old) (T.counts tree.new)
             result }

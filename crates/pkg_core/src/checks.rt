@@ -205,5 +205,6 @@ pub fn a_package_has_the_contents_of_its_files()
         → AreTrueTo (expected_contents (package_with_contents file).value)
         (package_with_contents file).contents }
 {
+    // A law that the proof needs; it computes nothing.
     the_first_bad_text_is_reported();
 }

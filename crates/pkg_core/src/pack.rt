@@ -61,6 +61,7 @@ impl From<ReadFault> for PackageFault {
 /// that hold it, and the files that are left.
 #[derive(Drop)]
 pub struct Package<'a> {
+    /// The values.
     checked: Checked<'a>,
     /// The payload of the first block, of which the id is taken.
     payload: &'a [u8],
@@ -111,6 +112,7 @@ impl<'a> Package<'a> {
     pub fn values_keep_their_rules(&self)
         ensures { KeepsRules Tables.Package (opened_value self.now) }
     {
+        // A law that the proof needs; it computes nothing.
         self.checked.values_keep_their_rules();
     }
 
@@ -163,6 +165,7 @@ fn first_block<'a>(bytes: &'a [u8]) -> (&'a [u8], Blocks<'a>)
     ensures files { files_by_blocks (expected_contents (root_value Tables.Package result.0.now))
         (reading_of result.1) ≡ files_in_file bytes.entry.now }
 {
+    // No test of the values failed, so that the header is good and the first block is there.
     let Ok(mut blocks) = Blocks::new(bytes) else {
         unreachable!()
     };

@@ -22,6 +22,7 @@ use base_core::Cause;
 /// `specs/`.
 #[derive(Clone, Copy)]
 pub struct Walk<'a> {
+    /// All folders of the package.
     folders: List<'a, DirInfo<'a>>,
     /// How many folders are passed.
     folder: usize,
@@ -33,9 +34,13 @@ pub struct Walk<'a> {
 /// 1, its size in bytes, and its digest.
 #[derive(Clone, Copy)]
 pub struct Wanted<'a> {
+    /// The position of its folder in the package.
     pub folder: u32,
+    /// Its position in the folder.
     pub file: u32,
+    /// Its size in bytes.
     pub size: u64,
+    /// The digest that its bytes are to have.
     pub hash: &'a [u8],
 }
 
@@ -74,6 +79,7 @@ impl<'a> Walk<'a> {
 
     /// Goes on to the next file of the folder that has contents, or None behind the folder's last.
     fn next_in(&mut self, files: List<'a, FileInfo<'a>>) -> Option<Wanted<'a>>
+        // Positions have 32 bits.
         requires { self.old.folder + 1 < 2 ^ 32 }
         ensures folders { self.new.folders ≡ self.old.folders }
         ensures folder { self.new.folder ≡ self.old.folder }
@@ -167,8 +173,11 @@ const HEAD: usize = 8;
 /// count from 1. The bytes are lent.
 #[derive(Clone, Copy)]
 pub struct FileContents<'a> {
+    /// The position of its folder in the package.
     pub path: u32,
+    /// Its position in the folder.
     pub file: u32,
+    /// Its contents.
     pub bytes: &'a [u8],
 }
 

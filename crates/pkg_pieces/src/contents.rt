@@ -63,6 +63,7 @@ impl<'a> Contents<'a> {
         ensures value { value_of_contents result ≡ root_value Tables.Package payload.entry.now }
         ensures payload { payload_of_contents result ≡ payload.entry.now }
     {
+        // The payload passes all tests, that of its head among them.
         let Ok(adb) = Adb::new(payload) else {
             unreachable!()
         };
@@ -74,6 +75,7 @@ impl<'a> Contents<'a> {
     pub fn values_keep_their_rules(&self)
         ensures { KeepsRules Tables.Package (value_of_contents self.now) }
     {
+        // A law that the proof needs; it computes nothing.
         no_text_is_bad_where_each_keeps_its_rule();
     }
 
@@ -82,6 +84,7 @@ impl<'a> Contents<'a> {
         ensures sound { IsSoundValue Tables.Package (value_of_contents self.now) }
         ensures normal { IsNormal (value_of_contents self.now) }
     {
+        // Laws that the proof needs; they compute nothing.
         bytes_are_small(self.adb.payload());
         tested_payloads_hold_sound_values();
     }
@@ -90,6 +93,7 @@ impl<'a> Contents<'a> {
     pub fn view(&self) -> PackageView<'a>
         ensures { package_value result ≡ value_of_contents self.now }
     {
+        // A law that the proof needs; it computes nothing.
         values_of_few_visits_have_no_fault();
         PackageView::of(self.adb, self.adb.root())
     }

@@ -62,9 +62,13 @@ impl From<AllocError> for FrontFault {
 /// payload, the two numbers, and of which files it is the front.
 #[derive(Drop)]
 pub struct Front {
+    /// The schema that the file's header tells.
     pub(crate) schema: u32,
+    /// The payload of the first block.
     pub(crate) payload: Vec<u8>,
+    /// How many bytes the file has.
     pub(crate) len: u64,
+    /// The offset behind the first block and its padding.
     pub(crate) at: u64,
     ghost within: { at ≤ len },
 }

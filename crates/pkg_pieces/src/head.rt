@@ -13,7 +13,9 @@ use std::marker::Model;
 /// Contracts see the bytes.
 #[derive(Drop)]
 pub struct HeadBytes {
+    /// Room for an extended header; what was not read is 0.
     bytes: [u8; 16],
+    /// How many bytes were read: 0, 4 or 16.
     len: usize,
 }
 
@@ -43,15 +45,19 @@ impl HeadBytes {
     /// `Disk` where the tree failed.
     #[tactic(auto, using(crate::proofs::Heads::holds_none, crate::proofs::Heads::holds_short, crate::proofs::Heads::holds_cut, crate::proofs::Heads::holds_both, crate::proofs::Heads::short_both, crate::proofs::SeenBytes::seen_both, crate::proofs::SeenBytes::seen_by_read, crate::proofs::SeenBytes::proper_where_long))]
     pub fn read<T: Tree>(tree: &mut T, name: &Name, at: u64, left: u64) -> Result<HeadBytes, Disk>
+        // Offsets have 64 bits.
         requires { at + left < 2 ^ 64 }
         ensures seen { IfOk result (λ head. (file_len : ℕ)
             → IsSeen (T.history tree.old) name.now file_len at head) }
         ensures holds { IfOk result (λ head. HoldsHead head left) }
         ensures short { IfOk result (λ head. length head ≤ head_len head) }
+        // The tree stays as it is; a failed tree is answered only where it failed, and no call is a
+        // misuse where the file is as long as it was.
         ensures tree { (file_len : ℕ) → at + left ≤ file_len
             → ReadsFile name.now file_len tree_fault (T.history tree.old) (T.history tree.new)
             (T.counts tree.old) (T.counts tree.new) result }
     {
+        // The first four bytes tell whether the header is a short one, or has twelve more.
         if left < 4 {
             return Ok(no_head());
         }

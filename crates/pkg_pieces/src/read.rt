@@ -44,6 +44,8 @@ pub fn read_front<T: Tree>(
         × (front_end front ≡ length seen)
         × ((file : List ℕ) → length file ≡ front_file_len front → HasAt file 0 seen
         → IsFrontOf schema file front))) }
+    // The tree stays as it is; a failed tree is answered only where it failed, and no call is a
+    // misuse.
     ensures tree { OnlyReads DiskFault (T.history tree.old) (T.history tree.new)
         (T.counts tree.old) (T.counts tree.new) result }
 {
@@ -60,7 +62,9 @@ pub fn read_front<T: Tree>(
 /// see the bytes.
 #[derive(Drop)]
 struct Header {
+    /// `ADB.` and the schema; what was not read is 0.
     bytes: [u8; 8],
+    /// How many bytes were read.
     len: usize,
 }
 
@@ -82,6 +86,8 @@ impl Header {
         ensures seen { IfOk result (λ header. (file_len : ℕ)
             → IsSeen (T.history tree.old) name.now file_len 0 header) }
         ensures disk { IfErr result (λ fault. fault ≡ DiskFault) }
+        // The tree stays as it is; a failed tree is answered only where it failed, and no call is a
+        // misuse where the file is as long as it was.
         ensures tree { ReadsFile name.now len DiskFault (T.history tree.old) (T.history tree.new)
             (T.counts tree.old) (T.counts tree.new) result }
     {
@@ -113,6 +119,8 @@ fn read_payload<T: Tree>(
     ensures seen { IfOk result (λ payload. (file_len : ℕ)
         → IsSeen (T.history tree.old) name.now file_len at payload.items) }
     ensures good { IfErr result (λ fault. IsNotBad fault) }
+    // The tree stays as it is; a failed tree is answered only where it failed, and no call is a
+    // misuse where the file is as long as it was.
     ensures tree { (file_len : ℕ) → at + len ≤ file_len → ReadsFile name.now file_len DiskFault
         (T.history tree.old) (T.history tree.new) (T.counts tree.old) (T.counts tree.new) result }
 {
@@ -134,6 +142,8 @@ fn read_present<T: Tree>(
     ensures front { (seen : List ℕ) × IsSeenIn (T.history tree.old) name.now len 0 seen
         × ((file : List ℕ) → length file ≡ len → HasAt file 0 seen
         → IsPresentRead schema result (length seen) file) }
+    // The tree stays as it is; a failed tree is answered only where it failed, and no call is a
+    // misuse where the file is as long as it was.
     ensures tree { ReadsFile name.now len DiskFault (T.history tree.old) (T.history tree.new)
         (T.counts tree.old) (T.counts tree.new) result }
 {
@@ -142,6 +152,7 @@ fn read_present<T: Tree>(
     if found != schema {
         return Err(FrontFault::Bad(Cause::WrongSchema { found }));
     }
+    // The file's header has eight bytes, and the first block stands behind it.
     let head = HeadBytes::read(tree, name, 8, len - 8)?;
     let framed = first_framed(len - 8, &head)?;
     let padding = padding_behind(framed, len - 8);
@@ -169,6 +180,7 @@ fn first_framed(left: u64, head: &HeadBytes) -> Result<Frame, Cause>
 {
     match frame_of(None, 8, head.bytes(), left)? {
         Some(framed) => Ok(framed),
+        // A file that ends in front of its first block is a fault, and not the end.
         None => unreachable!(),
     }
 }

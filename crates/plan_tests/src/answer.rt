@@ -1,4 +1,4 @@
-//! Plans of files as text.
+//! Plans of files as text. `tests/lines.md` describes it under `plan`.
 
 use base_core::{Name, Names};
 use db_core::Owned;

@@ -130,6 +130,7 @@ fn hex_digits(byte: u8) -> [u8; 2]
     ensures { result ≡ encode_lower (byte ∷ []) }
 {
     let mut digits = [0; 2];
+    // A byte has two digits, for which there is room.
     let _ = hex::encode_to_slice([byte], &mut digits);
     digits
 }

@@ -1,22 +1,27 @@
-//! Payloads, from the words of a row.
+//! Payloads, from the words of a row, in no layout of the writer's. The words of values stand in
+//! `docs/formats.md`, "Values", and how a row writes a value in `tests/lines.md`.
 use crate::words::int_of;
 use adb_schema::Which;
 use base_core::Words;
 use row_lines::value_named;
 use std::alloc::{AllocError, Global};
 
+// The kind, in the top four bits of a word, of a blob whose length stands in two bytes.
 const TEXT: u32 = 0x9000_0000;
 
+// The kind of an array.
 const ARRAY: u32 = 0xd000_0000;
 
+// The kind of an object.
 const OBJECT: u32 = 0xe000_0000;
 
-/// A word that stands for an integer, and the integers that it may stand for.
+/// The kind of an integer that stands in its word; so many numbers are small enough for that.
 const INT: u32 = 0x1000_0000;
 
-/// How many bytes stand before the first value.
+/// How many bytes stand before the first value: the head of a payload.
 const HEAD: usize = 8;
 
+// The names of tables in rows; `rights` is an access list.
 #[rattlefmt::skip]
 const TABLES: [(&[u8], Which); 10] = [
     (b"dependency", Which::Dep),
@@ -40,8 +45,11 @@ pub(crate) fn table_of(name: &[u8]) -> Which {
 /// open, and the root's word.
 #[derive(Drop)]
 struct Payload {
+    /// The bytes behind the head.
     values: Vec<u8>,
+    /// The entries of the runs that are open, the innermost last.
     open: Vec<Vec<u32>>,
+    /// The word of the root.
     root: u32,
 }
 

@@ -1,5 +1,6 @@
 //! The tests of payloads and containers: which fault the shape walk reports and how many values it
-//! visits, the rules of texts and numbers, the first failed test, and names that stand twice.
+//! visits, the rules of texts and numbers, the first failed test, and names that stand twice. The
+//! rules stand in `docs/formats.md`, "Tests of a container", and the words of values in "Values".
 
 use crate::payloads::{add_run, ints_of, object_payload, payload_of, table_of};
 use crate::words::{add_cause, add_outcome, int_of};
@@ -13,7 +14,7 @@ use std::alloc::{AllocError, Global};
 /// The root's word of the payloads below: an object that stands behind the head.
 const ROOT: u32 = 0xe000_0008;
 
-/// The most values that a payload may have.
+/// The most values that a payload may have (`docs/formats.md`, "The shape").
 const MOST_VISITS: u32 = 4_194_304;
 
 /// The fault of a payload that is walked as this table.
@@ -35,7 +36,7 @@ pub(crate) fn add_shape(
     add_outcome(alloc, found, answer)
 }
 
-/// A word of another kind than the field's.
+/// A word of another kind than the field's: a blob where an integer is due, else the integer 1.
 fn of_another_kind(kind: Kind) -> u32 {
     match kind {
         Kind::Int => 0x8000_0008,
@@ -70,6 +71,7 @@ pub(crate) fn add_faults(
         before.push(0)?;
     }
     add_number(alloc, answer, u128::from(told))?;
+    // The integer 1 behind the last field, and behind that a word that has no meaning.
     before.push(0x1000_0001)?;
     add_outcome(
         alloc,

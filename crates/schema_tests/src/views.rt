@@ -1,4 +1,5 @@
-//! Views: each field of each table.
+//! Views: each field of each table, as `docs/formats.md` lists them in "Schemas". How the answers
+//! are written stands in `tests/lines.md`, `view`. Entries of lists count from 1.
 use crate::payloads::{payload_of, table_of};
 use crate::words::add_cause;
 use adb_schema::{

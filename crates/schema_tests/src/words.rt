@@ -1,4 +1,5 @@
-//! Words of a payload: what each of the four readers answers.
+//! Words of a payload: what each of the four readers answers. The rules stand in `docs/formats.md`,
+//! "Values": what each asks for, and which faults there are.
 use adb_view::{Adb, Arr, Val};
 use base_core::Cause;
 use row_lines::{add_number, add_word, number_of};

@@ -56,14 +56,23 @@ impl From<PoolFault> for RowFault {
 /// What a question asks for; the README of this crate has a row for each.
 #[derive(Clone, Copy)]
 enum Question {
+    /// `bytes`.
     Bytes,
+    /// `packages`.
     Packages,
+    /// `candidates`.
     Candidates,
+    /// `twice`.
     Twice,
+    /// `offers NAME`.
     Offers,
+    /// `options DEPENDENCY`.
     Options,
+    /// `named NAME`.
     Named,
+    /// `select`.
     Select,
+    /// `count`.
     Count,
 }
 

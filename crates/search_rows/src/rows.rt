@@ -26,15 +26,25 @@ pub(crate) fn run_rows(
 /// What a line is, by the word that it begins with; the README of this crate has a row for each.
 #[derive(Clone, Copy)]
 enum Line {
+    /// a blank line, `#`.
     Comment,
+    /// `row NAME: SENTENCE`.
     Row,
+    /// `repository PACKAGES`, `repository @TAG PACKAGES`.
     Repository,
+    /// `installed PACKAGES`.
     Installed,
+    /// `world ENTRIES`.
     World,
+    /// `upgrade all`, `upgrade NAMES`.
     Upgrade,
+    /// `times N`.
     Times,
+    /// `$ QUESTION`.
     Question,
+    /// `> ANSWER`.
     Wanted,
+    /// `?`.
     Printed,
 }
 

@@ -1,4 +1,6 @@
-//! An intent of so many writes that a walk over their pairs would not end in time.
+//! An intent of so many writes that a walk over their pairs would not end in time. Such an intent
+//! passes the tests of `docs/formats.md`, "Tests of a container", among them that no name stands
+//! twice.
 use crate::trees::{add_count, long_at, put};
 use adb_schema::INTENT_WORD;
 use adb_view::Val;
@@ -10,11 +12,11 @@ use row_lines::add_word;
 use std::alloc::{AllocError, Global};
 use tree_memory::MemoryTree;
 
-/// The number of the first name. All numbers have as many digits, so that the names rise in byte
+/// The number in the first name. All numbers have as many digits, so that the names rise in byte
 /// order and a tree in memory adds each at its end.
 const FIRST: usize = 100_000;
 
-/// The most bytes of a payload.
+/// The most bytes of a payload (`docs/formats.md`, "Canonical layout").
 const MOST_BYTES: usize = 268_435_455;
 
 /// The most writes of a row.
@@ -65,7 +67,7 @@ fn add_recovered_tree(
     add_count(alloc, answer, b"names", names_in_place(alloc, tree)?)
 }
 
-/// The name with this index.
+/// The name with this index, counted from 0: `f` and a number.
 fn name_text(alloc: Global, i: usize) -> Result<Vec<u8>, AllocError> {
     let number = FIRST.saturating_add(i);
     let text = format!(in alloc; "f{number}")?;
@@ -86,13 +88,13 @@ fn intent_file(alloc: Global, count: usize) -> Result<Option<Vec<u8>>, AllocErro
     }
 }
 
-/// Writes the name with this index.
+/// Writes the name with this index into a payload.
 fn write_name(alloc: Global, writer: &mut Writer, i: usize) -> Result<Val, AllocError> {
     let name = name_text(alloc, i)?;
     writer.blob(&name)
 }
 
-/// No removals, and these writes.
+/// Writes the root of an intent: no removals, and these writes.
 fn write_root(writer: &mut Writer, writes: &[Val]) -> Result<Val, AllocError> {
     let writes = writer.arr(writes)?;
     writer.obj(&[Val::of(0), writes])

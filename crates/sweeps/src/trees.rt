@@ -1,10 +1,11 @@
-//! The trees of the rows, and what they hold.
+//! The trees of the rows, and what they hold: how a row writes files, and how an answer does, as
+//! the README of this crate says.
 use base_core::{Name, Words};
 use row_lines::{add_number, add_word, number_of, word_at};
 use std::alloc::{AllocError, Global};
 use tree_memory::MemoryTree;
 
-/// The number that a word is; 0 where it is none.
+/// The number that the word at a place is; 0 where it is none.
 pub(crate) fn long_at(words: &Words, i: usize) -> u64 {
     number_of(word_at(words, i))
         .and_then(|number| u64::try_from(number).ok())
@@ -43,7 +44,7 @@ pub(crate) fn put(
     Ok(())
 }
 
-/// Adds each name with the bytes of its file.
+/// Adds each name with the bytes of its file, as `NAME=BYTES`.
 pub(crate) fn add_tree(
     alloc: Global,
     tree: &MemoryTree,

@@ -50,6 +50,7 @@ impl Store {
 
 // How many maps of names there are behind one change more.
 fn maps_after(maps: u64, change: &Change) -> u64
+    // Counts have 64 bits, and the change may add one.
     requires { maps < 2 ^ 64 - 1 }
     ensures { result ≡ maps_on change.now maps }
 {
@@ -125,6 +126,7 @@ fn replay(
     made: usize,
     change: &Change,
 ) -> Result<usize, AllocError>
+    // Counts have 64 bits, and the change may add one.
     requires { made < 2 ^ 64 - 1 }
     ensures bound { IfOk result (λ n. n ≤ made + 1) }
     ensures names { IfOk result (λ n. (contents : List (List ℕ)) (v : TreeState)

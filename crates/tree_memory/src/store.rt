@@ -278,6 +278,7 @@ fn add<X: Drop>(list: &mut Vec<X>, x: X)
     requires { vec_len list.old < vec_capacity list.old }
     ensures { list.new.items ≡ list.old.items ++ x ∷ [] }
 {
+    // There is room, so that it cannot fail.
     let _ = list.push(x);
 }
 

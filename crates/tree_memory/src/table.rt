@@ -14,13 +14,16 @@ use std::cmp::Ordering;
 /// A name, and the number of the file that it leads to.
 #[derive(Drop)]
 pub struct NameAndFile {
+    /// The name.
     pub name: Name,
+    /// The number of its file.
     pub file: usize,
 }
 
 /// The names, each with its number, in byte order.
 #[derive(Drop)]
 pub struct NameTable {
+    /// In the byte order of their names, each name once.
     pub entries: Vec<NameAndFile>,
     pub ghost rising: { IsTable entries.items },
 }

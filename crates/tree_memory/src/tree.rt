@@ -352,6 +352,7 @@ impl Tree for MemoryTree {
     {
         self.calls.begin(true)?;
         let names = self.store.list(alloc, folder)?;
+        // A law that the proof needs; it computes nothing.
         names.are_names();
         Ok(names)
     }

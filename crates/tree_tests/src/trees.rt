@@ -1,5 +1,6 @@
 //! Names, a sink in memory, and a tree in memory: what is put and read, which calls are to fail,
-//! and what a crash leaves.
+//! and what a crash leaves. The rules stand in `docs/crash-safety.md`, "A tree at one moment",
+//! "What a crash leaves" and "Misuses, faults and counts".
 
 use base_core::{Name, Names, Sink, Tree, Words, read_all, write_all};
 use row_lines::{add_number, add_word, add_yes_or_no, number_of, word_at};
@@ -42,7 +43,7 @@ pub(crate) fn add_file(
     answer.extend_from_slice(tree.file(&name).unwrap_or(b"absent"))
 }
 
-/// Adds the size of a file.
+/// Adds how many bytes a file has, or that it is absent.
 pub(crate) fn add_size(
     alloc: Global,
     tree: &mut MemoryTree,
@@ -59,7 +60,7 @@ pub(crate) fn add_size(
     }
 }
 
-/// Adds the names below a folder.
+/// Adds the names below a folder, in byte order.
 pub(crate) fn add_list(
     alloc: Global,
     tree: &mut MemoryTree,
@@ -75,7 +76,7 @@ pub(crate) fn add_list(
     }
 }
 
-/// Makes the calls of these numbers fail, or all behind so many.
+/// Makes the calls of these numbers fail (`fail_at`), or all behind so many (`stop_after`).
 pub(crate) fn plan_failures(
     alloc: Global,
     tree: &mut MemoryTree,
@@ -204,12 +205,12 @@ pub(crate) fn add_is_name(
     }
 }
 
-/// The name that a word is; none where it is no name.
+/// The name that the word at a place is; none where it is no name.
 pub(crate) fn name_at(alloc: Global, words: &Words, i: usize) -> Result<Option<Name>, AllocError> {
     Name::read(alloc, word_at(words, i))
 }
 
-/// The number that a word is; 0 where it is none.
+/// The number that the word at a place is; 0 where it is none.
 pub(crate) fn long_at(words: &Words, i: usize) -> u64 {
     number_of(word_at(words, i))
         .and_then(|number| u64::try_from(number).ok())

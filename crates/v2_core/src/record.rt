@@ -18,7 +18,9 @@ use v2_lines::{Access, InfoField, Line, Value, read_line};
 /// What one line says of a field of the package.
 #[derive(Drop)]
 pub(crate) struct InfoLine<'a> {
+    /// The field, by the line's letter.
     pub field: InfoField,
+    /// What the line's value says.
     pub value: Value<'a>,
 }
 

@@ -7,23 +7,41 @@ ghost use Rattle.v2_lines.specs.InfoFields.{info_field_among, field_of_letter, g
 /// A field of a package that a line gives (the installed database of apk-tools 2).
 #[derive(Clone, Copy, Debug, PartialEq, Eq)]
 pub enum InfoField {
+    /// The field of lines `C:value`.
     Hashes,
+    /// The field of lines `P:value`.
     Name,
+    /// The field of lines `V:value`.
     Version,
+    /// The field of lines `A:value`.
     Arch,
+    /// The field of lines `T:value`.
     Description,
+    /// The field of lines `U:value`.
     Url,
+    /// The field of lines `L:value`.
     License,
+    /// The field of lines `o:value`.
     Origin,
+    /// The field of lines `m:value`.
     Maintainer,
+    /// The field of lines `I:value`.
     InstalledSize,
+    /// The field of lines `t:value`.
     BuildTime,
+    /// The field of lines `k:value`.
     ProviderPriority,
+    /// The field of lines `q:value`.
     ReplacesPriority,
+    /// The field of lines `c:value`.
     RepoCommit,
+    /// The field of lines `D:value`.
     Depends,
+    /// The field of lines `p:value`.
     Provides,
+    /// The field of lines `r:value`.
     Replaces,
+    /// The field of lines `i:value`.
     InstallIf,
 }
 

@@ -1,4 +1,5 @@
-//! What is read of a text database: the dump of what it says, or why it is refused.
+//! What is read of a text database: the dump of what it says, or why it is refused. The rules stand
+//! in `docs/formats.md`, "Text database of version 2".
 
 ghost use Rattle.std.specs.Prelude.{◌≡◌, IfOk};
 ghost use Rattle.adb_schema.specs.Checked.{which_of};
@@ -52,7 +53,8 @@ fn add_fault(alloc: Global, fault: V2Fault, answer: &mut Vec<u8>) -> Result<(), 
     }
 }
 
-/// Adds how many packages are read of a text that has so many.
+/// Adds how many packages are read of a text that has so many records, each of a name and a
+/// version.
 pub(crate) fn add_package_count(
     alloc: Global,
     packages: u32,

@@ -1,7 +1,7 @@
 -- The grammar of a version, after apk-package(5):
 -- `number{.number}{letter}{_suffix{number}}{~hash}{-r#}`. Here it is told as the parts of a version
--- and how they are spelled. The rule stands in `docs/formats.md`, "Versions", first paragraph. Byte
--- values: 46 `.`, 95 `_`, 126 `~`, 45 `-`, 114 `r`.
+-- and how they are spelled. The rule stands in `docs/formats.md`, "Versions" ("A version is a
+-- number"). Byte values: 46 `.`, 95 `_`, 126 `~`, 45 `-`, 114 `r`.
 use Rattle.std.specs.Prelude.{◌≡◌, ◌==◌, ℕ, Bool, true, false, ◌&&◌, ◌||◌, nat_lt, List, [], ◌∷◌, ◌++◌, length, Option, Some, None, is_some, if◌then◌else◌}
 use Rattle.std.specs.Char.{is_ascii_digit, is_ascii_lowercase}
 use Rattle.std.specs.List.{list_all}
@@ -32,7 +32,7 @@ pub record Parts : Type 0 where
   -- the digits of the revision
   pub revision : Option (List ℕ)
 
--- whether a part that may be left out passes a test where it stands
+-- whether a part that may be left out passes a test, or is left out
 abbrev pub if_some : {X : Type 0} → (X → Bool) → Option X → Bool
 if_some test None = true
 if_some test (Some x) = test x

@@ -1,5 +1,5 @@
 -- Which versions an operator of a dependency takes (apk-package(5), "depend"). The rule stands in
--- `docs/formats.md`, "Versions", last paragraph ("An operator has four bits").
+-- `docs/formats.md`, "Versions" ("An operator has four bits").
 use Rattle.std.specs.Prelude.{ℕ, ◌==◌, Bool, true, false, ◌&&◌, ◌||◌, not, if◌then◌else◌, List, [], ◌∷◌, length, take, Option, Some, None, bit_and}
 use Rattle.std.specs.Str.{bytes_eq}
 use Rattle.std.specs.Ordering.{is_lt, is_eq, is_gt}
@@ -45,7 +45,8 @@ all_fit (w ∷ ws) (f ∷ fs) = is_last w.class || (fits w f && all_fit ws fs)
 unfoldable pub is_fuzzy_match : List ℕ → List ℕ → Bool
 is_fuzzy_match found wanted = all_fit (tokens wanted) (tokens found)
 
--- whether one of the set match bits holds for a version against the wanted one
+-- whether an operator takes a version: one of its match bits holds for the version that is found
+-- against the wanted one
 unfoldable pub matches : ℕ → List ℕ → List ℕ → Bool
 matches bits found wanted =
     (has_bit bits EQUAL && is_eq (version_cmp found wanted))

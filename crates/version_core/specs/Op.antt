@@ -1,5 +1,5 @@
 -- The operators of a dependency, as their match bits. The rule stands in `docs/formats.md`,
--- "Versions", last paragraph; how each operator is spelled, in "Dependencies".
+-- "Versions" ("An operator has four bits"); how each operator is spelled, in "Dependencies".
 use Rattle.std.specs.Prelude.{ℕ, ◌==◌, Bool, ◌&&◌, not, nat_lt}
 
 -- ---- the match bits, by the result of a comparison with the wanted version

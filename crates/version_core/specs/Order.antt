@@ -1,5 +1,5 @@
 -- The order of versions, after apk-package(5): by tokens, and the first that differ decide. The
--- rule stands in `docs/formats.md`, "Versions", second paragraph.
+-- rule stands in `docs/formats.md`, "Versions" ("A version is compared by its tokens").
 use Rattle.std.specs.Prelude.{ℕ, suc, zero, ◌-◌, Bool, true, false, not, if◌then◌else◌, List, [], ◌∷◌, Option, Some, None}
 use Rattle.std.specs.List.{list_all}
 use Rattle.std.specs.Ordering.{nat_cmp, on, then_cmp}
@@ -14,13 +14,13 @@ abbrev pub is_stray : Class → Bool
 is_stray Stray = true
 is_stray _ = false
 
--- whether no token comes behind one of this class
+-- whether no token comes behind one of this class: behind the end, and behind what is no token
 abbrev pub is_last : Class → Bool
 is_last End = true
 is_last class = is_stray class
 
--- the tokens of a text behind a token of some class, where `inside` bytes still belong to that
--- token
+-- the tokens of a text behind a token of some class (None: at the front of a version), where
+-- `inside` bytes still belong to that token
 abbrev pub tokens_behind : Option Class → ℕ → List ℕ → List Token
 tokens_behind last inside [] = (lexeme_at last []).token ∷ []
 tokens_behind last (suc inside) (b ∷ rest) = tokens_behind last inside rest
@@ -56,12 +56,13 @@ class_rank Letter = 7
 class_rank ZeroComponent = 8
 class_rank Component = 9
 
--- the order of two tokens: by class, and by value where the classes are one
+-- the order of two tokens: by the rank of their classes, and by their value where the classes are
+-- one
 abbrev pub token_cmp : Token → Token → Ordering
 token_cmp =
     then_cmp (on (λ token. class_rank token.class) nat_cmp)
     (then_cmp (on (λ token. token.number) nat_cmp) (on (λ token. token.text) (slice_cmp nat_cmp)))
 
--- the order of two texts: the first tokens that differ decide
+-- the order of two versions by their texts: the first tokens that differ decide
 unfoldable pub version_cmp : List ℕ → List ℕ → Ordering
 version_cmp = on tokens (slice_cmp token_cmp)

@@ -51,7 +51,7 @@ lexeme_view text found =
 abbrev pub AreDigits : List ℕ → Type 0
 AreDigits digits = EachIndex digits (λ i. IsTrue (is_ascii_digit (slice_index digits i)))
 
--- the byte, if there is one and it is a hexadecimal digit
+-- the byte, if there is one and it is a lower-case hexadecimal digit
 abbrev pub hex_digit_by : Option ℕ → Option ℕ
 hex_digit_by None = None
 hex_digit_by (Some byte) = if is_hex_digit byte then Some byte else None
@@ -83,7 +83,7 @@ pub record AreEqualUpTo (left right : List ℕ) (len : ℕ) : Type 0 where
   pub within : (len ≤ length left) × (len ≤ length right)
   pub same : take len left ≡ take len right
 
--- the order of what is left of two versions within the hash of both
+-- the order of two versions by what is left of them from a place within the hash of both on
 abbrev pub hash_cmp : List ℕ → List ℕ → Ordering
 hash_cmp left right =
     ordering_then (slice_cmp nat_cmp (leading_hex_digits left) (leading_hex_digits right))

@@ -1,6 +1,6 @@
 -- The tokens that a version's text is made of, after apk-package(5). The rule stands in
--- `docs/formats.md`, "Versions", first paragraph. Byte values: 46 `.`, 48 `0`, 95 `_`, 97 to 102
--- `a` to `f`, 114 `r`, 126 `~`, 45 `-`.
+-- `docs/formats.md`, "Versions" ("A version is a number"). Byte values: 46 `.`, 48 `0`, 95 `_`, 97
+-- to 102 `a` to `f`, 114 `r`, 126 `~`, 45 `-`.
 use Rattle.std.specs.Prelude.{ℕ, ◌+◌, ◌==◌, Bool, true, false, ◌&&◌, ◌||◌, nat_lt, nat_le, if◌then◌else◌, List, [], ◌∷◌, length, codes, Option, Some, None}
 use Rattle.std.specs.Char.{is_ascii_digit, is_ascii_lowercase}
 use Rattle.std.specs.List.{take_while}
@@ -19,15 +19,15 @@ pub record Token : Type 0 where
   -- its value as a text, else empty
   pub text : List ℕ
 
--- a token that is its class alone
+-- a token that is its class alone, as the end is
 abbrev pub bare_token : Class → Token
 bare_token class = record { class = class; number = 0; text = [] }
 
--- a token that is compared by a number
+-- a token that is compared by a number, such as a component
 abbrev pub number_token : Class → ℕ → Token
 number_token class number = record { class = class; number = number; text = [] }
 
--- a token that is compared as text
+-- a token that is compared as text, such as a hash
 abbrev pub text_token : Class → List ℕ → Token
 text_token class text = record { class = class; number = 0; text = text }
 
@@ -118,7 +118,7 @@ suffix_lexeme_by word (Some rank) =
 abbrev pub suffix_lexeme : List ℕ → Lexeme
 suffix_lexeme word = suffix_lexeme_by word (suffix_rank word)
 
--- the lexeme of a hash by the digits behind its mark, of which there is at least one
+-- the lexeme of a hash by the digits behind its mark; without a digit it is stray
 unfoldable pub hash_lexeme : List ℕ → Lexeme
 hash_lexeme digits =
     if nat_lt 0 (length digits) then lexeme (text_token Hash digits) (1 + length digits)

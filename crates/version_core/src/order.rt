@@ -1,6 +1,6 @@
 //! The order of two versions. What both begin with is passed over as plain bytes, whole blocks
 //! first, and the tokens are read from the last mark in it on. The rule stands in
-//! `docs/formats.md`, "Versions", second paragraph ("A version is compared by its tokens").
+//! `docs/formats.md`, "Versions" ("A version is compared by its tokens").
 
 ghost use Rattle.std.specs.Prelude.{◌≡◌, ◌≤◌, ◌<◌, IsTrue, IfSome, Some, length, drop};
 ghost use Rattle.std.specs.Cmp.Lexicographic.{slice_cmp};

@@ -1,6 +1,6 @@
 //! The classes of tokens, the order of tokens, and the tokens of a text one after the other. The
-//! rules stand in `docs/formats.md`, "Versions": the classes and their order in the second
-//! paragraph, what a fuzzy match allows in the third.
+//! rules stand in `docs/formats.md`, "Versions": the classes and their order below "A version is
+//! compared by its tokens", what a fuzzy match allows below "An operator has four bits".
 
 ghost use Rattle.std.specs.Prelude.{◌≡◌, ◌<◌, Some, false, [], ◌∷◌, drop, if◌then◌else◌};
 ghost use Rattle.version_core.specs.Token.{is_before_hash, is_before_revision, is_component, is_suffix};

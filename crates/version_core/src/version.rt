@@ -1,5 +1,5 @@
 //! Versions and the operators that they are matched with. The rules stand in `docs/formats.md`,
-//! "Versions"; the operators and their match bits in its last paragraph.
+//! "Versions"; the operators and their match bits below "An operator has four bits".
 
 ghost use Rattle.std.specs.Prelude.{◌≡◌, IfSome, IsTrue, is_some};
 ghost use Rattle.version_core.specs.Op.{is_op};

@@ -1,5 +1,6 @@
 //! Dependencies, worlds and lists of repositories: texts that are read and written, what meets a
-//! dependency, first bad lines, and edits.
+//! dependency, first bad lines, and edits. The rules stand in `docs/formats.md`, "Dependencies",
+//! "World" and "Repositories".
 
 use base_core::Words;
 use dep_core::{
@@ -47,7 +48,7 @@ pub(crate) fn add_edits(
 }
 
 // Makes one edit of world, or adds what one asks: `+TEXT` adds, `-NAME` takes out, `#` counts,
-// `?PLACE` shows an entry.
+// `?PLACE` shows an entry, and `=` the text.
 fn add_edit(
     alloc: Global,
     world: &mut World,

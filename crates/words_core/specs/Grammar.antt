@@ -43,7 +43,7 @@ option_name word =
     take 2 word
 
 -- the value that an option's word holds, if it holds one: what is behind the first `=` of a long one,
--- and behind the two first bytes of a short one
+-- and behind the first two bytes of a short one
 unfoldable pub held_value : List ℕ → Option (List ℕ)
 held_value word =
     if bytes_eq (take 2 word) (codes "--") then

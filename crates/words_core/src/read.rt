@@ -27,6 +27,7 @@ impl From<AllocError> for WordsFault {
 
     ghost from_gives = { λ _ fault. fault ≡ Memory };
 
+    /// Where no memory was given there is no command.
     fn from(_: AllocError) -> WordsFault {
         WordsFault::Memory
     }

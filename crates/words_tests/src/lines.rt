@@ -1,12 +1,12 @@
 //! Command lines: which are a command, what such a command has, and which word offends first where
-//! they are none.
+//! they are none. The rules stand in `docs/commands.md`, "Words".
 use base_core::Words;
 use command_core::{Applet, Command, Flag, OperandKind, OptionValue, ValueKind};
 use row_lines::{add_number, add_word, number_of, value_named, word_at};
 use std::alloc::{AllocError, Global};
 use words_core::{WordsFault, read_words};
 
-/// The most words that stand for one.
+/// The most words that a row's line may have.
 const MOST_WORDS: usize = 100_000;
 
 /// Adds the place of the first word that offends, or 0 where the words are a command.
@@ -138,7 +138,7 @@ fn add_flags(command: &Command, answer: &mut Vec<u8>) -> Result<(), AllocError> 
     Ok(())
 }
 
-/// Adds a number in decimal.
+/// Adds a number in decimal, and a space before it.
 fn add_next(alloc: Global, number: u128, answer: &mut Vec<u8>) -> Result<(), AllocError> {
     add_word(answer, b"")?;
     add_number(alloc, answer, number)
@@ -190,6 +190,7 @@ pub(crate) fn add_letters(
     let Some(command) = command_of(alloc, line)? else {
         return answer.extend_from_slice(b"none");
     };
+    // All letters of options that have a value.
     for letter in b"FIcdost" {
         if let Some(value) = command.values().first(*letter) {
             add_word(answer, &[*letter])?;
@@ -199,6 +200,7 @@ pub(crate) fn add_letters(
     Ok(())
 }
 
+// The words for the kinds of values.
 #[rattlefmt::skip]
 const VALUE_KINDS: [(&[u8], ValueKind); 6] = [
     (b"any", ValueKind::Any),
@@ -217,6 +219,7 @@ pub(crate) fn is_value(words: &Words) -> bool {
     }
 }
 
+// The words for the kinds of operands.
 #[rattlefmt::skip]
 const OPERAND_KINDS: [(&[u8], OperandKind); 7] = [
     (b"file", OperandKind::File),
