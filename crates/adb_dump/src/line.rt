@@ -97,6 +97,7 @@ pub(crate) fn write_hex<O: Out>(out: &mut O, bytes: &[u8]) -> Result<(), AllocEr
 
 /// The digits of as many bytes as a SHA-256 has, two for each.
 fn hash_digits(hash: &[u8]) -> [u8; 2 * HASH_LEN]
+    // As many as `HASH_LEN`.
     requires { length hash.now ≡ 32 }
     ensures { result ≡ encode_lower hash.now }
 {
