@@ -1,7 +1,9 @@
 //! A block: its kind, its header as it is read and written, its framing, and how far the next one
 //! is. The rules stand in `docs/formats.md`, "Container", "A block is a header" (the header, the
 //! raw size, padding) and the rows "each block, at its offset" of its table; how a header is
-//! written, in "Canonical layout" ("In a container each block is padded").
+//! written, in "Canonical layout" ("In a container each block is padded"). In the clauses `exact`
+//! says that what is answered is what the tests in their order find, `order` that the kind may
+//! stand there, `fits` that the block ends within the bytes that there are.
 
 ghost use Rattle.std.specs.Prelude.{◌≡◌, ◌≤◌, ◌<◌, ◌+◌, ◌-◌, ◌^◌, ◌⊎◌, ℕ, List, Option, None, true, IfOk, IfSome, IsSome, length, take};
 ghost use Rattle.std.specs.Option.{option_map};

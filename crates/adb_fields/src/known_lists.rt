@@ -21,8 +21,8 @@ use adb_view::{Adb, Arr, Val};
 use std::alloc::{AllocError, Global};
 use std::collections::BTreeMap;
 
-/// How many entries a list has at most that is looked through at each place where it stands: to
-/// keep its pair would cost more than to look again. Any number gives the same answers.
+/// How many entries a list has at most whose pair is not kept: it is looked through at each place
+/// where it stands, which takes no memory that stays. Any number gives the same answers.
 const SHORT: usize = 16;
 
 /// A payload, a table whose objects have names, and for each long list of such objects that was

@@ -86,7 +86,7 @@ impl<'a, V: Kinded> Clone for List<'a, V> {
 
     ghost is_infallible = { λ _. Unit {0} };
 
-    /// The same list once more; it takes no memory.
+    // The same list once more; it takes no memory.
     fn clone(&self) -> Result<Self, std::alloc::AllocError> {
         Ok(*self)
     }
@@ -99,7 +99,7 @@ impl<'a> Kinded for &'a [u8] {
 impl<'a> View<'a> for &'a [u8] {
     ghost shows = { λ text. blob_value text.now };
 
-    /// The text that a word means.
+    // The text that a word means.
     #[tactic(auto, using(crate::proofs::FieldReads::text_shown))]
     fn of(adb: Adb<'a>, word: Val) -> &'a [u8] {
         text_word(adb, word)

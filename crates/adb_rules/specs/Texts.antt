@@ -62,8 +62,8 @@ is_file_hash around len = if needs_hash around.root around.has_contents then is_
 
 -- ---- the rule of each field
 
--- whether a number keeps the rule of the field with this number: only the operator of a dependency
--- has one
+-- whether a number keeps the rule of the field with this number; only the match number of a
+-- dependency (103) has one
 abbrev pub number_rule : ℕ → ℕ → Bool
 number_rule field_number n = if field_number == 103 then is_matching n else true
 

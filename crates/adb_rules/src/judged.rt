@@ -18,8 +18,8 @@ use std::alloc::{AllocError, Global};
 use std::collections::BTreeSet;
 use version_core::OverlappingVersions;
 
-/// How many bytes a text has at most that is judged at each place where it stands: to keep its
-/// answer would cost more than to judge it again. Any number gives the same answers.
+/// How many bytes a text has at most that is not kept: it is judged at each place where it stands,
+/// which takes no memory. Any number gives the same answers.
 const SHORT: usize = 64;
 
 /// A rule that looks at each byte of a text, and at nothing around the text; each is named for what

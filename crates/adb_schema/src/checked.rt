@@ -1,6 +1,8 @@
 //! A checked payload, and the four views of its root. The tests stand in `docs/formats.md`, "The
 //! texts"; the fields of the roots in "Schemas", tables 7 to 10. A clause has a field's index,
 //! which counts from 0; its number, by which the document and causes name the field, is one more.
+//! In the clauses of `Checked::new` `bad` says which cause a refusal has, and `sound` that no text
+//! is bad.
 
 ghost use Rattle.std.specs.Prelude.{◌≡◌, true, is_none, None, IfErr, IfOk};
 ghost use Rattle.adb_view.specs.Adb.{payload_of};
@@ -205,7 +207,7 @@ impl<'a> Kinded for IdbView<'a> {
 impl<'a> View<'a> for IdbView<'a> {
     ghost shows = { λ view. value_at (payload_of view.adb) (Kinds.Obj Tables.Idb) view.word };
 
-    /// The view of a word that is sound as a database.
+    // The view of a word that is sound as a database.
     fn of(adb: Adb<'a>, word: Val) -> IdbView<'a> {
         IdbView { adb, word }
     }
@@ -240,7 +242,7 @@ impl<'a> Kinded for IntentView<'a> {
 impl<'a> View<'a> for IntentView<'a> {
     ghost shows = { λ view. value_at (payload_of view.adb) (Kinds.Obj Tables.Intent) view.word };
 
-    /// The view of a word that is sound as an intent.
+    // The view of a word that is sound as an intent.
     fn of(adb: Adb<'a>, word: Val) -> IntentView<'a> {
         IntentView { adb, word }
     }

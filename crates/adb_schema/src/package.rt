@@ -30,7 +30,7 @@ impl<'a> Kinded for AclView<'a> {
 impl<'a> View<'a> for AclView<'a> {
     ghost shows = { λ view. value_at (payload_of view.adb) (Kinds.Obj Tables.Acl) view.word };
 
-    /// The view of a word that is sound as an access list.
+    // The view of a word that is sound as an access list.
     fn of(adb: Adb<'a>, word: Val) -> AclView<'a> {
         AclView { adb, word }
     }
@@ -85,7 +85,7 @@ impl<'a> Kinded for FileInfo<'a> {
 impl<'a> View<'a> for FileInfo<'a> {
     ghost shows = { λ view. value_at (payload_of view.adb) (Kinds.Obj Tables.File) view.word };
 
-    /// The view of a word that is sound as a file.
+    // The view of a word that is sound as a file.
     fn of(adb: Adb<'a>, word: Val) -> FileInfo<'a> {
         FileInfo { adb, word }
     }
@@ -162,7 +162,7 @@ impl<'a> Kinded for DirInfo<'a> {
 impl<'a> View<'a> for DirInfo<'a> {
     ghost shows = { λ view. value_at (payload_of view.adb) (Kinds.Obj Tables.Dir) view.word };
 
-    /// The view of a word that is sound as a folder.
+    // The view of a word that is sound as a folder.
     fn of(adb: Adb<'a>, word: Val) -> DirInfo<'a> {
         DirInfo { adb, word }
     }
@@ -212,7 +212,7 @@ impl<'a> Kinded for ScriptsView<'a> {
 impl<'a> View<'a> for ScriptsView<'a> {
     ghost shows = { λ view. value_at (payload_of view.adb) (Kinds.Obj Tables.Scripts) view.word };
 
-    /// The view of a word that is sound as scripts.
+    // The view of a word that is sound as scripts.
     fn of(adb: Adb<'a>, word: Val) -> ScriptsView<'a> {
         ScriptsView { adb, word }
     }
@@ -287,7 +287,7 @@ impl<'a> Kinded for PackageView<'a> {
 impl<'a> View<'a> for PackageView<'a> {
     ghost shows = { λ view. value_at (payload_of view.adb) (Kinds.Obj Tables.Package) view.word };
 
-    /// The view of a word that is sound as a package.
+    // The view of a word that is sound as a package.
     fn of(adb: Adb<'a>, word: Val) -> PackageView<'a> {
         PackageView { adb, word }
     }

@@ -29,7 +29,7 @@ impl<'a> Kinded for DepView<'a> {
 impl<'a> View<'a> for DepView<'a> {
     ghost shows = { λ view. value_at (payload_of view.adb) (Kinds.Obj Tables.Dep) view.word };
 
-    /// The view of a word that is sound as a dependency.
+    // The view of a word that is sound as a dependency.
     fn of(adb: Adb<'a>, word: Val) -> DepView<'a> {
         DepView { adb, word }
     }
@@ -77,7 +77,7 @@ impl<'a> Kinded for PkgInfo<'a> {
 impl<'a> View<'a> for PkgInfo<'a> {
     ghost shows = { λ view. value_at (payload_of view.adb) (Kinds.Obj Tables.PkgInfo) view.word };
 
-    /// The view of a word that is sound as the information of a package.
+    // The view of a word that is sound as the information of a package.
     fn of(adb: Adb<'a>, word: Val) -> PkgInfo<'a> {
         PkgInfo {
             adb,

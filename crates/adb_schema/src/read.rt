@@ -1,6 +1,8 @@
 //! The reading of a whole container, and names that stand twice in it. The order of the tests
 //! stands in `docs/formats.md`, "Tests of a container"; what is tested behind the first block, in
-//! "The other blocks"; the words of the four schemas, in "Schemas".
+//! "The other blocks"; the words of the four schemas, in "Schemas". In the clauses `bad` says which
+//! cause a refusal has, `sound` that no test failed, and `table`, `payload` and `value` what was
+//! read.
 
 ghost use Rattle.std.specs.Prelude.{ℕ, List, All, ◌<◌, ◌≡◌, ◌≤◌, None, Some, length, codes, IfOk, IfErr};
 ghost use Rattle.std.specs.Result.{result_err};
@@ -58,7 +60,7 @@ impl From<Cause> for ReadFault {
 
     ghost from_gives = { λ cause fault. fault ≡ Bad cause };
 
-    /// The first failed test as the fault of a read.
+    // The first failed test as the fault of a read.
     fn from(cause: Cause) -> ReadFault {
         ReadFault::Bad(cause)
     }
@@ -70,7 +72,7 @@ impl From<AllocError> for ReadFault {
 
     ghost from_gives = { λ _ fault. fault ≡ Memory };
 
-    /// Want of memory as the fault of a read.
+    // Want of memory as the fault of a read.
     fn from(_: AllocError) -> ReadFault {
         ReadFault::Memory
     }

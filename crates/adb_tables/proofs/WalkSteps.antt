@@ -196,7 +196,7 @@ null_texts p n lt = walk_texts p n 0 lt ∙ ap (λ r. and_then r (λ ws. each_wa
 null_objects : (p : List ℕ) (which : Which) (n : ℕ) → n < MOST_VALUES → walk p (shape_of (ObjArr which)) n 0 ≡ Ok (n + 1)
 null_objects p which n lt = walk_objects p which n 0 lt ∙ ap (λ r. and_then r (λ ws. each_walk (walk p (shape_of (Obj which))) (n + 1) ws)) (null_run ARRAY p)
 
-leaf_walk : (p : List ℕ) (kind : Kind) (n w : ℕ) → n < MOST_VALUES → is_sound_leaf p kind w ≡ true → walk p (shape_of kind) n w ≡ Ok (n + 1)
+pub leaf_walk : (p : List ℕ) (kind : Kind) (n w : ℕ) → n < MOST_VALUES → is_sound_leaf p kind w ≡ true → walk p (shape_of kind) n w ≡ Ok (n + 1)
 leaf_walk p Int n w lt e = walk_int p n w lt ∙ leaf_step (int_of p w) n e
 leaf_walk p Text n w lt e = walk_text p n w lt ∙ leaf_step (blob_of p w) n e
 leaf_walk p Hash n w lt e = walk_hash p n w lt ∙ leaf_step (blob_of p w) n e
@@ -207,3 +207,6 @@ leaf_walk p (ObjArr which) n w lt e = let z : w ≡ 0 = eqb-true w 0 e in rw z (
 pub fields_leaf : (p : List ℕ) (fs : List Field) (n : ℕ) (ws : List ℕ) (i : ℕ) (d : Field) → i < length fs → i < length ws → n < MOST_VALUES → is_sound_leaf p (get_or fs i d).kind (get_or ws i 0) ≡ true
     → fields_walk p (shapes_of (drop i fs)) n (drop i ws) ≡ fields_walk p (shapes_of (drop (i + 1) fs)) (n + 1) (drop (i + 1) ws)
 fields_leaf p fs n ws i d lt lt' few e = fields_more p fs n ws i (n + 1) d lt lt' (leaf_walk p (get_or fs i d).kind n (get_or ws i 0) few e)
+
+pub texts_leaf : (p : List ℕ) (n : ℕ) (ws : List ℕ) (i : ℕ) → i < length ws → n < MOST_VALUES → is_sound_leaf p Text (get_or ws i 0) ≡ true → each_walk (walk p (shape_of Text)) n (drop i ws) ≡ each_walk (walk p (shape_of Text)) (n + 1) (drop (i + 1) ws)
+texts_leaf p n ws i lt few e = each_more (walk p (shape_of Text)) n ws i (n + 1) lt (leaf_walk p Text n (get_or ws i 0) few e)

@@ -1,5 +1,5 @@
--- The walk over a payload's values: the first visit that is faulty, and the same walk counting
--- without a list. The rule stands in `docs/formats.md`, "The shape".
+-- The walk over a payload's values, as its list of visits: the first of them that is faulty. The
+-- rule stands in `docs/formats.md`, "The shape".
 use Rattle.std.specs.Prelude.{ℕ, ◌+◌, List, [], ◌∷◌, Option, Some, None, nat_lt, if◌then◌else◌}
 use Rattle.std.specs.Option.{option_or}
 use Rattle.adb_view.specs.Plain.{Shape}

@@ -347,34 +347,34 @@ pub const INTENT: Schema<2> = Schema {
     fields: INTENT_FIELDS,
 };
 
-/// The fields of table 1 as a static, so that `fields_of` can lend them.
+// The fields of table 1 as a static, so that `fields_of` can lend them.
 static DEP_ROWS: [Field; 3] = DEP_FIELDS;
 
-/// The fields of table 2 as a static, so that `fields_of` can lend them.
+// The fields of table 2 as a static, so that `fields_of` can lend them.
 static ACL_ROWS: [Field; 4] = ACL_FIELDS;
 
-/// The fields of table 3 as a static, so that `fields_of` can lend them.
+// The fields of table 3 as a static, so that `fields_of` can lend them.
 static PKGINFO_ROWS: [Field; 22] = PKGINFO_FIELDS;
 
-/// The fields of table 4 as a static, so that `fields_of` can lend them.
+// The fields of table 4 as a static, so that `fields_of` can lend them.
 static FILE_ROWS: [Field; 7] = FILE_FIELDS;
 
-/// The fields of table 5 as a static, so that `fields_of` can lend them.
+// The fields of table 5 as a static, so that `fields_of` can lend them.
 static DIR_ROWS: [Field; 3] = DIR_FIELDS;
 
-/// The fields of table 6 as a static, so that `fields_of` can lend them.
+// The fields of table 6 as a static, so that `fields_of` can lend them.
 static SCRIPTS_ROWS: [Field; 7] = SCRIPTS_FIELDS;
 
-/// The fields of table 7 as a static, so that `fields_of` can lend them.
+// The fields of table 7 as a static, so that `fields_of` can lend them.
 static PACKAGE_ROWS: [Field; 5] = PACKAGE_FIELDS;
 
-/// The fields of table 8 as a static, so that `fields_of` can lend them.
+// The fields of table 8 as a static, so that `fields_of` can lend them.
 static INDEX_ROWS: [Field; 3] = INDEX_FIELDS;
 
-/// The fields of table 9 as a static, so that `fields_of` can lend them.
+// The fields of table 9 as a static, so that `fields_of` can lend them.
 static IDB_ROWS: [Field; 1] = IDB_FIELDS;
 
-/// The fields of table 10 as a static, so that `fields_of` can lend them.
+// The fields of table 10 as a static, so that `fields_of` can lend them.
 static INTENT_ROWS: [Field; 2] = INTENT_FIELDS;
 
 /// The fields of a table, in the order of their numbers.

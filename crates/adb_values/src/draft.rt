@@ -1,6 +1,7 @@
 //! A payload under construction. What is written stands in `docs/formats.md`, "Canonical layout"
 //! ("Values are written depth first"); where a limit is passed, below "A payload has at most". How
-//! the calls chain is told in the README of this crate.
+//! the calls chain is told in the README of this crate. In the clauses `ok` says what the draft has
+//! taken, and `err` that a refused call leaves it as it was.
 
 ghost use Rattle.std.specs.Prelude.{◌≡◌, ℕ, ◌<◌, ◌≤◌, List, ◌∷◌, ◌++◌, [], length, take, true, false, IfOk, OnErr, OnOk, vec_capacity, vec_len};
 ghost use Rattle.adb_view.specs.Plain.{Plain, Plains, arr_value, blob_value, int, null, obj_value};

@@ -1,6 +1,8 @@
 //! An opened payload and its four readers, and what follows from the definitions, for every
 //! payload. The rules stand in `docs/formats.md`, "Values": the head below "An ADB payload begins
-//! with eight bytes", the kinds of words in its table, what each reader answers below it.
+//! with eight bytes", the kinds of words in its table, what each reader answers below it. In the
+//! clauses `exact` says which payload is refused and why, `lent` that the bytes are those that were
+//! given, `order` and `within` that a range lies in the payload.
 
 ghost use Rattle.std.specs.Prelude.{◌≡◌, ◌≤◌, length, slice_range, IfOk, ◌<◌, ℕ, List, All, IfSome, is_some};
 ghost use Rattle.std.specs.Result.{result_err, result_ok};

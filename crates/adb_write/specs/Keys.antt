@@ -55,7 +55,7 @@ four_bytes bytes i =
     + get_or bytes (i + 2) 0 * 2 ^ 16 + get_or bytes (i + 3) 0 * 2 ^ 24
 
 -- the fingerprint of a blob: of its first four bytes, its last four, and its length; 31 only mixes
--- the two, and any factor would do
+-- the two, and another factor would do as well
 unfoldable pub blob_fingerprint : List ℕ → ℕ
 blob_fingerprint b = (four_bytes b 0 + 31 * four_bytes b (length b - 4) + length b) % 2 ^ 32
 

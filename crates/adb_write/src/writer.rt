@@ -42,7 +42,7 @@ impl From<AllocError> for WriteFault {
 
     ghost from_gives = { λ _ fault. fault ≡ Memory };
 
-    /// Want of memory as the reason for which a writer gave no payload.
+    // Want of memory as the reason for which a writer gave no payload.
     fn from(_: AllocError) -> WriteFault {
         WriteFault::Memory
     }
@@ -84,6 +84,10 @@ const HEAD: u64 = 8;
 /// lists. The first value that brings a count above its limit is counted, but not written, and its
 /// answer is NULL; every later call changes nothing and answers NULL, and `finish` reports the two
 /// counts. Contracts see what was written and the counts: `Writing` of `specs/`.
+///
+/// In the clauses `ok` says what the layout makes of a call, `written` the same of values that are
+/// written depth first, `err` that a refused call changes nothing, and `wants` that only a call that
+/// adds bytes is refused.
 #[derive(Drop)]
 pub struct Writer {
     /// What was written.

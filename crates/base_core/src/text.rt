@@ -1,5 +1,6 @@
 //! Byte texts, and the words of a command line. How many words a command line may have stands in
-//! `docs/commands.md`, "Answers and statuses" (status 5); how they are read, in "Words".
+//! `docs/commands.md`, "Answers and statuses" (status 5); how they are read, in "Words". In the
+//! clauses `ok` and `err` say what a push makes of the list, `small` that places fit in 32 bits.
 ghost use Rattle.std.specs.Prelude.{◌≡◌, ◌<◌, [], ◌∷◌, ◌++◌, length, IfOk, OnOk, OnErr, slice_get, Some, ◌==◌};
 
 use std::alloc::{AllocError, Global};

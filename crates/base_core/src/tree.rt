@@ -33,7 +33,7 @@ pub enum TreeFault {
 impl From<Disk> for TreeFault {
     ghost from_gives = { λ _ fault. fault ≡ DiskFault };
 
-    /// The fault of a tree as the fault of a call that reads it into memory.
+    // The fault of a tree as the fault of a call that reads it into memory.
     fn from(_: Disk) -> TreeFault {
         TreeFault::Disk
     }
@@ -42,7 +42,7 @@ impl From<Disk> for TreeFault {
 impl From<AllocError> for TreeFault {
     ghost from_gives = { λ _ fault. fault ≡ Memory };
 
-    /// Want of memory as the fault of such a call.
+    // Want of memory as the fault of such a call.
     fn from(_: AllocError) -> TreeFault {
         TreeFault::Memory
     }

@@ -66,31 +66,31 @@ excludes kind a b = false
 
 -- ---- rules
 
--- `-I` may stand often, with any text; `make_info` says which of them offend
+-- the rule of `-I`: it may stand often, with any text; `make_info` says which of them offend
 abbrev pub info_rule : ValueRule
 info_rule = record { letter = INFO; single = false; kind = Any }
 
--- `-s` may stand once for each type of script
+-- the rule of `-s`: it may stand once for each type of script
 abbrev pub script_rule : ValueRule
 script_rule = record { letter = SCRIPT; single = false; kind = Script }
 
--- `-t` may stand often, and is not empty
+-- the rule of `-t`: it may stand often, and its value is not empty
 abbrev pub trigger_rule : ValueRule
 trigger_rule = record { letter = TRIGGER; single = false; kind = Nonempty }
 
--- `-F` names a folder, once
+-- the rule of `-F`: it names a folder, once
 abbrev pub files_rule : ValueRule
 files_rule = record { letter = FILES; single = true; kind = File }
 
--- `-o` names the file that is made, once
+-- the rule of `-o`: it names the file that is made, once
 abbrev pub output_rule : ValueRule
 output_rule = record { letter = OUTPUT; single = true; kind = Output }
 
--- `-c` may only ask for no compression
+-- the rule of `-c`: it may only ask for no compression, once
 abbrev pub compression_rule : ValueRule
 compression_rule = record { letter = COMPRESSION; single = true; kind = Uncompressed }
 
--- `-d` gives an index its description, once
+-- the rule of `-d`: it gives an index its description, once
 abbrev pub description_rule : ValueRule
 description_rule = record { letter = DESCRIPTION; single = true; kind = Any }
 

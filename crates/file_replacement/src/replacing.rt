@@ -103,7 +103,8 @@ fn scratch_name(alloc: Global, name: &Name) -> Result<Name, AllocError>
     Name::of(alloc, &bytes)
 }
 
-/// Makes the new file under the scratch name and moves it to its name.
+/// Makes the new file under the scratch name and moves it to its name. The clauses are those of
+/// `replace`, for any scratch name on which no state rests.
 fn write_beside<T: Tree>(
     tree: &mut T,
     scratch: &Name,

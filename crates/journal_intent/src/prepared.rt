@@ -32,6 +32,7 @@ pub struct PreparedIntent {
     name: Name,
     /// The container that spells the intent.
     file: Vec<u8>,
+    // The names are these for each intent, the file spells it, and there are few enough names.
     ghost waiting: { stage_names ≡ stage_names_from 0 (length writes + 1) },
     ghost named: { name ≡ intent_name },
     ghost spelled: { read_intent file.items ≡ Some (intent_of_lists removals writes) },

@@ -100,7 +100,7 @@ need_value v =
     obj_value
     (more (blob_value v.name) (more (blob_value v.version) (more (number_value v.matching) none)))
 
--- the plain value of one value of a field; a text that is empty is Null
+-- the plain value that stands in a package for one value of a field; a text that is empty is Null
 abbrev pub plain_value : FieldValue → Plain
 plain_value (text bytes) = blob_value bytes
 plain_value (number n) = int n

@@ -46,7 +46,7 @@ pub(crate) fn read_files<T: Tree>(
         (expected_contents (value_of_contents contents.now))
         (reading_of (behind_front front.now pkg))) pkg test)) }
     // The tree stays as it is; a failed tree is answered only where it failed, and no call is a
-    // misuse where the file is as long as it was.
+    // misuse where the tree shows the file, as long as it was.
     ensures tree { ReadsFile name.now (front_file_len front.now) DiskFault (T.history tree.old)
         (T.history tree.new) (T.counts tree.old) (T.counts tree.new) result }
 {

@@ -50,7 +50,7 @@ pub fn read_package<T: Tree>(
         × IfObservable (T.history tree.old) (λ v. found ≡ files_of v name.now)
         × IsReadOf name.now found read) }
     // The tree stays as it is; a failed tree is answered only where it failed, and no call is a
-    // misuse.
+    // misuse where the tree tells its files.
     ensures tree { OnlyReads DiskFault (T.history tree.old) (T.history tree.new)
         (T.counts tree.old) (T.counts tree.new) result }
 {
@@ -71,7 +71,7 @@ fn read_named<T: Tree>(
         × IfObservable (T.history tree.old) (λ v. found ≡ files_of v name.now)
         × IsReadOf name.now found read) }
     // The tree stays as it is; a failed tree is answered only where it failed, and no call is a
-    // misuse.
+    // misuse where the tree tells its files.
     ensures tree { OnlyReads DiskFault (T.history tree.old) (T.history tree.new)
         (T.counts tree.old) (T.counts tree.new) result }
 {
@@ -118,7 +118,7 @@ fn read_behind<T: Tree>(
         → HasAt pkg (front_end front.now) seen → IsWholeTested pkg test)) }
     ensures payload { IfOk result (HasSoundPayload front.now) }
     // The tree stays as it is; a failed tree is answered only where it failed, and no call is a
-    // misuse where the file is as long as it was.
+    // misuse where the tree shows the file, as long as it was.
     ensures tree { ReadsFile name.now (front_file_len front.now) DiskFault (T.history tree.old)
         (T.history tree.new) (T.counts tree.old) (T.counts tree.new) result }
 {

@@ -46,7 +46,7 @@ pub fn test_package<T: Tree>(
         × IfObservable (T.history tree.old) (λ v. found ≡ files_of v name.now)
         × IsTestOf found test) }
     // The tree stays as it is; a failed tree is answered only where it failed, and no call is a
-    // misuse.
+    // misuse where the tree tells its files.
     ensures tree { OnlyReads DiskFault (T.history tree.old) (T.history tree.new)
         (T.counts tree.old) (T.counts tree.new) result }
 {

@@ -64,12 +64,14 @@ impl<'a> FileCheck<'a> {
     #[tactic(auto, using(crate::proofs::Taken::more_left, crate::proofs::Taken::last_good, crate::proofs::Taken::last_bad))]
     pub fn take(self, bytes: &[u8]) -> Result<(Part, Option<FileCheck<'a>>), Cause>
         requires { length bytes.now ≡ next_len self }
+        // Of a file of which `so_far` was taken these bytes are the next piece, and `left` stays.
         ensures taken { (so_far left : List ℕ) (further : PiecesRead) → HasTaken self.entry so_far
             → length (so_far ++ (bytes.now ++ left)) ≡ self.entry.wanted.size
             → IsTaken self.entry so_far bytes.now left further result }
         // Behind the last piece all bytes that were taken have the file's digest.
         ensures digest { (so_far : List ℕ) → HasTaken self.entry so_far → IfOk result (λ taken.
             IsTested self.entry.wanted.hash.now (so_far ++ bytes.now) taken.1) }
+        // The piece is a part of this file, and its bytes are taken off what is to come.
         ensures part { IfOk result (IsPartOf self.entry) }
         ensures left { IfOk result (λ taken. IfSome taken.1 (λ further.
             file_bytes_left further ≡ file_bytes_left self.entry - length bytes.now)) }
@@ -124,6 +126,7 @@ pub fn open_file<'a>(
     positions: &[u8; 8],
 ) -> Result<FileCheck<'a>, Cause>
     requires { 8 ≤ len }
+    // Of each payload of this length that begins with these positions.
     ensures opened { (payload : List ℕ) (further : List Expected → PiecesRead)
         → length payload ≡ len → take 8 payload ≡ positions.now
         → IsOpened (pieces_of_payload payload further (left_in walk.old)) payload

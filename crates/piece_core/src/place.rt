@@ -53,8 +53,10 @@ impl<'a> BlockPlace<'a> {
     /// `Truncated` where contents have fewer than eight bytes; those of `open_file`; and
     /// `DataOrder` with (0, 0) where no block is left and a file is due.
     pub fn step(&mut self, framing: Option<Frame>, positions: &[u8; 8]) -> Result<Step<'a>, Cause>
+        // The place, and the block that stands there, lie within the file.
         requires at { self.old.at ≤ self.old.len }
         requires fits { IfSome framing (λ frame. raw_size frame ≤ self.old.len - self.old.at) }
+        // For each file that is so long and has this block there.
         ensures step { (file : List ℕ) → length file ≡ self.old.len
             → IsFramed (Ok framing) (drop self.old.at file) (step_at self.old file)
             → HasPositions framing positions.now self.old file
@@ -64,6 +66,8 @@ impl<'a> BlockPlace<'a> {
         ensures behind { IfSome framing (λ frame. OnOk result (self.new.at
             ≡ self.old.at + whole_size frame (self.old.len - self.old.at))) }
         ensures within { self.new.at ≤ self.new.len }
+        // Of a file that is opened all bytes are to come; only contents open one, which is the next
+        // of the walk; and the end is told only where no block is left.
         ensures left { IfSome framing (λ frame. IfOk result (HasAllLeft frame)) }
         ensures kind { IfSome framing (λ frame. IfOk result (IsOfContents frame)) }
         ensures walk { IfOk result (λ step. WalksOn self.old.walk step self.new.walk) }
@@ -75,7 +79,8 @@ impl<'a> BlockPlace<'a> {
         }
     }
 
-    /// Ends the walk where no block is left: no file may be due then.
+    /// Ends the walk where no block is left: no file may be due then. The clauses are those of
+    /// `step`.
     #[tactic(auto, using(crate::proofs::Placed::end_good, crate::proofs::Placed::end_bad))]
     fn end(&mut self) -> Result<Step<'a>, Cause>
         ensures step { (file : List ℕ) → step_at self.old file ≡ ended
@@ -92,6 +97,7 @@ impl<'a> BlockPlace<'a> {
     }
 
     /// Goes on behind a block that is there: one of contents opens a file, and another is passed.
+    /// The clauses are those of `step`.
     fn step_over(&mut self, frame: Frame, positions: &[u8; 8]) -> Result<Step<'a>, Cause>
         requires at { self.old.at ≤ self.old.len }
         requires fits { raw_size frame ≤ self.old.len - self.old.at }
@@ -116,7 +122,7 @@ impl<'a> BlockPlace<'a> {
         }
     }
 
-    /// Opens the file whose contents this block holds.
+    /// Opens the file whose contents this block holds. The clauses are those of `step`.
     fn open(&mut self, frame: Frame, positions: &[u8; 8]) -> Result<Step<'a>, Cause>
         requires at { self.old.at ≤ self.old.len }
         requires fits { raw_size frame ≤ self.old.len - self.old.at }

@@ -68,7 +68,7 @@ pub(crate) fn next_block<'a, T: Tree>(
     ensures walk { IfOk result (λ step. GoesOnWith place.old.walk step place.new.walk) }
     ensures further { IfOk result (λ step. GoesFurther place.old step place.new) }
     // The tree stays as it is; a failed tree is answered only where it failed, and no call is a
-    // misuse where the file is as long as it was.
+    // misuse where the tree shows the file, as long as it was.
     ensures tree { ReadsFile name.now place.old.len DiskFault (T.history tree.old)
         (T.history tree.new) (T.counts tree.old) (T.counts tree.new) result }
 {
@@ -116,7 +116,7 @@ pub(crate) fn read_block<T: Tree>(
         × ((file : List ℕ) → length file ≡ place.now.len → HasAt file place.now.at seen
         → IsBlockRead place.now file result) }
     // The tree stays as it is; a failed tree is answered only where it failed, and no call is a
-    // misuse where the file is as long as it was.
+    // misuse where the tree shows the file, as long as it was.
     ensures tree { ReadsFile name.now place.now.len DiskFault (T.history tree.old)
         (T.history tree.new) (T.counts tree.old) (T.counts tree.new) result }
 {
@@ -142,7 +142,7 @@ fn read_positions<T: Tree>(
         → IsSeen (T.history tree.old) name.now file_len (at + head_size framing) seen)) }
     ensures disk { IfErr result (λ fault. fault ≡ DiskFault) }
     // The tree stays as it is; a failed tree is answered only where it failed, and no call is a
-    // misuse where the file is as long as it was.
+    // misuse where the tree shows the file, as long as it was.
     ensures tree { (file_len : ℕ) → at ≤ file_len
         → IfSome framing (λ frame. at + raw_size frame ≤ file_len)
         → ReadsFile name.now file_len DiskFault (T.history tree.old) (T.history tree.new)
@@ -177,7 +177,7 @@ pub(crate) fn next_file<'a, T: Tree>(
     ensures room { IfOk result (λ found. IfSome found (λ next.
         next.at + file_bytes_left next.file ≤ place.new.at)) }
     // The tree stays as it is; a failed tree is answered only where it failed, and no call is a
-    // misuse where the file is as long as it was.
+    // misuse where the tree shows the file, as long as it was.
     ensures tree { ReadsFile name.now place.old.len DiskFault (T.history tree.old)
         (T.history tree.new) (T.counts tree.old) (T.counts tree.new) result }
 {

@@ -155,7 +155,7 @@ impl<'a> FilePieces<'a> {
         ensures name { package_of_file self.new ≡ package_of_file self.old }
         ensures len { len_around_file self.new ≡ len_around_file self.old }
         // The tree stays as it is; a failed tree is answered only where it failed, and no call is a
-        // misuse where the file is as long as it was.
+        // misuse where the tree shows the file, as long as it was.
         ensures tree { ReadsFile (package_of_file self.old) (len_around_file self.old) DiskFault
             (T.history tree.old) (T.history tree.new) (T.counts tree.old) (T.counts tree.new)
             result }
@@ -186,7 +186,7 @@ impl<'a> FilePieces<'a> {
         ensures name { package_of_file self.new ≡ package_of_file self.old }
         ensures len { len_around_file self.new ≡ len_around_file self.old }
         // The tree stays as it is; a failed tree is answered only where it failed, and no call is a
-        // misuse where the file is as long as it was.
+        // misuse where the tree shows the file, as long as it was.
         ensures tree { ReadsFile (package_of_file self.old) (len_around_file self.old) DiskFault
             (T.history tree.old) (T.history tree.new) (T.counts tree.old) (T.counts tree.new)
             result }

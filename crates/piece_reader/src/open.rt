@@ -66,7 +66,7 @@ impl<'a> OpenFile<'a> {
             further.at + file_bytes_left further.file
             ≡ self.entry.at + file_bytes_left self.entry.file)) }
         // The tree stays as it is; a failed tree is answered only where it failed, and no call is a
-        // misuse where the file is as long as it was.
+        // misuse where the tree shows the file, as long as it was.
         ensures tree { (file_len : ℕ) → self.entry.at + file_bytes_left self.entry.file ≤ file_len
             → ReadsFile name.now file_len DiskFault (T.history tree.old) (T.history tree.new)
             (T.counts tree.old) (T.counts tree.new) result }

@@ -64,7 +64,7 @@ impl Piece {
         ensures seen { OnOk result ((file_len : ℕ)
             → IsSeen (T.history tree.old) name.now file_len at self.new) }
         // The tree stays as it is; a failed tree is answered only where it failed, and no call is a
-        // misuse where the file is as long as it was.
+        // misuse where the tree shows the file, as long as it was.
         ensures tree { (file_len : ℕ) → at + len ≤ file_len
             → ReadsFile name.now file_len DiskFault (T.history tree.old) (T.history tree.new)
             (T.counts tree.old) (T.counts tree.new) result }

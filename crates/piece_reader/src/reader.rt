@@ -137,7 +137,8 @@ impl<'a> PieceReader<'a> {
             → (before : PiecesRead) → IsReading self.old pkg before
             → AnswersNext (IsReading self.new pkg) before piece.new result
             × IfOk result (λ found. HasPieceAt self.old pkg piece.new found self.new)) }
-        // The pieces come file by file, in the order of the package; behind a piece the reader goes on.
+        // The pieces come file by file, in the order of the package; behind a piece the reader goes
+        // on.
         ensures order { IfOk result (λ found.
             ComesInOrder (due_files self.old) found (due_files self.new)) }
         ensures goes_on { IfOk result (λ found. IfSome found (λ part.
@@ -153,7 +154,7 @@ impl<'a> PieceReader<'a> {
         ensures name { name_in_tree self.new ≡ name_in_tree self.old }
         ensures len { package_len self.new ≡ package_len self.old }
         // The tree stays as it is; a failed tree is answered only where it failed, and no call is a
-        // misuse where the file is as long as it was.
+        // misuse where the tree shows the file, as long as it was.
         ensures tree { ReadsFile (name_in_tree self.old) (package_len self.old) DiskFault
             (T.history tree.old) (T.history tree.new) (T.counts tree.old) (T.counts tree.new)
             result }
@@ -195,7 +196,7 @@ impl<'a> PieceReader<'a> {
         ensures name { name_in_tree self.new ≡ name_in_tree self.old }
         ensures len { package_len self.new ≡ package_len self.old }
         // The tree stays as it is; a failed tree is answered only where it failed, and no call is a
-        // misuse where the file is as long as it was.
+        // misuse where the tree shows the file, as long as it was.
         ensures tree { ReadsFile (name_in_tree self.old) (package_len self.old) DiskFault
             (T.history tree.old) (T.history tree.new) (T.counts tree.old) (T.counts tree.new)
             result }
@@ -243,7 +244,7 @@ impl<'a> PieceReader<'a> {
         ensures name { name_in_tree self.new ≡ name_in_tree self.old }
         ensures len { package_len self.new ≡ package_len self.old }
         // The tree stays as it is; a failed tree is answered only where it failed, and no call is a
-        // misuse where the file is as long as it was.
+        // misuse where the tree shows the file, as long as it was.
         ensures tree { ReadsFile (name_in_tree self.old) (package_len self.old) DiskFault
             (T.history tree.old) (T.history tree.new) (T.counts tree.old) (T.counts tree.new)
             result }
@@ -280,7 +281,7 @@ impl<'a> PieceReader<'a> {
         ensures name { name_in_tree self.new ≡ name_in_tree self.old }
         ensures len { package_len self.new ≡ package_len self.old }
         // The tree stays as it is; a failed tree is answered only where it failed, and no call is a
-        // misuse where the file is as long as it was.
+        // misuse where the tree shows the file, as long as it was.
         ensures tree { ReadsFile (name_in_tree self.old) (package_len self.old) DiskFault
             (T.history tree.old) (T.history tree.new) (T.counts tree.old) (T.counts tree.new)
             result }

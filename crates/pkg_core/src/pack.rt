@@ -87,9 +87,11 @@ impl<'a> Package<'a> {
     ///
     /// `Bad` with the cause of the first test that fails, or `Memory`.
     pub fn new(alloc: Global, bytes: &'a [u8]) -> Result<Package<'a>, PackageFault>
+        // It is refused for the first failed test of the values, and read where none fails.
         ensures bad { IfErr result
             (λ fault. IsFaultOf fault (first_fault Tables.Package bytes.entry.now)) }
         ensures sound { IfOk result (λ _. first_fault Tables.Package bytes.entry.now ≡ None) }
+        // It shows the value, the id and the contents of the file that it is read from.
         ensures value { IfOk result
             (λ pkg. opened_value pkg ≡ root_value Tables.Package (payload_in bytes.entry.now)) }
         ensures payload { IfOk result (λ pkg. opened_payload pkg ≡ payload_in bytes.entry.now) }

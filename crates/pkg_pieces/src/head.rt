@@ -52,7 +52,7 @@ impl HeadBytes {
         ensures holds { IfOk result (λ head. HoldsHead head left) }
         ensures short { IfOk result (λ head. length head ≤ head_len head) }
         // The tree stays as it is; a failed tree is answered only where it failed, and no call is a
-        // misuse where the file is as long as it was.
+        // misuse where the tree shows the file, as long as it was.
         ensures tree { (file_len : ℕ) → at + left ≤ file_len
             → ReadsFile name.now file_len tree_fault (T.history tree.old) (T.history tree.new)
             (T.counts tree.old) (T.counts tree.new) result }

@@ -45,7 +45,7 @@ pub fn read_front<T: Tree>(
         × ((file : List ℕ) → length file ≡ front_file_len front → HasAt file 0 seen
         → IsFrontOf schema file front))) }
     // The tree stays as it is; a failed tree is answered only where it failed, and no call is a
-    // misuse.
+    // misuse where the tree tells its files.
     ensures tree { OnlyReads DiskFault (T.history tree.old) (T.history tree.new)
         (T.counts tree.old) (T.counts tree.new) result }
 {
@@ -87,7 +87,7 @@ impl Header {
             → IsSeen (T.history tree.old) name.now file_len 0 header) }
         ensures disk { IfErr result (λ fault. fault ≡ DiskFault) }
         // The tree stays as it is; a failed tree is answered only where it failed, and no call is a
-        // misuse where the file is as long as it was.
+        // misuse where the tree shows the file, as long as it was.
         ensures tree { ReadsFile name.now len DiskFault (T.history tree.old) (T.history tree.new)
             (T.counts tree.old) (T.counts tree.new) result }
     {
@@ -120,7 +120,7 @@ fn read_payload<T: Tree>(
         → IsSeen (T.history tree.old) name.now file_len at payload.items) }
     ensures good { IfErr result (λ fault. IsNotBad fault) }
     // The tree stays as it is; a failed tree is answered only where it failed, and no call is a
-    // misuse where the file is as long as it was.
+    // misuse where the tree shows the file, as long as it was.
     ensures tree { (file_len : ℕ) → at + len ≤ file_len → ReadsFile name.now file_len DiskFault
         (T.history tree.old) (T.history tree.new) (T.counts tree.old) (T.counts tree.new) result }
 {
@@ -143,7 +143,7 @@ fn read_present<T: Tree>(
         × ((file : List ℕ) → length file ≡ len → HasAt file 0 seen
         → IsPresentRead schema result (length seen) file) }
     // The tree stays as it is; a failed tree is answered only where it failed, and no call is a
-    // misuse where the file is as long as it was.
+    // misuse where the tree shows the file, as long as it was.
     ensures tree { ReadsFile name.now len DiskFault (T.history tree.old) (T.history tree.new)
         (T.counts tree.old) (T.counts tree.new) result }
 {

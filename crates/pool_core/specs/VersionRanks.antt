@@ -4,18 +4,17 @@
 -- Serves the contracts of `src/version_ranks.rt`: a rank may stand for a version where two options
 -- are compared.
 use Rattle.std.specs.Prelude.{◌≡◌, ℕ, List, [], length, map, Option, Some, None, All, IfSome, is_some, slice_get}
-use Rattle.std.specs.Option.{option_cmp}
 use Rattle.std.specs.List.{filter}
 use Rattle.std.specs.List.Sorted.{IsPermutation}
-use Rattle.std.specs.Ordering.{is_lt, then_cmp}
-use Rattle.std.specs.declared.cmp.Ordering.{Ordering}
+use Rattle.std.specs.Ordering.{is_lt}
 use Rattle.adb_view.specs.Adb.{payload_of}
 use Rattle.adb_tables.specs.Values.{text_in, value_at}
 use Rattle.adb_tables.specs.declared.tables.Kind.TheVariants.{Text}
 use Rattle.pool_core.specs.Options.{IsIn}
-use Rattle.pool_core.specs.Rank.{bytes_cmp, greater_version}
-use Rattle.pool_core.specs.Ranking.{Ranking}
+use Rattle.pool_core.specs.Ranking.{Ranking, version_order}
 use Rattle.pool_core.specs.declared.packages.Source.{Source}
+use Rattle.pool_core.specs.declared.rank.VersionKey.{VersionKey}
+use Rattle.pool_core.specs.declared.rank.VersionKey.TheVariants.{ByRank, ByText}
 use Rattle.pool_core.specs.declared.versions.RankedVersion.{RankedVersion}
 use Rattle.pool_core.specs.declared.versions.VersionKind.{VersionKind}
 use Rattle.pool_core.specs.declared.versions.VersionKind.TheVariants.{Under, Own}
@@ -53,12 +52,6 @@ abbrev pub version_of : VersionKind → Ranking → RankedVersion
 version_of Under r = r.under
 version_of Own r = r.version
 
--- the order of two versions of a kind: the greater comes first; candidates' own versions are told
--- apart by their texts too
-abbrev pub version_order : VersionKind → Option (List ℕ) → Option (List ℕ) → Ordering
-version_order Under = greater_version
-version_order Own = then_cmp greater_version (option_cmp bytes_cmp)
-
 -- the rank of a version among some: how many of them come before it
 abbrev pub rank_among : VersionKind → List (Option (List ℕ)) → Option (List ℕ) → ℕ
 rank_among kind versions version =
@@ -91,3 +84,14 @@ pub record AreRankedFrom (kind : VersionKind) (before after : List Ranking) : Ty
   pub permutation : IsPermutation before moved
   pub listed : All (IsListed kind versions) moved
   pub ranked : after ≡ map (with_rank_among kind versions) moved
+
+-- the rankings in some order, each with the ranks of both its versions
+pub record AreRankedTwice (before after : List Ranking) : Type 0 where
+  pub between : List Ranking
+  pub under : AreRankedFrom Under before between
+  pub own : AreRankedFrom Own between after
+
+-- what may be compared by a key: both versions of each are ranked, or nothing has changed
+abbrev pub AreReadyFor : VersionKey → List Ranking → List Ranking → Type 0
+AreReadyFor ByRank before after = AreRankedTwice before after
+AreReadyFor ByText before after = after ≡ before

@@ -1,13 +1,13 @@
 //! Which of two options is taken first for a need. Each key of an option is read once, versions are
-//! compared by their ranks, and the first key that differs decides.
+//! compared by their texts or their ranks, and the first key that differs decides.
 //! The rule stands in `docs/selection.md`, "Which selection is taken", the table of eleven keys.
-//! Keys 8 and 9, the candidate's own version and then the version's text, are one here: the rank of
-//! the own version tells both.
+//! Keys 8 and 9, the candidate's own version and then the version's text, are one here: the order
+//! of own versions tells both, and so does their rank.
 ghost use Rattle.std.specs.Prelude.{◌≡◌};
 ghost use Rattle.std.specs.Option.{option_cmp};
 ghost use Rattle.std.specs.Ordering.{bool_cmp, flip_args, then_cmp};
 ghost use Rattle.pool_core.specs.Rank.{bytes_cmp, earlier_repository, greater_version};
-ghost use Rattle.pool_core.specs.Ranking.{candidate_ranking_cmp, merit_ranking_cmp, name_ranking_cmp, priority_ranking_cmp, quality_ranking_cmp, ranking_cmp, repository_ranking_cmp, unpinned_ranking_cmp};
+ghost use Rattle.pool_core.specs.Ranking.{candidate_ranking_cmp, merit_ranking_cmp, name_ranking_cmp, priority_ranking_cmp, quality_ranking_cmp, ranking_cmp, repository_ranking_cmp, unpinned_ranking_cmp, version_key_cmp, version_order};
 ghost use Rattle.pool_core.specs.VersionRanks.{version_of, with_rank};
 
 use crate::candidate::CandId;
@@ -15,6 +15,15 @@ use crate::versions::{RankedVersion, VersionKind};
 use std::cmp::Ordering;
 use std::marker::Model;
 use version_core::Version;
+
+/// What the versions of two options are compared by.
+#[derive(Clone, Copy)]
+pub(crate) enum VersionKey {
+    /// Their ranks; both versions of each option are ranked.
+    ByRank,
+    /// Their texts.
+    ByText,
+}
 
 /// What an option is ranked by, in the order of the keys.
 #[derive(Drop)]
@@ -71,12 +80,12 @@ impl<'a> RankedOption<'a> {
         }
     }
 
-    /// The order of two options, whose versions are ranked, by all eleven keys.
+    /// The order of two options by all eleven keys.
     #[tactic(auto, unfolding(crate::specs::Ranking::ranking_cmp))]
-    pub(crate) fn compare(&self, other: &RankedOption<'_>) -> Ordering
-        ensures { result ≡ ranking_cmp self.now other.now }
+    pub(crate) fn compare(&self, other: &RankedOption<'_>, key: VersionKey) -> Ordering
+        ensures { result ≡ ranking_cmp key self.now other.now }
     {
-        match self.by_candidate(other) {
+        match self.by_candidate(other, key) {
             Ordering::Less => Ordering::Less,
             Ordering::Greater => Ordering::Greater,
             Ordering::Equal => self.id.place.cmp(&other.id.place),
@@ -84,24 +93,24 @@ impl<'a> RankedOption<'a> {
     }
 
     // The order by all keys but the place: 1 to 10.
-    fn by_candidate(&self, other: &RankedOption<'_>) -> Ordering
-        ensures { result ≡ candidate_ranking_cmp self.now other.now }
+    fn by_candidate(&self, other: &RankedOption<'_>, key: VersionKey) -> Ordering
+        ensures { result ≡ candidate_ranking_cmp key self.now other.now }
     {
         match truth_first(self.pinned, other.pinned) {
             Ordering::Less => Ordering::Less,
             Ordering::Greater => Ordering::Greater,
-            Ordering::Equal => self.by_unpinned(other),
+            Ordering::Equal => self.by_unpinned(other, key),
         }
     }
 
     // The order by keys 2 to 10, of options that world pins both, or neither.
-    fn by_unpinned(&self, other: &RankedOption<'_>) -> Ordering
-        ensures { result ≡ unpinned_ranking_cmp self.now other.now }
+    fn by_unpinned(&self, other: &RankedOption<'_>, key: VersionKey) -> Ordering
+        ensures { result ≡ unpinned_ranking_cmp key self.now other.now }
     {
         match self.by_quality(other) {
             Ordering::Less => Ordering::Less,
             Ordering::Greater => Ordering::Greater,
-            Ordering::Equal => self.by_merit_and_repo(other),
+            Ordering::Equal => self.by_merit_and_repo(other, key),
         }
     }
 
@@ -117,10 +126,11 @@ impl<'a> RankedOption<'a> {
     }
 
     // The order by keys 5 to 10.
-    fn by_merit_and_repo(&self, other: &RankedOption<'_>) -> Ordering
-        ensures { result ≡ then_cmp merit_ranking_cmp repository_ranking_cmp self.now other.now }
+    fn by_merit_and_repo(&self, other: &RankedOption<'_>, key: VersionKey) -> Ordering
+        ensures { result
+            ≡ then_cmp (merit_ranking_cmp key) repository_ranking_cmp self.now other.now }
     {
-        match self.by_merit(other) {
+        match self.by_merit(other, key) {
             Ordering::Less => Ordering::Less,
             Ordering::Greater => Ordering::Greater,
             Ordering::Equal => by_repo(self.repo, other.repo),
@@ -128,36 +138,37 @@ impl<'a> RankedOption<'a> {
     }
 
     // The order by keys 5 to 9: the version under which the need is met, and what follows.
-    fn by_merit(&self, other: &RankedOption<'_>) -> Ordering
-        ensures { result ≡ merit_ranking_cmp self.now other.now }
+    fn by_merit(&self, other: &RankedOption<'_>, key: VersionKey) -> Ordering
+        ensures { result ≡ merit_ranking_cmp key self.now other.now }
     {
-        match self.under.rank.cmp(&other.under.rank) {
+        match by_version_key(key, VersionKind::Under, &self.under, &other.under) {
             Ordering::Less => Ordering::Less,
             Ordering::Greater => Ordering::Greater,
-            Ordering::Equal => self.by_priority(other),
+            Ordering::Equal => self.by_priority(other, key),
         }
     }
 
     // The order by keys 6 to 9: the greater priority comes first.
-    fn by_priority(&self, other: &RankedOption<'_>) -> Ordering
-        ensures { result ≡ priority_ranking_cmp self.now other.now }
+    fn by_priority(&self, other: &RankedOption<'_>, key: VersionKey) -> Ordering
+        ensures { result ≡ priority_ranking_cmp key self.now other.now }
     {
         match other.priority.cmp(&self.priority) {
             Ordering::Less => Ordering::Less,
             Ordering::Greater => Ordering::Greater,
-            Ordering::Equal => self.by_name(other),
+            Ordering::Equal => self.by_name(other, key),
         }
     }
 
-    // The order by keys 7 to 9: the byte-lesser name comes first, and then the own version of the
-    // lesser rank.
-    fn by_name(&self, other: &RankedOption<'_>) -> Ordering
-        ensures { result ≡ name_ranking_cmp self.now other.now }
+    // The order by keys 7 to 9: the byte-lesser name comes first, and then the own version.
+    fn by_name(&self, other: &RankedOption<'_>, key: VersionKey) -> Ordering
+        ensures { result ≡ name_ranking_cmp key self.now other.now }
     {
         match self.name.cmp(other.name) {
             Ordering::Less => Ordering::Less,
             Ordering::Greater => Ordering::Greater,
-            Ordering::Equal => self.version.rank.cmp(&other.version.rank),
+            Ordering::Equal => {
+                by_version_key(key, VersionKind::Own, &self.version, &other.version)
+            }
         }
     }
 }
@@ -170,8 +181,39 @@ fn truth_first(one: bool, other: bool) -> Ordering
     other.cmp(&one)
 }
 
-/// The order of two versions: the greater comes first, and none last.
-pub(crate) fn by_version(one: &Option<Version<'_>>, other: &Option<Version<'_>>) -> Ordering
+// The order of two versions of a kind, by their ranks or by their texts.
+fn by_version_key(
+    key: VersionKey,
+    kind: VersionKind,
+    one: &RankedVersion<'_>,
+    other: &RankedVersion<'_>,
+) -> Ordering
+    ensures { result ≡ version_key_cmp key kind one.now other.now }
+{
+    match key {
+        VersionKey::ByRank => one.rank.cmp(&other.rank),
+        VersionKey::ByText => compare_versions(kind, &one.version, &other.version),
+    }
+}
+
+/// The order of two versions of a kind: the greater first. Of the candidates' own versions, equal
+/// ones are told apart by their texts, the byte-lesser first; under which of two equal texts a need
+/// is met makes no difference.
+pub(crate) fn compare_versions(
+    kind: VersionKind,
+    one: &Option<Version<'_>>,
+    other: &Option<Version<'_>>,
+) -> Ordering
+    ensures { result ≡ version_order kind one.now other.now }
+{
+    match kind {
+        VersionKind::Under => by_version(one, other),
+        VersionKind::Own => by_version(one, other).then(by_version_text(one, other)),
+    }
+}
+
+// The order of two versions: the greater comes first, and none last.
+fn by_version(one: &Option<Version<'_>>, other: &Option<Version<'_>>) -> Ordering
     ensures { result ≡ greater_version one.now other.now }
 {
     match (one, other) {
@@ -182,8 +224,8 @@ pub(crate) fn by_version(one: &Option<Version<'_>>, other: &Option<Version<'_>>)
     }
 }
 
-/// The order of two versions by the bytes of their texts, none first.
-pub(crate) fn by_version_text(one: &Option<Version<'_>>, other: &Option<Version<'_>>) -> Ordering
+// The order of two versions by the bytes of their texts, none first.
+fn by_version_text(one: &Option<Version<'_>>, other: &Option<Version<'_>>) -> Ordering
     ensures { result ≡ option_cmp bytes_cmp one.now other.now }
 {
     match (one, other) {

@@ -30,8 +30,7 @@ use crate::packages::Packages;
 use crate::pool::CandidateList;
 use crate::rank::RankedOption;
 use crate::table::Table;
-use crate::version_ranks::rank_versions;
-use crate::versions::VersionKind;
+use crate::version_ranks::rank_long_versions;
 use dep_core::{Dep, World};
 use std::alloc::{AllocError, Global};
 use std::marker::Model;
@@ -170,7 +169,7 @@ impl<'a> Sealed<'a> {
     }
 
     // The options of a need, which have these places, best first. What each is ranked by is read
-    // once, and each text of a version is compared once for all options that share it.
+    // once, and a long text of a version is compared once for all options that share it.
     fn ranked(
         &self,
         alloc: Global,
@@ -184,9 +183,8 @@ impl<'a> Sealed<'a> {
         rank_is_total();
         order_is_total();
         let mut rankings = self.rankings(alloc, need, ids, &self.packages)?;
-        rank_versions(alloc, &mut rankings, VersionKind::Under)?;
-        rank_versions(alloc, &mut rankings, VersionKind::Own)?;
-        rankings.sort_by(|one, other| one.compare(other))?;
+        let key = rank_long_versions(alloc, &mut rankings)?;
+        rankings.sort_by(|one, other| one.compare(other, key))?;
         let ids = places_of(alloc, &rankings)?;
         Ok(Options::of(ids))
     }

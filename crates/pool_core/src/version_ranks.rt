@@ -1,23 +1,67 @@
-//! The ranks of the versions of options. Each text of a version is compared with others once for
-//! all the packages that share it, so that options are sorted by numbers.
+//! The ranks of the versions of options. Each long text of a version is compared with others once
+//! for all the packages that share it, so that options are sorted by numbers.
 //! The rule stands in `docs/selection.md`, "Which selection is taken", keys 5, 8 and 9 of the
 //! table; how versions are compared says `docs/formats.md`, "Versions". That texts are told apart
 //! by where they stand saves time alone, as the README of this crate says.
 ghost use Rattle.std.specs.Prelude.{◌≡◌, ◌<◌, ◌-◌, true, All, OnOk, IfOk, Some, length, map, slice_get};
 ghost use Rattle.std.specs.List.Sorted.{IsSorted};
-ghost use Rattle.pool_core.specs.Ranking.{Ranking};
-ghost use Rattle.pool_core.specs.VersionRanks.{AreRankedFrom, AreReadAlike, HaveSamePlace, IsListed, rank_among, version_of, version_order, with_rank_among};
+ghost use Rattle.pool_core.specs.Ranking.{Ranking, version_order};
+ghost use Rattle.pool_core.specs.VersionRanks.{AreRankedFrom, AreReadAlike, AreReadyFor, HaveSamePlace, IsListed, rank_among, version_of, with_rank_among};
+ghost use Rattle.pool_core.specs.declared.versions.VersionKind.TheVariants as Kinds;
 
-use crate::rank::{RankedOption, by_version, by_version_text};
+use crate::rank::{RankedOption, VersionKey, compare_versions};
 use crate::versions::{RankedVersion, VersionKind};
 use std::alloc::{AllocError, Global};
 use std::cmp::Ordering;
 use version_core::{Version, order_is_total};
 
-/// Ranks one version of each option among those of all, and may put the options into another order.
-/// It takes time in proportion to k log k in the k options, and compares each text that they read
-/// with log n others of the n texts.
-pub(crate) fn rank_versions<'a>(
+/// How many bytes a version has at most that is compared as it is read, in each comparison of two
+/// options.
+const SHORT: usize = 64;
+
+/// Ranks the versions of options if one of them is long, and answers by what they are to be
+/// compared. The options may come into another order. It takes time in proportion to k log k in the
+/// k options, and compares each text that they read with log n others of the n texts; short texts
+/// are sooner compared than ranked.
+///
+/// # Errors
+///
+/// Want of memory.
+pub(crate) fn rank_long_versions<'a>(
+    alloc: Global,
+    options: &mut Vec<RankedOption<'a>>,
+) -> Result<VersionKey, AllocError>
+    requires under { AreReadAlike Kinds.Under options.old.items }
+    requires own { AreReadAlike Kinds.Own options.old.items }
+    ensures { IfOk result (λ key. AreReadyFor key options.old.items options.new.items) }
+{
+    if !has_long_version(options) {
+        return Ok(VersionKey::ByText);
+    }
+    rank_versions(alloc, options, VersionKind::Under)?;
+    rank_versions(alloc, options, VersionKind::Own)?;
+    Ok(VersionKey::ByRank)
+}
+
+// Whether a version of an option is long. Nothing rests on the answer but time.
+fn has_long_version(options: &[RankedOption<'_>]) -> bool {
+    for option in options {
+        if is_long(&option.under.version) || is_long(&option.version.version) {
+            return true;
+        }
+    }
+    false
+}
+
+fn is_long(version: &Option<Version<'_>>) -> bool {
+    match version {
+        Some(version) => version.text().len() > SHORT,
+        None => false,
+    }
+}
+
+// Ranks one version of each option among those of all, and may put the options into another order.
+fn rank_versions<'a>(
     alloc: Global,
     options: &mut Vec<RankedOption<'a>>,
     kind: VersionKind,
@@ -126,20 +170,4 @@ fn rank_among(
 {
     order_is_total();
     versions.partition_point(|one| compare_versions(kind, one, version).is_lt())
-}
-
-// The order of two versions of a kind: the greater first. Of the candidates' own versions, equal
-// ones are told apart by their texts, the byte-lesser first; under which of two equal texts a need
-// is met makes no difference.
-fn compare_versions(
-    kind: VersionKind,
-    one: &Option<Version<'_>>,
-    other: &Option<Version<'_>>,
-) -> Ordering
-    ensures { result ≡ version_order kind one.now other.now }
-{
-    match kind {
-        VersionKind::Under => by_version(one, other),
-        VersionKind::Own => by_version(one, other).then(by_version_text(one, other)),
-    }
 }

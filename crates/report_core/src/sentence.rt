@@ -121,6 +121,7 @@ fn at_word(place: u32, text: &'static [u8]) -> Sentence<'static>
 pub(crate) fn sentence_of<'a>(refusal: &'a Refusal) -> Sentence<'a>
     ensures { sentence_text result ≡ refusal_text refusal.now }
 {
+    // Each text is a row of the table of refusals; `caused` has the text of a cause behind it.
     match refusal {
         Refusal::Usage { place } => plain(two(
             Bytes(b"usage error at word "),
@@ -233,6 +234,7 @@ pub(crate) fn sentence_of<'a>(refusal: &'a Refusal) -> Sentence<'a>
 pub(crate) fn cause_pieces(cause: Cause) -> Pieces<'static>
     ensures { pieces_text result ≡ cause_text cause }
 {
+    // Each text is a row of the table of causes.
     match cause {
         Cause::NotAdb => one(Bytes(b"not an ADB file")),
         Cause::Compressed => one(Bytes(b"compressed ADB file")),

@@ -46,7 +46,7 @@ calls_of tree = tree.calls.tally.calls
 abbrev pub writes_of : MemoryTree → ℕ
 writes_of tree = tree.calls.tally.writes
 
--- the greatest length that a `read_at` asked for
+-- the greatest length that a `read_at` of the tree asked for
 abbrev pub longest_of : MemoryTree → ℕ
 longest_of tree = tree.longest
 

@@ -19,7 +19,7 @@ IsTable entries = AllPairs (λ a b. slice_cmp nat_cmp a.name b.name ≡ Less) en
 abbrev pub names_of : List NameAndFile → List (List ℕ)
 names_of entries = map (λ e. e.name) entries
 
--- the number that a name leads to
+-- the number that a name leads to, if it is in the table
 abbrev pub lookup : List NameAndFile → List ℕ → Option ℕ
 lookup [] q = None
 lookup (e ∷ es) q = if bytes_eq q e.name then Some e.file else lookup es q

@@ -182,6 +182,7 @@ impl Calls {
 
     /// Counts a call. It fails where it is a misuse, or where that is planned.
     pub fn begin(&mut self, can: bool) -> Result<(), Disk>
+        // The plan is one call nearer, and the call is counted, with its failure if it has one.
         ensures plan { self.new.plan ≡ one_on self.old.plan }
         ensures tally { self.new.tally ≡ with_begun_call can
             (is_next self.old.plan) self.old.tally }

@@ -133,6 +133,7 @@ fn replay(
         → HasNames v names.old.entries.items made
         → HasNames (step contents change.now v) names.new.entries.items n) }
 {
+    // A change of bytes alone leaves the names, and so do syncs.
     match change {
         Change::Put { name, .. } => {
             names.set(name.copy(alloc)?, made)?;

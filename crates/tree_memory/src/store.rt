@@ -138,6 +138,7 @@ impl Store {
             ≡ after_put name.now bytes.items (store_state self.old) ∷ store_history self.old) }
         ensures err { OnErr result (store_history self.new ≡ store_history self.old) }
     {
+        // All memory is taken before the first change, so that a refused put changes nothing.
         self.changes.reserve(1)?;
         self.files.reserve(1)?;
         let file = self.files.len();

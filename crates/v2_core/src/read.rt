@@ -107,7 +107,8 @@ fn write_packages(alloc: Global, draft: &mut Draft, bytes: &[u8]) -> Result<(), 
 }
 
 // Reads the line with this number, counted from 1: an empty one ends the record, another belongs to
-// it.
+// it. The clauses say it of whatever lines stand behind this one: what is written with them is what
+// the text from this line on gives.
 fn add_line<'a>(
     draft: &mut Draft,
     text_record: &mut Record<'a>,
@@ -131,7 +132,8 @@ fn add_line<'a>(
     Ok(())
 }
 
-// Ends a record, where so many lines stand up to there, and begins a new one.
+// Ends a record, where so many lines stand up to there, and begins a new one. The clauses say it of
+// whatever records stand behind this one.
 fn end_record(draft: &mut Draft, text_record: &mut Record<'_>, lines: u64) -> Result<(), V2Fault>
     ensures new { OnOk result (text_record.new ≡ empty_record) }
     ensures ok { OnOk result ((others : Result (List RecordModel) ℕ)
@@ -146,7 +148,7 @@ fn end_record(draft: &mut Draft, text_record: &mut Record<'_>, lines: u64) -> Re
 }
 
 // Writes the package of a record, where so many lines stand up to its end; a record without a line
-// is none.
+// is none. The clauses say it of whatever records stand behind this one.
 fn write_record(draft: &mut Draft, text_record: &Record<'_>, lines: u64) -> Result<(), V2Fault>
     ensures ok { OnOk result ((others : Result (List RecordModel) ℕ)
         → draft_with_read others draft.new

@@ -1,7 +1,7 @@
 //! The token that begins a text, and how many of its bytes its reader passes over. The grammar that
 //! the tokens follow stands in `docs/formats.md`, "Versions" ("A version is a number"). In the
 //! clauses `plain` says that a token is no hash, so that its reader moves on by all of its bytes at
-//! once.
+//! once. `digits` and `few` say that bytes are digits, and few enough for 64 bits.
 
 ghost use Rattle.std.specs.Prelude.{◌≡◌, ◌≤◌, ◌<◌, false, length, drop, position, not};
 ghost use Rattle.std.specs.Char.{is_ascii_digit, is_ascii_lowercase};

@@ -12,7 +12,7 @@ use crate::lexeme::{behind, compare_hex_digits};
 use crate::token::{Class, Tokens};
 use std::cmp::Ordering;
 
-/// How many bytes are compared at once, by one comparison of slices; any number gives the same
+/// How many bytes are compared at once, by one comparison of slices; another number gives the same
 /// order.
 const BLOCK: usize = 128;
 

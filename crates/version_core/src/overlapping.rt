@@ -15,7 +15,8 @@ use crate::token::Class;
 use std::alloc::{AllocError, Global};
 use std::marker::Model;
 
-/// How many bytes share one leap: with more of them leaps take less memory and are of less use.
+/// How many bytes share one leap: with more of them leaps take less memory, and more bytes are read
+/// between two.
 const BLOCK: usize = 256;
 
 /// A place behind a token of a version or between the digits of its hash, and the class of that

@@ -41,7 +41,7 @@ abbrev pub rule_behind : List OptionSpec → List ℕ → Option ValueRule
 rule_behind options word = rule_unless (held_value word) (rule_at options word)
 
 -- the words that are neither options nor values, each with its place: all behind `--`, and before it
--- those that are none of both. With a rule the first word is the value of its option
+-- those that are neither. With a rule the first word is the value of its option
 abbrev pub free_words : List OptionSpec → Option ValueRule → ℕ → List (List ℕ) → List Operand
 free_words options rule place [] = []
 free_words options (Some rule) place (word ∷ words) = free_words options None (place + 1) words

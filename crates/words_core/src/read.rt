@@ -61,16 +61,19 @@ fn judge(applet: Applet, reading: Reading, behind: u32) -> Result<Command, Words
     ensures ok { IfOk result (λ command. verdict behind applet reading ≡ Ok command) }
     ensures usage { IfErr result (λ fault. IsWordsFault fault (verdict behind applet reading)) }
 {
+    // Without the flag that says its kind a command has no rule for its operands.
     let Some(rule) = applet.operands(reading.state.flags) else {
         let place = reading.unread.unwrap_or(behind);
         return Err(WordsFault::Usage { place });
     };
+    // The operands that were read stand in front of the word that could not be read.
     if let Some(place) = rule.first_refused(&reading.operands) {
         return Err(WordsFault::Usage { place });
     }
     if let Some(place) = reading.unread {
         return Err(WordsFault::Usage { place });
     }
+    // A word that is missing is refused behind the last one, and so only where no other offends.
     if reading.operands.len() < rule.least {
         return Err(WordsFault::Usage { place: behind });
     }
