@@ -16,7 +16,8 @@ use std::cmp::Ordering;
 use version_core::{Version, order_is_total};
 
 /// How many bytes a version has at most that is compared as it is read, in each comparison of two
-/// options.
+/// options. Any number is right: a greater one lets more options share long comparisons, a lesser
+/// one ranks versions that are sooner compared.
 const SHORT: usize = 64;
 
 /// Ranks the versions of options if one of them is long, and answers by what they are to be
@@ -53,6 +54,7 @@ fn has_long_version(options: &[RankedOption<'_>]) -> bool {
     false
 }
 
+// Whether a version is long; a version that is none is not.
 fn is_long(version: &Option<Version<'_>>) -> bool {
     match version {
         Some(version) => version.text().len() > SHORT,
@@ -60,7 +62,8 @@ fn is_long(version: &Option<Version<'_>>) -> bool {
     }
 }
 
-// Ranks one version of each option among those of all, and may put the options into another order.
+// Ranks one version of each option, that of a kind, among those of all, and may put the options
+// into another order.
 fn rank_versions<'a>(
     alloc: Global,
     options: &mut Vec<RankedOption<'a>>,
