@@ -131,7 +131,7 @@ pub(crate) fn names_in_folders<'a>(
     Ok(files)
 }
 
-/// So many lists without a name.
+/// As many lists without a name as `len` says.
 fn empty_lists<'a>(alloc: Global, len: usize) -> Result<Vec<Vec<&'a Name>>, AllocError>
     ensures { IfOk result (λ lists. map names_borrowed lists.items ≡ replicate len []) }
 {
