@@ -39,30 +39,43 @@ use std::alloc::{AllocError, Global};
 /// The numbers of the fields that have a rule: 100 times the number of the table plus that of the
 /// field in it, which counts from 1 (`docs/formats.md`, "Schemas").
 mod field_number {
+    // A dependency's name.
     pub(crate) const DEP_NAME: u16 = 101;
 
+    // A dependency's version.
     pub(crate) const DEP_VERSION: u16 = 102;
 
+    // A dependency's match number.
     pub(crate) const DEP_MATCH: u16 = 103;
 
+    // A package's name.
     pub(crate) const PKGINFO_NAME: u16 = 301;
 
+    // A package's version.
     pub(crate) const PKGINFO_VERSION: u16 = 302;
 
+    // A package's hash.
     pub(crate) const PKGINFO_HASHES: u16 = 303;
 
+    // A file's name.
     pub(crate) const FILE_NAME: u16 = 401;
 
+    // A file's hash.
     pub(crate) const FILE_HASHES: u16 = 405;
 
+    // A file's target.
     pub(crate) const FILE_TARGET: u16 = 406;
 
+    // A folder's name.
     pub(crate) const DIR_NAME: u16 = 501;
 
+    // How an index names its packages' files.
     pub(crate) const INDEX_PKGNAME_SPEC: u16 = 803;
 
+    // The names that a change removes.
     pub(crate) const INTENT_REMOVALS: u16 = 1001;
 
+    // The names that a change writes.
     pub(crate) const INTENT_WRITES: u16 = 1002;
 }
 

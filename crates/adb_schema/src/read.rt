@@ -258,7 +258,7 @@ pub fn schema_words_are_as_listed()
 
 /// A law, what a file that passes every test holds: a value that has the shape of its table, in
 /// which each text and number keeps the rule of its field and no name stands twice; of bytes, it is
-/// normal.
+/// normal. Its body calls the laws that its proof needs.
 pub fn sound_containers_hold_sound_values()
     ensures value { (which : Which) (file : List ℕ)
         → IsSound which file → IsSoundValue which (root_value which (payload_in file)) }

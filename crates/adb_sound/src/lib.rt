@@ -5,7 +5,8 @@
 //! container that is made of a value and of contents) of `specs/`.
 //!
 //! The rules stand in `docs/formats.md`, "Tests of a container", and of contents in "The other
-//! blocks"; how a container is written, in "Canonical layout".
+//! blocks"; how a container is written, in "Canonical layout". The body of a law calls the laws
+//! that its proof needs; nothing happens when it runs.
 #![tactic(auto)]
 
 ghost use Rattle.adb_block.specs.Written.{block_bytes};

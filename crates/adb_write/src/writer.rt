@@ -86,8 +86,8 @@ const HEAD: u64 = 8;
 /// counts. Contracts see what was written and the counts: `Writing` of `specs/`.
 ///
 /// In the clauses `ok` says what the layout makes of a call, `written` the same of values that are
-/// written depth first, `err` that a refused call changes nothing, and `wants` that only a call that
-/// adds bytes is refused.
+/// written depth first, `err` that a refused call changes nothing, and `wants` that only a call
+/// that adds bytes is refused.
 #[derive(Drop)]
 pub struct Writer {
     /// What was written.

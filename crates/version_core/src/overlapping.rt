@@ -127,9 +127,11 @@ impl<'a> OverlappingVersions<'a> {
     {
         let leap = self.leaps.get(place.at / BLOCK)?;
         let Leap { from, to } = *leap;
+        // The leap over this block begins elsewhere, or behind a token of another class.
         if from.at != place.at || from.class != place.class {
             return None;
         }
+        // It leads nowhere, or past the end.
         if to.at <= place.at || to.at > end {
             return None;
         }
