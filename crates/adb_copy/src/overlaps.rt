@@ -131,6 +131,7 @@ impl Overlaps {
         }
         // The bytes of both have the distance to an equal text of this stretch as a period.
         let place = (known.word(), text.stretch());
+        // The text that stood last in this stretch and has this word is equal to this one.
         if let Some(from) = self.places.insert(place, text.from)? {
             self.keep_range(adb, text, text.from.abs_diff(from))?;
         }

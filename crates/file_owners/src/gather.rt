@@ -86,6 +86,7 @@ fn add_folder<'a>(
         (name_of (nth (entries_in (list_value folders.now)) i))
         (files_in (nth (entries_in (list_value folders.now)) i)))) }
 {
+    // Never so, by the contract; `len` tells that a list has less than 2^32 entries.
     if i >= folders.len() {
         unreachable!();
     }
@@ -135,6 +136,7 @@ pub(crate) fn place_of(members: &Members<'_>, i: usize) -> u32
     requires { i < length (members_of members.now) }
     ensures { result ≡ i }
 {
+    // Never so, by the contract; `len` tells that there are at most 65,536 members.
     if i >= members.len() {
         unreachable!();
     }

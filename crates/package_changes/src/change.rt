@@ -143,6 +143,7 @@ fn is_same_selected(old: &OldPackage<'_>, new: &Candidate<'_>) -> bool
     ensures { result
         ≡ is_installed_as old.now.version.now old.now.id.now (candidate_value new.now) }
 {
+    // A candidate of no repository is the installed package itself.
     if new.repo.is_none() {
         return true;
     }

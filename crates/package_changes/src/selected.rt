@@ -100,6 +100,7 @@ impl<'a> SelectedNames<'a> {
             (if bytes_eq name.entry.now other then Some place else None)) }
     {
         match self.by_name.get(name) {
+            // The first candidate of a name counts.
             Some(_) => Ok(()),
             None => {
                 self.by_name.insert(name, place)?;

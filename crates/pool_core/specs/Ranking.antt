@@ -68,7 +68,8 @@ abbrev pub version_order : VersionKind → Option (List ℕ) → Option (List �
 version_order Under = greater_version
 version_order Own = then_cmp greater_version (option_cmp bytes_cmp)
 
--- the order of two versions of a kind by a key: the lesser rank comes first, or that of their texts
+-- the order of two versions of a kind by what versions are compared by: the lesser rank comes
+-- first, or the order is that of the versions
 abbrev pub version_key_cmp : VersionKey → VersionKind → RankedVersion → RankedVersion → Ordering
 version_key_cmp ByRank kind = on (λ (v : RankedVersion). v.rank) nat_cmp
 version_key_cmp ByText kind = on (λ (v : RankedVersion). v.version) (version_order kind)

@@ -85,13 +85,14 @@ pub record AreRankedFrom (kind : VersionKind) (before after : List Ranking) : Ty
   pub listed : All (IsListed kind versions) moved
   pub ranked : after ≡ map (with_rank_among kind versions) moved
 
--- the rankings in some order, each with the ranks of both its versions
+-- the rankings `after` are those `before` in some order, each with the ranks of both its versions
 pub record AreRankedTwice (before after : List Ranking) : Type 0 where
   pub between : List Ranking
   pub under : AreRankedFrom Under before between
   pub own : AreRankedFrom Own between after
 
--- what may be compared by a key: both versions of each are ranked, or nothing has changed
+-- the rankings `after` are those `before`, and may be compared by a key: both versions of each are
+-- ranked, or nothing has changed
 abbrev pub AreReadyFor : VersionKey → List Ranking → List Ranking → Type 0
 AreReadyFor ByRank before after = AreRankedTwice before after
 AreReadyFor ByText before after = after ≡ before

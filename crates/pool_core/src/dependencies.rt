@@ -90,6 +90,7 @@ pub(crate) fn read_sound<'a>(view: &DepView<'a>) -> Dep<'a>
 {
     match dep_of_parts(view.name(), view.version(), view.matching()) {
         Some(dep) => dep,
+        // An entry that is sound is a dependency.
         None => unreachable!(),
     }
 }
@@ -129,5 +130,6 @@ fn read_judged<'a>(list: &List<'a, DepView<'a>>, place: usize) -> Dep<'a>
             passed += 1;
         }
     }
+    // There are more dependencies than `place`, by the contract.
     unreachable!()
 }

@@ -19,9 +19,9 @@ use version_core::Version;
 /// What the versions of two options are compared by.
 #[derive(Clone, Copy)]
 pub(crate) enum VersionKey {
-    /// Their ranks; both versions of each option are ranked.
+    /// The ranks of the versions; both versions of each option are ranked.
     ByRank,
-    /// Their texts.
+    /// The versions themselves, as they are read.
     ByText,
 }
 
@@ -159,7 +159,8 @@ impl<'a> RankedOption<'a> {
         }
     }
 
-    // The order by keys 7 to 9: the byte-lesser name comes first, and then the own version.
+    // The order by keys 7 to 9: the byte-lesser name comes first, and then the greater own version,
+    // and of equal ones the byte-lesser text.
     fn by_name(&self, other: &RankedOption<'_>, key: VersionKey) -> Ordering
         ensures { result ≡ name_ranking_cmp key self.now other.now }
     {
@@ -181,7 +182,8 @@ fn truth_first(one: bool, other: bool) -> Ordering
     other.cmp(&one)
 }
 
-// The order of two versions of a kind, by their ranks or by their texts.
+// The order of two versions of a kind by what versions are compared by: their ranks, or the
+// versions themselves.
 fn by_version_key(
     key: VersionKey,
     kind: VersionKind,

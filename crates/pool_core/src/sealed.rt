@@ -161,6 +161,7 @@ impl<'a> Sealed<'a> {
         ensures { IfOk result (λ options. options ≡ options_for self.now (need_by need.now)) }
     {
         let ids = self.fitting(alloc, need)?;
+        // None and one are in order already.
         if ids.len() < 2 {
             return Ok(Options::of(ids));
         }

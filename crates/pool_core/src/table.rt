@@ -56,6 +56,7 @@ impl<'a> Table<'a> {
     pub(crate) fn get(&self, name: &[u8]) -> &[CandId]
         ensures { result.now ≡ ids_of self.now name.now }
     {
+        // A name with a list has its first candidate in `singles` too; the list counts.
         match self.lists.get(name) {
             Some(ids) => ids.as_slice(),
             None => self.single(name),

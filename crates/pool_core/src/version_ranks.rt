@@ -16,7 +16,8 @@ use std::cmp::Ordering;
 use version_core::{Version, order_is_total};
 
 /// How many bytes a version has at most that is compared as it is read, in each comparison of two
-/// options.
+/// options. Any number is right: a greater one lets more options share long comparisons, a lesser
+/// one ranks versions that are sooner compared.
 const SHORT: usize = 64;
 
 /// Ranks the versions of options if one of them is long, and answers by what they are to be
@@ -53,6 +54,7 @@ fn has_long_version(options: &[RankedOption<'_>]) -> bool {
     false
 }
 
+// Whether a version is long; a version that is none is not.
 fn is_long(version: &Option<Version<'_>>) -> bool {
     match version {
         Some(version) => version.text().len() > SHORT,
@@ -60,7 +62,8 @@ fn is_long(version: &Option<Version<'_>>) -> bool {
     }
 }
 
-// Ranks one version of each option among those of all, and may put the options into another order.
+// Ranks one version of each option, that of a kind, among those of all, and may put the options
+// into another order.
 fn rank_versions<'a>(
     alloc: Global,
     options: &mut Vec<RankedOption<'a>>,
@@ -70,6 +73,7 @@ fn rank_versions<'a>(
     ensures { OnOk result (AreRankedFrom kind options.old.items options.new.items) }
 {
     order_is_total();
+    // Then options that read one text stand together.
     options.sort_by(|one, other| by_place(one.version_of(kind), other.version_of(kind)))?;
     let mut versions = distinct_versions(alloc, options, kind)?;
     versions.sort_by(|one, other| compare_versions(kind, one, other))?;
@@ -148,6 +152,7 @@ fn set_ranks<'a>(
     ensures { options.new.items ≡ map (with_rank_among kind versions.now) options.old.items }
 {
     for i in 0..options.len() {
+        // One search among the versions for each text.
         let rank = if reads_the_text_before(options, i, kind) {
             options[i - 1].version_of(kind).rank
         } else {

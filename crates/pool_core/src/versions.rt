@@ -45,9 +45,9 @@ pub(crate) struct RankedVersion<'a> {
 /// Which of the two versions of an option is ranked.
 #[derive(Clone, Copy)]
 pub(crate) enum VersionKind {
-    /// The candidate's own version.
+    /// The version under which the candidate meets the need.
     Under,
-    /// Its own.
+    /// The candidate's own version.
     Own,
 }
 

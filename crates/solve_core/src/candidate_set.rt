@@ -107,6 +107,7 @@ impl CandidateSet {
     {
         if let Some(id) = self.ids.pop() {
             let place = id.place as usize;
+            // Each candidate of the set has a mark.
             if place < self.marks.len() {
                 self.marks[place] = false;
             }

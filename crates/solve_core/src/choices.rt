@@ -104,6 +104,7 @@ impl<'p> Choices<'p> {
         self.conflicts.add(&depends, id)?;
         self.checkpoints.push(before)?;
         self.choices.push(id)?;
+        // Only what waits for a name of the new choice can ask now that did not before.
         self.asking_cursor = self.least_rank_asking(&details);
         Ok(())
     }
@@ -117,6 +118,7 @@ impl<'p> Choices<'p> {
             choices_of self.new ≡ rest }
     {
         if let Some(before) = self.checkpoints.pop() {
+            // The conflicts go first, while the set still has the choice that they are of.
             self.take_conflicts_away();
             self.choices.pop();
             self.queue.truncate(before.queue_len);

@@ -102,6 +102,7 @@ impl<'p> Conflicts<'p> {
             (name : List ℕ) → items_of self.new.by_name name ≡ front name }
     {
         let mut left = depends.len();
+        // From the last on, so that each is then the last one of its name.
         while left > 0 {
             left -= 1;
             self.take_one_away(&depends.get(left));

@@ -261,8 +261,10 @@ impl<'p> Search<'p> {
             spent)) }
     {
         while let Some(turn) = self.turns.pop() {
+            // Each turn has its choice: both go.
             self.chosen.pop();
             let Turn { mut frame, choice } = turn;
+            // This is the latest choice of the reason: the others rule it out.
             if self.reason.has(choice) {
                 let others = without(self.alloc, &self.reason, choice)?;
                 let hint = Hint {
