@@ -1,5 +1,5 @@
 -- The fault of the framing that is told is the first.
-use Rattle.std.proofs.Common.{◌≡◌, ℕ, zero, suc, ◌+◌, ◌-◌, ◌<◌, ◌≤◌, Bool, true, false, cond, ◌||◌, eqb, ltb, List, [], ◌∷◌, ◌++◌, length, drop, Option, Some, None, Result, Ok, Err, refl, sym, ap, ◌∙◌, arith, inl, inr, ◌⊎◌}
+use Rattle.std.proofs.Common.{◌≡◌, ℕ, zero, suc, ◌+◌, ◌-◌, ◌<◌, ◌≤◌, Bool, true, false, ◌||◌, eqb, ltb, List, [], ◌∷◌, length, drop, Option, Some, None, Result, Ok, Err, refl, sym, ap, ◌∙◌, arith, inl, inr, ◌⊎◌}
 use Rattle.std.proofs.lemmas.Bool.{cases_lt, ltb-true, eqb-true}
 use Rattle.std.proofs.lemmas.List.{length-drop, drop_all, nil_from_length}
 use Rattle.base_core.specs.declared.Cause.{Cause}
@@ -8,9 +8,9 @@ use Rattle.adb_block.specs.Piece.{Piece, comes_after, least_payload}
 use Rattle.adb_block.specs.Container.{IsBlock, MayFollow}
 use Rattle.adb_block.specs.Header.{header_of}
 use Rattle.adb_block.specs.Framing.{HeadFields, head_of, kind_of_number, Step, ended, failed, block, step_by_size, step_by_order, step_by_head, step_at_end, next_step}
-use Rattle.adb_block.specs.FirstFraming.{BeginWithBlocks, last_kind, LackHead, MayNotStand, HaveWrongKind, IsWrongSize, HaveWrongSize, HaveBlockFault, IsFirstFramingFault}
+use Rattle.adb_block.specs.FirstFraming.{BeginWithBlocks, last_kind, IsWrongSize, HaveBlockFault, IsFirstFramingFault}
 use Rattle.adb_block.specs.Standing.{start_of}
-use Rattle.adb_block.specs.Reading.{Reading, done, fault, more, reading_by_step, reading_from, reading_of}
+use Rattle.adb_block.specs.Reading.{reading_by_step, reading_from, reading_of}
 use Rattle.adb_block.specs.AllBlocks.{with_block, pieces_of, rest_of, blocks_of}
 use Rattle.adb_block.specs.declared.block.BlockKind.{BlockKind}
 use Rattle.adb_block.proofs.Choices.{chosen}

@@ -1,4 +1,6 @@
--- All blocks that reading on gives, or the first failed test.
+-- All blocks that reading on gives, or the first failed test. Serves the contract of `Blocks` and
+-- the laws over *Spells*, as the README of this crate says; the rules stand in `docs/formats.md`,
+-- "Container".
 use Rattle.std.specs.Prelude.{ℕ, List, [], ◌∷◌, Result, Ok, Err}
 use Rattle.base_core.specs.declared.Cause.{Cause}
 use Rattle.adb_block.specs.Piece.{Piece}
@@ -6,26 +8,26 @@ use Rattle.adb_block.specs.Header.{header_of}
 use Rattle.adb_block.specs.Standing.{Standing, start_of}
 use Rattle.adb_block.specs.Reading.{Reading, done, fault, more, reading_of}
 
--- a block before those that were read behind it
+-- the blocks of a reading with one more in front, unless a test failed behind it
 abbrev pub with_block : Piece → Result (List Piece) Cause → Result (List Piece) Cause
 with_block b (Ok bs) = Ok (b ∷ bs)
 with_block b (Err c) = Err c
 
--- all blocks, or the first failed test
+-- all blocks that a reading gives, or its first failed test
 abbrev pub pieces_of : Reading → Result (List Piece) Cause
 pieces_of done = Ok []
 pieces_of (fault c) = Err c
 pieces_of (more b at r) = with_block b (pieces_of r)
 
--- the blocks from where a reader stands, or the first failed test
+-- all blocks of a file from where a reader stands, or the first failed test
 unfoldable pub rest_of : Standing → Result (List Piece) Cause
 rest_of s = pieces_of (reading_of s)
 
--- the blocks behind a header that was read, or its fault
+-- all blocks behind a header of the file that was read, or the fault of the header
 abbrev pub blocks_behind : List ℕ → Result ℕ Cause → Result (List Piece) Cause
 blocks_behind file (Ok schema) = rest_of (start_of schema file)
 blocks_behind file (Err c) = Err c
 
--- all blocks of a file, or the first failed test
+-- all blocks of a file, or the first failed test of its header or of its blocks
 unfoldable pub blocks_of : List ℕ → Result (List Piece) Cause
 blocks_of file = blocks_behind file (header_of file)

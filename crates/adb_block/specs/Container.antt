@@ -1,68 +1,83 @@
--- A container as a grammar on its whole bytes (apk-v3(5)).
+-- A container as a grammar on its whole bytes (apk-v3(5)). The rules stand in `docs/formats.md`,
+-- "Container", from "A file begins with" to "One ADB block comes first".
 use Rattle.std.specs.Prelude.{◌≡◌, ℕ, ◌+◌, ◌*◌, ◌^◌, ◌<◌, ◌≤◌, ◌⊎◌, true, codes, List, [], ◌∷◌, ◌++◌, length, take, drop, Option, Some, None}
 use Rattle.std.specs.Int.{w32, w64, from_le_bytes}
 use Rattle.adb_block.specs.declared.block.BlockKind.{BlockKind}
 use Rattle.adb_block.specs.Piece.{Piece, comes_after, kind_number, least_payload, padding_of}
 
--- four bytes: the kind in the top two bits, below it the raw size, which counts them and the
--- payload
+-- a header of four bytes: the kind in the top two bits, below it the raw size, which counts the
+-- header's 4 bytes and the `len` of the payload
 pub record IsShortHead (kind : BlockKind) (len : ℕ) (head : List ℕ) : Type 0 where
   pub size : length head ≡ 4
+  -- the kind and the raw size, in one number
   pub word : from_le_bytes w32 head ≡ kind_number kind * 2 ^ 30 + (4 + len)
+  -- the raw size has room below the kind
   pub small : 4 + len < 2 ^ 30
 
--- sixteen bytes: the number 3 with the kind below it, four bytes that nobody looks at, the raw
--- size, which counts them and the payload
+-- a header of sixteen bytes: the number 3 with the kind below it, four bytes that nobody looks at,
+-- and the raw size, which counts the header's 16 bytes and the `len` of the payload
 pub record IsLongHead (kind : BlockKind) (len : ℕ) (head : List ℕ) : Type 0 where
   pub size : length head ≡ 16
+  -- 3 in the top two bits, and the kind below
   pub word : from_le_bytes w32 (take 4 head) ≡ 3 * 2 ^ 30 + kind_number kind
+  -- the raw size, behind four bytes that nobody looks at
   pub raw : from_le_bytes w64 (drop 8 head) ≡ 16 + len
 
--- the header of a block of this kind, whose payload is so long
+-- a header of a block of this kind whose payload has `len` bytes; either form may stand
 abbrev pub IsHead : BlockKind → ℕ → List ℕ → Type 0
 IsHead kind len head = IsShortHead kind len head ⊎ IsLongHead kind len head
 
--- the padding behind so many bytes, before the rest; where nothing comes behind it, it may be cut
--- or missing
+-- the padding behind a header and a payload of so many bytes, before the rest of the file; where
+-- nothing comes behind it, it may be cut or missing
 abbrev pub IsPadding : ℕ → List ℕ → List ℕ → Type 0
 IsPadding size pad rest =
     (length pad ≡ padding_of size) ⊎ ((length pad < padding_of size) × (rest ≡ []))
 
--- the bytes begin with this block and its padding, and go on with the rest
+-- the bytes begin with this block, whose header, payload and padding stand one behind the other,
+-- and go on with the rest
 pub record IsBlock (b : Piece) (bytes rest : List ℕ) : Type 0 where
+  -- the bytes of the header
   pub head : List ℕ
+  -- the padding
   pub pad : List ℕ
   pub is_head : IsHead b.kind (length b.payload) head
   pub parts : bytes ≡ head ++ (b.payload ++ (pad ++ rest))
+  -- as much as the size of header and payload asks for
   pub is_pad : IsPadding (length head + length b.payload) pad rest
 
--- the block may come behind a block of the kind last, or first
+-- a block may stand behind one of the kind `last` (None: it is the first), and its payload is no
+-- shorter than its kind asks for
 pub record MayFollow (last : Option BlockKind) (b : Piece) : Type 0 where
+  -- its kind may stand here
   pub order : comes_after last b.kind ≡ true
+  -- its payload has the bytes that its kind asks for
   pub long : least_payload b.kind ≤ length b.payload
 
--- no container is without a block
+-- the file may end here, since a block came before: no container is without one
 abbrev pub IsLater : Option BlockKind → Type 0
 IsLater None = ⊥
 IsLater (Some kind) = Unit {0}
 
--- the bytes from here to the end, behind a block of the kind last, are these blocks
+-- the bytes from here to the end of a file, behind a block of the kind `last`, are these blocks
 abbrev pub SpellsBlocks : Option BlockKind → List ℕ → List Piece → Type 0
 SpellsBlocks last bytes [] = (bytes ≡ []) × IsLater last
 SpellsBlocks last bytes (b ∷ bs) =
     (rest : List ℕ) × MayFollow last b × IsBlock b bytes rest × SpellsBlocks (Some b.kind) rest bs
 
--- the file is a container of this schema with these blocks
+-- a file is a container of this schema with these blocks: `ADB.`, the four bytes of the schema, and
+-- the blocks
 pub record Spells (file : List ℕ) (schema : ℕ) (pieces : List Piece) : Type 0 where
+  -- the four bytes of the schema
   pub word : List ℕ
+  -- the bytes of the blocks
   pub body : List ℕ
   pub parts : file ≡ codes "ADB." ++ (word ++ body)
   pub four : length word ≡ 4
   pub is_schema : from_le_bytes w32 word ≡ schema
   pub blocks : SpellsBlocks None body pieces
 
--- the blocks may stand behind a block of the kind last, in this order, and each payload's size fits
--- in a header
+-- these blocks may be written in this order behind a block of the kind `last`, and each payload's
+-- size, with the 16 bytes of the longest header, fits in 64 bits
 abbrev pub MayStand : Option BlockKind → List Piece → Type 0
 MayStand last [] = IsLater last
 MayStand last (b ∷ bs) =

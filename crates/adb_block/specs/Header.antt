@@ -1,23 +1,25 @@
--- The header of a file: its schema, or the first failed test.
+-- The header of a file: its schema, or the first failed test. The rules stand in `docs/formats.md`,
+-- "Container" ("A file begins with") and the rows "header" of its table.
 use Rattle.std.specs.Prelude.{ℕ, Bool, not, ◌||◌, nat_lt, if◌then◌else◌, List, length, take, drop, codes, Result, Ok, Err}
 use Rattle.std.specs.Str.{bytes_eq}
 use Rattle.std.specs.Int.{w32, w64, from_le_bytes}
 use Rattle.base_core.specs.declared.Cause.{Cause}
 use Rattle.base_core.specs.declared.Cause.TheVariants.{NotAdb, Compressed, Truncated}
 
--- the number of four bytes at an offset
+-- the number of four bytes at an offset, the least significant first
 abbrev pub word_at : ℕ → List ℕ → ℕ
 word_at at bytes = from_le_bytes w32 (take 4 (drop at bytes))
 
--- the number of eight bytes at an offset
+-- the number of eight bytes at an offset, the least significant first
 abbrev pub long_at : ℕ → List ℕ → ℕ
 long_at at bytes = from_le_bytes w64 (take 8 (drop at bytes))
 
--- how a compressed container begins
+-- whether the first four bytes are those of a compressed container
 abbrev pub is_compressed : List ℕ → Bool
 is_compressed front = bytes_eq front (codes "ADBd") || bytes_eq front (codes "ADBc")
 
--- the schema's number behind the first four bytes, or the first fault of the header
+-- the schema of a file, which is the number behind its first four bytes, or the first fault of its
+-- header
 unfoldable pub header_of : List ℕ → Result ℕ Cause
 header_of file =
     if nat_lt (length file) 4 then Err (Truncated 0)

@@ -1,3 +1,5 @@
+-- The definitions of `adb_block`. The head of each file says where its rule stands.
+
 -- what the contract of `apk` says
 pub mod Piece
 pub mod Header

@@ -1,5 +1,9 @@
 //! A block: its kind, its header as it is read and written, its framing, and how far the next one
-//! is.
+//! is. The rules stand in `docs/formats.md`, "Container", "A block is a header" (the header, the
+//! raw size, padding) and the rows "each block, at its offset" of its table; how a header is
+//! written, in "Canonical layout" ("In a container each block is padded"). In the clauses `exact`
+//! says that what is answered is what the tests in their order find, `order` that the kind may
+//! stand there, `fits` that the block ends within the bytes that there are.
 
 ghost use Rattle.std.specs.Prelude.{◌≡◌, ◌≤◌, ◌<◌, ◌+◌, ◌-◌, ◌^◌, ◌⊎◌, ℕ, List, Option, None, true, IfOk, IfSome, IsSome, length, take};
 ghost use Rattle.std.specs.Option.{option_map};
@@ -28,8 +32,11 @@ pub enum BlockKind {
 /// the file: the bytes behind the header, without padding.
 #[derive(Clone, Copy)]
 pub struct Block<'a> {
+    /// What the block holds.
     pub kind: BlockKind,
+    /// The bytes behind the header, without padding.
     pub payload: &'a [u8],
+    /// The offset of the header.
     pub at: u64,
 }
 
@@ -37,8 +44,11 @@ pub struct Block<'a> {
 /// which counts the header and the payload.
 #[derive(Clone, Copy)]
 struct BlockHead {
+    /// The number of the kind, which may be unknown.
     kind: u32,
+    /// How many bytes the header has: 4 or 16.
     len: u64,
+    /// How many bytes the header and the payload have.
     raw: u64,
 }
 
@@ -46,16 +56,23 @@ struct BlockHead {
 /// payload have. The payload need not be held.
 #[derive(Clone, Copy)]
 pub struct Frame {
+    /// What the block holds.
     pub kind: BlockKind,
+    /// How many bytes the header has.
     pub head_len: u64,
+    /// How many bytes the payload has.
     pub payload_len: u64,
 }
 
-/// A block that passed its tests, and how many bytes it takes with its padding.
+/// A block of a file that is held and passed its tests, and how many bytes it takes with its
+/// padding.
 #[derive(Clone, Copy)]
 pub(crate) struct ReadBlock<'a> {
+    /// What the block holds.
     pub kind: BlockKind,
+    /// The bytes behind the header, without padding.
     pub payload: &'a [u8],
+    /// How many bytes lead to the next block: header, payload and padding.
     pub size: usize,
 }
 
@@ -86,8 +103,9 @@ pub(crate) fn block_at(
     }
 }
 
-/// How many bytes the header of a block takes that begins with these: 16 where the first four say
-/// so, else 4 (apk-v3(5)).
+/// How many bytes the header of a block takes that begins with these: 16 where the top two bits of
+/// the first four are 3, else 4 (apk-v3(5)). Of fewer than four bytes nothing is known, and it is
+/// 4.
 pub fn head_len(bytes: &[u8]) -> u64
     ensures value { result ≡ head_len bytes.now }
     ensures either { (result ≡ 4) ⊎ (result ≡ 16) }
@@ -116,6 +134,7 @@ pub fn frame_of(
     // What is left may be any bytes that begin so.
     ensures exact { (bytes : List ℕ) → length bytes ≡ left → take (length head.now) bytes ≡ head.now
         → IsFramed result bytes (next_step last at bytes) }
+    // There is always a first block, or an error.
     ensures first { last ≡ None → IfOk result (λ found. IsSome found) }
     ensures order { IfOk result (λ found. IfSome found (λ frame.
         comes_after last frame.kind ≡ true)) }
@@ -137,7 +156,8 @@ pub fn frame_of(
     Ok(Some(frame))
 }
 
-/// The header that the bytes begin with, or None where it is not whole.
+/// What the header says that the bytes begin with, or None where it is not whole. The number 3 in
+/// the top two bits says that it has 16 bytes.
 #[tactic(auto, unfolding(crate::specs::Framing::head_of))]
 fn read_head(bytes: &[u8]) -> Option<BlockHead>
     ensures exact { option_map fields_of result ≡ head_of bytes.now }
@@ -147,6 +167,7 @@ fn read_head(bytes: &[u8]) -> Option<BlockHead>
         return None;
     }
     let word = word_at(bytes, 0);
+    // A header of 4 bytes: the kind in the top two bits, and below them the raw size.
     if word >> 30 != 3 {
         return Some(BlockHead {
             kind: word >> 30,
@@ -157,6 +178,7 @@ fn read_head(bytes: &[u8]) -> Option<BlockHead>
     if bytes.len() < 16 {
         return None;
     }
+    // A header of 16 bytes: the kind in the low 30 bits, and the raw size in 8 bytes of its own.
     Some(BlockHead {
         kind: word & 0x3fff_ffff,
         len: 16,
@@ -164,7 +186,7 @@ fn read_head(bytes: &[u8]) -> Option<BlockHead>
     })
 }
 
-/// The block that begins with this header, if it passes the tests.
+/// Frames the block that begins with this header, if it passes the tests of its kind and its size.
 fn frame_by_head(
     last: Option<BlockKind>,
     at: u64,
@@ -183,6 +205,7 @@ fn frame_by_head(
     if !comes_after(last, kind) {
         return Err(Cause::BlockOrder { at });
     }
+    // The raw size counts the header too.
     if head.raw < head.len || head.raw > left {
         return Err(Cause::Truncated { at });
     }
@@ -221,7 +244,7 @@ fn comes_after(last: Option<BlockKind>, kind: BlockKind) -> bool
     }
 }
 
-/// How long the payload of a block of this kind is at least.
+/// How many bytes the payload of a block of this kind has at least: an ADB block has its head of 8.
 fn least_payload(kind: BlockKind) -> u64
     ensures { result ≡ least_payload kind }
 {
@@ -240,13 +263,15 @@ pub fn padding_of(size: usize) -> usize
     (8 - size % 8) % 8
 }
 
-/// The largest raw size that a header of four bytes can tell.
+/// The largest raw size that a header of four bytes can tell: it has 30 bits for it.
 const MOST_SHORT: u64 = 0x3fff_ffff;
 
 /// The header of a block, of 4 or 16 bytes. Contracts see its bytes.
 #[derive(Drop)]
 pub struct Head {
+    /// The bytes of the header, and zeros behind them.
     bytes: [u8; 16],
+    /// How many of these bytes the header has: 4 or 16.
     len: usize,
 }
 
@@ -261,7 +286,7 @@ impl Model for Head {
 }
 
 impl Head {
-    /// Its bytes.
+    /// The bytes of the header, of which there are 4 or 16.
     pub fn bytes(&self) -> &[u8]
         ensures bytes { result.now ≡ self.now }
         ensures short { length result.now ≤ 16 }
@@ -291,7 +316,7 @@ pub fn block_head(kind: BlockKind, payload_len: u64) -> Head
     Head { bytes, len: 16 }
 }
 
-/// The number of a kind in a header.
+/// The number of a kind of block, as a header has it.
 fn kind_number(kind: BlockKind) -> u32
     ensures value { result ≡ kind_number kind }
     ensures few { result < 3 }

@@ -1,5 +1,6 @@
 //! The reader of a file's header and of its blocks, one after the other. Its laws say that its
-//! tests and the grammar of a container agree on every file.
+//! tests and the grammar of a container agree on every file. The rules stand in `docs/formats.md`,
+//! "Container": the tests in the order of its table.
 
 ghost use Rattle.std.specs.Prelude.{◌≡◌, ◌↔◌, [], drop, IfOk, IfErr, IfSome, IfNone, IsNone, OnErr, ◌<◌, ◌^◌, ℕ, List};
 ghost use Rattle.adb_block.specs.Header.{header_of};
@@ -21,9 +22,13 @@ use std::marker::Model;
 /// `specs/`.
 #[derive(Drop)]
 pub struct Blocks<'a> {
+    /// The whole file.
     bytes: &'a [u8],
+    /// The schema in its header.
     schema: u32,
+    /// The kind of the block that was read last; None before the first.
     last: Option<BlockKind>,
+    /// The offset of the next block.
     at: usize,
 }
 
@@ -63,7 +68,7 @@ impl<'a> Blocks<'a> {
         })
     }
 
-    /// The schema in the file's header.
+    /// The schema in the header of the file: of which type its root is.
     pub fn schema(&self) -> u32
         ensures { result ≡ self.now.schema }
     {
@@ -122,14 +127,16 @@ impl<'a> Blocks<'a> {
     }
 }
 
-/// The bytes from an offset on.
+/// The bytes of a file from an offset on; none at or past its end, as where the last padding is
+/// cut.
 fn left_from(bytes: &[u8], at: usize) -> &[u8]
     ensures { result.now ≡ drop at bytes.now }
 {
     if at < bytes.len() { &bytes[at..] } else { &[] }
 }
 
-/// The schema of a file: `ADB.` and the number of the next four bytes.
+/// The schema that the header of a file has, which is `ADB.` and the number of the next four bytes,
+/// or the first failed test of the header.
 #[tactic(auto, unfolding(crate::specs::Header::header_of))]
 pub(crate) fn read_header(file: &[u8]) -> Result<u32, Cause>
     ensures { result ≡ header_of file.now }

@@ -7,6 +7,9 @@
 //! from there), `Reader` (what a call answers), `Written` (how headers, blocks and containers are
 //! written) and `Container` (the grammar of whole files) of `specs/`. `block_head` gives the header
 //! of a block that is written.
+//!
+//! The rules stand in `docs/formats.md`, "Container"; of what is written, in "Canonical layout"
+//! ("In a container each block is padded").
 #![tactic(auto)]
 
 mod block;

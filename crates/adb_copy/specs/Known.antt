@@ -1,4 +1,6 @@
 -- The long texts of a payload that a draft has.
+-- No rule of a document: serves the contracts of `src/known_texts.rt` and `src/overlaps.rt`; that a
+-- blob is stored once is `docs/formats.md`, "Canonical layout".
 use Rattle.std.specs.Prelude.{◌≡◌, ℕ, List, Some, All, ◌≤◌, ◌+◌, ◌-◌, ◌%◌, slice_range, take, drop}
 use Rattle.std.specs.BTreeMap.{BTreeMap, get}
 use Rattle.std.specs.Ordering.{nat_cmp}
@@ -10,31 +12,32 @@ use Rattle.adb_copy.specs.declared.known_texts.KnownTexts.{KnownTexts}
 use Rattle.adb_copy.specs.declared.overlaps.PeriodicRange.{PeriodicRange}
 use Rattle.adb_copy.specs.declared.overlaps.TextPlace.{TextPlace}
 
--- the bytes of the range but for the first period are those but for the last one
+-- the range has its period in the payload: its bytes but for the first period are those but for the
+-- last one
 abbrev pub HasPeriod : List ℕ → PeriodicRange → Type 0
 HasPeriod payload range =
     slice_range payload (range.from + range.period) range.end
     ≡ slice_range payload range.from (range.end - range.period)
 
--- the text stands in the range, so far behind the beginning of a period
+-- the text stands in the range, and `phase` is how far behind the beginning of a period it begins
 pub record IsPhaseOf (range : PeriodicRange) (text : TextPlace) (phase : ℕ) : Type 0 where
   pub behind : range.from ≤ text.from
   pub within : text.from + text.len ≤ range.end
   pub is : phase ≡ (text.from - range.from) % range.period
 
--- in each payload where the range has its period the two texts are equal
+-- the range shows that two texts are equal: in each payload where the range has its period they are
 abbrev pub AreEqualUnder : PeriodicRange → TextPlace → TextPlace → Type 0
 AreEqualUnder range left right = (payload : List ℕ) → HasPeriod payload range
     → take left.len (drop left.from payload) ≡ take right.len (drop right.from payload)
 
--- this is kept for a text of the payload that is the text of the word
+-- `known` is what is kept for a text of the payload that equals the text of the word
 pub record IsKnownFor (payload : List ℕ) (words : BTreeMap ℕ ℕ) (word known : ℕ) : Type 0 where
   pub kept : ℕ
   pub has : get nat_cmp words kept ≡ Some known
   pub same : text_in (value_at payload Text kept) ≡ text_in (value_at payload Text word)
 
--- each of these texts of the payload is a blob of the draft, and has there the word that is kept;
--- the ranges that are kept have their periods
+-- the texts that are kept are blobs of the draft: each text of the payload has in the draft the
+-- word that is kept for it; and the ranges that are kept have their periods
 pub record AreBlobsOf (payload : List ℕ) (draft : DraftState) (texts : KnownTexts) : Type 0 where
   pub known : (word known : ℕ) → get nat_cmp texts.words word ≡ Some known
       → HasBlob draft (text_in (value_at payload Text word)) known

@@ -1,4 +1,7 @@
 //! The information of a package, written value by value.
+//! The rules stand in `docs/formats.md`: "The database after a change" (which id and which length
+//! it has; an integer 0 is NULL) and "Schemas", table 3 (its fields in their order) and table 1
+//! (those of a dependency). The tables count fields from 1, and the constants here from 0.
 ghost use Rattle.std.specs.Prelude.{◌≡◌, map, true, Some, OnOk};
 ghost use Rattle.adb_schema.specs.Views.{info_value};
 ghost use Rattle.adb_fields.specs.Fields.{are_all_sound, array_at};
@@ -21,31 +24,35 @@ use adb_values::Draft;
 use adb_view::{Adb, Arr, Val, values_have_their_shape};
 use std::alloc::{AllocError, Global};
 
-/// The fields of an info with dependencies.
+/// The index of `depends` among the fields of a package's information (15 in table 3).
 const DEPENDS: usize = 14;
 
+/// The index of `provides` (16 in table 3).
 const PROVIDES: usize = 15;
 
+/// The index of `replaces` (17 in table 3).
 const REPLACES: usize = 16;
 
+/// The index of `install-if` (18 in table 3).
 const INSTALL_IF: usize = 17;
 
+/// The index of `recommends` (19 in table 3).
 const RECOMMENDS: usize = 18;
 
-/// That with its tags.
+/// The index of `tags` (21 in table 3).
 const TAGS: usize = 20;
 
-/// The field of a dependency with its name.
+/// The index of the name among the fields of a dependency (1 in table 1).
 const NAME: usize = 0;
 
-/// That with its version.
+/// The index of the version of a dependency (2 in table 1).
 const VERSION: usize = 1;
 
-/// That with its match number.
+/// The index of the match number of a dependency (3 in table 1).
 const MATCHING: usize = 2;
 
-/// Writes an info with this id as its hash and this length as its file's size. An integer 0 is
-/// NULL.
+/// Writes the information that a view shows, with `id` as its hash and `len` as the size of the
+/// package's file. An integer 0 is NULL.
 pub fn write_info<'a>(
     alloc: Global,
     draft: &mut Draft,
@@ -58,6 +65,7 @@ pub fn write_info<'a>(
 {
     values_have_their_shape();
     draft.open_list()?;
+    // The fields of table 3 in their order, the first of which are texts and hashes.
     write_texts(
         draft,
         &[
@@ -98,7 +106,7 @@ pub fn write_info<'a>(
     draft.close_object()
 }
 
-/// Writes texts one after another.
+/// Writes texts one behind another; an empty one is NULL.
 fn write_texts(draft: &mut Draft, texts: &[&[u8]]) -> Result<(), AllocError>
     ensures { OnOk result
         (draft.new ≡ draft_with_all (text_plains (map (λ t. t.now) texts.now)) draft.old) }
@@ -109,7 +117,7 @@ fn write_texts(draft: &mut Draft, texts: &[&[u8]]) -> Result<(), AllocError>
     Ok(())
 }
 
-/// Writes integers one after another; 0 is NULL.
+/// Writes integers one behind another; 0 is NULL.
 fn write_ints(draft: &mut Draft, ints: &[u64]) -> Result<(), AllocError>
     ensures { OnOk result (draft.new ≡ draft_with_all (int_plains ints.now) draft.old) }
 {
@@ -129,7 +137,7 @@ pub fn write_int(draft: &mut Draft, n: u64) -> Result<(), AllocError>
     draft.int(n)
 }
 
-/// Writes the tags of an info.
+/// Writes the tags of a package's information. In the clause, 20 is the index of `tags` (`TAGS`).
 fn write_info_tags(alloc: Global, draft: &mut Draft, info: &PkgInfo<'_>) -> Result<(), AllocError>
     ensures { OnOk result
         (draft.new ≡ draft_with (without_zeros (entry_in (info_value info.now) 20)) draft.old) }
@@ -140,7 +148,7 @@ fn write_info_tags(alloc: Global, draft: &mut Draft, info: &PkgInfo<'_>) -> Resu
     write_text_list(draft, adb, &mut known, tags)
 }
 
-/// Writes an array of texts.
+/// Writes an array of texts of a payload. `known` has the long ones that the draft has already.
 pub fn write_text_list<'a>(
     draft: &mut Draft,
     adb: Adb<'a>,
@@ -161,7 +169,7 @@ pub fn write_text_list<'a>(
     draft.close_array()
 }
 
-/// Writes an array of dependencies, a field of an info.
+/// Writes the array of dependencies that is a field of a package's information.
 fn write_deps(
     alloc: Global,
     draft: &mut Draft,
@@ -177,7 +185,7 @@ fn write_deps(
     write_dep_list(alloc, draft, adb, deps)
 }
 
-/// Writes an array of dependencies.
+/// Writes an array of dependencies of a payload.
 fn write_dep_list<'a>(
     alloc: Global,
     draft: &mut Draft,
@@ -197,7 +205,7 @@ fn write_dep_list<'a>(
     draft.close_array()
 }
 
-/// Writes a dependency.
+/// Writes one dependency of a payload.
 fn write_dep(
     draft: &mut Draft,
     adb: Adb<'_>,

@@ -1,4 +1,7 @@
 //! Files and their access lists, and scripts, written value by value.
+//! The rules stand in `docs/formats.md`: "The database after a change" (what a database has of a
+//! file; an integer 0 is NULL) and "Schemas", tables 2, 4 and 6 (the fields in their order). The
+//! tables count fields from 1, and the constants here from 0.
 ghost use Rattle.adb_copy.specs.Known.{AreBlobsOf};
 ghost use Rattle.adb_copy.specs.Zeros.{without_zeros};
 ghost use Rattle.adb_schema.specs.Views.{scripts_value};
@@ -18,31 +21,40 @@ use adb_values::Draft;
 use adb_view::{Adb, Val, values_have_their_shape};
 use std::alloc::AllocError;
 
-/// The fields of an access list.
+/// The index of the mode among the fields of an access list (1 in table 2).
 const MODE: usize = 0;
 
+/// The index of the user (2 in table 2).
 const USER: usize = 1;
 
+/// The index of the group (3 in table 2).
 const GROUP: usize = 2;
 
+/// The index of the extended attributes (4 in table 2).
 const XATTRS: usize = 3;
 
-/// The fields of a file.
+/// The index of the name among the fields of a file (1 in table 4).
 const NAME: usize = 0;
 
+/// The index of the access list (2 in table 4).
 const ACL: usize = 1;
 
+/// The index of the size (3 in table 4).
 const SIZE: usize = 2;
 
+/// The index of the time of the last change (4 in table 4).
 const MTIME: usize = 3;
 
+/// The index of the hash (5 in table 4).
 const HASHES: usize = 4;
 
+/// The index of the target (6 in table 4).
 const TARGET: usize = 5;
 
+/// The index of the field that is kept free (7 in table 4).
 const UNUSED: usize = 6;
 
-/// Writes the access list of a word once more.
+/// Writes the access list with a word of a payload once more.
 pub fn write_acl(
     draft: &mut Draft,
     adb: Adb<'_>,
@@ -64,7 +76,8 @@ pub fn write_acl(
     draft.close_object()
 }
 
-/// Writes the file of a word once more.
+/// Writes the file with a word of a payload once more: its name, access list, size, time, hash and
+/// target, and not its contents.
 pub fn write_file(
     draft: &mut Draft,
     adb: Adb<'_>,
@@ -89,7 +102,7 @@ pub fn write_file(
     draft.close_object()
 }
 
-/// Writes scripts once more.
+/// Writes the scripts that a view shows once more, in the order of table 6.
 pub fn write_scripts(draft: &mut Draft, scripts: &ScriptsView<'_>) -> Result<(), AllocError>
     ensures { OnOk result
         (draft.new ≡ draft_with (without_zeros (scripts_value scripts.now)) draft.old) }

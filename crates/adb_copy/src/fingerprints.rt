@@ -1,5 +1,7 @@
 //! Long texts of a payload that equal an earlier one elsewhere. The payload is summed once, so that
 //! the fingerprint of any text is had in a few steps, and an equal one is found by one comparison.
+//! No document has a rule for this: the README of this crate says it, in the paragraph on
+//! fingerprints. All of it saves time alone, so no contract speaks of it.
 
 use crate::overlaps::text_place;
 use crate::sums::Sums;
@@ -19,7 +21,7 @@ pub struct Fingerprints {
 }
 
 impl Fingerprints {
-    /// Nothing is known.
+    /// No text is noted.
     pub(crate) fn new(alloc: Global) -> Fingerprints {
         Fingerprints {
             compared: 0,

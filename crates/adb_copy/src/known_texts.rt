@@ -1,6 +1,8 @@
 //! The long texts of a payload that were written into a draft. Many places may share a text, so a
 //! long one is compared with what the draft has once, and then written by its word. Equal texts
 //! that overlap are found by their period, others by their fingerprints.
+//! That a blob is stored once is the rule of `docs/formats.md`, "Canonical layout". How often a
+//! text is looked at is this crate's own choice, as its README says.
 
 ghost use Rattle.std.specs.Prelude.{◌≡◌, ℕ, List, true, Some, All, IfOk, IfSome, OnOk};
 ghost use Rattle.adb_view.specs.Adb.{payload_of};
@@ -18,21 +20,26 @@ use adb_view::{Adb, Val};
 use std::alloc::{AllocError, Global};
 use std::collections::BTreeMap;
 
-/// How many bytes a text has at most that is compared at each place where it stands.
+/// How many bytes a text has at most that is compared at each place where it stands, so that no
+/// memory is taken for it. Any number is right; more make short texts slow, fewer take memory for
+/// each.
 const SHORT: usize = 64;
 
-/// The words that long texts of a payload have in a draft, by their words in the payload.
+/// The long texts of one payload that one draft has.
 #[derive(Drop)]
 pub struct KnownTexts {
+    /// The word of each of them in the draft, by its word in the payload.
     words: BTreeMap<u32, u32>,
+    /// Which of the texts overlap, and the periods of their bytes.
     overlaps: Overlaps,
+    /// Which of the texts are likely to be equal to a further one.
     fingerprints: Fingerprints,
 }
 
 impl KnownTexts {
     ghost use Rattle.adb_copy.specs.Known.{AreBlobsOf, HasPeriod, IsKnownFor};
 
-    /// None is known.
+    /// No text is known.
     pub fn new(alloc: Global) -> KnownTexts
         ensures { (payload : List ℕ) (draft : DraftState) → AreBlobsOf payload draft result }
     {
@@ -43,7 +50,7 @@ impl KnownTexts {
         }
     }
 
-    /// Writes the text of a word. Only long texts take memory, each once.
+    /// Writes the text that has a word in the payload. Only long texts take memory, each once.
     pub(crate) fn write(
         &mut self,
         draft: &mut Draft,
@@ -66,7 +73,7 @@ impl KnownTexts {
         }
     }
 
-    /// Writes the text of an object's field.
+    /// Writes the text of a field of an object of the payload.
     pub fn write_field(
         &mut self,
         draft: &mut Draft,
@@ -85,7 +92,8 @@ impl KnownTexts {
         self.write(draft, adb, field_word(adb, which, object, field))
     }
 
-    /// The word that the text of a word has in the draft, if it is known.
+    /// The word that the text of a word has in the draft, if the text is known: by this word, or by
+    /// another one that means an equal text.
     fn known_word(&self, adb: Adb<'_>, word: Val) -> Option<u32>
         requires { All (HasPeriod (payload_of adb)) self.now.overlaps.ranges.items }
         ensures { IfSome result (IsKnownFor (payload_of adb.entry) self.now.words word) }
@@ -142,7 +150,7 @@ impl KnownTexts {
         }
     }
 
-    /// Writes a text that is not known, and keeps its word.
+    /// Writes a text that is not known, and keeps the word that it has in the draft.
     fn write_new(&mut self, draft: &mut Draft, adb: Adb<'_>, word: Val) -> Result<(), AllocError>
         requires sound { is_sound (payload_of adb) Kinds.Text word ≡ true }
         requires known { AreBlobsOf (payload_of adb) draft.old self.old }

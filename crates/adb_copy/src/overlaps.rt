@@ -1,6 +1,8 @@
 //! Long texts of a payload that overlap. Where equal texts overlap, their bytes have a period;
 //! which bytes were tested to have one is kept, so that of the texts there that are equal few are
 //! looked at.
+//! No document has a rule for this: the README of this crate says it, in the paragraph on periods,
+//! and *HasPeriod* of `specs/Known.antt` what a range promises. All of it saves time alone.
 
 ghost use Rattle.std.specs.Prelude.{◌≡◌, ◌<◌, ◌≤◌, ◌+◌, ℕ, List, [], All, length, take, drop, IfOk, IfSome, OnOk};
 ghost use Rattle.std.specs.Bool.{OnTrue};
@@ -13,37 +15,46 @@ use adb_view::{Adb, Val};
 use std::alloc::{AllocError, Global};
 use std::collections::BTreeMap;
 
-/// A stretch is the length of a text divided by this, and one byte.
+/// A stretch is the length of a text divided by this, and one byte. Two equal texts that begin in
+/// one stretch are less than that apart, so they overlap and show a period. With a greater number
+/// fewer texts show one; with a lesser one more bytes around a text are tested.
 const PART: usize = 4;
 
-/// How many bytes around a text are compared at once.
+/// How many bytes around a text are compared at once; the last ones singly. Any number is right.
 const STEP: usize = 64;
 
 /// Where a text stands in its payload.
 #[derive(Clone, Copy)]
 pub(crate) struct TextPlace {
+    /// The offset in the payload at which the text begins.
     pub from: usize,
+    /// How many bytes the text has.
     pub len: usize,
 }
 
 impl TextPlace {
-    /// The stretch of the payload in which it begins. Equal texts of one stretch show a period.
+    /// The number of the stretch of the payload in which the text begins. Equal texts of one
+    /// stretch show a period.
     fn stretch(self) -> usize {
         self.from / (self.len / PART + 1)
     }
 }
 
-/// Bytes of a payload, each of which is the one that stands a period before it.
+/// Bytes of a payload, each of which is the one that stands a period before it, but for the first
+/// period.
 #[derive(Clone, Copy)]
 pub(crate) struct PeriodicRange {
+    /// The offset of the first of the bytes.
     pub from: usize,
+    /// The offset behind the last one.
     pub end: usize,
+    /// How many bytes the period has.
     pub period: usize,
 }
 
 impl PeriodicRange {
-    /// The phase of a text: how far behind the beginning of a period it begins. None where it does
-    /// not stand in the range.
+    /// The phase of a text: how far behind the beginning of a period it begins. None where the text
+    /// does not stand in the range.
     fn phase_of(self, text: TextPlace) -> Option<usize>
         ensures { IfSome result (IsPhaseOf self text) }
     {
@@ -53,7 +64,8 @@ impl PeriodicRange {
         (text.from - self.from).checked_rem(self.period)
     }
 
-    /// Whether it shows that two texts are equal.
+    /// Whether the range shows that two texts are equal: both stand in it, with one phase and one
+    /// length.
     fn shows_equal(self, left: TextPlace, right: TextPlace) -> bool
         ensures { OnTrue result (AreEqualUnder self left right) }
     {
@@ -68,19 +80,23 @@ impl PeriodicRange {
 /// ranges are guesses, which are tested where they are used.
 #[derive(Drop)]
 pub struct Overlaps {
+    /// The ranges that were found.
     ranges: Vec<PeriodicRange>,
-    /// The last range that was found around a text, by the text's length and stretch.
+    /// The place in `ranges`, counted from 0, of the last range that was found around a text, by
+    /// the text's length and stretch.
     latest: BTreeMap<(usize, usize), usize>,
-    /// The word of a text by its range and its phase there.
+    /// The word of a text that was kept, by the place of its range and its phase there.
     words: BTreeMap<(usize, usize), u32>,
-    /// Where a text begins, by the word that it has in the draft and by its stretch.
+    /// The offset at which a text begins that was kept, by the word that it has in the draft and by
+    /// its stretch.
     places: BTreeMap<(u32, usize), usize>,
-    /// The last range that was found with two equal texts, by how they stand.
+    /// The place in `ranges` of the last range that was found with two equal texts, by how they
+    /// stand.
     repeats: BTreeMap<(usize, usize, usize), usize>,
 }
 
 impl Overlaps {
-    /// Nothing is known.
+    /// No text is kept.
     pub(crate) fn new(alloc: Global) -> Overlaps
         ensures { result.ranges.items ≡ [] }
     {
@@ -93,7 +109,8 @@ impl Overlaps {
         }
     }
 
-    /// The word of a text that was kept and equals the text of this word, if a range shows that.
+    /// The word of a text that was kept and equals the text of `word`, if a range shows that they
+    /// are equal.
     pub(crate) fn equal_word(&self, adb: Adb<'_>, word: Val) -> Option<u32>
         requires { All (HasPeriod (payload_of adb)) self.now.ranges.items }
         ensures { IfSome result (λ kept. text_in (value_at (payload_of adb.entry) Kinds.Text kept)
@@ -189,8 +206,8 @@ impl Overlaps {
         Ok(Some(range))
     }
 
-    /// Keeps a text that was not known, by its word and the word that it has in a draft, which is
-    /// NULL where the draft passed a limit.
+    /// Keeps a text that was not known, by its word in the payload and the word that it has in a
+    /// draft, which is NULL where the draft passed a limit: then nothing is kept.
     pub(crate) fn keep(&mut self, adb: Adb<'_>, word: Val, known: Val) -> Result<(), AllocError>
         requires { All (HasPeriod (payload_of adb)) self.old.ranges.items }
         ensures { OnOk result (All (HasPeriod (payload_of adb.entry)) self.new.ranges.items) }
@@ -201,15 +218,17 @@ impl Overlaps {
         if known.is_null() {
             return Ok(());
         }
+        // The bytes of both have the distance to an equal text of this stretch as a period.
         let place = (known.word(), text.stretch());
+        // The text that stood last in this stretch and has this word is equal to this one.
         if let Some(from) = self.places.insert(place, text.from)? {
             self.keep_range(adb, text, text.from.abs_diff(from))?;
         }
         self.keep_word(text, word)
     }
 
-    /// Keeps the range around a text that has a period, where an equal text begins at this
-    /// distance from it.
+    /// Keeps the range around a text that has a period, where an equal text begins at this distance
+    /// from the text. A distance that is some periods of the range that is known shows nothing new.
     fn keep_range(
         &mut self,
         adb: Adb<'_>,
@@ -223,6 +242,8 @@ impl Overlaps {
         if self.is_some_periods(text, distance) {
             return Ok(());
         }
+        // Bytes with two periods mostly have the greatest common divisor of these as one, and it is
+        // tested below.
         let period = match self.range_around(text) {
             Some(range) => common_divisor(range.period, distance),
             None => distance,
@@ -236,7 +257,7 @@ impl Overlaps {
         Ok(())
     }
 
-    /// Whether a distance is some periods of the range that is known around a text.
+    /// Whether a distance is a multiple of the period of the range that is known around a text.
     fn is_some_periods(&self, text: TextPlace, distance: usize) -> bool {
         match self.range_around(text) {
             Some(range) => {
@@ -246,7 +267,7 @@ impl Overlaps {
         }
     }
 
-    /// Keeps the word of a text by its phase, if a range around it is known.
+    /// Keeps the word of a text by its phase, if a range around the text is known.
     fn keep_word(&mut self, text: TextPlace, word: Val) -> Result<(), AllocError>
         ensures { self.new.ranges.items ≡ self.old.ranges.items }
     {
@@ -259,12 +280,12 @@ impl Overlaps {
         Ok(())
     }
 
-    /// The range that was found last around a text of this length in this stretch.
+    /// The range that was found last around a text of this length in this stretch, if there is one.
     fn range_around(&self, text: TextPlace) -> Option<PeriodicRange> {
         self.ranges.get(self.index_around(text)?).copied()
     }
 
-    /// Its index.
+    /// The place of that range in `ranges`, counted from 0.
     fn index_around(&self, text: TextPlace) -> Option<usize> {
         self.latest.get(&(text.len, text.stretch())).copied()
     }
@@ -280,7 +301,7 @@ fn repeat_place(first: TextPlace, second: TextPlace) -> (usize, usize, usize) {
     (distance, front.len, front.stretch())
 }
 
-/// Where the text of a word stands.
+/// Where the text of a word stands in the payload; none where the word means no bytes at an offset.
 pub(crate) fn text_place(adb: Adb<'_>, word: Val) -> Option<TextPlace>
     ensures text { IfSome result (λ text. text_in (value_at (payload_of adb.entry) Kinds.Text word)
         ≡ take text.len (drop text.from (payload_of adb.entry))) }
@@ -379,7 +400,7 @@ fn end_by_steps(bytes: &[u8], start: usize, most: usize, period: usize, step: us
     end
 }
 
-/// The greatest number that divides both.
+/// The greatest number that divides both, by Euclid's steps.
 fn common_divisor(left: usize, right: usize) -> usize {
     let mut divided = left;
     let mut divisor = right;

@@ -1,6 +1,8 @@
 //! Sums of a payload's bytes, from which the fingerprint of any text in it is had in a few steps.
 //! In a sum each byte counts by a power of a factor. The factors are taken from the payload's
 //! digest, so that who makes a payload does not know them before it is made.
+//! No document has a rule for this: the README of this crate says it, in the paragraph on
+//! fingerprints. That two texts of one fingerprint are equal is tested where it is used.
 
 ghost use Rattle.std.specs.Prelude.{◌≤◌, ◌+◌, length};
 
@@ -8,16 +10,20 @@ use crate::overlaps::TextPlace;
 use sha2::{Digest, Sha256};
 use std::alloc::{AllocError, Global};
 
-/// A prime. The product of two numbers below it has 62 bits.
+/// The prime that all sums are taken by. The product of two numbers below it has 62 bits, so that
+/// no step passes 64.
 const PRIME: u64 = (1 << 31) - 1;
 
-/// How many bytes stand between two sums that are kept.
+/// How many bytes stand between two sums that are kept. Any number is right: with a greater one
+/// less memory is taken, and more steps lead to a fingerprint.
 const BLOCK: usize = 32;
 
 /// Two numbers below the prime, with which the same is done.
 #[derive(Clone, Copy)]
 struct Pair {
+    /// The number by the first factor.
     left: u64,
+    /// The number by the second factor.
     right: u64,
 }
 
@@ -30,7 +36,7 @@ impl Pair {
         }
     }
 
-    /// The sums of both.
+    /// The sums of the numbers of two pairs.
     fn plus(self, other: Pair) -> Pair {
         Pair {
             left: self.left.wrapping_add(other.left) % PRIME,
@@ -38,7 +44,7 @@ impl Pair {
         }
     }
 
-    /// The products of both.
+    /// The products of the numbers of two pairs.
     fn times(self, other: Pair) -> Pair {
         Pair {
             left: self.left.wrapping_mul(other.left) % PRIME,
@@ -46,7 +52,8 @@ impl Pair {
         }
     }
 
-    /// The products, with a byte more.
+    /// The sums with one byte more: each is taken times its factor, and the byte is added. A byte
+    /// counts one more than it is, so that zeros in front tell.
     fn times_with(self, factor: Pair, byte: u8) -> Pair {
         let more = byte as u64 + 1;
         Pair {
@@ -55,7 +62,7 @@ impl Pair {
         }
     }
 
-    /// To the power of a number.
+    /// The pair to the power of a number, by squaring.
     fn to_power(self, exponent: usize) -> Pair {
         let mut power = Pair::of(1);
         let mut square = self;
@@ -70,7 +77,7 @@ impl Pair {
         power
     }
 
-    /// Both in one number.
+    /// Both numbers in one of 64 bits.
     fn number(self) -> u64 {
         self.left.wrapping_mul(1 << 32).wrapping_add(self.right)
     }
@@ -79,13 +86,14 @@ impl Pair {
 /// The sums of one payload.
 #[derive(Drop)]
 pub struct Sums {
+    /// The two factors; each byte counts by a power of them.
     factor: Pair,
     /// The sum of the bytes in front of each block, once the payload is summed.
     before: Vec<Pair>,
 }
 
 impl Sums {
-    /// Nothing is summed.
+    /// No payload is summed.
     pub(crate) fn new(alloc: Global) -> Sums {
         Sums {
             factor: Pair::of(0),
@@ -118,6 +126,8 @@ impl Sums {
     {
         let front = self.sum_before(payload, text.from)?;
         let whole = self.sum_before(payload, text.from + text.len)?;
+        // What the bytes in front count in the whole is taken off. Taken by the prime, one less than
+        // the prime is minus one.
         let opposite = Pair::of(PRIME - 1).times(front);
         let power = self.factor.to_power(text.len);
         Some(whole.plus(opposite.times(power)).number())
@@ -136,7 +146,7 @@ impl Sums {
     }
 }
 
-/// Two factors, from the digest of a payload.
+/// Two factors, from the digest of a payload: its bytes in turn, taken by the prime.
 fn factor_of(payload: &[u8]) -> Pair {
     let digest = Sha256::digest(payload);
     let mut factor = Pair::of(0);

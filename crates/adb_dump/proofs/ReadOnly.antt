@@ -8,10 +8,11 @@ use Rattle.adb_view.specs.Plain.{Plain, null, int, blob, arr, obj, Plains, none,
 use Rattle.adb_view.specs.Shaped.{Each, HasShape, HaveShapes}
 use Rattle.adb_view.proofs.FoundShapes.{shape_null}
 use Rattle.adb_dump.specs.Dump.{Line, begins_with_byte, int_line, text_line, hash_line, indent, with_dash, or_null, array_lines, named_line, named_block, unless_absent, block_lines, named_lines, fields_lines}
-use Rattle.adb_dump.specs.ReadBack.{LinesRead, after_lines, bind, strip_prefix, stop_or_add, split_block, quoted_read, unhex, blob_read, int_read, text_read, hash_read, if_form, only_line, entry_read, after_dash, entries_read, arr_read, obj_read, field_on_line, field_below, if_named, block_read, named_read, fields_read}
+use Rattle.base_core.specs.Lists.{and_then}
+use Rattle.adb_dump.specs.ReadBack.{LinesRead, after_lines, strip_prefix, stop_or_add, split_block, quoted_read, unhex, blob_read, int_read, text_read, hash_read, if_form, only_line, entry_read, after_dash, entries_read, arr_read, obj_read, field_on_line, field_below, if_named, block_read, named_read, fields_read}
 use Rattle.adb_dump.proofs.Booleans.{chosen, bytes_eq-true}
 
-bind_ok : {A B : Type 0} (r : LinesRead A) (f : A → LinesRead B) (y : B) → bind r f ≡ Ok y → (x : A) × (r ≡ Ok x) × (f x ≡ Ok y)
+bind_ok : {A B : Type 0} (r : LinesRead A) (f : A → LinesRead B) (y : B) → and_then r f ≡ Ok y → (x : A) × (r ≡ Ok x) × (f x ≡ Ok y)
 bind_ok (Ok x) f y e = (x, refl, e)
 bind_ok (Err k) f y e = absurd cc
 

@@ -8,7 +8,8 @@ use Rattle.adb_view.specs.Plain.{Plain, null, int, blob, arr, obj, Plains, none,
 use Rattle.adb_view.specs.Shaped.{Each, HasShape, HaveShapes}
 use Rattle.adb_view.proofs.Normal.{trimmed-more}
 use Rattle.adb_dump.specs.Dump.{Line, int_line, text_line, hash_line, text_form, indent, with_dash, or_null, array_lines, block_lines, named_lines, fields_lines}
-use Rattle.adb_dump.specs.ReadBack.{LinesRead, after_lines, bind, strip_prefix, split_block, entry_read, entries_read, arr_read, obj_read, field_below, block_read, named_read, fields_read}
+use Rattle.base_core.specs.Lists.{and_then}
+use Rattle.adb_dump.specs.ReadBack.{LinesRead, after_lines, strip_prefix, split_block, entry_read, entries_read, arr_read, obj_read, field_below, block_read, named_read, fields_read}
 use Rattle.adb_dump.specs.Values.{IsOfBytes, AreOfBytes}
 use Rattle.adb_dump.proofs.LineBack.{AreBytes, int_back, text_back, hash_back, int_not_null, text_not_null, hash_not_null}
 use Rattle.adb_dump.proofs.Booleans.{and_true, not_true, neq-eqb, bytes_eq-same, differs}
@@ -236,7 +237,7 @@ named_back number name v g ls b fresh = record {
   rest = 32 ∷ int_line v;
   lines = refl;
   is = refl;
-  back = λ vs h. ap (λ (r : LinesRead Plain). bind r (λ u. after_lines 1 (more u) (g ls))) b.back ∙ ap (after_lines 1 (more v)) h;
+  back = λ vs h. ap (λ (r : LinesRead Plain). and_then r (λ u. after_lines 1 (more u) (g ls))) b.back ∙ ap (after_lines 1 (more v)) h;
 }
 named_back text name v g ls b fresh = record {
   first = name ++ (58 ∷ 32 ∷ text_line v);
@@ -244,7 +245,7 @@ named_back text name v g ls b fresh = record {
   rest = 32 ∷ text_line v;
   lines = refl;
   is = refl;
-  back = λ vs h. ap (λ (r : LinesRead Plain). bind r (λ u. after_lines 1 (more u) (g ls))) b.back ∙ ap (after_lines 1 (more v)) h;
+  back = λ vs h. ap (λ (r : LinesRead Plain). and_then r (λ u. after_lines 1 (more u) (g ls))) b.back ∙ ap (after_lines 1 (more v)) h;
 }
 named_back hash name v g ls b fresh = record {
   first = name ++ (58 ∷ 32 ∷ hash_line v);
@@ -252,7 +253,7 @@ named_back hash name v g ls b fresh = record {
   rest = 32 ∷ hash_line v;
   lines = refl;
   is = refl;
-  back = λ vs h. ap (λ (r : LinesRead Plain). bind r (λ u. after_lines 1 (more u) (g ls))) b.back ∙ ap (after_lines 1 (more v)) h;
+  back = λ vs h. ap (λ (r : LinesRead Plain). and_then r (λ u. after_lines 1 (more u) (g ls))) b.back ∙ ap (after_lines 1 (more v)) h;
 }
 named_back (array s) name v g ls b fresh =
     let block = block_lines (array s) v in
@@ -263,7 +264,7 @@ named_back (array s) name v g ls b fresh =
       rest = [];
       lines = refl;
       is = refl;
-      back = λ vs h. ap (λ r. field_below (block_read (array s)) g r []) split ∙ ap (λ (r : LinesRead Plain). bind (after_lines 1 (λ u. u) r) (λ u. after_lines (1 + length block) (more u) (g ls))) b.back ∙ ap (after_lines (1 + length block) (more v)) h;
+      back = λ vs h. ap (λ r. field_below (block_read (array s)) g r []) split ∙ ap (λ (r : LinesRead Plain). and_then (after_lines 1 (λ u. u) r) (λ u. after_lines (1 + length block) (more u) (g ls))) b.back ∙ ap (after_lines (1 + length block) (more v)) h;
     }
 named_back (object which fs) name v g ls b fresh =
     let block = block_lines (object which fs) v in
@@ -274,7 +275,7 @@ named_back (object which fs) name v g ls b fresh =
       rest = [];
       lines = refl;
       is = refl;
-      back = λ vs h. ap (λ r. field_below (block_read (object which fs)) g r []) split ∙ ap (λ (r : LinesRead Plain). bind (after_lines 1 (λ u. u) r) (λ u. after_lines (1 + length block) (more u) (g ls))) b.back ∙ ap (after_lines (1 + length block) (more v)) h;
+      back = λ vs h. ap (λ r. field_below (block_read (object which fs)) g r []) split ∙ ap (λ (r : LinesRead Plain). and_then (after_lines 1 (λ u. u) r) (λ u. after_lines (1 + length block) (more u) (g ls))) b.back ∙ ap (after_lines (1 + length block) (more v)) h;
     }
 
 -- one field more
@@ -316,7 +317,7 @@ array_back s (more v vs) ne h =
       others = indent e.others ++ array_lines (block_lines s) vs;
       lines = ap (λ (ls : List Line). with_dash ls ++ array_lines (block_lines s) vs) e.lines;
       not_null = refl;
-      back = ap (λ (r : LinesRead Plains). bind r arr_read) (entries_back (block_lines s) (block_read s) (length (array_lines (block_lines s) (more v vs))) (more v vs) h (omega arith));
+      back = ap (λ (r : LinesRead Plains). and_then r arr_read) (entries_back (block_lines s) (block_read s) (length (array_lines (block_lines s) (more v vs))) (more v vs) h (omega arith));
     }
 
 -- an object has a line
@@ -359,7 +360,7 @@ object_back which fs vs ne some h = go (fields_lines fs vs) refl (fields_first f
   where
     go : (ls : List Line) → fields_lines fs vs ≡ ls → FirstNamed fs ls → BlockBack (object which fs) (obj vs)
     go [] e f = absurd (some e)
-    go (l ∷ ls) e f = record { first = l; others = ls; lines = e; not_null = rw f.is (colon_not_null f.name f.rest); back = ap (λ (r : LinesRead Plains). bind r obj_read) h ∙ obj_read-is vs ne }
+    go (l ∷ ls) e f = record { first = l; others = ls; lines = e; not_null = rw f.is (colon_not_null f.name f.rest); back = ap (λ (r : LinesRead Plains). and_then r obj_read) h ∙ obj_read-is vs ne }
 
 -- a field, whether it is Null or not
 one_more : (name : List ℕ) (s : Shape) (fs : Fields) (v : Plain) (vs : Plains) → Names name s fs → (without_last_nulls vs ≡ vs) × ((vs ≡ none) → v ≢ null) → (vs ≢ none → HaveShapes fs vs → fields_lines fs vs ≢ []) → HaveShapes fs vs

@@ -10,7 +10,8 @@ use Rattle.adb_tables.specs.declared.tables.Which.TheVariants.{Dep, Acl, PkgInfo
 use Rattle.adb_tables.specs.declared.tables.Kind.TheVariants.{Obj}
 use Rattle.adb_tables.specs.Shapes.{object_shape}
 use Rattle.adb_dump.specs.Dump.{Line, block_lines, dump_lines, dump_text, schema_line, value_lines}
-use Rattle.adb_dump.specs.ReadBack.{bind, block_read, split_lines, value_read}
+use Rattle.base_core.specs.Lists.{and_then}
+use Rattle.adb_dump.specs.ReadBack.{block_read, split_lines, value_read}
 use Rattle.adb_dump.specs.Values.{IsOfBytes, IsValueOf}
 use Rattle.adb_dump.proofs.BlockLines.{no_lines, object_block}
 use Rattle.adb_dump.proofs.Booleans.{both}
@@ -76,7 +77,7 @@ text_split which v a = lines_of-text (dump_lines which v) (both _ _ (schema_end 
 same_lines : (x y : Line) (xs ys : List Line) → option_map (λ (ls : List Line). ls) (Some (x ∷ xs)) ≡ option_map (λ (ls : List Line). ls) (Some (y ∷ ys)) → xs ≡ ys
 same_lines x y xs ys e = cc
 
-same_value : (x y : Plain) → bind (Ok x) (λ (v : Plain). Ok v) ≡ bind (Ok y) (λ (v : Plain). Ok v) → x ≡ y
+same_value : (x y : Plain) → and_then (Ok x) (λ (v : Plain). Ok v) ≡ and_then (Ok y) (λ (v : Plain). Ok v) → x ≡ y
 same_value x y e = cc
 
 pub one_text_one_value : (which : Which) (v u : Plain) → IsValueOf which v → IsOfBytes v → IsValueOf which u → IsOfBytes u → dump_text which v ≡ dump_text which u → v ≡ u

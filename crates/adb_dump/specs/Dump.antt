@@ -1,4 +1,6 @@
 -- The text of a plain value: its lines, by its shape.
+-- The rules stand in `docs/formats.md`, "Dump text"; what a plain value and a shape are, in
+-- "Values" there.
 use Rattle.std.specs.Prelude.{ℕ, Bool, false, ◌&&◌, not, List, [], ◌∷◌, ◌++◌, map, codes, bytes_eq, Option, Some, None, nat_le, ◌==◌, if◌then◌else◌}
 use Rattle.std.specs.Fmt.{decimal}
 use Rattle.std.specs.Int.{w32, to_be_bytes}
@@ -11,7 +13,7 @@ use Rattle.adb_schema.specs.Soundness.{schema_word}
 use Rattle.adb_tables.specs.declared.tables.Which.{Which}
 use Rattle.adb_tables.specs.declared.tables.Kind.TheVariants.{Obj}
 
--- a line without its line end
+-- a line of the text, without its line end
 abbrev pub Line : Type 0
 Line = List ℕ
 
@@ -32,15 +34,15 @@ ends_with_byte c [] = false
 ends_with_byte c (d ∷ []) = c == d
 ends_with_byte c (d ∷ e ∷ ds) = ends_with_byte c (e ∷ ds)
 
--- a text stands as it is where each byte is printable, no space is first or last, no quote is
+-- whether a text stands as it is: each byte is printable, no space is first or last, no quote is
 -- first, and it is not `null`
 abbrev pub is_bare : List ℕ → Bool
 is_bare b =
     list_all is_printable b && not (begins_with_byte 0x20 b) && not (ends_with_byte 0x20 b)
     && not (begins_with_byte 0x22 b) && not (bytes_eq b (codes "null"))
 
--- a byte of a text between quotes: a line end, a backslash, a quote, any other printable byte, and
--- the rest in hexadecimal digits
+-- how a byte of a text stands between quotes: an escape for a line end, a backslash and a quote,
+-- any other printable byte as it is, and the rest in hexadecimal digits
 abbrev pub escape_of : ℕ → List ℕ
 escape_of c =
     if c == 0x0a then codes "\\n"
@@ -49,11 +51,11 @@ escape_of c =
     else if is_printable c then c ∷ []
     else codes "\\x" ++ encode_lower (c ∷ [])
 
--- a text between quotes, byte for byte escaped where that is needed
+-- a text between quotes, each byte escaped where that is needed
 abbrev pub quoted_text : List ℕ → Line
 quoted_text b = codes "\"" ++ flat_map escape_of b ++ codes "\""
 
--- a text as it stands on its line, bare where it can
+-- a text as it stands on its line: as it is where it can, else between quotes
 abbrev pub text_form : List ℕ → Line
 text_form b = if is_bare b then b else quoted_text b
 
@@ -74,34 +76,35 @@ hash_line v = codes "null"
 
 -- ---- lines of lists
 
--- lines one level deeper, which is two spaces
+-- lines one level deeper: two spaces stand in front of each
 abbrev pub indent : List Line → List Line
 indent ls = map (λ (l : Line). codes "  " ++ l) ls
 
--- the first line behind a dash, the others below it
+-- the lines of an entry of an array: the first behind a dash, the others as deep as the first
 abbrev pub with_dash : List Line → List Line
 with_dash [] = []
 with_dash (l ∷ ls) = (codes "- " ++ l) ∷ indent ls
 
--- the lines of an entry; a Null stands as `null`, so that it keeps its place
+-- the lines of an entry of an array: a Null has the line `null`, so that it keeps its place
 abbrev pub or_null : Plain → List Line → List Line
 or_null null ls = codes "null" ∷ []
 or_null v ls = ls
 
--- each entry behind a dash
+-- the lines of an array: each entry behind a dash
 abbrev pub array_lines : (Plain → List Line) → Plains → List Line
 array_lines f none = []
 array_lines f (more v vs) = with_dash (or_null v (f v)) ++ array_lines f vs
 
--- a field whose value has one line: behind its name
+-- the line of a field whose value has one line: the value behind the field's name
 abbrev pub named_line : List ℕ → Line → List Line
 named_line name l = (name ++ (codes ": " ++ l)) ∷ []
 
--- a field whose value may have several lines: its name alone, and they one level deeper
+-- the lines of a field whose value may have several lines: the field's name alone, and the value's
+-- lines one level deeper
 abbrev pub named_block : List ℕ → List Line → List Line
 named_block name ls = (name ++ codes ":") ∷ indent ls
 
--- the lines of a field; a Null has none
+-- the lines of a field; where its value is Null it has none
 abbrev pub unless_absent : Plain → List Line → List Line
 unless_absent null ls = []
 unless_absent v ls = ls
@@ -115,7 +118,7 @@ unfoldable mutual
   block_lines (array s) v = array_lines (block_lines s) (entries_in v)
   block_lines (object schema fs) v = fields_lines fs (entries_in v)
 
-  -- the same with the name of its field
+  -- the lines of a field, by its shape, its name and its value, which is not Null
   pub named_lines : Shape → List ℕ → Plain → List Line
   named_lines number name v = named_line name (int_line v)
   named_lines text name v = named_line name (text_line v)
@@ -123,7 +126,7 @@ unfoldable mutual
   named_lines (array s) name v = named_block name (array_lines (block_lines s) (entries_in v))
   named_lines (object schema fs) name v = named_block name (fields_lines fs (entries_in v))
 
-  -- the fields of an object that are not Null, in order
+  -- the lines of an object's fields that are not Null, in their order
   pub fields_lines : Fields → Plains → List Line
   fields_lines no_fields vs = []
   fields_lines (field name s fs) none = []
@@ -132,12 +135,13 @@ unfoldable mutual
 
 -- ---- the whole text
 
--- the schema, in eight hexadecimal digits; only the four roots have one
+-- the first line of a text: the schema of its root, in eight hexadecimal digits; only the four
+-- roots have one
 abbrev pub schema_line : Option ℕ → Line
 schema_line (Some word) = codes "#%SCHEMA: " ++ encode_lower (to_be_bytes w32 word)
 schema_line None = []
 
--- the lines of a value of this table: each of its fields
+-- the lines of a value of this table, without the first line: each of its fields
 abbrev pub value_lines : Which → Plain → List Line
 value_lines which v = block_lines (shape_of (Obj which)) v
 
@@ -146,10 +150,10 @@ value_lines which v = block_lines (shape_of (Obj which)) v
 abbrev pub dump_lines : Which → Plain → List Line
 dump_lines which v = schema_line (schema_word which) ∷ value_lines which v
 
--- each line with its line end
+-- the bytes of a text: each line with its line end
 abbrev pub text_of : List Line → List ℕ
 text_of ls = flat_map (λ l. l ++ codes "\n") ls
 
--- the text of a dump, by the root's table
+-- the text of a dump, by its root's table and the root's value
 abbrev pub dump_text : Which → Plain → List ℕ
 dump_text which v = text_of (dump_lines which v)

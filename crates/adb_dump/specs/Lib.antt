@@ -1,3 +1,5 @@
+-- The definitions of this crate, whose rules stand in `docs/formats.md`, "Dump text".
+
 -- what the contract of `apk` says
 pub mod Dump
 -- what only inner contracts and proofs use

@@ -1,22 +1,25 @@
 -- Where lines stand in the text.
+-- The rule stands in `docs/formats.md`, "Dump text": a line is indented by two spaces for each
+-- level. Serves the contracts of `src/line.rt` and `src/block.rt`, which write from front to end.
 use Rattle.std.specs.Prelude.{ℕ, zero, suc, Bool, true, false, List, [], ◌∷◌, ◌++◌, codes}
 use Rattle.adb_dump.specs.Dump.{Line}
 
--- two spaces for each level
+-- the spaces in front of a line at a depth: two for each level
 abbrev pub margin : ℕ → List ℕ
 margin zero = []
 margin (suc depth) = codes "  " ++ margin depth
 
--- what is still to be written in front of the next line, which may have begun
+-- what is still to be written in front of the next line: nothing where the line has begun
 abbrev pub lead : ℕ → Bool → List ℕ
 lead depth true = []
 lead depth false = margin depth
 
--- lines at a depth, of which the first may have begun
+-- the bytes of lines at a depth, of which the first may have begun
 abbrev pub lines_at : ℕ → Bool → List Line → List ℕ
 lines_at depth begun [] = []
 lines_at depth begun (l ∷ ls) = lead depth begun ++ (l ++ (codes "\n" ++ lines_at depth false ls))
 
--- above the depth of all lines
+-- a depth below which all lines stand. Tables are nested a few levels deep (`docs/formats.md`,
+-- "Schemas"), so any such number will do; it keeps the depth of a line within 32 bits
 abbrev pub DEPTH_LIMIT : ℕ
 DEPTH_LIMIT = 100

@@ -1,7 +1,11 @@
 -- The value of the lines of a dump, or the number of the first line that cannot stand there,
 -- counted from 0.
+-- The rule stands in `docs/formats.md`, "Dump text": no other normal value has the same text. No
+-- command reads a text back: serves the laws `lines_of_values_are_read_back`,
+-- `only_lines_of_values_are_read` and `texts_are_split_into_their_lines`.
 use Rattle.std.specs.Prelude.{ℕ, zero, suc, ◌+◌, ◌-◌, ◌*◌, ◌^◌, List, [], ◌∷◌, ◌++◌, length, drop, codes, bytes_eq, Option, Some, None, option_map, option_and_then, Result, Ok, Err, nat_lt, ◌==◌, if◌then◌else◌}
 use Rattle.std.specs.Str.Parse.{digits_value}
+use Rattle.base_core.specs.Lists.{and_then}
 use Rattle.adb_view.specs.Plain.{Plain, null, int, blob, arr, obj, Plains, none, more, Shape, number, text, hash, array, object, Fields, no_fields, field}
 use Rattle.adb_tables.specs.Schema.{shape_of}
 use Rattle.adb_tables.specs.declared.tables.Which.{Which}
@@ -12,40 +16,37 @@ use Rattle.adb_dump.specs.Dump.{Line, begins_with_byte, int_line, text_line, has
 abbrev pub LinesRead : Type 0 → Type 0
 LinesRead A = Result A ℕ
 
--- behind so many lines
+-- what was read behind so many lines: the number of a bad line counts them too
 abbrev pub after_lines : {A B : Type 0} → ℕ → (A → B) → LinesRead A → LinesRead B
 after_lines n f (Ok x) = Ok (f x)
 after_lines n f (Err k) = Err (n + k)
 
--- goes on with what was read; the number of a bad line stays
-abbrev pub bind : {A B : Type 0} → LinesRead A → (A → LinesRead B) → LinesRead B
-bind (Ok x) f = f x
-bind (Err k) f = Err k
-
--- what stands behind a front, if the line begins with it
+-- what stands behind a prefix of a line, if the line begins with that
 abbrev pub strip_prefix : List ℕ → List ℕ → Option (List ℕ)
 strip_prefix [] l = Some l
 strip_prefix (p ∷ ps) [] = None
 strip_prefix (p ∷ ps) (c ∷ cs) = if p == c then strip_prefix ps cs else None
 
--- a block with one line more in front
+-- a block and the lines behind it, with one line more in front of the block
 abbrev pub with_line : Line → List Line × List Line → List Line × List Line
 with_line l r = (l ∷ r.0, r.1)
 
--- a line that is not indented ends the block, and stands first behind it
+-- a block and the lines behind it, with one line more in front: an indented line (`inner` is what
+-- stands behind its spaces) belongs to the block; another one ends it, and stands first behind it
 abbrev pub stop_or_add : Line → List Line → Option Line → List Line × List Line
     → List Line × List Line
 stop_or_add l ls None r = ([], l ∷ ls)
 stop_or_add l ls (Some inner) r = with_line inner r
 
--- the indented lines in front, without their two spaces, which are a block, and the lines behind them
+-- the indented lines in front, without their two spaces, which are a block; and the lines behind
+-- them
 abbrev pub split_block : List Line → List Line × List Line
 split_block [] = ([], [])
 split_block (l ∷ ls) = stop_or_add l ls (strip_prefix (codes "  ") l) (split_block ls)
 
 -- ---- a value on one line
 
--- a lower-case hexadecimal digit
+-- the number that a lower-case hexadecimal digit stands for
 abbrev pub hex_value : ℕ → ℕ
 hex_value c = if nat_lt c 0x3a then c - 0x30 else c - 0x57
 
@@ -55,14 +56,14 @@ unhex [] = []
 unhex (h ∷ []) = []
 unhex (h ∷ l ∷ cs) = (hex_value h * 16 + hex_value l) ∷ unhex cs
 
--- a byte by its two digits, and what the rest of the text gives
+-- a byte by its two digits behind `\x`, and what the rest of the text gives (`f`)
 abbrev pub hex_escape_read : (List ℕ → Option (List ℕ)) → List ℕ → Option (List ℕ)
 hex_escape_read f [] = None
 hex_escape_read f (h ∷ []) = None
 hex_escape_read f (h ∷ l ∷ cs) = option_map (λ b. (hex_value h * 16 + hex_value l) ∷ b) (f cs)
 
--- an escape behind its backslash (`n`, a backslash, a quote, or `x` and two digits), and what the
--- rest of the text gives
+-- the byte of an escape, from behind its backslash on (`n`, a backslash, a quote, or `x` and two
+-- digits), and what the rest of the text gives (`f`)
 abbrev pub escape_read : (List ℕ → Option (List ℕ)) → List ℕ → Option (List ℕ)
 escape_read f [] = None
 escape_read f (d ∷ cs) =
@@ -72,8 +73,8 @@ escape_read f (d ∷ cs) =
     else if d == 0x78 then hex_escape_read f cs
     else None
 
--- What stands behind a quote, up to a quote that ends the line. The number bounds the turns; the
--- length is enough.
+-- the bytes of a text from behind its first quote on, up to a quote that ends the line. The number
+-- `n` bounds the turns; the length of the text is enough
 abbrev pub quoted_read : ℕ → List ℕ → Option (List ℕ)
 quoted_read zero cs = None
 quoted_read (suc n) [] = None
@@ -82,81 +83,86 @@ quoted_read (suc n) (c ∷ cs) =
     else if c == 0x5c then escape_read (quoted_read n) cs
     else option_map (λ b. c ∷ b) (quoted_read n cs)
 
--- an empty text is no value
+-- the value of a text; an empty one has none, since no line stands for it
 abbrev pub blob_read : List ℕ → Option Plain
 blob_read [] = None
 blob_read (c ∷ cs) = Some (blob (c ∷ cs))
 
--- a number below 2^64; what else stands on the line is found by its form
+-- the value of a number below 2^64 in decimal digits; whether anything else stands on the line is
+-- found by *if_form*
 abbrev pub int_read : Line → Option Plain
 int_read l = if nat_lt (digits_value 10 l) (2 ^ 64) then Some (int (digits_value 10 l)) else None
 
--- a text, between quotes or bare
+-- the value of a text, which stands between quotes or as it is
 abbrev pub text_read : Line → Option Plain
 text_read l =
     if begins_with_byte 0x22 l then option_and_then blob_read (quoted_read (length l) (drop 1 l))
     else blob_read l
 
--- a hash by its digits
+-- the value of a hash, by its digits
 abbrev pub hash_read : Line → Option Plain
 hash_read l = blob_read (unhex l)
 
--- the line must be the one form of its value
+-- the value of a line, if the line is the one form of the value: a bad line where it is not
 abbrev pub if_form : (Plain → Line) → Line → Option Plain → LinesRead Plain
 if_form form l None = Err 0
 if_form form l (Some v) = if bytes_eq (form v) l then Ok v else Err 0
 
--- a value of one line: the second line, counted from 0 as line 1, cannot stand there
+-- a value that has one line: a second line, counted from 0 as line 1, cannot stand there
 abbrev pub only_line : (Line → LinesRead Plain) → List Line → LinesRead Plain
 only_line f [] = Err 0
 only_line f (l ∷ []) = f l
-only_line f (l ∷ m ∷ ls) = bind (f l) (λ v. Err 1)
+only_line f (l ∷ m ∷ ls) = and_then (f l) (λ v. Err 1)
 
 -- ---- lists
 
--- an entry, its first line without the dash; a `null` stands by itself
+-- an entry of an array by its lines, of which the first (`l`) has lost its dash; a `null` stands by
+-- itself
 abbrev pub entry_read : (List Line → LinesRead Plain) → Line → List Line → LinesRead Plain
 entry_read f l ls =
     if bytes_eq l (codes "null") then only_line (λ x. Ok null) (l ∷ ls) else f (l ∷ ls)
 
--- an entry and the entries behind it; a line without a dash begins none
+-- an entry of an array and the entries behind it; a line without a dash begins no entry
 abbrev pub after_dash : (List Line → LinesRead Plain) → (List Line → LinesRead Plains)
     → List Line × List Line → Option Line → LinesRead Plains
 after_dash f g r None = Err 0
 after_dash f g r (Some l) =
-    bind (entry_read f l r.0) (λ v. after_lines (1 + length r.0) (more v) (g r.1))
+    and_then (entry_read f l r.0) (λ v. after_lines (1 + length r.0) (more v) (g r.1))
 
--- The number bounds the turns; the length is enough.
+-- the entries of an array by their lines. The number `n` bounds the turns; the number of lines is
+-- enough
 abbrev pub entries_read : (List Line → LinesRead Plain) → ℕ → List Line → LinesRead Plains
 entries_read f zero ls = Ok none
 entries_read f (suc n) [] = Ok none
 entries_read f (suc n) (l ∷ ls) =
     after_dash f (entries_read f n) (split_block ls) (strip_prefix (codes "- ") l)
 
--- a list without an entry has no lines
+-- the value of an array; one without an entry has no lines, so it cannot be read
 abbrev pub arr_read : Plains → LinesRead Plain
 arr_read none = Err 0
 arr_read (more v vs) = Ok (arr (more v vs))
 
--- an object without a field has no lines
+-- the value of an object; one without a field has no lines, so it cannot be read
 abbrev pub obj_read : Plains → LinesRead Plain
 obj_read none = Err 0
 obj_read (more v vs) = Ok (obj (more v vs))
 
--- a value behind `name:` on its line, and then the other fields
+-- a field whose value stands behind `name:` on its line, and then the other fields
 abbrev pub field_on_line : (Line → LinesRead Plain) → (List Line → LinesRead Plains) → List Line
     → Option Line → LinesRead Plains
 field_on_line f g ls None = Err 0
-field_on_line f g ls (Some l) = bind (f l) (λ v. after_lines 1 (more v) (g ls))
+field_on_line f g ls (Some l) = and_then (f l) (λ v. after_lines 1 (more v) (g ls))
 
--- a value below its name, behind which nothing stands on the line, and then the other fields
+-- a field whose value stands below its name, behind which nothing stands on the line, and then the
+-- other fields
 abbrev pub field_below : (List Line → LinesRead Plain) → (List Line → LinesRead Plains)
     → List Line × List Line → Line → LinesRead Plains
 field_below f g r [] =
-    bind (after_lines 1 (λ v. v) (f r.0)) (λ v. after_lines (1 + length r.0) (more v) (g r.1))
+    and_then (after_lines 1 (λ v. v) (f r.0)) (λ v. after_lines (1 + length r.0) (more v) (g r.1))
 field_below f g r (c ∷ cs) = Err 0
 
--- the line begins another field, or what is behind `name:`
+-- the fields from a line on: where the line has no name of this field, those behind it (`other`),
+-- else this one (`this`, of what is behind `name:`)
 abbrev pub if_named : LinesRead Plains → (Line → LinesRead Plains) → Option Line → LinesRead Plains
 if_named other this None = other
 if_named other this (Some rest) = this rest
@@ -167,10 +173,10 @@ unfoldable mutual
   block_read number ls = only_line (λ l. if_form int_line l (int_read l)) ls
   block_read text ls = only_line (λ l. if_form text_line l (text_read l)) ls
   block_read hash ls = only_line (λ l. if_form hash_line l (hash_read l)) ls
-  block_read (array s) ls = bind (entries_read (block_read s) (length ls) ls) arr_read
-  block_read (object schema fs) ls = bind (fields_read fs ls) obj_read
+  block_read (array s) ls = and_then (entries_read (block_read s) (length ls) ls) arr_read
+  block_read (object schema fs) ls = and_then (fields_read fs ls) obj_read
 
-  -- the value of a field, from behind `name:` on, and then the other fields
+  -- the value of a field, from behind `name:` on (`l`), and then the other fields (`g`)
   pub named_read : Shape → (List Line → LinesRead Plains) → List Line → Line → LinesRead Plains
   named_read number g ls l = field_on_line (λ l. if_form int_line l (int_read l)) g ls
       (strip_prefix (codes " ") l)
@@ -179,11 +185,11 @@ unfoldable mutual
   named_read hash g ls l = field_on_line (λ l. if_form hash_line l (hash_read l)) g ls
       (strip_prefix (codes " ") l)
   named_read (array s) g ls l = field_below
-      (λ ls. bind (entries_read (block_read s) (length ls) ls) arr_read) g (split_block ls) l
-  named_read (object schema fs) g ls l = field_below (λ ls. bind (fields_read fs ls) obj_read) g
+      (λ ls. and_then (entries_read (block_read s) (length ls) ls) arr_read) g (split_block ls) l
+  named_read (object schema fs) g ls l = field_below (λ ls. and_then (fields_read fs ls) obj_read) g
       (split_block ls) l
 
-  -- the fields of an object in order; one whose name does not come next is Null
+  -- the fields of an object in order; a field whose name does not come next is Null
   pub fields_read : Fields → List Line → LinesRead Plains
   fields_read no_fields [] = Ok none
   fields_read no_fields (l ∷ ls) = Err 0
@@ -192,14 +198,14 @@ unfoldable mutual
       (after_lines 0 (more null) (fields_read fs (l ∷ ls))) (named_read s (fields_read fs) ls)
       (strip_prefix (name ++ codes ":") l)
 
--- the value of the lines behind the first; Null has none
+-- the value of a table by the lines of a text behind its first; Null has none
 abbrev pub value_read : Which → List Line → LinesRead Plain
 value_read which [] = Ok null
 value_read which (l ∷ ls) = block_read (shape_of (Obj which)) (l ∷ ls)
 
 -- ---- the lines of a text, where the last one has its line end
 
--- puts a byte in front of the first line, if there is one
+-- the lines of a text with a byte put in front of the first, if there is a first line
 abbrev pub add_char : ℕ → Option (List Line) → Option (List Line)
 add_char c None = None
 add_char c (Some []) = None

@@ -1,4 +1,6 @@
 -- The plain values that a dump text can stand for.
+-- The rule stands in `docs/formats.md`, "Values": when a value is normal, and which shape it has.
+-- Serves the laws of `src/laws.rt`.
 use Rattle.std.specs.Prelude.{◌<◌}
 use Rattle.std.specs.List.{AllByRecursion}
 use Rattle.adb_view.specs.Plain.{Plain, null, int, blob, arr, obj, Plains, none, more, IsNormal}
@@ -7,8 +9,8 @@ use Rattle.adb_tables.specs.Schema.{shape_of}
 use Rattle.adb_tables.specs.declared.tables.Which.{Which}
 use Rattle.adb_tables.specs.declared.tables.Kind.TheVariants.{Obj}
 
--- its blobs are bytes
 unfoldable mutual
+  -- whether the blobs in a value are bytes
   pub IsOfBytes : Plain → Type 0
   IsOfBytes null = Unit {0}
   IsOfBytes (int n) = Unit {0}
@@ -16,10 +18,11 @@ unfoldable mutual
   IsOfBytes (arr vs) = AreOfBytes vs
   IsOfBytes (obj vs) = AreOfBytes vs
 
+  -- whether the blobs in the entries of an array or an object are bytes
   pub AreOfBytes : Plains → Type 0
   AreOfBytes none = Unit {0}
   AreOfBytes (more v vs) = IsOfBytes v × AreOfBytes vs
 
--- a normal value of this table
+-- whether a value is a normal one of this table
 abbrev pub IsValueOf : Which → Plain → Type 0
 IsValueOf which v = IsNormal v × HasShape (shape_of (Obj which)) v

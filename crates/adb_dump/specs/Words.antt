@@ -1,4 +1,6 @@
 -- What the code asks of words: whether they have plain values, and whether these are Null.
+-- The rules stand in `docs/formats.md`, "Values". Serves the contracts of `src/words.rt` and
+-- `src/block.rt`.
 use Rattle.std.specs.Prelude.{ℕ, Bool, true, false, ◌&&◌, List, is_some, unwrap_or}
 use Rattle.adb_view.specs.Plain.{Plain, null, Plains, none, more, plains_of}
 use Rattle.adb_tables.specs.Schema.{shapes_of}
@@ -11,16 +13,16 @@ abbrev pub is_null : Plain → Bool
 is_null null = true
 is_null v = false
 
--- whether each of some values is Null
+-- whether each of some values is Null: an object that has these is Null itself
 abbrev pub are_null : Plains → Bool
 are_null none = true
 are_null (more v vs) = is_null v && are_null vs
 
--- whether each of an object's words that has a field has a plain value
+-- whether each word of an object that has a field has a plain value
 unfoldable pub fields_sound : List ℕ → List Field → List ℕ → Bool
 fields_sound p fields words = is_some (plains_of p (shapes_of fields) words)
 
--- those values
+-- the plain values of the words of an object that have a field
 unfoldable pub fields_at : List ℕ → List Field → List ℕ → Plains
 fields_at p fields words = unwrap_or (plains_of p (shapes_of fields) words) none
 

@@ -1,4 +1,7 @@
 //! The text of a container: the lines of its values, written from the words of its payload.
+//! The rules stand in `docs/formats.md`, "Dump text", the table of values and their lines; which
+//! fields an object has, in what order, in "Schemas". How often a text is written, and with how
+//! much memory, is said by the README of this crate.
 
 ghost use Rattle.std.specs.Prelude.{◌≡◌, ◌++◌, true, codes, is_some, length, IfOk, OnOk, ◌<◌, ◌≤◌, ◌+◌, false};
 ghost use Rattle.adb_tables.specs.Shaped.{adb_of, shaped_value, table_of};
@@ -43,10 +46,13 @@ pub fn dump(alloc: Global, shaped: &Shaped<'_>) -> Result<Text, AllocError>
     }
 }
 
-/// How many times as many bytes as its payload a text may have that is not counted first.
+/// How many times as many bytes as its payload a text may have that is not counted first. Any
+/// number is right: with a greater one more memory is asked for, with a lesser one more texts are
+/// written twice.
 const MOST_TIMES: usize = 4;
 
-/// The text, where there is memory for so many bytes and it has no more.
+/// The text of a payload, where there is memory for `MOST_TIMES` as many bytes as the payload has,
+/// and the text has no more.
 fn short_dump(alloc: Global, shaped: &Shaped<'_>) -> Result<Text, AllocError>
     requires { is_some (schema_word (table_of shaped.now)) ≡ true }
     ensures { IfOk result
@@ -58,7 +64,7 @@ fn short_dump(alloc: Global, shaped: &Shaped<'_>) -> Result<Text, AllocError>
     Ok(Text::from_vec(out.bytes))
 }
 
-/// The text, whose bytes are counted first.
+/// The text of a payload, whose bytes are counted first.
 fn counted_dump(alloc: Global, shaped: &Shaped<'_>) -> Result<Text, AllocError>
     requires { is_some (schema_word (table_of shaped.now)) ≡ true }
     ensures { IfOk result
@@ -68,6 +74,7 @@ fn counted_dump(alloc: Global, shaped: &Shaped<'_>) -> Result<Text, AllocError>
     let mut out = Vec::with_capacity(alloc, len)?;
     write_dump(&mut out, shaped)?;
     let is_exact = out.len() == len;
+    // Memory was taken for just so many bytes as are put: both come from `write_dump`.
     prove!(is_exact);
     Ok(Text::from_vec(out))
 }
@@ -83,7 +90,7 @@ fn dump_len(alloc: Global, shaped: &Shaped<'_>) -> Result<usize, AllocError>
     Ok(count.len.bytes)
 }
 
-/// Puts the text of a payload.
+/// Puts the text of a payload into an out: the line of the schema, and then the lines of the root.
 fn write_dump<O: BlobOut>(out: &mut O, shaped: &Shaped<'_>) -> Result<(), AllocError>
     requires { is_some (schema_word (table_of shaped.now)) ≡ true }
     ensures { OnOk result (Puts (O.holds (payload_of (adb_of shaped.now))) out.old out.new
@@ -101,7 +108,7 @@ fn write_dump<O: BlobOut>(out: &mut O, shaped: &Shaped<'_>) -> Result<(), AllocE
     Ok(())
 }
 
-/// Puts the line of a schema.
+/// Puts the first line of a text, with the schema of its root.
 fn write_schema<O: Out>(out: &mut O, which: Which) -> Result<(), AllocError>
     requires { is_some (schema_word which) ≡ true }
     ensures { OnOk result (PutsForAny O.holds out.old out.new
@@ -114,11 +121,12 @@ fn write_schema<O: Out>(out: &mut O, which: Which) -> Result<(), AllocError>
             out.put(b"\n")?;
             Ok(())
         }
+        // Only roots are dumped, and each has a schema.
         None => unreachable!(),
     }
 }
 
-/// Puts the lines of a word that does not mean Null.
+/// Puts the lines of the value of a word, which is not Null.
 #[cycle(block)]
 #[tactic(auto, using(adb_tables::proofs::WalkSteps::table_rank, crate::proofs::BlockLines::int_lines, crate::proofs::BlockLines::text_lines, crate::proofs::BlockLines::hash_lines, crate::proofs::BlockLines::texts_lines, crate::proofs::BlockLines::objects_lines, crate::proofs::BlockLines::object_lines))]
 fn write_block<O: BlobOut>(
@@ -130,6 +138,7 @@ fn write_block<O: BlobOut>(
 ) -> Result<(), AllocError>
     requires sound { is_sound (payload_of adb) kind word ≡ true }
     requires some { is_null (value_at (payload_of adb) kind word) ≡ false }
+    // No value lies so deep that its lines pass the greatest depth.
     requires deep { start.depth + rank kind ≤ DEPTH_LIMIT }
     ensures { OnOk result (Puts (O.holds (payload_of adb.entry)) out.old out.new
         (lines_at start.depth start.begun
@@ -178,7 +187,8 @@ fn write_entries<O: BlobOut>(
     Ok(())
 }
 
-/// Puts the lines of an entry, the first of which its dash has begun.
+/// Puts the lines of an entry of an array, the first of which its dash has begun; an entry that is
+/// Null has the line `null`.
 #[cycle(block)]
 #[tactic(auto, using(crate::proofs::Turns::null_entry, crate::proofs::Turns::some_entry))]
 fn write_entry<O: BlobOut>(
@@ -204,7 +214,8 @@ fn write_entry<O: BlobOut>(
     write_block(out, adb, kind, word, LineStart { depth, begun: true })
 }
 
-/// Puts the lines of an entry that is an object. Whether it means Null is known behind its fields.
+/// Puts the lines of an entry that is an object. Whether the object is Null is known once its
+/// fields are put: then none was put, and the line is `null`.
 #[cycle(block)]
 fn write_object_entry<O: BlobOut>(
     out: &mut O,
@@ -229,7 +240,8 @@ fn write_object_entry<O: BlobOut>(
     Ok(())
 }
 
-/// Puts the fields of an object that do not mean Null, and answers whether there is none.
+/// Puts the fields of an object that are not Null, and answers whether all of them are. Words past
+/// the object's fields are not looked at.
 #[cycle(block)]
 #[tactic(auto, using(adb_tables::proofs::WalkSteps::field_rank, crate::proofs::Left::field_here, crate::proofs::Left::fields_later, crate::proofs::Turns::field_turn, crate::proofs::Turns::null_turn, crate::proofs::Turns::words_end, crate::proofs::Turns::fields_end))]
 pub(crate) fn write_fields<O: BlobOut>(
@@ -251,6 +263,7 @@ pub(crate) fn write_fields<O: BlobOut>(
     let mut begun = start.begun;
     let mut all_null = true;
     for (i, field) in fields.iter().enumerate() {
+        // Entries past the last are NULL.
         if i >= words.len() {
             break;
         }
@@ -265,7 +278,7 @@ pub(crate) fn write_fields<O: BlobOut>(
     Ok(all_null)
 }
 
-/// Puts the lines of a field, and answers whether it means Null and has none.
+/// Puts the lines of a field, and answers whether its value is Null: then it has no lines.
 #[cycle(block)]
 fn write_field<O: BlobOut>(
     out: &mut O,
@@ -294,8 +307,8 @@ fn write_field<O: BlobOut>(
     Ok(false)
 }
 
-/// Puts the line of a field that holds a text, and answers whether it means Null and has none. Most
-/// fields hold texts, so the text is looked up once.
+/// Puts the line of a field that holds a text, and answers whether its value is Null: then it has
+/// no line. Most fields hold texts, so the text is looked up once.
 fn write_text_field<O: BlobOut>(
     out: &mut O,
     adb: Adb<'_>,
@@ -322,7 +335,7 @@ fn write_text_field<O: BlobOut>(
     Ok(false)
 }
 
-/// Puts the lines of a field that does not mean Null.
+/// Puts the lines of a field whose value is not Null: behind its name, or below it.
 #[cycle(block)]
 #[tactic(auto, using(crate::proofs::Turns::field_behind, crate::proofs::Turns::field_below))]
 fn write_named<O: BlobOut>(

@@ -1,6 +1,9 @@
 //! What stands in front of a value on its line, behind the spaces of eight levels. A line at a
 //! depth of at most eight begins with the end of it that has its own spaces, and is begun by one
 //! put; of a deeper line the spaces are put first, level by level.
+//! The rule stands in `docs/formats.md`, "Dump text": two spaces for each level, `name: ` before a
+//! value, `- ` before an entry; the names are those of "Schemas". That eight levels stand in each
+//! front saves time alone. In the clauses 8 is `FRONT_LEVELS`.
 
 ghost use Rattle.std.specs.Prelude.{◌≡◌, ◌++◌, codes};
 ghost use Rattle.adb_dump.specs.Margin.{margin};
@@ -8,27 +11,28 @@ ghost use Rattle.adb_tables.specs.Schema.{field_name_text};
 
 use adb_schema::FieldName;
 
-/// How many levels of two spaces stand in each front.
+/// How many levels of two spaces stand in each front. Any number is right: it decides which lines
+/// are begun by one put.
 pub(crate) const FRONT_LEVELS: u32 = 8;
 
-/// How many spaces these are.
+/// How many spaces these are: two for each level.
 pub(crate) const FRONT_LEN: usize = 16;
 
-/// The front of a line that begins with nothing else.
+/// The front of a line that begins with nothing but its spaces.
 pub(crate) fn blank_front() -> &'static [u8]
     ensures { result.now ≡ margin 8 }
 {
     b"                "
 }
 
-/// The front of an entry.
+/// The front of an entry of an array: a dash and a space.
 pub(crate) fn dash_front() -> &'static [u8]
     ensures { result.now ≡ margin 8 ++ codes "- " }
 {
     b"                - "
 }
 
-/// The front of a field whose value stands on its line.
+/// The front of a field whose value stands on its line: the field's name, a colon and a space.
 pub(crate) fn name_front(name: FieldName) -> &'static [u8]
     ensures { result.now ≡ margin 8 ++ field_name_text name ++ codes ": " }
 {

@@ -14,6 +14,8 @@
 //! contracts cite `Dump` (the lines of a value, and the text), `Values` (what a text can
 //! stand for) and `ReadBack` (the value of lines) of `specs/`; `Words`, `Margin` and `Out` are what
 //! the code in between speaks of.
+//! The rules stand in `docs/formats.md`, "Dump text"; what a plain value is, and when it is Null,
+//! in "Values" there.
 #![tactic(auto)]
 
 mod block;

@@ -1,4 +1,6 @@
 //! Lines: what stands in front of them, names of fields, and values on one line.
+//! The rules stand in `docs/formats.md`, "Dump text": the table, and the paragraph on texts that
+//! stand as they are or between quotes.
 
 ghost use Rattle.std.specs.Prelude.{◌≡◌, ◌≤◌, [], ◌∷◌, ◌++◌, OnOk, codes, drop, length};
 ghost use Rattle.std.specs.Fmt.{decimal};
@@ -19,10 +21,11 @@ use adb_view::{Adb, Val};
 use itoa::Buffer;
 use std::alloc::AllocError;
 
-/// How many bytes a SHA-256 has: most of what is written in hexadecimal digits.
+/// How many bytes a SHA-256 has: most of what is written in hexadecimal digits. So many are put at
+/// once, and others byte by byte.
 const HASH_LEN: usize = 32;
 
-/// Puts a line of a number.
+/// Puts the line of an integer, in decimal digits.
 pub(crate) fn write_number_line<O: Out>(
     out: &mut O,
     start: LineStart,
@@ -37,7 +40,7 @@ pub(crate) fn write_number_line<O: Out>(
     Ok(())
 }
 
-/// Puts a line of the text of a word.
+/// Puts the line of a text, which is that of the word.
 pub(crate) fn write_text_line<O: BlobOut>(
     out: &mut O,
     start: LineStart,
@@ -55,7 +58,7 @@ pub(crate) fn write_text_line<O: BlobOut>(
     Ok(())
 }
 
-/// Puts a line of a hash.
+/// Puts the line of a hash.
 pub(crate) fn write_hash_line<O: BlobOut>(
     out: &mut O,
     start: LineStart,
@@ -70,7 +73,7 @@ pub(crate) fn write_hash_line<O: BlobOut>(
     Ok(())
 }
 
-/// Puts a number in decimal digits.
+/// Puts an integer in decimal digits.
 fn write_number<O: Out>(out: &mut O, number: u64) -> Result<(), AllocError>
     ensures { OnOk result (PutsForAny O.holds out.old out.new (decimal number)) }
 {
@@ -78,10 +81,11 @@ fn write_number<O: Out>(out: &mut O, number: u64) -> Result<(), AllocError>
     out.put(digits.format(number).as_bytes())
 }
 
-/// Puts bytes in two lower-case hexadecimal digits each.
+/// Puts bytes, each in two lower-case hexadecimal digits.
 pub(crate) fn write_hex<O: Out>(out: &mut O, bytes: &[u8]) -> Result<(), AllocError>
     ensures { OnOk result (PutsForAny O.holds out.old out.new (encode_lower bytes.now)) }
 {
+    // Most hashes have this length, and are put at once.
     if bytes.len() == HASH_LEN {
         return out.put(&hash_digits(bytes));
     }
@@ -91,8 +95,9 @@ pub(crate) fn write_hex<O: Out>(out: &mut O, bytes: &[u8]) -> Result<(), AllocEr
     Ok(())
 }
 
-/// The digits of as many bytes as a hash has.
+/// The digits of as many bytes as a SHA-256 has, two for each.
 fn hash_digits(hash: &[u8]) -> [u8; 2 * HASH_LEN]
+    // As many as `HASH_LEN`.
     requires { length hash.now ≡ 32 }
     ensures { result ≡ encode_lower hash.now }
 {
@@ -101,7 +106,7 @@ fn hash_digits(hash: &[u8]) -> [u8; 2 * HASH_LEN]
     digits
 }
 
-/// The two digits of a byte, lower-case.
+/// The two hexadecimal digits of a byte, lower-case.
 fn hex_digits(byte: u8) -> [u8; 2]
     ensures { result ≡ encode_lower (byte ∷ []) }
 {
@@ -110,7 +115,7 @@ fn hex_digits(byte: u8) -> [u8; 2]
     digits
 }
 
-/// Puts a text as it is, or between quotes where it cannot stand so.
+/// Puts a text as it is, or between quotes where it cannot stand as it is.
 pub(crate) fn write_text<O: Out>(out: &mut O, text: &[u8]) -> Result<(), AllocError>
     ensures { OnOk result (PutsForAny O.holds out.old out.new (text_form text.now)) }
 {
@@ -121,7 +126,7 @@ pub(crate) fn write_text<O: Out>(out: &mut O, text: &[u8]) -> Result<(), AllocEr
     }
 }
 
-/// Puts a text between quotes.
+/// Puts a text between quotes, escaped byte by byte.
 fn write_quoted<O: Out>(out: &mut O, text: &[u8]) -> Result<(), AllocError>
     ensures { OnOk result (PutsForAny O.holds out.old out.new (quoted_text text.now)) }
 {
@@ -133,7 +138,7 @@ fn write_quoted<O: Out>(out: &mut O, text: &[u8]) -> Result<(), AllocError>
     Ok(())
 }
 
-/// Puts a byte of a text that stands between quotes.
+/// Puts a byte of a text that stands between quotes: as it is, or its escape.
 fn write_escaped<O: Out>(out: &mut O, byte: u8) -> Result<(), AllocError>
     ensures { OnOk result (PutsForAny O.holds out.old out.new (escape_of byte)) }
 {
@@ -151,7 +156,7 @@ fn write_escaped<O: Out>(out: &mut O, byte: u8) -> Result<(), AllocError>
 }
 
 /// Whether a text stands as it is: every byte is printable, no space is first or last, no quote is
-/// first, and it is not `null`.
+/// first, and the text is not `null`.
 fn is_bare(text: &[u8]) -> bool
     ensures { result ≡ is_bare text.now }
 {
@@ -192,8 +197,8 @@ fn ends_with_byte(byte: u8, text: &[u8]) -> bool
     }
 }
 
-/// Whether every byte is printable. There is no way out in between, so that the compiler can test
-/// many bytes at once.
+/// Whether every byte of a text is printable. There is no way out in between, so that the compiler
+/// can test many bytes at once.
 #[tactic(auto, using(crate::proofs::Pieces::printable_next, crate::proofs::Pieces::printable_over))]
 fn is_printable(text: &[u8]) -> bool
     ensures { result ≡ list_all is_printable text.now }
@@ -205,7 +210,7 @@ fn is_printable(text: &[u8]) -> bool
     all
 }
 
-/// Whether a byte is a space or a visible character of ASCII.
+/// Whether a byte is a space or a visible character of ASCII: 0x20 to 0x7e.
 fn is_printable_byte(byte: u8) -> bool
     ensures { result ≡ is_printable byte }
 {
@@ -215,9 +220,9 @@ fn is_printable_byte(byte: u8) -> bool
 /// Where the next line stands.
 #[derive(Clone, Copy)]
 pub(crate) struct LineStart {
-    /// How deep, in levels of two spaces.
+    /// How deep the line stands, in levels of two spaces.
     pub(crate) depth: u32,
-    /// Whether what stands in front of it is written already.
+    /// Whether what stands in front of the line is written already.
     pub(crate) begun: bool,
 }
 
@@ -230,9 +235,10 @@ impl LineStart {
     }
 }
 
-/// Puts what is still to stand in front of the next line, and what stands behind eight levels of
-/// spaces in a text: at once, unless the line stands deeper.
+/// Puts what is still to stand in front of the next line, and then what a front has behind its
+/// eight levels of spaces: both at once, unless the line stands deeper.
 fn write_front<O: Out>(out: &mut O, start: LineStart, front: &[u8]) -> Result<(), AllocError>
+    // Eight levels (`FRONT_LEVELS`) are sixteen spaces (`FRONT_LEN`).
     requires spaces { front.now ≡ margin 8 ++ drop 16 front.now }
     requires len { 16 ≤ length front.now }
     ensures { OnOk result (PutsForAny O.holds out.old out.new
@@ -240,6 +246,7 @@ fn write_front<O: Out>(out: &mut O, start: LineStart, front: &[u8]) -> Result<()
 {
     let levels = start.levels();
     if levels <= FRONT_LEVELS {
+        // The end of the front that has as many spaces as the line.
         return out.put(&front[FRONT_LEN - 2 * levels as usize..]);
     }
     write_levels(out, levels)?;
@@ -257,14 +264,15 @@ fn write_levels<O: Out>(out: &mut O, levels: u32) -> Result<(), AllocError>
     Ok(())
 }
 
-/// Puts the dash of an entry.
+/// Puts what is still to stand in front of an entry of an array, and its dash and a space.
 pub(crate) fn write_dash<O: Out>(out: &mut O, depth: u32, begun: bool) -> Result<(), AllocError>
     ensures { OnOk result (PutsForAny O.holds out.old out.new (lead depth begun ++ codes "- ")) }
 {
     write_front(out, LineStart { depth, begun }, dash_front())
 }
 
-/// Puts the name of a field, and a colon and a space.
+/// Puts what is still to stand in front of a field, its name, a colon and a space: its value
+/// follows on the line.
 pub(crate) fn write_name<O: Out>(
     out: &mut O,
     start: LineStart,
@@ -276,7 +284,8 @@ pub(crate) fn write_name<O: Out>(
     write_front(out, start, name_front(name))
 }
 
-/// Puts the name of a field, and a colon and a line end.
+/// Puts what is still to stand in front of a field, its name, a colon and a line end: its value
+/// follows below.
 pub(crate) fn write_name_line<O: Out>(
     out: &mut O,
     start: LineStart,
@@ -291,7 +300,8 @@ pub(crate) fn write_name_line<O: Out>(
     Ok(())
 }
 
-/// Puts what is still to stand in front of the next line.
+/// Puts what is still to stand in front of the next line: its spaces, or nothing where the line has
+/// begun.
 fn write_lead<O: Out>(out: &mut O, start: LineStart) -> Result<(), AllocError>
     ensures { OnOk result (PutsForAny O.holds out.old out.new (lead start.depth start.begun)) }
 {

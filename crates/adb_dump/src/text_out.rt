@@ -1,4 +1,7 @@
 //! What the text is put into: its bytes, or only a count of them.
+//! No document has a rule for this: the README of this crate says when a text is counted first, and
+//! the contracts are those of `Out` and `BlobOut`. How a text or a hash stands in its line, says
+//! `docs/formats.md`, "Dump text".
 
 ghost use Rattle.std.specs.Prelude.{◌≡◌, ℕ, ◌+◌, List, [], ◌∷◌, IfOk, OnOk, length};
 ghost use Rattle.std.specs.BTreeMap.{get};
@@ -15,14 +18,16 @@ use adb_view::{Adb, Val};
 use std::alloc::{AllocError, Global};
 use std::collections::BTreeMap;
 
-/// How many bytes a text has at most whose length in a line is counted at each place.
+/// How many bytes a text has at most whose length in a line is counted at each place, so that no
+/// memory is taken for it. Any number is right; a greater one takes more time, a lesser one more
+/// memory.
 const SHORT: usize = 64;
 
 /// What bytes are put into, one piece behind another.
 pub(crate) trait Out {
     ghost use Rattle.std.specs.Prelude.{ℕ, List};
 
-    /// Whether just these bytes may have been put in, where texts are those of a payload.
+    /// Whether just these bytes may have been put in, where texts are those of the payload.
     ghost holds: { List ℕ → Self → List ℕ → Type 0 };
 
     /// Puts bytes behind those that were put in before.
@@ -36,28 +41,29 @@ pub(crate) trait Out {
 
 /// What the blobs of a payload are put into, as they stand in lines.
 pub(crate) trait BlobOut: Out {
-    /// Puts the text of a word.
+    /// Puts the text of a word as it stands in a line.
     fn put_text(&mut self, adb: Adb<'_>, word: Val, text: &[u8]) -> Result<(), AllocError>
         requires { text.now ≡ text_in (value_at (payload_of adb) Kinds.Text word) }
         ensures { OnOk result (Puts (Self.holds (payload_of adb.entry)) self.old self.new
             (text_form text.now)) };
 
-    /// Puts a hash.
+    /// Puts a hash as it stands in a line, in hexadecimal digits.
     fn put_hash(&mut self, hash: &[u8]) -> Result<(), AllocError>
         ensures { OnOk result (PutsForAny Self.holds self.old self.new (encode_lower hash.now)) };
 }
 
-/// The bytes themselves.
+/// The bytes themselves, in memory that grows as it is needed, or was taken for all of them.
 impl Out for Vec<u8> {
     ghost use Rattle.std.specs.Prelude.{◌≡◌};
 
     ghost holds = { λ _ out bytes. out.items ≡ bytes };
 
-    /// Memory grows as it is needed.
+    /// Puts bytes; memory grows where there is no room for them.
     fn put(&mut self, bytes: &[u8]) -> Result<(), AllocError> {
         self.extend_from_slice(bytes)
     }
 
+    // Puts a byte; memory grows where there is no room for it.
     fn put_byte(&mut self, byte: u8) -> Result<(), AllocError> {
         self.push(byte)?;
         Ok(())
@@ -65,10 +71,12 @@ impl Out for Vec<u8> {
 }
 
 impl BlobOut for Vec<u8> {
+    // Puts the text as its line has it.
     fn put_text(&mut self, _adb: Adb<'_>, _word: Val, text: &[u8]) -> Result<(), AllocError> {
         write_text(self, text)
     }
 
+    // Puts the hash as its line has it.
     fn put_hash(&mut self, hash: &[u8]) -> Result<(), AllocError> {
         write_hex(self, hash)
     }
@@ -77,13 +85,14 @@ impl BlobOut for Vec<u8> {
 /// The bytes themselves, as long as there is room.
 #[derive(Drop)]
 pub(crate) struct Room {
+    /// The bytes that were put in.
     pub(crate) bytes: Vec<u8>,
     /// How many bytes more may come.
     left: usize,
 }
 
 impl Room {
-    /// Memory for so many bytes.
+    /// An out without bytes, with room for so many, and memory for them.
     pub(crate) fn new(alloc: Global, bytes: usize) -> Result<Room, AllocError>
         ensures { IfOk result (λ room. room.bytes.items ≡ []) }
     {
@@ -99,13 +108,13 @@ impl Out for Room {
 
     ghost holds = { λ _ out bytes. out.bytes.items ≡ bytes };
 
-    /// Past the room it fails, as for want of memory.
+    /// Puts bytes, and fails where there is no room for them, as for want of memory.
     fn put(&mut self, bytes: &[u8]) -> Result<(), AllocError> {
         self.left = self.left.checked_sub(bytes.len()).ok_or(AllocError)?;
         self.bytes.extend_from_slice(bytes)
     }
 
-    /// The same of a byte.
+    /// Puts a byte, and fails where there is no room for it, as for want of memory.
     fn put_byte(&mut self, byte: u8) -> Result<(), AllocError> {
         self.left = self.left.checked_sub(1).ok_or(AllocError)?;
         self.bytes.push(byte)?;
@@ -114,23 +123,27 @@ impl Out for Room {
 }
 
 impl BlobOut for Room {
+    // Puts the text as its line has it.
     fn put_text(&mut self, _adb: Adb<'_>, _word: Val, text: &[u8]) -> Result<(), AllocError> {
         write_text(self, text)
     }
 
+    // Puts the hash as its line has it.
     fn put_hash(&mut self, hash: &[u8]) -> Result<(), AllocError> {
         write_hex(self, hash)
     }
 }
 
-/// How many bytes were put in.
+/// How many bytes were put in, and nothing else of them.
 #[derive(Drop)]
 pub(crate) struct Length {
+    /// The count; where it would pass what a machine can count, the call fails as for want of
+    /// memory.
     pub(crate) bytes: usize,
 }
 
 impl Length {
-    /// So many bytes more.
+    /// Counts so many bytes more.
     fn add(&mut self, bytes: usize) -> Result<(), AllocError>
         ensures { OnOk result (self.new.bytes ≡ self.old.bytes + bytes) }
     {
@@ -144,24 +157,30 @@ impl Out for Length {
 
     ghost holds = { λ _ out bytes. out.bytes ≡ length bytes };
 
+    // Counts bytes.
     fn put(&mut self, bytes: &[u8]) -> Result<(), AllocError> {
         self.add(bytes.len())
     }
 
+    // Counts one byte.
     fn put_byte(&mut self, _byte: u8) -> Result<(), AllocError> {
         self.add(1)
     }
 }
 
-/// How many bytes are counted before memory for so many is tried.
+/// How many bytes are counted before memory for so many is tried: 1 GiB. Any number is right; it
+/// bounds how long a text is counted that no memory can hold.
 const MUCH: usize = 1 << 30;
 
 /// How many bytes were put in, and how long the long texts are in lines, by their words. Many
 /// places may share a text, so a long one is counted once.
 #[derive(Drop)]
 pub(crate) struct Count {
+    /// How many bytes were put in.
     pub(crate) len: Length,
+    /// How long a text is in its line, by its word.
     lens: BTreeMap<u32, usize>,
+    /// What memory comes from.
     alloc: Global,
     /// Up to how many bytes no memory is tried.
     room: usize,
@@ -170,7 +189,7 @@ pub(crate) struct Count {
 impl Count {
     ghost use Rattle.adb_dump.specs.Out.{AreLineLengths, StayLineLengths};
 
-    /// Nothing was put in.
+    /// A count of no bytes.
     pub(crate) fn new(alloc: Global) -> Count
         ensures none { result.len.bytes ≡ 0 }
         ensures lens { (payload : List ℕ) → AreLineLengths payload result.lens }
@@ -183,8 +202,8 @@ impl Count {
         }
     }
 
-    /// So many bytes more. Where much was counted, memory for it is tried and given back: without
-    /// it the count need not go on.
+    /// Counts so many bytes more. Where much was counted, memory for it is tried and given back:
+    /// without it the count need not go on. It is then tried again at twice as many.
     fn add(&mut self, bytes: usize) -> Result<(), AllocError>
         ensures len { OnOk result (self.new.len.bytes ≡ self.old.len.bytes + bytes) }
         ensures lens { self.new.lens ≡ self.old.lens }
@@ -197,11 +216,13 @@ impl Count {
         Ok(())
     }
 
-    /// How long the text of a word is in a line. The length of each text is kept.
+    /// How long the text of a word is in a line. The length is kept, for each place that has the
+    /// word.
     fn line_len(&mut self, word: Val, text: &[u8]) -> Result<usize, AllocError>
         ensures len { IfOk result (λ len. (payload : List ℕ)
             → text.now ≡ text_in (value_at payload Kinds.Text word)
             → AreLineLengths payload self.old.lens → len ≡ length (text_form text.now)) }
+        // The other lengths that are kept are right too, if they were.
         ensures kept { StayLineLengths self.old.lens self.new.lens word text.now }
         ensures put { self.new.len ≡ self.old.len }
     {
@@ -213,7 +234,7 @@ impl Count {
         Ok(len)
     }
 
-    /// The length that is kept of the text of a word, if it is.
+    /// The length that is kept for the text of a word, if one is.
     fn kept_len(&self, word: Val) -> Option<usize>
         ensures { result ≡ get nat_cmp self.now.lens word }
     {
@@ -221,7 +242,7 @@ impl Count {
     }
 }
 
-/// How long a text is in a line.
+/// How long a text is in a line, counted byte by byte.
 fn line_len(text: &[u8]) -> Result<usize, AllocError>
     ensures { IfOk result (λ len. len ≡ length (text_form text.now)) }
 {
@@ -237,11 +258,13 @@ impl Out for Count {
     ghost holds = { λ payload out bytes. (out.len.bytes ≡ length bytes)
         × AreLineLengths payload out.lens };
 
+    // Counts bytes.
     fn put(&mut self, bytes: &[u8]) -> Result<(), AllocError> {
         self.add(bytes.len())?;
         Ok(())
     }
 
+    // Counts one byte.
     fn put_byte(&mut self, _byte: u8) -> Result<(), AllocError> {
         self.add(1)?;
         Ok(())
@@ -249,7 +272,7 @@ impl Out for Count {
 }
 
 impl BlobOut for Count {
-    /// A short text is counted at each place, a long one once.
+    /// Counts a text as its line has it: a short one at each place, a long one once.
     fn put_text(&mut self, _adb: Adb<'_>, word: Val, text: &[u8]) -> Result<(), AllocError> {
         if text.len() <= SHORT {
             write_text(self, text)?;
@@ -260,8 +283,9 @@ impl BlobOut for Count {
         Ok(())
     }
 
+    // Counts the digits of a hash.
     fn put_hash(&mut self, hash: &[u8]) -> Result<(), AllocError> {
-        // Two digits for each byte.
+        // Two digits for each byte: their number cannot overflow if it is counted in two steps.
         self.add(hash.len())?;
         self.add(hash.len())?;
         Ok(())

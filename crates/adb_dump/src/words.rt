@@ -1,4 +1,6 @@
 //! Which words mean Null, and the words of an object.
+//! The rules stand in `docs/formats.md`, "Values": NULL is Null under each shape, and so are an
+//! empty blob or array and an object without any value. A stored 0 is not Null ("Dump text").
 
 ghost use Rattle.std.specs.Prelude.{◌≡◌, ◌<◌, ◌^◌, true, length, slice_index, ◌==◌, if◌then◌else◌};
 ghost use Rattle.adb_view.specs.Adb.{payload_of};
@@ -15,7 +17,7 @@ use adb_schema::{Field, Kind, Which, fields_of};
 use adb_tables::entry_word;
 use adb_view::{Adb, Arr, Val};
 
-/// The words of an object, those past its fields too.
+/// The words of an object's entries, those past its fields too; NULL has none.
 #[tactic(auto, using(crate::proofs::WordReads::object_value_is, crate::proofs::WordReads::object_sound, adb_fields::proofs::FieldReads::object_runs, adb_fields::proofs::FieldReads::read_ok))]
 pub(crate) fn field_words<'a>(adb: Adb<'a>, which: Which, word: Val) -> Arr<'a>
     requires { is_sound (payload_of adb) (Kinds.Obj which) word ≡ true }
@@ -26,11 +28,13 @@ pub(crate) fn field_words<'a>(adb: Adb<'a>, which: Which, word: Val) -> Arr<'a>
 {
     match adb.find_entries(word) {
         Some(entries) => entries,
+        // A word that is sound leads to a run, or is NULL.
         None => unreachable!(),
     }
 }
 
-/// Whether a word means Null: NULL itself, or something without a byte, an entry or a value.
+/// Whether a word means Null under its shape: NULL itself, or something without a byte, an entry or
+/// a value.
 #[cycle(null)]
 #[tactic(auto, using(adb_tables::proofs::WalkSteps::table_rank, crate::proofs::Nulls::text_null, crate::proofs::Nulls::hash_null, crate::proofs::Nulls::arr_null, crate::proofs::Nulls::obj_null))]
 pub(crate) fn is_null(adb: Adb<'_>, kind: Kind, word: Val) -> bool
@@ -47,7 +51,7 @@ pub(crate) fn is_null(adb: Adb<'_>, kind: Kind, word: Val) -> bool
     }
 }
 
-/// Whether each of an object's words that has a field means Null.
+/// Whether each word of an object that has a field means Null.
 #[cycle(null)]
 #[tactic(auto, using(adb_tables::proofs::WalkSteps::field_rank, crate::proofs::Left::field_here, crate::proofs::Left::fields_later, crate::proofs::Left::null_next, crate::proofs::Left::null_stop, crate::proofs::Left::null_done, crate::proofs::Left::null_over))]
 fn are_null(adb: Adb<'_>, fields: &[Field], words: Arr<'_>) -> bool
@@ -56,6 +60,7 @@ fn are_null(adb: Adb<'_>, fields: &[Field], words: Arr<'_>) -> bool
         ≡ are_null (fields_at (payload_of adb.entry) fields.now (array_entries words.entry)) }
 {
     for (i, field) in fields.iter().enumerate() {
+        // Entries past the last are NULL.
         if i >= words.len() {
             break;
         }
@@ -66,7 +71,7 @@ fn are_null(adb: Adb<'_>, fields: &[Field], words: Arr<'_>) -> bool
     true
 }
 
-/// Whether a word means no integer.
+/// Whether a word means Null where an integer is asked for: only NULL does.
 #[tactic(auto, using(crate::proofs::Nulls::null_test, crate::proofs::Nulls::int_is_null))]
 fn is_null_int(adb: Adb<'_>, word: Val) -> bool
     requires { is_sound (payload_of adb) Kinds.Int word ≡ true }

@@ -1,39 +1,42 @@
--- In the words of the format: which pair of positions is the first at which one name stands.
+-- Which pair of positions is the first at which one name stands, in the words of `docs/formats.md`,
+-- "Names that stand twice". Serves the laws of `src/pairs.rt`.
 use Rattle.std.specs.Prelude.{◌≡◌, ℕ, ◌<◌, ◌≤◌, ◌⊎◌, List, [], ◌∷◌, Option, Some, None}
+pub use Rattle.base_core.specs.Lists.{IsIn}
 use Rattle.adb_fields.specs.Pairs.{NameWithPosition}
 use Rattle.adb_fields.specs.Repeated.{numbered_from}
 use Rattle.adb_fields.specs.declared.pairs.Pair.{Pair}
 
--- what is in a list, by recursion on it
-abbrev pub IsIn : {A : Type 0} → A → List A → Type 0
-IsIn x [] = ⊥
-IsIn x (y ∷ ys) = (x ≡ y) ⊎ IsIn x ys
-
--- one name stands at both positions
+-- one name stands at both positions of the pair, the first of which is the smaller
 pub record IsPair (names : List NameWithPosition) (p : Pair) : Type 0 where
+  -- the name at the first position
   pub one : NameWithPosition
+  -- the name at the second one
   pub other : NameWithPosition
   pub one_in : IsIn one names
   pub other_in : IsIn other names
+  -- it is one name
   pub alike : one.name ≡ other.name
   pub first : p.first ≡ one.position
   pub second : p.second ≡ other.position
   pub rises : p.first < p.second
 
--- no pair has a smaller second position, and of those with the same second position none a smaller
--- first one
+-- a pair of a kind is the first: none has a smaller second position, and of those with the same
+-- second position none a smaller first one
 pub record IsFirst (IsOne : Pair → Type 0) (p : Pair) : Type 0 where
   pub is_one : IsOne p
+  -- no pair has a smaller second position
   pub second : (q : Pair) → IsOne q → p.second ≤ q.second
+  -- of those with the same second position none has a smaller first one
   pub first : (q : Pair) → IsOne q → q.second ≡ p.second → p.first ≤ q.first
 
--- which pair is reported, or that there is none
+-- of all pairs of a kind this is the first, or there is none
 abbrev pub IsFirstOf : (Pair → Type 0) → Option Pair → Type 0
 IsFirstOf IsOne None = (q : Pair) → ¬ IsOne q
 IsFirstOf IsOne (Some p) = IsFirst IsOne p
 
--- one of the lists has the name at both positions
+-- one of several lists has one name at both positions of the pair
 pub record IsPairInOne (lists : List (List (List ℕ))) (p : Pair) : Type 0 where
+  -- the list that has the name twice
   pub names : List (List ℕ)
   pub names_in : IsIn names lists
   pub is_pair : IsPair (numbered_from 1 names) p

@@ -1,3 +1,5 @@
+-- The definitions of `adb_fields`. The head of each file says where its rule stands.
+
 -- what the contract of `apk` says
 pub mod Paths
 pub mod Pairs

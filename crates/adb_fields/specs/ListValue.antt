@@ -1,10 +1,11 @@
--- The plain value that a list of views shows.
+-- The plain value that a list of views shows. Serves the contracts of `List`; what an array means
+-- stands in `docs/formats.md`, "Values".
 use Rattle.adb_view.specs.Plain.{Plain}
 use Rattle.adb_view.specs.Adb.{payload_of}
 use Rattle.adb_view.specs.Entries.{array_entries}
 use Rattle.adb_fields.specs.Fields.{array_at}
 use Rattle.adb_fields.specs.declared.list.List.{List}
 
--- an array, whatever its entries are shown by
+-- the plain value of a list of views: an array, whatever its entries are shown by
 abbrev pub list_value : {V : Type 0} {g : _} → List V g → Plain
 list_value {g = g} list = array_at (payload_of list.adb) g.kind (array_entries list.entries)

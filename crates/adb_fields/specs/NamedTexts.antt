@@ -1,4 +1,5 @@
--- The names that the program compares, and their order.
+-- The names that the program compares, and their order. Serves the contracts of `src/pairs.rt` and
+-- `src/name_lists.rt`; the rule stands in `docs/formats.md`, "Names that stand twice".
 use Rattle.std.specs.Prelude.{ℕ, List, [], ◌∷◌, Option}
 use Rattle.adb_fields.specs.Repeated.{list_of}
 use Rattle.adb_fields.specs.JoinedPath.{joined_path}
@@ -13,28 +14,30 @@ use Rattle.adb_fields.specs.Fields.{array_at}
 use Rattle.adb_tables.specs.declared.tables.Kind.{Kind}
 use Rattle.adb_fields.specs.declared.pairs.PathWithPosition.{PathWithPosition}
 
--- the name that an entry stands for: where there is a folder, a path
+-- the name that an entry of the program's list stands for, with its position: where there is a
+-- folder, a path
 abbrev pub named_by : PathWithPosition → NameWithPosition
 named_by e = record { name = joined_path e.path; position = e.position }
 
--- by name, and equal names by position
+-- the order in which names are sorted: by name, and equal names by position
 abbrev pub named_cmp : NameWithPosition → NameWithPosition → Ordering
 named_cmp x y = ordering_then (slice_cmp nat_cmp x.name y.name) (nat_cmp x.position y.position)
 
--- the pairs of names that stand next to each other
+-- the pairs that a name and the names behind it make, each with the next one; None where two names
+-- differ
 abbrev pub neighbours_from : NameWithPosition → List NameWithPosition → List (Option Pair)
 neighbours_from x [] = []
 neighbours_from x (y ∷ ys) = pair_of x y ∷ neighbours_from y ys
 
--- each name and the next one, where they make a pair
+-- the pairs that each name of a list makes with the next one; None where the two differ
 abbrev pub neighbours : List NameWithPosition → List (Option Pair)
 neighbours [] = []
 neighbours (x ∷ xs) = neighbours_from x xs
 
--- a name with its position
+-- a name with the position at which it stands
 abbrev pub named_at : List ℕ → ℕ → NameWithPosition
 named_at name position = record { name = name; position = position }
 
--- the values of an array's words
+-- the plain values of an array's words under the kind, as a list
 abbrev pub plains_at : List ℕ → Kind → List ℕ → List Plain
 plains_at p k words = list_of (entries_in (array_at p k words))

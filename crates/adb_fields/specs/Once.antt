@@ -1,4 +1,5 @@
--- What it is that no name stands twice in a container.
+-- What it is that no name stands twice in a container. Which names these are stands in the table of
+-- `docs/formats.md`, "Names that stand twice".
 use Rattle.std.specs.Prelude.{◌⊎◌, ℕ, List, [], ◌∷◌, ◌++◌, map}
 use Rattle.std.specs.List.{flat_map}
 use Rattle.adb_view.specs.Plain.{Plain}
@@ -9,39 +10,44 @@ use Rattle.adb_tables.specs.declared.tables.Which.TheVariants.{Package, Idb, Int
 use Rattle.adb_fields.specs.FirstPair.{IsIn}
 use Rattle.adb_fields.specs.Repeated.{entries_at, files_in, folders_in, name_of, package_name, paths_in}
 
--- each name of the list once
+-- no name stands twice in the list
 abbrev pub AreDistinctNames : List (List ℕ) → Type 0
 AreDistinctNames [] = Unit {0}
 AreDistinctNames (name ∷ names) = (¬ IsIn name names) × AreDistinctNames names
 
--- in each of these lists each name once
+-- no name stands twice in one of these lists
 abbrev pub AllDistinct : List (List (List ℕ)) → Type 0
 AllDistinct [] = Unit {0}
 AllDistinct (names ∷ lists) = AreDistinctNames names × AllDistinct lists
 
--- the name stands in one of the lists
+-- a name stands in one of the lists
 abbrev pub IsInOneOf : List ℕ → List (List (List ℕ)) → Type 0
 IsInOneOf name [] = ⊥
 IsInOneOf name (names ∷ lists) = IsIn name names ⊎ IsInOneOf name lists
 
--- no name in two of the lists
+-- no name stands in two of the lists
 abbrev pub AreApart : List (List (List ℕ)) → Type 0
 AreApart [] = Unit {0}
 AreApart (names ∷ lists) = ((name : List ℕ) → IsIn name names → ¬ IsInOneOf name lists)
     × AreApart lists
 
--- of each package no folder twice, and of each folder no file
+-- no package lists a folder twice, and none of its folders a file
 pub record StandOnceInside (packages : List Plain) : Type 0 where
+  -- each folder stands once in its package
   pub folders : AllDistinct (map (λ pkg. map name_of (folders_in pkg)) packages)
+  -- each file stands once in its folder
   pub files : AllDistinct
       (flat_map (λ pkg. map (λ folder. map name_of (files_in folder)) (folders_in pkg)) packages)
 
--- no package twice, and no path in two packages
+-- no two packages have one name, and no two list one path
 pub record StandOnceBetween (packages : List Plain) : Type 0 where
+  -- each package stands once
   pub packages_once : AreDistinctNames (map package_name packages)
+  -- no path stands in two packages
   pub paths_once : AreApart (map paths_in packages)
 
--- no name stands twice that may stand once alone; of other tables nothing is asked
+-- no name stands twice in a container, by the table of its root, that may stand once alone; of
+-- other tables nothing is asked
 abbrev pub NamesStandOnce : Which → Plain → Type 0
 NamesStandOnce Package v = StandOnceInside (v ∷ [])
 NamesStandOnce Idb v = StandOnceInside (entries_at IDB_PACKAGES v)

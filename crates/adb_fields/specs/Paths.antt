@@ -1,4 +1,4 @@
--- Paths of files.
+-- Paths of files. The rule stands in `docs/formats.md`, "Schemas" ("The path of a file").
 use Rattle.std.specs.Prelude.{ℕ, List, [], ◌∷◌, ◌++◌}
 
 -- a file's path: its name behind its folder's and a slash (47); the root folder has the empty name

@@ -1,4 +1,5 @@
--- Names that stand twice in a container, kind by kind.
+-- Names that stand twice in a container, kind by kind. The rule stands in the table of
+-- `docs/formats.md`, "Names that stand twice".
 use Rattle.std.specs.Prelude.{ℕ, ◌+◌, ◌*◌, List, [], ◌∷◌, ◌++◌, map, Option, None, option_map}
 use Rattle.std.specs.Option.{option_or}
 use Rattle.std.specs.List.{flat_map}
@@ -16,44 +17,44 @@ use Rattle.adb_tables.specs.declared.tables.Which.TheVariants.{File, Dir, Packag
 
 -- ---- lists of names
 
--- names at positions in a row, the first of which is this one
+-- names at positions in a row, the first of them at position n
 abbrev pub numbered_from : ℕ → List (List ℕ) → List NameWithPosition
 numbered_from n [] = []
 numbered_from n (name ∷ names) = record { name = name; position = n } ∷ numbered_from (n + 1) names
 
--- a name that stands twice in a list
+-- the pair that is reported of the names of a list; None where each stands once
 abbrev pub twice : List (List ℕ) → Option Pair
 twice names = first_pair (numbered_from 1 names)
 
--- a name that stands twice in one of several lists
+-- the pair that is reported of several lists, in one of which a name stands twice
 abbrev pub twice_in_one : List (List (List ℕ)) → Option Pair
 twice_in_one lists = earliest (map twice lists)
 
--- names that all stand at this position
+-- these names, all of them at position n
 abbrev pub all_at : ℕ → List (List ℕ) → List NameWithPosition
 all_at n names = map (λ name. record { name = name; position = n }) names
 
--- each list's names stand at the position of the list
+-- the names of several lists, each at the position of its list; the first list has position n
 abbrev pub by_list_from : ℕ → List (List (List ℕ)) → List NameWithPosition
 by_list_from n [] = []
 by_list_from n (names ∷ lists) = all_at n names ++ by_list_from (n + 1) lists
 
--- a name that stands in two lists
+-- the pair of lists that is reported, since one name stands in both
 abbrev pub in_two : List (List (List ℕ)) → Option Pair
 in_two lists = first_pair (by_list_from 1 lists)
 
 -- ---- the names of a container
 
--- values as a list
+-- the values of an array or an object as a list
 abbrev pub list_of : Plains → List Plain
 list_of none = []
 list_of (more v vs) = v ∷ list_of vs
 
--- the entries of an object's field that is an array; fields count from 0
+-- the entries of an object's field that is an array; `i` is the field's index, which counts from 0
 abbrev pub entries_at : ℕ → Plain → List Plain
 entries_at i v = list_of (entries_in (entry_in v i))
 
--- the name of a folder, a file or a package's information, which is the first field of each
+-- the name of a folder, a file or a package's information: the first field of each, with index 0
 abbrev pub name_of : Plain → List ℕ
 name_of v = text_in (entry_in v 0)
 
@@ -79,51 +80,53 @@ paths_in pkg = flat_map paths_under (folders_in pkg)
 
 -- ---- kind by kind
 
--- a folder that a package lists twice
+-- the pair of positions in `paths` at which one of these packages lists a folder twice
 abbrev pub folder_twice : List Plain → Option Pair
 folder_twice packages = twice_in_one (map (λ pkg. map name_of (folders_in pkg)) packages)
 
--- a file that a folder lists twice
+-- the pair of positions in `files` at which a folder of one of these packages lists a file twice
 abbrev pub file_twice : List Plain → Option Pair
 file_twice packages = twice_in_one
     (flat_map (λ pkg. map (λ folder. map name_of (files_in folder)) (folders_in pkg)) packages)
 
--- a package that a database has twice
+-- the pair of positions at which packages of one name stand in a database
 abbrev pub package_twice : List Plain → Option Pair
 package_twice packages = twice (map package_name packages)
 
--- a path that two packages list
+-- the pair of positions of two packages that list one path
 abbrev pub path_in_two : List Plain → Option Pair
 path_in_two packages = in_two (map paths_in packages)
 
--- the texts of the removals and behind them those of the writes
+-- the pair of positions at which an intent has one name, in its removals followed by its writes
 abbrev pub name_twice : Plain → Option Pair
 name_twice intent = twice
     (map text_in (entries_at INTENT_REMOVALS intent) ++ map text_in (entries_at INTENT_WRITES intent))
 
 -- ---- the fault of a container
 
--- the number by which a field is reported: 100 times its table's, and its own, counted from 1
+-- the number by which a field is reported: 100 times its table's, and its own, which is its index
+-- and one, since fields count from 1
 abbrev pub field_number : Which → ℕ → ℕ
 field_number which index = 100 * schema_number which + (index + 1)
 
--- a pair that stands is reported with the number of the field
+-- the cause of a pair that stands, with the number of the field whose texts stand once
 abbrev pub repeated_at : ℕ → Option Pair → Option Cause
 repeated_at number pair = option_map (λ p. Repeated number p.first p.second) pair
 
--- what stands twice inside one package: a folder, or else a file of a folder
+-- what is reported of names inside of one package: a folder, or else a file of a folder
 abbrev pub inside_fault : List Plain → Option Cause
 inside_fault packages =
     option_or (repeated_at (field_number Dir DIR_NAME) (folder_twice packages))
     (repeated_at (field_number File FILE_NAME) (file_twice packages))
 
--- what stands in two packages: the name of a package, or else a path
+-- what is reported of names in two packages: the name of a package, or else a path
 abbrev pub between_fault : List Plain → Option Cause
 between_fault packages =
     option_or (repeated_at (field_number Idb IDB_PACKAGES) (package_twice packages))
     (repeated_at (field_number File FILE_NAME) (path_in_two packages))
 
--- the first kind that stands
+-- what is reported of a container with this table at its root: the first kind of names of which one
+-- stands twice
 unfoldable pub repeated_fault : Which → Plain → Option Cause
 repeated_fault Package v = inside_fault (v ∷ [])
 repeated_fault Idb v = option_or (inside_fault (entries_at IDB_PACKAGES v))

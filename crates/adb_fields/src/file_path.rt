@@ -1,4 +1,6 @@
-//! Paths of files whose parts are not joined, and their order.
+//! Paths of files whose parts are not joined, and their order. What the path of a file is stands in
+//! `docs/formats.md`, "Schemas" ("The path of a file"). Serves the search for one path in two
+//! packages ("Names that stand twice"), as `FilePath::compare` in the README of this crate.
 
 ghost use Rattle.std.specs.Prelude.{◌≡◌, ◌<◌, ◌≤◌, ◌+◌, ◌^◌, length, take, drop, slice_get, IfSome};
 ghost use Rattle.std.specs.Cmp.Lexicographic.{slice_cmp};
@@ -11,7 +13,9 @@ use std::cmp::Ordering;
 /// name. The two parts stay where they are, so that a path takes no memory.
 #[derive(Clone, Copy)]
 pub struct FilePath<'a> {
+    /// The path of the folder; empty for the root folder.
     pub folder: &'a [u8],
+    /// The name of the file in the folder.
     pub name: &'a [u8],
 }
 
@@ -32,7 +36,8 @@ impl FilePath<'_> {
         compared_from(self, other, len)
     }
 
-    /// A byte of the path.
+    /// The byte of the path with this index, if there is one; a slash stands between folder and
+    /// name, unless the folder is the root.
     fn byte(&self, i: usize) -> Option<u8>
         ensures byte { result ≡ slice_get (joined_path self.now) i }
         ensures small { IfSome result (λ _. i + 1 < 2 ^ 64) }
@@ -51,7 +56,7 @@ impl FilePath<'_> {
     }
 }
 
-/// The order of the first bytes of two texts.
+/// The order of the first `len` bytes of two texts.
 fn compared_fronts(one: &[u8], other: &[u8], len: usize) -> Ordering
     requires one { len ≤ length one.now }
     requires other { len ≤ length other.now }

@@ -1,5 +1,7 @@
 //! The lists of a payload that were looked through for a name that stands twice. Many places may
-//! share a list, so what a long one has is kept.
+//! share a list, so what a long one has is kept. Serves `repeated_names`, which so looks through a
+//! list once (README of this crate, first paragraph); what is looked for stands in
+//! `docs/formats.md`, "Names that stand twice".
 
 ghost use Rattle.std.specs.Prelude.{◌≡◌, true, Some, map, IfOk, IfSome};
 ghost use Rattle.adb_view.specs.Adb.{payload_of};
@@ -19,15 +21,19 @@ use adb_view::{Adb, Arr, Val};
 use std::alloc::{AllocError, Global};
 use std::collections::BTreeMap;
 
-/// How many entries a list has at most that is looked through at each place where it stands.
+/// How many entries a list has at most whose pair is not kept: it is looked through at each place
+/// where it stands, which takes no memory that stays. Any number gives the same answers.
 const SHORT: usize = 16;
 
 /// A payload, a table whose objects have names, and for each long list of such objects that was
 /// looked through the first pair of its names, by the list's word.
 #[derive(Drop)]
 pub(crate) struct KnownLists<'a> {
+    /// The payload in which the lists stand.
     adb: Adb<'a>,
+    /// The table of their objects.
     which: Which,
+    /// By the word of a list: its pair, or that no name stands twice in it.
     pairs: BTreeMap<u32, Option<Pair>>,
     ghost named: { kind_at which 0 ≡ Some Kinds.Text },
     ghost exact: { ArePairsOf (payload_of adb) which pairs },
@@ -36,7 +42,8 @@ pub(crate) struct KnownLists<'a> {
 impl<'a> KnownLists<'a> {
     ghost use Rattle.adb_fields.specs.ListsOf.{AreListsOf};
 
-    /// Nothing is known of the payload's lists.
+    /// The lists of a payload before any was looked through. `kind_at which 0` asks that the first
+    /// field of the table, with index 0, is a text, its name.
     pub(crate) fn new(alloc: Global, adb: Adb<'a>, which: Which) -> KnownLists<'a>
         requires { kind_at which 0 ≡ Some Kinds.Text }
         ensures { AreListsOf adb.entry which result }
@@ -48,7 +55,8 @@ impl<'a> KnownLists<'a> {
         }
     }
 
-    /// A name that two objects of a list have. Only a long list takes memory, once.
+    /// The pair of positions at which two objects of a list have one name. Only a long list takes
+    /// memory, once.
     pub(crate) fn twice(&mut self, alloc: Global, list: Val) -> Result<Option<Pair>, AllocError>
         requires { is_sound (payload_of self.old.adb) (Kinds.ObjArr self.old.which) list ≡ true }
         ensures value { IfOk result (λ pair. pair
@@ -67,7 +75,8 @@ impl<'a> KnownLists<'a> {
         Ok(pair)
     }
 
-    /// The pair that is kept of a list, if it is.
+    /// The pair that is kept of a list, if the list was looked through before (the inner None: it
+    /// has none).
     fn kept_pair(&self, list: Val) -> Option<Option<Pair>>
         ensures { IfSome result (λ pair. pair
             ≡ twice_at (payload_of self.now.adb) self.now.which list) }
@@ -76,7 +85,8 @@ impl<'a> KnownLists<'a> {
     }
 }
 
-/// A name that two of the objects have, whose first field it is.
+/// The pair of positions at which two of the objects have one name, which is their first field
+/// (index 0).
 fn name_twice(
     alloc: Global,
     adb: Adb<'_>,

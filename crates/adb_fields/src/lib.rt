@@ -6,6 +6,9 @@
 //! The contracts cite `Fields` (the words of fields and arrays), `ListValue`, `Pairs` (of the names
 //! that stand twice, which two positions are reported), `Repeated` (the names of a container, kind
 //! by kind), `Paths` and `JoinedPath`.
+//!
+//! The rules stand in `docs/formats.md`, "Values" (what a word, a field and an entry mean),
+//! "Schemas" and "Names that stand twice".
 #![tactic(auto)]
 
 mod file_path;

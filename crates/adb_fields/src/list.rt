@@ -1,4 +1,5 @@
-//! Arrays as lists of views, which cannot fail.
+//! Arrays as lists of views, which cannot fail. What an entry means stands in `docs/formats.md`,
+//! "Values".
 
 ghost use Rattle.std.specs.Prelude.{◌≡◌, ◌<◌, ◌≤◌, ◌-◌, ◌^◌, ◌==◌, true};
 ghost use Rattle.adb_view.specs.Adb.{payload_of};
@@ -14,23 +15,24 @@ use adb_tables::entry_word;
 use adb_view::{Adb, Arr, Val};
 use std::marker::PhantomData;
 
-/// What the words of one kind are shown by.
+/// What shows words of one kind: a view, or a text.
 pub trait Kinded {
+    /// The kind of the words.
     ghost kind: { Kind };
 }
 
-/// A view of a sound word.
+/// A view of a sound word: what shows a part of its plain value without a fault.
 pub trait View<'a>: Kinded {
-    /// The plain value that it shows.
+    /// The plain value that the view shows.
     ghost shows: { Self → Plain };
 
-    /// The view of a word.
+    /// The view of a word that is sound under the kind.
     fn of(adb: Adb<'a>, word: Val) -> Self
         requires { is_sound (payload_of adb) Self.kind word ≡ true }
         ensures { shows result ≡ value_at (payload_of adb.entry) Self.kind word };
 }
 
-/// The entries of an array, as views.
+/// The entries of an array, shown as views.
 pub struct List<'a, V: Kinded> {
     adb: Adb<'a>,
     entries: Arr<'a>,
@@ -41,7 +43,7 @@ pub struct List<'a, V: Kinded> {
 impl<'a, V: View<'a>> List<'a, V> {
     ghost use Rattle.adb_fields.specs.ListValue.{list_value};
 
-    /// The entries with these words.
+    /// The list of the entries with these words.
     pub fn of(adb: Adb<'a>, entries: Arr<'a>) -> List<'a, V>
         requires { are_all_sound (payload_of adb) V.kind (array_entries entries) ≡ true }
         ensures { list_value result
@@ -84,6 +86,7 @@ impl<'a, V: Kinded> Clone for List<'a, V> {
 
     ghost is_infallible = { λ _. Unit {0} };
 
+    // The same list once more; it takes no memory.
     fn clone(&self) -> Result<Self, std::alloc::AllocError> {
         Ok(*self)
     }
@@ -96,6 +99,7 @@ impl<'a> Kinded for &'a [u8] {
 impl<'a> View<'a> for &'a [u8] {
     ghost shows = { λ text. blob_value text.now };
 
+    // The text that a word means.
     #[tactic(auto, using(crate::proofs::FieldReads::text_shown))]
     fn of(adb: Adb<'a>, word: Val) -> &'a [u8] {
         text_word(adb, word)

@@ -1,4 +1,7 @@
-//! The names of a container's lists, with their positions.
+//! The lists of names in which one may stand twice, each name with its position: names of folders,
+//! of files and of packages, paths, and the texts of an intent. Which lists these are stands in the
+//! table of `docs/formats.md`, "Names that stand twice". The indices of fields that are named here
+//! are those of `FieldIndexes` of `adb_tables`.
 
 ghost use Rattle.std.specs.Prelude.{◌≡◌, ◌+◌, ◌<◌, ◌^◌, ◌++◌, ◌∷◌, [], true, Some, map, length, IfOk};
 ghost use Rattle.std.specs.Vec.{vec_len};
@@ -19,7 +22,7 @@ use adb_tables::{Which, entry_word};
 use adb_view::{Adb, Arr, Val};
 use std::alloc::{AllocError, Global};
 
-/// Adds a name at the next position.
+/// Adds a name behind the others, at the next position.
 fn add<'a>(names: &mut Vec<PathWithPosition<'a>>, name: &'a [u8]) -> Result<(), AllocError>
     requires { vec_len names.old + 1 < 2 ^ 32 }
     ensures added { IfOk result (λ _. map named_by names.new.items ≡ map named_by names.old.items
@@ -32,7 +35,7 @@ fn add<'a>(names: &mut Vec<PathWithPosition<'a>>, name: &'a [u8]) -> Result<(), 
     Ok(())
 }
 
-/// The names of folders or files: of objects whose first field is a text.
+/// The names of folders or files: of objects whose first field (index 0) is a text.
 #[tactic(auto, using(crate::proofs::FieldReads::entry_sound))]
 pub(crate) fn object_names<'a>(
     alloc: Global,
@@ -58,7 +61,7 @@ pub(crate) fn object_names<'a>(
     Ok(names)
 }
 
-/// The names of packages.
+/// The names of packages, each at the position of its package.
 #[tactic(auto, using(crate::proofs::FieldReads::entry_sound))]
 pub(crate) fn package_names<'a>(
     alloc: Global,
@@ -85,11 +88,12 @@ fn package_name<'a>(adb: Adb<'a>, pkg: Val) -> &'a [u8]
     ensures { result.now
         ≡ package_name (value_at (payload_of adb.entry) (Kinds.Obj Tables.Package) pkg) }
 {
+    // The indices are PACKAGE_INFO and INFO_NAME.
     let info = field_word(adb, Which::Package, pkg, 0);
     text_field(adb, Which::PkgInfo, info, 0)
 }
 
-/// Adds texts behind the names.
+/// Adds the texts of an array behind the names, at the positions that follow.
 #[tactic(auto, using(crate::proofs::FieldReads::entry_sound))]
 pub(crate) fn add_texts<'a>(
     names: &mut Vec<PathWithPosition<'a>>,
@@ -138,6 +142,7 @@ fn add_paths_under<'a>(
         ++ all_at position
         (paths_under (value_at (payload_of adb.entry) (Kinds.Obj Tables.Dir) folder))) }
 {
+    // The indices are DIR_NAME, DIR_FILES and, below, FILE_NAME.
     let name = text_field(adb, Which::Dir, folder, 0);
     let files = objects_field(adb, Which::Dir, folder, 2, Which::File);
     for i in 0..files.len() {
@@ -160,6 +165,7 @@ fn add_paths<'a>(
         ++ all_at position
         (paths_in (value_at (payload_of adb.entry) (Kinds.Obj Tables.Package) pkg))) }
 {
+    // The index is PACKAGE_PATHS.
     let folders = objects_field(adb, Which::Package, pkg, 1, Which::Dir);
     for i in 0..folders.len() {
         add_paths_under(paths, adb, entry_word(folders, i), position)?;

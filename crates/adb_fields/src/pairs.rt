@@ -1,4 +1,6 @@
-//! Which two positions are reported of the names of a list that stand twice.
+//! Which two positions are reported of the names of a list that stand twice. The rule stands in
+//! `docs/formats.md`, "Names that stand twice", below the table ("the pair with the smallest second
+//! position").
 
 ghost use Rattle.std.specs.Prelude.{◌≡◌, ◌<◌, ◌^◌, ◌+◌, ◌≤◌, length, map, take, drop, slice_get, IfSome, ℕ, List};
 ghost use Rattle.std.specs.Cmp.Lexicographic.{slice_cmp};
@@ -16,20 +18,25 @@ use std::cmp::Ordering;
 /// Two positions at which one name stands. They count from 1.
 #[derive(Clone, Copy)]
 pub(crate) struct Pair {
+    /// The smaller one.
     pub first: u32,
+    /// The greater one.
     pub second: u32,
 }
 
-/// A name and its position, which counts from 1. Where there is a folder, the name is a path.
+/// A name and the position at which it stands, which counts from 1. Where there is a folder, the
+/// name is a path.
 #[derive(Clone, Copy)]
 pub(crate) struct PathWithPosition<'a> {
+    /// The name, in the root folder, or the path.
     pub path: FilePath<'a>,
+    /// Where it stands, counted from 1.
     pub position: u32,
 }
 
 impl Pair {
-    /// Whether it is reported rather than another: it has the smaller second position, or the same
-    /// and the smaller first one.
+    /// Whether this pair is reported rather than another: it has the smaller second position, or
+    /// the same and the smaller first one.
     fn is_before(&self, other: &Pair) -> bool
         ensures { result ≡ is_before self.now other.now }
     {
@@ -40,7 +47,7 @@ impl Pair {
     }
 }
 
-/// The one of two pairs that is reported.
+/// The one of two pairs that is reported; None where there is neither.
 pub(crate) fn earlier(one: Option<Pair>, other: Option<Pair>) -> Option<Pair>
     ensures { result ≡ earlier one other }
 {
@@ -61,7 +68,7 @@ pub(crate) fn first_pair(entries: &mut [PathWithPosition<'_>]) -> Option<Pair>
     first_of_neighbours(entries)
 }
 
-/// The first pair of neighbours.
+/// The first pair that a name and the next one make; of sorted names it is the first of all.
 fn first_of_neighbours(entries: &[PathWithPosition<'_>]) -> Option<Pair>
     ensures { result ≡ earliest (neighbours (map named_by entries.now)) }
 {
@@ -89,7 +96,7 @@ fn pair_of(one: &PathWithPosition<'_>, other: &PathWithPosition<'_>) -> Option<P
     })
 }
 
-/// By name, and equal names by position.
+/// The order in which names are sorted: by name, and equal names by position.
 fn compared(one: &PathWithPosition<'_>, other: &PathWithPosition<'_>) -> Ordering
     ensures { result ≡ named_cmp (named_by one.now) (named_by other.now) }
 {
@@ -97,17 +104,18 @@ fn compared(one: &PathWithPosition<'_>, other: &PathWithPosition<'_>) -> Orderin
     names.then(one.position.cmp(&other.position))
 }
 
-/// Of the names of one list.
+/// A law: of the names of one list the first pair is reported.
 pub fn the_first_pair_of_a_list_is_reported()
     ensures { (names : List (List ℕ)) → IsFirstOf (IsPair (numbered_from 1 names)) (twice names) }
 {}
 
-/// Of the names of several lists, each for itself.
+/// A law: of the names of several lists, each for itself, the first pair is reported.
 pub fn the_first_pair_in_one_of_several_lists_is_reported()
     ensures { (lists : List (List (List ℕ))) → IsFirstOf (IsPairInOne lists) (twice_in_one lists) }
 {}
 
-/// Of the names that two of several lists have, at the positions of the lists.
+/// A law: of the names that two of several lists have, the first pair of the lists' positions is
+/// reported.
 pub fn the_first_pair_of_two_lists_is_reported()
     ensures { (lists : List (List (List ℕ)))
         → IsFirstOf (IsPair (by_list_from 1 lists)) (in_two lists) }

@@ -1,5 +1,10 @@
 //! Reads of sound words, and of the fields of sound objects: they cannot fail. Fields count from 0,
-//! and a field that is missing is Null.
+//! and a field that is missing is Null. What a word, a field and an entry mean stands in
+//! `docs/formats.md`, "Values"; which field has which index is table by table in "Schemas", where
+//! fields count from 1. By name the indices stand in `FieldIndexes` of `adb_tables`. In the clauses
+//! `sound` says that a word has a plain value under its kind, or its table, and `kind` which kind
+//! of value the field holds. `unreachable!` stands where a reader would refuse a word, since it
+//! refuses no sound one.
 
 ghost use Rattle.std.specs.Prelude.{◌≡◌, ◌<◌, true, Some, length, slice_index, slice_index_or};
 ghost use Rattle.adb_view.specs.Adb.{payload_of};
@@ -24,7 +29,7 @@ pub fn object_words<'a>(adb: Adb<'a>, which: Which, object: Val) -> Arr<'a>
     }
 }
 
-/// The word with this index, counted from 0; NULL past the last.
+/// The word with this index, which counts from 0; NULL past the last.
 pub fn word_or_null(words: Arr<'_>, i: usize) -> Val
     ensures { result ≡ slice_index_or (array_entries words.entry) i 0 }
 {
@@ -80,7 +85,7 @@ pub fn hash_word<'a>(adb: Adb<'a>, word: Val) -> &'a [u8]
     }
 }
 
-/// The words of a sound array of texts.
+/// The words of the entries of a sound array of texts.
 #[tactic(auto, using(crate::proofs::FieldReads::texts_sound, crate::proofs::FieldReads::texts_value, crate::proofs::FieldReads::texts_run, crate::proofs::FieldReads::read_ok))]
 pub fn texts_word<'a>(adb: Adb<'a>, word: Val) -> Arr<'a>
     requires { is_sound (payload_of adb) Kinds.TextArr word ≡ true }
@@ -94,7 +99,7 @@ pub fn texts_word<'a>(adb: Adb<'a>, word: Val) -> Arr<'a>
     }
 }
 
-/// The words of a sound array of objects.
+/// The words of the entries of a sound array of objects of a table.
 #[tactic(auto, using(crate::proofs::FieldReads::objects_sound, crate::proofs::FieldReads::objects_value, crate::proofs::FieldReads::objects_run, crate::proofs::FieldReads::read_ok))]
 pub fn objects_word<'a>(adb: Adb<'a>, which: Which, word: Val) -> Arr<'a>
     requires { is_sound (payload_of adb) (Kinds.ObjArr which) word ≡ true }
@@ -109,7 +114,7 @@ pub fn objects_word<'a>(adb: Adb<'a>, which: Which, word: Val) -> Arr<'a>
     }
 }
 
-/// The integer that a field is; Null is 0.
+/// The integer that a field of an object is; 0 where the field is Null.
 pub fn int_field(adb: Adb<'_>, which: Which, object: Val, i: usize) -> u64
     requires sound { is_sound (payload_of adb) (Kinds.Obj which) object ≡ true }
     requires kind { kind_at which i ≡ Some Kinds.Int }
@@ -119,7 +124,7 @@ pub fn int_field(adb: Adb<'_>, which: Which, object: Val, i: usize) -> u64
     int_word(adb, field_word(adb, which, object, i))
 }
 
-/// The bytes of a text; of Null none.
+/// The bytes of a field of an object that is a text; none where the field is Null.
 pub fn text_field<'a>(adb: Adb<'a>, which: Which, object: Val, i: usize) -> &'a [u8]
     requires sound { is_sound (payload_of adb) (Kinds.Obj which) object ≡ true }
     requires kind { kind_at which i ≡ Some Kinds.Text }
@@ -129,7 +134,7 @@ pub fn text_field<'a>(adb: Adb<'a>, which: Which, object: Val, i: usize) -> &'a 
     text_word(adb, field_word(adb, which, object, i))
 }
 
-/// The bytes of a hash; of Null none.
+/// The bytes of a field of an object that is a hash; none where the field is Null.
 pub fn hash_field<'a>(adb: Adb<'a>, which: Which, object: Val, i: usize) -> &'a [u8]
     requires sound { is_sound (payload_of adb) (Kinds.Obj which) object ≡ true }
     requires kind { kind_at which i ≡ Some Kinds.Hash }
@@ -139,7 +144,7 @@ pub fn hash_field<'a>(adb: Adb<'a>, which: Which, object: Val, i: usize) -> &'a 
     hash_word(adb, field_word(adb, which, object, i))
 }
 
-/// The words of an array of texts.
+/// The words of the entries of a field that is an array of texts.
 pub fn texts_field<'a>(adb: Adb<'a>, which: Which, object: Val, i: usize) -> Arr<'a>
     requires sound { is_sound (payload_of adb) (Kinds.Obj which) object ≡ true }
     requires kind { kind_at which i ≡ Some Kinds.TextArr }
@@ -150,7 +155,7 @@ pub fn texts_field<'a>(adb: Adb<'a>, which: Which, object: Val, i: usize) -> Arr
     texts_word(adb, field_word(adb, which, object, i))
 }
 
-/// The words of an array of objects of a table.
+/// The words of the entries of a field that is an array of objects of the table `inner`.
 pub fn objects_field<'a>(adb: Adb<'a>, which: Which, object: Val, i: usize, inner: Which) -> Arr<'a>
     requires sound { is_sound (payload_of adb) (Kinds.Obj which) object ≡ true }
     requires kind { kind_at which i ≡ Some (Kinds.ObjArr inner) }

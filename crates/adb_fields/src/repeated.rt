@@ -1,4 +1,6 @@
-//! Names that stand twice in a walked container.
+//! Names that stand twice in a walked container. The rule stands in `docs/formats.md`, "Names that
+//! stand twice". The indices of fields that are named here are those of `FieldIndexes` of
+//! `adb_tables`.
 
 ghost use Rattle.std.specs.Prelude.{◌↔◌, None, ◌≡◌, ◌+◌, ◌<◌, ◌^◌, [], ◌∷◌, true, Some, map, IfOk};
 ghost use Rattle.std.specs.Option.{option_or};
@@ -26,14 +28,19 @@ use adb_view::{Adb, Arr, Val};
 use base_core::Cause;
 use std::alloc::{AllocError, Global};
 
-/// The fields whose texts stand once, each by its table's number and its place in the table.
+/// The numbers of the fields whose texts stand once: 100 times the number of the table plus that of
+/// the field in it, which counts from 1.
 mod field {
+    // Field 1 of table 4, also for a path that stands in two packages.
     pub(super) const FILE_NAME: u16 = 401;
 
+    // Field 1 of table 5.
     pub(super) const FOLDER_NAME: u16 = 501;
 
+    // Field 1 of table 9: the packages, by their names.
     pub(super) const PACKAGE: u16 = 901;
 
+    // Field 2 of table 10, for the removals too.
     pub(super) const WRITE: u16 = 1002;
 }
 
@@ -54,6 +61,7 @@ pub fn repeated_names(alloc: Global, shaped: &Shaped<'_>) -> Result<Option<Cause
     match shaped.which() {
         Which::Package => in_package(alloc, adb, root),
         Which::Idb => {
+            // The index is IDB_PACKAGES.
             let packages = objects_field(adb, Which::Idb, root, 0, Which::Package);
             in_database(alloc, adb, packages)
         }
@@ -62,7 +70,7 @@ pub fn repeated_names(alloc: Global, shaped: &Shaped<'_>) -> Result<Option<Cause
     }
 }
 
-/// The cause of a pair.
+/// The cause that is reported of a pair, with the number of the field whose texts stand once.
 fn repeated_at(number: u16, pair: Option<Pair>) -> Option<Cause>
     ensures { result ≡ repeated_at number pair }
 {
@@ -76,7 +84,7 @@ fn repeated_at(number: u16, pair: Option<Pair>) -> Option<Cause>
     }
 }
 
-/// Names that stand twice in a package.
+/// The cause that is reported of names that stand twice in a package.
 fn in_package(alloc: Global, adb: Adb<'_>, pkg: Val) -> Result<Option<Cause>, AllocError>
     requires { is_sound (payload_of adb) (Kinds.Obj Tables.Package) pkg ≡ true }
     ensures { IfOk result (λ cause. cause
@@ -96,7 +104,8 @@ fn in_package(alloc: Global, adb: Adb<'_>, pkg: Val) -> Result<Option<Cause>, Al
     }
 }
 
-/// Names that stand twice in the packages of a database, or in two of them.
+/// The cause that is reported of names that stand twice in one of a database's packages, or in two
+/// of them.
 fn in_database(alloc: Global, adb: Adb<'_>, packages: Arr<'_>) -> Result<Option<Cause>, AllocError>
     requires { are_all_sound (payload_of adb) (Kinds.Obj Tables.Package) (array_entries packages)
         ≡ true }
@@ -113,7 +122,7 @@ fn in_database(alloc: Global, adb: Adb<'_>, packages: Arr<'_>) -> Result<Option<
     }
 }
 
-/// Names that stand twice within packages.
+/// The cause that is reported of names that stand twice within one of the packages.
 fn inside_packages(
     alloc: Global,
     adb: Adb<'_>,
@@ -131,7 +140,7 @@ fn inside_packages(
     }
 }
 
-/// Two packages of one name, or one path in two packages.
+/// The cause that is reported of two packages of one name, or of one path in two packages.
 fn between_packages(
     alloc: Global,
     adb: Adb<'_>,
@@ -153,7 +162,8 @@ fn between_packages(
     }
 }
 
-/// Names that stand twice in an intent.
+/// The cause that is reported of names that stand twice in an intent: its removals (index 0)
+/// followed by its writes (index 1), which the tests of the shape keep below 2^32.
 fn in_intent(alloc: Global, adb: Adb<'_>, intent: Val) -> Result<Option<Cause>, AllocError>
     requires sound { is_sound (payload_of adb) (Kinds.Obj Tables.Intent) intent ≡ true }
     requires few { count_of (entries_in
@@ -172,7 +182,7 @@ fn in_intent(alloc: Global, adb: Adb<'_>, intent: Val) -> Result<Option<Cause>, 
     Ok(repeated_at(field::WRITE, first_pair(&mut names)))
 }
 
-/// A folder that stands twice in a package.
+/// The pair of positions at which a package lists one folder.
 fn folder_twice(
     alloc: Global,
     adb: Adb<'_>,
@@ -186,10 +196,11 @@ fn folder_twice(
         (value_at (payload_of adb.entry) (Kinds.Obj Tables.Package) pkg)))) }
     ensures lists { AreListsOf adb.entry Tables.Dir lists.new }
 {
+    // The index is PACKAGE_PATHS.
     lists.twice(alloc, field_word(adb, Which::Package, pkg, 1))
 }
 
-/// A file that stands twice in one of a package's folders.
+/// The first pair of positions at which one of a package's folders lists one file.
 #[tactic(auto, using(crate::proofs::FieldReads::entry_sound))]
 fn file_twice(
     alloc: Global,
@@ -204,6 +215,7 @@ fn file_twice(
         (folders_in (value_at (payload_of adb.entry) (Kinds.Obj Tables.Package) pkg)))) }
     ensures lists { AreListsOf adb.entry Tables.File lists.new }
 {
+    // The index is PACKAGE_PATHS.
     let folders = objects_field(adb, Which::Package, pkg, 1, Which::Dir);
     let mut first = None;
     for i in 0..folders.len() {
@@ -213,7 +225,7 @@ fn file_twice(
     Ok(first)
 }
 
-/// A file that stands twice in a folder.
+/// The pair of positions at which a folder lists one file.
 fn file_twice_in(
     alloc: Global,
     adb: Adb<'_>,
@@ -227,10 +239,11 @@ fn file_twice_in(
         (value_at (payload_of adb.entry) (Kinds.Obj Tables.Dir) folder)))) }
     ensures lists { AreListsOf adb.entry Tables.File lists.new }
 {
+    // The index is DIR_FILES.
     lists.twice(alloc, field_word(adb, Which::Dir, folder, 2))
 }
 
-/// A folder that stands twice in one of the packages.
+/// The first pair of positions at which one of the packages lists one folder.
 #[tactic(auto, using(crate::proofs::FieldReads::entry_sound))]
 fn folders_twice(alloc: Global, adb: Adb<'_>, packages: Arr<'_>) -> Result<Option<Pair>, AllocError>
     requires { are_all_sound (payload_of adb) (Kinds.Obj Tables.Package) (array_entries packages)
@@ -248,7 +261,7 @@ fn folders_twice(alloc: Global, adb: Adb<'_>, packages: Arr<'_>) -> Result<Optio
     Ok(first)
 }
 
-/// A file that stands twice in one of the packages' folders.
+/// The first pair of positions at which a folder of one of the packages lists one file.
 #[tactic(auto, using(crate::proofs::FieldReads::entry_sound))]
 fn files_twice(alloc: Global, adb: Adb<'_>, packages: Arr<'_>) -> Result<Option<Pair>, AllocError>
     requires { are_all_sound (payload_of adb) (Kinds.Obj Tables.Package) (array_entries packages)
@@ -266,7 +279,7 @@ fn files_twice(alloc: Global, adb: Adb<'_>, packages: Arr<'_>) -> Result<Option<
     Ok(first)
 }
 
-/// No repeated name is reported of a value exactly where each stands once.
+/// A law: no repeated name is reported of a value exactly where each stands once.
 pub fn no_name_is_repeated_where_each_stands_once()
     ensures { (which : Which) (value : Plain) → (repeated_fault which value ≡ None)
         ↔ NamesStandOnce which value }

@@ -1,9 +1,11 @@
--- The names below a root that no package may hold.
+-- The reserved names: names below a root under which no database lists a file, so that no change
+-- removes one as a package's file. The rule stands in `docs/formats.md`, "The texts", below the
+-- table.
 use Rattle.std.specs.Prelude.{ℕ, Bool, ◌||◌, List, [], ◌∷◌, ◌++◌, codes, nat_eq}
 use Rattle.std.specs.Str.{bytes_eq}
 use Rattle.std.specs.List.{list_any, starts_with}
 
--- a path is this name, or one below it
+-- whether a path is this name, or one below it
 abbrev pub is_at_or_below : List ℕ → List ℕ → Bool
 is_at_or_below top path = bytes_eq path top || starts_with nat_eq path (top ++ codes "/")
 
@@ -11,19 +13,20 @@ is_at_or_below top path = bytes_eq path top || starts_with nat_eq path (top ++ c
 abbrev pub is_below_any : List (List ℕ) → List ℕ → Bool
 is_below_any tops path = list_any (λ top. is_at_or_below top path) tops
 
--- where a change is prepared, and what is left to do of it
+-- the names where a change keeps itself: its intent, and the folder where new files wait
 abbrev pub intent_and_stage_names : List (List ℕ)
 intent_and_stage_names = codes "lib/apk/intent" ∷ codes "lib/apk/stage" ∷ []
 
--- those, the world and the database
+-- the reserved names: those of a change itself, world, and the folder of the database
 abbrev pub reserved_names : List (List ℕ)
 reserved_names = codes "etc/apk/world" ∷ codes "lib/apk/intent" ∷ codes "lib/apk/stage" ∷
     codes "lib/apk/db" ∷ []
 
--- whether it is the intent's name, or that of the folder where new files wait, or below one
+-- whether a path is the intent's name or that of the folder where new files wait, or lies below one
+-- of them
 abbrev pub is_intent_or_stage_name : List ℕ → Bool
 is_intent_or_stage_name path = is_below_any intent_and_stage_names path
 
--- whether no package may hold the path
+-- whether a path is reserved: one of the reserved names, or below one
 abbrev pub is_reserved : List ℕ → Bool
 is_reserved path = is_below_any reserved_names path

@@ -1,8 +1,9 @@
--- What the code keeps of what stands around a value.
+-- What the code keeps of what stands around a value. Serves the contracts of `src/text_walk.rt`;
+-- what a rule looks at stands in `docs/formats.md`, "The texts" (401, 405, 303).
 use Rattle.adb_rules.specs.Texts as T
 use Rattle.adb_rules.specs.declared.text_walk.Surroundings.{Surroundings}
 
--- what stands around a value, as the definition has it
+-- what stands around a value of the program, as the definition has it
 abbrev pub surroundings_of : Surroundings → T.Surroundings
 surroundings_of around = record {
   root = around.root;

@@ -1,5 +1,7 @@
 //! The rules that look at each byte of a text, and the long texts of a payload that were found to
-//! keep one. Many places may share a text, so a long one is judged once.
+//! keep one. Many places may share a text, so a long one is judged once. Which rules there are
+//! stands in the table of `docs/formats.md`, "The texts"; that each long text is judged once is
+//! what the README of this crate says of `Judged::keeps`.
 
 ghost use Rattle.std.specs.Prelude.{◌≡◌, All, IfOk};
 ghost use Rattle.std.specs.Bool.{OnTrue};
@@ -16,24 +18,34 @@ use std::alloc::{AllocError, Global};
 use std::collections::BTreeSet;
 use version_core::OverlappingVersions;
 
-/// How many bytes a text has at most that is judged at each place where it stands.
+/// How many bytes a text has at most that is not kept: it is judged at each place where it stands,
+/// which takes no memory. Any number gives the same answers.
 const SHORT: usize = 64;
 
-/// A rule that looks at each byte of a text, and at nothing around it.
+/// A rule that looks at each byte of a text, and at nothing around the text; each is named for what
+/// the text has to be.
 #[derive(Clone, Copy, Debug, PartialEq, Eq, PartialOrd, Ord)]
 pub enum TextRule {
+    /// A dependency's name (field 101).
     DependencyName,
+    /// A package's name (301).
     PackageName,
+    /// A version (302).
     Version,
+    /// Empty, or a version (102).
     VersionOrEmpty,
+    /// A path below the root (1001, 1002).
     Name,
+    /// Empty, or a path (501).
     FolderName,
+    /// One part of a path (401).
     OnePart,
+    /// Empty, or a link's target (406).
     Target,
 }
 
 impl TextRule {
-    /// Whether a text keeps it.
+    /// Whether a text keeps this rule.
     fn is_kept_by(self, text: &[u8]) -> bool
         ensures { result ≡ keeps_text_rule self text.now }
     {
@@ -53,15 +65,18 @@ impl TextRule {
 /// A payload, and the words of its long texts that were found to keep a rule, each with the rule.
 #[derive(Drop)]
 pub struct Judged<'a> {
+    /// The opened payload.
     adb: Adb<'a>,
+    /// Each rule with the words of the long texts that keep it.
     good: BTreeSet<(TextRule, u32)>,
+    /// The bytes of the payload, with the leaps over versions in it.
     versions: OverlappingVersions<'a>,
     ghost kept: { All (KeepsTextRule (payload_of adb)) good.keys },
     ghost same: { versions ≡ payload_of adb },
 }
 
 impl<'a> Judged<'a> {
-    /// Nothing is known of a payload's texts.
+    /// A payload of whose texts nothing is known yet.
     pub fn new(alloc: Global, adb: Adb<'a>) -> Judged<'a>
         ensures { result.adb ≡ adb.entry }
     {
@@ -72,7 +87,7 @@ impl<'a> Judged<'a> {
         }
     }
 
-    /// The payload.
+    /// The opened payload whose texts are judged.
     pub fn adb(&self) -> Adb<'a>
         ensures { result ≡ self.now.adb }
     {
@@ -107,8 +122,8 @@ impl<'a> Judged<'a> {
         self.good.contains(&(rule, word.word()))
     }
 
-    /// The same of a text that is judged here. A version has no limit of length, and many may
-    /// overlap.
+    /// Whether a long text, which is the text of a word, keeps a rule, judged here. A version has
+    /// no limit of length, and many may overlap.
     fn long_text_keeps(
         &mut self,
         rule: TextRule,

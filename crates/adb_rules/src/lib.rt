@@ -2,9 +2,11 @@
 //! walk that tests them.
 //!
 //! `check_texts` tests each text and number of a walked payload against the rule of its field.
-//! `is_reserved` and its like say which names below a root no package may hold. The contracts cite
-//! `Rules` and `Reserved` (what a text has to be) and `Texts` (the rule of each field, and the
-//! first that is broken).
+//! `is_reserved` and its like say under which names below a root no database lists a file. The
+//! contracts cite `Rules` and `Reserved` (what a text has to be) and `Texts` (the rule of each
+//! field, and the first that is broken).
+//!
+//! The rules stand in `docs/formats.md`, "The texts".
 #![tactic(auto)]
 
 mod judged;

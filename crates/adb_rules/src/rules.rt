@@ -1,5 +1,6 @@
 //! What single texts of a container have to be (apk-v3(5), apk-package(5)), and the names below a
-//! root that no package may hold.
+//! root under which no database lists a file. The rules stand in `docs/formats.md`, "The texts":
+//! its table, and the paragraph on reserved names below it.
 
 ghost use Rattle.std.specs.Prelude.{◌≡◌, ◌==◌, nat_le, length, ◌∷◌};
 ghost use Rattle.std.specs.Str.{is_utf8};
@@ -14,13 +15,13 @@ use base_core::is_name;
 use std::str;
 use version_core::{Op, Version};
 
-/// The most bytes that a path has.
+/// The most bytes that a path has (`docs/commands.md`, "Words").
 const MOST: usize = 1024;
 
 /// The first two bytes of the text of a link: the type of a symbolic link, 0xa000, little-endian.
 const LINK: [u8; 2] = [0x00, 0xa0];
 
-/// How an index names its packages' files.
+/// How an index names its packages' files: the one pattern that is known (803).
 const NAME_PATTERN: &[u8] = b"${name}-${version}.apk";
 
 /// Whether so many bytes are a SHA-1, a SHA-256 or a SHA-512.
@@ -141,8 +142,8 @@ pub(crate) fn is_name_pattern(pattern: &[u8]) -> bool
     pattern.is_empty() || pattern == NAME_PATTERN
 }
 
-/// Whether a path is one where a change is prepared, or what is left to do of it is kept:
-/// `lib/apk/intent`, `lib/apk/stage`, or a name below one of them.
+/// Whether a path is one where a change keeps itself, prepared or published: `lib/apk/intent`,
+/// `lib/apk/stage`, or a name below one of them.
 pub fn is_intent_or_stage_name(path: &[u8]) -> bool
     ensures { result ≡ is_intent_or_stage_name path.now }
 {
@@ -180,7 +181,8 @@ fn is_at_or_below(top: &[u8], path: &[u8]) -> bool
     }
 }
 
-/// The same of a file's path, whose parts are not joined.
+/// Whether the path of this file of this folder is a name, or one below it; the two parts are not
+/// joined.
 fn is_file_at_or_below(top: &[u8], folder: &[u8], name: &[u8]) -> bool
     ensures { result ≡ is_at_or_below top.now (path_of folder.now name.now) }
 {
@@ -193,7 +195,8 @@ fn is_file_at_or_below(top: &[u8], folder: &[u8], name: &[u8]) -> bool
     }
 }
 
-/// The same of a name behind a slash.
+/// Whether a slash and a name are at or below `top`, which is what is left of a name behind a
+/// folder.
 fn is_at_or_below_slash(top: &[u8], name: &[u8]) -> bool
     ensures { result ≡ is_at_or_below top.now (47 ∷ name.now) }
 {

@@ -1,4 +1,7 @@
-//! The text walk: each number and text of a walked payload, against the rule of its field.
+//! The text walk: each number and text of a walked payload, against the rule of its field. The
+//! order and the rules stand in `docs/formats.md`, "The texts". The indices of fields that are
+//! named here are those of `FieldIndexes` of `adb_tables`. Each call that is lent a `Judged` leaves
+//! its payload the same (clause `payload`), so that what is known of its words stays true.
 
 ghost use Rattle.std.specs.Prelude.{ℕ, List, ◌↔◌, None, ◌≡◌, ◌==◌, ◌*◌, true, false, length, ◌+◌, ◌<◌, ◌≤◌, ◌^◌, IfOk, [], ◌∷◌};
 ghost use Rattle.std.specs.Bool.{OnTrue};
@@ -34,32 +37,45 @@ use base_core::Cause;
 use std::alloc::{AllocError, Global};
 
 /// The numbers of the fields that have a rule: 100 times the number of the table plus that of the
-/// field.
+/// field in it, which counts from 1 (`docs/formats.md`, "Schemas").
 mod field_number {
+    // A dependency's name.
     pub(crate) const DEP_NAME: u16 = 101;
 
+    // A dependency's version.
     pub(crate) const DEP_VERSION: u16 = 102;
 
+    // A dependency's match number.
     pub(crate) const DEP_MATCH: u16 = 103;
 
+    // A package's name.
     pub(crate) const PKGINFO_NAME: u16 = 301;
 
+    // A package's version.
     pub(crate) const PKGINFO_VERSION: u16 = 302;
 
+    // A package's hash.
     pub(crate) const PKGINFO_HASHES: u16 = 303;
 
+    // A file's name.
     pub(crate) const FILE_NAME: u16 = 401;
 
+    // A file's hash.
     pub(crate) const FILE_HASHES: u16 = 405;
 
+    // A file's target.
     pub(crate) const FILE_TARGET: u16 = 406;
 
+    // A folder's name.
     pub(crate) const DIR_NAME: u16 = 501;
 
+    // How an index names its packages' files.
     pub(crate) const INDEX_PKGNAME_SPEC: u16 = 803;
 
+    // The names that a change removes.
     pub(crate) const INTENT_REMOVALS: u16 = 1001;
 
+    // The names that a change writes.
     pub(crate) const INTENT_WRITES: u16 = 1002;
 }
 
@@ -75,7 +91,7 @@ pub(crate) struct Surroundings<'a> {
 }
 
 impl<'a> Surroundings<'a> {
-    /// What stands around the root.
+    /// What stands around the root of a container: no folder and no file.
     pub(crate) fn at_root(root: Which) -> Surroundings<'a>
         ensures { surroundings_of result ≡ at_root root }
     {
@@ -86,7 +102,7 @@ impl<'a> Surroundings<'a> {
         }
     }
 
-    /// What stands around the fields of an object.
+    /// What stands around the fields of an object, by what stands around the object.
     pub(crate) fn inside(&self, adb: Adb<'a>, which: Which, object: Val) -> Surroundings<'a>
         requires { is_sound (payload_of adb) (Kinds.Obj which) object ≡ true }
         ensures { surroundings_of result
@@ -96,6 +112,7 @@ impl<'a> Surroundings<'a> {
         match which {
             Which::Dir => Surroundings {
                 root: self.root,
+                // The index is DIR_NAME.
                 folder: text_field(adb, Which::Dir, object, 0),
                 has_contents: self.has_contents,
             },
@@ -155,11 +172,13 @@ fn has_contents(adb: Adb<'_>, file: Val) -> bool
     ensures { result
         ≡ is_with_contents (value_at (payload_of adb.entry) (Kinds.Obj Tables.File) file) }
 {
+    // The indices are FILE_TARGET and FILE_SIZE.
     let target = text_field(adb, Which::File, file, 5);
     target.is_empty() && int_field(adb, Which::File, file, 2) > 0
 }
 
-/// Whether the number keeps the rule of its field.
+/// Whether a number keeps the rule of the field with this number; only the match of a dependency
+/// has one.
 pub(crate) fn keeps_number_rule(field_number: u16, n: u64) -> bool
     ensures { result ≡ number_rule field_number n }
 {
@@ -169,7 +188,8 @@ pub(crate) fn keeps_number_rule(field_number: u16, n: u64) -> bool
     }
 }
 
-/// Whether the text of a word keeps the rule of its field.
+/// Whether the text of a word keeps the rule of the field with this number; a field that is not
+/// named here has none.
 #[tactic(auto, unfolding(crate::specs::Texts::text_rule))]
 fn keeps_rule_of_field(
     judged: &mut Judged<'_>,
@@ -327,7 +347,8 @@ fn is_same_as_before(entries: Arr<'_>, i: usize) -> bool
     entry_word(entries, i - 1).word() == entry_word(entries, i).word()
 }
 
-/// Checks the fields of an object, each of those of its table that has a rule.
+/// Checks the fields of an object, each of those of its table that has a rule or fields with one
+/// below it.
 #[cycle(check)]
 fn check_fields<'a>(
     adb: Adb<'a>,
@@ -379,6 +400,7 @@ fn has_rule_below(which: Which) -> bool
     ensures { result ≡ false → (field_number : ℕ) → TakesEachValue (Kinds.Obj which) field_number }
 {
     match which {
+        // No field of these two tables has a rule.
         Which::Acl => false,
         Which::Scripts => false,
         _ => true,
@@ -407,7 +429,7 @@ fn has_text_rule(field_number: u16) -> bool
     )
 }
 
-/// The number of the field, if the number breaks its rule.
+/// Checks a number, and answers the number of its field if it breaks the rule.
 fn check_number(field_number: u16, n: u64) -> Option<u16>
     ensures { bad_text_at result ≡ first_bad (number_leaf field_number n ∷ []) }
 {
@@ -418,7 +440,7 @@ fn check_number(field_number: u16, n: u64) -> Option<u16>
     }
 }
 
-/// The same of a text.
+/// Checks the text of a word, and answers the number of its field if it breaks the rule.
 fn check_text(
     judged: &mut Judged<'_>,
     field_number: u16,
@@ -445,14 +467,15 @@ pub fn the_first_bad_text_is_reported()
         → IsFirstBadOf (leaves_of which value) (text_fault which value) }
 {}
 
-/// No text or number of a value is bad exactly where each keeps the rule of its field, table by
-/// table.
+/// A law: no text or number of a value is bad exactly where each keeps the rule of its field, table
+/// by table.
 pub fn no_text_is_bad_where_each_keeps_its_rule()
     ensures { (which : Which) (value : Plain) → (text_fault which value ≡ None)
         ↔ KeepsRules which value }
 {}
 
-/// Each entry of a list keeps the rule that the list keeps. Entries count from 0.
+/// A law: each entry of a list keeps the rule that all entries of the list keep. Entries count from
+/// 0.
 pub fn entries_keep_the_rule_of_their_list()
     ensures dependency { (list : Plain) (i : ℕ)
         → Each IsSoundDependency (entries_in list) → i < count_of (entries_in list)

@@ -1,13 +1,14 @@
--- What a checked payload shows.
+-- What a checked payload shows. Serves the contracts of `Checked`; the tests stand in
+-- `docs/formats.md`, "Tests of a container".
 use Rattle.adb_view.specs.Plain.{Plain}
 use Rattle.adb_tables.specs.Shaped.{table_of, shaped_value}
 use Rattle.adb_tables.specs.declared.tables.Which.{Which}
 use Rattle.adb_schema.specs.declared.checked.Checked.{Checked}
 
--- the table at the root of a tested payload
+-- the table at the root of a checked payload
 abbrev pub which_of : Checked → Which
 which_of checked = table_of checked.shaped
 
--- the value of a tested payload
+-- the plain value of the root of a checked payload
 abbrev pub checked_value : Checked → Plain
 checked_value checked = shaped_value checked.shaped

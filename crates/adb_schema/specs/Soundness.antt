@@ -1,4 +1,6 @@
--- The first failed test of a whole container, in the order of the tests.
+-- The first failed test of a whole container, in the order of the tests. The order stands in
+-- `docs/formats.md`, "Tests of a container"; what is tested behind the first block, in "The other
+-- blocks" ("Outside of a package no block may hold contents").
 use Rattle.std.specs.Prelude.{ℕ, List, [], take, drop, length, Bool, false, nat_lt, ◌==◌, if◌then◌else◌, Option, Some, None, Result, Ok, Err}
 use Rattle.std.specs.Option.{option_or}
 use Rattle.std.specs.Int.{w32, from_le_bytes}
@@ -21,7 +23,8 @@ use Rattle.adb_tables.specs.declared.tables.Which.TheVariants.{Package, Index, I
 use Rattle.adb_tables.specs.declared.tables.Kind.TheVariants.{Obj}
 use Rattle.adb_schema.specs.declared.read.TheConstants.{PACKAGE_WORD, INDEX_WORD, IDB_WORD, INTENT_WORD}
 
--- the schema in the header of a container with this table at its root; other tables are none's root
+-- the schema in the header of a container with this table at its root; the other six tables are no
+-- root
 abbrev pub schema_word : Which → Option ℕ
 schema_word Package = Some PACKAGE_WORD
 schema_word Index = Some INDEX_WORD
@@ -31,11 +34,11 @@ schema_word which = None
 
 -- ---- the first block
 
--- the value of a payload with this table at its root
+-- the plain value of a payload with this table at its root
 abbrev pub root_value : Which → List ℕ → Plain
 root_value which payload = value_at payload (Obj which) (root_of payload)
 
--- the head, the shape, the texts, and names that stand twice
+-- the first fault of a payload: of its head, its shape, its texts, or a name that stands twice
 abbrev pub payload_fault : Which → List ℕ → Option Cause
 payload_fault which payload =
     option_or (head_fault payload)
@@ -45,61 +48,65 @@ payload_fault which payload =
 
 -- ---- what stands behind it
 
--- the two numbers that contents begin with: the positions of the folder and of the file in it
+-- the two numbers that contents begin with: the positions of the folder and of the file in it,
+-- which count from 1
 abbrev pub file_pair : List ℕ → ℕ × ℕ
 file_pair payload = (
   from_le_bytes w32 (take 4 payload),
   from_le_bytes w32 (take 4 (drop 4 payload)),
 )
 
--- contents where none are due
+-- the cause of contents that stand where none are due: they are too short for their two numbers (8
+-- bytes), or they are those of a file where 0.0, which is none, was expected
 abbrev pub undue_contents : List ℕ → ℕ → Cause
 undue_contents payload at = if nat_lt (length payload) 8 then Truncated at
     else DataOrder (0, 0) (file_pair payload)
 
--- contents are a fault in a container without files; any other block is none
+-- why a block may not stand behind the first in a container without files: contents may not, others
+-- may
 abbrev pub block_fault : BlockKind → List ℕ → ℕ → Option Cause
 block_fault Contents payload at = Some (undue_contents payload at)
 block_fault kind payload at = None
 
--- the framing of each further block, and that it holds no contents
+-- the first fault of the blocks behind the first: of their framing, or contents
 unfoldable pub further_fault : Reading → Option Cause
 further_fault done = None
 further_fault (fault c) = Some c
 further_fault (more b at r) = option_or (block_fault b.kind b.payload at) (further_fault r)
 
--- a package may have contents, which are a test of their own
+-- the first fault of the blocks behind the first; of a package they are tested by `pkg_core`,
+-- against the files that it lists
 abbrev pub rest_fault : Which → Reading → Option Cause
 rest_fault Package r = None
 rest_fault which r = further_fault r
 
 -- ---- all tests in order
 
--- whether the schema is the one that the table has, if it has one
+-- whether a file's schema is the one of the table, if the table has one
 abbrev pub is_schema_wanted : Option ℕ → ℕ → Bool
 is_schema_wanted (Some word) schema = word == schema
 is_schema_wanted None schema = false
 
--- the fault of a container with another schema
+-- the fault of a file whose schema is not the one of the table; None where it is
 abbrev pub schema_fault : Which → ℕ → Option Cause
 schema_fault which schema = if is_schema_wanted (schema_word which) schema then None
     else Some (WrongSchema schema)
 
--- the first block, and by its value what stands behind it
+-- the first fault of a reading: of the first block, or, by its value, of what stands behind it
 abbrev pub blocks_fault : (Plain → Reading → Option Cause) → Which → Reading → Option Cause
 blocks_fault rest which done = None
 blocks_fault rest which (fault c) = Some c
 blocks_fault rest which (more b at r) = option_or (payload_fault which b.payload)
     (rest (root_value which b.payload) r)
 
--- the first fault of a file by its header: of that, of its schema, or of its blocks
+-- the first fault of a file by what its header says: of the header, of the schema, or of the blocks
 abbrev pub file_fault : (Plain → Reading → Option Cause) → Which → List ℕ → Result ℕ Cause
     → Option Cause
 file_fault rest which file (Err c) = Some c
 file_fault rest which file (Ok schema) = option_or (schema_fault which schema)
     (blocks_fault rest which (reading_of (start_of schema file)))
 
--- with a test of what stands behind the first block
+-- the first fault of a file, where `rest` tests what stands behind the first block
 abbrev pub fault_with : (Plain → Reading → Option Cause) → Which → List ℕ → Option Cause
 fault_with rest which file = file_fault rest which file (header_of file)
 
@@ -110,17 +117,17 @@ first_fault which file = fault_with (λ v r. rest_fault which r) which file
 
 -- ---- what is read
 
--- the payload of the first block; none where there is no block
+-- the payload of the first block of a reading; empty where there is no block
 abbrev pub first_payload : Reading → List ℕ
 first_payload done = []
 first_payload (fault c) = []
 first_payload (more b at r) = b.payload
 
--- the payload behind a header that was read
+-- the payload of the first block behind a header that was read; empty where the header has a fault
 abbrev pub payload_behind : List ℕ → Result ℕ Cause → List ℕ
 payload_behind file (Ok schema) = first_payload (reading_of (start_of schema file))
 payload_behind file (Err c) = []
 
--- the payload of a file's first block
+-- the payload of the first block of a file; empty where it has none
 unfoldable pub payload_in : List ℕ → List ℕ
 payload_in file = payload_behind file (header_of file)

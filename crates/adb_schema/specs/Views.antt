@@ -1,4 +1,5 @@
--- The plain value that each view shows.
+-- The plain value that each view shows. Serves the contracts of the views, whose methods are the
+-- fields of `docs/formats.md`, "Schemas".
 use Rattle.adb_view.specs.Plain.{Plain}
 use Rattle.adb_view.specs.Adb.{payload_of}
 use Rattle.adb_tables.specs.Values.{value_at}
@@ -19,38 +20,38 @@ use Rattle.adb_schema.specs.declared.checked.IntentView.{IntentView}
 abbrev pub dependency_value : DepView → Plain
 dependency_value view = value_at (payload_of view.adb) (Obj Which.Dep) view.word
 
--- what a view of an access list shows
+-- what a view of an access list shows: the plain value of its word
 abbrev pub acl_value : AclView → Plain
 acl_value view = value_at (payload_of view.adb) (Obj Which.Acl) view.word
 
--- of a package's information
+-- what a view of a package's information shows: the plain value of its word
 abbrev pub info_value : PkgInfo → Plain
 info_value view = value_at (payload_of view.adb) (Obj Which.PkgInfo) view.word
 
--- of a file
+-- what a view of a file shows: the plain value of its word
 abbrev pub file_value : FileInfo → Plain
 file_value view = value_at (payload_of view.adb) (Obj Which.File) view.word
 
--- of a folder
+-- what a view of a folder shows: the plain value of its word
 abbrev pub dir_value : DirInfo → Plain
 dir_value view = value_at (payload_of view.adb) (Obj Which.Dir) view.word
 
--- of a package's scripts
+-- what a view of a package's scripts shows: the plain value of its word
 abbrev pub scripts_value : ScriptsView → Plain
 scripts_value view = value_at (payload_of view.adb) (Obj Which.Scripts) view.word
 
--- of a package
+-- what a view of a package shows: the plain value of its word
 abbrev pub package_value : PackageView → Plain
 package_value view = value_at (payload_of view.adb) (Obj Which.Package) view.word
 
--- of an index
+-- what a view of an index shows: the plain value of its word
 abbrev pub index_value : IndexView → Plain
 index_value view = value_at (payload_of view.adb) (Obj Which.Index) view.word
 
--- of an installed database
+-- what a view of an installed database shows: the plain value of its word
 abbrev pub idb_value : IdbView → Plain
 idb_value view = value_at (payload_of view.adb) (Obj Which.Idb) view.word
 
--- of an intent
+-- what a view of an intent shows: the plain value of its word
 abbrev pub intent_value : IntentView → Plain
 intent_value view = value_at (payload_of view.adb) (Obj Which.Intent) view.word

@@ -1,4 +1,8 @@
-//! A checked payload, the four views of its root.
+//! A checked payload, and the four views of its root. The tests stand in `docs/formats.md`, "The
+//! texts"; the fields of the roots in "Schemas", tables 7 to 10. A clause has a field's index,
+//! which counts from 0; its number, by which the document and causes name the field, is one more.
+//! In the clauses of `Checked::new` `bad` says which cause a refusal has, and `sound` that no text
+//! is bad.
 
 ghost use Rattle.std.specs.Prelude.{◌≡◌, true, is_none, None, IfErr, IfOk};
 ghost use Rattle.adb_view.specs.Adb.{payload_of};
@@ -53,7 +57,7 @@ impl<'a> Checked<'a> {
         }
     }
 
-    /// The payload as it was walked.
+    /// The payload as it was walked, before its texts were tested.
     pub(crate) fn shaped(&self) -> Shaped<'a>
         ensures { result ≡ self.now.shaped }
     {
@@ -105,7 +109,7 @@ impl<'a> Checked<'a> {
     }
 }
 
-/// An index of packages, each of whose texts keeps the rule of its field.
+/// A view of an index of packages (table 8), each of whose texts keeps the rule of its field.
 #[derive(Clone, Copy)]
 pub struct IndexView<'a> {
     adb: Adb<'a>,
@@ -121,7 +125,7 @@ impl<'a> IndexView<'a> {
     ghost use Rattle.adb_schema.specs.Views.{index_value};
     ghost use Rattle.adb_fields.specs.ListValue.{list_value};
 
-    /// The index of a word, whose texts keep their rules.
+    /// The view of a word that is an index whose texts keep their rules.
     pub fn of(adb: Adb<'a>, word: Val) -> IndexView<'a>
         requires sound { is_sound (payload_of adb) (Kinds.Obj Tables.Index) word ≡ true }
         requires texts { is_none (text_fault Tables.Index
@@ -143,14 +147,14 @@ impl<'a> IndexView<'a> {
         no_text_is_bad_where_each_keeps_its_rule();
     }
 
-    /// The payload that it is read from.
+    /// The payload that the index is read from.
     pub fn adb(&self) -> Adb<'a>
         ensures { result ≡ self.now.adb }
     {
         self.adb
     }
 
-    /// Its word in the payload.
+    /// The word of the index in the payload.
     pub fn word(&self) -> Val
         ensures is { result ≡ self.now.word }
         ensures sound { is_sound (payload_of self.now.adb) (Kinds.Obj Tables.Index) result
@@ -159,14 +163,14 @@ impl<'a> IndexView<'a> {
         Val::of(self.word)
     }
 
-    /// What the index is.
+    /// What the index says of itself.
     pub fn description(&self) -> &'a [u8]
         ensures { result.now ≡ text_in (entry_in (index_value self.now) 0) }
     {
         text_field(self.adb, Which::Index, Val::of(self.word), 0)
     }
 
-    /// Its packages.
+    /// The packages of the index, by their information.
     pub fn packages(&self) -> List<'a, PkgInfo<'a>>
         ensures { list_value result ≡ entry_in (index_value self.now) 1 }
     {
@@ -180,7 +184,7 @@ impl<'a> IndexView<'a> {
         List::of(self.adb, entries)
     }
 
-    /// How a package's file is named.
+    /// How the files of its packages are named: empty, or `${name}-${version}.apk`.
     pub fn pkgname_spec(&self) -> &'a [u8]
         ensures { result.now ≡ text_in (entry_in (index_value self.now) 2) }
     {
@@ -188,7 +192,7 @@ impl<'a> IndexView<'a> {
     }
 }
 
-/// An installed database.
+/// A view of an installed database (table 9).
 #[derive(Clone, Copy)]
 pub struct IdbView<'a> {
     adb: Adb<'a>,
@@ -203,6 +207,7 @@ impl<'a> Kinded for IdbView<'a> {
 impl<'a> View<'a> for IdbView<'a> {
     ghost shows = { λ view. value_at (payload_of view.adb) (Kinds.Obj Tables.Idb) view.word };
 
+    // The view of a word that is sound as a database.
     fn of(adb: Adb<'a>, word: Val) -> IdbView<'a> {
         IdbView { adb, word }
     }
@@ -213,7 +218,7 @@ impl<'a> IdbView<'a> {
     ghost use Rattle.adb_schema.specs.Views.{idb_value};
     ghost use Rattle.adb_fields.specs.ListValue.{list_value};
 
-    /// The packages that are installed.
+    /// The packages that are installed, in their order.
     pub fn packages(&self) -> List<'a, PackageView<'a>>
         ensures { list_value result ≡ entry_in (idb_value self.now) 0 }
     {
@@ -222,7 +227,7 @@ impl<'a> IdbView<'a> {
     }
 }
 
-/// What a change is about to remove and to write.
+/// A view of an intent (table 10): what a change is about to remove and to write.
 #[derive(Clone, Copy)]
 pub struct IntentView<'a> {
     adb: Adb<'a>,
@@ -237,6 +242,7 @@ impl<'a> Kinded for IntentView<'a> {
 impl<'a> View<'a> for IntentView<'a> {
     ghost shows = { λ view. value_at (payload_of view.adb) (Kinds.Obj Tables.Intent) view.word };
 
+    // The view of a word that is sound as an intent.
     fn of(adb: Adb<'a>, word: Val) -> IntentView<'a> {
         IntentView { adb, word }
     }

@@ -5,6 +5,8 @@
 //! stand twice, and `read_adb` reads a file through all of them. The contracts cite `Soundness`
 //! (the first failed test of a file), `Views` (the plain value that a view shows) and `Checked`,
 //! and the definitions of `adb_tables`, `adb_fields` and `adb_rules` below.
+//!
+//! The rules stand in `docs/formats.md`, "Tests of a container", and the fields in "Schemas".
 #![tactic(auto)]
 
 mod checked;

@@ -1,4 +1,6 @@
-//! Views of a package: its folders, its files, their rights, and its scripts.
+//! Views of a package: its folders, its files, their rights, and its scripts. The fields stand in
+//! `docs/formats.md`, "Schemas", tables 2 and 4 to 7. A clause has a field's index, which counts
+//! from 0; its number, by which the document and causes name the field, is one more.
 
 ghost use Rattle.std.specs.Prelude.{◌≡◌, true};
 ghost use Rattle.adb_view.specs.Adb.{payload_of};
@@ -13,7 +15,7 @@ use adb_fields::{
 use adb_tables::Which;
 use adb_view::{Adb, Val};
 
-/// Who may do what with a file or a folder.
+/// A view of an access list (table 2): whose a file or a folder is, and its mode.
 #[derive(Clone, Copy)]
 pub struct AclView<'a> {
     adb: Adb<'a>,
@@ -28,6 +30,7 @@ impl<'a> Kinded for AclView<'a> {
 impl<'a> View<'a> for AclView<'a> {
     ghost shows = { λ view. value_at (payload_of view.adb) (Kinds.Obj Tables.Acl) view.word };
 
+    // The view of a word that is sound as an access list.
     fn of(adb: Adb<'a>, word: Val) -> AclView<'a> {
         AclView { adb, word }
     }
@@ -38,28 +41,28 @@ impl<'a> AclView<'a> {
     ghost use Rattle.adb_schema.specs.Views.{acl_value};
     ghost use Rattle.adb_fields.specs.ListValue.{list_value};
 
-    /// The mode bits.
+    /// The mode bits, as a number.
     pub fn mode(&self) -> u64
         ensures { result ≡ int_in (entry_in (acl_value self.now) 0) }
     {
         int_field(self.adb, Which::Acl, self.word, 0)
     }
 
-    /// The owner's name.
+    /// The name, or the number as a text, of the user whose the file or folder is.
     pub fn user(&self) -> &'a [u8]
         ensures { result.now ≡ text_in (entry_in (acl_value self.now) 1) }
     {
         text_field(self.adb, Which::Acl, self.word, 1)
     }
 
-    /// The group's name.
+    /// The name, or the number as a text, of the group whose the file or folder is.
     pub fn group(&self) -> &'a [u8]
         ensures { result.now ≡ text_in (entry_in (acl_value self.now) 2) }
     {
         text_field(self.adb, Which::Acl, self.word, 2)
     }
 
-    /// The extended attributes.
+    /// The extended attributes; they are kept, and no command acts on them.
     pub fn xattrs(&self) -> List<'a, &'a [u8]>
         ensures { list_value result ≡ entry_in (acl_value self.now) 3 }
     {
@@ -67,7 +70,7 @@ impl<'a> AclView<'a> {
     }
 }
 
-/// A file of a folder.
+/// A view of a file of a folder (table 4).
 #[derive(Clone, Copy)]
 pub struct FileInfo<'a> {
     adb: Adb<'a>,
@@ -82,6 +85,7 @@ impl<'a> Kinded for FileInfo<'a> {
 impl<'a> View<'a> for FileInfo<'a> {
     ghost shows = { λ view. value_at (payload_of view.adb) (Kinds.Obj Tables.File) view.word };
 
+    // The view of a word that is sound as a file.
     fn of(adb: Adb<'a>, word: Val) -> FileInfo<'a> {
         FileInfo { adb, word }
     }
@@ -91,35 +95,36 @@ impl<'a> FileInfo<'a> {
     ghost use Rattle.adb_tables.specs.Values.{entry_in, int_in, text_in};
     ghost use Rattle.adb_schema.specs.Views.{acl_value, file_value};
 
-    /// The file's name in its folder.
+    /// The name of the file: one part of a path, in its folder.
     pub fn name(&self) -> &'a [u8]
         ensures { result.now ≡ text_in (entry_in (file_value self.now) 0) }
     {
         text_field(self.adb, Which::File, self.word, 0)
     }
 
-    /// The file's owner and mode.
+    /// The access list of the file: whose it is, and its mode.
     pub fn acl(&self) -> AclView<'a>
         ensures { acl_value result ≡ entry_in (file_value self.now) 1 }
     {
         AclView::of(self.adb, field_word(self.adb, Which::File, self.word, 1))
     }
 
-    /// Its size in bytes.
+    /// The size of the file in bytes.
     pub fn size(&self) -> u64
         ensures { result ≡ int_in (entry_in (file_value self.now) 2) }
     {
         int_field(self.adb, Which::File, self.word, 2)
     }
 
-    /// When it was changed, in seconds since 1970.
+    /// When the file was changed, in seconds since 1970.
     pub fn mtime(&self) -> u64
         ensures { result ≡ int_in (entry_in (file_value self.now) 3) }
     {
         int_field(self.adb, Which::File, self.word, 3)
     }
 
-    /// The digest of its bytes.
+    /// The digest of the file's bytes: SHA-1, SHA-256 or SHA-512 by its length; empty where none is
+    /// known.
     pub fn hashes(&self) -> &'a [u8]
         ensures { result.now ≡ text_in (entry_in (file_value self.now) 4) }
     {
@@ -142,7 +147,7 @@ impl<'a> FileInfo<'a> {
     }
 }
 
-/// A folder of a package.
+/// A view of a folder of a package (table 5).
 #[derive(Clone, Copy)]
 pub struct DirInfo<'a> {
     adb: Adb<'a>,
@@ -157,6 +162,7 @@ impl<'a> Kinded for DirInfo<'a> {
 impl<'a> View<'a> for DirInfo<'a> {
     ghost shows = { λ view. value_at (payload_of view.adb) (Kinds.Obj Tables.Dir) view.word };
 
+    // The view of a word that is sound as a folder.
     fn of(adb: Adb<'a>, word: Val) -> DirInfo<'a> {
         DirInfo { adb, word }
     }
@@ -174,14 +180,14 @@ impl<'a> DirInfo<'a> {
         text_field(self.adb, Which::Dir, self.word, 0)
     }
 
-    /// The folder's owner and mode.
+    /// The access list of the folder: whose it is, and its mode.
     pub fn acl(&self) -> AclView<'a>
         ensures { acl_value result ≡ entry_in (dir_value self.now) 1 }
     {
         AclView::of(self.adb, field_word(self.adb, Which::Dir, self.word, 1))
     }
 
-    /// Its files.
+    /// The files of the folder, in their order.
     pub fn files(&self) -> List<'a, FileInfo<'a>>
         ensures { list_value result ≡ entry_in (dir_value self.now) 2 }
     {
@@ -190,7 +196,8 @@ impl<'a> DirInfo<'a> {
     }
 }
 
-/// A package's scripts.
+/// A view of a package's scripts (table 6). Each is the text of a script, empty where there is
+/// none; `docs/commands.md`, "`add` and `del`", says which would run in a change.
 #[derive(Clone, Copy)]
 pub struct ScriptsView<'a> {
     adb: Adb<'a>,
@@ -205,6 +212,7 @@ impl<'a> Kinded for ScriptsView<'a> {
 impl<'a> View<'a> for ScriptsView<'a> {
     ghost shows = { λ view. value_at (payload_of view.adb) (Kinds.Obj Tables.Scripts) view.word };
 
+    // The view of a word that is sound as scripts.
     fn of(adb: Adb<'a>, word: Val) -> ScriptsView<'a> {
         ScriptsView { adb, word }
     }
@@ -264,7 +272,7 @@ impl<'a> ScriptsView<'a> {
     }
 }
 
-/// A package.
+/// A view of a package (table 7).
 #[derive(Clone, Copy)]
 pub struct PackageView<'a> {
     adb: Adb<'a>,
@@ -279,6 +287,7 @@ impl<'a> Kinded for PackageView<'a> {
 impl<'a> View<'a> for PackageView<'a> {
     ghost shows = { λ view. value_at (payload_of view.adb) (Kinds.Obj Tables.Package) view.word };
 
+    // The view of a word that is sound as a package.
     fn of(adb: Adb<'a>, word: Val) -> PackageView<'a> {
         PackageView { adb, word }
     }
@@ -289,14 +298,14 @@ impl<'a> PackageView<'a> {
     ghost use Rattle.adb_schema.specs.Views.{info_value, package_value, scripts_value};
     ghost use Rattle.adb_fields.specs.ListValue.{list_value};
 
-    /// The payload that it is read from.
+    /// The payload that the package is read from.
     pub fn adb(&self) -> Adb<'a>
         ensures { result ≡ self.now.adb }
     {
         self.adb
     }
 
-    /// Its word in the payload.
+    /// The word of the package in the payload.
     pub fn word(&self) -> Val
         ensures is { result ≡ self.now.word }
         ensures sound { is_sound (payload_of self.now.adb) (Kinds.Obj Tables.Package) result
@@ -305,14 +314,14 @@ impl<'a> PackageView<'a> {
         self.word
     }
 
-    /// Its information.
+    /// The information of the package.
     pub fn info(&self) -> PkgInfo<'a>
         ensures { info_value result ≡ entry_in (package_value self.now) 0 }
     {
         PkgInfo::of(self.adb, field_word(self.adb, Which::Package, self.word, 0))
     }
 
-    /// Its folders, with their files.
+    /// The folders of the package, with their files.
     pub fn paths(&self) -> List<'a, DirInfo<'a>>
         ensures { list_value result ≡ entry_in (package_value self.now) 1 }
     {
@@ -320,7 +329,7 @@ impl<'a> PackageView<'a> {
         List::of(self.adb, entries)
     }
 
-    /// Its scripts.
+    /// The scripts of the package.
     pub fn scripts(&self) -> ScriptsView<'a>
         ensures { scripts_value result ≡ entry_in (package_value self.now) 2 }
     {

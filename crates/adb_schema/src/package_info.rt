@@ -1,4 +1,6 @@
-//! Views of a package's information and of dependencies.
+//! Views of a package's information and of dependencies. The fields stand in `docs/formats.md`,
+//! "Schemas", tables 1 and 3. A clause has a field's index, which counts from 0; its number, by
+//! which the document and causes name the field, is one more.
 
 ghost use Rattle.std.specs.Prelude.{◌≡◌, true};
 ghost use Rattle.adb_view.specs.Adb.{payload_of};
@@ -12,7 +14,7 @@ use adb_fields::{
 use adb_tables::Which;
 use adb_view::{Adb, Val};
 
-/// A dependency.
+/// A view of a dependency (table 1).
 #[derive(Clone, Copy)]
 pub struct DepView<'a> {
     adb: Adb<'a>,
@@ -27,6 +29,7 @@ impl<'a> Kinded for DepView<'a> {
 impl<'a> View<'a> for DepView<'a> {
     ghost shows = { λ view. value_at (payload_of view.adb) (Kinds.Obj Tables.Dep) view.word };
 
+    // The view of a word that is sound as a dependency.
     fn of(adb: Adb<'a>, word: Val) -> DepView<'a> {
         DepView { adb, word }
     }
@@ -43,14 +46,15 @@ impl<'a> DepView<'a> {
         text_field(self.adb, Which::Dep, self.word, 0)
     }
 
-    /// The version that it is compared with; empty for none.
+    /// The version that the dependency names; empty for none.
     pub fn version(&self) -> &'a [u8]
         ensures { result.now ≡ text_in (entry_in (dependency_value self.now) 1) }
     {
         text_field(self.adb, Which::Dep, self.word, 1)
     }
 
-    /// How it is compared: the bits 1 equal, 2 less, 4 greater, 8 fuzzy, 16 conflict.
+    /// The match number: the bits 1 equal, 2 less, 4 greater, 8 fuzzy, 16 conflict
+    /// (`docs/formats.md`, "Dependencies").
     pub fn matching(&self) -> u64
         ensures { result ≡ int_in (entry_in (dependency_value self.now) 2) }
     {
@@ -58,7 +62,7 @@ impl<'a> DepView<'a> {
     }
 }
 
-/// The information of a package.
+/// A view of the information of a package (table 3).
 #[derive(Clone, Copy)]
 pub struct PkgInfo<'a> {
     adb: Adb<'a>,
@@ -73,6 +77,7 @@ impl<'a> Kinded for PkgInfo<'a> {
 impl<'a> View<'a> for PkgInfo<'a> {
     ghost shows = { λ view. value_at (payload_of view.adb) (Kinds.Obj Tables.PkgInfo) view.word };
 
+    // The view of a word that is sound as the information of a package.
     fn of(adb: Adb<'a>, word: Val) -> PkgInfo<'a> {
         PkgInfo {
             adb,
@@ -86,14 +91,14 @@ impl<'a> PkgInfo<'a> {
     ghost use Rattle.adb_schema.specs.Views.{info_value};
     ghost use Rattle.adb_fields.specs.ListValue.{list_value};
 
-    /// The payload that it is read from.
+    /// The payload that the information is read from.
     pub fn adb(&self) -> Adb<'a>
         ensures { result ≡ self.now.adb }
     {
         self.adb
     }
 
-    /// Its word in the payload.
+    /// The word of the information in the payload.
     pub fn word(&self) -> Val
         ensures is { result ≡ self.now.word }
         ensures sound { is_sound (payload_of self.now.adb) (Kinds.Obj Tables.PkgInfo) result
@@ -152,28 +157,28 @@ impl<'a> PkgInfo<'a> {
         text_field(self.adb, Which::PkgInfo, Val::of(self.word), 6)
     }
 
-    /// Who maintains it.
+    /// Who maintains the package.
     pub fn maintainer(&self) -> &'a [u8]
         ensures { result.now ≡ text_in (entry_in (info_value self.now) 7) }
     {
         text_field(self.adb, Which::PkgInfo, Val::of(self.word), 7)
     }
 
-    /// Where to read of it.
+    /// Where to read of the package.
     pub fn url(&self) -> &'a [u8]
         ensures { result.now ≡ text_in (entry_in (info_value self.now) 8) }
     {
         text_field(self.adb, Which::PkgInfo, Val::of(self.word), 8)
     }
 
-    /// The commit of the recipe, as bytes.
+    /// The commit of the recipe that the package was built by, as bytes.
     pub fn repo_commit(&self) -> &'a [u8]
         ensures { result.now ≡ text_in (entry_in (info_value self.now) 9) }
     {
         hash_field(self.adb, Which::PkgInfo, Val::of(self.word), 9)
     }
 
-    /// When it was built, in seconds since 1970.
+    /// When the package was built, in seconds since 1970.
     pub fn build_time(&self) -> u64
         ensures { result ≡ int_in (entry_in (info_value self.now) 10) }
     {
@@ -194,14 +199,14 @@ impl<'a> PkgInfo<'a> {
         int_field(self.adb, Which::PkgInfo, Val::of(self.word), 12)
     }
 
-    /// How much it is preferred among providers of one name.
+    /// How much the package is preferred among providers of one name.
     pub fn provider_priority(&self) -> u64
         ensures { result ≡ int_in (entry_in (info_value self.now) 13) }
     {
         int_field(self.adb, Which::PkgInfo, Val::of(self.word), 13)
     }
 
-    /// What it needs.
+    /// What the package needs, and, as conflicts, what it excludes.
     pub fn depends(&self) -> List<'a, DepView<'a>>
         ensures { list_value result ≡ entry_in (info_value self.now) 14 }
     {
@@ -209,7 +214,7 @@ impl<'a> PkgInfo<'a> {
         List::of(self.adb, entries)
     }
 
-    /// What it provides besides its own name.
+    /// What the package provides besides its own name.
     pub fn provides(&self) -> List<'a, DepView<'a>>
         ensures { list_value result ≡ entry_in (info_value self.now) 15 }
     {
@@ -217,7 +222,7 @@ impl<'a> PkgInfo<'a> {
         List::of(self.adb, entries)
     }
 
-    /// The packages whose files it may take over.
+    /// The packages whose files this one may take over.
     pub fn replaces(&self) -> List<'a, DepView<'a>>
         ensures { list_value result ≡ entry_in (info_value self.now) 16 }
     {
@@ -225,7 +230,7 @@ impl<'a> PkgInfo<'a> {
         List::of(self.adb, entries)
     }
 
-    /// Where all of these are met, it is installed by itself.
+    /// Where all of these are met, the package is installed by itself.
     pub fn install_if(&self) -> List<'a, DepView<'a>>
         ensures { list_value result ≡ entry_in (info_value self.now) 17 }
     {
@@ -233,7 +238,7 @@ impl<'a> PkgInfo<'a> {
         List::of(self.adb, entries)
     }
 
-    /// What it goes well with.
+    /// What the package goes well with; no command acts on it.
     pub fn recommends(&self) -> List<'a, DepView<'a>>
         ensures { list_value result ≡ entry_in (info_value self.now) 18 }
     {
@@ -241,14 +246,14 @@ impl<'a> PkgInfo<'a> {
         List::of(self.adb, entries)
     }
 
-    /// The layer that it belongs to.
+    /// The layer, a part of the root, that the package belongs to; no command acts on it.
     pub fn layer(&self) -> u64
         ensures { result ≡ int_in (entry_in (info_value self.now) 19) }
     {
         int_field(self.adb, Which::PkgInfo, Val::of(self.word), 19)
     }
 
-    /// Its tags.
+    /// The tags of the package, as the one who made it gave them.
     pub fn tags(&self) -> List<'a, &'a [u8]>
         ensures { list_value result ≡ entry_in (info_value self.now) 20 }
     {

@@ -1,4 +1,8 @@
-//! The reading of a whole container, and names that stand twice in it.
+//! The reading of a whole container, and names that stand twice in it. The order of the tests
+//! stands in `docs/formats.md`, "Tests of a container"; what is tested behind the first block, in
+//! "The other blocks"; the words of the four schemas, in "Schemas". In the clauses `bad` says which
+//! cause a refusal has, `sound` that no test failed, and `table`, `payload` and `value` what was
+//! read.
 
 ghost use Rattle.std.specs.Prelude.{ℕ, List, All, ◌<◌, ◌≡◌, ◌≤◌, None, Some, length, codes, IfOk, IfErr};
 ghost use Rattle.std.specs.Result.{result_err};
@@ -27,16 +31,16 @@ use base_core::Cause;
 use std::alloc::{AllocError, Global};
 use thiserror::Error;
 
-/// `pckg`, the schema of a package.
+/// The schema of a package: `pckg`, as the number of four bytes, the first the least significant.
 pub const PACKAGE_WORD: u32 = 0x676b_6370;
 
-/// `indx`, the schema of an index.
+/// The schema of an index: `indx`.
 pub const INDEX_WORD: u32 = 0x7864_6e69;
 
-/// `idb` and a zero byte, the schema of an installed database.
+/// The schema of an installed database: `idb` and a zero byte.
 pub const IDB_WORD: u32 = 0x0062_6469;
 
-/// `intt`, the schema of an intent.
+/// The schema of an intent: `intt`.
 pub const INTENT_WORD: u32 = 0x7474_6e69;
 
 /// Why a container is not read.
@@ -56,6 +60,7 @@ impl From<Cause> for ReadFault {
 
     ghost from_gives = { λ cause fault. fault ≡ Bad cause };
 
+    // The first failed test as the fault of a read.
     fn from(cause: Cause) -> ReadFault {
         ReadFault::Bad(cause)
     }
@@ -67,6 +72,7 @@ impl From<AllocError> for ReadFault {
 
     ghost from_gives = { λ _ fault. fault ≡ Memory };
 
+    // Want of memory as the fault of a read.
     fn from(_: AllocError) -> ReadFault {
         ReadFault::Memory
     }
@@ -137,7 +143,7 @@ fn is_schema_wanted(which: Which, schema: u32) -> bool
     }
 }
 
-/// Reads the first block.
+/// Reads the first block, which is there unless its framing is refused, and tests its payload.
 fn read_first<'a>(
     alloc: Global,
     blocks: &mut Blocks<'a>,
@@ -157,7 +163,8 @@ fn read_first<'a>(
     }
 }
 
-/// Tests the payload of the first block.
+/// Tests the payload of the first block: its head, its shape, its texts, and names that stand
+/// twice.
 fn check_payload<'a>(
     alloc: Global,
     payload: &'a [u8],
@@ -179,7 +186,8 @@ fn check_payload<'a>(
     }
 }
 
-/// Reads the blocks behind the first; those of a package `pkg_core` reads.
+/// Tests the blocks behind the first; those of a package `pkg_core` tests, against the files that
+/// it lists.
 fn check_rest(blocks: &mut Blocks<'_>, which: Which) -> Result<(), Cause>
     ensures { result_err result ≡ rest_fault which (reading_of blocks.old) }
 {
@@ -189,7 +197,7 @@ fn check_rest(blocks: &mut Blocks<'_>, which: Which) -> Result<(), Cause>
     }
 }
 
-/// Reads the blocks behind the first, where no contents are due.
+/// Tests the blocks behind the first of a container without files, where no contents are due.
 #[tactic(auto, unfolding(crate::specs::Soundness::further_fault))]
 fn check_further(blocks: &mut Blocks<'_>) -> Result<(), Cause>
     ensures { result_err result ≡ further_fault (reading_of blocks.old) }
@@ -214,7 +222,8 @@ fn block_fault(block: &Block<'_>) -> Option<Cause>
     }
 }
 
-/// Why contents stand where none are due.
+/// The cause of contents that stand where none are due: too short for the two numbers that they
+/// begin with (8 bytes), or those of a file where 0.0, which is none, was expected.
 fn undue_contents(payload: &[u8], at: u64) -> Cause
     ensures { result ≡ undue_contents payload.now at }
 {
@@ -239,7 +248,7 @@ pub fn file_pair(payload: &[u8]) -> (u32, u32)
     )
 }
 
-/// The words of the four schemas are spelled so in a file's header.
+/// A law: the words of the four schemas are spelled so in a file's header.
 pub fn schema_words_are_as_listed()
     ensures package { to_le_bytes w32 PACKAGE_WORD ≡ codes "pckg" }
     ensures index { to_le_bytes w32 INDEX_WORD ≡ codes "indx" }
@@ -247,8 +256,9 @@ pub fn schema_words_are_as_listed()
     ensures intent { to_le_bytes w32 INTENT_WORD ≡ codes "intt" }
 {}
 
-/// What a file that passes every test holds: a value that has the shape of its table, in which each
-/// text and number keeps the rule of its field and no name stands twice; of bytes, it is normal.
+/// A law, what a file that passes every test holds: a value that has the shape of its table, in
+/// which each text and number keeps the rule of its field and no name stands twice; of bytes, it is
+/// normal. Its body calls the laws that its proof needs.
 pub fn sound_containers_hold_sound_values()
     ensures value { (which : Which) (file : List ℕ)
         → IsSound which file → IsSoundValue which (root_value which (payload_in file)) }

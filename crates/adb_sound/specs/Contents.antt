@@ -1,8 +1,9 @@
--- How many bytes the contents of files are.
+-- How many bytes the contents of files are. Serves the law `contents_stand_in_their_container`;
+-- what contents are stands in `docs/formats.md`, "The other blocks".
 use Rattle.std.specs.Prelude.{ℕ, ◌+◌, List, [], ◌∷◌, length}
 use Rattle.pkg_core.specs.Contents.{Contents}
 
--- the sum of the sizes of the files
+-- how many bytes the contents of these files have together
 abbrev pub contents_size : List Contents → ℕ
 contents_size [] = 0
 contents_size (c ∷ cs) = length c.bytes + contents_size cs

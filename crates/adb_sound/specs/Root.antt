@@ -1,4 +1,5 @@
--- What may stand at the root of a container.
+-- What may stand at the root of a container. The rules stand in `docs/formats.md`, "Tests of a
+-- container", and the limits in "Canonical layout" ("A payload has at most").
 use Rattle.std.specs.Prelude.{◌≡◌, ◌≤◌, None}
 use Rattle.adb_view.specs.Plain.{Plain, IsNormal}
 use Rattle.adb_view.specs.Shaped.{HasShape}
@@ -13,9 +14,15 @@ use Rattle.adb_write.specs.Canonical.{MOST_BYTES, MOST_VALUES}
 -- a value that may stand at the root of a container with this table: of its shape, within the
 -- limits, each text and number keeps the rule of its field, and no name stands twice
 pub record IsRootOf (which : Which) (v : Plain) : Type 0 where
+  -- integers below 2^64, no empty blob or list, no Null at an object's end
   pub normal : IsNormal v
+  -- it has the shape of the table
   pub shaped : HasShape (shape_of (Obj which)) v
+  -- its payload is within the limit of bytes
   pub fits : size_of v ≤ MOST_BYTES
+  -- its values are within their limit
   pub few : value_count v ≤ MOST_VALUES
+  -- each text and number keeps its rule
   pub texts : text_fault which v ≡ None
+  -- no name stands twice
   pub once : repeated_fault which v ≡ None

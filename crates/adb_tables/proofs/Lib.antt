@@ -3,3 +3,4 @@ pub mod WalkSteps
 pub mod ValueEntries
 pub mod Worked
 mod ReaderFaults
+mod LeafSteps

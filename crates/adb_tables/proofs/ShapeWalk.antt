@@ -16,7 +16,7 @@ use Rattle.adb_tables.specs.CountedWalk.{walk}
 use Rattle.adb_tables.specs.CountedWalk.{each_walk}
 use Rattle.adb_tables.specs.CountedWalk.{walk_visit}
 use Rattle.adb_tables.specs.CountedWalk.{ok_unless}
-use Rattle.adb_tables.specs.CountedWalk.{◌>>=◌}
+use Rattle.base_core.specs.Lists.{and_then}
 use Rattle.adb_tables.specs.FirstFault.{IsFirstFault}
 use Rattle.std.specs.List.{list_all}
 use Rattle.base_core.specs.declared.cause.Cause.{Cause}
@@ -35,29 +35,29 @@ chosen false x y z e = inr (refl, e)
 -- going over a list of visits, behind n others
 abbrev pub counted : List ℕ → ℕ → List Visit → Result ℕ Cause
 counted p n [] = Ok n
-counted p n (v ∷ vs) = walk_visit p n v.shape v.word >>= λ m. counted p m vs
+counted p n (v ∷ vs) = and_then (walk_visit p n v.shape v.word) (λ m. counted p m vs)
 
-bind_assoc : {A B C : Type 0} (r : Result A Cause) (f : A → Result B Cause) (g : B → Result C Cause) → ((r >>= f) >>= g) ≡ (r >>= λ x. f x >>= g)
+bind_assoc : {A B C : Type 0} (r : Result A Cause) (f : A → Result B Cause) (g : B → Result C Cause) → (and_then (and_then r f) g) ≡ (and_then r (λ x. and_then (f x) g))
 bind_assoc (Ok x) f g = refl
 bind_assoc (Err c) f g = refl
 
-bind_same : {A B : Type 0} (r : Result A Cause) (f g : A → Result B Cause) → ((x : A) → f x ≡ g x) → (r >>= f) ≡ (r >>= g)
+bind_same : {A B : Type 0} (r : Result A Cause) (f g : A → Result B Cause) → ((x : A) → f x ≡ g x) → (and_then r f) ≡ (and_then r g)
 bind_same (Ok x) f g h = h x
 bind_same (Err c) f g h = refl
 
-counted-append : (p : List ℕ) (n : ℕ) (us vs : List Visit) → counted p n (us ++ vs) ≡ (counted p n us >>= λ m. counted p m vs)
+counted-append : (p : List ℕ) (n : ℕ) (us vs : List Visit) → counted p n (us ++ vs) ≡ (and_then (counted p n us) (λ m. counted p m vs))
 counted-append p n [] vs = refl
 counted-append p n (u ∷ us) vs =
     bind_same (walk_visit p n u.shape u.word) _ _ (λ m. counted-append p m us vs) ∙ sym (bind_assoc (walk_visit p n u.shape u.word) (λ m. counted p m us) (λ m. counted p m vs))
 
-bind_ok : {A : Type 0} (r : Result A Cause) → (r >>= λ x. Ok x) ≡ r
+bind_ok : {A : Type 0} (r : Result A Cause) → (and_then r (λ x. Ok x)) ≡ r
 bind_ok (Ok x) = refl
 bind_ok (Err c) = refl
 
 each_walk-counted : (p : List ℕ) (f : ℕ → ℕ → Result ℕ Cause) (g : ℕ → List Visit) → ((n w : ℕ) → f n w ≡ counted p n (g w)) → (n : ℕ) (ws : List ℕ) → each_walk f n ws ≡ counted p n (each_visit g ws)
 each_walk-counted p f g h n [] = refl
 each_walk-counted p f g h n (w ∷ ws) =
-    ap (λ r. r >>= λ m. each_walk f m ws) (h n w) ∙ bind_same (counted p n (g w)) _ _ (λ m. each_walk-counted p f g h m ws) ∙ sym (counted-append p n (g w) (each_visit g ws))
+    ap (λ r. and_then r (λ m. each_walk f m ws)) (h n w) ∙ bind_same (counted p n (g w)) _ _ (λ m. each_walk-counted p f g h m ws) ∙ sym (counted-append p n (g w) (each_visit g ws))
 
 mutual
   unfolding walk visits
@@ -74,10 +74,10 @@ mutual
   fields_walk-counted p no_fields n ws = refl
   fields_walk-counted p (field name s fs) n [] = refl
   fields_walk-counted p (field name s fs) n (w ∷ ws) =
-      ap (λ r. r >>= λ m. fields_walk p fs m ws) (walk-counted p s n w) ∙ bind_same (counted p n (visits p s w)) _ _ (λ m. fields_walk-counted p fs m ws) ∙ sym (counted-append p n (visits p s w) (field_visits p fs ws))
+      ap (λ r. and_then r (λ m. fields_walk p fs m ws)) (walk-counted p s n w) ∙ bind_same (counted p n (visits p s w)) _ _ (λ m. fields_walk-counted p fs m ws) ∙ sym (counted-append p n (visits p s w) (field_visits p fs ws))
 
 -- going over them gives the first fault, and else how many there were
-result_err-bind : (n : ℕ) (o : Option Cause) (f : ℕ → Result ℕ Cause) → result_err (ok_unless n o >>= f) ≡ option_or o (result_err (f n))
+result_err-bind : (n : ℕ) (o : Option Cause) (f : ℕ → Result ℕ Cause) → result_err (and_then (ok_unless n o) f) ≡ option_or o (result_err (f n))
 result_err-bind n None f = refl
 result_err-bind n (Some c) f = refl
 
@@ -140,7 +140,7 @@ ok_unless-some : (n m : ℕ) (o : Option Cause) → ok_unless n o ≡ Ok m → (
 ok_unless-some n m None e = (refl, cc)
 ok_unless-some n m (Some c) e = absurd cc
 
-pub bind_is_ok : {A B : Type 0} (r : Result A Cause) (f : A → Result B Cause) (y : B) → (r >>= f) ≡ Ok y → (x : A) × (r ≡ Ok x) × (f x ≡ Ok y)
+pub bind_is_ok : {A B : Type 0} (r : Result A Cause) (f : A → Result B Cause) (y : B) → (and_then r f) ≡ Ok y → (x : A) × (r ≡ Ok x) × (f x ≡ Ok y)
 bind_is_ok (Ok x) f y e = (x, refl, e)
 bind_is_ok (Err c) f y e = absurd cc
 

@@ -1,6 +1,7 @@
 -- Steps of the walk, as the code makes them.
-use Rattle.std.proofs.Common.{◌≡◌, ℕ, zero, suc, ◌+◌, ◌<◌, ◌≤◌, true, false, ltb, List, [], ◌∷◌, length, get_or, drop, Result, Ok, Err, refl, ap, ◌∙◌, arith, lit<}
-use Rattle.std.proofs.lemmas.Bool.{lt-ltb, le-ltb}
+use Rattle.std.proofs.Common.{◌≡◌, ℕ, zero, suc, ◌+◌, ◌<◌, ◌≤◌, true, false, ltb, List, [], ◌∷◌, length, get_or, drop, Result, Ok, Err, refl, ap, ◌∙◌, arith, lit<, inl, inr, min}
+use Rattle.std.proofs.lemmas.Bool.{lt-ltb, le-ltb, eqb-true}
+use Rattle.std.proofs.lemmas.Bool.Decides.{leb_tells}
 use Rattle.std.proofs.lemmas.List.{drop_more, drop_all}
 use Rattle.adb_view.specs.Plain.{Shape, number, text, hash, array, object}
 use Rattle.adb_view.specs.Readers.{int_of, blob_of, run_of, ARRAY, OBJECT}
@@ -8,10 +9,12 @@ use Rattle.adb_tables.specs.CountedWalk.{fields_walk}
 use Rattle.adb_tables.specs.CountedWalk.{walk}
 use Rattle.adb_tables.specs.CountedWalk.{each_walk}
 use Rattle.adb_tables.specs.CountedWalk.{walk_visit}
-use Rattle.adb_tables.specs.CountedWalk.{◌>>=◌}
+use Rattle.base_core.specs.Lists.{and_then}
 use Rattle.adb_view.specs.Visits.{or_empty, fault_at, MOST_VALUES}
-use Rattle.std.specs.Result.{result_err}
+use Rattle.std.specs.Result.{result_err, result_ok}
+use Rattle.std.specs.Prelude.{is_some}
 use Rattle.adb_tables.specs.Schema.{schema_number, table, shape_of, shapes_of}
+use Rattle.adb_tables.specs.Leaves.{is_sound_leaf}
 use Rattle.adb_tables.specs.Rank.{rank, rank_of_all}
 use Rattle.adb_tables.specs.Shapes.{object_shape, objects_shape, texts_shape, int_shape, text_shape, hash_shape}
 use Rattle.base_core.specs.declared.cause.Cause.{Cause}
@@ -20,6 +23,7 @@ use Rattle.adb_tables.specs.declared.tables.Which.{Which}
 use Rattle.adb_tables.specs.declared.tables.Which.TheVariants.{Dep, Acl, PkgInfo, File, Dir, Scripts, Package, Index, Idb, Intent}
 use Rattle.adb_tables.specs.declared.tables.Kind.TheVariants.{Int, Text, Hash, Obj, TextArr, ObjArr}
 use Rattle.adb_tables.specs.declared.tables.Field.{Field}
+use Rattle.adb_tables.specs.declared.tables.Kind.{Kind}
 
 -- ---- over a list
 
@@ -54,13 +58,19 @@ pub fields_past : (p : List ℕ) (fs : List Field) (n : ℕ) (ws : List ℕ) (i 
 unfolding fields_walk
 fields_past p fs n ws i le = rw (drop_all i fs le) refl
 
+pub fields_end : (p : List ℕ) (fs : List Field) (n : ℕ) (ws : List ℕ) (i : ℕ) → min (length fs) (length ws) ≤ i → fields_walk p (shapes_of (drop i fs)) n (drop i ws) ≡ Ok n
+fields_end p fs n ws i le = elim (leb_tells (length fs) (length ws)) [
+  | inl few ↦ fields_past p fs n ws i (omega (arith, few.1, le))
+  | inr more ↦ fields_past_words p fs n ws i (omega (arith, more.1, le))
+]
+
 -- ---- one word
 
-ok_step : {A : Type 0} (n : ℕ) (s : Shape) (w : ℕ) (p : List ℕ) (r : Result A Cause) → fault_at p s w ≡ result_err r → n < MOST_VALUES → walk_visit p n s w ≡ (r >>= λ x. Ok (n + 1))
+ok_step : {A : Type 0} (n : ℕ) (s : Shape) (w : ℕ) (p : List ℕ) (r : Result A Cause) → fault_at p s w ≡ result_err r → n < MOST_VALUES → walk_visit p n s w ≡ (and_then r (λ x. Ok (n + 1)))
 ok_step n s w p (Ok x) e lt = let t : ltb MOST_VALUES (n + 1) ≡ false = le-ltb _ _ (omega arith) in rw (t, e) refl
 ok_step n s w p (Err c) e lt = let t : ltb MOST_VALUES (n + 1) ≡ false = le-ltb _ _ (omega arith) in rw (t, e) refl
 
-bind_run : (r : Result (List ℕ) Cause) (n : ℕ) (f : ℕ → List ℕ → Result ℕ Cause) → ((r >>= λ x. Ok (n + 1)) >>= λ m. f m (or_empty r)) ≡ (r >>= λ ws. f (n + 1) ws)
+bind_run : (r : Result (List ℕ) Cause) (n : ℕ) (f : ℕ → List ℕ → Result ℕ Cause) → (and_then (and_then r (λ x. Ok (n + 1))) (λ m. f m (or_empty r))) ≡ (and_then r (λ ws. f (n + 1) ws))
 bind_run (Ok ws) n f = refl
 bind_run (Err c) n f = refl
 
@@ -72,36 +82,36 @@ unfolding walk
 walk_full p number n w le = full_step p n number w le
 walk_full p text n w le = full_step p n text w le
 walk_full p hash n w le = full_step p n hash w le
-walk_full p (array s) n w le = ap (λ r. r >>= λ m. each_walk (walk p s) m (or_empty (run_of ARRAY p w))) (full_step p n (array s) w le)
-walk_full p (object which fs) n w le = ap (λ r. r >>= λ m. fields_walk p fs m (or_empty (run_of OBJECT p w))) (full_step p n (object which fs) w le)
+walk_full p (array s) n w le = ap (λ r. and_then r (λ m. each_walk (walk p s) m (or_empty (run_of ARRAY p w)))) (full_step p n (array s) w le)
+walk_full p (object which fs) n w le = ap (λ r. and_then r (λ m. fields_walk p fs m (or_empty (run_of OBJECT p w)))) (full_step p n (object which fs) w le)
 
-pub walk_int : (p : List ℕ) (n w : ℕ) → n < MOST_VALUES → walk p (shape_of Int) n w ≡ (int_of p w >>= λ x. Ok (n + 1))
+pub walk_int : (p : List ℕ) (n w : ℕ) → n < MOST_VALUES → walk p (shape_of Int) n w ≡ (and_then (int_of p w) (λ x. Ok (n + 1)))
 unfolding walk
 walk_int p n w lt = ap (λ s. walk p s n w) int_shape ∙ ok_step n number w p (int_of p w) refl lt
 
-pub walk_text : (p : List ℕ) (n w : ℕ) → n < MOST_VALUES → walk p (shape_of Text) n w ≡ (blob_of p w >>= λ x. Ok (n + 1))
+pub walk_text : (p : List ℕ) (n w : ℕ) → n < MOST_VALUES → walk p (shape_of Text) n w ≡ (and_then (blob_of p w) (λ x. Ok (n + 1)))
 unfolding walk
 walk_text p n w lt = ap (λ s. walk p s n w) text_shape ∙ ok_step n text w p (blob_of p w) refl lt
 
-pub walk_hash : (p : List ℕ) (n w : ℕ) → n < MOST_VALUES → walk p (shape_of Hash) n w ≡ (blob_of p w >>= λ x. Ok (n + 1))
+pub walk_hash : (p : List ℕ) (n w : ℕ) → n < MOST_VALUES → walk p (shape_of Hash) n w ≡ (and_then (blob_of p w) (λ x. Ok (n + 1)))
 unfolding walk
 walk_hash p n w lt = ap (λ s. walk p s n w) hash_shape ∙ ok_step n hash w p (blob_of p w) refl lt
 
-array_step : (p : List ℕ) (s : Shape) (n w : ℕ) → n < MOST_VALUES → walk p (array s) n w ≡ (run_of ARRAY p w >>= λ ws. each_walk (walk p s) (n + 1) ws)
+array_step : (p : List ℕ) (s : Shape) (n w : ℕ) → n < MOST_VALUES → walk p (array s) n w ≡ (and_then (run_of ARRAY p w) (λ ws. each_walk (walk p s) (n + 1) ws))
 unfolding walk
-array_step p s n w lt = ap (λ r. r >>= λ m. each_walk (walk p s) m (or_empty (run_of ARRAY p w))) (ok_step n (array s) w p (run_of ARRAY p w) refl lt) ∙ bind_run (run_of ARRAY p w) n (λ m ws. each_walk (walk p s) m ws)
+array_step p s n w lt = ap (λ r. and_then r (λ m. each_walk (walk p s) m (or_empty (run_of ARRAY p w)))) (ok_step n (array s) w p (run_of ARRAY p w) refl lt) ∙ bind_run (run_of ARRAY p w) n (λ m ws. each_walk (walk p s) m ws)
 
-pub walk_texts : (p : List ℕ) (n w : ℕ) → n < MOST_VALUES → walk p (shape_of TextArr) n w ≡ (run_of ARRAY p w >>= λ ws. each_walk (walk p (shape_of Text)) (n + 1) ws)
+pub walk_texts : (p : List ℕ) (n w : ℕ) → n < MOST_VALUES → walk p (shape_of TextArr) n w ≡ (and_then (run_of ARRAY p w) (λ ws. each_walk (walk p (shape_of Text)) (n + 1) ws))
 walk_texts p n w lt = ap (λ s. walk p s n w) texts_shape ∙ array_step p (shape_of Text) n w lt
 
-pub walk_objects : (p : List ℕ) (which : Which) (n w : ℕ) → n < MOST_VALUES → walk p (shape_of (ObjArr which)) n w ≡ (run_of ARRAY p w >>= λ ws. each_walk (walk p (shape_of (Obj which))) (n + 1) ws)
+pub walk_objects : (p : List ℕ) (which : Which) (n w : ℕ) → n < MOST_VALUES → walk p (shape_of (ObjArr which)) n w ≡ (and_then (run_of ARRAY p w) (λ ws. each_walk (walk p (shape_of (Obj which))) (n + 1) ws))
 walk_objects p which n w lt = ap (λ s. walk p s n w) (objects_shape which) ∙ array_step p (shape_of (Obj which)) n w lt
 
-pub walk_object : (p : List ℕ) (which : Which) (n w : ℕ) → n < MOST_VALUES → walk p (shape_of (Obj which)) n w ≡ (run_of OBJECT p w >>= λ ws. fields_walk p (shapes_of (table which)) (n + 1) ws)
+pub walk_object : (p : List ℕ) (which : Which) (n w : ℕ) → n < MOST_VALUES → walk p (shape_of (Obj which)) n w ≡ (and_then (run_of OBJECT p w) (λ ws. fields_walk p (shapes_of (table which)) (n + 1) ws))
 unfolding walk
 walk_object p which n w lt =
     ap (λ s. walk p s n w) (object_shape which)
-    ∙ ap (λ r. r >>= λ m. fields_walk p (shapes_of (table which)) m (or_empty (run_of OBJECT p w))) (ok_step n (object (schema_number which) (shapes_of (table which))) w p (run_of OBJECT p w) refl lt)
+    ∙ ap (λ r. and_then r (λ m. fields_walk p (shapes_of (table which)) m (or_empty (run_of OBJECT p w)))) (ok_step n (object (schema_number which) (shapes_of (table which))) w p (run_of OBJECT p w) refl lt)
     ∙ bind_run (run_of OBJECT p w) n (λ m ws. fields_walk p (shapes_of (table which)) m ws)
 
 -- ---- depth
@@ -125,11 +135,11 @@ table_rank Intent = lit< tt
 
 -- ---- the same as the code meets them
 
-bound_ok : {A B : Type 0} (r : Result A Cause) (f : A → Result B Cause) (x : A) → r ≡ Ok x → (r >>= f) ≡ f x
-bound_ok r f x e = ap (λ r. r >>= f) e
+bound_ok : {A B : Type 0} (r : Result A Cause) (f : A → Result B Cause) (x : A) → r ≡ Ok x → (and_then r f) ≡ f x
+bound_ok r f x e = ap (λ r. and_then r f) e
 
-bound_err : {A B : Type 0} (r : Result A Cause) (f : A → Result B Cause) (c : Cause) → r ≡ Err c → (r >>= f) ≡ Err c
-bound_err r f c e = ap (λ r. r >>= f) e
+bound_err : {A B : Type 0} (r : Result A Cause) (f : A → Result B Cause) (c : Cause) → r ≡ Err c → (and_then r f) ≡ Err c
+bound_err r f c e = ap (λ r. and_then r f) e
 
 pub int_ok : (p : List ℕ) (n w x : ℕ) → n < MOST_VALUES → int_of p w ≡ Ok x → walk p (shape_of Int) n w ≡ Ok (n + 1)
 int_ok p n w x lt e = walk_int p n w lt ∙ bound_ok (int_of p w) _ x e
@@ -166,3 +176,37 @@ object_ok p which n w ws lt e = walk_object p which n w lt ∙ bound_ok (run_of 
 
 pub object_err : (p : List ℕ) (which : Which) (n w : ℕ) (c : Cause) → n < MOST_VALUES → run_of OBJECT p w ≡ Err c → walk p (shape_of (Obj which)) n w ≡ Err c
 object_err p which n w c lt e = walk_object p which n w lt ∙ bound_err (run_of OBJECT p w) _ c e
+
+-- ---- a leaf
+
+leaf_step : {A : Type 0} (r : Result A Cause) (n : ℕ) → is_some (result_ok r) ≡ true → (and_then r (λ x. Ok (n + 1))) ≡ Ok (n + 1)
+leaf_step (Ok x) n e = refl
+leaf_step (Err c) n e = absurd cc
+
+null_run : (kind : ℕ) (p : List ℕ) → run_of kind p 0 ≡ Ok []
+unfolding run_of
+null_run kind p = refl
+
+null_object : (p : List ℕ) (which : Which) (n : ℕ) → n < MOST_VALUES → walk p (shape_of (Obj which)) n 0 ≡ Ok (n + 1)
+null_object p which n lt = walk_object p which n 0 lt ∙ ap (λ r. and_then r (λ ws. fields_walk p (shapes_of (table which)) (n + 1) ws)) (null_run OBJECT p) ∙ no_words p (table which) (n + 1)
+
+null_texts : (p : List ℕ) (n : ℕ) → n < MOST_VALUES → walk p (shape_of TextArr) n 0 ≡ Ok (n + 1)
+null_texts p n lt = walk_texts p n 0 lt ∙ ap (λ r. and_then r (λ ws. each_walk (walk p (shape_of Text)) (n + 1) ws)) (null_run ARRAY p)
+
+null_objects : (p : List ℕ) (which : Which) (n : ℕ) → n < MOST_VALUES → walk p (shape_of (ObjArr which)) n 0 ≡ Ok (n + 1)
+null_objects p which n lt = walk_objects p which n 0 lt ∙ ap (λ r. and_then r (λ ws. each_walk (walk p (shape_of (Obj which))) (n + 1) ws)) (null_run ARRAY p)
+
+pub leaf_walk : (p : List ℕ) (kind : Kind) (n w : ℕ) → n < MOST_VALUES → is_sound_leaf p kind w ≡ true → walk p (shape_of kind) n w ≡ Ok (n + 1)
+leaf_walk p Int n w lt e = walk_int p n w lt ∙ leaf_step (int_of p w) n e
+leaf_walk p Text n w lt e = walk_text p n w lt ∙ leaf_step (blob_of p w) n e
+leaf_walk p Hash n w lt e = walk_hash p n w lt ∙ leaf_step (blob_of p w) n e
+leaf_walk p (Obj which) n w lt e = let z : w ≡ 0 = eqb-true w 0 e in rw z (null_object p which n lt)
+leaf_walk p TextArr n w lt e = let z : w ≡ 0 = eqb-true w 0 e in rw z (null_texts p n lt)
+leaf_walk p (ObjArr which) n w lt e = let z : w ≡ 0 = eqb-true w 0 e in rw z (null_objects p which n lt)
+
+pub fields_leaf : (p : List ℕ) (fs : List Field) (n : ℕ) (ws : List ℕ) (i : ℕ) (d : Field) → i < length fs → i < length ws → n < MOST_VALUES → is_sound_leaf p (get_or fs i d).kind (get_or ws i 0) ≡ true
+    → fields_walk p (shapes_of (drop i fs)) n (drop i ws) ≡ fields_walk p (shapes_of (drop (i + 1) fs)) (n + 1) (drop (i + 1) ws)
+fields_leaf p fs n ws i d lt lt' few e = fields_more p fs n ws i (n + 1) d lt lt' (leaf_walk p (get_or fs i d).kind n (get_or ws i 0) few e)
+
+pub texts_leaf : (p : List ℕ) (n : ℕ) (ws : List ℕ) (i : ℕ) → i < length ws → n < MOST_VALUES → is_sound_leaf p Text (get_or ws i 0) ≡ true → each_walk (walk p (shape_of Text)) n (drop i ws) ≡ each_walk (walk p (shape_of Text)) (n + 1) (drop (i + 1) ws)
+texts_leaf p n ws i lt few e = each_more (walk p (shape_of Text)) n ws i (n + 1) lt (leaf_walk p Text n (get_or ws i 0) few e)

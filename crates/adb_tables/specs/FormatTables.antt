@@ -1,5 +1,6 @@
 -- The tables as the formats list them: the number, and each field's name and kind, from number 1
--- on.
+-- on. The list stands in `docs/formats.md`, "Schemas"; the law `tables_are_as_listed` says that the
+-- program has it so.
 use Rattle.std.specs.Prelude.{ℕ, List, [], ◌∷◌, codes, map}
 use Rattle.adb_tables.specs.Schema.{table, schema_number, field_name_text}
 use Rattle.adb_tables.specs.declared.tables.Which.{Which}
@@ -7,7 +8,7 @@ use Rattle.adb_tables.specs.declared.tables.Which.TheVariants.{Dep, Acl, PkgInfo
 use Rattle.adb_tables.specs.declared.tables.Kind.{Kind}
 use Rattle.adb_tables.specs.declared.tables.Kind.TheVariants.{Int, Text, Hash, Obj, TextArr, ObjArr}
 
--- the number of a table, and its fields by name and kind, as the format's document lists them
+-- the number of a table, and its fields by name and kind, as the table of the document lists them
 abbrev pub format_table : Which → ℕ × List (List ℕ × Kind)
 format_table Dep = (1, (codes "name", Text) ∷ (codes "version", Text) ∷ (codes "match", Int) ∷ [])
 format_table Acl = (
@@ -57,7 +58,7 @@ format_table Index = (
 format_table Idb = (9, (codes "packages", ObjArr Package) ∷ [])
 format_table Intent = (10, (codes "removals", TextArr) ∷ (codes "writes", TextArr) ∷ [])
 
--- the same of the program's constants
+-- the number of a table, and its fields by name and kind, as the program's constants have them
 abbrev pub program_table : Which → ℕ × List (List ℕ × Kind)
 program_table which = (
   schema_number which,

@@ -1,3 +1,5 @@
+-- The definitions of `adb_tables`. The head of each file says where its rule stands.
+
 -- what the contract of `apk` says
 pub mod Schema
 pub mod FieldIndexes
@@ -11,3 +13,4 @@ pub mod Shaped
 pub mod Rank
 pub mod Shapes
 pub mod VisitFault
+pub mod Leaves

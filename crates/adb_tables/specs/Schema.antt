@@ -1,4 +1,5 @@
--- The ten tables, as the program's constants have them, and the shapes that they give.
+-- The ten tables, as the program's constants have them, and the shapes that they give. The rules
+-- stand in `docs/formats.md`, "Schemas" (the tables) and "Values" (what a shape is).
 use Rattle.std.specs.Prelude.{ℕ, zero, suc, List, [], ◌∷◌, codes}
 use Rattle.adb_view.specs.Plain.{Shape, number, text, hash, array, object, Fields, no_fields, field}
 use Rattle.adb_tables.specs.declared.tables.Which.{Which}
@@ -9,7 +10,7 @@ use Rattle.adb_tables.specs.declared.tables.FieldName.{FieldName}
 use Rattle.adb_tables.specs.declared.tables.Field.{Field}
 use Rattle.adb_tables.specs.declared.tables.TheConstants.{DEP, ACL, PKGINFO, FILE, DIR, SCRIPTS, PACKAGE, INDEX, IDB, INTENT}
 
--- the fields of an object of one kind, in the order of their numbers
+-- the fields of an object of a table, in the order of their numbers, which count from 1
 abbrev pub table : Which → List Field
 table Dep = DEP.fields
 table Acl = ACL.fields
@@ -22,7 +23,8 @@ table Index = INDEX.fields
 table Idb = IDB.fields
 table Intent = INTENT.fields
 
--- the number of its table; that of a field is 100 times it plus the field's own
+-- the number of a table; that of a field, by which causes name it, is 100 times it plus the field's
+-- own
 abbrev pub schema_number : Which → ℕ
 schema_number Dep = DEP.number
 schema_number Acl = ACL.number
@@ -35,7 +37,7 @@ schema_number Index = INDEX.number
 schema_number Idb = IDB.number
 schema_number Intent = INTENT.number
 
--- a field's name
+-- the name of a field as the formats write it
 abbrev pub field_name_text : FieldName → List ℕ
 field_name_text FieldName.Name = codes "name"
 field_name_text FieldName.Version = codes "version"
@@ -86,13 +88,14 @@ field_name_text FieldName.PkgnameSpec = codes "pkgname-spec"
 field_name_text FieldName.Removals = codes "removals"
 field_name_text FieldName.Writes = codes "writes"
 
--- the fields of a table, each with the shape that its kind has by this map
+-- the fields of a table as a shape has them: each by its name, and the shape that `f` gives its
+-- kind
 abbrev pub fields_with : (Kind → Shape) → List Field → Fields
 fields_with f [] = no_fields
 fields_with f (r ∷ rs) = field (field_name_text r.name) (f r.kind) (fields_with f rs)
 
--- A table names only tables of lower numbers, so unrolling it ends. The first number is how deep to
--- go.
+-- the shape of a kind in which objects are unrolled so many levels deep. A table names only tables
+-- of lower numbers, so that some depth unrolls each of them whole
 abbrev pub shape_to_depth : ℕ → Kind → Shape
 shape_to_depth depth Int = number
 shape_to_depth depth Text = text
@@ -105,10 +108,10 @@ shape_to_depth zero (ObjArr w) = array (object (schema_number w) no_fields)
 shape_to_depth (suc depth) (ObjArr w) = array
     (object (schema_number w) (fields_with (shape_to_depth depth) (table w)))
 
--- five levels are enough for each table: database, package, folder, file, acl
+-- the shape of a kind. Five levels are enough for each table: database, package, folder, file, acl
 unfoldable pub shape_of : Kind → Shape
 shape_of k = shape_to_depth 5 k
 
--- the fields of a table, each with its shape
+-- the fields of a table as a shape has them
 abbrev pub shapes_of : List Field → Fields
 shapes_of fields = fields_with shape_of fields

@@ -1,4 +1,5 @@
--- What views answer: the plain value of a word that is known to have one, and its fields.
+-- What views answer: the plain value of a word that is known to have one, and its fields. The rule
+-- stands in `docs/formats.md`, "Values" ("A table of fields gives each word a shape").
 use Rattle.std.specs.Prelude.{ℕ, zero, suc, Bool, List, [], is_some, Option, unwrap_or, option_map, slice_get}
 use Rattle.adb_view.specs.Plain.{Plain, null, int, blob, arr, obj, Plains, none, more, plain_of}
 pub use Rattle.adb_view.specs.Plain.{count_of}
@@ -6,21 +7,22 @@ use Rattle.adb_tables.specs.Schema.{table, shape_of}
 use Rattle.adb_tables.specs.declared.tables.Which.{Which}
 use Rattle.adb_tables.specs.declared.tables.Kind.{Kind}
 
--- whether the word has a plain value under the kind
+-- whether the word `w` of the payload `p` has a plain value under the kind
 unfoldable pub is_sound : List ℕ → Kind → ℕ → Bool
 is_sound p k w = is_some (plain_of p (shape_of k) w)
 
--- that value
+-- the plain value of the word `w` of the payload `p` under the kind; Null where it has none
 unfoldable pub value_at : List ℕ → Kind → ℕ → Plain
 value_at p k w = unwrap_or (plain_of p (shape_of k) w) null
 
--- the entry with this index; Null past the last
+-- the value with this index, which counts from 0; Null past the last
 abbrev pub nth : Plains → ℕ → Plain
 nth none i = null
 nth (more v vs) zero = v
 nth (more v vs) (suc i) = nth vs i
 
--- the entries of an array or of an object; Null has none, so that each field of it is Null
+-- the entries of an array or of an object; Null, and what is neither, has none, so that each field
+-- of it is Null
 abbrev pub entries_in : Plain → Plains
 entries_in null = none
 entries_in (int n) = none
@@ -28,11 +30,11 @@ entries_in (blob b) = none
 entries_in (arr vs) = vs
 entries_in (obj vs) = vs
 
--- a field of an object, or an entry of an array
+-- the field of an object, or the entry of an array, with this index
 abbrev pub entry_in : Plain → ℕ → Plain
 entry_in v i = nth (entries_in v) i
 
--- the integer; 0 of Null, and of what is none
+-- the integer that a value is; 0 of Null, and of what is no integer
 abbrev pub int_in : Plain → ℕ
 int_in null = 0
 int_in (int n) = n
@@ -40,7 +42,7 @@ int_in (blob b) = 0
 int_in (arr vs) = 0
 int_in (obj vs) = 0
 
--- the bytes; none of Null, and of what has none
+-- the bytes that a value is; none of Null, and of what is no blob
 abbrev pub text_in : Plain → List ℕ
 text_in null = []
 text_in (int n) = []
@@ -48,6 +50,6 @@ text_in (blob b) = b
 text_in (arr vs) = []
 text_in (obj vs) = []
 
--- the kind of the field with this index in a table
+-- the kind of the field with this index in a table, if it has so many fields
 abbrev pub kind_at : Which → ℕ → Option Kind
 kind_at which i = option_map (λ f. f.kind) (slice_get (table which) i)

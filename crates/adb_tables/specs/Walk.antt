@@ -1,5 +1,5 @@
--- The walk over a payload's values: the first visit that is faulty, and the same walk counting
--- without a list.
+-- The walk over a payload's values, as its list of visits: the first of them that is faulty. The
+-- rule stands in `docs/formats.md`, "The shape".
 use Rattle.std.specs.Prelude.{ℕ, ◌+◌, List, [], ◌∷◌, Option, Some, None, nat_lt, if◌then◌else◌}
 use Rattle.std.specs.Option.{option_or}
 use Rattle.adb_view.specs.Plain.{Shape}
@@ -7,15 +7,17 @@ use Rattle.adb_view.specs.Visits.{MOST_VALUES, Visit, visits, fault_at}
 use Rattle.base_core.specs.declared.cause.Cause.{Cause}
 use Rattle.base_core.specs.declared.cause.Cause.TheVariants.{TooLarge}
 
--- the test of the visit with this number, counted from 1: first the count, then the word
+-- the fault of the visit with this number, which counts from 1: first the count is tested, then the
+-- word
 abbrev pub visit_fault : List ℕ → ℕ → Visit → Option Cause
 visit_fault p i v = if nat_lt MOST_VALUES i then Some (TooLarge i) else fault_at p v.shape v.word
 
--- the first fault of the visits, of which the first has this number
+-- the first fault of some visits, the first of which has the number i
 abbrev pub first_fault_from : List ℕ → ℕ → List Visit → Option Cause
 first_fault_from p i [] = None
 first_fault_from p i (v ∷ vs) = option_or (visit_fault p i v) (first_fault_from p (i + 1) vs)
 
--- the first fault of a word and what lies below it
+-- the first fault of the walk over a word and what lies below it, under a shape; None where there
+-- is none
 abbrev pub shape_fault : List ℕ → Shape → ℕ → Option Cause
 shape_fault p s w = first_fault_from p 1 (visits p s w)

@@ -4,6 +4,8 @@
 //! makes a `Shaped` of it. The contracts cite `Schema` (the tables, and the shapes that they give),
 //! `FormatTables` (the same as the formats list them), `Walk` (the first fault of the walk),
 //! `Values` (plain values of words, and their fields) and `Shaped`.
+//!
+//! The rules stand in `docs/formats.md`, "Schemas" (the tables) and "The shape" (the walk).
 #![tactic(auto)]
 
 mod readers;

@@ -1,4 +1,4 @@
-//! A payload whose shape was tested.
+//! A payload whose shape was tested. The rule stands in `docs/formats.md`, "The shape".
 
 ghost use Rattle.std.specs.Prelude.{◌≡◌, true, is_none};
 ghost use Rattle.adb_view.specs.Adb.{payload_of};
@@ -25,7 +25,7 @@ pub struct Shaped<'a> {
 impl<'a> Shaped<'a> {
     ghost use Rattle.adb_tables.specs.Shaped.{adb_of, table_of};
 
-    /// A payload that was walked as this table.
+    /// The payload that was walked as an object of this table, without a fault.
     pub(crate) fn of(adb: Adb<'a>, which: Which) -> Shaped<'a>
         requires sound { is_sound (payload_of adb) (Kinds.Obj which) (root_of (payload_of adb))
             ≡ true }
@@ -37,14 +37,14 @@ impl<'a> Shaped<'a> {
         Shaped { adb, which }
     }
 
-    /// The payload that was walked.
+    /// The opened payload that was walked.
     pub fn adb(&self) -> Adb<'a>
         ensures { result ≡ adb_of self.now }
     {
         self.adb
     }
 
-    /// The table that its root was walked as.
+    /// The table as an object of which its root was walked.
     pub fn which(&self) -> Which
         ensures { result ≡ table_of self.now }
     {

@@ -1,6 +1,6 @@
-//! The ten tables of the containers (apk-v3(5)): what a field is, the constants, and the fields of
-//! each table. A new table is a new constant here, its variant of `Which`, and its lines in
-//! `fields_of` and `number_of`.
+//! The ten tables of the containers: what a field is, the constants, and the fields of each table.
+//! The tables stand in `docs/formats.md`, "Schemas". A new table is a new constant here, its
+//! variant of `Which`, and its lines in `fields_of` and `number_of`.
 
 ghost use Rattle.std.specs.Prelude.{◌≡◌, ◌≤◌};
 ghost use Rattle.adb_tables.specs.Schema.{table, schema_number, shape_of, shapes_of};
@@ -9,52 +9,68 @@ ghost use Rattle.adb_tables.specs.FormatTables.{format_table, program_table};
 ghost use Rattle.adb_tables.specs.declared.tables.Which.{Which};
 ghost use Rattle.adb_tables.specs.declared.tables.Kind.TheVariants as Kinds;
 
-/// A table: which object a word is read as (apk-v3(5)).
+/// One of the ten tables: as which object a word is read.
 #[derive(Clone, Copy, Debug, PartialEq, Eq)]
 pub enum Which {
+    /// Table 1: a dependency.
     Dep,
+    /// Table 2: an access list.
     Acl,
+    /// Table 3: the information of a package.
     PkgInfo,
+    /// Table 4: a file of a folder.
     File,
+    /// Table 5: a folder of a package.
     Dir,
+    /// Table 6: a package's scripts.
     Scripts,
+    /// Table 7: a package.
     Package,
+    /// Table 8: an index of packages.
     Index,
+    /// Table 9: an installed database.
     Idb,
+    /// Table 10: what a change is about to remove and to write.
     Intent,
 }
 
-/// What a field holds: an integer, a text, a hash, an object of a table, or an array of texts or of
-/// such objects.
+/// Which kind of value a field holds.
 #[derive(Clone, Copy, Debug, PartialEq, Eq)]
 pub enum Kind {
+    /// An integer.
     Int,
+    /// A text.
     Text,
+    /// A hash.
     Hash,
+    /// An object of a table.
     Obj(Which),
+    /// An array of texts.
     TextArr,
+    /// An array of objects of a table.
     ObjArr(Which),
 }
 
-/// A field of a table.
+/// A field of a table: its number is its place in the table.
 #[derive(Clone, Copy, Debug, PartialEq, Eq)]
 pub struct Field {
-    /// Its name.
+    /// The name of the field, as dumps print it.
     pub name: FieldName,
-    /// What it holds.
+    /// Which kind of value the field holds.
     pub kind: Kind,
 }
 
 /// A table of N fields.
 #[derive(Clone, Copy)]
 pub struct Schema<const N: usize> {
-    /// Its number. The number of a field is 100 times that of its table plus its own.
+    /// The number of the table. The number of a field, by which causes name it, is 100 times that
+    /// of its table plus its own.
     pub number: u16,
-    /// Its fields, in the order of their numbers, which count from 1.
+    /// The fields of the table, in the order of their numbers, which count from 1.
     pub fields: [Field; N],
 }
 
-/// A field's name.
+/// The name of a field, spelled as `text` says; fields of several tables may have one name.
 #[derive(Clone, Copy, Debug, PartialEq, Eq)]
 pub enum FieldName {
     Name,
@@ -180,14 +196,16 @@ macro_rules! field {
     };
 }
 
+/// The fields of table 1, in their order.
 const DEP_FIELDS: [Field; 3] = [field!(Name), field!(Version), field!(Match: Kind::Int)];
 
-/// A dependency.
+/// Table 1: a dependency.
 pub const DEP: Schema<3> = Schema {
     number: 1,
     fields: DEP_FIELDS,
 };
 
+/// The fields of table 2.
 const ACL_FIELDS: [Field; 4] = [
     field!(Mode: Kind::Int),
     field!(User),
@@ -195,12 +213,13 @@ const ACL_FIELDS: [Field; 4] = [
     field!(Xattrs: Kind::TextArr),
 ];
 
-/// Who may do what with a file or a folder.
+/// Table 2: an access list, which says whose a file or a folder is, and its mode.
 pub const ACL: Schema<4> = Schema {
     number: 2,
     fields: ACL_FIELDS,
 };
 
+/// The fields of table 3.
 const PKGINFO_FIELDS: [Field; 22] = [
     field!(Name),
     field!(Version),
@@ -226,12 +245,13 @@ const PKGINFO_FIELDS: [Field; 22] = [
     field!(Unused: Kind::Int),
 ];
 
-/// The information of a package.
+/// Table 3: the information of a package.
 pub const PKGINFO: Schema<22> = Schema {
     number: 3,
     fields: PKGINFO_FIELDS,
 };
 
+/// The fields of table 4.
 const FILE_FIELDS: [Field; 7] = [
     field!(Name),
     field!(Acl: Kind::Obj(Which::Acl)),
@@ -242,24 +262,26 @@ const FILE_FIELDS: [Field; 7] = [
     field!(Unused: Kind::Int),
 ];
 
-/// A file of a folder.
+/// Table 4: a file of a folder.
 pub const FILE: Schema<7> = Schema {
     number: 4,
     fields: FILE_FIELDS,
 };
 
+/// The fields of table 5.
 const DIR_FIELDS: [Field; 3] = [
     field!(Name),
     field!(Acl: Kind::Obj(Which::Acl)),
     field!(Files: Kind::ObjArr(Which::File)),
 ];
 
-/// A folder of a package.
+/// Table 5: a folder of a package.
 pub const DIR: Schema<3> = Schema {
     number: 5,
     fields: DIR_FIELDS,
 };
 
+/// The fields of table 6.
 const SCRIPTS_FIELDS: [Field; 7] = [
     field!(Trigger),
     field!(PreInstall),
@@ -270,12 +292,13 @@ const SCRIPTS_FIELDS: [Field; 7] = [
     field!(PostUpgrade),
 ];
 
-/// A package's scripts.
+/// Table 6: a package's scripts.
 pub const SCRIPTS: Schema<7> = Schema {
     number: 6,
     fields: SCRIPTS_FIELDS,
 };
 
+/// The fields of table 7.
 const PACKAGE_FIELDS: [Field; 5] = [
     field!(Info: Kind::Obj(Which::PkgInfo)),
     field!(Paths: Kind::ObjArr(Which::Dir)),
@@ -284,65 +307,77 @@ const PACKAGE_FIELDS: [Field; 5] = [
     field!(ReplacesPriority: Kind::Int),
 ];
 
-/// A package.
+/// Table 7: a package.
 pub const PACKAGE: Schema<5> = Schema {
     number: 7,
     fields: PACKAGE_FIELDS,
 };
 
+/// The fields of table 8.
 const INDEX_FIELDS: [Field; 3] = [
     field!(Description),
     field!(Packages: Kind::ObjArr(Which::PkgInfo)),
     field!(PkgnameSpec),
 ];
 
-/// An index of packages.
+/// Table 8: an index of packages.
 pub const INDEX: Schema<3> = Schema {
     number: 8,
     fields: INDEX_FIELDS,
 };
 
+/// The fields of table 9.
 const IDB_FIELDS: [Field; 1] = [field!(Packages: Kind::ObjArr(Which::Package))];
 
-/// An installed database.
+/// Table 9: an installed database.
 pub const IDB: Schema<1> = Schema {
     number: 9,
     fields: IDB_FIELDS,
 };
 
+/// The fields of table 10.
 const INTENT_FIELDS: [Field; 2] = [
     field!(Removals: Kind::TextArr),
     field!(Writes: Kind::TextArr),
 ];
 
-/// What a change is about to remove and to write.
+/// Table 10: an intent, which says what a change is about to remove and to write.
 pub const INTENT: Schema<2> = Schema {
     number: 10,
     fields: INTENT_FIELDS,
 };
 
-// The fields of each table as statics, so that `fields_of` can lend them.
+// The fields of table 1 as a static, so that `fields_of` can lend them.
 static DEP_ROWS: [Field; 3] = DEP_FIELDS;
 
+// The fields of table 2 as a static, so that `fields_of` can lend them.
 static ACL_ROWS: [Field; 4] = ACL_FIELDS;
 
+// The fields of table 3 as a static, so that `fields_of` can lend them.
 static PKGINFO_ROWS: [Field; 22] = PKGINFO_FIELDS;
 
+// The fields of table 4 as a static, so that `fields_of` can lend them.
 static FILE_ROWS: [Field; 7] = FILE_FIELDS;
 
+// The fields of table 5 as a static, so that `fields_of` can lend them.
 static DIR_ROWS: [Field; 3] = DIR_FIELDS;
 
+// The fields of table 6 as a static, so that `fields_of` can lend them.
 static SCRIPTS_ROWS: [Field; 7] = SCRIPTS_FIELDS;
 
+// The fields of table 7 as a static, so that `fields_of` can lend them.
 static PACKAGE_ROWS: [Field; 5] = PACKAGE_FIELDS;
 
+// The fields of table 8 as a static, so that `fields_of` can lend them.
 static INDEX_ROWS: [Field; 3] = INDEX_FIELDS;
 
+// The fields of table 9 as a static, so that `fields_of` can lend them.
 static IDB_ROWS: [Field; 1] = IDB_FIELDS;
 
+// The fields of table 10 as a static, so that `fields_of` can lend them.
 static INTENT_ROWS: [Field; 2] = INTENT_FIELDS;
 
-/// The fields of a table.
+/// The fields of a table, in the order of their numbers.
 pub fn fields_of(which: Which) -> &'static [Field]
     ensures { result.now ≡ table which }
 {
@@ -360,7 +395,7 @@ pub fn fields_of(which: Which) -> &'static [Field]
     }
 }
 
-/// The number of a table.
+/// The number of a table, from 1 to 10.
 pub fn number_of(which: Which) -> u16
     ensures value { result ≡ schema_number which }
     ensures small { result ≤ 10 }
@@ -378,12 +413,13 @@ pub fn number_of(which: Which) -> u16
         Which::Intent => INTENT.number,
     }
 }
-/// The tables have the numbers, names and kinds that the formats list.
+
+/// A law: the tables have the numbers, names and kinds that the formats list.
 pub fn tables_are_as_listed()
     ensures { (which : Which) → program_table which ≡ format_table which }
 {}
 
-/// Each object has the fields of its table, however deep it stands.
+/// A law: each object has the fields of its table, however deep it stands in another.
 pub fn tables_are_unrolled_whole()
     ensures { (which : Which) → shape_of (Kinds.Obj which)
         ≡ object (schema_number which) (shapes_of (table which)) }

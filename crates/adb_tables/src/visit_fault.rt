@@ -1,4 +1,5 @@
-//! The fault of a visit, as the walk hands it from value to value.
+//! The fault of a visit, as the walk hands it from value to value. Which faults there are, and in
+//! which order they are looked for, stands in `docs/formats.md`, "The shape".
 
 ghost use Rattle.std.specs.Prelude.{◌≡◌, true};
 ghost use Rattle.adb_tables.specs.VisitFault.{cause_of_fault, is_reader_fault};
@@ -9,16 +10,16 @@ use base_core::Cause;
 /// walk hands this on, and its caller makes a cause of it.
 #[derive(Clone, Copy)]
 pub(crate) enum VisitFault {
-    /// The visit with this number is one too many.
+    /// The visit with this number, counted from 1, is one too many.
     TooLarge { count: u32 },
-    /// The word is of another kind.
+    /// The word is of another kind than its shape asks for.
     WrongKind { word: u32 },
     /// What the word points to leaves the payload.
     Outside { word: u32 },
 }
 
 impl VisitFault {
-    /// Why a reader refused a word.
+    /// The fault of a visit whose word a reader refused for this cause.
     pub(crate) fn of_reader(cause: Cause) -> VisitFault
         requires { is_reader_fault cause ≡ true }
         ensures { cause_of_fault result ≡ cause }
@@ -30,7 +31,7 @@ impl VisitFault {
         }
     }
 
-    /// The cause that is reported.
+    /// The cause that is reported of the fault.
     pub(crate) fn cause(self) -> Cause
         ensures { result ≡ cause_of_fault self }
     {

@@ -1,6 +1,8 @@
-//! The walk over a payload's values that tests their shape.
+//! The walk over a payload's values that tests their shape: depth first, each visit counted and
+//! then tested. The rule stands in `docs/formats.md`, "The shape". In the clauses `bound` says that
+//! the count of visits stays within its limit.
 
-ghost use Rattle.std.specs.Prelude.{◌<◌, slice_index, ◌≡◌, ◌≤◌, ◌+◌, IfOk, true, is_some, length, is_none, ◌↔◌, ℕ, List, Some, None};
+ghost use Rattle.std.specs.Prelude.{min, drop, ◌<◌, slice_index, ◌≡◌, ◌≤◌, ◌+◌, IfOk, true, is_some, length, is_none, ◌↔◌, ℕ, List, Some, None};
 ghost use Rattle.std.specs.Result.{result_err};
 ghost use Rattle.adb_view.specs.Plain.{Fields, plains_of, Shape, object, plain_of};
 ghost use Rattle.adb_view.specs.Visits.{field_visits, visits, MOST_VALUES};
@@ -14,6 +16,7 @@ ghost use Rattle.adb_tables.specs.Walk.{first_fault_from, shape_fault};
 ghost use Rattle.adb_tables.specs.CountedWalk.{fields_walk};
 ghost use Rattle.adb_tables.specs.CountedWalk.{walk};
 ghost use Rattle.adb_tables.specs.CountedWalk.{each_walk};
+ghost use Rattle.adb_tables.specs.Leaves.{leading_leaves};
 ghost use Rattle.adb_tables.specs.FirstFault.{IsFirstFault};
 ghost use Rattle.adb_tables.specs.VisitFault.{with_cause};
 ghost use Rattle.adb_tables.specs.Shaped.{adb_of, table_of};
@@ -22,21 +25,21 @@ ghost use Rattle.base_core.specs.declared.cause.Cause.{Cause};
 ghost use Rattle.adb_tables.specs.declared.tables.Which.{Which};
 ghost use Rattle.adb_tables.specs.declared.tables.Kind.TheVariants as Kinds;
 
-use crate::readers::{read_array, read_blob, read_int, read_object};
+use crate::readers::{is_sound_leaf, read_array, read_blob, read_int, read_object};
 use crate::shaped::Shaped;
 use crate::tables::{Field, Kind, Which, fields_of};
 use crate::visit_fault::VisitFault;
 use adb_view::{Adb, Arr, Val, value_is_found_where_visits_are_sound};
 use base_core::Cause;
 
-/// The entries of an object, those past its fields too.
+/// The entries of the object that a word is, those past its table's fields too.
 pub fn object_entries<'a>(adb: Adb<'a>, object: Val) -> Result<Arr<'a>, Cause>
     ensures { Gives array_entries result (run_of OBJECT (payload_of adb.entry) object) }
 {
     Ok(adb.obj::<0>(object)?.entries())
 }
 
-/// The word of an entry, counted from 0.
+/// The word of an entry, by its index, which counts from 0.
 pub fn entry_word(entries: Arr<'_>, i: usize) -> Val
     requires { i < length (array_entries entries) }
     ensures { result ≡ slice_index (array_entries entries.entry) i }
@@ -46,8 +49,8 @@ pub fn entry_word(entries: Arr<'_>, i: usize) -> Val
     entries.get(i + 1)
 }
 
-/// How many visits the walk of a payload may have; a word that stands at two places is visited
-/// twice.
+/// How many visits the walk of a payload may have (`docs/formats.md`, "The shape"); a word that
+/// stands at two places is visited twice.
 const MOST_VISITS: u32 = 4_194_304;
 
 /// Walks a payload's values from its root, as an object of this table: a word, then its entries in
@@ -72,10 +75,10 @@ pub fn shape(adb: Adb<'_>, which: Which) -> Result<Shaped<'_>, Cause>
     }
 }
 
-/// Visits a word and what lies below it, behind so many visits, and answers how many there were
-/// then.
+/// Visits a word and what lies below it. `before` is how many visits there were, and the answer how
+/// many there are then.
 #[cycle(walk)]
-#[tactic(auto, using(crate::proofs::WalkSteps::walk_full, crate::proofs::WalkSteps::int_ok, crate::proofs::WalkSteps::int_err, crate::proofs::WalkSteps::text_ok, crate::proofs::WalkSteps::text_err, crate::proofs::WalkSteps::hash_ok, crate::proofs::WalkSteps::hash_err, crate::proofs::WalkSteps::texts_ok, crate::proofs::WalkSteps::texts_err, crate::proofs::WalkSteps::objects_ok, crate::proofs::WalkSteps::objects_err, crate::proofs::WalkSteps::object_ok, crate::proofs::WalkSteps::object_err))]
+#[tactic(auto, using(crate::proofs::WalkSteps::walk_full, crate::proofs::WalkSteps::int_ok, crate::proofs::WalkSteps::int_err, crate::proofs::WalkSteps::text_ok, crate::proofs::WalkSteps::text_err, crate::proofs::WalkSteps::hash_ok, crate::proofs::WalkSteps::hash_err, crate::proofs::WalkSteps::texts_ok, crate::proofs::WalkSteps::texts_err, crate::proofs::WalkSteps::objects_ok, crate::proofs::WalkSteps::objects_err))]
 fn walk_value(adb: Adb<'_>, kind: Kind, before: u32, word: Val) -> Result<u32, VisitFault>
     requires { before ≤ MOST_VALUES }
     ensures exact { with_cause result ≡ walk (payload_of adb.entry) (shape_of kind) before word }
@@ -95,39 +98,87 @@ fn walk_value(adb: Adb<'_>, kind: Kind, before: u32, word: Val) -> Result<u32, V
             Err(fault) => Err(fault),
         },
         Kind::TextArr => match read_array(adb, word) {
-            Ok(texts) => walk_entries(adb, Kind::Text, count, texts),
+            Ok(texts) => walk_texts(adb, count, texts),
             Err(fault) => Err(fault),
         },
         Kind::ObjArr(which) => match read_array(adb, word) {
-            Ok(objects) => walk_entries(adb, Kind::Obj(which), count, objects),
+            Ok(objects) => walk_objects(adb, which, count, objects),
             Err(fault) => Err(fault),
         },
-        Kind::Obj(which) => match read_object(adb, word) {
-            Ok(entries) => walk_each_field(adb, fields_of(which), count, entries),
-            Err(fault) => Err(fault),
-        },
+        Kind::Obj(which) => walk_object(adb, which, before, word),
     }
 }
 
-/// Visits the entries of an array.
+/// Visits the entries of an array of texts, and counts as `walk_value` does.
 #[cycle(walk)]
-fn walk_entries(adb: Adb<'_>, kind: Kind, before: u32, entries: Arr<'_>) -> Result<u32, VisitFault>
+#[tactic(auto, using(crate::proofs::WalkSteps::texts_leaf, crate::proofs::WalkSteps::each_more, crate::proofs::WalkSteps::each_stops, crate::proofs::WalkSteps::each_done))]
+fn walk_texts(adb: Adb<'_>, before: u32, texts: Arr<'_>) -> Result<u32, VisitFault>
     requires { before ≤ MOST_VALUES }
     ensures exact { with_cause result
-        ≡ each_walk (walk (payload_of adb.entry) (shape_of kind)) before
-        (array_entries entries.entry) }
+        ≡ each_walk (walk (payload_of adb.entry) (shape_of Kinds.Text)) before
+        (array_entries texts.entry) }
     ensures bound { IfOk result (λ n. n ≤ MOST_VALUES) }
 {
     let mut count = before;
-    for i in 0..entries.len() {
-        count = walk_value(adb, kind, count, entry_word(entries, i))?;
+    for i in 0..texts.len() {
+        let word = entry_word(texts, i);
+        if count < MOST_VISITS && is_sound_leaf(adb, Kind::Text, word) {
+            count += 1;
+        } else {
+            count = walk_value(adb, Kind::Text, count, word)?;
+        }
     }
     Ok(count)
 }
 
-/// Visits the entries of an object that have one of these fields.
+/// Visits the entries of an array of objects of a table, and what lies below them, and counts as
+/// `walk_value` does.
 #[cycle(walk)]
-#[tactic(auto, using(crate::proofs::WalkSteps::fields_more, crate::proofs::WalkSteps::fields_stop, crate::proofs::WalkSteps::fields_past, crate::proofs::WalkSteps::fields_past_words, crate::proofs::WalkSteps::field_rank))]
+fn walk_objects(
+    adb: Adb<'_>,
+    which: Which,
+    before: u32,
+    objects: Arr<'_>,
+) -> Result<u32, VisitFault>
+    requires { before ≤ MOST_VALUES }
+    ensures exact { with_cause result
+        ≡ each_walk (walk (payload_of adb.entry) (shape_of (Kinds.Obj which))) before
+        (array_entries objects.entry) }
+    ensures bound { IfOk result (λ n. n ≤ MOST_VALUES) }
+{
+    let mut count = before;
+    for i in 0..objects.len() {
+        count = walk_object(adb, which, count, entry_word(objects, i))?;
+    }
+    Ok(count)
+}
+
+/// Visits an object of a table, and what lies below it, and counts as `walk_value` does.
+#[cycle(walk)]
+#[inline(always)]
+#[tactic(auto, using(crate::proofs::WalkSteps::walk_full, crate::proofs::WalkSteps::object_ok, crate::proofs::WalkSteps::object_err))]
+fn walk_object(adb: Adb<'_>, which: Which, before: u32, word: Val) -> Result<u32, VisitFault>
+    requires { before ≤ MOST_VALUES }
+    ensures exact { with_cause result
+        ≡ walk (payload_of adb.entry) (shape_of (Kinds.Obj which)) before word }
+    ensures bound { IfOk result (λ n. n ≤ MOST_VALUES) }
+{
+    let count = before + 1;
+    if count > MOST_VISITS {
+        return Err(VisitFault::TooLarge { count });
+    }
+    match read_object(adb, word) {
+        Ok(entries) => walk_each_field(adb, fields_of(which), count, entries),
+        Err(fault) => Err(fault),
+    }
+}
+
+/// Visits the entries of an object that have one of these fields, each by its field's kind, and
+/// counts as `walk_value` does. Entries past the fields are not looked at. Where there is room for
+/// the first of them that have nothing below, these are counted at once.
+#[cycle(walk)]
+#[inline(always)]
+#[tactic(auto, using(crate::proofs::LeafSteps::leaves_walk, crate::proofs::LeafSteps::leaves_fit, crate::proofs::WalkSteps::fields_end))]
 fn walk_each_field(
     adb: Adb<'_>,
     fields: &[Field],
@@ -140,14 +191,63 @@ fn walk_each_field(
         (array_entries entries.entry) }
     ensures bound { IfOk result (λ n. n ≤ MOST_VALUES) }
 {
+    let leaves = leading_leaves(adb, fields, entries);
+    if before as usize + leaves > MOST_VISITS as usize {
+        return walk_fields_from(adb, fields, 0, before, entries);
+    }
+    let count = before + leaves as u32;
+    if leaves == fields.len().min(entries.len()) {
+        return Ok(count);
+    }
+    walk_fields_from(adb, fields, leaves, count, entries)
+}
+
+/// Visits the entries of an object that have one of these fields, from this index on.
+#[cycle(walk)]
+#[inline(never)]
+#[tactic(auto, using(crate::proofs::WalkSteps::fields_more, crate::proofs::WalkSteps::fields_stop, crate::proofs::WalkSteps::fields_end, crate::proofs::WalkSteps::field_rank, crate::proofs::WalkSteps::fields_leaf))]
+fn walk_fields_from(
+    adb: Adb<'_>,
+    fields: &[Field],
+    from: usize,
+    before: u32,
+    entries: Arr<'_>,
+) -> Result<u32, VisitFault>
+    requires few { before ≤ MOST_VALUES }
+    requires within { from ≤ min (length fields.now) (length (array_entries entries)) }
+    ensures exact { with_cause result
+        ≡ fields_walk (payload_of adb.entry) (shapes_of (drop from fields.now)) before
+        (drop from (array_entries entries.entry)) }
+    ensures bound { IfOk result (λ n. n ≤ MOST_VALUES) }
+{
     let mut count = before;
-    for (i, field) in fields.iter().enumerate() {
-        if i >= entries.len() {
-            break;
+    for i in from..fields.len().min(entries.len()) {
+        let kind = fields[i].kind;
+        let word = entry_word(entries, i);
+        if count < MOST_VISITS && is_sound_leaf(adb, kind, word) {
+            count += 1;
+        } else {
+            count = walk_value(adb, kind, count, word)?;
         }
-        count = walk_value(adb, field.kind, count, entry_word(entries, i))?;
     }
     Ok(count)
+}
+
+/// How many entries of an object have nothing below them and can be read, from the first on, each
+/// as the kind of its field asks.
+#[inline(always)]
+#[tactic(auto, using(crate::proofs::LeafSteps::leaves_more, crate::proofs::LeafSteps::leaves_stop, crate::proofs::LeafSteps::leaves_end))]
+fn leading_leaves(adb: Adb<'_>, fields: &[Field], entries: Arr<'_>) -> usize
+    ensures { result
+        ≡ leading_leaves (payload_of adb.entry) fields.now (array_entries entries.entry) }
+{
+    let most = fields.len().min(entries.len());
+    for i in 0..most {
+        if !is_sound_leaf(adb, fields[i].kind, entry_word(entries, i)) {
+            return i;
+        }
+    }
+    most
 }
 
 /// Visits the entries of an object that have one of these fields, whatever the fields, behind so

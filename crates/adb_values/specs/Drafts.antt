@@ -1,16 +1,21 @@
--- A draft as contracts see it, and what each call makes of it: one value more, or an open list.
+-- A draft as contracts see it, and what each call makes of it: one value more, or an open list. The
+-- rule stands in `docs/formats.md`, "Canonical layout" ("Values are written depth first"); how the
+-- calls chain, in the README of this crate.
 use Rattle.std.specs.Prelude.{ℕ, List, [], ◌∷◌, ◌++◌, length}
 use Rattle.adb_view.specs.Plain.{Plain, Plains, none, more}
 use Rattle.adb_write.specs.Writing.{Writing, empty_writing, calls}
 
--- What the writer wrote, the words of the values that are in no closed list, and for each open list
--- how many of them stand before it. Only the definitions below look into it.
+-- a draft: what its writer wrote, the words of the values that are in no closed list, and for each
+-- open list how many of them stand before it. Only the definitions below look into it
 pub record DraftState : Type 0 where
+  -- what its writer wrote
   pub writing : Writing
+  -- the words of the values that are in no closed list
   pub words : List ℕ
+  -- how many words stand before each open list, the one that was opened last standing last
   pub starts : List ℕ
 
--- the draft that has these parts
+-- the draft of a writer that has written this, with these words and these beginnings of open lists
 abbrev pub draft_by : Writing → List ℕ → List ℕ → DraftState
 draft_by writing words starts = record { writing = writing; words = words; starts = starts }
 
@@ -18,16 +23,16 @@ draft_by writing words starts = record { writing = writing; words = words; start
 abbrev pub empty_draft : DraftState
 empty_draft = draft_by empty_writing [] []
 
--- with one value more: it is written depth first
+-- a draft with one value more, which is written depth first
 unfoldable pub draft_with : Plain → DraftState → DraftState
 draft_with v d =
     draft_by (calls v d.writing).1 (d.words ++ (calls v d.writing).0 ∷ []) d.starts
 
--- with these values more, in order
+-- a draft with these values more, in order
 abbrev pub draft_with_all : Plains → DraftState → DraftState
 draft_with_all none d = d
 draft_with_all (more v vs) d = draft_with_all vs (draft_with v d)
 
--- with an open list, which takes the values that come
+-- a draft with one list more that is open, and takes the values that come
 unfoldable pub draft_with_open_list : DraftState → DraftState
 draft_with_open_list d = draft_by d.writing d.words (d.starts ++ length d.words ∷ [])

@@ -1,3 +1,5 @@
+-- The definitions of `adb_values`. The head of each file says where its rule stands.
+
 -- what the contracts of this crate's calls say, in the order in which it is best read
 pub mod Drafts
 pub mod Words

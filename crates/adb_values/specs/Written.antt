@@ -1,10 +1,12 @@
--- What a writer of values answers.
+-- What a writer of values answers. Its limits stand in `docs/formats.md`, "Canonical layout" ("A
+-- payload has at most").
 use Rattle.std.specs.Prelude.{◌≡◌, ℕ, List, Result, Ok, Err}
 use Rattle.adb_write.specs.Canonical.{PayloadCounts}
 use Rattle.adb_write.specs.declared.writer.WriteFault.{WriteFault}
 use Rattle.adb_write.specs.declared.writer.WriteFault.TheVariants.{TooLarge, Memory}
 
--- what was wanted, or the counts at which the writer overflows; want of memory says nothing of it
+-- a writer of values ends as the definition says: with what was wanted, or with the counts at which
+-- it overflows; where memory was wanting nothing is said
 abbrev pub IsWrittenAs :
     {A : Type 0} → (A → List ℕ) → Result A WriteFault → Result (List ℕ) PayloadCounts → Type 0
 IsWrittenAs view (Ok x) wanted = wanted ≡ Ok (view x)

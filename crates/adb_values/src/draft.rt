@@ -1,4 +1,7 @@
-//! A payload under construction.
+//! A payload under construction. What is written stands in `docs/formats.md`, "Canonical layout"
+//! ("Values are written depth first"); where a limit is passed, below "A payload has at most". How
+//! the calls chain is told in the README of this crate. In the clauses `ok` says what the draft has
+//! taken, and `err` that a refused call leaves it as it was.
 
 ghost use Rattle.std.specs.Prelude.{◌≡◌, ℕ, ◌<◌, ◌≤◌, List, ◌∷◌, ◌++◌, [], length, take, true, false, IfOk, OnErr, OnOk, vec_capacity, vec_len};
 ghost use Rattle.adb_view.specs.Plain.{Plain, Plains, arr_value, blob_value, int, null, obj_value};
@@ -18,6 +21,7 @@ use std::marker::Model;
 /// A call that is refused memory leaves the draft as it was.
 #[derive(Drop)]
 pub struct Draft {
+    /// What writes the values.
     writer: Writer,
     /// The words of the values that are in no closed list.
     words: Vec<Val>,
@@ -48,7 +52,7 @@ impl Draft {
         }
     }
 
-    /// Adds Null.
+    /// Adds a Null.
     pub fn null(&mut self) -> Result<(), AllocError>
         ensures ok { OnOk result (self.new ≡ draft_with null self.old) }
         ensures err { OnErr result (self.new ≡ self.old) }
@@ -77,7 +81,7 @@ impl Draft {
         Ok(())
     }
 
-    /// The same, and answers the blob's word, by which it is added again.
+    /// Adds a blob, as `blob` does, and answers its word, by which it is added again.
     pub fn blob_word(&mut self, bytes: &[u8]) -> Result<Val, AllocError>
         ensures ok { OnOk result (self.new ≡ draft_with (blob_value bytes.now) self.old) }
         ensures err { OnErr result (self.new ≡ self.old) }
@@ -142,7 +146,7 @@ impl Draft {
         Ok(())
     }
 
-    /// How many words stand before the list that was opened last.
+    /// How many words stand before the list that was opened last; 0 where no list is open.
     fn last_start(&self) -> usize
         ensures is { result ≡ last_start self.now }
         ensures within { result ≤ length self.now.words }
@@ -168,7 +172,7 @@ impl Draft {
     }
 }
 
-/// The word, or NULL where the writer passed a limit.
+/// This word, or NULL where the writer passed a limit, as its calls answer then.
 fn word_unless_over(writer: &Writer, word: Val) -> Val
     ensures within { is_over writer.now ≡ false → result ≡ word }
     ensures over { is_over writer.now ≡ true → result ≡ 0 }
@@ -179,7 +183,8 @@ fn word_unless_over(writer: &Writer, word: Val) -> Val
     word
 }
 
-/// Puts a word in the place of those from `start` on.
+/// Puts one word, that of a closed list, in the place of those from `start` on, the words of its
+/// values.
 fn replace_from(words: &mut Vec<Val>, start: usize, word: Val)
     requires room { vec_len words.old < vec_capacity words.old }
     ensures { words.new.items ≡ take start words.old.items ++ word ∷ [] }
@@ -190,7 +195,7 @@ fn replace_from(words: &mut Vec<Val>, start: usize, word: Val)
     }
 }
 
-/// The last of some words, or NULL where there is none.
+/// The last of some words, that of the root, or NULL where there is none.
 fn last_word(words: &[Val]) -> Val
     ensures { result ≡ last_word words.now }
 {

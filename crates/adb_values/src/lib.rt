@@ -4,6 +4,8 @@
 //! it takes is written at once, so that a draft needs the memory of a payload and four bytes for
 //! each entry of an open list. The contracts cite `Drafts` (a draft, and what it has taken) and
 //! `Written` (what it ends with) of `specs/`.
+//!
+//! The rules stand in `docs/formats.md`, "Canonical layout".
 #![tactic(auto)]
 
 mod draft;

@@ -1,7 +1,8 @@
--- What an opened payload shows.
+-- What an opened payload shows. Serves the contracts of this crate; the rules stand in
+-- `docs/formats.md`, "Values".
 use Rattle.std.specs.Prelude.{ℕ, List}
 use Rattle.adb_view.specs.declared.adb.Adb.{Adb}
 
--- the bytes that it lends
+-- the bytes of the payload that was opened, its head with them
 abbrev pub payload_of : Adb → List ℕ
 payload_of adb = adb.payload.now

@@ -1,4 +1,5 @@
--- Ranges and numbers of a byte list.
+-- Ranges and numbers of a byte list. The rule stands in `docs/formats.md`, "Values": an offset
+-- counts bytes from the payload's start, and a range that leaves the payload is none.
 use Rattle.std.specs.Prelude.{ℕ, zero, suc, ◌+◌, List, [], ◌∷◌, length, take, drop, Option, Some, None, option_map, nat_le, if◌then◌else◌}
 use Rattle.std.specs.Int.{Width, w32, byte_len, from_le_bytes}
 
@@ -7,11 +8,11 @@ abbrev pub range_at : List ℕ → ℕ → ℕ → Option (List ℕ)
 range_at bytes at len = if nat_le (at + len) (length bytes) then Some (take len (drop at bytes))
     else None
 
--- the little-endian number that stands at `at`
+-- the little-endian number of this width that stands at `at`; None where it passes the end
 abbrev pub number_at : Width → List ℕ → ℕ → Option ℕ
 number_at w bytes at = option_map (from_le_bytes w) (range_at bytes at (byte_len w))
 
--- the first n words of the bytes, of four bytes each
+-- the first n words of the bytes: numbers of four bytes each
 unfoldable pub words : ℕ → List ℕ → List ℕ
 words zero bytes = []
 words (suc n) bytes = from_le_bytes w32 (take 4 bytes) ∷ words n (drop 4 bytes)

@@ -1,17 +1,18 @@
--- What the two views of a run show: the words of its entries.
+-- What the two views of a run show: the words of its entries. The rule stands in `docs/formats.md`,
+-- "Values" ("The first word of a run"): entries count from 1, and one past the last is NULL.
 use Rattle.std.specs.Prelude.{ℕ, ◌/◌, ◌-◌, List, length, slice_index}
 use Rattle.adb_view.specs.Bytes.{words}
 use Rattle.adb_view.specs.declared.run.Arr.{Arr}
 use Rattle.adb_view.specs.declared.run.Obj.{Obj}
 
--- the words of an array that was read
+-- the words of the entries of an array that was read
 abbrev pub array_entries : Arr → List ℕ
 array_entries array = words (length array.bytes.now / 4) array.bytes.now
 
--- those past its fields too
+-- the words of the entries of an object that was read, those past its fields too
 abbrev pub object_entries : {N : ℕ} → Obj N → List ℕ
 object_entries object = array_entries object.entries
 
--- the entry with this number, counted from 1; behind the last it is 0, which is NULL
+-- the entry at this position, which counts from 1; behind the last it is 0, which is NULL
 abbrev pub entry_at : List ℕ → ℕ → ℕ
 entry_at entries i = slice_index entries (i - 1)

@@ -1,13 +1,15 @@
--- A call's answer, seen by a view, is what a definition gives.
+-- A call's answer, seen by a view, is what a definition gives. Serves the contracts of the readers
+-- (their rows in the README of this crate).
 use Rattle.std.specs.Prelude.{◌≡◌, Result, Ok, Err, Option, Some, None}
 use Rattle.base_core.specs.declared.cause.Cause.{Cause}
 
--- the answer is a value's view, or the same cause
+-- a call answers as the definition says: with a value whose view is the definition's value, or with
+-- the same cause
 abbrev pub Gives : {X Y : Type 0} → (X → Y) → Result X Cause → Result Y Cause → Type 0
 Gives view (Ok x) answer = answer ≡ Ok (view x)
 Gives view (Err c) answer = answer ≡ Err c
 
--- the same of an Option
+-- the same of a call that answers an Option: the value that the definition has, or none
 abbrev pub Finds : {X Y : Type 0} → (X → Y) → Option X → Option Y → Type 0
 Finds view (Some x) answer = answer ≡ Some (view x)
 Finds view None answer = answer ≡ None

@@ -1,9 +1,11 @@
--- Plain values, the shapes that tables of fields give them, and the plain value of a word.
+-- Plain values, the shapes that tables of fields give them, and the plain value of a word. The
+-- rules stand in `docs/formats.md`, "Values" ("A table of fields gives each word a shape").
 use Rattle.std.specs.Prelude.{◌≡◌, ◌≢◌, ℕ, suc, ◌<◌, ◌^◌, List, [], ◌∷◌, Option, Some, None, option_map, option_and_then, Result, Ok, Err, ◌==◌, if◌then◌else◌}
 use Rattle.adb_view.specs.Readers.{int_of, blob_of, run_of, ARRAY, OBJECT}
 use Rattle.adb_view.specs.Head.{root_of}
 use Rattle.base_core.specs.declared.cause.Cause.{Cause}
 
+-- a plain value: Null, an integer, the bytes of a blob, or the values of an array or an object
 mutual
   pub data Plain : Type 0 where
     null : Plain
@@ -12,11 +14,13 @@ mutual
     arr : Plains → Plain
     obj : Plains → Plain
 
+  -- the values of an array or of an object, in order
   pub data Plains : Type 0 where
     none : Plains
     more : Plain → Plains → Plains
 
--- What a field may hold. An object has its schema's number, and a name and a shape for each field.
+-- what a field may hold: a number, a text, a hash, an array of a shape, or an object, which has the
+-- number of its table, and a name and a shape for each field
 mutual
   pub data Shape : Type 0 where
     number : Shape
@@ -25,28 +29,29 @@ mutual
     array : Shape → Shape
     object : ℕ → Fields → Shape
 
+  -- the fields of an object: of each its name and its shape
   pub data Fields : Type 0 where
     no_fields : Fields
     field : List ℕ → Shape → Fields → Fields
 
 -- ---- an empty blob or array, and an object without a value, are Null
 
--- some bytes as a value; no bytes are Null
+-- bytes as a plain value; no bytes are Null
 abbrev pub blob_value : List ℕ → Plain
 blob_value [] = null
 blob_value (b ∷ bs) = blob (b ∷ bs)
 
--- some values as an array; none are Null
+-- the values of an array as a plain value; none are Null
 abbrev pub arr_value : Plains → Plain
 arr_value none = null
 arr_value (more v vs) = arr (more v vs)
 
--- some values as an object; none are Null
+-- the values of an object as a plain value; none are Null
 abbrev pub obj_of : Plains → Plain
 obj_of none = null
 obj_of (more v vs) = obj (more v vs)
 
--- a value in front, but no Null that would stand last
+-- the values of an object with one more in front, but a Null that would stand last is dropped
 abbrev pub keep : Plain → Plains → Plains
 keep null none = none
 keep null (more v vs) = more null (more v vs)
@@ -55,45 +60,47 @@ keep (blob b) vs = more (blob b) vs
 keep (arr us) vs = more (arr us) vs
 keep (obj us) vs = more (obj us) vs
 
--- without the Nulls that stand last
+-- the values of an object without the Nulls that stand last
 abbrev pub without_last_nulls : Plains → Plains
 without_last_nulls none = none
 without_last_nulls (more v vs) = keep v (without_last_nulls vs)
 
--- some values as an object, without the Nulls at its end
+-- the values of an object's fields as a plain value, without the Nulls at its end
 abbrev pub obj_value : Plains → Plain
 obj_value vs = obj_of (without_last_nulls vs)
 
--- how many values there are
+-- how many values a list of them has
 abbrev pub count_of : Plains → ℕ
 count_of none = 0
 count_of (more v vs) = suc (count_of vs)
 
--- a blob for each text
+-- the plain values of texts: a blob for each, and Null for an empty one
 abbrev pub text_plains : List (List ℕ) → Plains
 text_plains [] = none
 text_plains (t ∷ ts) = more (blob_value t) (text_plains ts)
 
 -- ---- the plain value of a word under a shape
 
--- Null stands for NULL, whatever the shape
+-- the plain value of a word: Null where the word is NULL, whatever its shape, else `v`
 abbrev pub unless_null : ℕ → Option Plain → Option Plain
 unless_null word v = if word == 0 then Some null else v
 
--- what is made of an answer; nothing of a cause
+-- what `f` makes of a reader's answer; None where it refused the word with a cause
 abbrev pub from_answer : {A B : Type 0} → (A → Option B) → Result A Cause → Option B
 from_answer f (Ok x) = f x
 from_answer f (Err c) = None
 
--- a value before others, where both were found
+-- a value with others behind it; None where one of them was not found
 abbrev pub then_more : Option Plain → Option Plains → Option Plains
 then_more v vs = option_and_then (λ v. option_map (more v) vs) v
 
--- the value of each word in order, where each has one
+-- the value of each word in order; None where one of the words has none
 abbrev pub each_plain : (ℕ → Option Plain) → List ℕ → Option Plains
 each_plain f [] = Some none
 each_plain f (w ∷ ws) = then_more (f w) (each_plain f ws)
 
+-- the plain value that the word `w` has in the payload `p` under a shape, by the reader of the shape;
+-- None where one of the words below it cannot be read
 unfoldable mutual
   pub plain_of : List ℕ → Shape → ℕ → Option Plain
   plain_of p number w = unless_null w (from_answer (λ n. Some (int n)) (int_of p w))
@@ -104,7 +111,8 @@ unfoldable mutual
   plain_of p (object schema fs) w = unless_null w
       (from_answer (λ ws. option_map obj_value (plains_of p fs ws)) (run_of OBJECT p w))
 
-  -- entries past the fields are not looked at
+  -- the plain values of an object's entries by its fields; entries past the fields are not looked
+  -- at
   pub plains_of : List ℕ → Fields → List ℕ → Option Plains
   plains_of p no_fields ws = Some none
   plains_of p (field name s fs) [] = Some none
@@ -116,7 +124,8 @@ value_of p s = plain_of p s (root_of p)
 
 -- ---- normal values
 
--- integers below 2 ^ 64, no empty blob or list, and no Null that stands last in an object
+-- a value is normal: integers below 2 ^ 64, no empty blob or list, and no Null that stands last in an
+-- object
 unfoldable mutual
   pub IsNormal : Plain → Type 0
   IsNormal null = Unit {0}
@@ -125,6 +134,7 @@ unfoldable mutual
   IsNormal (arr vs) = (vs ≢ none) × AreNormal vs
   IsNormal (obj vs) = (vs ≢ none) × (without_last_nulls vs ≡ vs) × AreNormal vs
 
+  -- each of the values of a list is normal
   pub AreNormal : Plains → Type 0
   AreNormal none = Unit {0}
   AreNormal (more v vs) = IsNormal v × AreNormal vs

@@ -1,26 +1,28 @@
--- The words that a walk over a value visits, and whether each can be read.
+-- The words that a walk over a value visits, and whether each can be read. The rule stands in
+-- `docs/formats.md`, "The shape".
 use Rattle.std.specs.Prelude.{ℕ, Bool, is_none, List, [], ◌∷◌, ◌++◌, Option, Result, Ok, Err}
 use Rattle.std.specs.Result.{result_err}
 use Rattle.adb_view.specs.Plain.{Shape, number, text, hash, array, object, Fields, no_fields, field}
 use Rattle.adb_view.specs.Readers.{int_of, blob_of, run_of, ARRAY, OBJECT}
 use Rattle.base_core.specs.declared.cause.Cause.{Cause}
 
--- a word, and the shape that is asked of it
+-- a visit of a walk: the word that is looked at, and the shape that is asked of it
 pub record Visit : Type 0 where
   pub shape : Shape
   pub word : ℕ
 
--- the entries below a word; a faulty word has none
+-- the entries below a word that are visited; a word that cannot be read has none
 abbrev pub or_empty : Result (List ℕ) Cause → List ℕ
 or_empty (Ok ws) = ws
 or_empty (Err c) = []
 
--- the visits of each word in order
+-- the visits of each word of a list, in order
 abbrev pub each_visit : (ℕ → List Visit) → List ℕ → List Visit
 each_visit f [] = []
 each_visit f (w ∷ ws) = f w ++ each_visit f ws
 
--- depth first: a word, then its entries in order; of an object those that have a field
+-- the visits of a walk over a word `w` of the payload `p`, depth first: the word, then its entries in
+-- order; of an object those that have a field
 unfoldable mutual
   pub visits : List ℕ → Shape → ℕ → List Visit
   visits p number w = record { shape = number; word = w } ∷ []
@@ -31,16 +33,17 @@ unfoldable mutual
   visits p (object schema fs) w = record { shape = object schema fs; word = w } ∷
       field_visits p fs (or_empty (run_of OBJECT p w))
 
+  -- the visits of an object's entries that have one of these fields
   pub field_visits : List ℕ → Fields → List ℕ → List Visit
   field_visits p no_fields ws = []
   field_visits p (field name s fs) [] = []
   field_visits p (field name s fs) (w ∷ ws) = visits p s w ++ field_visits p fs ws
 
--- how many values a payload may have, each counted wherever it stands
+-- how many visits a payload may have, so how many values, each counted wherever it stands
 abbrev pub MOST_VALUES : ℕ
 MOST_VALUES = 4194304
 
--- why the reader of this shape refuses the word, if it does
+-- why the reader of this shape refuses the word; None where it takes it
 abbrev pub fault_at : List ℕ → Shape → ℕ → Option Cause
 fault_at p number w = result_err (int_of p w)
 fault_at p text w = result_err (blob_of p w)
@@ -48,6 +51,6 @@ fault_at p hash w = result_err (blob_of p w)
 fault_at p (array s) w = result_err (run_of ARRAY p w)
 fault_at p (object schema fs) w = result_err (run_of OBJECT p w)
 
--- whether the reader of its shape takes the word
+-- whether the reader of a visit's shape takes its word
 abbrev pub is_sound_visit : List ℕ → Visit → Bool
 is_sound_visit p v = is_none (fault_at p v.shape v.word)

@@ -1,10 +1,11 @@
--- The widths of the numbers in a payload.
+-- The widths of the numbers in a payload. Serves the contracts of `src/words.rt`; which widths
+-- there are stands in the table of `docs/formats.md`, "Values".
 use Rattle.std.specs.Int.{w8, w16, w32, w64}
 use Rattle.std.specs.Int as I
 use Rattle.adb_view.specs.declared.words.Width.{Width}
 use Rattle.adb_view.specs.declared.words.Width.TheVariants.{One, Two, Four, Eight}
 
--- the width in the standard library's terms
+-- a width of the program in the standard library's terms
 abbrev pub width_of : Width → I.Width
 width_of One = w8
 width_of Two = w16

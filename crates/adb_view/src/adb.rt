@@ -1,5 +1,8 @@
 //! An opened payload and its four readers, and what follows from the definitions, for every
-//! payload.
+//! payload. The rules stand in `docs/formats.md`, "Values": the head below "An ADB payload begins
+//! with eight bytes", the kinds of words in its table, what each reader answers below it. In the
+//! clauses `exact` says which payload is refused and why, `lent` that the bytes are those that were
+//! given, `order` and `within` that a range lies in the payload.
 
 ghost use Rattle.std.specs.Prelude.{◌≡◌, ◌≤◌, length, slice_range, IfOk, ◌<◌, ℕ, List, All, IfSome, is_some};
 ghost use Rattle.std.specs.Result.{result_err, result_ok};
@@ -15,12 +18,13 @@ use crate::run::{Arr, Obj};
 use crate::words::{Val, Width, counted_range, kind, number};
 use base_core::Cause;
 
-/// The bytes before the values.
+/// How many bytes stand before the values: the version, what nobody looks at, and the root's word.
 const HEAD: usize = 8;
 
 /// An ADB payload (apk-v3(5)) whose head has been tested.
 #[derive(Clone, Copy)]
 pub struct Adb<'a> {
+    /// The whole payload, its head with it.
     payload: &'a [u8],
     ghost whole: { 8 ≤ length payload.now },
 }
@@ -48,14 +52,14 @@ impl<'a> Adb<'a> {
         Ok(Adb { payload })
     }
 
-    /// The whole payload, the head with it.
+    /// All bytes of the payload, its head with them.
     pub fn payload(&self) -> &'a [u8]
         ensures { result.now ≡ payload_of self.now }
     {
         self.payload
     }
 
-    /// The root value.
+    /// The word of the payload's root value.
     pub fn root(&self) -> Val
         ensures { result ≡ root_of (payload_of self.now) }
     {
@@ -173,13 +177,13 @@ impl<'a> Adb<'a> {
         if v.is_null() {
             return Some(&[]);
         }
-        let width = match v.kind() {
-            kind::BLOB_8 => Width::One,
-            kind::BLOB_16 => Width::Two,
-            kind::BLOB_32 => Width::Four,
-            _ => return None,
-        };
-        let (from, end) = counted_range(self.payload, v.low() as usize, width)?;
+        let at = v.low() as usize;
+        let (from, end) = match v.kind() {
+            kind::BLOB_8 => counted_range(self.payload, at, Width::One),
+            kind::BLOB_16 => counted_range(self.payload, at, Width::Two),
+            kind::BLOB_32 => counted_range(self.payload, at, Width::Four),
+            _ => None,
+        }?;
         Some(&self.payload[from..end])
     }
 

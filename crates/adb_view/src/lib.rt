@@ -5,6 +5,8 @@
 //! (the bytes before the values), `Readers` (what a word means), `Plain` (plain values and the
 //! shapes of fields), `Shaped` (the values that a shape has) and `Visits` (the words below a word)
 //! of `specs/`.
+//!
+//! The rules stand in `docs/formats.md`, "Values".
 #![tactic(auto)]
 
 mod adb;

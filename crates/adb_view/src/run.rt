@@ -1,4 +1,5 @@
-//! Runs of words: the entries of an array, and of an object.
+//! Runs of words: the entries of an array, and of an object. The rule stands in `docs/formats.md`,
+//! "Values" ("The first word of a run").
 
 ghost use Rattle.std.specs.Prelude.{◌≡◌, ◌≤◌, ◌<◌, ◌-◌, ◌*◌, ◌^◌, ◌==◌, length};
 ghost use Rattle.std.specs.Result.{result_ok};
@@ -11,6 +12,7 @@ use base_core::Cause;
 /// The entries of an array, as their words stand in the payload.
 #[derive(Clone, Copy)]
 pub struct Arr<'a> {
+    /// The words of the entries, four bytes each.
     bytes: &'a [u8],
     ghost counted: { length bytes.now < 4 * (2 ^ 32 - 1) },
 }
@@ -19,7 +21,7 @@ pub struct Arr<'a> {
 impl<'a> Arr<'a> {
     ghost use Rattle.adb_view.specs.Entries.{array_entries, entry_at};
 
-    /// The entries of a run of this kind; NULL has none.
+    /// The entries of the run that a word of this kind leads to; NULL has none.
     #[tactic(auto, unfolding(crate::specs::Readers::run_of, crate::specs::Bytes::words))]
     pub(crate) fn read(payload: &'a [u8], kind: u32, v: Val) -> Result<Arr<'a>, Cause>
         ensures { Gives array_entries result (run_of kind payload.now v) }
@@ -37,7 +39,7 @@ impl<'a> Arr<'a> {
         }
     }
 
-    /// The same, and none where it is refused.
+    /// The entries that `read` gives, and None where it refuses the word.
     #[tactic(auto, unfolding(crate::specs::Readers::run_of, crate::specs::Bytes::words))]
     pub(crate) fn find(payload: &'a [u8], kind: u32, v: Val) -> Option<Arr<'a>>
         ensures { Finds array_entries result (result_ok (run_of kind payload.now v)) }
@@ -69,7 +71,7 @@ impl<'a> Arr<'a> {
         self.len() == 0
     }
 
-    /// The entry with this index, counted from 1.
+    /// The entry at this position, which counts from 1.
     pub fn get(&self, i: usize) -> Val
         requires from { 1 ≤ i }
         requires to { i ≤ length (array_entries self.now) }
@@ -79,9 +81,10 @@ impl<'a> Arr<'a> {
     }
 }
 
-/// The entries of an object, to be read by N fields.
+/// The entries of an object, to be read by the N fields of its table.
 #[derive(Clone, Copy)]
 pub struct Obj<'a, const N: usize> {
+    /// All entries, those past the N fields too.
     entries: Arr<'a>,
 }
 
@@ -96,7 +99,7 @@ impl<'a, const N: usize> Obj<'a, N> {
         Obj { entries }
     }
 
-    /// The entry of a field, counted from 1; NULL past the last entry.
+    /// The entry of the field with this number, which counts from 1; NULL past the last entry.
     pub fn field(&self, i: usize) -> Val
         requires from { 1 ≤ i }
         requires to { i ≤ N }
@@ -109,7 +112,7 @@ impl<'a, const N: usize> Obj<'a, N> {
         }
     }
 
-    /// All its entries, those past its fields too.
+    /// All entries of the object, those past its fields too.
     pub fn entries(&self) -> Arr<'a>
         ensures { array_entries result ≡ object_entries self.now }
     {

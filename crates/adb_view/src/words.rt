@@ -1,4 +1,5 @@
-//! Words of values, and the ranges and numbers of a byte slice that they point to.
+//! Words of values, and the ranges and numbers of a byte slice that they point to. The kinds stand
+//! in the table of `docs/formats.md`, "Values".
 
 ghost use Rattle.std.specs.Prelude.{◌≡◌, ◌↔◌, IsTrue, ◌<◌, ◌≤◌, ◌-◌, ◌*◌, ◌/◌, ◌^◌, length, IfSome, slice_index, slice_range};
 ghost use Rattle.adb_view.specs.Readers.{kind_of, low_of, counted_at, run_at};
@@ -9,22 +10,31 @@ ghost use Rattle.adb_view.specs.Width.{width_of};
 
 use std::marker::Model;
 
-/// The kinds of words, by their top 4 bits.
+/// The kinds of words, by their top 4 bits, as the document's table has them; the number in a name
+/// is how many bits the value or its length has at the offset.
 pub(crate) mod kind {
+    // An integer in the word itself.
     pub(crate) const INT: u32 = 0x1;
 
+    // An integer of 4 bytes at the offset.
     pub(crate) const INT_32: u32 = 0x2;
 
+    // An integer of 8 bytes at the offset.
     pub(crate) const INT_64: u32 = 0x3;
 
+    // A blob whose length has 1 byte.
     pub(crate) const BLOB_8: u32 = 0x8;
 
+    // A blob whose length has 2 bytes.
     pub(crate) const BLOB_16: u32 = 0x9;
 
+    // A blob whose length has 4 bytes.
     pub(crate) const BLOB_32: u32 = 0xa;
 
+    // The run of an array.
     pub(crate) const ARRAY: u32 = 0xd;
 
+    // The run of an object.
     pub(crate) const OBJECT: u32 = 0xe;
 }
 
@@ -46,14 +56,14 @@ impl Model for Val {
 }
 
 impl Val {
-    /// The value with this word.
+    /// The value that this word names.
     pub fn of(word: u32) -> Val
         ensures { result ≡ word }
     {
         Val { word }
     }
 
-    /// Its word.
+    /// The 32 bits that name the value.
     pub fn word(self) -> u32
         ensures { result ≡ self }
     {
@@ -67,14 +77,14 @@ impl Val {
         self.word == 0
     }
 
-    /// Its kind.
+    /// The kind of the value: the top 4 bits of its word.
     pub(crate) fn kind(self) -> u32
         ensures { result ≡ kind_of self }
     {
         self.word / 0x1000_0000
     }
 
-    /// Its number or offset.
+    /// The low 28 bits of its word: a number, or an offset from the payload's start.
     pub(crate) fn low(self) -> u32
         ensures { result ≡ low_of self }
     {
@@ -82,7 +92,7 @@ impl Val {
     }
 }
 
-/// How many bytes a number has.
+/// How many bytes a number in a payload has.
 #[derive(Clone, Copy)]
 pub(crate) enum Width {
     One,
@@ -126,7 +136,8 @@ pub(crate) fn number(bytes: &[u8], at: usize, width: Width) -> Option<u64>
     })
 }
 
-/// From where to where the bytes behind a length of this width at `at` stand.
+/// From where to where the bytes of a blob stand whose length, of this width, is at `at`; None
+/// where they pass the end. An offset has 28 bits.
 pub(crate) fn counted_range(bytes: &[u8], at: usize, width: Width) -> Option<(usize, usize)>
     requires { at < 2 ^ 28 }
     ensures found { Finds (λ found. slice_range bytes.now found.0 found.1) result
@@ -143,7 +154,8 @@ pub(crate) fn counted_range(bytes: &[u8], at: usize, width: Width) -> Option<(us
     Some((from, end))
 }
 
-/// The words of the run at `at` behind its first, which counts itself too.
+/// The entries of the run at `at`: the words behind its first, which says how many words there are,
+/// itself included; None where that is 0, or they pass the end.
 pub(crate) fn run(bytes: &[u8], at: usize) -> Option<&[u8]>
     requires { at < 2 ^ 28 }
     ensures found { Finds (λ found. words (length found.now / 4) found.now) result
@@ -154,7 +166,7 @@ pub(crate) fn run(bytes: &[u8], at: usize) -> Option<&[u8]>
     range(bytes, at + 4, 4 * count as usize)
 }
 
-/// The word with this index, counted from 0.
+/// The word with this index, which counts from 0.
 pub(crate) fn word_at(bytes: &[u8], i: usize) -> u32
     requires { i < length bytes.now / 4 }
     ensures { result ≡ slice_index (words (length bytes.now / 4) bytes.now) i }

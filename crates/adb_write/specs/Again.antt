@@ -1,16 +1,20 @@
 -- Items that tell their length, so that an equal one is found again, and the word of a blob that is
--- written again.
+-- written again. Serves the contracts of `blob_word` and `blob_again` of `adb_values`; that equal
+-- values are stored once stands in `docs/formats.md`, "Canonical layout" ("Equal values are stored
+-- once").
 use Rattle.std.specs.Prelude.{◌≡◌, ℕ, ◌+◌, ◌*◌, ◌<◌, ◌≤◌, ◌==◌, true, false, List, length, take, if◌then◌else◌}
 use Rattle.std.specs.List.{AllByRecursion}
 use Rattle.std.specs.Int.{w8, w16, w32, from_le_bytes}
 use Rattle.adb_write.specs.Canonical.{Item, Layout, WrittenItem, is_equal_item}
 use Rattle.adb_write.specs.Writing.{Writing, blob_call, is_over, layout_of}
 
--- how many bytes at the front of an item of this kind tell its length
+-- how many bytes at the front of an item of this kind tell its length (the kinds 8 and 9 are blobs
+-- whose length has 1 or 2 bytes)
 abbrev pub front_len : ℕ → ℕ
 front_len kind = if kind == 8 then 1 else if kind == 9 then 2 else 4
 
--- the length that they tell
+-- how many bytes an item of this kind has by its first bytes: an integer of 4 or 8 (kinds 2, 3), a
+-- blob with its length in 1, 2 or 4 bytes (8, 9, 10), or a run of words of 4
 abbrev pub len_by : ℕ → List ℕ → ℕ
 len_by kind front =
     if kind == 2 then 4 else
@@ -20,28 +24,31 @@ len_by kind front =
     if kind == 10 then 4 + from_le_bytes w32 front else
     4 * from_le_bytes w32 front
 
--- an item whose first bytes tell how many it has
+-- an item whose kind and first bytes tell how many bytes it has
 pub record TellsItsLength (i : Item) : Type 0 where
+  -- it has bytes
   pub some : 0 < length i.bytes
+  -- all the bytes are there that tell its length
   pub long : front_len i.kind ≤ length i.bytes
+  -- and they tell it
   pub len : length i.bytes ≡ len_by i.kind (take (front_len i.kind) i.bytes)
 
--- an item that tells its length stands there
+-- an item that tells its length stands where a written item is said to stand
 pub record IsThere (body : List ℕ) (x : WrittenItem) : Type 0 where
   pub what : Item
   pub framed : TellsItsLength what
   pub equal : is_equal_item body what x ≡ true
 
--- each written item stands in the layout
+-- each written item of a layout stands in its bytes
 pub record HasAllItems (out : Layout) : Type 0 where
   pub all : AllByRecursion (IsThere out.body) out.items
 
--- the same of a writer, whose bytes are counted
+-- each written item of a writer stands in its bytes, which are counted with the head of 8
 pub record IsWholeWriting (w : Writing) : Type 0 where
   pub whole : HasAllItems (layout_of w)
   pub bytes : w.bytes ≡ 8 + length w.body
 
--- unless it passed a limit
+-- unless it passed a limit, a writer has all its items
 abbrev pub HasWholeItems : Writing → Type 0
 HasWholeItems w = is_over w ≡ false → IsWholeWriting w
 

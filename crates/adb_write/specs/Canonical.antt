@@ -1,4 +1,5 @@
--- The canonical layout of a payload: what writing a value adds, value by value.
+-- The canonical layout of a payload: what writing a value adds, value by value. The rules stand in
+-- `docs/formats.md`, "Canonical layout"; the kinds of words, in the table of "Values".
 use Rattle.std.specs.Prelude.{ℕ, suc, ◌+◌, ◌-◌, ◌*◌, ◌%◌, ◌^◌, Bool, ◌&&◌, ◌||◌, List, [], ◌∷◌, ◌++◌, length, take, drop, replicate, Option, Some, None, Result, Ok, Err, nat_lt, ◌==◌, bytes_eq, find, if◌then◌else◌}
 use Rattle.std.specs.List.{flat_map}
 use Rattle.std.specs.Int.{w8, w16, w32, w64, to_le_bytes}
@@ -6,35 +7,40 @@ use Rattle.adb_view.specs.Plain.{Plain, null, int, blob, arr, obj, Plains, none,
 use Rattle.adb_view.specs.Readers.{ARRAY, OBJECT}
 pub use Rattle.adb_view.specs.Visits.{MOST_VALUES}
 
--- how many bytes lead from n up to the next multiple of align
+-- how many zeros lead from the offset n up to the next multiple of align
 abbrev pub gap : ℕ → ℕ → ℕ
 gap align n = (align - n % align) % align
 
--- what one value takes outside its word: its kind, its alignment, its bytes, and how many entries
--- it has
+-- what one value takes outside its word: the kind of its word, at a multiple of how many bytes it
+-- stands, its bytes, and how many entries it has
 pub record Item : Type 0 where
+  -- the kind of the words that lead to it
   pub kind : ℕ
+  -- it stands at a multiple of this
   pub align : ℕ
+  -- its bytes
   pub bytes : List ℕ
+  -- how many entries it has, which count as values
   pub entries : ℕ
 
--- a value is its word alone, or a word that leads to an item
+-- a value as it is written: its word alone, or a word that leads to an item
 pub data Cell : Type 0 where
   in_place : ℕ → Cell
   apart : Item → Cell
 
--- an integer, in 32 or 64 bits
+-- the item of an integer, in 32 or 64 bits; the kinds of words here and below are those of the
+-- document
 abbrev pub int_item : ℕ → Item
 int_item n =
     if nat_lt n (2 ^ 32)
     then record { kind = 2; align = 4; bytes = to_le_bytes w32 n; entries = 0 }
     else record { kind = 3; align = 8; bytes = to_le_bytes w64 n; entries = 0 }
 
--- an integer below 2^28 stands in its word
+-- an integer as it is written; below 2^28 it stands in its word, whose kind is 1
 abbrev pub int_cell : ℕ → Cell
 int_cell n = if nat_lt n (2 ^ 28) then in_place (2 ^ 28 + n) else apart (int_item n)
 
--- a blob: its length, and its bytes
+-- the item of a blob: its length, in as few bytes as tell it, and its bytes
 abbrev pub blob_item : List ℕ → Item
 blob_item b =
     if nat_lt (length b) (2 ^ 8)
@@ -43,67 +49,73 @@ blob_item b =
     then record { kind = 9; align = 2; bytes = to_le_bytes w16 (length b) ++ b; entries = 0 }
     else record { kind = 10; align = 4; bytes = to_le_bytes w32 (length b) ++ b; entries = 0 }
 
--- an empty blob is NULL
+-- a blob as it is written; an empty one is NULL
 abbrev pub blob_cell : List ℕ → Cell
 blob_cell [] = in_place 0
 blob_cell (b ∷ bs) = apart (blob_item (b ∷ bs))
 
--- the number of the words with this one, and the words
+-- the bytes of a run: how many words there are, this number counted, and the words
 abbrev pub run_bytes : List ℕ → List ℕ
 run_bytes ws = to_le_bytes w32 (suc (length ws)) ++ flat_map (to_le_bytes w32) ws
 
--- an array or an object of these words, by the kind of its word
+-- the item of an array or an object of these words, by the kind of its word
 abbrev pub run_item : ℕ → List ℕ → Item
 run_item kind ws = record { kind = kind; align = 4; bytes = run_bytes ws; entries = length ws }
 
--- an empty one is NULL
+-- an array or an object as it is written; an empty one is NULL
 abbrev pub run_cell : ℕ → List ℕ → Cell
 run_cell kind [] = in_place 0
 run_cell kind (w ∷ ws) = apart (run_item kind (w ∷ ws))
 
--- the words of an object without the NULLs that stand last
+-- words with one more in front, but a NULL that would stand last is dropped
 abbrev pub keep_word : ℕ → List ℕ → List ℕ
 keep_word w (v ∷ vs) = w ∷ v ∷ vs
 keep_word w [] = if w == 0 then [] else w ∷ []
 
--- words without the NULLs that stand last
+-- the words of an object without the NULLs that stand last
 abbrev pub trimmed_words : List ℕ → List ℕ
 trimmed_words [] = []
 trimmed_words (w ∷ ws) = keep_word w (trimmed_words ws)
 
 -- ---- what was written so far
 
--- an item that was written: the kind of the words that lead to it, and its offset behind the
--- payload's first eight bytes
+-- an item that was written: the kind of the words that lead to it, and how far behind the payload's
+-- head of 8 bytes it stands
 pub record WrittenItem : Type 0 where
+  -- the kind of the words that lead to it
   pub kind : ℕ
+  -- its offset, without the head of 8 bytes
   pub offset : ℕ
 
--- the payload behind its first eight bytes, its items, the latest first, and the number of values
--- with the root
+-- what was written so far: the payload behind its head of 8 bytes, its items, the latest first, and
+-- the number of values with the root
 pub record Layout : Type 0 where
+  -- the payload behind its head
   pub body : List ℕ
+  -- the items in it, the latest first
   pub items : List WrittenItem
+  -- how many values there are, the root counted
   pub values : ℕ
 
--- nothing but a root
+-- the layout before anything is written: the root alone counts as a value
 abbrev pub empty_layout : Layout
 empty_layout = record { body = []; items = []; values = 1 }
 
--- the offset of the payload's end
+-- the offset of the payload's end, which counts the head of 8 bytes
 abbrev pub end_offset : Layout → ℕ
 end_offset out = 8 + length out.body
 
--- a written item is equal to this one: it is of its kind, and there stand its bytes
+-- whether a written item is equal to this one: it is of its kind, and there stand its bytes
 abbrev pub is_equal_item : List ℕ → Item → WrittenItem → Bool
 is_equal_item body i there =
     there.kind == i.kind && bytes_eq (take (length i.bytes) (drop there.offset body)) i.bytes
 
--- the word that leads to a written item
+-- the word that leads to a written item: its kind, and its offset with the head of 8 bytes
 abbrev pub word_of_item : WrittenItem → ℕ
 word_of_item there = there.kind * 2 ^ 28 + (8 + there.offset)
 
--- a new item goes to the next offset that its alignment allows, with zeros before it
+-- the word of a new item, and the layout with it: the item stands at the next offset that its
+-- alignment allows, with zeros before it
 abbrev pub put_new : Item → Layout → ℕ × Layout
 put_new i out = (
   i.kind * 2 ^ 28 + (end_offset out + gap i.align (end_offset out)),
@@ -117,26 +129,27 @@ put_new i out = (
   },
 )
 
--- an item that is equal to a written one has its word, and only its entries are counted
+-- the word of an item, and the layout with it; one that is equal to a written one has that one's
+-- word, and only its entries are counted
 abbrev pub put_unless : Option WrittenItem → Item → Layout → ℕ × Layout
 put_unless None i out = put_new i out
 put_unless (Some there) i out =
     (word_of_item there, record out { values = out.values + i.entries })
 
--- the word of an item, which is written unless an equal one is
+-- the word of an item, and the layout with it: it is written unless an equal one is
 abbrev pub put_item : Item → Layout → ℕ × Layout
 put_item i out = put_unless (find (is_equal_item out.body i) out.items) i out
 
--- the word of a value, and what was written with it
+-- the word of a value, and the layout with what it takes outside its word
 abbrev pub put_cell : Cell → Layout → ℕ × Layout
 put_cell (in_place w) out = (w, out)
 put_cell (apart i) out = put_item i out
 
--- the word of an array or an object of these words
+-- the word of an array or an object of these words, and the layout with it
 abbrev pub put_run : ℕ → List ℕ → Layout → ℕ × Layout
 put_run kind ws out = put_cell (run_cell kind ws) out
 
--- a value's word, and what was written with it: its entries in order, then its run
+-- the word of a value, and the layout with it: its entries are written in order, then its run
 unfoldable mutual
   pub write : Plain → Layout → ℕ × Layout
   write null out = (0, out)
@@ -145,38 +158,40 @@ unfoldable mutual
   write (arr vs) out = put_run ARRAY (write_all vs out).0 (write_all vs out).1
   write (obj vs) out = put_run OBJECT (trimmed_words (write_all vs out).0) (write_all vs out).1
 
+  -- the words of values that are written in order, and the layout with them
   pub write_all : Plains → Layout → List ℕ × Layout
   write_all none out = ([], out)
   write_all (more v vs) out =
       ((write v out).0 ∷ (write_all vs (write v out).1).0, (write_all vs (write v out).1).1)
 
--- the payload with this root: four bytes for the versions, the root's word, and what was written
+-- the payload of a layout with this root: four bytes of 0 for the versions, the root's word, and
+-- what was written
 abbrev pub payload_with_root : ℕ → Layout → List ℕ
 payload_with_root root out = 0 ∷ 0 ∷ 0 ∷ 0 ∷ (to_le_bytes w32 root ++ out.body)
 
--- the payload of a value
+-- the canonical payload of a value
 abbrev pub canonical : Plain → List ℕ
 canonical v = payload_with_root (write v empty_layout).0 (write v empty_layout).1
 
 -- ---- limits
 
--- how many bytes a payload may have: offsets have 28 bits
+-- how many bytes a payload may have: 2^28 - 1, since offsets have 28 bits
 abbrev pub MOST_BYTES : ℕ
 MOST_BYTES = 268435455
 
--- the payload's bytes and its values
+-- how many bytes a payload has, and how many values, in this order
 abbrev pub PayloadCounts : Type 0
 PayloadCounts = ℕ × ℕ
 
--- the counts of a layout
+-- the two counts of a layout
 abbrev pub layout_counts : Layout → PayloadCounts
 layout_counts out = (end_offset out, out.values)
 
--- whether one of the counts is above its limit
+-- whether one of the two counts is above its limit
 abbrev pub passes : PayloadCounts → Bool
 passes c = nat_lt MOST_BYTES c.0 || nat_lt MOST_VALUES c.1
 
--- the counts behind each value, in the order of writing
+-- the two counts just behind each value that is written, in the order of writing
 unfoldable mutual
   pub trace : Plain → Layout → List PayloadCounts
   trace null out = []
@@ -185,15 +200,16 @@ unfoldable mutual
   trace (arr vs) out = trace_all vs out ++ layout_counts (write (arr vs) out).1 ∷ []
   trace (obj vs) out = trace_all vs out ++ layout_counts (write (obj vs) out).1 ∷ []
 
+  -- the counts behind each of these values and those below them
   pub trace_all : Plains → Layout → List PayloadCounts
   trace_all none out = []
   trace_all (more v vs) out = trace v out ++ trace_all vs (write v out).1
 
--- the counts just behind the first value at which one passes its limit
+-- the counts just behind the first value at which one passes its limit; None where none does
 abbrev pub overflow_of : Plain → Option PayloadCounts
 overflow_of v = find passes (trace v empty_layout)
 
--- the payload, or the counts at which it overflows
+-- the payload, or the counts at which a value overflows
 abbrev pub or_overflow : List ℕ → Option PayloadCounts → Result (List ℕ) PayloadCounts
 or_overflow payload None = Ok payload
 or_overflow payload (Some counts) = Err counts

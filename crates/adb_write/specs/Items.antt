@@ -1,4 +1,5 @@
--- An item of the program as the layout has it.
+-- An item of the program as the layout has it. Serves the contracts of `src/item.rt`; the layout
+-- stands in `docs/formats.md`, "Canonical layout" ("Values are written depth first").
 use Rattle.std.specs.Prelude.{ℕ, ◌<◌, ◌^◌, List, []}
 use Rattle.std.specs.List.{flat_map}
 use Rattle.std.specs.Int.{w32, to_le_bytes}
@@ -18,24 +19,24 @@ width_len Two = 2
 width_len Four = 4
 width_len Eight = 8
 
--- the kind of the words that lead to a list
+-- the kind of the words that lead to a list: an array or an object
 abbrev pub list_kind : ListKind → ℕ
 list_kind Array = ARRAY
 list_kind Object = OBJECT
 
--- what stands behind the number in its front
+-- what stands behind the number at the front of an item
 abbrev pub content_bytes : Parts → List ℕ
 content_bytes (Int n) = []
 content_bytes (Blob b) = b.now
 content_bytes (Listed kind ws) = flat_map (to_le_bytes w32) ws.now
 
--- the item of some parts
+-- the item of the layout that some parts of the program are
 abbrev pub item_of : Parts → Item
 item_of (Int n) = int_item n
 item_of (Blob b) = blob_item b.now
 item_of (Listed kind ws) = run_item (list_kind kind) ws.now
 
--- an integer of the program has 64 bits
+-- the numbers of some parts are those of the program: an integer has 64 bits
 abbrev pub HasNumbersInRange : Parts → Type 0
 HasNumbersInRange (Int n) = n < 2 ^ 64
 HasNumbersInRange (Blob b) = Unit {0}

@@ -1,3 +1,5 @@
+-- The definitions of `adb_write`. The head of each file says where its rule stands.
+
 -- what the contract of `apk` says
 pub mod Canonical
 pub mod File

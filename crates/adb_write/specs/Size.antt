@@ -1,5 +1,6 @@
 -- The size of a value's payload, and the number of its values: the root, and every entry of the
--- lists.
+-- lists. What counts as a value stands in `docs/formats.md`, "Canonical layout" ("A payload has at
+-- most").
 use Rattle.std.specs.Prelude.{ℕ, ◌+◌, length}
 use Rattle.adb_view.specs.Plain.{Plain, null, int, blob, arr, obj, Plains, none, more, count_of}
 use Rattle.adb_write.specs.Canonical.{Layout, canonical}
@@ -8,6 +9,7 @@ use Rattle.adb_write.specs.Canonical.{Layout, canonical}
 abbrev pub size_of : Plain → ℕ
 size_of v = length (canonical v)
 
+-- how many entries the lists of a value have, its own and those below it
 unfoldable mutual
   pub entries_of : Plain → ℕ
   entries_of null = 0
@@ -16,14 +18,15 @@ unfoldable mutual
   entries_of (arr vs) = count_of vs + entries_of_all vs
   entries_of (obj vs) = count_of vs + entries_of_all vs
 
+  -- how many entries the lists of these values have
   pub entries_of_all : Plains → ℕ
   entries_of_all none = 0
   entries_of_all (more v vs) = entries_of v + entries_of_all vs
 
--- how many values there are with a value and all below it
+-- how many values there are: a value, and all below it
 abbrev pub value_count : Plain → ℕ
 value_count v = 1 + entries_of v
 
--- the same with so many entries more, and nothing else
+-- a layout that counts n values more, and has nothing more written
 abbrev pub with_entries : ℕ → Layout → Layout
 with_entries n out = record out { values = out.values + n }

@@ -1,64 +1,72 @@
--- A writer as contracts see it: what it wrote, its two counts, and what each call makes of it.
+-- A writer as contracts see it: what it wrote, its two counts, and what each call makes of it. The
+-- rules stand in `docs/formats.md`, "Canonical layout"; what is answered past a limit, below "A
+-- payload has at most".
 use Rattle.std.specs.Prelude.{ℕ, ◌<◌, Bool, List, [], ◌∷◌, length, Result, Ok, Err, if◌then◌else◌}
 use Rattle.adb_view.specs.Plain.{Plain, null, int, blob, arr, obj, Plains, none, more}
 use Rattle.adb_view.specs.Readers.{ARRAY, OBJECT}
 use Rattle.adb_write.specs.Canonical.{WrittenItem, Cell, in_place, apart, int_cell, blob_cell, run_cell, trimmed_words, Layout, put_cell, PayloadCounts, layout_counts, passes, payload_with_root}
 
--- The payload behind its first eight bytes, and its items. The counts are those of what was
--- written, or, once a value passed a limit, the ones just behind that value.
+-- a writer: the payload behind its head of 8 bytes, its items, the latest first, and the two counts
+-- of what was written, or, once a value passed a limit, the ones just behind that value
 pub record Writing : Type 0 where
+  -- the payload behind its head
   pub body : List ℕ
+  -- the items in it, the latest first
   pub items : List WrittenItem
+  -- how many bytes, the head counted
   pub bytes : ℕ
+  -- how many values, the root counted
   pub values : ℕ
 
--- the writer that has these parts
+-- the writer that has written these bytes and items, with these counts
 abbrev pub writing_by : List ℕ → List WrittenItem → ℕ → ℕ → Writing
 writing_by body items bytes values =
     record { body = body; items = items; bytes = bytes; values = values }
 
--- nothing is written: eight bytes, and the root as the only value
+-- the writer that has written nothing: its payload has a head of 8 bytes, and the root as its only
+-- value
 abbrev pub empty_writing : Writing
 empty_writing = writing_by [] [] 8 1
 
--- the two counts of a writer
+-- the two counts of a writer: its bytes and its values
 abbrev pub writing_counts : Writing → PayloadCounts
 writing_counts w = (w.bytes, w.values)
 
--- whether a limit was passed
+-- whether a writer passed a limit
 abbrev pub is_over : Writing → Bool
 is_over w = passes (writing_counts w)
 
--- what was written, as a layout
+-- what a writer has written, as a layout
 abbrev pub layout_of : Writing → Layout
 layout_of w = record { body = w.body; items = w.items; values = w.values }
 
--- the writer of a layout, which passed no limit
+-- the writer of a layout, by whose counts no limit is passed yet
 abbrev pub writing_of : Layout → Writing
 writing_of out = writing_by out.body out.items (layout_counts out).0 (layout_counts out).1
 
--- past a limit the value is only counted
+-- what a call makes of a writer that makes `r` of its layout: past a limit its value is only
+-- counted, and the answer is NULL
 abbrev pub unless_over : Writing → ℕ × Layout → ℕ × Writing
 unless_over w r =
     if passes (layout_counts r.1)
     then (0, record (writing_of r.1) { body = w.body; items = w.items })
     else (r.0, writing_of r.1)
 
--- One call: the value's word, or NULL from the first value on that passes a limit. A value that its
--- word holds whole adds nothing.
+-- what one call answers and makes of a writer: the value's word, or NULL from the first value on that
+-- passes a limit. A value that its word holds whole adds nothing
 unfoldable pub call : Cell → Writing → ℕ × Writing
 call (in_place word) w = ((if is_over w then 0 else word), w)
 call (apart i) w = if is_over w then (0, w) else unless_over w (put_cell (apart i) (layout_of w))
 
--- a call adds bytes between two moments, for which it wants memory
+-- a writer has more bytes at a later moment, for which it wanted memory
 abbrev pub Grows : Writing → Writing → Type 0
 Grows before later = length before.body < length later.body
 
--- the calls of the four methods
+-- the call for an integer, as each call below, by the value as it is written
 abbrev pub int_call : ℕ → Writing → ℕ × Writing
 int_call n w = call (int_cell n) w
 
--- the call for some bytes
+-- the call for a blob of these bytes
 abbrev pub blob_call : List ℕ → Writing → ℕ × Writing
 blob_call b w = call (blob_cell b) w
 
@@ -66,16 +74,17 @@ blob_call b w = call (blob_cell b) w
 abbrev pub arr_call : List ℕ → Writing → ℕ × Writing
 arr_call ws w = call (run_cell ARRAY ws) w
 
--- the call for an object of these words
+-- the call for an object of these words, without the NULLs that stand last
 abbrev pub obj_call : List ℕ → Writing → ℕ × Writing
 obj_call ws w = call (run_cell OBJECT (trimmed_words ws)) w
 
--- the payload with this root, or the counts of a writer that passed a limit
+-- how a writer ends: with the payload with this root, or the counts of one that passed a limit
 abbrev pub finish_result : ℕ → Writing → Result (List ℕ) PayloadCounts
 finish_result root w =
     if is_over w then Err (writing_counts w) else Ok (payload_with_root root (layout_of w))
 
--- the calls that are made depth first, each answer being used once
+-- what the calls for a value that are made depth first answer and make of a writer, each answer
+-- being used once
 unfoldable mutual
   pub calls : Plain → Writing → ℕ × Writing
   calls null w = (0, w)
@@ -84,6 +93,7 @@ unfoldable mutual
   calls (arr vs) w = arr_call (calls_all vs w).0 (calls_all vs w).1
   calls (obj vs) w = obj_call (calls_all vs w).0 (calls_all vs w).1
 
+  -- the same for values in order: their words, and the writer then
   pub calls_all : Plains → Writing → List ℕ × Writing
   calls_all none w = ([], w)
   calls_all (more v vs) w =

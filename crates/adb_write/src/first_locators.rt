@@ -1,18 +1,21 @@
 //! The first locators of the pages, side by side, by which a page is looked for first.
 //!
 //! What is answered here is a guess, which is tested where it is used.
+//!
+//! How locators are kept is told in the README of this crate, second paragraph; `docs/formats.md`,
+//! "Canonical layout" ("Equal values are stored once"), is what they serve.
 
 use crate::locator::fingerprint_of_locator;
 use std::alloc::{AllocError, Global};
 
-/// The first locator of each page.
+/// The first locator of each page, in the order of the pages.
 #[derive(Drop)]
 pub(crate) struct FirstLocators {
     locators: Vec<u64>,
 }
 
 impl FirstLocators {
-    /// No pages.
+    /// The first locators of no pages.
     pub(crate) fn new(alloc: Global) -> FirstLocators {
         FirstLocators {
             locators: Vec::new(alloc),
@@ -27,7 +30,8 @@ impl FirstLocators {
             .saturating_sub(1)
     }
 
-    /// A page comes in between.
+    /// Lets the first locator of a new page stand between those of the others, at the index of the
+    /// page.
     pub(crate) fn add(&mut self, page: usize, locators: &[u64]) -> Result<(), AllocError> {
         if let Some(first) = locators.first() {
             if page <= self.locators.len() {
@@ -37,7 +41,8 @@ impl FirstLocators {
         Ok(())
     }
 
-    /// A locator stands at an index of a page now.
+    /// Keeps the first locator of a page right where a new locator has come to stand at an index of
+    /// it.
     pub(crate) fn enter(&mut self, page: usize, index: usize, locator: u64) {
         if index == 0 && page < self.locators.len() {
             self.locators[page] = locator;

@@ -1,4 +1,7 @@
-//! What a value takes outside its word, and how it compares with what was written.
+//! What a value takes outside its word, and how it compares with what was written. The layout of an
+//! item stands in `docs/formats.md`, "Canonical layout" ("Values are written depth first"); that
+//! equal ones are stored once, below that. In the clauses `some`, `few` and `small` bound the
+//! number that is answered, and `kept` says that the bytes before the item stay.
 ghost use Rattle.std.specs.Prelude.{◌≡◌, ◌≤◌, ◌<◌, ◌+◌, ◌-◌, ◌^◌, ◌++◌, get_or, length, replicate, reverse, take, OnOk, OnErr};
 ghost use Rattle.std.specs.List.{flat_map};
 ghost use Rattle.std.specs.Int.{w32, w64, to_le_bytes};
@@ -18,24 +21,32 @@ use base_core::Cause;
 use std::alloc::AllocError;
 use std::cmp::Ordering;
 
-/// The kinds of words that lead to an item, by their top 4 bits.
+/// The kinds of words that lead to an item, by their top 4 bits, as the table of `docs/formats.md`,
+/// "Values", has them; the number in a name is how many bits the value or its length has.
 mod kind {
+    // An integer of 4 bytes.
     pub(super) const INT_32: u32 = 0x2;
 
+    // An integer of 8 bytes.
     pub(super) const INT_64: u32 = 0x3;
 
+    // A blob whose length has 1 byte.
     pub(super) const BLOB_8: u32 = 0x8;
 
+    // A blob whose length has 2 bytes.
     pub(super) const BLOB_16: u32 = 0x9;
 
+    // A blob whose length has 4 bytes.
     pub(super) const BLOB_32: u32 = 0xa;
 
+    // The run of an array.
     pub(super) const ARRAY: u32 = 0xd;
 
+    // The run of an object.
     pub(super) const OBJECT: u32 = 0xe;
 }
 
-/// How many bytes a number has.
+/// How many bytes the number at the front of an item has.
 #[derive(Clone, Copy)]
 pub(crate) enum Width {
     One,
@@ -60,7 +71,7 @@ impl Width {
     }
 }
 
-/// The two kinds of lists.
+/// The two kinds of lists, which differ by the kind of their words.
 #[derive(Clone, Copy)]
 pub(crate) enum ListKind {
     Array,
@@ -68,7 +79,7 @@ pub(crate) enum ListKind {
 }
 
 impl ListKind {
-    /// The kind of its words.
+    /// The kind of the words that lead to such a list.
     fn number(self) -> u32
         ensures { result ≡ list_kind self }
     {
@@ -79,10 +90,10 @@ impl ListKind {
     }
 }
 
-/// An item: what a value takes outside its word.
+/// An item before it is written: what a value takes outside its word.
 #[derive(Clone, Copy)]
 pub(crate) enum Parts<'a> {
-    /// An integer.
+    /// An integer that does not fit in a word.
     Int(u64),
     /// The bytes of a blob.
     Blob(&'a [u8]),
@@ -91,7 +102,7 @@ pub(crate) enum Parts<'a> {
 }
 
 impl Parts<'_> {
-    /// The kind of the words that lead to it.
+    /// The kind of the words that lead to the item.
     pub(crate) fn kind(&self) -> u32
         ensures value { result ≡ (item_of self.now).kind }
         ensures some { 0 < result }
@@ -107,7 +118,7 @@ impl Parts<'_> {
         }
     }
 
-    /// The width of the number in its front, at a multiple of which it stands.
+    /// The width of the number at the front of the item, which stands at a multiple of it.
     pub(crate) fn width(&self) -> Width
         ensures { width_len result ≡ (item_of self.now).align }
     {
@@ -120,8 +131,8 @@ impl Parts<'_> {
         }
     }
 
-    /// The number in its front: the integer, the length of the blob, or how many words the list
-    /// has, with one for the number.
+    /// The number at the front of the item: the integer, the length of the blob, or how many words
+    /// the run has, this number counted.
     #[tactic(auto, using(crate::proofs::Cells::int_bytes, crate::proofs::Cells::blob_bytes, crate::proofs::Cells::run_bytes_are))]
     fn number(&self) -> u64
         ensures { (item_of self.now).bytes
@@ -134,7 +145,7 @@ impl Parts<'_> {
         }
     }
 
-    /// How many bytes it takes.
+    /// How many bytes the item takes.
     #[tactic(auto, using(crate::proofs::Placed::words_len))]
     pub(crate) fn len(&self) -> u64
         ensures value { result ≡ length (item_of self.now).bytes }
@@ -149,7 +160,7 @@ impl Parts<'_> {
         self.width().len() as u64 + content
     }
 
-    /// How many entries it has.
+    /// How many entries the item has, which count as values; only a list has any.
     pub(crate) fn entries(&self) -> u64
         ensures value { result ≡ (item_of self.now).entries }
         ensures small { result < 2 ^ 63 }
@@ -172,8 +183,8 @@ impl Parts<'_> {
         }
     }
 
-    /// How it compares, with this fingerprint, with the written item that a locator names: first by
-    /// fingerprint, then by kind, then by what it holds.
+    /// How the item, which has this fingerprint, compares with the written one that a locator
+    /// names: first by fingerprint, then by kind, then by what it holds.
     pub(crate) fn compare(&self, fingerprint: u64, adb: &Adb<'_>, locator: u64) -> Ordering
         ensures { result ≡ slice_cmp nat_cmp (key_with fingerprint self.now)
             (key_at (payload_of adb.now) locator) }
@@ -184,8 +195,8 @@ impl Parts<'_> {
         }
     }
 
-    /// How it compares with the written item to which a word leads: first by kind, then by what it
-    /// holds. So equal is what has one kind and one value.
+    /// How the item compares with the written one to which a word leads: first by kind, then by
+    /// what it holds. So equal is what has one kind and one value.
     pub(crate) fn compare_content(&self, adb: &Adb<'_>, word: Val) -> Ordering
         ensures { result ≡ slice_cmp nat_cmp (content_key_of self.now)
             (content_key_at (payload_of adb.now) word) }
@@ -221,7 +232,7 @@ impl Parts<'_> {
         done
     }
 
-    /// The same, but a refused growth leaves what was added before it.
+    /// Adds what `append` adds, but a refused growth leaves what was added before it.
     fn try_append(&self, out: &mut Vec<u8>, at: usize) -> Result<(), AllocError>
         requires { length out.old.items ≤ at }
         ensures ok { OnOk result (out.new.items
@@ -262,7 +273,8 @@ fn four_bytes(bytes: &[u8], i: usize) -> u64
         + byte_at(bytes, i + 3) * (1 << 24)
 }
 
-/// The fingerprint of a blob: of its first four bytes, its last four, and its length.
+/// The fingerprint of a blob: of its first four bytes, its last four, and its length. The factor 31
+/// only mixes them: any fingerprint keeps equal items together.
 #[tactic(auto, unfolding(crate::specs::Keys::blob_fingerprint))]
 fn blob_fingerprint(bytes: &[u8]) -> u64
     ensures value { result ≡ blob_fingerprint bytes.now }
@@ -303,6 +315,7 @@ fn entries<'a>(adb: &Adb<'a>, list: ListKind, word: Val) -> Result<Arr<'a>, Caus
 {
     match list {
         ListKind::Array => adb.arr(word),
+        // No field is asked for, only the entries.
         ListKind::Object => Ok(adb.obj::<0>(word)?.entries()),
     }
 }

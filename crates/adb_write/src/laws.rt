@@ -1,4 +1,5 @@
-//! What follows from the definitions, for every value and every writer.
+//! What follows from the definitions, for every value and every writer. The rules stand in
+//! `docs/formats.md`, "Canonical layout"; the README of this crate lists the laws.
 ghost use Rattle.std.specs.Prelude.{◌≡◌, ◌≤◌, ◌<◌, ◌^◌, ◌⊎◌, ℕ, List, [], ◌∷◌, ◌++◌, false, true, length, Some, Ok, is_some};
 ghost use Rattle.adb_view.specs.Plain.{Plain, null, int, Plains, none, more, blob_value, arr_value, obj_value, Shape, IsNormal, plain_of, value_of};
 ghost use Rattle.adb_view.specs.Head.{root_of};

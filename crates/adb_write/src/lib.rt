@@ -8,6 +8,8 @@
 //! `File`, `Writing` (a writer, and what each call makes of it), `DepthFirst` (what it did between
 //! two moments) and `StandsFor` (what a word stands for) of `specs/`; `laws` says what follows from
 //! them, so that nobody needs to look into them.
+//!
+//! The rules stand in `docs/formats.md`, "Canonical layout".
 #![tactic(auto)]
 
 mod first_locators;

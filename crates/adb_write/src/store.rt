@@ -1,4 +1,9 @@
-//! The bytes of a payload as they are written, and the locators by which they are found again.
+//! The bytes of a payload as they are written, and the locators by which they are found again. How
+//! locators are kept is told in the README of this crate, second paragraph; that equal values are
+//! stored once stands in `docs/formats.md`, "Canonical layout" ("Equal values are stored once"). In
+//! the clauses `filled` says that no page is empty, `rising` that locators stand in the order of
+//! their keys, `stored` that each names an item of the payload, `inside` that a slot is one of
+//! these pages.
 
 ghost use Rattle.std.specs.Prelude.{◌≡◌, ◌≤◌, ◌-◌, [], ◌∷◌, ◌++◌, length, replicate, OnOk, OnErr};
 ghost use Rattle.std.specs.List.{concat};
@@ -13,12 +18,12 @@ use crate::word_pages::{Slot, WordPages};
 use adb_view::{Adb, Val};
 use std::alloc::{AllocError, Global};
 
-/// What was written.
+/// The bytes of a payload under way, and the locators of its items.
 #[derive(Drop)]
 pub(crate) struct Store {
-    /// Nothing, or the head with zeros in it and what was written behind it.
+    /// The payload so far: nothing, or the head of 8 zeros and what was written behind it.
     pub payload: Vec<u8>,
-    /// The locators of the items in it.
+    /// The locators of the items in the payload.
     pub words: WordPages,
 }
 
@@ -46,6 +51,7 @@ impl Store {
     {
         match Adb::new(&self.payload) {
             Ok(adb) => self.words.find(&adb, parts, parts.fingerprint()),
+            // Nothing was written yet, so there is no head: the first slot.
             Err(_) => Err(Slot { page: 0, index: 0 }),
         }
     }

@@ -3,10 +3,16 @@
 //! They stand in pages of at most 512, so that a new one moves few others. A page, and the index in
 //! it, are guessed first, and found by halving where the guess fails.
 //!
-//! One takes eight bytes. A page has room for at most 128 more than it holds, and with the others
-//! it holds at least 256; the lists of pages take at most 64 bytes a page, since a list that grows
-//! doubles. So a page takes at most 8 * 128 + 64 bytes beside its locators, which is 4.25 bytes for
-//! each of 256: at most 12.25 bytes a locator, and 1.2 kB where there is one page.
+//! A locator takes eight bytes. A page has room for at most 128 more than it holds, and with the
+//! others it holds at least 256; the lists of pages take at most 64 bytes a page, since a list that
+//! grows doubles. So a page takes at most 8 * 128 + 64 bytes beside its locators, which is 4.25
+//! bytes for each of 256: at most 12.25 bytes a locator, and 1.2 kB where there is one page.
+//!
+//! How locators are kept is told in the README of this crate, second paragraph; that equal values
+//! are stored once stands in `docs/formats.md`, "Canonical layout" ("Equal values are stored
+//! once"). In the clauses `filled` says that no page is empty, `rising` that locators stand in the
+//! order of their keys, `stored` that each names an item of the payload, `inside` that a slot is
+//! one of these pages.
 
 ghost use Rattle.std.specs.Prelude.{◌≡◌, ◌≤◌, ◌<◌, ℕ, List, [], ◌∷◌, ◌++◌, length, take, drop, insert, IfOk, OnOk, OnErr};
 ghost use Rattle.std.specs.List.{concat};
@@ -25,30 +31,37 @@ use adb_view::Adb;
 use std::alloc::{AllocError, Global};
 use std::cmp::Ordering;
 
-/// The most locators of a page.
+/// The most locators of a page: with more of them a new locator would move more, with fewer of them
+/// there would be more pages.
 const FULL: usize = 512;
 
-/// How many locators stay in a page that is split.
+/// How many locators stay in a page that is split; the others go to a new one.
 const HALF: usize = FULL / 2;
 
 /// How many locators more a page gets room for at a time.
 const ROOM: usize = 128;
 
-/// How far from its likely index in a page an item is looked for first.
+/// How far from its likely index in a page an item is looked for first. Any number finds the same,
+/// since the guess is tested.
 const NEARBY: usize = 12;
 
-/// Where a locator would stand: its page, and its index there.
+/// Where a locator would stand: the index of its page, and its index there.
 #[derive(Clone, Copy)]
 pub(crate) struct Slot {
+    /// The index of the page.
     pub page: usize,
+    /// The index in the page.
     pub index: usize,
 }
 
-/// Locators in rising order, in pages that are not empty.
+/// Locators in the rising order of their keys, in pages that are not empty.
 #[derive(Drop)]
 pub(crate) struct WordPages {
+    /// What gives memory for pages.
     alloc: Global,
+    /// The locators of each page.
     pub pages: Vec<Vec<u64>>,
+    /// The first locator of each page once more, side by side.
     firsts: FirstLocators,
 }
 
@@ -87,7 +100,8 @@ impl WordPages {
         }
     }
 
-    /// The last page that does not begin behind the item, or the first.
+    /// The page in which an item is looked for: the last that does not begin behind the item, or
+    /// the first.
     fn page_of(&self, adb: &Adb<'_>, parts: &Parts<'_>, fingerprint: u64) -> usize
         requires filled { AreFilled (pages_of self.now) }
         requires rising { HaveRisingKeys (payload_of adb.now) (concat (pages_of self.now)) }
@@ -103,8 +117,8 @@ impl WordPages {
             .saturating_sub(1)
     }
 
-    /// Whether the page does not begin behind the item, and the one behind it does, if there is
-    /// one.
+    /// Whether a page is the one in which an item is looked for: it does not begin behind the item,
+    /// and the one behind it does, if there is one.
     fn is_page_of(&self, page: usize, adb: &Adb<'_>, parts: &Parts<'_>, fingerprint: u64) -> bool
         ensures { OnTrue result (IsPageAt (payload_of adb.now) (pages_of self.now)
             (key_with fingerprint parts.now) page) }
@@ -140,7 +154,7 @@ impl WordPages {
         Ok(())
     }
 
-    /// The first page, of one locator.
+    /// Makes the first page, of one locator.
     fn begin(&mut self, locator: u64) -> Result<(), AllocError>
         requires { pages_of self.old ≡ [] }
         ensures ok { OnOk result (pages_of self.new ≡ (locator ∷ []) ∷ []) }
@@ -208,7 +222,7 @@ fn insert_in_page(page: &mut Vec<u64>, index: usize, locator: u64) -> Result<(),
     Ok(())
 }
 
-/// Whether a locator stands behind the item.
+/// Whether an item stands before the one that a locator names, in the order of keys.
 fn is_before(adb: &Adb<'_>, parts: &Parts<'_>, fingerprint: u64, locator: u64) -> bool
     ensures { result ≡ is_lt (slice_cmp nat_cmp (key_with fingerprint parts.now)
         (key_at (payload_of adb.now) locator)) }
@@ -219,7 +233,7 @@ fn is_before(adb: &Adb<'_>, parts: &Parts<'_>, fingerprint: u64, locator: u64) -
     }
 }
 
-/// Whether a page begins behind the item.
+/// Whether a page begins behind an item, in the order of keys.
 fn begins_behind(page: &[u64], adb: &Adb<'_>, parts: &Parts<'_>, fingerprint: u64) -> bool
     ensures { result ≡ begins_above (payload_of adb.now) (key_with fingerprint parts.now) page.now }
 {
@@ -263,6 +277,7 @@ fn likely_index(page: &[u64], fingerprint: u64) -> usize
     if fingerprint >= high {
         return page.len();
     }
+    // Where the product does not fit in 64 bits the guess is a bad one, and no more than that.
     let index = (fingerprint - low).wrapping_mul(page.len() as u64) / (high - low);
     page.len().min(index as usize)
 }

@@ -1,4 +1,7 @@
-//! The writer of a payload with its limits and its refusals, and the file around a payload.
+//! The writer of a payload with its limits and its refusals, and the file around a payload. The
+//! rules stand in `docs/formats.md`, "Canonical layout": the layout below "Values are written depth
+//! first", the limits below "A payload has at most", the file below "In a container each block is
+//! padded".
 
 ghost use Rattle.std.specs.Prelude.{◌≡◌, ◌<◌, ◌≤◌, ◌+◌, ◌^◌, false, IfOk, OnErr, length};
 ghost use Rattle.adb_write.specs.Canonical.{MOST_BYTES, passes, gap, in_place, apart, run_cell, trimmed_words};
@@ -39,26 +42,30 @@ impl From<AllocError> for WriteFault {
 
     ghost from_gives = { λ _ fault. fault ≡ Memory };
 
+    // Want of memory as the reason for which a writer gave no payload.
     fn from(_: AllocError) -> WriteFault {
         WriteFault::Memory
     }
 }
 
-/// The most bytes of a payload that is written.
+/// The most bytes of a payload that is written: 2^28 - 1, since offsets have 28 bits.
 const MOST_BYTES: u64 = 268_435_455;
 
-/// The most values of a payload that is written, with its root.
+/// The most values of a payload that is written, with its root: as many as a reader takes
+/// (`docs/formats.md`, "The shape").
 const MOST_VALUES: u64 = 4_194_304;
 
-/// The bytes of a payload, and its values with the root.
+/// How many bytes a payload has, and how many values, the root counted.
 #[derive(Clone, Copy)]
 struct PayloadCounts {
+    /// How many bytes, the head counted.
     pub bytes: u64,
+    /// How many values, the root counted.
     pub values: u64,
 }
 
 impl PayloadCounts {
-    /// Whether one of them passes its limit.
+    /// Whether one of the counts passes its limit.
     fn passes(self) -> bool
         ensures { result ≡ passes (self.bytes, self.values) }
     {
@@ -77,9 +84,16 @@ const HEAD: u64 = 8;
 /// lists. The first value that brings a count above its limit is counted, but not written, and its
 /// answer is NULL; every later call changes nothing and answers NULL, and `finish` reports the two
 /// counts. Contracts see what was written and the counts: `Writing` of `specs/`.
+///
+/// In the clauses `ok` says what the layout makes of a call, `written` the same of values that are
+/// written depth first, `err` that a refused call changes nothing, and `wants` that only a call
+/// that adds bytes is refused.
 #[derive(Drop)]
 pub struct Writer {
+    /// What was written.
     store: Store,
+    /// The counts of what was written, or, past a limit, those just behind the value that passed
+    /// it.
     counts: PayloadCounts,
 }
 
@@ -128,6 +142,7 @@ impl Writer {
         ensures wants { OnErr result (Grows self.old (int_call n self.old).1) }
     {
         if n < 1 << 28 {
+            // The kind 1 in the top four bits: an integer in the word itself.
             return Ok(self.in_word(0x1000_0000 + n as u32));
         }
         self.add(&Parts::Int(n))
@@ -210,7 +225,7 @@ impl Writer {
         self.add(&Parts::List(kind, words))
     }
 
-    /// A value that its word holds whole, or NULL once a limit was passed.
+    /// Answers the word of a value that the word holds whole, or NULL once a limit was passed.
     #[tactic(auto, unfolding(crate::specs::Writing::call))]
     fn in_word(&self, word: u32) -> Val
         ensures { (result, self.now) ≡ call (in_place word) self.now }
@@ -221,8 +236,8 @@ impl Writer {
         Val::of(word)
     }
 
-    /// Adds an item, unless an equal one was written: its word, or NULL from the first value on
-    /// that passes a limit.
+    /// Adds an item, unless an equal one was written, and answers its word, or NULL from the first
+    /// value on that passes a limit.
     fn add(&mut self, parts: &Parts<'_>) -> Result<Val, AllocError>
         requires { HasNumbersInRange parts.now }
         ensures ok { IfOk result
@@ -238,12 +253,14 @@ impl Writer {
             Ok(locator) => return Ok(self.repeat(parts, word_of_locator(locator))),
             Err(slot) => slot,
         };
+        // The item goes to the next offset that its alignment allows.
         let before = self.counts;
         let at = before.bytes + gap(parts.width().len() as u64, before.bytes);
         let counts = PayloadCounts {
             bytes: at + parts.len(),
             values: before.values + parts.entries(),
         };
+        // The first value past a limit is counted, and not written.
         if counts.passes() {
             self.counts = counts;
             return Ok(Val::of(0));
@@ -254,8 +271,8 @@ impl Writer {
         Ok(word)
     }
 
-    /// Counts an item that equals a written one: the written one's word, or NULL where its entries
-    /// pass the limit.
+    /// Counts the entries of an item that equals a written one, and answers that one's word, or
+    /// NULL where they pass the limit.
     fn repeat(&mut self, parts: &Parts<'_>, word: Val) -> Val
         requires fine { is_over self.old ≡ false }
         requires found { FindsWord (item_of parts.now) self.old word }
@@ -269,7 +286,7 @@ impl Writer {
     }
 }
 
-/// How many bytes lead from `n` up to the next multiple of `align`.
+/// How many zeros lead from the offset `n` up to the next multiple of `align`.
 fn gap(align: u64, n: u64) -> u64
     requires { 0 < align }
     ensures value { result ≡ gap align n }
@@ -278,7 +295,7 @@ fn gap(align: u64, n: u64) -> u64
     (align - n % align) % align
 }
 
-/// The fields without the NULLs that stand last.
+/// The words of an object's fields without the NULLs that stand last.
 #[tactic(auto, using(crate::proofs::Cells::trimmed_null, crate::proofs::Cells::trimmed_some))]
 fn trimmed(fields: &[Val]) -> &[Val]
     ensures { result.now ≡ trimmed_words fields.now }
@@ -290,7 +307,7 @@ fn trimmed(fields: &[Val]) -> &[Val]
     &fields[..len]
 }
 
-/// How long a file's header is: `ADB.` and the schema.
+/// How long a file's header is: the four bytes `ADB.` and the schema.
 const FILE_HEADER: usize = 8;
 
 /// The container of this schema with one block, which holds the payload, and no signatures

@@ -1,4 +1,5 @@
 //! The program `apk`: the top call over the folder that it runs in and the two standard streams.
+//! The rules stand in `docs/commands.md`, "Answers and statuses" and "A fault of the tree".
 //!
 //! This crate is trusted, as is `host_tree`: its tree and its sinks meet their traits, and what the
 //! host did of it is not seen by a proof. All else is decided below it.
@@ -14,13 +15,16 @@ use std::io;
 use std::io::Write;
 use std::process::ExitCode;
 
-/// The status of a run that finds no memory for its words.
+/// The status of a run that finds no memory for its words (`docs/commands.md`,
+/// "Answers and statuses").
 const NO_MEMORY: u8 = 4;
 
-/// The status of a run that has too many words.
+/// The status of a run that has too many words, which is told before anything else is done (the
+/// same table).
 const TOO_MANY_WORDS: u8 = 5;
 
 /// Runs the command line over the folder that the program is in, and ends with the answer's status.
+/// The root is locked as the command asks for.
 fn main(rt: HostRuntime) -> ExitCode {
     let words = match words_of(&rt, rt.alloc()) {
         Ok(words) => words,
@@ -49,7 +53,8 @@ fn out_of_memory(rt: &HostRuntime) -> ExitCode {
     ExitCode::from(NO_MEMORY)
 }
 
-/// A run that writes has the root alone.
+/// The lock that a run takes of its root: one that writes has the root alone, and any number may
+/// read.
 fn lock_for(access: RootAccess) -> Lock {
     match access {
         RootAccess::Read => Lock::Shared,

@@ -1,4 +1,5 @@
 //! What the process gives a run: the words of its command line, and its standard streams as sinks.
+//! The rules stand in `docs/commands.md`, "Answers and statuses".
 
 ghost use Rattle.std.specs.Prelude.{◌≤◌, IfOk, IfSome, ◌≡◌, ◌<◌, None, length};
 ghost use Rattle.std.specs.Vec.{vec_len};
@@ -10,21 +11,24 @@ use std::alloc::{AllocError, Global};
 use std::env::{Env, FillError};
 use std::io::{ErrorKind, Write};
 
-/// The most words that a command line may have.
+/// The most words that a command line may have: 2^32 - 2.
 const MOST_WORDS: usize = 4294967294;
 
-/// How often the buffer for a word is doubled before it counts as want of memory: a word may have
-/// some gigabytes.
+/// How often the buffer for a word is doubled before it counts as want of memory. It begins with
+/// 4,096 bytes, so a word may have about two gigabytes.
 const MOST_DOUBLINGS: u32 = 20;
 
 /// Why the words are not read.
 #[derive(Drop)]
 pub enum WordsFault {
+    /// There are more words than a command line may have.
     TooMany,
+    /// There was no memory for the words.
     Memory,
 }
 
 impl From<AllocError> for WordsFault {
+    // Want of memory, as the reading of words tells it.
     fn from(_: AllocError) -> WordsFault {
         WordsFault::Memory
     }
@@ -65,7 +69,9 @@ fn read_word(rt: &impl Env, i: usize, buffer: &mut Vec<u8>) -> Result<Option<usi
 /// A stream of the host. It tells nothing of its bytes; each write that answers a fault counts it.
 #[derive(Drop)]
 pub struct HostSink<W: Write + Drop> {
+    /// The stream of the host.
     inner: W,
+    /// How many writes have failed.
     faults: u64,
 }
 
@@ -88,8 +94,10 @@ impl<W: Write + Drop> HostSink<W> {
 }
 
 impl<W: Write + Drop> Sink for HostSink<W> {
+    // What a host's stream got is not seen by a contract.
     ghost bytes = { λ sink. None };
 
+    // The counts are those of a host's sink with so many faults.
     ghost counts = { λ sink. host_counts sink.faults };
 
     /// Writes as many bytes as the stream takes at once. No bytes are no call of the host.

@@ -12,7 +12,7 @@ use Rattle.make_info.specs.Reads.{Reads}
 use Rattle.make_info.specs.declared.fault.MakeFault.{MakeFault}
 use Rattle.make_package.specs.Answers.{AreBelow, IsMadeIn}
 use Rattle.make_package.specs.Making.{made_package, or_info_bad, package_of_parts}
-use Rattle.package_files.specs.Sources.{on_success, folders_below, values_with, scripts_from}
+use Rattle.package_files.specs.Sources.{and_then, folders_below, values_with, scripts_from}
 use Rattle.outcome.specs.Commands.{reads_in}
 use Rattle.outcome.specs.Make.{IsListing, files_below}
 use Rattle.apk_front.specs.Containers.{IsPackageMade}
@@ -27,7 +27,7 @@ no_folder : (command : CommandLine) (read : Reads) (names others : List (List �
 unfolding made_package
 no_folder command read names others none =
     let by : List OptionValue → List (List ℕ) → Result (List ℕ) MakeFault = λ values ns.
-    on_success (scripts_from read 0 (values_with SCRIPT command.values)) (λ scripts. on_success (or_info_bad (information command)) (λ about. on_success (folders_below read (length scripts) values ns) (package_of_parts command scripts about))) in
+    and_then (scripts_from read 0 (values_with SCRIPT command.values)) (λ scripts. and_then (or_info_bad (information command)) (λ about. and_then (folders_below read (length scripts) values ns) (package_of_parts command scripts about))) in
     ap (λ values. by values names) none ∙ sym (ap (λ values. by values others) none)
 
 pub package_here : HaveListing → (command : CommandLine) (v : TreeState) (made : Result (List ℕ) MakeFault) → IsMadeIn command v made → IsPackageMade command (files_of v) made
@@ -47,7 +47,7 @@ package_here law command v made m = by_values (values_with FILES command.values)
 
 -- ---- what was made says that the information is allowed
 
-after_ok : {A B : Type 0} (r : Result A MakeFault) (next : A → Result B MakeFault) (y : B) → on_success r next ≡ Ok y → (x : A) × (r ≡ Ok x) × (next x ≡ Ok y)
+after_ok : {A B : Type 0} (r : Result A MakeFault) (next : A → Result B MakeFault) (y : B) → and_then r next ≡ Ok y → (x : A) × (r ≡ Ok x) × (next x ≡ Ok y)
 after_ok (Ok x) next y h = (x, refl, h)
 after_ok (Err why) next y h = cc
 
@@ -58,6 +58,6 @@ info_ok (Err place) about h = cc
 pub made_allowed : (command : CommandLine) (names : List (List ℕ)) (read : Reads) (file : List ℕ) → made_package command names read ≡ Ok file → is_ok (information command) ≡ true
 unfolding made_package
 made_allowed command names read file h =
-    let (scripts, one, more) = after_ok (scripts_from read 0 (values_with SCRIPT command.values)) (λ scripts. on_success (or_info_bad (information command)) (λ about. on_success (folders_below read (length scripts) (values_with FILES command.values) names) (package_of_parts command scripts about))) file h in
-    let (about, two, last) = after_ok (or_info_bad (information command)) (λ about. on_success (folders_below read (length scripts) (values_with FILES command.values) names) (package_of_parts command scripts about)) file more in
+    let (scripts, one, more) = after_ok (scripts_from read 0 (values_with SCRIPT command.values)) (λ scripts. and_then (or_info_bad (information command)) (λ about. and_then (folders_below read (length scripts) (values_with FILES command.values) names) (package_of_parts command scripts about))) file h in
+    let (about, two, last) = after_ok (or_info_bad (information command)) (λ about. and_then (folders_below read (length scripts) (values_with FILES command.values) names) (package_of_parts command scripts about)) file more in
     info_ok (information command) about two

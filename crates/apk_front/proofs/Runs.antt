@@ -8,7 +8,8 @@ use Rattle.std.proofs.lemmas.Slice.Eq.{bytes_eq-Decides}
 use Rattle.base_core.specs.Calls.{HasNow, IfObservable}
 use Rattle.base_core.specs.Crash.{IsImageBy, IsOrderly, Since}
 use Rattle.base_core.specs.Files.{Files, NameMap, drop_name}
-use Rattle.base_core.specs.Tree.{File, IsAmong, IsMapOf, TreeState, bytes_at, files_by, files_of}
+use Rattle.base_core.specs.Lists.{IsIn}
+use Rattle.base_core.specs.Tree.{File, IsMapOf, TreeState, bytes_at, files_by, files_of}
 use Rattle.base_core.specs.declared.tree.TreeFault.{TreeFault}
 use Rattle.adb_rules.specs.Reserved.{is_reserved}
 use Rattle.journal_core.specs.Kept.{IsSyncedAt, KeepsMapsBut, ShownNamesLast}
@@ -127,7 +128,7 @@ ImageHasState = (ignored : List ℕ → Bool) (v : TreeState) → IsOrderly (Res
 
 only_map : (w : TreeState) (map : NameMap) → w.older ≡ [] → IsMapOf w map → map ≡ w.names
 only_map w map one (inl is) = is
-only_map w map one (inr among) = absurd (subst (λ (l : List NameMap). IsAmong map l) one among)
+only_map w map one (inr among) = absurd (subst (λ (l : List NameMap). IsIn map l) one among)
 
 scratch_gone : (name file : List ℕ) (files : Files) (q : List ℕ) → bytes_eq q name ≡ false → bytes_eq q (scratch_of name) ≡ true → replaced_files name file files q ≡ None
 scratch_gone name file files q other scratch = ap (λ b. if b then Some file else drop_name files (scratch_of name) q) other ∙ ap (λ b. if b then None else files q) scratch

@@ -1,4 +1,6 @@
--- What a run of the top call answers, and what it prints on its two sinks.
+-- What a run of the top call answers, and what it prints on its two sinks. The rules stand in
+-- `docs/commands.md`, "Answers and statuses", and of faults in `docs/crash-safety.md`,
+-- "Misuses, faults and counts".
 use Rattle.std.specs.Prelude.{◌≡◌, ◌≢◌, ◌⊎◌, ◌<◌, ℕ, ◌-◌, ◌^◌, false, Bool, List, [], Option, Some, None, is_ok}
 use Rattle.base_core.specs.Calls.{HasNow}
 use Rattle.base_core.specs.Faults.{Counts, HasCause, IsNoFault, Rose}
@@ -15,26 +17,26 @@ use Rattle.apk_front.specs.declared.answer.Answer.TheVariants.{Ok, Refused, Tree
 
 -- ---- the answer of an outcome
 
--- a command that came to its end is done or refused
+-- the answer of a command that came to its end: it is done, or refused where there is a refusal
 abbrev pub answer_by : Option Refusal → Answer
 answer_by None = Ok
 answer_by (Some refusal) = Refused refusal
 
--- by an outcome; its bytes and files do not count
+-- the answer that an outcome has; its bytes and files do not count
 abbrev pub answer_of : Outcome → Answer
 answer_of outcome = answer_by outcome.refusal
 
 -- ---- what is printed
 
--- its counts of faults and of wants stand as before
+-- a sink did not fail: its counts of faults and of wants stand as before
 abbrev pub DidNotFail : SinkChange → Type 0
 DidNotFail sink = IsNoFault sink.before sink.after
 
--- a line, or a front of it where the sink failed
+-- a sink gets a whole line, or a front of the line where the sink failed
 abbrev pub GetsLine : SinkChange → List ℕ → Type 0
 GetsLine sink line = (Gets sink line × DidNotFail sink) ⊎ (GetsSome sink line × SinkFailed sink)
 
--- it had something to get, and failed
+-- a sink failed that had at least one byte to get
 pub record FailedAt (sink : SinkChange) (bytes : List ℕ) : Type 0 where
   pub some : bytes ≢ []
   pub failed : SinkFailed sink
@@ -56,7 +58,7 @@ pub record IsOutFault (outcome : Outcome) (out err : SinkChange) : Type 0 where
   pub out_gets : GetsSome out outcome.out
   pub err_gets : GetsSome err outcome.err
 
--- no outcome was printed: only this line on err, and nothing failed on out
+-- no outcome was printed: only this line on err; out got nothing, and did not fail
 pub record IsFault (line : List ℕ) (out err : SinkChange) : Type 0 where
   pub out_gets : Gets out []
   pub out_kept : DidNotFail out
@@ -80,26 +82,26 @@ IsAnswerOf IsOne Leaves tree_failed OutFault out err =
 IsAnswerOf IsOne Leaves tree_failed TreeFault out err = tree_failed × IsFault tree_line out err
 IsAnswerOf IsOne Leaves tree_failed Memory out err = IsFault memory_line out err
 
--- the answer to these words over these files
+-- an answer to these words over these files, with what the run prints and leaves
 abbrev pub IsAnswerTo :
     List (List ℕ) → Files → (Outcome → Type 0) → Type 0 → Answer → SinkChange → SinkChange → Type 0
 IsAnswerTo words files Leaves tree_failed answer out err =
     IsAnswerOf (IsOutcome words files) Leaves tree_failed answer out err
 
--- the files as read are then the outcome's
+-- the files as read behind a run are its outcome's
 abbrev pub LeavesFiles : List TreeState → Outcome → Type 0
 LeavesFiles now outcome = HasNow now (λ w. files_of w ≡ outcome.files)
 
--- nothing is said of what it leaves
+-- nothing is said of the files that a run leaves
 abbrev pub LeavesAny : Outcome → Type 0
 LeavesAny outcome = Unit {0}
 
 -- ---- what failed
 
--- By the counts of the tree before and after, and of the sinks: behind Ok and a refusal nothing
--- failed. A fault of the tree has its cause there. Behind a fault of a sink just one sink failed,
--- and not the tree. Want of memory is answered only where the tree did not fail. A fault of the
--- tree and want of memory print just their line.
+-- What failed, by the answer, the counts of the tree before and after, and those of the sinks:
+-- behind Ok and a refusal nothing failed. A fault of the tree has its cause there. Behind a fault
+-- of a sink just one sink failed, and not the tree. Want of memory is answered only where the tree
+-- did not fail. A fault of the tree and want of memory print just their line.
 abbrev pub HasCauses : Answer → Counts → Counts → SinkChange → SinkChange → Type 0
 HasCauses Ok before after out err = IsNoFault before after × DidNotFail out × DidNotFail err
 HasCauses (Refused refusal) before after out err =
@@ -110,7 +112,7 @@ HasCauses OutFault before after out err =
     × ((SinkFailed out × DidNotFail err) ⊎ (SinkFailed err × DidNotFail out))
 HasCauses Memory before after out err = IsNoFault before after × IsFault memory_line out err
 
--- no count rose: neither the tree's, nor a sink's
+-- a run in which no count of faults rose: neither the tree's, nor a sink's
 pub record IsFaultless (before after : Counts) (out err : SinkChange) : Type 0 where
   pub tree : ¬ Rose before.faults after.faults
   pub out_sink : ¬ Rose out.before.faults out.after.faults
@@ -122,7 +124,8 @@ IsComplete words files answer =
     (answer ≡ Memory)
     ⊎ ((outcome : Outcome) × IsOutcome words files outcome × (answer ≡ answer_of outcome))
 
--- no failure is planned, and the count of misuses is below its last value
+-- no failure of a tree or a sink is planned, and its count of misuses is below its last value,
+-- 2^64 - 1, so that one more misuse would show
 pub record IsUnplanned (counts : Counts) : Type 0 where
   pub unplanned : counts.fallible ≡ false
   pub below : counts.misuses < 2 ^ 64 - 1

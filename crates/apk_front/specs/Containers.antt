@@ -1,4 +1,6 @@
--- What the parts of `adbdump`, `mkpkg` and `mkndx` hand on.
+-- What the parts of `adbdump`, `mkpkg` and `mkndx` hand on. Serves the proofs of `adbdump`, `mkpkg`
+-- and `mkndx` in `src/dump.rt` and `src/make.rt`; the rules stand in `docs/commands.md`,
+-- "`adbdump FILE`", "`mkpkg`" and "`mkndx PACKAGE..`".
 use Rattle.std.specs.Prelude.{◌≡◌, ℕ, Bool, true, false, List, Option, Some, None, Result, Ok, Err, Vec}
 use Rattle.std.specs.declared.alloc.Global.{Global}
 use Rattle.adb_block.specs.Reading.{Reading, done, fault, more}
@@ -23,18 +25,20 @@ use Rattle.outcome.specs.Outcome.{Outcome}
 
 -- ---- the text of a container
 
--- why there is no text; want of memory says nothing of the file
+-- why a container has no text, as the definition of its text says; want of memory says nothing of
+-- the file
 abbrev pub IsDumpFault : ReadFault → Result (List ℕ) Cause → Type 0
 IsDumpFault (ReadFaults.Bad cause) text = text ≡ Err cause
 IsDumpFault ReadFaults.Memory text = Unit {0}
 
--- why the first block is refused
+-- why the first block is refused for its framing, its head or its shape, if it is
 abbrev pub first_form_fault : Which → Reading → Option Cause
 first_form_fault which done = None
 first_form_fault which (fault c) = Some c
 first_form_fault which (more b at r) = form_fault which b.payload
 
--- the first block passed its tests, and the reader stands behind it
+-- a first block with this payload passed its tests, and the reader that stood before it stands
+-- behind it
 abbrev pub IsShapedFirst : Which → List ℕ → Reading → Reading → Type 0
 IsShapedFirst which payload done later = ⊥
 IsShapedFirst which payload (fault c) later = ⊥
@@ -43,12 +47,12 @@ IsShapedFirst which payload (more b at r) later =
 
 -- ---- a container that is made
 
--- what was made, without where it lies
+-- what was made, or why it was not, without where its bytes lie in memory
 abbrev pub made_in : Result (Vec ℕ Global) MakeFault → Result (List ℕ) MakeFault
 made_in (Ok file) = Ok file.items
 made_in (Err why) = Err why
 
--- whether the tree failed, or memory ran out
+-- whether a fault of the tree or want of memory stopped the making, which then refuses nothing
 abbrev pub is_cut : MakeFault → Bool
 is_cut Disk = true
 is_cut Memory = true
@@ -67,31 +71,32 @@ OnMade (Err why) Means = is_cut why ≡ false → Means (Err why)
 
 -- ---- over these files
 
--- what `mkpkg` makes
+-- what `mkpkg` makes of a command and these files, or why it makes none: for the one list of names
+-- below the folder of `-F`
 pub record IsPackageMade (command : CommandLine) (files : Files)
     (made : Result (List ℕ) MakeFault) : Type 0 where
   pub names : List (List ℕ)
   pub listing : IsListing (values_with FILES command.values) files names
   pub is : made_package command names (reads_in files) ≡ made
 
--- what `mkndx` makes
+-- what `mkndx` makes of a command and these files, or why it makes none
 abbrev pub IsIndexMade : CommandLine → Files → Result (List ℕ) MakeFault → Type 0
 IsIndexMade command files made = made_index command (reads_in files) ≡ made
 
--- the outcome of `mkpkg`
+-- the outcome of `mkpkg` over these files
 abbrev pub IsPackageOutcome : CommandLine → Files → Outcome → Type 0
 IsPackageOutcome command files outcome =
     (names : List (List ℕ))
     × IsListing (values_with FILES command.values) files names
     × (outcome ≡ mkpkg (reads_in files) files command names)
 
--- the outcome of `mkndx`
+-- the outcome of `mkndx` over these files
 abbrev pub IsIndexOutcome : CommandLine → Files → Outcome → Type 0
 IsIndexOutcome command files outcome = outcome ≡ mkndx (reads_in files) files command
 
 -- ---- by some names below the folder, and some reads
 
--- the index that is made of a command by some reads
+-- the index that is made of a command by some reads, as on a tree that shows no files
 pub record IsIndexFound (command : CommandLine) (made : Result (List ℕ) MakeFault) : Type 0 where
   pub read : Reads
   pub files : AreFiles read 0 command.operands

@@ -1,9 +1,10 @@
--- What a run does below its root.
+-- Whether a run only reads below its root. The rule stands in `docs/crash-safety.md`,
+-- "What the host's tree does": one run writes, or any number read.
 use Rattle.std.specs.Prelude.{Bool, true, false}
 use Rattle.apk_front.specs.declared.judge.RootAccess.{RootAccess}
 use Rattle.apk_front.specs.declared.judge.RootAccess.TheVariants.{Read, Write}
 
--- by whether its command only reads
+-- what a run may do below its root, by whether its command only reads
 abbrev pub access_of : Bool → RootAccess
 access_of true = Read
 access_of false = Write

@@ -1,4 +1,6 @@
--- What a run of the top call does to the tree, moment by moment.
+-- What a run of the top call does to the tree, moment by moment. The rules stand in
+-- `docs/crash-safety.md`, "Recovery": the table of what a run of `apk` may leave, and what follows
+-- it.
 use Rattle.std.specs.Prelude.{◌≡◌, ◌⊎◌, ◌||◌, ℕ, Bool, true, false, if◌then◌else◌, List, [], ◌∷◌, Option, Some, None, IsSome}
 use Rattle.std.specs.Str.{bytes_eq}
 use Rattle.base_core.specs.Calls.{HasNow}
@@ -21,7 +23,7 @@ use Rattle.apk_front.specs.declared.answer.Answer.TheVariants.{Ok, Refused, OutF
 
 -- ---- the output
 
--- the names that a run of a command with an output may write: its own and its scratch name
+-- the names that a run of a command with an output may write: the output's own and its scratch name
 abbrev pub output_names : Option (List ℕ) → List (List ℕ)
 output_names None = []
 output_names (Some name) = name ∷ scratch_of name ∷ []
@@ -60,15 +62,15 @@ LeavesRoomFor effect output IsOne files =
     × ((outcome : Outcome) → IsOne outcome → outcome.commits ≡ true
     → HasRoomToWrite effect output (work_files effect files))
 
--- of a command line
+-- files leave room for a run of this command line
 abbrev pub LeavesRoom : List (List ℕ) → Files → Type 0
 LeavesRoom words files =
     LeavesRoomFor (effect_by (command_of words)) (output words) (IsOutcome words files) files
 
 -- ---- what is read while the command works
 
--- the names under which a command makes what it then moves to its name: the scratch name of an
--- output, or all below the stage
+-- whether a name is one under which a command makes what it then moves to its name: the scratch
+-- name of an output, or any below the stage
 abbrev pub is_draft_name : Effect → Option (List ℕ) → List ℕ → Bool
 is_draft_name Makes (Some name) q = bytes_eq q (scratch_of name)
 is_draft_name Makes None q = false
@@ -98,12 +100,13 @@ IsReadAtWork effect output new old w =
 
 -- ---- recovery
 
--- it does not recover, or there is neither an intent nor anything that waits
+-- a run has nothing to recover: its command does not recover, or there is neither an intent nor
+-- anything that waits
 abbrev pub HasNothingToRecover : Effect → TreeState → Type 0
 HasNothingToRecover effect v =
     (does_recover effect ≡ false) ⊎ ((v.names intent_name ≡ None) × IsEmptyStage v.names)
 
--- what it works on is in the midst of a change that it can finish
+-- a run can recover: its command does, and what stands under the intent's name is an intent
 abbrev pub CanRecover : Effect → TreeState → Type 0
 CanRecover effect v = (does_recover effect ≡ true) × IsSome (intent_of (files_of v))
 
@@ -114,7 +117,8 @@ pub record IsRecovering (v w : TreeState) : Type 0 where
   pub bytes : HasOldOrNewBytes (files_of v) (unstaged_files (files_of v)) w
   pub waiting : IsLessWaiting v w
 
--- the tree is being recovered, if the command does that; or this holds
+-- at a moment of a run the tree is being recovered, if the command does that; or what is asked
+-- behind a recovery holds
 abbrev pub IsBehindRecovery : Effect → (TreeState → Type 0) → TreeState → TreeState → Type 0
 IsBehindRecovery effect IsNext v w = ((does_recover effect ≡ true) × IsRecovering v w) ⊎ IsNext w
 
@@ -131,8 +135,8 @@ AreReadOnTheWay IsOne effect output v old now =
     × Since (IsBehindRecovery effect
     (IsReadAtWork effect output outcome.files (work_files effect (files_of v))) v) old now)
 
--- where no intent is read, a crash undoes no change of a name: but those of the output, and of what
--- waits
+-- where no intent is read, a crash undoes no change of a name, but for those of the output and of
+-- what waits
 abbrev pub UnreadNamesLast : Option (List ℕ) → TreeState → Type 0
 UnreadNamesLast output w =
     w.names intent_name ≡ None → ShownNamesLastBut (output_names output) w
@@ -158,12 +162,12 @@ AreSafe IsOne makes ignored v old now =
     × (outcome.commits ≡ true)
     × AreOnTheWay makes ignored outcome.files v old now)
 
--- an outcome's files last where it commits, or each crash left the old ones before
+-- an outcome's files last where it commits, or where each crash left the old ones before
 abbrev pub SettlesUnrecovered : (List ℕ → Bool) → TreeState → Outcome → Type 0
 SettlesUnrecovered ignored v outcome =
     (outcome.commits ≡ true) ⊎ IsSettled ignored (files_of v) v
 
--- or where an intent was found and done
+-- an outcome's files last, by *SettlesUnrecovered* or since an intent was found and done
 abbrev pub Settles : Effect → (List ℕ → Bool) → TreeState → Outcome → Type 0
 Settles effect ignored v outcome = SettlesUnrecovered ignored v outcome ⊎ CanRecover effect v
 
@@ -193,15 +197,15 @@ AnswersOutcome (Refused refusal) = Unit {0}
 AnswersOutcome OutFault = Unit {0}
 AnswersOutcome other = ⊥
 
--- an outcome commits nothing
+-- one of these outcomes commits nothing
 abbrev pub HasIdleOutcome : (Outcome → Type 0) → Type 0
 HasIdleOutcome IsOne = (outcome : Outcome) × IsOne outcome × (outcome.commits ≡ false)
 
--- it was left undone, or the outcome commits nothing, whatever was answered in its place
+-- a run was left undone, or its outcome commits nothing, whatever was answered in its place
 abbrev pub CommitsNothing : (Outcome → Type 0) → Answer → Type 0
 CommitsNothing IsOne answer = IsLeftUndone answer ⊎ HasIdleOutcome IsOne
 
--- where something makes them last, each crash leaves the outcome's files
+-- each crash behind a run leaves the outcome's files, where something makes them last
 abbrev pub LeavesSettled :
     Effect → (List ℕ → Bool) → TreeState → List TreeState → Outcome → Type 0
 LeavesSettled effect ignored v now outcome =
@@ -225,8 +229,8 @@ LeavesLasting IsOne effect ignored v now OutFault =
     (outcome : Outcome) × IsOne outcome × LeavesSettled effect ignored v now outcome
 LeavesLasting IsOne effect ignored v now other = Unit {0}
 
--- one of these outcomes is at rest if it commits: its output counts again, and so does the scratch
--- name, also where they were ignored
+-- the tree is at rest with the files of one of these outcomes, if it commits: the output and its
+-- scratch name count again, also where they were ignored
 abbrev pub LeavesAtRest :
     (Outcome → Type 0) → Option (List ℕ) → (List ℕ → Bool) → List TreeState → Type 0
 LeavesAtRest IsOne output ignored now =

@@ -1,4 +1,6 @@
--- What a run leaves of a tree.
+-- What a run leaves of a tree. Serves the proofs of `apk`: the contracts of `judge`, of
+-- `recover_and_run` and of each command that it runs. The rules stand in `docs/crash-safety.md`,
+-- "Recovery".
 use Rattle.std.specs.Prelude.{◌≡◌, ◌⊎◌, ℕ, Bool, true, false, is_some, IsSome, IsErrOf, List, Option, None, Result, OnOk}
 use Rattle.base_core.specs.Calls.{HasNow, IfObservable}
 use Rattle.base_core.specs.Crash.{IsOrderly, Since}
@@ -17,7 +19,7 @@ use Rattle.apk_front.specs.declared.answer.Verdict.{Verdict}
 
 -- ---- behind a recovery
 
--- neither an intent is read nor anything waits
+-- neither an intent is read nor does anything wait below the stage
 abbrev pub HasNothingWaiting : TreeState → Type 0
 HasNothingWaiting v = (v.names intent_name ≡ None) × IsEmptyStage (files_of v)
 
@@ -27,8 +29,8 @@ IfNothingWaits history P = IfObservable history (λ v. HasNothingWaiting v → P
 
 -- ---- a run
 
--- at each moment the files as read are the old ones; or the run has an outcome that commits, and
--- works on them
+-- at each moment of a run that recovers nothing the files as read are the old ones; or the run has
+-- an outcome that commits, and works on them
 abbrev pub AreReadAtWork :
     (Outcome → Type 0) → Effect → Option (List ℕ) → TreeState → List TreeState → List TreeState
     → Type 0
@@ -48,7 +50,7 @@ pub record IsRun (IsOne : Outcome → Type 0) (effect : Effect) (output : Option
   pub moments : (ignored : List ℕ → Bool)
       → IsOrderly (RestsOn ignored) v → HidesScratchOf output ignored
       → AreSafe IsOne (is_some output) ignored v old now
-  -- it is left orderly
+  -- the tree is left orderly
   pub orderly : (ignored : List ℕ → Bool)
       → IsOrderly (RestsOn ignored) v → HidesScratchOf output ignored
       → HasNow now (IsOrderly (RestsOn ignored))
@@ -62,12 +64,12 @@ pub record IsRun (IsOne : Outcome → Type 0) (effect : Effect) (output : Option
       → IsOrderly (RestsOn ignored) v → HidesScratchOf output ignored
       → IsOne outcome → outcome.commits ≡ true
       → OnOk judged (HasNow now (IsAtRest (ignored_but output ignored) outcome.files))
-  -- no other file is touched
+  -- the files as read are the old ones, or the run works on them
   pub reads : AreReadAtWork IsOne effect output v old now
   -- where no crash undoes a change of a name at the start, none does as long as no intent is read;
   -- but for the output, and what waits
   pub last : ShownNamesLast v → Since (UnreadNamesLast output) old now
-  -- they are the outcome's once it was judged
+  -- the files as read are the outcome's once it was judged
   pub leaves : (outcome : Outcome) → IsOne outcome
       → OnOk judged (HasNow now (λ w. files_of w ≡ outcome.files))
   -- a run that commits nothing writes nothing
@@ -77,7 +79,8 @@ pub record IsRun (IsOne : Outcome → Type 0) (effect : Effect) (output : Option
 abbrev pub IsWithoutCommit : (Outcome → Type 0) → Result Verdict TreeFault → Type 0
 IsWithoutCommit IsOne judged = IsErrOf judged Memory ⊎ HasIdleOutcome IsOne
 
--- What a run leaves that recovers first, if its command does.
+-- What a run leaves that recovers first, if its command does. Fields without a comment say what
+-- those of *IsRun* say, where a recovery comes before.
 pub record IsWholeRun (IsOne : Outcome → Type 0) (effect : Effect) (output : Option (List ℕ))
     (judged : Result Verdict TreeFault) (v : TreeState) (old now : List TreeState) : Type 0 where
   pub moments : (ignored : List ℕ → Bool)
@@ -99,7 +102,7 @@ pub record IsWholeRun (IsOne : Outcome → Type 0) (effect : Effect) (output : O
   pub left : IsWithoutCommit IsOne judged → (ignored : List ℕ → Bool)
       → IsOrderly (RestsOn ignored) v → Since (IsStill ignored v) old now
   pub idle : IsWithoutCommit IsOne judged → HasNothingToRecover effect v → now ≡ old
-  -- nor where the intent is bad
+  -- nothing is written either where the intent is bad
   pub bad : IsSome (recovery_fault effect (files_of v)) → now ≡ old
   pub reads : AreReadOnTheWay IsOne effect output v old now
   pub last : IsSome (v.names intent_name) → Since (UnreadNamesLast output) old now

@@ -1,9 +1,10 @@
--- The exit status of an answer.
+-- The exit status of an answer. The rule stands in `docs/commands.md`, "Answers and statuses";
+-- status 5 is given by `crates/apk`, before this crate is called.
 use Rattle.std.specs.Prelude.{ℕ}
 use Rattle.apk_front.specs.declared.answer.Answer.{Answer}
 use Rattle.apk_front.specs.declared.answer.Answer.TheVariants.{Ok, Refused, TreeFault, OutFault, Memory}
 
--- 0 is done and 1 refused; from 2 on a fault has cut the run off
+-- the exit status of an answer: 0 is done and 1 refused; from 2 on a fault has cut the run off
 abbrev pub status_of : Answer → ℕ
 status_of Ok = 0
 status_of (Refused refusal) = 1

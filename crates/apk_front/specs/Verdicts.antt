@@ -1,4 +1,5 @@
--- What a run is judged to come to, and how that is printed.
+-- What a run is judged to come to, and how that is printed. Serves the contracts of `judge` and
+-- `show`, of which `apk` is made; the rule stands in `docs/commands.md`, "Answers and statuses".
 use Rattle.std.specs.Prelude.{◌≡◌, ◌⊎◌, [], Option, Some, None, Result, Ok, Err}
 use Rattle.base_core.specs.Files.{Files}
 use Rattle.base_core.specs.Sink.{SinkChange, Gets, GetsSome, SinkFailed}
@@ -21,11 +22,11 @@ abbrev pub Reports : Verdict → Outcome → Type 0
 Reports verdict outcome =
     record (as_outcome outcome.files verdict) { commits = outcome.commits } ≡ outcome
 
--- they are those of one of these
+-- the verdict's refusal and report are those of one of these outcomes
 abbrev pub ReportsOne : (Outcome → Type 0) → Verdict → Type 0
 ReportsOne IsOne verdict = (outcome : Outcome) × IsOne outcome × Reports verdict outcome
 
--- the answer and the bytes of an outcome, or a sink's fault in its place
+-- the answer and the bytes that stand for an outcome: its own, or a sink's fault in its place
 abbrev pub IsPrinted : Outcome → Answer → SinkChange → SinkChange → Type 0
 IsPrinted outcome Good out err = IsStated outcome Good out err
 IsPrinted outcome (Refused refusal) out err = IsStated outcome (Refused refusal) out err
@@ -33,7 +34,8 @@ IsPrinted outcome OutFault out err = IsOutFault outcome out err
 IsPrinted outcome TreeFailed out err = ⊥
 IsPrinted outcome Memory out err = ⊥
 
--- a refusal printed on err, or a fault of err in its place
+-- the answer and the bytes of standard error behind a report: a refusal, if there is one, or a
+-- fault of that sink in its place
 abbrev pub IsRefusalPrinted : Option Refusal → Answer → SinkChange → Type 0
 IsRefusalPrinted None answer err = (answer ≡ Good) × Gets err [] × DidNotFail err
 IsRefusalPrinted (Some refusal) answer err =

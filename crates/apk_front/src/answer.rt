@@ -1,4 +1,5 @@
-//! What a run answers: what it was judged to come to is printed on the two sinks.
+//! What a run answers: what it was judged to come to is printed on the two sinks. The rules stand
+//! in `docs/commands.md`, "Answers and statuses", and the texts in "Error lines".
 ghost use Rattle.std.specs.Prelude.{◌≡◌, ◌≢◌, [], OnErr, Err};
 ghost use Rattle.apk_front.specs.Answers.{GetsLine};
 ghost use Rattle.apk_front.specs.Status.{status_of};
@@ -44,19 +45,21 @@ pub fn status(answer: &Answer) -> u8
 /// What a command comes to: a report, and a refusal behind it, if there is one.
 #[derive(Drop)]
 pub(crate) struct Verdict {
+    /// What goes to standard output.
     pub(crate) report: Text,
+    /// Why the command is refused: a line on standard error, behind the report.
     pub(crate) refusal: Option<Refusal>,
 }
 
 impl Verdict {
-    /// An empty report.
+    /// The verdict of a command that prints nothing and is not refused.
     pub(crate) fn empty(alloc: Global) -> Verdict
         ensures { (files : Files) → as_outcome files result ≡ just_report files [] }
     {
         Verdict::reported(Text::from_vec(Vec::new(alloc)))
     }
 
-    /// Just a report.
+    /// The verdict of a command that prints a report and is not refused.
     pub(crate) fn reported(report: Text) -> Verdict
         ensures { (files : Files) → as_outcome files result ≡ just_report files report }
     {
@@ -66,7 +69,7 @@ impl Verdict {
         }
     }
 
-    /// Just a refusal.
+    /// The verdict of a command that is refused and prints no report.
     pub(crate) fn refused(alloc: Global, refusal: Refusal) -> Verdict
         ensures { (files : Files) → as_outcome files result ≡ just_refusal files refusal }
     {
@@ -77,7 +80,8 @@ impl Verdict {
     }
 }
 
-/// Prints what was judged, and answers it.
+/// Prints what was judged, and answers it: the verdict's answer, a fault of the tree or want of
+/// memory, or the fault of a sink.
 pub(crate) fn show<O: Sink, E: Sink>(
     judged: Result<Verdict, TreeFault>,
     out: &mut O,
@@ -86,6 +90,7 @@ pub(crate) fn show<O: Sink, E: Sink>(
     ensures shown { IsShown judged result
         (sink_change O.bytes O.counts out.old out.new)
         (sink_change E.bytes E.counts err.old err.new) }
+    // Of each sink: no count falls, and no call is a misuse.
     ensures out_counts { IsProperUse (sink_change O.bytes O.counts out.old out.new) }
     ensures err_counts { IsProperUse (sink_change E.bytes E.counts err.old err.new) }
 {
@@ -95,7 +100,8 @@ pub(crate) fn show<O: Sink, E: Sink>(
     }
 }
 
-// Prints the line of a fault of the tree, or of want of memory.
+// Prints the line of a fault of the tree, or of want of memory. Nothing goes to `_out`; the clauses
+// name it.
 fn print_fault<O: Sink, E: Sink>(fault: TreeFault, _out: &mut O, err: &mut E) -> Answer
     ensures shown { IsShown (Err fault) result
         (sink_change O.bytes O.counts _out.old _out.new)
@@ -130,7 +136,7 @@ fn print_verdict<O: Sink, E: Sink>(verdict: Verdict, out: &mut O, err: &mut E) -
     }
 }
 
-// Prints a report; one without bytes never fails.
+// Prints a report. Where it has no bytes no call is made on the sink, so that does not fail.
 fn print_report<O: Sink>(bytes: &[u8], out: &mut O) -> Result<(), SinkFault>
     ensures written { Writes bytes.now (sink_change O.bytes O.counts out.old out.new) result }
     ensures some { OnErr result (bytes.now ≢ []) }
@@ -141,7 +147,7 @@ fn print_report<O: Sink>(bytes: &[u8], out: &mut O) -> Result<(), SinkFault>
     write_all(out, bytes)
 }
 
-// Prints the line of a refusal, if there is one.
+// Prints the line of a refusal, if there is one, and gives the answer of the run.
 fn print_refusal<E: Sink>(refusal: Option<Refusal>, err: &mut E) -> Answer
     ensures printed { IsRefusalPrinted refusal result
         (sink_change E.bytes E.counts err.old err.new) }
@@ -156,7 +162,8 @@ fn print_refusal<E: Sink>(refusal: Option<Refusal>, err: &mut E) -> Answer
     }
 }
 
-// Prints a fault's line; a fault of the sink changes nothing in the answer.
+// Prints a fault's line. A fault of the sink changes nothing in the answer: the status tells the
+// first fault.
 fn print_line<E: Sink>(line: &[u8], err: &mut E)
     ensures line { GetsLine (sink_change E.bytes E.counts err.old err.new) line.now }
     ensures counts { IsProperUse (sink_change E.bytes E.counts err.old err.new) }

@@ -1,4 +1,6 @@
-//! `add`, `del`, `upgrade` and `fix`: what is installed changes, and that is reported.
+//! `add`, `del`, `upgrade` and `fix`: what is installed changes, and that is reported. The rules
+//! stand in `docs/commands.md`, "`add` and `del`" and "`upgrade` and `fix`"; the engine is
+//! `engine_core`.
 ghost use Rattle.std.specs.Prelude.{◌≡◌, true, IfOk, IsErrOf, OnOk};
 ghost use Rattle.apk_front.specs.Moments.{HasRoomToWrite};
 ghost use Rattle.apk_front.specs.Runs.{IfNothingWaits, IsRun};
@@ -19,7 +21,7 @@ use outcome::{a_command_that_commits_nothing_leaves_the_files, an_outcome_over_f
 use std::alloc::Global;
 
 /// Changes what is installed, and reports it. Nothing asks for memory once the change is carried
-/// out.
+/// out. The clauses are those of `run_recovered`, which calls this.
 pub(crate) fn change<T: Tree>(
     alloc: Global,
     command: &Command,
@@ -53,7 +55,7 @@ pub(crate) fn change<T: Tree>(
     verdict_of(alloc, answer)
 }
 
-// What the engine answered, as a verdict.
+// What the engine answered, as a verdict: its report or its refusal.
 fn verdict_of(alloc: Global, answer: Result<Text, Refused>) -> Result<Verdict, TreeFault>
     ensures { IsToldAs answer result }
 {

@@ -1,4 +1,5 @@
-//! `demo`: so many small packages are made, indexed and installed, in a tree of their own.
+//! `demo`: so many small packages are made, indexed and installed, in a tree of their own. The
+//! rules stand in `docs/commands.md`, "`demo N`".
 //!
 //! Each command line is run by the function that runs it on every other tree, too.
 ghost use Rattle.std.specs.Prelude.{◌≡◌, IfOk, IsTrue, MatchResult, OnOk, Some};
@@ -31,7 +32,7 @@ use std::alloc::{AllocError, Global};
 use tree_memory::MemoryTree;
 use words_core::{WordsFault, read_words};
 
-/// Where the repositories are named.
+/// The file that lists the repositories (`docs/formats.md`, "Repositories").
 const REPOSITORIES: &[u8] = b"etc/apk/repositories";
 
 /// Makes, indexes and installs so many packages as the operand says, and tells the last line of
@@ -51,7 +52,8 @@ pub(crate) fn demo(alloc: Global, operands: &Operands) -> Result<Verdict, TreeFa
     }
 }
 
-// What is told of the last run.
+// What is told of the last run: its refusal, or the line of `demo` with the last line of its
+// report.
 fn told(alloc: Global, count: u16, last: Verdict) -> Result<Verdict, TreeFault>
     ensures { MatchResult result
         (λ verdict. (files : Files) → as_outcome files verdict
@@ -62,7 +64,7 @@ fn told(alloc: Global, count: u16, last: Verdict) -> Result<Verdict, TreeFault>
     Ok(unless_refused(alloc, last.refusal, line))
 }
 
-// A refusal, if there is one, and a report otherwise.
+// The verdict with the refusal, if there is one, and with the report otherwise.
 fn unless_refused(alloc: Global, refusal: Option<Refusal>, report: Text) -> Verdict
     ensures { (files : Files) → as_outcome files result ≡ report_unless files refusal report }
 {
@@ -72,7 +74,8 @@ fn unless_refused(alloc: Global, refusal: Option<Refusal>, report: Text) -> Verd
     }
 }
 
-// The packages are made, indexed and installed.
+// Makes packages 1 to n, indexes and installs them, in an empty tree. Gives the verdict of the last
+// run that was not left out.
 fn install(alloc: Global, n: u16, tree: &mut MemoryTree) -> Result<Verdict, TreeFault>
     requires { files_of (tree_state tree.old) ≡ no_names }
     ensures { IfOk result (λ verdict. IsRunTo (AreInstalled n) verdict tree.new) }
@@ -84,7 +87,8 @@ fn install(alloc: Global, n: u16, tree: &mut MemoryTree) -> Result<Verdict, Tree
     run_behind(alloc, indexed, &words, tree)
 }
 
-// The packages 1 to n are made.
+// Lists the repository, and makes the packages 1 to n, up to the first that is refused. Gives the
+// last verdict.
 fn package_all(alloc: Global, n: u16, tree: &mut MemoryTree) -> Result<Verdict, TreeFault>
     requires { files_of (tree_state tree.old) ≡ no_names }
     ensures { IfOk result (λ verdict. IsRunTo (ArePackaged n) verdict tree.new) }
@@ -97,7 +101,7 @@ fn package_all(alloc: Global, n: u16, tree: &mut MemoryTree) -> Result<Verdict, 
     Ok(last)
 }
 
-// Package i is made, unless the last run was refused.
+// Makes package i, unless the last run was refused: then that verdict stays.
 fn package_behind(
     alloc: Global,
     last: Verdict,
@@ -115,7 +119,7 @@ fn package_behind(
     package(alloc, i, tree)
 }
 
-// Package i is made, of a file that is put there.
+// Puts the one file of package i into the tree, and runs `mkpkg` on it.
 fn package(alloc: Global, i: u16, tree: &mut MemoryTree) -> Result<Verdict, TreeFault>
     ensures { IfOk result (λ verdict. IsRunTo (IsOutcomeOf (command_of (mkpkg_words i))
         (with_demo_file i (files_of (tree_state tree.old)))) verdict tree.new) }
@@ -127,7 +131,7 @@ fn package(alloc: Global, i: u16, tree: &mut MemoryTree) -> Result<Verdict, Tree
     run_words(alloc, &words, tree)
 }
 
-// Words are run, unless the last run was refused.
+// Runs a command line, unless the last run was refused: then that verdict stays.
 fn run_behind(
     alloc: Global,
     last: Verdict,
@@ -144,7 +148,7 @@ fn run_behind(
     run_words(alloc, words, tree)
 }
 
-// Words are run.
+// Runs a command line in the tree of `demo`.
 fn run_words(alloc: Global, words: &Words, tree: &mut MemoryTree) -> Result<Verdict, TreeFault>
     ensures { IfOk result (λ verdict. IsRunTo
         (IsOutcomeOf (command_of words.now) (files_of (tree_state tree.old)))
@@ -159,7 +163,8 @@ fn run_words(alloc: Global, words: &Words, tree: &mut MemoryTree) -> Result<Verd
     }
 }
 
-// A file is put under a name.
+// Puts a file under a name. No name of `demo` is bad, or a folder of another; should one be, it
+// would be told as want of memory.
 fn put(alloc: Global, name: &[u8], bytes: &[u8], tree: &mut MemoryTree) -> Result<(), AllocError>
     ensures { OnOk result (files_of (tree_state tree.new)
         ≡ put_name (files_of (tree_state tree.old)) name.now bytes.now) }

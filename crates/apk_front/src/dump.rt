@@ -1,4 +1,5 @@
-//! `adbdump`: a container is printed as text.
+//! `adbdump`: a container is printed as text. The rules stand in `docs/commands.md`,
+//! "`adbdump FILE`" (which tests are made, and in which order), and `docs/formats.md`, "Dump text".
 ghost use Rattle.std.specs.Prelude.{◌≡◌, None, Ok, IsTrue, IfOk, IfErr, is_some, length};
 ghost use Rattle.std.specs.Result.{result_err};
 ghost use Rattle.adb_block.specs.Reading.{reading_of};
@@ -29,7 +30,8 @@ use command_core::Operands;
 use report_core::Refusal;
 use std::alloc::{AllocError, Global};
 
-/// Prints the text of the file that the one operand names.
+/// Prints the text of the file that the one operand names. Of a tree that shows its files it is
+/// that file's text (`found`), of each tree that of some bytes (`by_reads`).
 pub(crate) fn adbdump<T: Tree>(
     alloc: Global,
     operands: &Operands,
@@ -42,6 +44,7 @@ pub(crate) fn adbdump<T: Tree>(
         ≡ adbdump (reads_in (files_of v)) (files_of v) operands.now)) }
     ensures by_reads { IfOk result (λ verdict. (read : Reads)
         × (as_outcome no_names verdict ≡ adbdump read no_names operands.now)) }
+    // The tree is only read; a fault of it has its cause.
     ensures tree { OnlyReads TreeFault.Disk (T.history tree.old) (T.history tree.new)
         (T.counts tree.old) (T.counts tree.new) result }
 {
@@ -51,7 +54,7 @@ pub(crate) fn adbdump<T: Tree>(
     Ok(verdict)
 }
 
-// The text of what was found, or its refusal.
+// The text of the file that was found, or its refusal.
 fn verdict_of(alloc: Global, place: u32, found: &Option<Vec<u8>>) -> Result<Verdict, AllocError>
     ensures { IfOk result (λ verdict. (files : Files)
         → as_outcome files verdict ≡ dump_outcome files place (bytes_in found.now)) }
@@ -82,7 +85,7 @@ fn text_of(alloc: Global, bytes: &[u8]) -> Result<Text, ReadFault>
     }
 }
 
-// The table at the root of a container with this schema.
+// The table at the root of a container with this schema (`docs/formats.md`, "Schemas").
 fn root_of_schema(schema: u32) -> Option<Which>
     ensures { result ≡ root_of_schema schema }
 {
@@ -98,7 +101,9 @@ fn root_of_schema(schema: u32) -> Option<Which>
 // The text of the blocks of a file with this table at its root, or their first failed test.
 #[tactic(auto, using(crate::proofs::Dumping::text_of_shaped, crate::proofs::Dumping::first_block_bad, crate::proofs::Dumping::later_block_bad))]
 fn text_of_blocks(alloc: Global, blocks: &mut Blocks<'_>, which: Which) -> Result<Text, ReadFault>
+    // No block was read yet.
     requires first { blocks.old.last ≡ None }
+    // The table is one that may be at a root.
     requires root { IsTrue (is_some (schema_word which)) }
     ensures ok { IfOk result (λ text. dump_of_blocks which (reading_of blocks.old) ≡ Ok text) }
     ensures bad { IfErr result (λ fault.
@@ -116,6 +121,7 @@ fn shape_first<'a>(blocks: &mut Blocks<'a>, which: Which) -> Result<Shaped<'a>, 
     ensures bad { IfErr result (λ cause.
         first_form_fault which (reading_of blocks.old) ≡ Some cause) }
     ensures table { IfOk result (λ shaped. table_of shaped ≡ which) }
+    // The reader then stands behind that block.
     ensures behind { IfOk result (λ shaped. IsShapedFirst which (payload_of (adb_of shaped))
         (reading_of blocks.old) (reading_of blocks.new)) }
 {
@@ -129,6 +135,7 @@ fn shape_first<'a>(blocks: &mut Blocks<'a>, which: Which) -> Result<Shaped<'a>, 
 fn shape_payload<'a>(payload: &'a [u8], which: Which) -> Result<Shaped<'a>, Cause>
     ensures exact { result_err result ≡ form_fault which payload.entry.now }
     ensures table { IfOk result (λ shaped. table_of shaped ≡ which) }
+    // What is shaped is this payload, not a copy.
     ensures lent { IfOk result (λ shaped. payload_of (adb_of shaped) ≡ payload.entry.now) }
 {
     let adb = Adb::new(payload)?;

@@ -1,4 +1,6 @@
-//! The top call. Its contract is what this repository proves of a run of `apk`.
+//! The top call. Its contract is what this repository proves of a run of `apk`. What a run comes to
+//! stands in `docs/commands.md`, what it leaves of a tree in `docs/crash-safety.md`, "Recovery", in
+//! the table of what a run of `apk` may leave.
 ghost use Rattle.std.specs.Prelude.{◌≡◌, ℕ, Bool, List, IsSome, IsTrue, is_some};
 ghost use Rattle.apk_front.specs.Answers.{name_an_applet, IsAnswerOf, IsAnswerTo, LeavesFiles, LeavesAny, HasCauses, IsFaultless, IsComplete, IsUnplanned, IsOutcomeUnlessMemory};
 ghost use Rattle.apk_front.specs.Moments.{AnswersOutcome, AreReadOnTheWay, AreSafe, CommitsNothing, HasNothingToRecover, HidesScratchOf, LeavesAtRest, LeavesLasting, LeavesRoom, UnreadNamesLast};

@@ -1,4 +1,5 @@
-//! `info`: what is installed is told.
+//! `info`: what is installed is told. The rules stand in `docs/commands.md`, "`info`"; what it
+//! tells is made by `engine_core`.
 ghost use Rattle.std.specs.Prelude.{◌≡◌, true, IfOk, IsErrOf, OnOk};
 ghost use Rattle.apk_front.specs.Moments.{HasRoomToWrite};
 ghost use Rattle.apk_front.specs.Runs.{IfNothingWaits, IsRun};
@@ -17,7 +18,8 @@ use command_core::Command;
 use engine_core::{InfoDone, Refused};
 use std::alloc::Global;
 
-/// Tells what is installed. A refusal may stand behind the report; nothing is written.
+/// Tells what is installed. A refusal may stand behind the report; nothing is written. The clauses
+/// are those of `run_recovered`, which calls this.
 pub(crate) fn info<T: Tree>(
     alloc: Global,
     command: &Command,
@@ -49,7 +51,8 @@ pub(crate) fn info<T: Tree>(
     verdict_of(alloc, answer)
 }
 
-// What the engine answered, as a verdict.
+// What the engine answered, as a verdict: what `info` tells, with the refusal behind that, or its
+// refusal.
 fn verdict_of(alloc: Global, answer: Result<InfoDone, Refused>) -> Result<Verdict, TreeFault>
     ensures { IsInfoToldAs answer result }
 {

@@ -1,5 +1,7 @@
 //! A command line is judged: its words are read, and its applet is run. What it may do below its
-//! root is known before, as a host wants it.
+//! root is known before, as a host wants it. The rules stand in `docs/commands.md`, "Words" and
+//! "Before the commands that write, and `info`"; and of what a run may do below its root in
+//! `docs/crash-safety.md`, "What the host's tree does".
 
 ghost use Rattle.std.specs.Prelude.{◌≡◌, [], None, Ok, IfOk, IsErrOf, IsTrue, MatchResult, OnOk};
 ghost use Rattle.apk_front.specs.Answers.{name_an_applet};
@@ -31,25 +33,33 @@ use report_core::Refusal;
 use std::alloc::{AllocError, Global};
 use words_core::{WordsFault, read_words};
 
-/// Judges a command line over a tree, and carries it out.
+/// Judges a command line over a tree, and carries it out: gives what it reports, and its refusal,
+/// if there is one. Nothing is printed yet.
 pub(crate) fn judge<T: Tree>(
     alloc: Global,
     words: &Words,
     tree: &mut T,
 ) -> Result<Verdict, TreeFault>
+    // On a tree that shows its files the verdict is that of the outcome over the files at the
+    // start.
     ensures found { IfOk result (λ verdict. IfObservable (T.history tree.old) (λ v.
         ReportsOne (IsOutcome words.now (files_of v)) verdict)) }
+    // On every tree it is that of an outcome for some listing and some contents at each read.
     ensures by_reads { IfOk result (λ verdict. ReportsOne (IsFoundOutcome words.now) verdict) }
+    // An outcome that rests on the words alone is judged on every tree, unless memory ran out.
     ensures by_words { IsTrue (rests_on_words (command_of words.now))
         → MatchResult result
         (λ verdict. (files : Files) → IsOutcome words.now files (as_outcome files verdict))
         (λ fault. fault ≡ TreeFault.Memory) }
     ensures untouched { IsTrue (rests_on_words (command_of words.now)) → tree.new ≡ tree.old }
+    // What the run leaves of the tree: crashes, files and calls, by *IsWholeRun*.
     ensures run { IfObservable (T.history tree.old) (λ v. IsWholeRun
         (IsOutcome words.now (files_of v)) (effect_by (command_of words.now)) (output words.now)
         result v (T.history tree.old) (T.history tree.new)) }
     ensures same { IsTrue (reads_only (command_of words.now))
         → T.history tree.new ≡ T.history tree.old }
+    // How the tree's counts explain the answer: no count falls, a fault has its cause, and any
+    // other answer hides none.
     ensures goes_on { GoesOn (T.counts tree.old) (T.counts tree.new) }
     ensures disk { IsErrOf result TreeFault.Disk
         → HasCause (T.counts tree.old) (T.counts tree.new) }
@@ -69,7 +79,8 @@ pub(crate) fn judge<T: Tree>(
     }
 }
 
-// Runs an applet; `demo` runs others, in a tree of its own.
+// Runs an applet; `demo` runs others, in a tree of its own. The clauses are those of `judge`, for a
+// command that was read.
 #[tactic(auto, using(crate::proofs::Operands::demo_operands))]
 fn carry_out<T: Tree>(alloc: Global, command: &Command, tree: &mut T) -> Result<Verdict, TreeFault>
     ensures found { IfOk result (λ verdict. IfObservable (T.history tree.old) (λ v.
@@ -107,7 +118,7 @@ fn carry_out<T: Tree>(alloc: Global, command: &Command, tree: &mut T) -> Result<
     }
 }
 
-/// Runs an applet other than `demo`.
+/// Runs an applet other than `demo`. The clauses are those of `judge`, for a command that was read.
 pub(crate) fn run<T: Tree>(
     alloc: Global,
     command: &Command,
@@ -149,7 +160,8 @@ pub(crate) fn run<T: Tree>(
     }
 }
 
-// Runs an applet that only reads.
+// Runs an applet that only reads. The clauses are those of `run`; `tree` says that nothing is
+// written.
 #[tactic(auto, using(crate::proofs::Operands::dump_operands, crate::proofs::Operands::verify_operands, crate::proofs::Operands::version_operands))]
 fn look<T: Tree>(alloc: Global, command: &Command, tree: &mut T) -> Result<Verdict, TreeFault>
     requires { IsTrue (does_only_read (effect_of command.now.applet)) }
@@ -176,19 +188,24 @@ fn look<T: Tree>(alloc: Global, command: &Command, tree: &mut T) -> Result<Verdi
             Ok(verdict)
         }
         Applet::Adbdump => adbdump(alloc, command.operands(), tree),
-        // `demo` is not run here.
+        // Ok(Verdict::empty(alloc)) => No outcome is asked for: `demo` is run by `carry_out`, and
+        // all others recover first.
         _ => Ok(Verdict::empty(alloc)),
     }
 }
 
-/// What a run does below its root: it only reads there, or it writes too.
+/// What a run does below its root, by which the host's tree locks the root: runs that read go on
+/// together, one that writes goes on alone.
 #[derive(Clone, Copy, PartialEq, Eq)]
 pub enum RootAccess {
+    /// The run only reads.
     Read,
+    /// The run writes, or recovers first, which may write.
     Write,
 }
 
-/// What the run of a command line does. Words that are no command do nothing, so they only read.
+/// What the run of a command line does below its root. Words that are no command do nothing, so
+/// they only read.
 pub fn access_for(alloc: Global, words: &Words) -> Result<RootAccess, AllocError>
     ensures { IfOk result (λ access. access ≡ access_of (reads_only (command_of words.now))) }
 {
@@ -199,7 +216,8 @@ pub fn access_for(alloc: Global, words: &Words) -> Result<RootAccess, AllocError
     }
 }
 
-/// What an applet does: one that recovers the root first writes, whatever it does then.
+/// What an applet does below its root: one that recovers the root first writes, whatever it does
+/// then.
 pub(crate) fn applet_access(applet: Applet) -> RootAccess
     ensures { result ≡ access_of (does_only_read (effect_of applet)) }
 {

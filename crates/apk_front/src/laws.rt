@@ -1,5 +1,6 @@
 //! Laws: what the clauses of `apk` say of each outcome that a command line has, and not only of the
-//! one that they name.
+//! one that they name. They serve `run_lists`; the rules stand in `docs/crash-safety.md`,
+//! "Recovery".
 ghost use Rattle.std.specs.Prelude.{◌≡◌, ℕ, Bool, true, List, None, is_some};
 ghost use Rattle.apk_front.specs.Moments.{AreSafe, HasNothingToRecover, IsCarriedOut, IsRecovering, LeavesLasting, Settles};
 ghost use Rattle.apk_front.specs.declared.answer.Answer.{Answer};

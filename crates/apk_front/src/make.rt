@@ -1,4 +1,6 @@
-//! `mkpkg` and `mkndx`: a container is made, and stands whole under its name.
+//! `mkpkg` and `mkndx`: a container is made, and stands whole under its name. The rules stand in
+//! `docs/commands.md`, "`mkpkg`" and "`mkndx PACKAGE..`", and of the writing in
+//! `docs/crash-safety.md`, "A whole file replaced". The container is made by `make_core`.
 ghost use Rattle.std.specs.Prelude.{◌≡◌, ◌≢◌, ◌⊎◌, ℕ, false, true, List, Ok, Err, IsSome, IfOk, IsErrOf, OnOk};
 ghost use Rattle.make_package.specs.Answers.{IsMadeBySome};
 ghost use Rattle.apk_front.specs.Containers.{IsIndexMade, IsIndexFound, IsIndexOutcome, IsPackageMade, IsPackageOutcome, OnMade, is_cut, is_cut_off, made_in};
@@ -38,7 +40,8 @@ use outcome::a_listing_of_a_tree_is_that_of_its_files;
 use report_core::Refusal;
 use std::alloc::{AllocError, Global};
 
-/// Makes a package, and writes it under the output's name. It reports nothing.
+/// Makes a package, and writes it under the output's name. It reports nothing. Beside the clauses
+/// of `run_recovered`, which calls this, `refused` says that a refusal writes nothing.
 pub(crate) fn mkpkg<T: Tree>(
     alloc: Global,
     command: &Command,
@@ -76,7 +79,8 @@ pub(crate) fn mkpkg<T: Tree>(
     finish(alloc, command, container, report, tree)
 }
 
-/// Makes an index, writes it under the output's name, and reports how many packages it has.
+/// Makes an index, writes it under the output's name, and reports how many packages it has. The
+/// clauses are those of `mkpkg`.
 pub(crate) fn mkndx<T: Tree>(
     alloc: Global,
     command: &Command,
@@ -114,12 +118,15 @@ pub(crate) fn mkndx<T: Tree>(
     finish(alloc, command, container, report, tree)
 }
 
-// What a package is made of, read and made.
+// Reads what a package is made of, and makes its container in memory.
 fn package<T: Tree>(alloc: Global, command: &Command, tree: &mut T) -> Result<Vec<u8>, MakeFault>
     requires { command.now.applet ≡ Mkpkg }
+    // What is made of this tree's files, where it shows them.
     ensures made { IfObservable (T.history tree.old) (λ v.
         OnMade result (IsPackageMade command.now (files_of v))) }
+    // What is made of some contents at each read, on every tree.
     ensures found { OnMade result (IsMadeBySome command.now) }
+    // The tree is only read; a fault of it has its cause.
     ensures tree { OnlyReads MakeFault.Disk (T.history tree.old) (T.history tree.new)
         (T.counts tree.old) (T.counts tree.new) result }
 {
@@ -127,19 +134,22 @@ fn package<T: Tree>(alloc: Global, command: &Command, tree: &mut T) -> Result<Ve
     make_core::mkpkg(alloc, command, tree)
 }
 
-// The packages of an index, read, and the index made.
+// Reads the packages of an index, and makes its container in memory.
 fn index<T: Tree>(alloc: Global, command: &Command, tree: &mut T) -> Result<Vec<u8>, MakeFault>
     requires { command.now.applet ≡ Mkndx }
+    // What is made of this tree's files, where it shows them.
     ensures made { IfObservable (T.history tree.old) (λ v.
         OnMade result (IsIndexMade command.now (files_of v))) }
+    // What is made of some contents at each read, on every tree.
     ensures found { OnMade result (IsIndexFound command.now) }
+    // The tree is only read; a fault of it has its cause.
     ensures tree { OnlyReads MakeFault.Disk (T.history tree.old) (T.history tree.new)
         (T.counts tree.old) (T.counts tree.new) result }
 {
     make_core::mkndx(alloc, command, tree)
 }
 
-// The report of an index.
+// The report of `mkndx` over so many packages.
 fn index_line(alloc: Global, count: usize) -> Result<Text, AllocError>
     ensures { IfOk result (λ line. line ≡ index_line count) }
 {
@@ -147,7 +157,9 @@ fn index_line(alloc: Global, count: usize) -> Result<Text, AllocError>
     Text::of(alloc, line.as_bytes())
 }
 
-// Writes what was made, or refuses.
+// Writes the container that was made, or refuses. Clauses as of `mkpkg`; `done` and `cut`: where a
+// fault stopped the making, nothing is judged and nothing is written; `lost`: a fault of the tree
+// is not told as want of memory.
 fn finish<T: Tree>(
     alloc: Global,
     command: &Command,
@@ -187,7 +199,8 @@ fn finish<T: Tree>(
     }
 }
 
-// Writes a container under the output's name, unless that is reserved.
+// Writes a container under the output's name, unless that name is reserved. The clauses are those
+// of `mkpkg`.
 fn write<T: Tree>(
     alloc: Global,
     command: &Command,
@@ -230,12 +243,14 @@ fn write<T: Tree>(
     Ok(Verdict::reported(report))
 }
 
-// Refuses what was not made.
+// The verdict where no container was made: its refusal, or the fault that stopped the making.
 fn refuse(alloc: Global, command: &Command, fault: MakeFault) -> Result<Verdict, TreeFault>
     ensures reported { IfOk result (λ verdict. (files : Files) (report : List ℕ)
         → Reports verdict (make_outcome files (output_name command.now) report (Err fault))) }
     ensures refused { IfOk result (λ verdict. IsSome verdict.refusal) }
+    // A fault that stops the making gives no verdict.
     ensures done { IfOk result (λ verdict. is_cut fault ≡ false) }
+    // A fault of the tree and want of memory stay what they are; memory may also be wanting here.
     ensures disk { IsErrOf result TreeFault.Disk → fault ≡ MakeFault.Disk }
     ensures lost { IsErrOf result TreeFault.Memory → fault ≢ MakeFault.Disk }
 {
@@ -243,7 +258,8 @@ fn refuse(alloc: Global, command: &Command, fault: MakeFault) -> Result<Verdict,
     Ok(Verdict::refused(alloc, refusal))
 }
 
-// Why it was not made.
+// Why no container was made: the refusal, or the fault that stopped the making. A reserved name
+// comes before a result too large.
 fn refusal_of(alloc: Global, command: &Command, fault: MakeFault) -> Result<Refusal, TreeFault>
     ensures reported { IfOk result (λ refusal. (files : Files) (report : List ℕ)
         → make_outcome files (output_name command.now) report (Err fault)
@@ -265,7 +281,7 @@ fn refusal_of(alloc: Global, command: &Command, fault: MakeFault) -> Result<Refu
     }
 }
 
-// The refusal of a container that is too large: a reserved output is refused before that.
+// The refusal where a container is too large; a reserved output is refused before that.
 fn too_large(
     alloc: Global,
     command: &Command,

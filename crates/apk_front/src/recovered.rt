@@ -1,4 +1,6 @@
-//! A command that recovers: what an intent has still to do is done first.
+//! A command that recovers: what an intent has still to do is done first. The rules stand in
+//! `docs/commands.md`, "Before the commands that write, and `info`", and in `docs/crash-safety.md`,
+//! "Recovery".
 ghost use Rattle.std.specs.Prelude.{◌≡◌, true, None, Ok, IfOk, IsErrOf, IsSome, OnOk};
 ghost use Rattle.apk_front.specs.Moments.{HasRoomToWrite, LeavesRoomFor};
 ghost use Rattle.apk_front.specs.Runs.{IfNothingWaits, IsRun, IsWholeRun};
@@ -27,7 +29,8 @@ use journal_recovery::{RecoverFault, recover};
 use report_core::Refusal;
 use std::alloc::Global;
 
-/// Recovers the tree, and runs a command over what is then there.
+/// Recovers the tree, and runs a command over what is then there. The clauses are those of
+/// `run_recovered`, for the state before the recovery.
 pub(crate) fn recover_and_run<T: Tree>(
     alloc: Global,
     command: &Command,
@@ -65,28 +68,35 @@ pub(crate) fn recover_and_run<T: Tree>(
     }
 }
 
-// Runs a command over what is there.
+// Runs a command over what is there, behind a recovery.
 fn run_recovered<T: Tree>(
     alloc: Global,
     command: &Command,
     tree: &mut T,
 ) -> Result<Verdict, TreeFault>
     requires { does_recover (effect_of command.now.applet) ≡ true }
+    // On a tree that shows its files the verdict is that of the outcome over these files.
     ensures found { IfOk result (λ verdict. IfNothingWaits (T.history tree.old) (λ v.
         ReportsOne (IsOutcomeOver command.now (files_of v)) verdict)) }
+    // On every tree it is that of an outcome for some listing and some contents at each read.
     ensures by_reads { IfOk result (λ verdict. ReportsOne (IsFoundOver command.now) verdict) }
+    // What the run leaves of the tree: crashes, files and calls, by *IsRun*.
     ensures run { IfNothingWaits (T.history tree.old) (λ v. IsRun
         (IsOutcomeOver command.now (files_of v)) (effect_of command.now.applet)
         (output_if (effect_of command.now.applet) command.now)
         result v (T.history tree.old) (T.history tree.new)) }
+    // Where memory ran out nothing was written.
     ensures undone { IfNothingWaits (T.history tree.old) (λ v.
         IsErrOf result TreeFault.Memory → T.history tree.new ≡ T.history tree.old) }
+    // How the tree's counts explain the answer: no count falls, a fault of the tree has its cause,
+    // and any other answer hides none.
     ensures goes_on { GoesOn (T.counts tree.old) (T.counts tree.new) }
     ensures disk { IsErrOf result TreeFault.Disk
         → HasCause (T.counts tree.old) (T.counts tree.new) }
     ensures kept { OnOk result (IsNoFault (T.counts tree.old) (T.counts tree.new)) }
     ensures memory { IsErrOf result TreeFault.Memory
         → IsNoFault (T.counts tree.old) (T.counts tree.new) }
+    // No call is a misuse where the files leave room for what an outcome that commits writes.
     ensures proper { IfNothingWaits (T.history tree.old) (λ v.
         ((outcome : Outcome) → IsOutcomeOver command.now (files_of v) outcome
         → outcome.commits ≡ true → HasRoomToWrite (effect_of command.now.applet)
@@ -98,11 +108,13 @@ fn run_recovered<T: Tree>(
         Applet::Mkndx => mkndx(alloc, command, tree),
         Applet::Info => info(alloc, command, tree),
         Applet::Add | Applet::Del | Applet::Upgrade | Applet::Fix => change(alloc, command, tree),
+        // unreachable!() => The other applets do not recover.
         _ => unreachable!(),
     }
 }
 
-// A bad intent is refused.
+// What is judged where the recovery did not end: a bad intent is refused, a fault of the tree and
+// want of memory are handed on.
 fn refuse_to_recover(alloc: Global, fault: RecoverFault) -> Result<Verdict, TreeFault>
     ensures refused { IfOk result (λ verdict. (cause : Cause)
         × (fault ≡ RecoverFault.IntentBad cause)

@@ -1,4 +1,5 @@
-//! `verify`: containers are tested.
+//! `verify`: containers are tested. The rules stand in `docs/commands.md`, "`verify FILE..`", and
+//! the tests in `docs/formats.md`, "Tests of a container".
 ghost use Rattle.std.specs.Prelude.{◌≡◌, List, Option, ℕ, IsTrue, IfOk};
 ghost use Rattle.apk_front.specs.Verdicts.{as_outcome};
 ghost use Rattle.base_core.specs.Calls.{IfObservable};
@@ -20,7 +21,8 @@ use report_core::Refusal;
 use std::alloc::{AllocError, Global};
 
 /// Tests the files that the operands name, one after another up to the first that is no sound
-/// container.
+/// container. On a tree that shows its files these are tested (`found`), on each tree some bytes
+/// (`by_reads`).
 pub(crate) fn verify<T: Tree>(
     alloc: Global,
     operands: &Operands,
@@ -32,6 +34,7 @@ pub(crate) fn verify<T: Tree>(
         ≡ verify (reads_in (files_of v)) (files_of v) operands.now)) }
     ensures by_reads { IfOk result (λ verdict. (read : Reads)
         × (as_outcome no_names verdict ≡ verify read no_names operands.now)) }
+    // The tree is only read; a fault of it has its cause.
     ensures tree { OnlyReads TreeFault.Disk (T.history tree.old) (T.history tree.new)
         (T.counts tree.old) (T.counts tree.new) result }
 {
@@ -40,7 +43,7 @@ pub(crate) fn verify<T: Tree>(
     Ok(verdict)
 }
 
-// The refusal, or a line for each operand.
+// The verdict with the refusal of the first bad operand, or with a line for each operand.
 fn verdict_by(
     alloc: Global,
     operands: &Operands,
@@ -64,8 +67,10 @@ fn first_refusal<T: Tree>(
     tree: &mut T,
 ) -> Result<Option<Refusal>, TreeFault>
     requires { IsTrue (are_files operands.now) }
+    // On a tree that shows its files it is the refusal of these.
     ensures found { IfOk result (λ refusal. IfObservable (T.history tree.old) (λ v.
         refusal ≡ verify_refusal (reads_in (files_of v)) 0 operands.now)) }
+    // On each tree it is the refusal of some bytes at each read.
     ensures by_reads { IfOk result (λ refusal. (read : Reads)
         × (refusal ≡ verify_refusal read 0 operands.now)) }
     ensures tree { OnlyReads TreeFault.Disk (T.history tree.old) (T.history tree.new)
@@ -90,8 +95,10 @@ fn test_file<T: Tree>(
     file: &Name,
     tree: &mut T,
 ) -> Result<Option<Refusal>, TreeFault>
+    // On a tree that shows its files the file under this name is tested.
     ensures found { IfOk result (λ refusal. IfObservable (T.history tree.old) (λ v.
         refusal ≡ file_refusal place (files_of v file.now))) }
+    // On each tree some bytes are, or none.
     ensures by_reads { IfOk result (λ refusal. (found : Option (List ℕ))
         × (refusal ≡ file_refusal place found)) }
     ensures tree { OnlyReads TreeFault.Disk (T.history tree.old) (T.history tree.new)
@@ -143,7 +150,7 @@ fn refusal_of(
     }
 }
 
-// A line for each operand.
+// The report where all files are sound: a line `FILE: OK` for each operand.
 fn lines(alloc: Global, operands: &Operands) -> Result<Text, AllocError>
     requires { IsTrue (are_files operands.now) }
     ensures { IfOk result (λ report. report ≡ sound_lines operands.now) }

@@ -1,4 +1,6 @@
-//! `version`: two versions are compared, or texts are checked for being versions.
+//! `version`: two versions are compared, or texts are checked for being versions. The rules stand
+//! in `docs/commands.md`, "`version --test VERSION VERSION`" and "`version --check TEXT..`", and
+//! the order in `docs/formats.md`, "Versions".
 ghost use Rattle.std.specs.Prelude.{◌≡◌, ◌++◌, length, true, IfOk, OnOk};
 ghost use Rattle.apk_front.specs.Verdicts.{as_outcome};
 ghost use Rattle.base_core.specs.Files.{Files};
@@ -13,7 +15,7 @@ use std::alloc::{AllocError, Global};
 use std::cmp::Ordering;
 use version_core::Version;
 
-/// Compares the two operands, or reports those that are no versions.
+/// Compares the two operands (`--test`), or reports those that are no versions (`--check`).
 pub(crate) fn version(
     alloc: Global,
     flags: Flags,
@@ -30,7 +32,8 @@ pub(crate) fn version(
     }
 }
 
-// The order of two versions.
+// The verdict of `--test`: the order of two versions, or the refusal of the first operand that is
+// none.
 fn compare(alloc: Global, operands: &Operands) -> Result<Verdict, AllocError>
     requires { length operands.now ≡ 2 }
     ensures { IfOk result (λ verdict. (files : Files) → as_outcome files verdict
@@ -49,7 +52,7 @@ fn compare(alloc: Global, operands: &Operands) -> Result<Verdict, AllocError>
     Ok(Verdict::reported(Text::of(alloc, line)?))
 }
 
-// How the first version stands to the second.
+// The line that says how the first version stands to the second.
 fn order_line(order: Ordering) -> &'static [u8]
     ensures { result.now ≡ order_line order }
 {
@@ -60,7 +63,8 @@ fn order_line(order: Ordering) -> &'static [u8]
     }
 }
 
-// The operands that are no versions, and the refusal of the first of them.
+// The verdict of `--check`: the operands that are no versions, and the refusal of the first of
+// them.
 fn check(alloc: Global, operands: &Operands) -> Result<Verdict, AllocError>
     ensures { IfOk result (λ verdict. (files : Files) → as_outcome files verdict
         ≡ outcome_of (version_refusal operands.now) (invalid_lines operands.now) files) }
@@ -84,7 +88,7 @@ fn first_refusal(operands: &Operands) -> Option<Refusal>
     None
 }
 
-// A line for each operand that is no version.
+// The report of `--check`: a line for each operand that is no version.
 fn lines(alloc: Global, operands: &Operands) -> Result<Text, AllocError>
     ensures { IfOk result (λ report. report ≡ invalid_lines operands.now) }
 {

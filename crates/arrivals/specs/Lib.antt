@@ -1,3 +1,6 @@
+-- The definitions of this crate, whose rules stand in `docs/commands.md`, "`add` and `del`",
+-- **What is read** and **What is refused**.
+
 -- what the contracts of this crate's calls say
 pub mod Answered
 pub mod Arrivals

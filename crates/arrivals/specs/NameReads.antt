@@ -1,4 +1,7 @@
 -- What a call answers of one name, by the file that a read finds.
+-- The rules stand in `docs/commands.md`, "`add` and `del`", **What is read** and **What is
+-- refused**, and are said by *name_by_change* of `change_outcome`. Serves the contracts of
+-- `src/package.rt` and `src/arrivals.rt`.
 use Rattle.std.specs.Prelude.{◌≡◌, ℕ, Bool, List, [], ◌∷◌, Option, Some, None, Result, Ok, Err, option_map}
 use Rattle.adb_view.specs.Plain.{Plain}
 use Rattle.base_core.specs.Tree.{TreeState, files_of}
@@ -18,18 +21,20 @@ use Rattle.arrivals.specs.Arrivals.{IsMemberRead}
 use Rattle.arrivals.specs.declared.arrivals.MemberRead.{MemberRead}
 
 -- the read with this number finds under each name what stands there, where the tree shows its
--- files, and else this
+-- files, and else `found`
 abbrev pub FindsAt : List TreeState → Reads → ℕ → Option (List ℕ) → Type 0
 FindsAt [] read n found = (name : List ℕ) → read n name ≡ found
 FindsAt (v ∷ earlier) read n found = (name : List ℕ) → read n name ≡ files_of v name
 
--- a definition gives this by a read that finds some contents
+-- a definition gives `wanted` by a read that finds some contents, which are the tree's where it
+-- shows its files
 pub record IsByRead {B : Type 0} (history : List TreeState) (by : Reads → ℕ → B) (wanted : B) :
     Type 0 where
   pub found : Option (List ℕ)
   pub is : (read : Reads) (n : ℕ) → FindsAt history read n found → by read n ≡ wanted
 
--- an answer stands for what a definition gives by a read, or is the refusal that it gives
+-- an answer stands for what a definition gives by a read, or is the refusal that it gives; a tree
+-- that failed and want of memory say nothing
 abbrev pub IsAnswerByRead :
     {A B : Type 0} → (A → B → Type 0) → List TreeState
     → (Reads → ℕ → Result B Refusals.Refusal) → Result A Refused → Type 0
@@ -39,17 +44,18 @@ IsAnswerByRead StandsFor history by (Err (Refusal refusal)) = IsByRead history b
 IsAnswerByRead StandsFor history by (Err Disk) = Unit {0}
 IsAnswerByRead StandsFor history by (Err Memory) = Unit {0}
 
--- the package of a candidate, by the read of its file under this name
+-- the package of a candidate, by the read of its file under this name, or the refusal
 abbrev pub file_read :
     Candidate → List ℕ → Reads → ℕ → Result ComingPackage Refusals.Refusal
 file_read c path read n = package_found c (read n path)
 
--- the package of a candidate, by the read of its file
+-- the package of a candidate, by the read of its file beside the index, or the refusal
 abbrev pub candidate_read :
     List Repository → Candidate → Reads → ℕ → Result ComingPackage Refusals.Refusal
 candidate_read repositories c read n = coming_by_path read n c (package_file_of repositories c)
 
--- the same, unless it has a script that its change would run
+-- the package of a candidate, by the read of its file, or the refusal, also for a script that its
+-- change would have to run
 abbrev pub coming_read :
     List Repository → Bool → List ℕ → Change → Candidate → Reads → ℕ
     → Result ComingPackage Refusals.Refusal
@@ -57,7 +63,8 @@ coming_read repositories no_scripts name change c read n =
     and_then (candidate_read repositories c read n) (λ pkg.
     unless_script no_scripts name pkg.value (scripts_of_change change) pkg)
 
--- what a name comes to, by the read of its package's file
+-- what a name comes to, by the read of its package's file: a package after the change, none, or the
+-- refusal
 abbrev pub name_read :
     List Plain → SealedPool → List Repository → Bool → PlacedName → Reads → ℕ
     → Result (Option MemberFound) Refusals.Refusal
@@ -65,7 +72,7 @@ name_read before pool repositories no_scripts name read n =
     name_by_change read repositories no_scripts n name.name name.change
     (old_package before name) (new_candidate pool name)
 
--- a package after the change or none, as a name comes to it
+-- a package after the change as it was read, or none, is what the name comes to
 abbrev pub IsNameRead :
     List TreeState → List Plain → Option MemberRead → Option MemberFound → Type 0
 IsNameRead history before None None = Unit {0}
@@ -73,7 +80,7 @@ IsNameRead history before None (Some m) = ⊥
 IsNameRead history before (Some r) None = ⊥
 IsNameRead history before (Some r) (Some m) = IsMemberRead history before r m
 
--- a package that stays, or none where there is none before
+-- a package that stays as it is read, or none where there is none before (`old`)
 abbrev pub IsStaying : List Plain → Option Plain → Option MemberRead → Type 0
 IsStaying before old r =
     (history : List TreeState) → IsNameRead history before r (option_map staying_found old)

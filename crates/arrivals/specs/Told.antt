@@ -1,11 +1,13 @@
 -- How a refusal is told whose texts take memory.
+-- No rule of a document: serves the contracts of `src/package.rt`; the lines of refusals stand in
+-- `docs/commands.md`, "Error lines".
 use Rattle.std.specs.Prelude.{◌≡◌, ℕ, List, Result, Ok, Err}
 use Rattle.std.specs.declared.alloc.AllocError.{AllocError}
 use Rattle.change_inputs.specs.declared.root.Refused.{Refused}
 use Rattle.change_inputs.specs.declared.root.Refused.TheVariants as Commands
 use Rattle.report_core.specs.declared.refusal.Refusal.{Refusal}
 
--- this refusal, or want of memory
+-- what is told is this refusal, or want of memory
 abbrev pub IsRefusalTold : Refusal → Refused → Type 0
 IsRefusalTold wanted (Commands.Refusal refusal) = refusal ≡ wanted
 IsRefusalTold wanted Commands.Disk = ⊥

@@ -1,4 +1,7 @@
 //! The packages after a change, as they are read, and as members.
+//! The rules stand in `docs/commands.md`, "`add` and `del`": **What is read** ("of each package
+//! that comes `NAME-VERSION.apk` beside the index that has it"), and **What is refused**, in byte
+//! order of the names.
 
 ghost use Rattle.arrivals.specs.Answered.{StandsUnlessDisk};
 ghost use Rattle.arrivals.specs.Arrivals.{AreMembersRead, CanBeMembers, arrivals_seen, IsPlaced, member_read, members_read, IsFileOfMember, package_in};
@@ -37,9 +40,9 @@ use std::marker::PhantomData;
 /// A package after the change.
 #[derive(Drop)]
 pub(crate) enum MemberRead {
-    /// It stays: its place in the database, counted from 0.
+    /// The package stays; this is its place in the database, counted from 0.
     Stays(usize),
-    /// It comes.
+    /// The package comes; this is what was read of its file.
     Comes(TestedPackage),
 }
 
@@ -47,6 +50,7 @@ pub(crate) enum MemberRead {
 /// `Arrivals` of `specs/`, the place in the database of each that stays, and each that comes.
 #[derive(Drop)]
 pub struct Arrivals {
+    /// The packages, in byte order of their names.
     pub(crate) members: Vec<MemberRead>,
 }
 
@@ -60,7 +64,7 @@ impl Arrivals {
         self.members.len()
     }
 
-    /// Whether there is none.
+    /// Whether there is no package after the change.
     pub fn is_empty(&self) -> bool
         ensures { result ≡ (length (arrivals_seen self.now) == 0) }
     {
@@ -108,11 +112,14 @@ pub fn read_arrivals<T: Tree>(
         result
         (members_after (replacement_of (replacement_by db.now pool.now trace again)) read
         repositories.now no_scripts)) }
+    // The packages can be made members: they stand in byte order of names, and are no more than the
+    // candidates.
     ensures members { (trace : List ℕ) (again : List (List ℕ))
         → placed_names_seen names.now
         ≡ placed_names_of (replacement_by db.now pool.now trace again)
         → length pool.now.candidates ≤ MOST_MEMBERS
         → IfOk result (λ arrivals. CanBeMembers (packages_of db.now) (arrivals_seen arrivals)) }
+    // The tree is only read, and `Disk` has a fault of it for its cause.
     ensures tree { OnlyReads Refused.Disk (T.history tree.old) (T.history tree.new)
         (T.counts tree.old) (T.counts tree.new) result }
 {
@@ -128,7 +135,7 @@ pub fn read_arrivals<T: Tree>(
     Ok(Arrivals { members })
 }
 
-/// Adds a package, if there is one.
+/// Puts a package behind the others, if there is one.
 fn push_member(members: &mut Vec<MemberRead>, member: Option<MemberRead>) -> Result<(), AllocError>
     ensures { OnOk result (members.new.items ≡ members.old.items ++ option_to_list member) }
 {
@@ -141,7 +148,7 @@ fn push_member(members: &mut Vec<MemberRead>, member: Option<MemberRead>) -> Res
     }
 }
 
-/// Reads what a name comes to: a package after the change, or none.
+/// Reads what a name comes to: a package after the change, or none where the package goes.
 fn read_name<T: Tree>(
     alloc: Global,
     tree: &mut T,
@@ -159,6 +166,7 @@ fn read_name<T: Tree>(
 {
     readings_in_a_row_join::<TestedPackage, Option<MemberRead>, Refused>();
     let Some(change) = name.change else {
+        // Nothing becomes of the package: it stays, and no file is read.
         return Ok(staying(db, name.old));
     };
     match name.candidate(pool) {
@@ -181,7 +189,7 @@ fn read_name<T: Tree>(
     }
 }
 
-/// The package at a place of the database, which stays, if there is one.
+/// The package at a place of the database, counted from 0, which stays, if there is one.
 fn staying(db: &Db<'_>, place: Option<usize>) -> Option<MemberRead>
     ensures { IsStaying (packages_of db.now)
         (option_and_then (slice_get (packages_of db.now)) place) result }
@@ -192,7 +200,7 @@ fn staying(db: &Db<'_>, place: Option<usize>) -> Option<MemberRead>
     }
 }
 
-/// Refuses a package of the database that goes, and has a script which would run.
+/// Refuses the package of the database that goes, if it has a script which would have to run.
 fn test_leaving(
     alloc: Global,
     no_scripts: bool,
@@ -212,8 +220,8 @@ fn test_leaving(
     }
 }
 
-/// The packages after a change, in byte order of names: each that stays is lent from the database,
-/// and each that comes from what was read of its file.
+/// The packages after a change as members, in byte order of names: each that stays is lent from the
+/// database, and each that comes from what was read of its file.
 pub fn members_of_change<'a>(
     alloc: Global,
     db: &Db<'a>,
@@ -230,7 +238,7 @@ pub fn members_of_change<'a>(
     Ok(members)
 }
 
-/// Adds a package that was read.
+/// Adds a package that was read to the members, behind the others.
 fn push_read<'a>(
     members: &mut Members<'a>,
     db: &Db<'a>,

@@ -1,4 +1,7 @@
 //! The package of a candidate: its file is read and tested once, and has what its index says of it.
+//! The rules stand in `docs/commands.md`, "`add` and `del`", **What is refused**: the file of a
+//! package that comes is absent, fails a test, or has another id, name or version than its index
+//! says; the tests in `docs/formats.md`, "Tests of a container".
 
 ghost use Rattle.arrivals.specs.Arrivals.{IsPackageRead};
 ghost use Rattle.arrivals.specs.NameReads.{IsAnswerByRead, candidate_read, coming_read, file_read};
@@ -55,7 +58,7 @@ pub(crate) fn read_coming<T: Tree>(
     Ok(pkg)
 }
 
-/// Refuses a tested package that has a script which its change would run.
+/// Refuses a tested package that has a script which its change would have to run.
 fn test_own_scripts(
     alloc: Global,
     no_scripts: bool,
@@ -89,7 +92,8 @@ fn read_candidate<T: Tree>(
     }
 }
 
-/// Reads the package of a candidate, whose file has this name.
+/// Reads the package of a candidate from the file of this name, and tests the file and whether it
+/// is as its index says.
 fn read_beside<T: Tree>(
     alloc: Global,
     tree: &mut T,
@@ -111,7 +115,9 @@ fn read_beside<T: Tree>(
     }
 }
 
-/// Tests that a tested package is as its index says. The mark serves the borrow checker alone.
+/// Tests that a tested package is as its index says. The mark serves the borrow checker alone,
+/// which does not know the parts of a view that is made and lent here unless the signature names
+/// the view.
 fn test_as_indexed<'a>(
     alloc: Global,
     c: &Candidate<'_>,
@@ -127,7 +133,7 @@ fn test_as_indexed<'a>(
     test_same(alloc, c, &view, &contents.id())
 }
 
-/// That the file of a package is absent.
+/// The refusal of a candidate whose package file is absent, or has a path that is no name.
 fn missing(alloc: Global, c: &Candidate<'_>) -> Refused
     ensures { IsRefusalTold (PackageMissing (candidate_value c.now).name
         (selected_version (candidate_value c.now))) result }
@@ -135,7 +141,7 @@ fn missing(alloc: Global, c: &Candidate<'_>) -> Refused
     told(package_missing(alloc, c))
 }
 
-/// The same with its texts.
+/// That refusal with its texts: the name and the version of the candidate.
 fn package_missing(alloc: Global, c: &Candidate<'_>) -> Result<Refusal, AllocError>
     ensures { IfOk result (λ refusal. refusal ≡ PackageMissing (candidate_value c.now).name
         (selected_version (candidate_value c.now))) }
@@ -146,7 +152,7 @@ fn package_missing(alloc: Global, c: &Candidate<'_>) -> Result<Refusal, AllocErr
     })
 }
 
-/// That the file of a package fails a test.
+/// The refusal of a candidate whose package file fails a test.
 fn bad(alloc: Global, c: &Candidate<'_>, cause: Cause) -> Refused
     ensures { IsRefusalTold (PackageBad (candidate_value c.now).name
         (selected_version (candidate_value c.now)) cause) result }
@@ -154,7 +160,8 @@ fn bad(alloc: Global, c: &Candidate<'_>, cause: Cause) -> Refused
     told(package_bad(alloc, c, cause))
 }
 
-/// The same with its texts.
+/// That refusal with its texts: the name and the version of the candidate, and the test that
+/// failed.
 fn package_bad(alloc: Global, c: &Candidate<'_>, cause: Cause) -> Result<Refusal, AllocError>
     ensures { IfOk result (λ refusal. refusal ≡ PackageBad (candidate_value c.now).name
         (selected_version (candidate_value c.now)) cause) }
@@ -166,11 +173,14 @@ fn package_bad(alloc: Global, c: &Candidate<'_>, cause: Cause) -> Result<Refusal
     })
 }
 
-// The numbers of the fields of a package's information that have to agree with the index.
+// The number by which a refusal tells that the name differs: that of the field `name` in table 3 of
+// `docs/formats.md`, "Schemas", which counts from 1.
 const NAME_FIELD: u16 = 1;
 
+/// The number of the field `version` there.
 const VERSION_FIELD: u16 = 2;
 
+/// The number of the field `hashes` there, in which an index has the id.
 const ID_FIELD: u16 = 3;
 
 /// Tests that a package has the id, the name and the version of its candidate.
@@ -200,7 +210,7 @@ pub(crate) fn test_same(
     Ok(())
 }
 
-/// That a package has something else in a field than its index says.
+/// The refusal of a candidate whose package has something else in a field than its index says.
 fn differs(alloc: Global, c: &Candidate<'_>, field: u16, wanted: &[u8], found: &[u8]) -> Refused
     ensures { IsRefusalTold (PackageDiffers (candidate_value c.now).name
         (selected_version (candidate_value c.now)) field wanted.now found.now) result }
@@ -208,7 +218,7 @@ fn differs(alloc: Global, c: &Candidate<'_>, field: u16, wanted: &[u8], found: &
     told(package_differs(alloc, c, field, wanted, found))
 }
 
-/// The same with its texts.
+/// That refusal with its texts: what the index says of the field, and what the package has.
 fn package_differs(
     alloc: Global,
     c: &Candidate<'_>,
@@ -228,7 +238,7 @@ fn package_differs(
     })
 }
 
-/// A refusal, or that there was no memory for it.
+/// A refusal, or that there was no memory for its texts.
 pub(crate) fn told(made: Result<Refusal, AllocError>) -> Refused
     ensures { (wanted : RefusalValue) → IfOk made (λ refusal. refusal ≡ wanted)
         → IsRefusalTold wanted result }

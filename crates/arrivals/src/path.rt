@@ -1,4 +1,6 @@
 //! Where the file of a package lies.
+//! The rule stands in `docs/commands.md`, "`add` and `del`", **What is read**: `NAME-VERSION.apk`
+//! beside the index that has the package; which bytes are a name, in "Words" there.
 ghost use Rattle.change_outcome.specs.PackageFiles.{folder_prefix, if_name, package_file_of, package_path};
 ghost use Rattle.pool_core.specs.Values.{candidate_value};
 ghost use Rattle.std.specs.Prelude.{◌≡◌, IfOk};
@@ -9,7 +11,7 @@ use pool_core::Candidate;
 use std::alloc::{AllocError, Global};
 
 /// The name of a candidate's package file: NAME-VERSION.apk, beside the index of its repository.
-/// None: it is of no repository, or that path is no name.
+/// None where the candidate is of no repository, or that path is no name.
 pub(crate) fn package_file_of(
     alloc: Global,
     repositories: &Repos,
@@ -21,6 +23,7 @@ pub(crate) fn package_file_of(
     let Some(number) = c.repo else {
         return Ok(None);
     };
+    // Repositories count from 1, and places in their list from 0.
     let i = number.saturating_sub(1);
     if i >= repositories.len() as u64 {
         return Ok(None);
@@ -29,7 +32,7 @@ pub(crate) fn package_file_of(
     path_beside_index(alloc, index, c.info.name(), c.info.version())
 }
 
-/// The name of the file of a package, if its path is a name.
+/// The name of the file of a package beside an index, if its path is a name.
 fn path_beside_index(
     alloc: Global,
     index: &Name,
@@ -42,7 +45,7 @@ fn path_beside_index(
     Name::read(alloc, &path)
 }
 
-/// The path of the file of a package.
+/// The path of the file of a package beside an index: the index's folder, and NAME-VERSION.apk.
 fn package_path(
     alloc: Global,
     index: &[u8],
@@ -59,7 +62,7 @@ fn package_path(
     Ok(path)
 }
 
-/// A path up to its last slash, with it.
+/// A path up to its last `/`, with that; nothing of a path without one.
 fn folder_prefix(path: &[u8]) -> &[u8]
     ensures { result.now ≡ folder_prefix path.now }
 {

@@ -1,4 +1,6 @@
 //! The scripts that a change would run.
+//! The rule stands in `docs/commands.md`, "`add` and `del`", the paragraph behind **What is
+//! refused**: which scripts a package has to run that comes, goes, or gets another version.
 ghost use Rattle.adb_schema.specs.Views.{package_value, scripts_value};
 ghost use Rattle.adb_tables.specs.Values.{entry_in};
 ghost use Rattle.adb_view.specs.Plain.{Plain};
@@ -18,11 +20,15 @@ use report_core::Refusal;
 use std::alloc::{AllocError, Global};
 use std::marker::PhantomData;
 
-// The numbers of the scripts of a package; each is followed by the one that runs behind it.
+// The number of `pre-install` among the fields of a package's scripts (table 6 of
+// `docs/formats.md`, "Schemas", which counts from 1). The number behind each of these three is that
+// of the script which runs behind it: `post-install`, `post-deinstall`, `post-upgrade`.
 const PRE_INSTALL: u16 = 2;
 
+/// The number of `pre-deinstall` there.
 const PRE_DEINSTALL: u16 = 4;
 
+/// The number of `pre-upgrade` there.
 const PRE_UPGRADE: u16 = 6;
 
 /// Refuses a package that has a script which its change would run, unless scripts are left out. The
@@ -52,7 +58,8 @@ pub(crate) fn test_scripts<'a>(
     }
 }
 
-/// That a package has a script that would run.
+/// The refusal of a package that has a script which would have to run; the script is told by its
+/// number.
 fn script_needed(alloc: Global, name: &[u8], number: u16) -> Result<Refusal, AllocError>
     ensures { IfOk result (λ refusal. refusal ≡ ScriptNeeded name.now number) }
 {
@@ -62,8 +69,9 @@ fn script_needed(alloc: Global, name: &[u8], number: u16) -> Result<Refusal, All
     })
 }
 
-/// The number of the first script that a change would run, if there is one.
+/// The number of the first script that a change would have to run, if there is one.
 fn first_script(change: &Change<'_>, scripts: &ScriptsView<'_>) -> Option<u16>
+    // 2 is the index of `scripts` among the fields of a package, counted from 0 (3 in table 7).
     ensures { (pkg : Plain) → scripts_value scripts.now ≡ entry_in pkg 2
         → result ≡ first_script_of pkg (scripts_of_change (change_seen change.now)) }
 {
@@ -87,7 +95,8 @@ fn first_script(change: &Change<'_>, scripts: &ScriptsView<'_>) -> Option<u16>
     }
 }
 
-/// The number of the first of two scripts that is not empty, if there is one.
+/// The number of the first of two scripts that is not empty, if one is; `number` is that of the
+/// first, and the second's is one more.
 fn first_of_two(number: u16, first: &[u8], second: &[u8]) -> Option<u16>
     requires { number + 1 < 2 ^ 16 }
     ensures { result ≡ (if not (length first.now == 0) then Some number

@@ -1,7 +1,8 @@
 -- What a crash leaves.
 use Rattle.std.proofs.Common.{◌≡◌, inl, inr, ℕ, true, List, [], ◌∷◌, Option, None, Some, refl, sym, ap, ◌∙◌}
 use Rattle.base_core.specs.Files.{Files, NameMap}
-use Rattle.base_core.specs.Tree.{TreeState, File, IsAmong, IsMapOf, bytes_at, files_by, files_of}
+use Rattle.base_core.specs.Lists.{IsIn}
+use Rattle.base_core.specs.Tree.{TreeState, File, IsMapOf, bytes_at, files_by, files_of}
 use Rattle.base_core.specs.Crash.{MayLeave, IsImageBy, IsImage, IsOrderly}
 use Rattle.base_core.specs.Restart.{IsCrashOf}
 
@@ -26,7 +27,7 @@ pub order_lasts : (rests_on : Files → List ℕ → Type 0) (v : TreeState) →
 order_lasts rests_on v orderly map among image by q rests =
     left_as_read v.files (map q) (image q) (λ k is. orderly.each map among q k rests is) (by q)
 
-no_older : (map : NameMap) (older : List NameMap) → older ≡ [] → IsAmong map older → ⊥
+no_older : (map : NameMap) (older : List NameMap) → older ≡ [] → IsIn map older → ⊥
 no_older map [] e among = among
 no_older map (x ∷ older) e among = absurd (cc)
 

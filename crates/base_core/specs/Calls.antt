@@ -1,4 +1,5 @@
--- What a call on a tree says of the tree's history and counts.
+-- What a call on a tree says of the tree's history and counts. The rules stand in
+-- `docs/crash-safety.md`, "Moments" (the history) and "Misuses, faults and counts".
 use Rattle.std.specs.Prelude.{◌≡◌, ◌⊎◌, List, [], ◌∷◌, Result, OnOk, OnErr}
 use Rattle.base_core.specs.Tree.{TreeState}
 use Rattle.base_core.specs.Faults.{Counts, GoesOn, HasCause, IsNoFault, next_count}
@@ -16,16 +17,19 @@ abbrev pub HasNow : List TreeState → (TreeState → Type 0) → Type 0
 HasNow [] P = ⊥
 HasNow (v ∷ earlier) P = P v
 
--- a call that succeeds adds the state `done`; one that fails adds the state `failed`, or none, and
--- none where it was a misuse
+-- what a call that writes makes of the history: one that succeeds adds the state `done`; one that
+-- fails adds the state `failed`, or none, and none where it was a misuse. `can` says at which
+-- states the call is no misuse
 pub record Moves {T E : Type 0} (can : TreeState → Type 0) (done failed : TreeState → TreeState)
     (old new : List TreeState) (result : Result T E) : Type 0 where
   -- what is not observable stays so
   pub unobservable : old ≡ [] → new ≡ []
+  -- success adds just the state `done`
   pub ok : OnOk result (IfObservable old (λ v. new ≡ done v ∷ old))
+  -- a failure adds nothing, or, where the call was no misuse, the state `failed`
   pub err : OnErr result (IfObservable old (λ v. (new ≡ old) ⊎ (can v × (new ≡ failed v ∷ old))))
 
--- what a call does to the counts, where `can` says at which states it is no misuse
+-- what a call of a tree does to the counts, where `can` says at which states the call is no misuse
 pub record IsCounted {T E : Type 0} (can : TreeState → Type 0) (history : List TreeState)
     (before now : Counts) (result : Result T E) : Type 0 where
   -- no count falls

@@ -1,55 +1,57 @@
--- Files by their names, and maps from names.
+-- Files by their names, and maps from names. The rules stand in `docs/crash-safety.md`, "A tree at
+-- one moment".
 use Rattle.std.specs.Prelude.{◌≡◌, ℕ, ◌<◌, ◌^◌, true, if◌then◌else◌, List, ◌++◌, ◌∷◌, length, Option, Some, None, IsSome, All}
 use Rattle.std.specs.Str.{bytes_eq}
 use Rattle.std.specs.List.{list_any}
 use Rattle.base_core.specs.Name.{IsName}
 
--- the bytes under each name, or none where the name is absent
+-- the bytes of the file under each name, or None where the name is absent
 abbrev pub Files : Type 0
 Files = List ℕ → Option (List ℕ)
 
--- the number of the file that each name leads to
+-- a map of names: the number of the file that each name leads to, or None where it leads to none
 abbrev pub NameMap : Type 0
 NameMap = List ℕ → Option ℕ
 
--- the map with this at a name
+-- the map with `x` under a name; each other name is as it was
 abbrev pub put_name : {X : Type 0} → (List ℕ → Option X) → List ℕ → X → List ℕ → Option X
 put_name map name x q = if bytes_eq q name then Some x else map q
 
--- the map with nothing at a name
+-- the map with nothing under a name; each other name is as it was
 abbrev pub drop_name : {X : Type 0} → (List ℕ → Option X) → List ℕ → List ℕ → Option X
 drop_name map name q = if bytes_eq q name then None else map q
 
--- the map in which `to` has this, and `from` nothing
+-- the map in which `to` has `x`, and `from` nothing; each other name is as it was
 abbrev pub move_name : {X : Type 0} → (List ℕ → Option X) → List ℕ → List ℕ → X → List ℕ → Option X
 move_name map from to x = put_name (drop_name map from) to x
 
--- the map with no names
+-- the map in which no name is present
 abbrev pub no_names : {X : Type 0} → List ℕ → Option X
 no_names q = None
 
--- only names of a list are present
+-- only names of this list are present in the map, so they are finitely many
 abbrev pub IsWithin : {X : Type 0} → List (List ℕ) → (List ℕ → Option X) → Type 0
 IsWithin names map = (q : List ℕ) → IsSome (map q) → list_any (bytes_eq q) names ≡ true
 
--- each present name is a name
+-- what is present in the map is a name: a path below the root
 abbrev pub AreNames : {X : Type 0} → (List ℕ → Option X) → Type 0
 AreNames map = (q : List ℕ) → IsSome (map q) → IsName q
 
--- the first name and a slash begin the second
+-- a name is a folder of another: the name and a slash (47) begin the other
 abbrev pub IsFolderOf : List ℕ → List ℕ → Type 0
 IsFolderOf folder name = (rest : List ℕ) × (name ≡ folder ++ 47 ∷ rest)
 
--- no present name is a folder of another
+-- no name that is present in the map is a folder of another, as in a file system
 abbrev pub IsFolderLike : {X : Type 0} → (List ℕ → Option X) → Type 0
 IsFolderLike map = (p q : List ℕ) → IsFolderOf p q → IsSome (map p) → IsSome (map q) → ⊥
 
--- the content of a file: bytes, fewer than 2 ^ 64
+-- the content of a file: bytes (numbers below 256), fewer than 2 ^ 64
 pub record IsFile (bytes : List ℕ) : Type 0 where
+  -- each is a byte
   pub each : All (λ b. b < 256) bytes
   pub few : length bytes < 2 ^ 64
 
--- each present name is a name, and has the content of a file
+-- each file stands under a name, and has bytes that a file may have
 pub record AreNamedFiles (files : Files) : Type 0 where
   pub named : AreNames files
   pub each : (q bytes : List ℕ) → files q ≡ Some bytes → IsFile bytes

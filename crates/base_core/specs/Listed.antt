@@ -1,4 +1,5 @@
--- The listing of a folder.
+-- The listing of a folder. The rules stand in `docs/crash-safety.md`, "A tree at one moment" ("Each
+-- state that a tree shows is *whole*") and "What each call does" (`list`).
 use Rattle.std.specs.Prelude.{◌≡◌, ◌↔◌, ℕ, List, Option, IsSome, All, AllPairs, Contains}
 use Rattle.std.specs.Ordering.{nat_cmp}
 use Rattle.std.specs.Cmp.Lexicographic.{slice_cmp}
@@ -7,26 +8,28 @@ use Rattle.base_core.specs.Files.{IsFolderOf}
 use Rattle.base_core.specs.Name.{IsName}
 use Rattle.base_core.specs.Tree.{TreeState}
 
--- names in byte order, each once
+-- the names stand in byte order, each once
 abbrev pub IsRising : List (List ℕ) → Type 0
 IsRising names = AllPairs (λ a b. slice_cmp nat_cmp a b ≡ Less) names
 
--- just the present names, in byte order
+-- the names that are present in a map, just these, in byte order
 pub record IsNamesOf {X : Type 0} (map : List ℕ → Option X) (names : List (List ℕ)) : Type 0 where
   pub rising : IsRising names
+  -- just the present names stand in it
   pub each : (q : List ℕ) → Contains names q ↔ IsSome (map q)
 
--- just the present names below a folder, at any depth, in byte order
+-- the listing of a folder: just the present names below it, at any depth, in byte order
 pub record IsListOf (folder : List ℕ) (v : TreeState) (names : List (List ℕ)) : Type 0 where
   pub rising : IsRising names
+  -- just the present names below the folder stand in it
   pub each : (q : List ℕ) → Contains names q ↔ (IsSome (v.names q) × IsFolderOf folder q)
 
--- a name below the folder
+-- these bytes are a name, and the folder is a folder of it
 pub record IsNameBelow (folder name : List ℕ) : Type 0 where
   pub named : IsName name
   pub below : IsFolderOf folder name
 
--- names below the folder in byte order, each once
+-- names below the folder in byte order, each once; which ones a tree has is left open
 pub record AreNamesBelow (folder : List ℕ) (names : List (List ℕ)) : Type 0 where
   pub rising : IsRising names
   pub each : All (IsNameBelow folder) names

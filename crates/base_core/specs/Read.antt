@@ -1,4 +1,5 @@
--- What a call that reads a tree says.
+-- What a call that reads a tree says. It leaves the tree as it is, as `docs/crash-safety.md`,
+-- "Misuses, faults and counts", says of the commands that only read.
 use Rattle.std.specs.Prelude.{◌≡◌, ℕ, List, Option, Result, OnOk, IfErr, IsErrOf, Vec}
 use Rattle.std.specs.Option.{option_map}
 use Rattle.std.specs.declared.alloc.Global.{Global}
@@ -6,11 +7,11 @@ use Rattle.base_core.specs.Calls.{IfObservable}
 use Rattle.base_core.specs.Faults.{Counts, GoesOn, HasCause, IsNoFault}
 use Rattle.base_core.specs.Tree.{TreeState}
 
--- the bytes that were read, without where they lie
+-- the bytes that a read found, without where they lie in memory; None where it found no file
 abbrev pub bytes_in : Option (Vec ℕ Global) → Option (List ℕ)
 bytes_in found = option_map (λ bytes. bytes.items) found
 
--- a call that only reads; `disk_fault` is its answer where the tree failed
+-- a call that only reads the tree; `disk_fault` is what it answers where the tree failed
 pub record OnlyReads {A E : Type 0} (disk_fault : E) (old new : List TreeState)
     (before now : Counts)
     (result : Result A E) : Type 0 where
@@ -22,7 +23,7 @@ pub record OnlyReads {A E : Type 0} (disk_fault : E) (old new : List TreeState)
   pub disk : IsErrOf result disk_fault → HasCause before now
   -- an answer that is no fault of the tree raised neither faults nor wants
   pub kept : OnOk result (IsNoFault before now)
-  -- nor did another error
+  -- nor did an error other than `disk_fault`
   pub others : IfErr result (λ fault. (fault ≡ disk_fault → ⊥) → IsNoFault before now)
   -- where the history is observable, no call was a misuse
   pub proper : IfObservable old (λ v. now.misuses ≡ before.misuses)

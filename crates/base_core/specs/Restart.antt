@@ -1,22 +1,28 @@
--- What stands after a crash, and what holds at a moment by those before it.
+-- What stands after a crash, and what holds at a moment by those before it. The rules stand in
+-- `docs/crash-safety.md`, "What a crash leaves", and of `HasLed` in "Moments".
 use Rattle.std.specs.Prelude.{◌≡◌, ◌⊎◌, ◌≤◌, ℕ, true, List, [], ◌∷◌, ◌++◌, Some}
 use Rattle.base_core.specs.Crash.{IsImage}
 use Rattle.base_core.specs.Tree.{TreeState, files_of}
 
--- the tree that stands after a crash: an image, by one map of names, with each file synced
+-- `w` is a tree that stands after a crash of `v`: an image, by one map of names, with each file
+-- synced
 pub record IsCrashOf (v w : TreeState) : Type 0 where
+  -- what is read then is what a crash may leave of `v`
   pub left : IsImage v (files_of w)
+  -- no change of names can be undone any more
   pub one_map : w.older ≡ []
+  -- each file that a name leads to is synced
   pub synced : (q : List ℕ) (n : ℕ) → w.names q ≡ Some n → (w.files n).synced ≡ true
 
--- P holds at each moment: of the moments before it, and of its state
+-- P holds at each moment of a list: it speaks of the moments before and of the state
 abbrev pub EachMoment : (List TreeState → TreeState → Type 0) → List TreeState → Type 0
 EachMoment P [] = Unit {0}
 EachMoment P (v ∷ earlier) = P earlier v × EachMoment P earlier
 
--- P holds so at each moment since
+-- P holds so at each moment that was added since; `old` is the history then, `new` that of now
 pub record SinceBy (P : List TreeState → TreeState → Type 0)
     (old new : List TreeState) : Type 0 where
+  -- the states that were added, the newest first
   pub added : List TreeState
   pub is : new ≡ added ++ old
   pub each : EachMoment P added

@@ -1,36 +1,45 @@
--- A tree of files at one moment, what each call makes of it, and where a call is a misuse.
+-- A tree of files at one moment, what each call makes of it, and where a call is a misuse. The
+-- rules stand in `docs/crash-safety.md`, "A tree at one moment", "What each call does" and
+-- "Misuses, faults and counts".
 use Rattle.std.specs.Prelude.{◌≡◌, ◌⊎◌, ◌≢◌, ◌≤◌, ◌<◌, ℕ, ◌+◌, Bool, true, false, if◌then◌else◌, ◌==◌, List, [], ◌∷◌, ◌++◌, Option, Some, None, IsSome, length}
+use Rattle.base_core.specs.Lists.{IsIn}
 use Rattle.base_core.specs.Files.{Files, NameMap, put_name, drop_name, move_name, AreNames, IsFile, IsFolderLike, IsWithin}
 
 -- a file: its bytes as read, and whether a crash leaves just these
 pub record File : Type 0 where
+  -- the bytes as a read gives them
   pub bytes : List ℕ
+  -- whether a crash leaves just these bytes
   pub synced : Bool
 
--- the files by number, and how many were made; the names as read, and the maps of names before it,
--- since the names were last synced, the newest first
+-- a tree at one moment: the files by number, and how many were made; the names as read, and the
+-- maps of names before it, since the names were last synced, the newest first
 pub record TreeState : Type 0 where
+  -- the file of each number
   pub files : ℕ → File
+  -- how many files were made, which is the number of the next one
   pub made : ℕ
+  -- the map of names as read
   pub names : NameMap
+  -- the maps before it since the names were last synced, the newest first
   pub older : List NameMap
 
--- the bytes under a number, if there is one
+-- the bytes of the file of a number, if there is a number
 abbrev pub bytes_at : (ℕ → File) → Option ℕ → Option (List ℕ)
 bytes_at files None = None
 bytes_at files (Some n) = Some (files n).bytes
 
--- the files by one map of names
+-- the files as one of the maps of names shows them
 abbrev pub files_by : TreeState → NameMap → Files
 files_by v map q = bytes_at v.files (map q)
 
--- the files as read
+-- the files as read: those that the newest map of names shows
 abbrev pub files_of : TreeState → Files
 files_of v = files_by v v.names
 
--- ---- what the calls make of it
+-- ---- what the calls make of a state
 
--- the files, with this one under its number
+-- the files by number, with this one under the number `n`
 abbrev pub set_file : (ℕ → File) → ℕ → File → ℕ → File
 set_file files n file k = if k == n then file else files k
 
@@ -39,11 +48,11 @@ abbrev pub change_at : (File → File) → TreeState → Option ℕ → TreeStat
 change_at change v None = v
 change_at change v (Some n) = record v { files = set_file v.files n (change (v.files n)) }
 
--- one more map of names
+-- the state whose names are now these; the map before it is one more that a crash may bring back
 abbrev pub with_names : TreeState → NameMap → TreeState
 with_names v names = record v { names = names; older = v.names ∷ v.older }
 
--- a new empty file, not synced, stands under the name
+-- the state after `create`: a new empty file, not synced, stands under the name
 abbrev pub after_create : List ℕ → TreeState → TreeState
 after_create name v = record {
   files = set_file v.files v.made (record { bytes = []; synced = false });
@@ -52,90 +61,93 @@ after_create name v = record {
   older = v.names ∷ v.older;
 }
 
--- the file has the piece behind its bytes, and is not synced
+-- after `append`: the file has the piece behind its bytes, and is not synced
 abbrev pub after_append : List ℕ → List ℕ → TreeState → TreeState
 after_append name piece v =
     change_at (λ f. record { bytes = f.bytes ++ piece; synced = false }) v (v.names name)
 
--- one that failed may have left the file unsynced
+-- after an `append` that failed: the file has its bytes, and may have become unsynced
 abbrev pub after_failed_append : List ℕ → TreeState → TreeState
 after_failed_append name v =
     change_at (λ f. record { bytes = f.bytes; synced = false }) v (v.names name)
 
--- the file under the name is synced
+-- after `sync`: the file under the name is synced
 abbrev pub after_sync : List ℕ → TreeState → TreeState
 after_sync name v = change_at (λ f. record { bytes = f.bytes; synced = true }) v (v.names name)
 
--- the file of this number stands under the second name, and none under the first
+-- the state in which the file of this number stands under `to`, and none under `from`; without a
+-- number it stays
 abbrev pub move_at : List ℕ → List ℕ → TreeState → Option ℕ → TreeState
 move_at from to v None = v
 move_at from to v (Some n) = with_names v (move_name v.names from to n)
 
--- the file of the first name stands under the second, in place of what stood there
+-- after `rename`: the file of the first name stands under the second, in place of what stood there
 abbrev pub after_rename : List ℕ → List ℕ → TreeState → TreeState
 after_rename from to v = move_at from to v (v.names from)
 
--- nothing stands under the name, where it has a file
+-- the state in which nothing stands under the name; without a number it stays
 abbrev pub remove_at : List ℕ → TreeState → Option ℕ → TreeState
 remove_at name v None = v
 remove_at name v (Some n) = with_names v (drop_name v.names name)
 
--- nothing stands under the name; its file itself is as it was
+-- after `remove`: nothing stands under the name; its file itself is as it was
 abbrev pub after_remove : List ℕ → TreeState → TreeState
 after_remove name v = remove_at name v (v.names name)
 
--- no crash undoes a change of names that was made before
+-- after `sync_names`: no crash undoes a change of names that was made before
 abbrev pub after_sync_names : TreeState → TreeState
 after_sync_names v = record v { older = [] }
 
--- a call that failed and made nothing of it
+-- after a call that failed and changed nothing
 abbrev pub same_state : TreeState → TreeState
 same_state v = v
 
 -- ---- where a call is no misuse
 
--- what a call asks of the state, where it asks nothing
+-- for a call that is a misuse at no state
 abbrev pub Anywhere : TreeState → Type 0
 Anywhere v = Unit {0}
 
--- a file stands under the name
+-- for `append` and `sync`: a file stands under the name
 abbrev pub HasName : List ℕ → TreeState → Type 0
 HasName name v = IsSome (v.names name)
 
--- the file is there, and has so many bytes from this place on
+-- for `read_at`: the file is there, and has at least `len` bytes from `at` on
 abbrev pub CanRead : List ℕ → ℕ → ℕ → TreeState → Type 0
 CanRead name at len v =
     (bytes : List ℕ) × (files_of v name ≡ Some bytes) × (at + len ≤ length bytes)
 
--- nothing stands under the name, and no file's name would be a folder of another
+-- for `create`: nothing stands under the name, and no file's name would be a folder of another
 pub record CanCreate (name : List ℕ) (v : TreeState) : Type 0 where
   pub absent : v.names name ≡ None
+  -- with the new name no name is a folder of another
   pub folders : IsFolderLike (put_name v.names name v.made)
 
--- a file stands under the first name, the names differ, and no file's name would be a folder of
--- another
+-- for `rename`: a file stands under the first name, the names differ, and no file's name would be a
+-- folder of another
 pub record CanRename (from to : List ℕ) (v : TreeState) : Type 0 where
   pub present : IsSome (v.names from)
   pub apart : from ≢ to
+  -- which file stands under a name does not matter to this, so 0 stands for its number
   pub folders : IsFolderLike (put_name (drop_name v.names from) to 0)
 
 -- ---- the maps of names
 
--- one of several maps
-abbrev pub IsAmong : NameMap → List NameMap → Type 0
-IsAmong map [] = ⊥
-IsAmong map (x ∷ xs) = (map ≡ x) ⊎ IsAmong map xs
-
 -- one of the maps that a crash may leave: the one as read, or one since the names were last synced
 abbrev pub IsMapOf : TreeState → NameMap → Type 0
-IsMapOf v map = IsAmong map (v.names ∷ v.older)
+IsMapOf v map = IsIn map (v.names ∷ v.older)
 
 -- what holds of every state that a tree shows: in each map of names finitely many names are
 -- present, each is a name, none is a folder of another, and each leads to a file that was made; and
 -- each file has fewer than 2 ^ 64 bytes
 pub record IsWhole (v : TreeState) : Type 0 where
+  -- finitely many names are present
   pub finite : (map : NameMap) → IsMapOf v map → (names : List (List ℕ)) × IsWithin names map
+  -- each is a name
   pub named : (map : NameMap) → IsMapOf v map → AreNames map
+  -- none is a folder of another
   pub folders : (map : NameMap) → IsMapOf v map → IsFolderLike map
+  -- each leads to a file that was made
   pub made : (map : NameMap) → IsMapOf v map → (q : List ℕ) (n : ℕ) → map q ≡ Some n → n < v.made
+  -- each file has fewer than 2 ^ 64 bytes
   pub bytes : (n : ℕ) → IsFile (v.files n).bytes

@@ -1,11 +1,16 @@
-//! Why a container is refused.
+//! Why a container is refused. Which test each one fails, and in which order they are made, stands
+//! in `docs/formats.md`, "Container" and "Tests of a container"; the line that tells it in
+//! `docs/commands.md`, "Error lines".
 
 /// A digest of a file's bytes: SHA-1 (FIPS 180-4, 20 bytes), SHA-256 (32 bytes) or SHA-512 (64
 /// bytes).
 #[derive(Clone, Copy, Debug, PartialEq, Eq)]
 pub enum Digest {
+    /// Of SHA-1.
     Sha1([u8; 20]),
+    /// Of SHA-256.
     Sha256([u8; 32]),
+    /// Of SHA-512.
     Sha512([u8; 64]),
 }
 
@@ -39,12 +44,13 @@ pub enum Cause {
     WrongSchema {
         found: u32,
     },
-    /// The payload has at least this many values, which are too many.
+    /// The payload has at least this many values, which are too many: one more than the most that
+    /// are read (4,194,304).
     TooLarge {
         count: u32,
     },
-    /// A field's value is outside its grammar. `place` is 100 times the number of its table plus
-    /// the field's number.
+    /// A field's value breaks its rule. `place` is 100 times the number of its table plus the
+    /// field's number, as in `docs/formats.md`, "Schemas".
     BadText {
         place: u16,
     },

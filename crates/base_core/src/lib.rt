@@ -2,11 +2,14 @@
 //! `Sink`, with what their calls mean; a read of a whole file and a write of all bytes; and why a
 //! container is refused.
 //!
-//! Bytes come in and leave as `Name`, `Text`, `Words` or `Names`. The contracts cite `Name` (what a
-//! name is), `Files` (files by their names), `Tree`, `Calls` and `Crash` (the states of a tree,
-//! what each call makes of it, and what a crash leaves of it), `Listed` (listings), `Faults` (the
-//! counts) and `Sink` of `specs/`; those that only inner contracts need are `Restart`, `Read` and
-//! `Write`.
+//! Bytes come in and leave as `Name`, `Text`, `Words` or `Names`. The contracts cite `Lists` (what
+//! is in a list), `Name` (what a name is), `Files` (files by their names), `Tree`, `Calls`, `Crash`
+//! and `Restart` (the states of a tree, what each call makes of it, and what a crash leaves of it),
+//! `Listed` (listings), `Faults` (the counts) and `Sink` of `specs/`; those that only inner
+//! contracts need are `Read` and `Write`.
+//!
+//! The rules stand in `docs/crash-safety.md`, sections "A tree at one moment" to "Misuses, faults
+//! and counts", and in `docs/commands.md`, "Words" (what a name is).
 #![tactic(auto)]
 
 mod cause;

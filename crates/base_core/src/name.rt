@@ -1,4 +1,5 @@
-//! Names of files, and lists of them.
+//! Names of files, and lists of them. What a name is stands in `docs/commands.md`, "Words" ("A file
+//! is named by a path below the root").
 ghost use Rattle.std.specs.Prelude.{◌≡◌, ◌↔◌, ◌<◌, ◌==◌, ◌++◌, ◌∷◌, [], length, slice_get, Some, IfOk, IfSome, OnOk, OnErr, is_some, IsTrue, All};
 ghost use Rattle.std.specs.List.{list_all};
 ghost use Rattle.std.specs.Str.{is_utf8};
@@ -57,7 +58,7 @@ impl Name {
         &self.bytes
     }
 
-    /// An equal name.
+    /// Another name of the same bytes.
     pub fn copy(&self, alloc: Global) -> Result<Name, AllocError>
         ensures { IfOk result (λ name. name ≡ self.now) }
     {
@@ -66,7 +67,8 @@ impl Name {
     }
 }
 
-/// Whether the bytes are a name.
+/// Whether the bytes are a name: 1 to 1,024 bytes of UTF-8, none of them zero, whose parts may
+/// stand in a name.
 #[tactic(auto, unfolding(crate::specs::Name::is_name))]
 pub fn is_name(bytes: &[u8]) -> bool
     ensures { result ≡ is_name bytes.now }
@@ -97,14 +99,14 @@ fn is_text(bytes: &[u8]) -> bool
     }
 }
 
-/// Whether a part is some bytes, and neither `.` nor `..`.
+/// Whether a part may stand in a name: it is not empty, and neither `.` nor `..`.
 fn is_part(part: &[u8]) -> bool
     ensures { result ≡ is_part part.now }
 {
     !part.is_empty() && part != b".".as_slice() && part != b"..".as_slice()
 }
 
-/// Whether the first name and a slash begin the second.
+/// Whether a name is a folder of another: the first and a slash begin the second.
 pub fn is_folder_of(folder: &[u8], name: &[u8]) -> bool
     ensures { IsTrue result ↔ IsFolderOf folder.now name.now }
 {
@@ -114,7 +116,7 @@ pub fn is_folder_of(folder: &[u8], name: &[u8]) -> bool
     }
 }
 
-/// A list of names.
+/// A list of names, as a listing gives it.
 #[derive(Drop)]
 pub struct Names {
     names: Vec<Name>,
@@ -132,7 +134,7 @@ impl Model for Names {
 }
 
 impl Names {
-    /// No names.
+    /// An empty list.
     pub fn new(alloc: Global) -> Names
         ensures { result ≡ [] }
     {
@@ -164,7 +166,7 @@ impl Names {
         self.names.is_empty()
     }
 
-    /// Each of them is a name.
+    /// A law of the list: each of its elements is a name. It does nothing when it runs.
     pub fn are_names(&self)
         ensures { All IsName self.now }
     {

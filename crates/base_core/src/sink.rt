@@ -1,11 +1,13 @@
-//! What takes bytes: the trait `Sink`, and a write of all bytes.
+//! What takes bytes: the trait `Sink`, and a write of all bytes. Its rule stands in
+//! `docs/crash-safety.md`, "Misuses, faults and counts" (the counts of a sink), and in the rows of
+//! `Sink` and `write_all` in the README of this crate.
 ghost use Rattle.std.specs.Prelude.{◌≡◌, [], List, ℕ, Option, take, IsOk, IfOk, OnOk, OnErr};
 ghost use Rattle.base_core.specs.Faults.{Counts, FailsWithCause};
 ghost use Rattle.base_core.specs.Sink.{Adds, AddsSome, IsWriteCount};
 
 use thiserror::Error;
 
-/// A sink failed.
+/// A sink failed: not all bytes were taken.
 #[derive(Clone, Copy, Debug, PartialEq, Eq, Error)]
 #[error("the sink failed")]
 pub struct SinkFault;

@@ -1,10 +1,12 @@
-//! Byte texts, and the words of a command line.
+//! Byte texts, and the words of a command line. How many words a command line may have stands in
+//! `docs/commands.md`, "Answers and statuses" (status 5); how they are read, in "Words". In the
+//! clauses `ok` and `err` say what a push makes of the list, `small` that places fit in 32 bits.
 ghost use Rattle.std.specs.Prelude.{◌≡◌, ◌<◌, [], ◌∷◌, ◌++◌, length, IfOk, OnOk, OnErr, slice_get, Some, ◌==◌};
 
 use std::alloc::{AllocError, Global};
 use std::marker::Model;
 
-/// An owned byte text.
+/// Bytes of any values that are owned: what a word, an option or a line says.
 #[derive(Drop)]
 pub struct Text {
     bytes: Vec<u8>,
@@ -61,7 +63,7 @@ impl Model for Words {
 }
 
 impl Words {
-    /// No words.
+    /// A command line without words.
     pub fn new(alloc: Global) -> Words
         ensures { result ≡ [] }
     {
@@ -97,7 +99,7 @@ impl Words {
         self.words.is_empty()
     }
 
-    /// The word at a place, counted from 0.
+    /// The word at an index, which counts from 0 (the places that usage errors tell count from 1).
     pub fn word(&self, i: usize) -> &[u8]
         requires { i < length self.now }
         ensures { slice_get self.now i ≡ Some result.now }

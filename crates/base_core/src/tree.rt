@@ -1,4 +1,6 @@
 //! What holds files: the trait `Tree` with the meaning of its calls, and a read of a whole file.
+//! What each call does stands in `docs/crash-safety.md`, "What each call does"; where a call is a
+//! misuse, and what is counted, in "Misuses, faults and counts".
 ghost use Rattle.std.specs.Prelude.{◌≡◌, List, Option, length, take, drop, IfOk, OnOk, IfSome, IsErrOf, All};
 ghost use Rattle.std.specs.Option.{option_map};
 ghost use Rattle.base_core.specs.Tree.{TreeState, files_of, after_create, after_append, after_failed_append, after_sync, after_rename, after_remove, after_sync_names, same_state, Anywhere, HasName, CanRead, CanCreate, CanRename, IsWhole};
@@ -31,6 +33,7 @@ pub enum TreeFault {
 impl From<Disk> for TreeFault {
     ghost from_gives = { λ _ fault. fault ≡ DiskFault };
 
+    // The fault of a tree as the fault of a call that reads it into memory.
     fn from(_: Disk) -> TreeFault {
         TreeFault::Disk
     }
@@ -39,6 +42,7 @@ impl From<Disk> for TreeFault {
 impl From<AllocError> for TreeFault {
     ghost from_gives = { λ _ fault. fault ≡ Memory };
 
+    // Want of memory as the fault of such a call.
     fn from(_: AllocError) -> TreeFault {
         TreeFault::Memory
     }
@@ -47,6 +51,10 @@ impl From<AllocError> for TreeFault {
 /// Files under names, as a folder of the host or a tree in memory. A call that would make one name
 /// a folder of another is a misuse. Each call answers `Disk` only where the tree's count of faults
 /// rose in it, also where its history is not observable.
+///
+/// In the clauses of the calls `same` says that the history stays, `moves` which states are added,
+/// `counts` what becomes of the counts, and `value` what is answered where the history is
+/// observable.
 pub trait Tree {
     /// The states so far, the newest first. It is empty where they are not observable.
     ghost history: { Self → List TreeState };
@@ -125,6 +133,7 @@ pub trait Tree {
     fn list(&mut self, alloc: Global, folder: &Name) -> Result<Names, TreeFault>
         ensures same { history self.new ≡ history self.old }
         ensures goes_on { GoesOn (counts self.old) (counts self.new) }
+        // A failed tree has its cause; no other answer raises faults or wants.
         ensures disk { IsErrOf result DiskFault → HasCause (counts self.old) (counts self.new) }
         ensures kept { OnOk result (IsNoFault (counts self.old) (counts self.new)) }
         ensures memory { IsErrOf result Memory → IsNoFault (counts self.old) (counts self.new) }

@@ -1,5 +1,7 @@
 //! Answers questions to `adb_block`: the blocks of a container, which test fails first, and headers
-//! that are written. Its stored run has all rows; `tests/lines.md` describes their form.
+//! that are written. The rules stand in `docs/formats.md`, "Container". Its stored run has all
+//! rows; `tests/lines.md` describes their form, and the README of this crate has a row for each
+//! question.
 #![tactic(auto)]
 
 use adb_block::{Block, BlockKind, Blocks, Frame, block_head, frame_of, head_len};
@@ -9,18 +11,23 @@ use std::alloc::{AllocError, Global};
 use std::io;
 use std::process::ExitCode;
 
-/// The most blocks of a row.
+/// The most blocks that are told of a row's container.
 const MOST_BLOCKS: usize = 100;
 
-/// What is asked.
+/// What is asked; the README of this crate says what each question answers.
 #[derive(Clone, Copy)]
 enum Question {
+    /// `blocks BYTES`.
     Blocks,
+    /// `cuts BYTES`.
     Cuts,
+    /// `head KIND LEN`.
     Head,
+    /// `frame KIND LEFT HEAD`.
     Frame,
 }
 
+// The words that questions begin with.
 #[rattlefmt::skip]
 const QUESTIONS: [(&[u8], Question); 4] = [
     (b"blocks", Question::Blocks),
@@ -29,6 +36,7 @@ const QUESTIONS: [(&[u8], Question); 4] = [
     (b"frame", Question::Frame),
 ];
 
+// The words for the kinds of blocks.
 #[rattlefmt::skip]
 const KINDS: [(&[u8], BlockKind); 3] = [
     (b"adb", BlockKind::Adb),
@@ -109,7 +117,8 @@ fn fault_of(answer: Result<Option<Block<'_>>, Cause>) -> Option<Cause> {
     answer.err()
 }
 
-/// Adds the answer behind the last block, which comes again, and where the next block would stand.
+/// Adds the answer behind the last block, which comes again when it is asked for once more, and
+/// where the next block would stand.
 fn add_end(
     alloc: Global,
     blocks: &mut Blocks<'_>,
@@ -174,6 +183,7 @@ fn first_fault(file: &[u8]) -> Option<Cause> {
 fn add_head(words: &Words, answer: &mut Vec<u8>) -> Result<(), AllocError> {
     let kind = value_named(&KINDS, word_at(words, 1)).unwrap_or(BlockKind::Adb);
     let len = number_of(word_at(words, 2)).unwrap_or(0);
+    // The raw size of a block counts its header too, which has 16 bytes at most.
     let len = u64::try_from(len).unwrap_or(0).min(u64::MAX - 16);
     answer.extend_from_slice(block_head(kind, len).bytes())
 }

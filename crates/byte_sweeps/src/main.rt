@@ -2,6 +2,7 @@
 //! the file is cut at each length. The answers are counted by their kinds, and a digest over all of
 //! them pins each one. Its stored run has all rows, whose wanted answers `tests/model/verify.py`
 //! works out; `tests/lines.md` describes their form. A container stays from one row to the next.
+//! The README of this crate has a row for each question.
 #![tactic(auto)]
 
 ghost use Rattle.std.specs.Prelude.{◌+◌, ◌≤◌, length};
@@ -20,13 +21,19 @@ use tally::Tally;
 /// What is asked: a container is given, it is read itself, or changes of it are read.
 #[derive(Clone, Copy)]
 enum Question {
+    /// A container is given.
     Container,
+    /// It is read itself.
     Itself(Test),
+    /// Each file is read that differs from it in one byte.
     Changes(Test),
+    /// Each file is read in which one of its words stands in place of another.
     Words(Test),
+    /// Each front of it is read.
     Cuts(Test),
 }
 
+// The words that questions begin with.
 #[rattlefmt::skip]
 const QUESTIONS: [(&[u8], Question); 13] = [
     (b"container", Question::Container),
@@ -47,6 +54,7 @@ const QUESTIONS: [(&[u8], Question); 13] = [
 /// The container that rows speak of.
 #[derive(Drop)]
 struct CurrentContainer {
+    /// Its bytes; none before the first `container`.
     bytes: Vec<u8>,
 }
 

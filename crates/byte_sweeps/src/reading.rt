@@ -1,4 +1,5 @@
-//! What the tests of a container, and its dump, say of a file.
+//! What the tests of a container, and its dump, say of a file. The tests stand in
+//! `docs/formats.md`, "Tests of a container", and the text in "Dump text".
 
 ghost use Rattle.std.specs.Prelude.{IsTrue, IfSome, is_some};
 ghost use Rattle.adb_schema.specs.Soundness.{schema_word};
@@ -94,7 +95,7 @@ fn text_of(alloc: Global, file: &[u8]) -> Result<Text, ReadFault> {
     }
 }
 
-/// The table at the root of a container with this schema.
+/// The table at the root of a container with this schema (`docs/formats.md`, "Schemas").
 fn root_of_schema(schema: u32) -> Option<Which>
     ensures { IfSome result (λ which. IsTrue (is_some (schema_word which))) }
 {
@@ -130,7 +131,7 @@ fn check_framing(blocks: &mut Blocks<'_>) -> Result<(), Cause> {
     Ok(())
 }
 
-/// Adds the text of a cause, with a line end.
+/// Adds the text of a cause, with a line end: what `verify` prints of it for the first word.
 fn add_cause(alloc: Global, cause: Cause, line: &mut Vec<u8>) -> Result<(), AllocError> {
     let mut page = MemorySink::new(alloc);
     if write_error(&Refusal::FileBad { place: 1, cause }, &mut page).is_err() {

@@ -1,11 +1,12 @@
-//! Answers are counted by their kinds, and a digest is taken over their lines.
+//! Answers are counted by their kinds, and a digest is taken over their lines. The kinds are the
+//! rows of causes in `docs/commands.md`, "Error lines".
 
 use base_core::Cause;
 use row_lines::{add_number, add_word};
 use sha2::{Digest, Sha256};
 use std::alloc::{AllocError, Global};
 
-/// What an answer says, but for its numbers.
+/// What an answer says, but for its numbers: that the file is sound, or which cause.
 #[derive(Clone, Copy, PartialEq, Eq)]
 pub(crate) enum AnswerKind {
     Sound,
@@ -26,7 +27,7 @@ pub(crate) enum AnswerKind {
     TextLine,
 }
 
-/// How many kinds there are.
+/// How many kinds of answers there are.
 const KINDS: usize = 16;
 
 /// The kinds in the order in which their counts are told.
@@ -75,7 +76,9 @@ pub(crate) fn kind_of(fault: Option<Cause>) -> AnswerKind {
 /// How many answers there are of each kind, and the SHA-256 (FIPS 180-4) over all their lines.
 #[derive(Drop)]
 pub(crate) struct Tally {
+    /// How many answers there are of each kind, in the order of `KIND_NAMES`.
     counts: [u64; KINDS],
+    /// The digest of all lines so far.
     lines: Sha256,
 }
 

@@ -1,4 +1,5 @@
--- The files after a change, name by name.
+-- The files after a change, name by name. The rules stand in `docs/commands.md`,
+-- "What a change does with files", behind the three tests.
 use Rattle.std.specs.Prelude.{ℕ, ◌==◌, ◌-◌, Bool, true, false, not, ◌&&◌, if◌then◌else◌, List, [], ◌∷◌, length, take, codes, Option, Some, None, is_some, option_and_then, bytes_eq, nat_eq}
 use Rattle.std.specs.List.{ends_with}
 use Rattle.std.specs.Option.{option_or}
@@ -13,74 +14,77 @@ use Rattle.change_files.specs.FileChange.{FileChange, coming_owner, is_claimed, 
 
 -- ---- what is written
 
--- only a file that goes in takes its path
+-- a file that takes its path: only one that goes in does
 abbrev pub if_in : Listing → Fate → Option Listing
 if_in l goes_in = Some l
 if_in l gives_way = None
 if_in l goes_aside = None
 
--- only a file that goes aside is laid beside another
+-- a file that is laid beside another: only one that goes aside is
 abbrev pub if_aside : Listing → Fate → Option Listing
 if_aside l goes_in = None
 if_aside l gives_way = None
 if_aside l goes_aside = Some l
 
--- the file that takes this path
+-- the file that takes this path, if one does
 abbrev pub written_in : FileChange → Files → List ℕ → Option Listing
 written_in change files path =
     option_and_then (λ l. if_in l (fate_of change files l)) (coming_owner change path)
 
--- the file that is laid beside the one under this path
+-- the file that is laid beside the one under this path, if one is
 abbrev pub laid_beside : FileChange → Files → List ℕ → Option Listing
 laid_beside change files path =
     option_and_then (λ l. if_aside l (fate_of change files l)) (coming_owner change path)
 
--- the path beside which a file of this name would lie
+-- the path beside which a file of this name would lie: the name without `.apk-new`, which has 8
+-- bytes
 abbrev pub path_beside : List ℕ → Option (List ℕ)
 path_beside name =
     if ends_with nat_eq name (codes ".apk-new") then Some (take (length name - 8) name) else None
 
--- the file whose contents this name gets
+-- the file whose contents this name gets, if one is written there
 unfoldable pub written_as : FileChange → Files → List ℕ → Option Listing
 written_as change files name =
     option_or (written_in change files name)
     (option_and_then (laid_beside change files) (path_beside name))
 
--- a file of a package is written under this name, be it its path or the name beside another
+-- whether a file of a package is written under this name, be it its path or the name beside another
 abbrev pub is_written : FileChange → Files → List ℕ → Bool
 is_written change files name = is_some (written_as change files name)
 
 -- ---- what is removed
 
--- the user changed the file under a path, which was listed so
+-- whether the user changed the file under a path, which was listed so
 abbrev pub is_changed : Plain → Option (List ℕ) → Bool
 is_changed entry None = false
 is_changed entry (Some bytes) = not (is_as_listed entry bytes)
 
--- it is configuration, which is not to be purged, and the user changed it
+-- whether a file that no package lists any more is configuration that the user changed, and that is
+-- not to be purged
 abbrev pub may_stay : FileChange → List ℕ → Option (List ℕ) → Option Plain → Bool
 may_stay change path bytes None = false
 may_stay change path bytes (Some entry) =
     is_guarded path && (not change.purge && is_changed entry bytes)
 
--- it was listed before, and now no package lists it and nothing is written there
+-- whether a path was listed before, and now no package lists it and nothing is written there
 abbrev pub is_left_over : FileChange → Files → List ℕ → Bool
 is_left_over change files path =
     was_listed change path && (not (is_claimed change path) && not (is_written change files path))
 
--- the user's file stays though its package is gone
+-- whether the user's file stays under a path though its package is gone
 unfoldable pub is_kept : FileChange → Files → List ℕ → Bool
 is_kept change files path =
     is_left_over change files path && may_stay change path (files path) (old_entry change path)
 
--- also where no file stands there
+-- whether a change removes what stands under a path; so it is also where no file stands there
 unfoldable pub is_removed : FileChange → Files → List ℕ → Bool
 is_removed change files path =
     is_left_over change files path && not (may_stay change path (files path) (old_entry change path))
 
 -- ---- the contents of a file that comes
 
--- where each member that comes has these contents
+-- the bytes of a file that comes, where each member that comes has these contents: a link is
+-- written as a file with the link's text
 unfoldable pub listing_bytes : (ℕ → List Packages.Contents) → Listing → List ℕ
 listing_bytes contents l =
     if has_target l.entry then link_bytes l.entry
@@ -88,14 +92,14 @@ listing_bytes contents l =
 
 -- ---- all names
 
--- a world that is absent and has nothing to say stays absent
+-- the text of world after a change; a world that is absent and has nothing to say stays absent
 abbrev pub world_bytes_after : List ℕ → Option (List ℕ) → Option (List ℕ)
 world_bytes_after [] None = None
 world_bytes_after [] (Some old) = Some []
 world_bytes_after (b ∷ bytes) old = Some (b ∷ bytes)
 
--- What a name has: the bytes of the file that is written there, or nothing where it is removed, or
--- what it had before.
+-- What a name has that is none of the records: the bytes of the file that is written there, or
+-- nothing where it is removed, or what it had before.
 abbrev pub bytes_after : (Listing → List ℕ) → Option Listing → Bool → Option (List ℕ) → Option (List ℕ)
 bytes_after bytes_of (Some l) is_gone old = Some (bytes_of l)
 bytes_after bytes_of None true old = None
@@ -108,8 +112,8 @@ pub record Records : Type 0 where
   pub world : List ℕ
   pub takes_text_over : Bool
 
--- The new database and world; no text database that was taken over; the files that come; no file
--- that is removed; and all others as before.
+-- The files after a change: the new database and world; no text database that was taken over; the
+-- files that come; no file that is removed; and all others as before.
 unfoldable pub changed_files : FileChange → (Listing → List ℕ) → Records → Files → Files
 changed_files change bytes_of records files name =
     if bytes_eq name database_name then Some records.database

@@ -1,4 +1,5 @@
--- Which names there are after a change, of which none may be a folder of another.
+-- Which names there are after a change, of which none may be a folder of another. The rules stand
+-- in `docs/commands.md`, "What a change does with files", test 2.
 use Rattle.std.specs.Prelude.{ℕ, Bool, not, ◌&&◌, ◌||◌, List, ◌∷◌, map, is_some, option_and_then, bytes_eq}
 use Rattle.std.specs.List.{filter, list_any}
 use Rattle.base_core.specs.Files.{Files}
@@ -12,14 +13,15 @@ abbrev pub coming_paths : List Member → List (List ℕ)
 coming_paths members =
     map (λ l. l.path) (filter (λ l. is_coming l.member) (member_listings members))
 
--- a package that comes lists the name, or a file is laid beside another under it; the database and
--- the world always
+-- whether a change counts as writing a name: a package that comes lists it, or a file is laid
+-- beside another under it; the database and the world always count
 unfoldable pub counts_as_written : FileChange → Files → List ℕ → Bool
 counts_as_written change files name =
     list_any (bytes_eq name) (database_name ∷ world_name ∷ coming_paths change.members)
     || is_some (option_and_then (laid_beside change files) (path_beside name))
 
--- a package listed the name before, none does now, and the user's file is not kept
+-- whether a change lets go of a name: a package listed it before, none does now, and the user's
+-- file is not kept
 unfoldable pub is_let_go : FileChange → Files → List ℕ → Bool
 is_let_go change files name =
     was_listed change name && not (is_claimed change name || is_kept change files name)

@@ -1,4 +1,6 @@
--- What a change removes, writes and keeps, as lists in byte order.
+-- What a change removes, writes and keeps, as lists in byte order. The rules stand in
+-- `docs/commands.md`, "What a change does with files"; the first test there is that of reserved
+-- names.
 use Rattle.std.specs.Prelude.{ℕ, cond, List, [], ◌∷◌, ◌++◌, map, Option, option_map, is_some, bytes_eq}
 use Rattle.std.specs.List.{filter, filter_map}
 use Rattle.base_core.specs.Files.{Files}
@@ -13,39 +15,39 @@ use Rattle.change_files.specs.FilesAfter.{is_kept, is_removed, laid_beside, writ
 
 -- ---- names in byte order, each once
 
--- of equal names that stand side by side one is left
+-- a name in front of names in byte order, unless the first of them is the same
 abbrev pub unless_next : List ℕ → List (List ℕ) → List (List ℕ)
 unless_next name [] = name ∷ []
 unless_next name (x ∷ xs) = cond (bytes_eq name x) (x ∷ xs) (name ∷ x ∷ xs)
 
--- without a name in front of the same one
+-- names in byte order, of which one is left where equal ones stand side by side
 abbrev pub without_repeats : List (List ℕ) → List (List ℕ)
 without_repeats [] = []
 without_repeats (x ∷ xs) = unless_next x (without_repeats xs)
 
--- in byte order, each once
+-- names in byte order, each once
 unfoldable pub names_in_order : List (List ℕ) → List (List ℕ)
 names_in_order names = without_repeats (sorted_by bytes_cmp names)
 
--- of the files that the packages before list
+-- the paths of the files that the packages before list
 abbrev pub old_paths : FileChange → List (List ℕ)
 old_paths change = map (λ l. l.path) (old_listings change)
 
 -- ---- the lists
 
--- a name, and the file whose contents it gets: the place of its member counts from 0, those of the
--- folder and of the file in it from 1
+-- a write of a change: a name, and the file whose contents it gets. The place of the file's member
+-- counts from 0, those of the folder and of the file in it from 1
 pub record FileWrite : Type 0 where
   pub name : List ℕ
   pub member : ℕ
   pub folder : ℕ
   pub file : ℕ
 
--- a file of a package is written under a name: its path, or the name beside it
+-- the write of a package's file under a name: its path, or the name beside it
 abbrev pub write_to : List ℕ → Listing → FileWrite
 write_to name l = record { name = name; member = l.place; folder = l.folder; file = l.file }
 
--- each name at which something is written
+-- the writes of a change, in byte order of their names
 unfoldable pub file_writes_of : FileChange → Files → List FileWrite
 file_writes_of change files =
     filter_map (λ name. option_map (write_to name) (written_as change files name))
@@ -59,7 +61,7 @@ removals_of change files = filter (is_removed change files) (names_in_order (old
 unfoldable pub kept_of : FileChange → Files → List (List ℕ)
 kept_of change files = filter (is_kept change files) (names_in_order (old_paths change))
 
--- the paths beside which a file is laid
+-- the paths beside which a file is laid, in byte order
 unfoldable pub aside_of : FileChange → Files → List (List ℕ)
 aside_of change files =
     filter (λ path. is_some (laid_beside change files path))
@@ -67,6 +69,6 @@ aside_of change files =
 
 -- ---- what no package may list
 
--- the first reserved path that a package which comes lists
+-- the first reserved path in byte order that a package which comes lists
 unfoldable pub first_reserved : List Member → Option (List ℕ)
 first_reserved members = smallest_text (filter is_reserved (coming_paths members))

@@ -1,5 +1,6 @@
 -- What the laws say of single names: which are those of the records, of files beside others, of
--- packages that come. (Not what `docs/names.md` calls touched.)
+-- packages that come. (Not what `docs/names.md` calls touched.) Serves the laws of `src/laws.rt`;
+-- the rules stand in `docs/commands.md`, "What a change does with files".
 use Rattle.std.specs.Prelude.{◌≡◌, ℕ, Bool, true, false, ◌&&◌, ◌||◌, List, Some, is_some, option_and_then, bytes_eq}
 use Rattle.std.specs.List.{list_any}
 use Rattle.base_core.specs.Files.{Files}
@@ -12,18 +13,18 @@ use Rattle.change_files.specs.FilesAfter.{Records, database_name, laid_beside, p
 use Rattle.change_files.specs.NamesAfter.{coming_paths}
 use Rattle.change_files.specs.PlanLists.{FileWrite, write_to}
 
--- the database, the world, or a text database that was taken over
+-- whether a name is that of the database, of the world, or of a text database that was taken over
 abbrev pub is_record_name : Records → List ℕ → Bool
 is_record_name records name =
     bytes_eq name database_name
     || (bytes_eq name world_name || (records.takes_text_over && bytes_eq name text_database_name))
 
--- a file is laid beside another one under this name
+-- whether a file is laid beside another one under this name
 abbrev pub is_aside_name : FileChange → Files → List ℕ → Bool
 is_aside_name change files name =
     is_some (option_and_then (laid_beside change files) (path_beside name))
 
--- a package that comes lists the path
+-- whether a package that comes lists the path
 abbrev pub is_coming_path : FileChange → List ℕ → Bool
 is_coming_path change path = list_any (bytes_eq path) (coming_paths change.members)
 
@@ -37,7 +38,7 @@ pub record IsUsersFile (change : FileChange) (files : Files) (path bytes : List 
   pub unlike_old : (entry : Plain) → old_entry change path ≡ Some entry
       → is_as_listed entry bytes ≡ false
 
--- what a package listed under the path before says something else than the entry
+-- whatever a package listed under the path before, it says something else than this entry
 abbrev pub IsNewEntry : FileChange → List ℕ → Plain → Type 0
 IsNewEntry change path entry =
     (old : Plain) → old_entry change path ≡ Some old → do_entries_agree old entry ≡ false

@@ -1,4 +1,6 @@
-//! What follows from the definitions, for all changes and files.
+//! What follows from the definitions, for all changes and files. The rules that they follow from
+//! stand in `docs/commands.md`, "What a change does with files"; the README of this crate lists
+//! them.
 
 ghost use Rattle.std.specs.Prelude.{◌≡◌, ◌≢◌, ◌⊎◌, ◌↔◌, ℕ, Bool, true, false, List, [], None, Some, IsSome, map, is_some, All, Contains};
 ghost use Rattle.adb_rules.specs.Reserved.{is_reserved};
@@ -24,11 +26,13 @@ ghost use Rattle.change_files.specs.Touched.{IsNewEntry, IsUsersFile, IsWriteOf,
 /// A package that comes and owns a path lists it, and so it is with all that is written: it goes in
 /// under that path, or lies beside it.
 pub fn what_is_written_is_owned_by_a_package_that_comes()
+    // Of the owner of a path that comes.
     ensures owner { (change : FileChange) (path : List ℕ) (l : Listing)
         → coming_owner change path ≡ Some l
         → (l.path ≡ path) × (is_coming l.member ≡ true)
         × Contains (member_listings change.members) l
         × (owner_of_path change.members path ≡ Some l.place) }
+    // Of each name under which something is written.
     ensures written { (change : FileChange) (files : Files) (name : List ℕ) (l : Listing)
         → written_as change files name ≡ Some l
         → (coming_owner change l.path ≡ Some l)
@@ -47,15 +51,18 @@ pub fn what_comes_takes_its_path()
 /// or what it listed says something else, and the name beside is one that no package lists; and
 /// only there. It stands under that name.
 pub fn what_differs_lies_beside_the_users_file()
+    // Where the new file is laid beside.
     ensures beside { (change : FileChange) (files : Files) (path bytes : List ℕ) (l : Listing)
         → coming_owner change path ≡ Some l → IsUsersFile change files path bytes
         → IsNewEntry change path l.entry
         → IsName (aside_name path) → is_claimed change (aside_name path) ≡ false
         → laid_beside change files path ≡ Some l }
+    // Only there.
     ensures only { (change : FileChange) (files : Files) (path : List ℕ) (l : Listing)
         → laid_beside change files path ≡ Some l
         → ((bytes : List ℕ) × IsUsersFile change files path bytes)
         × IsNewEntry change path l.entry × (is_claimed change (aside_name path) ≡ false) }
+    // Under that name it is written.
     ensures stands { (change : FileChange) (files : Files) (path : List ℕ) (l : Listing)
         → laid_beside change files path ≡ Some l
         → written_as change files (aside_name path) ≡ Some l }
@@ -128,9 +135,11 @@ pub fn what_is_left_over_goes_unless_it_is_the_users()
 
 /// A path whose owner stays is not touched.
 pub fn the_file_of_a_package_that_stays_is_not_touched()
+    // The plan of the change neither writes nor removes it.
     ensures plan { (change : FileChange) (files : Files) (path : List ℕ) (l : Listing)
         → owner_listing change path ≡ Some l → is_coming l.member ≡ false
         → (written_as change files path ≡ None) × (is_removed change files path ≡ false) }
+    // So it is as before.
     ensures file { (change : FileChange) (bytes_of : Listing → List ℕ) (records : Records)
         (files : Files) (path : List ℕ) (l : Listing)
         → owner_listing change path ≡ Some l → is_coming l.member ≡ false
@@ -203,9 +212,11 @@ pub fn the_records_of_a_change_stand_under_their_names()
     ensures world { (change : FileChange) (bytes_of : Listing → List ℕ) (records : Records)
         (files : Files) → (records.world ≢ []) ⊎ IsSome (files world_name)
         → changed_files change bytes_of records files world_name ≡ Some records.world }
+    // A world that was absent and has nothing to say stays absent.
     ensures no_world { (change : FileChange) (bytes_of : Listing → List ℕ) (records : Records)
         (files : Files) → records.world ≡ [] → files world_name ≡ None
         → changed_files change bytes_of records files world_name ≡ None }
+    // A text database that was taken over is gone.
     ensures text { (change : FileChange) (bytes_of : Listing → List ℕ) (records : Records)
         (files : Files) → records.takes_text_over ≡ true
         → changed_files change bytes_of records files text_database_name ≡ None }
@@ -215,6 +226,7 @@ pub fn the_records_of_a_change_stand_under_their_names()
 
 /// The lists of a plan hold just the names that are written, removed, kept and laid aside.
 pub fn the_lists_of_a_plan_hold_just_its_names()
+    // A write stands in the list where something is written under its name, with that file.
     ensures writes { (change : FileChange) (files : Files) (write : FileWrite)
         → Contains (file_writes_of change files) write ↔ IsWriteOf change files write }
     ensures written { (change : FileChange) (files : Files) (name : List ℕ)

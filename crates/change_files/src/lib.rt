@@ -1,4 +1,5 @@
-//! What a change of packages makes of the files, name by name.
+//! What a change of packages makes of the files, name by name. The rules stand in
+//! `docs/commands.md`, "What a change does with files".
 //!
 //! It is a crate of definitions. `FileChange` of `specs/` says which packages list a path before
 //! and after; `Fate` what becomes of a file that comes where the user changed the one under its

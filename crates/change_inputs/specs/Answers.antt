@@ -1,4 +1,6 @@
--- What calls answer, and that what a call found stands in the tree.
+-- What calls answer, and that what a call found stands in the tree. Serves the contracts of
+-- `Loaded`, `Installed` and of the crates above; which failures there are stands in
+-- `docs/commands.md`, "Answers and statuses".
 use Rattle.std.specs.Prelude.{◌≡◌, ℕ, List, [], ◌∷◌, Option, Result, Ok, Err}
 use Rattle.base_core.specs.Calls.{IfObservable}
 use Rattle.base_core.specs.Tree.{TreeState, files_of}
@@ -15,7 +17,7 @@ Agrees view (Err (Refusal refusal)) wanted = wanted ≡ Err refusal
 Agrees view (Err Disk) wanted = ⊥
 Agrees view (Err Memory) wanted = Unit {0}
 
--- the same of a call that reads a tree, which may have failed
+-- *Agrees* of a call that reads a tree, which may have failed
 abbrev pub AgreesUnlessDisk :
     {A B : Type 0} → (A → B) → Result A Refused → Result B Refusals.Refusal → Type 0
 AgreesUnlessDisk view (Ok x) wanted = wanted ≡ Ok (view x)
@@ -23,17 +25,17 @@ AgreesUnlessDisk view (Err (Refusal refusal)) wanted = wanted ≡ Err refusal
 AgreesUnlessDisk view (Err Disk) wanted = Unit {0}
 AgreesUnlessDisk view (Err Memory) wanted = Unit {0}
 
--- no refusal, but a failed tree or want of memory
+-- why a call ends without a refusal: a failed tree or want of memory
 abbrev pub IsFailure : Refused → Type 0
 IsFailure (Refusal refusal) = ⊥
 IsFailure Disk = Unit {0}
 IsFailure Memory = Unit {0}
 
--- where the tree tells its files, this stands under the name
+-- what was found under a name stands there, where the tree tells its files
 abbrev pub StandsAt : List TreeState → List ℕ → Option (List ℕ) → Type 0
 StandsAt history name found = IfObservable history (λ v. found ≡ files_of v name)
 
--- the same of what was found under the path of each repository
+-- what was found under the path of each repository stands there, where the tree tells its files
 abbrev pub StandAt : List TreeState → List Repository → List (Option (List ℕ)) → Type 0
 StandAt history [] [] = Unit {0}
 StandAt history [] (f ∷ found) = ⊥

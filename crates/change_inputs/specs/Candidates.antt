@@ -1,4 +1,5 @@
--- The packages that a change chooses from: those of the indexes, and those that are installed.
+-- The packages that a change chooses from: those of the indexes, and those that are installed. The
+-- rules stand in `docs/selection.md`, "What there is to choose from".
 use Rattle.std.specs.Prelude.{ℕ, ◌+◌, nat_lt, true, if◌then◌else◌, List, [], ◌∷◌, ◌++◌, length, None, Result, Ok, Err}
 use Rattle.adb_tables.specs.FieldIndexes.{INDEX_PACKAGES, PACKAGE_INFO}
 use Rattle.adb_tables.specs.Values.{entries_in, entry_in}
@@ -11,7 +12,7 @@ use Rattle.report_core.specs.declared.refusal.Refusal.{Refusal}
 use Rattle.report_core.specs.declared.refusal.Refusal.TheVariants.{TooMany}
 use Rattle.change_inputs.specs.Inputs.{Inputs}
 
--- the packages of each repository's index; the first of these repositories has this number
+-- the packages of the indexes of some repositories, of which the first has this number
 abbrev pub candidates_from : ℕ → List Repository → List Plain → List Candidate
 candidates_from n [] indexes = []
 candidates_from n (repository ∷ repositories) [] = []
@@ -19,17 +20,18 @@ candidates_from n (repository ∷ repositories) (index ∷ indexes) =
     candidates_of_index n repository.tag (entries_in (entry_in index INDEX_PACKAGES))
     ++ candidates_from (n + 1) repositories indexes
 
--- an installed package, by the database
+-- an installed package as a candidate, by its entry in the database
 abbrev pub installed_candidate : Plain → Candidate
 installed_candidate pkg = candidate_of (entry_in pkg PACKAGE_INFO) None None true
 
--- with the installed packages, in the database's order
+-- candidates with the installed packages, in the database's order: one that an index has counts as
+-- installed, and another is added
 abbrev pub with_all_installed : List Candidate → List Plain → List Candidate
 with_all_installed candidates [] = candidates
 with_all_installed candidates (pkg ∷ packages) =
     with_all_installed (with_installed candidates (installed_candidate pkg)) packages
 
--- all candidates, however many
+-- all candidates that the inputs have, however many they are
 abbrev pub candidates_of : Inputs → List Candidate
 candidates_of inputs =
     with_all_installed (candidates_from 1 inputs.root.repositories inputs.indexes)

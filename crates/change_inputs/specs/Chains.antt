@@ -1,12 +1,10 @@
--- What comes of a value that may be refused.
+-- What comes of a value that may be refused. Serves the definitions of this crate and of those
+-- above, which put one test behind another; the order of the refusals stands in `docs/commands.md`,
+-- "`add` and `del`".
 use Rattle.std.specs.Prelude.{Option, Some, None, Result, Ok, Err}
+pub use Rattle.base_core.specs.Lists.{and_then}
 use Rattle.base_core.specs.declared.cause.Cause.{Cause}
 use Rattle.report_core.specs.declared.refusal.Refusal.{Refusal}
-
--- what comes of a value, or the refusal that stands in its place
-abbrev pub and_then : {A B : Type 0} → Result A Refusal → (A → Result B Refusal) → Result B Refusal
-and_then (Ok a) next = next a
-and_then (Err refusal) next = Err refusal
 
 -- a value, or the refusal that an error is told as
 abbrev pub refused_as : {A E : Type 0} → (E → Refusal) → Result A E → Result A Refusal

@@ -1,4 +1,6 @@
--- The database of a root: what is installed before a command.
+-- The database of a root: what is installed before a command. The rules stand in
+-- `docs/commands.md`, "`add` and `del`" (what is read) and "A root of version 2"; a database's
+-- tests in `docs/formats.md`, "Tests of a container".
 use Rattle.std.specs.Prelude.{ℕ, Bool, true, false, List, [], Option, Some, None, Result, Ok, Err}
 use Rattle.adb_fields.specs.Repeated.{entries_at}
 use Rattle.adb_schema.specs.Soundness.{first_fault, payload_in, root_value}
@@ -12,44 +14,44 @@ use Rattle.v2_core.specs.declared.read.V2Fault.{V2Fault}
 use Rattle.v2_core.specs.declared.read.V2Fault.TheVariants.{Bad, Memory, TooLarge}
 use Rattle.change_inputs.specs.Chains.{unless_cause}
 
--- the packages, the bytes of the container that has them, where there is one, and whether a text
--- database says them
+-- what is installed: the packages, the bytes of the container that has them, where there is one,
+-- and whether a text database says them
 pub record Database : Type 0 where
   pub packages : List Plain
   pub file : Option (List ℕ)
   pub from_text : Bool
 
--- the packages, with the bytes of the file or the text that they were taken over from
+-- a database by its packages, by the bytes of the container, and by whether a text says them
 abbrev pub database_by : List Plain → Option (List ℕ) → Bool → Database
 database_by packages file from_text =
     record { packages = packages; file = file; from_text = from_text }
 
--- the database in a container
+-- the database in a container, or the first test that the container fails
 abbrev pub container_database : List ℕ → Result Database Refusal
 container_database file =
     unless_cause DatabaseBad (first_fault Idb file)
     (database_by (entries_at IDB_PACKAGES (root_value Idb (payload_in file))) (Some file) false)
 
--- what a text database says, as a payload
+-- the database in the payload that a text database says, or why the text says none
 abbrev pub payload_database : Result (List ℕ) V2Fault → Result Database Refusal
 payload_database (Ok payload) =
     Ok (database_by (entries_at IDB_PACKAGES (root_value Idb payload)) None true)
 payload_database (Err (Bad cause)) = Err (DatabaseBad cause)
 payload_database (Err (TooLarge bytes values)) = Err (ResultTooLarge bytes values)
--- no text gives this
+-- no text gives this: *payload_of_text* knows no memory
 payload_database (Err Memory) = Err NoDatabase
 
--- the database that a text says
+-- the database that a text says, or its first fault
 abbrev pub text_database : List ℕ → Result Database Refusal
 text_database text = payload_database (payload_of_text text)
 
--- where there is none, one without packages may be begun
+-- the database where none is there: one without packages, if it may be begun
 abbrev pub new_database : Bool → Result Database Refusal
 new_database true = Ok (database_by [] None false)
 new_database false = Err NoDatabase
 
--- by what is found under the two names of a database, of which the text is looked at last, and
--- whether one may be begun
+-- the database of a root, by what is found under its two names, of which the text is looked at
+-- last, and by whether one may be begun
 abbrev pub root_database : Bool → Option (List ℕ) → Option (List ℕ) → Result Database Refusal
 root_database may_begin (Some file) text = container_database file
 root_database may_begin None (Some text) = text_database text

@@ -1,4 +1,4 @@
--- Of which faults of a tree a command tells.
+-- How a fault of a tree ends a command. Serves the contract of `Refused::from` in `src/root.rt`.
 use Rattle.std.specs.Prelude.{◌≡◌}
 use Rattle.base_core.specs.declared.tree.TreeFault.{TreeFault}
 use Rattle.base_core.specs.declared.tree.TreeFault.TheVariants as Trees

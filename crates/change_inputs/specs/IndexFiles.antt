@@ -1,4 +1,5 @@
--- Index files that pass all tests.
+-- Index files that pass all tests. Serves the contracts of `IndexFiles` in `src/index.rt`; the
+-- tests stand in `docs/formats.md`, "Tests of a container".
 use Rattle.std.specs.Prelude.{ℕ, Bool, List, Vec, map, is_none}
 use Rattle.std.specs.List.{list_all}
 use Rattle.std.specs.declared.alloc.Global.{Global}
@@ -6,15 +7,15 @@ use Rattle.adb_schema.specs.Soundness.{first_fault, payload_in, root_value}
 use Rattle.adb_tables.specs.declared.tables.Which.TheVariants.{Index}
 use Rattle.adb_view.specs.Plain.{Plain}
 
--- the bytes of each file
+-- the bytes of each of some files
 abbrev pub bytes_of_each : List (Vec ℕ Global) → List (List ℕ)
 bytes_of_each files = map (λ file. file.items) files
 
--- whether all tests of an index pass
+-- whether a file passes all tests of an index
 abbrev pub is_index : List ℕ → Bool
 is_index file = is_none (first_fault Index file)
 
--- each of several files
+-- whether each of several files passes all tests of an index
 abbrev pub are_indexes : List (List ℕ) → Bool
 are_indexes files = list_all is_index files
 

@@ -1,4 +1,6 @@
--- The indexes of repositories, which count from 1.
+-- The indexes of repositories, which count from 1. The rules stand in `docs/commands.md`,
+-- "`add` and `del`" (what is read and refused) and "Error lines"; the tests in `docs/formats.md`,
+-- "Tests of a container".
 use Rattle.std.specs.Prelude.{ℕ, ◌+◌, List, [], ◌∷◌, Option, Some, None, Result, Ok, Err}
 use Rattle.adb_schema.specs.Soundness.{first_fault, payload_in, root_value}
 use Rattle.adb_tables.specs.declared.tables.Which.TheVariants.{Index}
@@ -7,30 +9,33 @@ use Rattle.report_core.specs.declared.refusal.Refusal.{Refusal}
 use Rattle.report_core.specs.declared.refusal.Refusal.TheVariants.{IndexBad, IndexMissing}
 use Rattle.change_inputs.specs.Chains.{and_then, unless_cause}
 
--- the file of an index, unless it is absent
+-- the file of the index of repository n, unless it is absent
 abbrev pub index_file : ℕ → Option (List ℕ) → Result (List ℕ) Refusal
 index_file n None = Err (IndexMissing n)
 index_file n (Some file) = Ok file
 
--- the files of all, or the first that is absent; the first of these repositories has this number
+-- the files of all indexes, or the first that is absent; the first of these repositories has this
+-- number
 abbrev pub index_files_from : ℕ → List (Option (List ℕ)) → Result (List (List ℕ)) Refusal
 index_files_from n [] = Ok []
 index_files_from n (f ∷ found) =
     and_then (index_file n f) (λ file.
     and_then (index_files_from (n + 1) found) (λ files. Ok (file ∷ files)))
 
--- the value of an index, or why its file is none
+-- the value of the index of repository n, or why its file is none
 abbrev pub index_in_file : ℕ → List ℕ → Result Plain Refusal
 index_in_file n file =
     unless_cause (IndexBad n) (first_fault Index file) (root_value Index (payload_in file))
 
--- the values of all, or the first file that is no index
+-- the values of all indexes, or the first file that is no index; the first of these repositories
+-- has this number
 abbrev pub indexes_in_files : ℕ → List (List ℕ) → Result (List Plain) Refusal
 indexes_in_files n [] = Ok []
 indexes_in_files n (file ∷ files) =
     and_then (index_in_file n file) (λ index.
     and_then (indexes_in_files (n + 1) files) (λ indexes. Ok (index ∷ indexes)))
 
--- by what is found under the path of each repository; an absent file is refused before a bad one
+-- the values of all indexes, by what is found under the path of each repository; an absent file is
+-- refused before a bad one
 abbrev pub root_indexes : List (Option (List ℕ)) → Result (List Plain) Refusal
 root_indexes found = and_then (index_files_from 1 found) (indexes_in_files 1)

@@ -1,5 +1,6 @@
 -- What a change reads of a root, in the order of the tests: the database, world, the repositories,
--- and their indexes.
+-- and their indexes. The rules stand in `docs/commands.md`, "`add` and `del`": what is read, and
+-- the refusals in their order.
 use Rattle.std.specs.Prelude.{ℕ, suc, List, [], ◌∷◌, Option, Result, Ok}
 use Rattle.adb_view.specs.Plain.{Plain}
 use Rattle.command_core.specs.Command.{CommandLine}
@@ -23,7 +24,7 @@ pub record Root : Type 0 where
   pub new_world : List Dependency
   pub repositories : List Repository
 
--- by what each file says; the new world is what the command makes of the world
+-- a root by what each of its files says; the new world is what the command makes of the world
 abbrev pub root_by :
     CommandLine → Database → List ℕ → List Dependency → List Repository → Root
 root_by command database text world repositories = record {
@@ -34,8 +35,9 @@ root_by command database text world repositories = record {
   repositories = repositories;
 }
 
--- by what is found under the names of the database, the text database, world and the repositories;
--- `--initdb`, which `add` alone has, lets a command begin a database
+-- a root by what is found under the names of the database, the text database, world and the
+-- repositories, or its first refusal; `--initdb`, which `add` alone has, lets a command begin a
+-- database
 abbrev pub root_found :
     CommandLine → Option (List ℕ) → Option (List ℕ) → Option (List ℕ) → Option (List ℕ)
     → Result Root Refusal
@@ -47,38 +49,39 @@ root_found command file text world_file repositories_file =
     (λ repositories.
     Ok (root_by command database (text_found world_file) world repositories))))
 
--- the same, and the value of each repository's index
+-- all that a change reads: what the files of a root say, and the value of each repository's index
 pub record Inputs : Type 0 where
   pub root : Root
   pub indexes : List Plain
 
--- both parts
+-- inputs by their two parts
 abbrev pub inputs_by : Root → List Plain → Inputs
 inputs_by root indexes = record { root = root; indexes = indexes }
 
 -- ---- the numbers of the reads
 
--- each read of a root has a number: first the database, then the text database
+-- each read of a root has a number, counted from 0: first comes the database
 abbrev pub database_read : ℕ
 database_read = 0
 
--- the text database has a number also where a database stands, and it does not count
+-- the number of the read of the text database, which has one also where a database stands, and does
+-- not count then
 abbrev pub text_database_read : ℕ
 text_database_read = 1
 
--- then world, then the list of repositories
+-- the number of the read of world, behind both databases
 abbrev pub world_read : ℕ
 world_read = 2
 
--- `etc/apk/repositories`
+-- the number of the read of `etc/apk/repositories`
 abbrev pub repositories_read : ℕ
 repositories_read = 3
 
--- and then one index for each repository
+-- the number of the first read of an index: there is one for each repository
 abbrev pub first_index_read : ℕ
 first_index_read = 4
 
--- what is found under the paths of repositories; the read of the first one has this number
+-- what reads find under the paths of repositories; the read of the first one has this number
 abbrev pub index_reads_from : Reads → ℕ → List Repository → List (Option (List ℕ))
 index_reads_from read n [] = []
 index_reads_from read n (repository ∷ repositories) =
@@ -86,7 +89,7 @@ index_reads_from read n (repository ∷ repositories) =
 
 -- ---- the inputs
 
--- the database alone
+-- the database of a root alone, by what reads find, for a command
 abbrev pub database_for : CommandLine → Reads → Result Database Refusal
 database_for command read =
     root_database command.flags.initdb (read database_read database_name)

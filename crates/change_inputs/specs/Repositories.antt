@@ -1,17 +1,20 @@
--- The repositories of a root, whose indexes are read.
+-- The repositories of a root, whose indexes are read. The rules stand in `docs/formats.md`,
+-- "Repositories", and of leave in `docs/commands.md`, "Words", `--allow-untrusted`.
 use Rattle.std.specs.Prelude.{ℕ, Bool, true, false, List, [], ◌∷◌, Result, Ok, Err}
 use Rattle.dep_core.specs.Repositories.{Repository, repositories_of}
 use Rattle.report_core.specs.declared.refusal.Refusal.{Refusal}
 use Rattle.report_core.specs.declared.refusal.Refusal.TheVariants.{RepositoriesBad, Untrusted}
 use Rattle.change_inputs.specs.Chains.{and_then, refused_as}
 
--- nobody checks who signed them, so they are read only with leave
+-- the repositories that may be read: since nobody checks who signed them, any are read only with
+-- leave
 abbrev pub if_trusted : Bool → List Repository → Result (List Repository) Refusal
 if_trusted is_allowed [] = Ok []
 if_trusted true (repository ∷ repositories) = Ok (repository ∷ repositories)
 if_trusted false (repository ∷ repositories) = Err Untrusted
 
--- by the text of their file, and whether there is leave
+-- the repositories of a root, by the text of their file and whether there is leave, or their
+-- refusal
 abbrev pub root_repositories : Bool → List ℕ → Result (List Repository) Refusal
 root_repositories is_allowed text =
     and_then (refused_as RepositoriesBad (repositories_of text)) (if_trusted is_allowed)

@@ -1,4 +1,4 @@
--- The files of a root as they were read.
+-- The files of a root as they were read. Serves the contract of `read_root` in `src/root.rt`.
 use Rattle.std.specs.Prelude.{◌≡◌, List, None}
 use Rattle.base_core.specs.Read.{bytes_in}
 use Rattle.base_core.specs.Tree.{TreeState}
@@ -6,7 +6,8 @@ use Rattle.root_names.specs.RootNames.{database_name, repositories_name, text_da
 use Rattle.change_inputs.specs.Answers.{StandsAt}
 use Rattle.change_inputs.specs.declared.root.RootFiles.{RootFiles}
 
--- each stands under its name; the text database is looked for where there is no other
+-- the files of a root stand each under its name; the text database is looked for where there is no
+-- other
 pub record StandInRoot (history : List TreeState) (files : RootFiles) : Type 0 where
   pub database : StandsAt history database_name (bytes_in files.database)
   pub text_database : bytes_in files.database ≡ None

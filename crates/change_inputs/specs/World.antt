@@ -1,4 +1,5 @@
--- World before a command (apk-world(5)), and the one that the command asks for.
+-- World before a command (apk-world(5)), and the one that the command asks for. The rules stand in
+-- `docs/formats.md`, "World", and of the operands in `docs/commands.md`, "`add` and `del`".
 use Rattle.std.specs.Prelude.{ℕ, List, [], ◌∷◌, Option, unwrap_or, Result}
 use Rattle.std.specs.Option.{option_map_or}
 use Rattle.command_core.specs.declared.command.Applet.{Applet}
@@ -11,11 +12,11 @@ use Rattle.report_core.specs.declared.refusal.Refusal.{Refusal}
 use Rattle.report_core.specs.declared.refusal.Refusal.TheVariants.{WorldBad}
 use Rattle.change_inputs.specs.Chains.{refused_as}
 
--- a file that is absent counts as empty
+-- the text of world or of the repositories, by what is found: a file that is absent counts as empty
 abbrev pub text_found : Option (List ℕ) → List ℕ
 text_found found = unwrap_or found []
 
--- by the text of its file
+-- world before a command, by the text of its file, or its first bad line
 abbrev pub root_world : List ℕ → Result (List Dependency) Refusal
 root_world text = refused_as WorldBad (world_of text)
 
@@ -25,18 +26,19 @@ root_world text = refused_as WorldBad (world_of text)
 abbrev pub world_with_operand : Operand → List Dependency → List Dependency
 world_with_operand o world = option_map_or (λ d. with_entry d world) (dependency_of o.text) world
 
--- each operand is put in; of two with one name the later one stays
+-- world once each operand of `add` is put in; of two with one name the later one stays
 abbrev pub world_with_operands : List Operand → List Dependency → List Dependency
 world_with_operands [] world = world
 world_with_operands (o ∷ operands) world = world_with_operands operands (world_with_operand o world)
 
--- each operand's name is taken out
+-- world once the name of each operand of `del` is taken out
 abbrev pub world_without_operands : List Operand → List Dependency → List Dependency
 world_without_operands [] world = world
 world_without_operands (o ∷ operands) world =
     world_without_operands operands (without_name o.text world)
 
--- `add` puts its operands in, `del` takes theirs out, and the others leave world as it is
+-- world as a command asks for it: `add` puts its operands in, `del` takes theirs out, and the
+-- others leave world as it is
 abbrev pub new_world : Applet → List Operand → List Dependency → List Dependency
 new_world Add operands world = world_with_operands operands world
 new_world Del operands world = world_without_operands operands world

@@ -1,4 +1,6 @@
-//! The database of a root: its file, or the text database that is taken over.
+//! The database of a root: its file, or the text database that is taken over. The rules stand in
+//! `docs/commands.md`, "`add` and `del`" (what is read) and "A root of version 2"; the tests in
+//! `docs/formats.md`, "Tests of a container".
 ghost use Rattle.adb_fields.specs.ListValue.{list_value};
 ghost use Rattle.adb_fields.specs.Repeated.{list_of};
 ghost use Rattle.adb_schema.specs.Soundness.{first_fault, payload_fault, payload_in, root_value};
@@ -27,7 +29,9 @@ use v2_core::{V2Fault, read_v2};
 /// The bytes of a database's file, which passed all tests.
 #[derive(Drop)]
 pub(crate) struct DatabaseContainer {
+    /// The bytes of the whole file.
     pub(crate) file: Vec<u8>,
+    // No test of the file as a database fails, so its payload is sound too.
     ghost passed: { is_none (first_fault Tables.Idb file.items) ≡ true },
     ghost sound: { is_none (payload_fault Tables.Idb (payload_in file.items)) ≡ true },
 }
@@ -35,18 +39,20 @@ pub(crate) struct DatabaseContainer {
 /// The payload that a text database says, which passed all tests.
 #[derive(Drop)]
 pub(crate) struct DatabasePayload {
+    /// The bytes of the payload, which stands in no file.
     pub(crate) payload: Vec<u8>,
+    // No test of the payload as that of a database fails.
     ghost sound: { is_none (payload_fault Tables.Idb payload.items) ≡ true },
 }
 
 /// The database of a root.
 #[derive(Drop)]
 pub(crate) enum DatabaseFile {
-    /// It is there.
+    /// The database's file is there.
     Container(DatabaseContainer),
-    /// A text database is taken over.
+    /// There is no such file, and a text database is taken over.
     Payload(DatabasePayload),
-    /// There is none, and one without packages is begun.
+    /// There is neither, and a database without packages is begun.
     New,
 }
 
@@ -76,7 +82,7 @@ impl DatabaseFile {
         }
     }
 
-    // The database in a container.
+    // The database in a container's bytes, which are tested and kept.
     fn in_container(alloc: Global, file: Vec<u8>) -> Result<DatabaseFile, Refused>
         ensures { Agrees database_seen result (container_database file.items) }
     {
@@ -87,7 +93,7 @@ impl DatabaseFile {
         }
     }
 
-    // The database that a text says, or one that is begun.
+    // The database where it has no file: the one that a text says, or one that is begun.
     fn taken_over(
         alloc: Global,
         may_begin: bool,
@@ -101,7 +107,7 @@ impl DatabaseFile {
         }
     }
 
-    // The database that a text says.
+    // The database that a text says, which is tested as any other.
     fn in_text(alloc: Global, text: &[u8]) -> Result<DatabaseFile, Refused>
         ensures { Agrees database_seen result (text_database text.now) }
     {
@@ -125,7 +131,7 @@ impl DatabaseFile {
         Ok(DatabaseFile::New)
     }
 
-    /// The packages, which the file lends.
+    /// The packages of the database, opened over the bytes that it keeps.
     pub(crate) fn open(&self, alloc: Global) -> Result<Db<'_>, AllocError>
         ensures { IfOk result (λ db. packages_of db ≡ (database_seen self.now).packages) }
     {
@@ -136,12 +142,19 @@ impl DatabaseFile {
         }
     }
 
-    /// Adds each package to a pool.
+    /// Adds each installed package to a pool, behind the packages of the indexes.
+    ///
+    /// # Errors
+    ///
+    /// `TooMany` where the candidates are more than a pool holds, or `Memory`.
     pub(crate) fn add_to<'a>(&'a self, pool: &mut Pool<'a>) -> Result<(), PoolFault>
         requires { length pool.old ≤ MOST_CANDIDATES }
+        // The pool still holds no more than it may.
         ensures fits { OnOk result (length pool.new ≤ MOST_CANDIDATES) }
+        // It has the installed packages then, each once.
         ensures ok { OnOk result (pool.new
             ≡ with_all_installed pool.old (database_seen self.entry.now).packages) }
+        // It is refused only for its count, or for want of memory.
         ensures fault { IfErr result (λ fault. IsPoolFault fault (length
             (with_all_installed pool.old (database_seen self.entry.now).packages))) }
     {
@@ -152,7 +165,8 @@ impl DatabaseFile {
         }
     }
 
-    /// The bytes of the container, where there is one.
+    /// The bytes of the container, where there is one: by them a change tells whether the database
+    /// differs.
     pub(crate) fn file(&self) -> Option<&[u8]>
         ensures { option_copied result ≡ (database_seen self.now).file }
     {
@@ -162,7 +176,7 @@ impl DatabaseFile {
         }
     }
 
-    /// Whether a text database says them.
+    /// Whether a text database says the packages, so that a change removes the text.
     pub(crate) fn is_from_text(&self) -> bool
         ensures { result ≡ (database_seen self.now).from_text }
     {
@@ -174,7 +188,7 @@ impl DatabaseFile {
 }
 
 impl DatabaseContainer {
-    // The payload of the file.
+    // The payload of the file's first block.
     fn payload(&self) -> &[u8]
         ensures { result.now ≡ payload_in self.now.file.items }
     {
@@ -198,15 +212,18 @@ impl DatabasePayload {
     }
 }
 
-// Adds each of some packages to a pool.
+// Adds each installed package to a pool. A list's entries count from 1.
 fn add_packages<'a>(
     pool: &mut Pool<'a>,
     packages: &List<'a, PackageView<'a>>,
 ) -> Result<(), PoolFault>
     requires { length pool.old ≤ MOST_CANDIDATES }
+    // The pool still holds no more than it may.
     ensures fits { OnOk result (length pool.new ≤ MOST_CANDIDATES) }
+    // It has these packages then, each once.
     ensures ok { OnOk result (pool.new
         ≡ with_all_installed pool.old (list_of (entries_in (list_value packages.now)))) }
+    // It is refused only for its count, or for want of memory.
     ensures fault { IfErr result (λ fault. IsPoolFault fault (length
         (with_all_installed pool.old (list_of (entries_in (list_value packages.now)))))) }
 {
@@ -217,7 +234,7 @@ fn add_packages<'a>(
     Ok(())
 }
 
-// The payload that a text says.
+// The payload that a text says, which passed its tests, or the text's first fault.
 fn payload_of_text(alloc: Global, text: &[u8]) -> Result<DatabasePayload, V2Fault>
     ensures ok { IfOk result (λ own. payload_of_text text.now ≡ Ok own.payload.items) }
     ensures err { IfErr result (λ fault. IsV2Fault fault (payload_of_text text.now)) }

@@ -1,5 +1,6 @@
 //! The repositories of a root, and their indexes: the files of these are all read before one of
-//! them is tested.
+//! them is tested. The rules stand in `docs/commands.md`, "`add` and `del`" (what is read and
+//! refused), and in `docs/formats.md`, "Repositories".
 
 ghost use Rattle.adb_rules.specs.Texts.{text_fault};
 ghost use Rattle.adb_schema.specs.Soundness.{root_value};
@@ -29,14 +30,20 @@ use std::alloc::{AllocError, Global};
 /// The bytes of index files, each of which passes all tests.
 #[derive(Drop)]
 pub(crate) struct IndexFiles {
+    /// The bytes of each file, in the order of the repositories.
     pub(crate) files: Vec<Vec<u8>>,
+    // No test of a file as an index fails.
     ghost sound: { are_indexes (bytes_of_each files.items) ≡ true },
 }
 
 impl IndexFiles {
     ghost use Rattle.change_inputs.specs.Seen.{indexes_seen};
 
-    /// Tests all index files.
+    /// Tests all index files, in the order of the repositories, which count from 1.
+    ///
+    /// # Errors
+    ///
+    /// `IndexBad` of the first file that fails a test, or `Memory`.
     pub(crate) fn test(alloc: Global, files: Vec<Vec<u8>>) -> Result<IndexFiles, Refused>
         ensures answer { Agrees indexes_seen result
             (indexes_in_files 1 (bytes_of_each files.items)) }
@@ -48,7 +55,7 @@ impl IndexFiles {
         Ok(IndexFiles { files })
     }
 
-    /// How many there are.
+    /// How many index files there are: one for each repository.
     pub(crate) fn len(&self) -> usize
         ensures { result ≡ length (indexes_seen self.now) }
     {
@@ -85,10 +92,14 @@ pub(crate) fn read_index_files<T: Tree>(
     repositories: &Repos,
     tree: &mut T,
 ) -> Result<Vec<Vec<u8>>, Refused>
+    // What is found stands there, where the tree shows its files; the files are all of it, or the
+    // first absent one is refused.
     ensures found { (found : List (Option (List ℕ)))
         × StandAt (T.history tree.old) repositories.now found
         × AgreesUnlessDisk (λ files. bytes_of_each files.items) result (index_files_from 1 found) }
+    // There is one file for each repository.
     ensures count { IfOk result (λ files. length files.items ≡ length repositories.now) }
+    // The tree is only read; a fault of it has its cause.
     ensures tree { OnlyReads Refused.Disk (T.history tree.old) (T.history tree.new)
         (T.counts tree.old) (T.counts tree.new) result }
 {
@@ -100,7 +111,7 @@ pub(crate) fn read_index_files<T: Tree>(
     Ok(files)
 }
 
-// Adds a file at the end.
+// Adds a file's bytes behind those of the earlier repositories.
 fn push_file(files: &mut Vec<Vec<u8>>, file: Vec<u8>) -> Result<(), AllocError>
     ensures { OnOk result (bytes_of_each files.new.items
         ≡ bytes_of_each files.old.items ++ file.items ∷ []) }
@@ -165,7 +176,7 @@ pub(crate) fn repositories_of(
     }
 }
 
-// Refuses repositories that may not be read.
+// Refuses repositories that may not be read, where there are any.
 fn if_trusted(is_allowed: bool, repositories: Repos) -> Result<Repos, Refused>
     ensures { Agrees (λ repositories. repositories) result (if_trusted is_allowed repositories) }
 {

@@ -1,4 +1,5 @@
-//! The database of a root alone.
+//! The database of a root alone, as `info` reads it. The rules stand in `docs/commands.md`,
+//! "`info`" and "A root of version 2".
 ghost use Rattle.base_core.specs.Read.{OnlyReads};
 ghost use Rattle.change_inputs.specs.Answers.{AgreesUnlessDisk};
 ghost use Rattle.change_inputs.specs.Inputs.{database_for};
@@ -17,6 +18,7 @@ use std::alloc::{AllocError, Global};
 /// The database of a root, which passed its tests. Its bytes are kept.
 #[derive(Drop)]
 pub struct Installed {
+    /// The database, or that one is begun.
     database: DatabaseFile,
 }
 
@@ -34,8 +36,11 @@ impl Installed {
         command: &Command,
         tree: &mut T,
     ) -> Result<Installed, Refused>
+        // It is the database of some contents at each read; where the tree shows its files, of
+        // these.
         ensures found { Explains (T.history tree.old) (λ read.
             AgreesUnlessDisk installed_seen result (database_for command.now read)) }
+        // The tree is only read; a fault of it has its cause.
         ensures tree { OnlyReads Refused.Disk (T.history tree.old) (T.history tree.new)
             (T.counts tree.old) (T.counts tree.new) result }
     {
@@ -45,7 +50,7 @@ impl Installed {
         Ok(Installed { database })
     }
 
-    /// The packages that are installed.
+    /// The packages that are installed, opened over the bytes that are kept.
     pub fn db(&self, alloc: Global) -> Result<Db<'_>, AllocError>
         ensures { IfOk result (λ db. packages_of db ≡ (installed_seen self.now).packages) }
     {

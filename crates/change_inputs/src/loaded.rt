@@ -1,4 +1,6 @@
-//! What a change reads of a root, and the packages that it chooses from.
+//! What a change reads of a root, and the packages that it chooses from. The rules stand in
+//! `docs/commands.md`, "`add` and `del`": what is read, and the refusals in their order; of the
+//! candidates in `docs/selection.md`, "What there is to choose from".
 ghost use Rattle.base_core.specs.Read.{OnlyReads};
 ghost use Rattle.change_inputs.specs.Answers.{Agrees, AgreesUnlessDisk};
 ghost use Rattle.change_inputs.specs.Candidates.{candidates_from, candidates_of, root_pool};
@@ -25,8 +27,11 @@ use std::alloc::{AllocError, Global};
 /// passed their tests, and the bytes are kept.
 #[derive(Drop)]
 pub struct Loaded {
+    /// What the files of the root say.
     root: TestedRoot,
+    /// The files of the indexes, one for each repository.
     indexes: IndexFiles,
+    // Each repository has its index.
     ghost paired: { length indexes.files.items ≡ length root.repositories },
 }
 
@@ -43,8 +48,11 @@ impl Loaded {
     /// `RepositoriesBad`; `Untrusted`; `IndexMissing` of the first index that is absent; `IndexBad`
     /// of the first one that fails a test. `Disk` where the tree failed, and `Memory`.
     pub fn read<T: Tree>(alloc: Global, command: &Command, tree: &mut T) -> Result<Loaded, Refused>
+        // It is what some contents at each read say; where the tree shows its files, what these
+        // say.
         ensures found { Explains (T.history tree.old) (λ read.
             AgreesUnlessDisk inputs_seen result (inputs_of command.now read)) }
+        // The tree is only read; a fault of it has its cause.
         ensures tree { OnlyReads Refused.Disk (T.history tree.old) (T.history tree.new)
             (T.counts tree.old) (T.counts tree.new) result }
     {
@@ -53,7 +61,7 @@ impl Loaded {
         Loaded::of_files(alloc, command, files, tree)
     }
 
-    // By the files of a root, which say where the indexes lie.
+    // Goes on with the files of a root, once they are read: they say where the indexes lie.
     fn of_files<T: Tree>(
         alloc: Global,
         command: &Command,
@@ -72,7 +80,7 @@ impl Loaded {
         Ok(Loaded { root, indexes })
     }
 
-    /// The packages that are installed.
+    /// The packages that are installed, opened over the bytes that are kept.
     pub fn db(&self, alloc: Global) -> Result<Db<'_>, AllocError>
         ensures { IfOk result (λ db.
             packages_of db ≡ (inputs_seen self.now).root.database.packages) }
@@ -115,7 +123,7 @@ impl Loaded {
         &self.root.worlds.after
     }
 
-    /// The repositories.
+    /// The repositories, in the order of their file.
     pub fn repositories(&self) -> &Repos
         ensures { result.now ≡ (inputs_seen self.now).root.repositories }
     {
@@ -141,10 +149,13 @@ impl Loaded {
         }
     }
 
-    // The candidates of the indexes, and then those of the database.
+    // The candidates of the indexes, and then those of the database, up to the most that a pool
+    // holds.
     fn candidates(&self, alloc: Global) -> Result<Pool<'_>, PoolFault>
+        // They are all candidates, where they are not too many.
         ensures ok { IfOk result (λ pool. pool ≡ candidates_of (inputs_seen self.now)) }
         ensures fits { IfOk result (λ pool. length pool ≤ MOST_CANDIDATES) }
+        // They are refused only for their count, or for want of memory.
         ensures fault { IfErr result (λ fault.
             IsPoolFault fault (length (candidates_of (inputs_seen self.now)))) }
     {
@@ -154,10 +165,11 @@ impl Loaded {
         Ok(pool)
     }
 
-    // Adds the packages of each index.
+    // Adds the packages of each index to an empty pool; repositories count from 1.
     fn add_indexes<'a>(&'a self, pool: &mut Pool<'a>) -> Result<(), PoolFault>
         requires { pool.old ≡ [] }
         ensures fits { OnOk result (length pool.new ≤ MOST_CANDIDATES) }
+        // The pool has the packages of each index then, repository by repository.
         ensures ok { OnOk result (pool.new
             ≡ candidates_from 1 self.entry.now.root.repositories
             (indexes_seen self.entry.now.indexes)) }

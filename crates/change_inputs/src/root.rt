@@ -1,5 +1,6 @@
 //! The files of a root, and what they say for a command: how they are read, tested and opened
-//! again, and why a command does not come to its end.
+//! again, and why a command does not come to its end. The rules stand in `docs/commands.md`,
+//! "`add` and `del`", what is read and refused.
 
 ghost use Rattle.base_core.specs.Read.{OnlyReads, bytes_in};
 ghost use Rattle.change_inputs.specs.Answers.{Agrees, IsFailure, StandsAt};
@@ -30,24 +31,34 @@ use std::alloc::{AllocError, Global};
 /// is no other.
 #[derive(Drop)]
 pub(crate) struct RootFiles {
+    /// `lib/apk/db/installed.adb`.
     pub(crate) database: Option<Vec<u8>>,
+    /// `lib/apk/db/installed`, which version 2 wrote.
     pub(crate) text_database: Option<Vec<u8>>,
+    /// `etc/apk/world`.
     pub(crate) world: Option<Vec<u8>>,
+    /// `etc/apk/repositories`.
     pub(crate) repositories: Option<Vec<u8>>,
 }
 
-/// What the files of a root say for a command. All passed their tests.
+/// What the files of a root say for a command. All of them passed their tests.
 #[derive(Drop)]
 pub(crate) struct TestedRoot {
+    /// What is installed before the command.
     pub(crate) database: DatabaseFile,
+    /// World before the command, and the one that it asks for.
     pub(crate) worlds: Worlds,
+    /// The repositories that may be read.
     pub(crate) repositories: Repos,
 }
 
-/// Reads the files of a root.
+/// Reads the files of a root: first the databases, then world and the repositories.
 pub(crate) fn read_root<T: Tree>(alloc: Global, tree: &mut T) -> Result<RootFiles, Refused>
+    // Each file stands under its name, where the tree shows its files.
     ensures found { IfOk result (λ files. StandInRoot (T.history tree.old) files) }
+    // Nothing is refused here.
     ensures failed { IfErr result IsFailure }
+    // The tree is only read; a fault of it has its cause.
     ensures tree { OnlyReads Refused.Disk (T.history tree.old) (T.history tree.new)
         (T.counts tree.old) (T.counts tree.new) result }
 {
@@ -70,10 +81,13 @@ pub(crate) fn read_databases<T: Tree>(
     alloc: Global,
     tree: &mut T,
 ) -> Result<(Option<Vec<u8>>, Option<Vec<u8>>), Refused>
+    // The database stands there, where the tree shows its files.
     ensures database { IfOk result (λ found.
         StandsAt (T.history tree.old) database_name (bytes_in found.0)) }
+    // So does the text database, which counts only where there is no other.
     ensures text_database { IfOk result (λ found. bytes_in found.0 ≡ None
         → StandsAt (T.history tree.old) text_database_name (bytes_in found.1)) }
+    // Nothing is refused here.
     ensures failed { IfErr result IsFailure }
     ensures tree { OnlyReads Refused.Disk (T.history tree.old) (T.history tree.new)
         (T.counts tree.old) (T.counts tree.new) result }
@@ -126,8 +140,10 @@ pub(crate) fn read_file<T: Tree>(
     tree: &mut T,
     name: &Name,
 ) -> Result<Option<Vec<u8>>, Refused>
+    // It stands there, where the tree shows its files.
     ensures found { IfOk result (λ found.
         StandsAt (T.history tree.old) name.now (bytes_in found)) }
+    // Nothing is refused here.
     ensures failed { IfErr result IsFailure }
     ensures tree { OnlyReads Refused.Disk (T.history tree.old) (T.history tree.new)
         (T.counts tree.old) (T.counts tree.new) result }
@@ -137,8 +153,10 @@ pub(crate) fn read_file<T: Tree>(
 
 /// Makes all tests of a file as a container with this table at its root.
 pub(crate) fn test_file(alloc: Global, file: &[u8], which: Which) -> Result<(), ReadFault>
+    // What is refused is the first test that the file fails.
     ensures bad { IfErr result (λ fault. IsReadFault fault (first_fault which file.now)) }
     ensures passed { OnOk result (first_fault which file.now ≡ None) }
+    // Then its payload passes the tests of a payload too.
     ensures sound { OnOk result (payload_fault which (payload_in file.now) ≡ None) }
 {
     read_adb(alloc, file, which)?;
@@ -163,7 +181,7 @@ pub(crate) fn payload_in(file: &[u8]) -> &[u8]
 /// Why a command does not come to its end.
 #[derive(Drop)]
 pub enum Refused {
-    /// It is refused.
+    /// The command is refused.
     Refusal(Refusal),
     /// The tree failed.
     Disk,
@@ -175,8 +193,10 @@ impl From<AllocError> for Refused {
     ghost use Rattle.std.specs.Prelude.{◌≡◌};
     ghost use Rattle.change_inputs.specs.declared.root.Refused.TheVariants.{Memory};
 
+    // What becomes of it, as a caller that uses `?` sees it.
     ghost from_gives = { λ _ refused. refused ≡ Memory };
 
+    // Want of memory, as a command tells it.
     fn from(_: AllocError) -> Refused {
         Refused::Memory
     }
@@ -185,8 +205,10 @@ impl From<AllocError> for Refused {
 impl From<TreeFault> for Refused {
     ghost use Rattle.change_inputs.specs.Faults.{IsRefusedOf};
 
+    // What becomes of it, as a caller that uses `?` sees it.
     ghost from_gives = { λ fault refused. IsRefusedOf fault refused };
 
+    // A fault of the tree, as a command tells it.
     fn from(fault: TreeFault) -> Refused {
         match fault {
             TreeFault::Disk => Refused::Disk,

@@ -1,4 +1,5 @@
-//! World before a command, and the one that the command asks for (apk-world(5)).
+//! World before a command, and the one that the command asks for. The rules stand in
+//! `docs/formats.md`, "World", and in `docs/commands.md`, "`add` and `del`".
 ghost use Rattle.base_core.specs.Read.{bytes_in};
 ghost use Rattle.change_inputs.specs.Answers.{Agrees};
 ghost use Rattle.change_inputs.specs.World.{new_world, root_world, text_found, world_with_operand, world_with_operands, world_without_operands};
@@ -31,9 +32,12 @@ pub(crate) fn worlds_of(
     command: &Command,
     found: Option<Vec<u8>>,
 ) -> Result<Worlds, Refused>
+    // World before the command is that of the file, or its first bad line is refused.
     ensures read { Agrees (λ worlds. worlds.before) result
         (root_world (text_found (bytes_in found))) }
+    // The file's text is kept, by which a change tells whether world differs.
     ensures text { IfOk result (λ worlds. worlds.text.items ≡ text_found (bytes_in found)) }
+    // World after is what the command makes of it.
     ensures after { IfOk result (λ worlds.
         worlds.after ≡ new_world command.now.applet command.now.operands worlds.before) }
 {
@@ -48,7 +52,7 @@ pub(crate) fn worlds_of(
     })
 }
 
-/// The bytes of a file; one that is absent counts as empty.
+/// The bytes of world's file or of the repositories'; one that is absent counts as empty.
 pub(crate) fn text_found(alloc: Global, found: Option<Vec<u8>>) -> Vec<u8>
     ensures { result.items ≡ text_found (bytes_in found) }
 {
@@ -58,7 +62,7 @@ pub(crate) fn text_found(alloc: Global, found: Option<Vec<u8>>) -> Vec<u8>
     }
 }
 
-// World as a text says it.
+// World as a text says it, or its first bad line.
 fn read_world(alloc: Global, text: &[u8]) -> Result<World, Refused>
     ensures { Agrees (λ world. world) result (root_world text.now) }
 {
@@ -69,7 +73,7 @@ fn read_world(alloc: Global, text: &[u8]) -> Result<World, Refused>
     }
 }
 
-// Makes of world what a command asks for.
+// Makes of world what a command asks for: `add` puts its operands in, `del` takes theirs out.
 fn change_world(command: &Command, world: &mut World) -> Result<(), AllocError>
     ensures { OnOk result
         (world.new ≡ new_world command.now.applet command.now.operands world.old) }
@@ -84,7 +88,7 @@ fn change_world(command: &Command, world: &mut World) -> Result<(), AllocError>
     }
 }
 
-// Puts each operand in.
+// Puts each operand of `add` in, in their order.
 fn add_operands(operands: &Operands, world: &mut World) -> Result<(), AllocError>
     ensures { OnOk result (world.new ≡ world_with_operands operands.now world.old) }
 {
@@ -94,7 +98,8 @@ fn add_operands(operands: &Operands, world: &mut World) -> Result<(), AllocError
     Ok(())
 }
 
-// Puts an operand in.
+// Puts an operand in, in place of the entry of its name. Each operand of `add` is a dependency, as
+// the grammar of words has it.
 fn add_operand(operand: &Operand, world: &mut World) -> Result<(), AllocError>
     ensures { OnOk result (world.new ≡ world_with_operand operand.now world.old) }
 {
@@ -104,7 +109,7 @@ fn add_operand(operand: &Operand, world: &mut World) -> Result<(), AllocError>
     }
 }
 
-// Takes each operand's name out.
+// Takes the name of each operand of `del` out.
 fn take_operands(operands: &Operands, world: &mut World)
     ensures { world.new ≡ world_without_operands operands.now world.old }
 {

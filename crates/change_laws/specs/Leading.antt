@@ -1,11 +1,14 @@
--- What is staged for a change, and where its actions lead.
+-- What is staged for a change, and where its actions lead. Serves the law
+-- `actions_lead_to_given_files`; the rules stand in `docs/crash-safety.md`,
+-- "A change of several files".
 use Rattle.std.specs.Prelude.{◌≡◌, ℕ, ◌<◌, ◌^◌, List, length, None, IsSome}
 use Rattle.base_core.specs.Files.{Files}
 use Rattle.journal_core.specs.Staged.{IsEmptyStage}
 use Rattle.journal_intent.specs.FreeNames.{HasFreeNames, IsNoneOf, IsOneOf}
 use Rattle.journal_intent.specs.IntentValue.{intent_of_lists}
 
--- where these names are removed and written, and the others stay, the files are these
+-- where these names are removed and written, and the others stay, the files are `after`; the names
+-- are free, nothing waits before, and there are fewer writes than 2^63
 pub record LeadsTo (removals writes : List (List ℕ)) (files after : Files) : Type 0 where
   pub free : HasFreeNames (intent_of_lists removals writes)
   pub few : length writes < 2 ^ 63

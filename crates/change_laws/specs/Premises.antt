@@ -1,4 +1,6 @@
--- What laws ask of a change and of what it reads.
+-- What laws ask of a change and of what it reads. The premises are listed in the README of this
+-- crate; that a database has no reserved name stands in `docs/formats.md`, "Tests of a container",
+-- "The texts", field 401.
 use Rattle.std.specs.Prelude.{◌≡◌, All, false, None}
 use Rattle.adb_rules.specs.Reserved.{is_reserved}
 use Rattle.base_core.specs.Files.{Files}

@@ -1,4 +1,5 @@
-//! What follows from the definitions of a change.
+//! What follows from the definitions of a change. The rules stand in `docs/commands.md`,
+//! "`add` and `del`", and in `docs/crash-safety.md`, "A change of several files".
 
 ghost use Rattle.std.specs.Prelude.{◌≡◌, ◌<◌, ◌^◌, ◌++◌, ℕ, false, List, All, None, Ok, Option, length, map};
 ghost use Rattle.base_core.specs.Files.{Files, IsWithin};
@@ -66,10 +67,12 @@ pub fn the_names_of_a_change_may_be_changed()
 
 /// A change that removes and writes nothing leaves the files as they are.
 pub fn a_change_that_writes_nothing_leaves_the_files()
+    // Of the files of its definition.
     ensures actions { (inputs : Inputs) (change : FileChange) (bytes_of : Listing → List ℕ)
         (database : List ℕ) (files : Files) → IsRootOfFiles files inputs.root
         → does_something (actions_of inputs change files (new_records inputs database)) ≡ false
         → changed_files change bytes_of (new_records inputs database) files ≡ files }
+    // Of what the change comes to.
     ensures done { (inputs : Inputs) (r : Replacement) (wishes : ChangeWishes) (read : Reads)
         (clash : Option NamePair) (files : Files) (done : ChangeDone)
         → change_or_refusal inputs r wishes read clash files ≡ Ok done
@@ -103,10 +106,12 @@ pub fn a_change_keeps_room()
 
 /// A change has one first clash of names, or none, over files under finitely many names.
 pub fn a_change_has_a_first_clash_or_none()
+    // There is no second one.
     ensures one { (inputs : Inputs) (r : Replacement) (wishes : ChangeWishes) (read : Reads)
         (files : Files) (a b : Option NamePair)
         → IsClashOfChange inputs r wishes read files a
         → IsClashOfChange inputs r wishes read files b → a ≡ b }
+    // There is one, where something can be asked of all names.
     ensures exists { (inputs : Inputs) (r : Replacement) (wishes : ChangeWishes) (read : Reads)
         (within : List (List ℕ)) (files : Files) → IsWithin within files
         → (clash : Option NamePair) × IsClashOfChange inputs r wishes read files clash }

@@ -3,7 +3,8 @@
 //! have, that it leaves room for the next one, and that it has one first clash of names.
 //!
 //! The functions are laws. They cite `Premises` (what they ask of a change) and `Made` (what is
-//! known of one that nothing refuses) of `specs/`, and the definitions of `change_outcome`.
+//! known of one that nothing refuses) of `specs/`, and the definitions of `change_outcome`. The
+//! rules are those of `docs/commands.md`, "What a change does with files" and "`add` and `del`".
 #![tactic(auto)]
 
 mod laws;

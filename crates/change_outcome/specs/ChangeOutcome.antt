@@ -1,4 +1,6 @@
--- What a command that changes the installed packages comes to.
+-- What a command that changes the installed packages comes to. The rules stand in
+-- `docs/commands.md`, "`add` and `del`": what is refused, in this order, what is written, and what
+-- is reported.
 use Rattle.std.specs.Prelude.{◌≡◌, ℕ, ◌==◌, Bool, true, false, not, ◌||◌, List, [], ◌∷◌, ◌++◌, length, map, sum_by, Option, Some, None, Result, Ok, Err, bytes_eq, slice_get, unwrap_or}
 use Rattle.std.specs.Option.{option_map_or}
 use Rattle.adb_tables.specs.FieldIndexes.{INFO_INSTALLED_SIZE, PACKAGE_INFO}
@@ -30,8 +32,8 @@ use Rattle.change_outcome.specs.ConfigurationLines.{configuration_lines}
 use Rattle.change_outcome.specs.MembersAfter.{MemberFound, contents_found, members_after, members_found}
 use Rattle.change_outcome.specs.Triggers.{trigger_lines, unless_trigger}
 
--- what the command says of a change: whether changed configuration goes too, whether scripts are
--- left out, and the names that were to go
+-- what a command says of a change beside its world: whether changed configuration goes too
+-- (`--purge`), whether scripts are left out (`--no-scripts`), and the names that were to go
 pub record ChangeWishes : Type 0 where
   pub purge : Bool
   pub no_scripts : Bool
@@ -47,12 +49,12 @@ file_change inputs wishes found = record {
   purge = wishes.purge;
 }
 
--- the first test of a change that fails refuses it
+-- what comes next, unless a package that comes lists a reserved path, which refuses the change
 abbrev pub unless_reserved_path : {A : Type 0} → Option (List ℕ) → Result A Refusal → Result A Refusal
 unless_reserved_path None next = next
 unless_reserved_path (Some path) next = Err (Reserved path)
 
--- no name after the change is a folder of another
+-- what comes next, unless a name after the change is a folder of another
 abbrev pub unless_clash : {A : Type 0} → Option NamePair → Result A Refusal → Result A Refusal
 unless_clash None next = next
 unless_clash (Some pair) next = Err (PathClash pair.path pair.other)
@@ -61,7 +63,7 @@ unless_clash (Some pair) next = Err (PathClash pair.path pair.other)
 abbrev pub name_at_place : List Member → ℕ → List ℕ
 name_at_place members place = option_map_or member_name (slice_get members place) []
 
--- each path has an owner; the refusal names two packages that list it
+-- what comes next, unless a path has no owner; the refusal names two packages that list it
 abbrev pub unless_contested :
     {A : Type 0} → List Member → Option ContestedPath → Result A Refusal → Result A Refusal
 unless_contested members None next = next
@@ -71,17 +73,17 @@ unless_contested members (Some c) next =
 
 -- ---- the database and world
 
--- a value that a payload has no room for is refused with its two counts
+-- a value, unless a payload has no room for it, which is refused with its two counts
 abbrev pub unless_large : {A : Type 0} → Result A PayloadCounts → Result A Refusal
 unless_large (Ok a) = Ok a
 unless_large (Err counts) = Err (ResultTooLarge counts.0 counts.1)
 
--- the same, by the counts alone
+-- *unless_large* of a value, by the counts alone
 abbrev pub unless_overflow : {A : Type 0} → Option PayloadCounts → A → Result A Refusal
 unless_overflow None a = Ok a
 unless_overflow (Some counts) a = Err (ResultTooLarge counts.0 counts.1)
 
--- a file that is absent or has other bytes is written
+-- whether a file is absent or has other bytes, so that these are written
 abbrev pub is_other_file : Option (List ℕ) → List ℕ → Bool
 is_other_file None bytes = true
 is_other_file (Some old) bytes = not (bytes_eq old bytes)
@@ -94,12 +96,13 @@ new_records inputs database = record {
   takes_text_over = inputs.root.database.from_text;
 }
 
--- a file of the root, where it has to be written
+-- the name of a file of the root, in a list, where it has to be written or removed
 abbrev pub name_if_needed : Bool → List ℕ → List (List ℕ)
 name_if_needed true name = name ∷ []
 name_if_needed false name = []
 
--- world is written where its text differs, and an absent file counts as empty
+-- the names of the database and of world, each where it is written: world where its text differs,
+-- and an absent file counts as empty
 abbrev pub written_records : Inputs → Records → List (List ℕ)
 written_records inputs records =
     name_if_needed (is_other_file inputs.root.database.file records.database) database_name
@@ -107,7 +110,7 @@ written_records inputs records =
 
 -- ---- what is done, as two lists of names in byte order
 
--- the names that a change removes, and those that it writes
+-- the names that a change removes, and those that it writes, each in byte order
 pub record Actions : Type 0 where
   pub removals : List (List ℕ)
   pub writes : List (List ℕ)
@@ -122,26 +125,27 @@ actions_of inputs change files records = record {
       ++ written_records inputs records);
 }
 
--- the bytes of a file, or none. What is staged for each write are those that the files afterwards
+-- The bytes of a file, or none. What is staged for each write are those that the files afterwards
 -- have under its name.
 abbrev pub bytes_under : Files → List ℕ → List ℕ
 bytes_under files name = unwrap_or (files name) []
 
--- a change without actions writes nothing, not even an intent
+-- whether a change has actions; one without them writes nothing, not even an intent
 abbrev pub does_something : Actions → Bool
 does_something actions = not (length actions.removals == 0) || not (length actions.writes == 0)
 
 -- ---- the report
 
--- the size that a package has when it is installed
+-- the bytes that a package takes when it is installed, as its information says
 abbrev pub member_size : Member → ℕ
 member_size m = int_in (entry_in (entry_in m.pkg PACKAGE_INFO) INFO_INSTALLED_SIZE)
 
--- the last line of a report
+-- the last line of a report: how many bytes and packages are installed
 abbrev pub member_sum_line : List Member → List ℕ
 member_sum_line members = report_line (sum_text (sum_by member_size members) (length members))
 
--- the files whose folders may have a trigger: those that packages have written and removed
+-- the files whose folders may have a trigger: those of packages that a change has written and
+-- removed
 abbrev pub touched_paths : FileChange → Files → List (List ℕ)
 touched_paths change files = map (λ w. w.name) (file_writes_of change files) ++ removals_of change files
 
@@ -160,7 +164,7 @@ pub record ChangeDone : Type 0 where
   pub files : Files
   pub commits : Bool
 
--- the report, and the files that the change leaves
+-- what a change comes to that is made: the report, and the files that it leaves
 abbrev pub change_done :
     Inputs → Replacement → ChangeWishes → List MemberFound → Files → Records → ChangeDone
 change_done inputs r wishes found files records =
@@ -171,7 +175,8 @@ change_done inputs r wishes found files records =
       commits = does_something (actions_of inputs change files records);
     }
 
--- no limit of the writer is passed, first by the database and then by the intent
+-- a change that is made, unless a limit of the writer is passed, first by the database and then by
+-- the intent
 abbrev pub unless_too_large :
     Inputs → Replacement → ChangeWishes → List MemberFound → Files → Result ChangeDone Refusal
 unless_too_large inputs r wishes found files =
@@ -183,7 +188,8 @@ unless_too_large inputs r wishes found files =
     (overflow_of (value_of_intent (intent_of_lists actions.removals actions.writes)))
     (change_done inputs r wishes found files records))
 
--- by the packages after the change, and the first clash of its names, if there is one
+-- a change by the packages after it, and by the first clash of its names, if there is one: each
+-- test in its order
 abbrev pub change_with_members :
     Inputs → Replacement → ChangeWishes → Option NamePair → Files → List MemberFound
     → Result ChangeDone Refusal
@@ -195,13 +201,14 @@ change_with_members inputs r wishes clash files found =
     (and_then (unless_trigger wishes.no_scripts (touched_paths change files) change.members)
     (λ is_allowed. unless_too_large inputs r wishes found files))))
 
--- the packages after it, or the first refusal of one
+-- the packages after a change, or the first refusal of one
 abbrev pub change_members :
     Inputs → Replacement → ChangeWishes → Reads → Result (List MemberFound) Refusal
 change_members inputs r wishes read =
     members_after r read inputs.root.repositories wishes.no_scripts
 
--- A selection takes the place of the packages before: the change, or its first refusal.
+-- A selection takes the place of the packages before: what the change comes to, or its first
+-- refusal.
 unfoldable pub change_or_refusal :
     Inputs → Replacement → ChangeWishes → Reads → Option NamePair → Files
     → Result ChangeDone Refusal
@@ -211,9 +218,9 @@ change_or_refusal inputs r wishes read clash files =
 
 -- ---- the first clash
 
--- It is the first clash of the names after the change, where the packages after it are found; else
--- nothing is asked, and there is none. By these files configuration is kept or a file is laid beside
--- it, and among the standing ones names clash.
+-- The first clash of the names after a change, where the packages after it are found; else nothing
+-- is asked, and there is none. By `files` configuration is kept or a file is laid beside it, and
+-- among the `standing` ones names clash.
 abbrev pub IsClashFoundOver :
     Inputs → ChangeWishes → Files → Files → Result (List MemberFound) Refusal → Option NamePair
     → Type 0
@@ -221,19 +228,19 @@ IsClashFoundOver inputs wishes files standing (Ok found) clash =
     IsClashOf (name_change (file_change inputs wishes found) files) standing clash
 IsClashFoundOver inputs wishes files standing (Err refusal) clash = clash ≡ None
 
--- by the packages that the reads find
+-- *IsClashFoundOver* by the packages that the reads find
 abbrev pub IsClashOfChangeOver :
     Inputs → Replacement → ChangeWishes → Reads → Files → Files → Option NamePair → Type 0
 IsClashOfChangeOver inputs r wishes read files standing clash =
     IsClashFoundOver inputs wishes files standing (change_members inputs r wishes read) clash
 
--- both are the same files
+-- *IsClashFoundOver* where both are the same files, as on a tree that shows its files
 abbrev pub IsClashFound :
     Inputs → ChangeWishes → Files → Result (List MemberFound) Refusal → Option NamePair → Type 0
 IsClashFound inputs wishes files members clash =
     IsClashFoundOver inputs wishes files files members clash
 
--- both are the same files
+-- *IsClashOfChangeOver* where both are the same files
 abbrev pub IsClashOfChange :
     Inputs → Replacement → ChangeWishes → Reads → Files → Option NamePair → Type 0
 IsClashOfChange inputs r wishes read files clash =

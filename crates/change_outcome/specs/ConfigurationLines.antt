@@ -1,4 +1,5 @@
--- What is told of configuration that the user changed.
+-- What is told of configuration that the user changed. The lines stand in `docs/commands.md`,
+-- "`add` and `del`", what is reported.
 use Rattle.std.specs.Prelude.{ℕ, List, ◌++◌, map, codes}
 use Rattle.std.specs.List.{flat_map}
 use Rattle.std.specs.Ordering.{on}
@@ -8,12 +9,12 @@ use Rattle.list_order.specs.ByteOrder.{bytes_cmp}
 use Rattle.list_order.specs.Sorted.{sorted_by}
 use Rattle.report_core.specs.Reports.{report_line}
 
--- the new file is laid beside it
+-- the line that tells that a new file is laid beside the user's
 abbrev pub aside_line : List ℕ → List ℕ
 aside_line path =
     report_line (aside_name path ++ codes " installed; " ++ path ++ codes " was changed")
 
--- it stays though its package is gone
+-- the line that tells that the user's file stays though its package is gone
 abbrev pub kept_line : List ℕ → List ℕ
 kept_line path = report_line (path ++ codes " kept; it was changed")
 
@@ -26,11 +27,12 @@ pub record PathLine : Type 0 where
 abbrev pub path_line : (List ℕ → List ℕ) → List ℕ → PathLine
 path_line line_of path = record { path = path; line = line_of path }
 
--- by path
+-- the order of lines on configuration: by path
 abbrev pub path_line_cmp : PathLine → PathLine → Ordering
 path_line_cmp = on (λ l. l.path) bytes_cmp
 
--- a line for each path of both lists, in byte order of the paths
+-- the lines on configuration, in byte order of the paths: one for each path beside which a file is
+-- laid, and one for each at which the user's file stays
 unfoldable pub configuration_lines : List (List ℕ) → List (List ℕ) → List ℕ
 configuration_lines aside kept = flat_map (λ l. l.line)
     (sorted_by path_line_cmp (map (path_line aside_line) aside ++ map (path_line kept_line) kept))

@@ -1,4 +1,6 @@
--- The packages after a change, name by name.
+-- The packages after a change, name by name. The rules stand in `docs/commands.md`,
+-- "`add` and `del`": what is read of the packages that come, and how they are refused, package by
+-- package.
 use Rattle.std.specs.Prelude.{ℕ, suc, ◌+◌, Bool, List, [], ◌∷◌, length, map, Option, Some, None, Result, Ok, is_some, option_map, slice_get}
 use Rattle.std.specs.Option.{option_map_or}
 use Rattle.std.specs.List.{cons_option, filter, find}
@@ -29,13 +31,14 @@ staying_found pkg = record { member = staying_member pkg; contents = [] }
 abbrev pub coming_found : ComingPackage → MemberFound
 coming_found pkg = record { member = coming_member pkg.value pkg.id; contents = pkg.contents }
 
--- by what a read finds under the name of its file, if it has one
+-- the package of a candidate that comes, by what a read finds under the name of its file, if it has
+-- one
 abbrev pub coming_by_path :
     Reads → ℕ → Candidate → Option (List ℕ) → Result ComingPackage Refusal
 coming_by_path read n c None = package_found c None
 coming_by_path read n c (Some path) = package_found c (read n path)
 
--- a candidate that comes; its file is the read with this number
+-- the member of a candidate that comes, whose file is the read with this number, or its refusal
 abbrev pub name_that_comes :
     Reads → List Repository → Bool → ℕ → List ℕ → Change → Candidate
     → Result (Option MemberFound) Refusal
@@ -43,15 +46,16 @@ name_that_comes read repositories no_scripts n name change c =
     and_then (coming_by_path read n c (package_file_of repositories c)) (λ pkg.
     unless_script no_scripts name pkg.value (scripts_of_change change) (Some (coming_found pkg)))
 
--- a package that goes is no member any more; its scripts may refuse that
+-- what becomes of a package that goes: it is no member any more, unless a script of its refuses
+-- that
 abbrev pub name_that_goes :
     Bool → List ℕ → Change → Option Plain → Result (Option MemberFound) Refusal
 name_that_goes no_scripts name change None = Ok None
 name_that_goes no_scripts name change (Some pkg) =
     unless_script no_scripts name pkg (scripts_of_change change) None
 
--- a name with a selected candidate is that of a package that comes, each other one that of one that
--- goes
+-- what a name that changes comes to: one with a selected candidate is that of a package that comes,
+-- each other one that of one that goes
 abbrev pub name_by_selected :
     Reads → List Repository → Bool → ℕ → List ℕ → Change → Option Plain → Option Candidate
     → Result (Option MemberFound) Refusal
@@ -60,7 +64,8 @@ name_by_selected read repositories no_scripts n name change before None =
 name_by_selected read repositories no_scripts n name change before (Some c) =
     name_that_comes read repositories no_scripts n name change c
 
--- what a name comes to, a package or none
+-- what a name comes to, a member or none, by what becomes of its package; where nothing does, the
+-- package stays
 abbrev pub name_by_change :
     Reads → List Repository → Bool → ℕ → List ℕ → Option Change → Option Plain
     → Option Candidate → Result (Option MemberFound) Refusal
@@ -69,7 +74,8 @@ name_by_change read repositories no_scripts n name None before selected =
 name_by_change read repositories no_scripts n name (Some change) before selected =
     name_by_selected read repositories no_scripts n name change before selected
 
--- a package that changes is as its file has it, one that does not is as before
+-- what a name comes to after a change: a package that changes is as its file has it, one that does
+-- not is as before
 abbrev pub name_after :
     Replacement → Reads → List Repository → Bool → ℕ → List ℕ
     → Result (Option MemberFound) Refusal
@@ -77,8 +83,8 @@ name_after r read repositories no_scripts n name =
     name_by_change read repositories no_scripts n name (change_of_name r name)
     (find (is_package_named name) r.before) (find (is_selected_named name) r.selected)
 
--- of names in byte order, or the first refusal; each name has a number for a read, and that of the
--- first of these names is this one
+-- what names in byte order come to, or the first refusal; each name has a number for a read, and
+-- that of the first of these names is this one
 abbrev pub names_after :
     Replacement → Reads → List Repository → Bool → ℕ → List (List ℕ)
     → Result (List MemberFound) Refusal
@@ -95,7 +101,7 @@ members_after r read repositories no_scripts =
     names_after r read repositories no_scripts (first_index_read + length repositories)
     (names_on_both_sides r)
 
--- the packages themselves
+-- the members alone of the packages that are found
 abbrev pub members_found : List MemberFound → List Member
 members_found found = map (λ m. m.member) found
 

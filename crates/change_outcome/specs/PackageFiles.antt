@@ -1,4 +1,6 @@
--- The files of the packages that come with a change, and why one of them is refused.
+-- The files of the packages that come with a change, and why one of them is refused. The rules
+-- stand in `docs/commands.md`, "`add` and `del`", what is read and refused; of scripts in
+-- "`mkpkg`", TYPE of `-s`, and their numbers in `docs/formats.md`, "Schemas", table 6.
 use Rattle.std.specs.Prelude.{ℕ, ◌==◌, ◌-◌, Bool, true, false, not, if◌then◌else◌, List, [], ◌∷◌, ◌++◌, length, codes, Option, Some, None, Result, Ok, Err, bytes_eq, slice_get}
 use Rattle.std.specs.List.{list_any}
 use Rattle.adb_schema.specs.Soundness.{payload_in, root_value}
@@ -21,31 +23,32 @@ use Rattle.report_core.specs.declared.refusal.Refusal.TheVariants.{PackageBad, P
 
 -- ---- where it lies
 
--- whether a path has a folder above it
+-- whether a path has a folder above it: a `/`, which is byte 47
 abbrev pub has_slash : List ℕ → Bool
 has_slash path = list_any (λ b. b == 47) path
 
--- a path up to its last slash, with it
+-- the folder of a path: its bytes up to the last slash, with it
 abbrev pub folder_prefix : List ℕ → List ℕ
 folder_prefix [] = []
 folder_prefix (b ∷ bytes) = if has_slash (b ∷ bytes) then b ∷ folder_prefix bytes else []
 
--- NAME-VERSION.apk, beside the index
+-- the path of a package's file: NAME-VERSION.apk, beside the index
 abbrev pub package_path : List ℕ → List ℕ → List ℕ → List ℕ
 package_path index name version =
     folder_prefix index ++ name_version name version ++ codes ".apk"
 
--- a path of more than 1,024 bytes, for one, is no name, and no file stands there
+-- a path, if it is a name: one of more than 1,024 bytes, for one, is none, and no file stands there
 abbrev pub if_name : List ℕ → Option (List ℕ)
 if_name path = if is_name path then Some path else None
 
--- in the folder of the repository's index; None where there is no such repository
+-- the name of a package's file in the folder of the repository's index; None where there is no such
+-- repository
 abbrev pub path_beside_index : List ℕ → List ℕ → Option Repository → Option (List ℕ)
 path_beside_index name version None = None
 path_beside_index name version (Some repository) =
     if_name (package_path repository.path name version)
 
--- Repositories count from 1. A package of none has no file.
+-- The name of a candidate's file. Repositories count from 1. A package of none has no file.
 abbrev pub package_file_of : List Repository → Candidate → Option (List ℕ)
 package_file_of repositories c = by_number c.repository
   where
@@ -56,7 +59,7 @@ package_file_of repositories c = by_number c.repository
 
 -- ---- what it has to be
 
--- a package that comes: its value, its identity, and the contents of its files
+-- a package that comes, as its file has it: its value, its identity, and the contents of its files
 pub record ComingPackage : Type 0 where
   pub value : Plain
   pub id : List ℕ
@@ -70,19 +73,21 @@ package_in_file file = record {
   contents = contents_in (files_in_file file);
 }
 
--- the numbers of the fields that have to agree with the index
+-- the number of a name in the table of package information (table 3); it, version and id have to
+-- agree with the index
 abbrev pub name_field : ℕ
 name_field = 1
 
--- of the version
+-- the number of the version in that table
 abbrev pub version_field : ℕ
 version_field = 2
 
--- of the hash, which is the id
+-- the number of the hash in that table, which is the id
 abbrev pub id_field : ℕ
 id_field = 3
 
--- first its identity, then its name, then its version is the candidate's
+-- a package, unless it is not the candidate's: first its identity is compared, then its name, then
+-- its version
 abbrev pub unless_different : Candidate → ComingPackage → Result ComingPackage Refusal
 unless_different c pkg =
     if not (is_same_id c.id pkg.id)
@@ -100,14 +105,14 @@ abbrev pub unless_package_bad :
 unless_package_bad c None pkg = unless_different c pkg
 unless_package_bad c (Some cause) pkg = Err (PackageBad c.name (selected_version c) cause)
 
--- by what is found under the name of its file
+-- the package of a candidate, by what is found under the name of its file, or why it is refused
 abbrev pub package_found : Candidate → Option (List ℕ) → Result ComingPackage Refusal
 package_found c None = Err (PackageMissing c.name (selected_version c))
 package_found c (Some file) = unless_package_bad c (package_fault file) (package_in_file file)
 
 -- ---- scripts
 
--- the script with this number, or no bytes
+-- the script of a package with this number in the table of scripts, which count from 1, or no bytes
 abbrev pub script_of : Plain → ℕ → List ℕ
 script_of pkg number = text_in (entry_in (entry_in pkg PACKAGE_SCRIPTS) (number - 1))
 
@@ -121,19 +126,19 @@ first_script_of pkg [] = None
 first_script_of pkg (number ∷ numbers) =
     if has_script_of pkg number then Some number else first_script_of pkg numbers
 
--- the numbers of the scripts in their table
+-- the number of the trigger script in the table of scripts (table 6)
 abbrev pub trigger_script : ℕ
 trigger_script = 1
 
--- pre-install and post-install
+-- the numbers of pre-install and post-install
 abbrev pub install_scripts : List ℕ
 install_scripts = 2 ∷ 3 ∷ []
 
--- pre-deinstall and post-deinstall
+-- the numbers of pre-deinstall and post-deinstall
 abbrev pub deinstall_scripts : List ℕ
 deinstall_scripts = 4 ∷ 5 ∷ []
 
--- pre-upgrade and post-upgrade
+-- the numbers of pre-upgrade and post-upgrade
 abbrev pub upgrade_scripts : List ℕ
 upgrade_scripts = 6 ∷ 7 ∷ []
 
@@ -146,12 +151,13 @@ scripts_of_change (Upgrade name old new) = upgrade_scripts
 scripts_of_change (Downgrade name old new) = upgrade_scripts
 scripts_of_change (Replace name old new) = upgrade_scripts
 
--- a script that would have to run refuses the change
+-- a value, unless a script would have to run, which refuses the change
 abbrev pub unless_number : {A : Type 0} → List ℕ → Option ℕ → A → Result A Refusal
 unless_number name None a = Ok a
 unless_number name (Some number) a = Err (ScriptNeeded name number)
 
--- none of these scripts of a package would run, or there is leave not to run them
+-- a value, unless one of these scripts of a package would have to run and there is no leave to
+-- leave it out
 abbrev pub unless_script :
     {A : Type 0} → Bool → List ℕ → Plain → List ℕ → A → Result A Refusal
 unless_script true name pkg numbers a = Ok a

@@ -1,4 +1,5 @@
--- The triggers that a change makes due.
+-- The triggers that a change makes due. The rules stand in `docs/commands.md`, "`add` and `del`",
+-- which triggers are due; the line under what is reported.
 use Rattle.std.specs.Prelude.{ℕ, ◌==◌, Bool, true, false, ◌&&◌, if◌then◌else◌, List, [], ◌∷◌, length, map, codes, Result, Ok, Err, bytes_eq}
 use Rattle.std.specs.List.{filter, flat_map, list_any}
 use Rattle.base_core.specs.Name.{parts_of}
@@ -22,19 +23,20 @@ abbrev pub suffixes_of : List ℕ → List (List ℕ)
 suffixes_of [] = [] ∷ []
 suffixes_of (b ∷ bytes) = (b ∷ bytes) ∷ suffixes_of bytes
 
--- this byte, and then what is left
+-- whether bytes are this byte, and then what is asked of the rest
 abbrev pub is_byte_then : ℕ → (List ℕ → Bool) → List ℕ → Bool
 is_byte_then p is_rest [] = false
 is_byte_then p is_rest (b ∷ bytes) = (p == b) && is_rest bytes
 
--- a `*` (42) of the pattern stands for any bytes
+-- whether a part of a pattern matches a part of a folder; a `*` (byte 42) of the pattern stands for
+-- any bytes
 abbrev pub is_part_matched : List ℕ → List ℕ → Bool
 is_part_matched [] bytes = length bytes == 0
 is_part_matched (p ∷ pattern) bytes =
     if p == 42 then list_any (is_part_matched pattern) (suffixes_of bytes)
     else is_byte_then p (is_part_matched pattern) bytes
 
--- part by part, and of as many parts
+-- whether the parts of a pattern match those of a folder, part by part, and of as many parts
 abbrev pub are_parts_matched : List (List ℕ) → List (List ℕ) → Bool
 are_parts_matched [] [] = true
 are_parts_matched [] (part ∷ parts) = false
@@ -42,24 +44,25 @@ are_parts_matched (p ∷ patterns) [] = false
 are_parts_matched (p ∷ patterns) (part ∷ parts) =
     is_part_matched p part && are_parts_matched patterns parts
 
--- One leading `/` of a pattern is dropped. The root folder, which has the empty name, is matched by
--- the pattern `/` alone.
+-- Whether a pattern matches a folder. One leading `/` of a pattern is dropped. The root folder,
+-- which has the empty name, is matched by the pattern `/` alone.
 unfoldable pub is_folder_matched : List ℕ → List ℕ → Bool
 is_folder_matched folder pattern =
     if length folder == 0 then bytes_eq pattern (codes "/")
     else are_parts_matched (parts_of (without_slash pattern)) (parts_of folder)
 
--- the folders that a package watches
+-- the patterns of the folders that a package watches
 abbrev pub patterns_of : Plain → List (List ℕ)
 patterns_of pkg = map text_in (entries_at PACKAGE_TRIGGERS pkg)
 
 -- ---- what is due
 
--- one of the package's patterns matches the folder
+-- whether one of the package's patterns matches the folder
 abbrev pub is_watched : Plain → List ℕ → Bool
 is_watched pkg folder = list_any (is_folder_matched folder) (patterns_of pkg)
 
--- a package that watches the folder has a trigger script
+-- whether the trigger of a package is due for a folder: it watches the folder and has a trigger
+-- script
 abbrev pub is_due : Plain → List ℕ → Bool
 is_due pkg folder = has_script_of pkg trigger_script && is_watched pkg folder
 
@@ -75,7 +78,8 @@ due_line pkg folder = report_line (trigger_text (package_name pkg) folder)
 abbrev pub due_lines : List (List ℕ) → Plain → List ℕ
 due_lines folders pkg = flat_map (due_line pkg) (filter (is_due pkg) folders)
 
--- of the packages after a change that writes and removes files with these paths, in their order
+-- the lines on triggers of the packages after a change that writes and removes files with these
+-- paths, in their order
 unfoldable pub trigger_lines : List (List ℕ) → List Member → List ℕ
 trigger_lines paths members = flat_map (λ m. due_lines (folders_of_paths paths) m.pkg) members
 
@@ -83,7 +87,8 @@ trigger_lines paths members = flat_map (λ m. due_lines (folders_of_paths paths)
 abbrev pub has_due_trigger : List (List ℕ) → Plain → Bool
 has_due_trigger folders pkg = list_any (is_due pkg) folders
 
--- no trigger is due, or there is leave not to run it
+-- the answer true, unless a trigger is due and there is no leave to leave it out, which refuses the
+-- change
 abbrev pub unless_trigger : Bool → List (List ℕ) → List Member → Result Bool Refusal
 unless_trigger true paths members = Ok true
 unless_trigger false paths [] = Ok true

@@ -1,4 +1,5 @@
-//! What a command that changes the installed packages answers, prints and leaves.
+//! What a command that changes the installed packages answers, prints and leaves. The rules stand
+//! in `docs/commands.md`, "`add` and `del`" and "What a change does with files".
 //!
 //! It is a crate of definitions. `ChangeOutcome` of `specs/` says what a selection comes to that
 //! takes the place of the packages before: its refusals in their order, the files afterwards, and

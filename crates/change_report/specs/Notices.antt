@@ -1,4 +1,6 @@
--- What a notice of the program says.
+-- What a notice of the program says: a line on configuration. Serves the contracts of
+-- `src/configuration.rt`; the lines stand in `docs/commands.md`, "`add` and `del`", what is
+-- reported.
 use Rattle.std.specs.Prelude.{if◌then◌else◌}
 use Rattle.change_outcome.specs.ConfigurationLines.{PathLine, aside_line, kept_line}
 use Rattle.change_report.specs.declared.configuration.Notice.{Notice}

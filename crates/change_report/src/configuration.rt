@@ -1,4 +1,6 @@
-//! The lines on configuration that the user changed.
+//! The lines on configuration that the user changed. The lines stand in `docs/commands.md`,
+//! "`add` and `del`", what is reported; which files are kept or laid beside others under
+//! "What a change does with files".
 ghost use Rattle.change_outcome.specs.ConfigurationLines.{aside_line, configuration_lines, kept_line, path_line, path_line_cmp};
 ghost use Rattle.change_report.specs.Notices.{notice_seen};
 ghost use Rattle.list_order.specs.Sorted.{sorted_by};
@@ -10,9 +12,10 @@ use own_core::FilePlan;
 use report_core::Report;
 use std::alloc::{AllocError, Global};
 
-/// A path of configuration that the user changed.
+/// What is told of one file of configuration that the user changed.
 #[derive(Clone, Copy)]
 pub(crate) struct Notice<'p> {
+    /// The path of the user's file.
     pub(crate) path: &'p [u8],
     /// The user's file stays though its package is gone; else a new file is laid beside it.
     pub(crate) is_kept: bool,
@@ -37,7 +40,7 @@ pub(crate) fn push_configuration_lines(
     Ok(())
 }
 
-/// Adds paths of one kind.
+/// Adds a notice for each of some paths, all kept or all with a file beside them.
 fn push_notices<'p>(
     notices: &mut Vec<Notice<'p>>,
     paths: &'p Names,
@@ -53,7 +56,7 @@ fn push_notices<'p>(
     Ok(())
 }
 
-/// Puts them into byte order of their paths.
+/// Puts notices into byte order of their paths.
 fn sort_notices(notices: &mut Vec<Notice<'_>>) -> Result<(), AllocError>
     ensures { OnOk result (map notice_seen notices.new.items
         ≡ sorted_by path_line_cmp (map notice_seen notices.old.items)) }
@@ -62,7 +65,7 @@ fn sort_notices(notices: &mut Vec<Notice<'_>>) -> Result<(), AllocError>
     Ok(())
 }
 
-/// Adds their lines.
+/// Adds the lines of notices.
 fn push_lines(report: &mut Report, notices: &[Notice<'_>]) -> Result<(), AllocError>
     ensures { OnOk result (report.new
         ≡ report.old ++ flat_map (λ l. l.line) (map notice_seen notices.now)) }
@@ -73,7 +76,7 @@ fn push_lines(report: &mut Report, notices: &[Notice<'_>]) -> Result<(), AllocEr
     Ok(())
 }
 
-/// Adds the line of one of them.
+/// Adds the line of one notice.
 fn push_line(report: &mut Report, notice: &Notice<'_>) -> Result<(), AllocError>
     ensures { OnOk result (report.new ≡ report.old ++ (notice_seen notice.now).line) }
 {
@@ -83,7 +86,7 @@ fn push_line(report: &mut Report, notice: &Notice<'_>) -> Result<(), AllocError>
     push_aside_line(report, notice.path)
 }
 
-/// Adds that a file is laid beside the user's.
+/// Adds the line that tells that a new file is laid beside the user's.
 fn push_aside_line(report: &mut Report, path: &[u8]) -> Result<(), AllocError>
     ensures { OnOk result (report.new ≡ report.old ++ aside_line path.now) }
 {
@@ -95,7 +98,7 @@ fn push_aside_line(report: &mut Report, path: &[u8]) -> Result<(), AllocError>
     Ok(())
 }
 
-/// Adds that the user's file stays.
+/// Adds the line that tells that the user's file stays.
 fn push_kept_line(report: &mut Report, path: &[u8]) -> Result<(), AllocError>
     ensures { OnOk result (report.new ≡ report.old ++ kept_line path.now) }
 {

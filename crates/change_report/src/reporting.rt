@@ -1,4 +1,5 @@
-//! The whole report, and the sum over the packages after a change.
+//! The whole report, and the sum over the packages after a change. The lines and their order stand
+//! in `docs/commands.md`, "`add` and `del`", what is reported.
 
 ghost use Rattle.base_core.specs.Files.{Files};
 ghost use Rattle.change_files.specs.FileChange.{FileChange};
@@ -21,20 +22,22 @@ use report_core::Report;
 use solve_core::Trace;
 use std::alloc::{AllocError, Global};
 
-/// What a report speaks of.
+/// What the report of a change speaks of.
 #[derive(Clone, Copy)]
 pub struct ReportedChange<'c, 'd, 'm> {
     /// The packages before the change.
     pub db: &'c Db<'d>,
-    /// The candidates, of which `trace` are selected.
+    /// The candidates.
     pub pool: &'c Sealed<'d>,
+    /// The places of the candidates that are selected.
     pub trace: &'c Trace,
     /// What becomes of each package.
     pub changes: &'c Changes<'d>,
-    /// The names that were to go.
+    /// The names that were to go: the operands of `del`.
     pub to_go: &'c Words,
-    /// The packages after the change, and the plan of its files.
+    /// The packages after the change.
     pub members: &'c Members<'m>,
+    /// The plan of its files, by which configuration and triggers are told.
     pub plan: &'c FilePlan,
 }
 
@@ -83,7 +86,8 @@ fn push_planned_triggers(
     Ok(())
 }
 
-/// Adds how many bytes and packages there are after a change, by what the packages say.
+/// Adds the last line: how many bytes and packages there are after a change, by what the packages
+/// say.
 pub(crate) fn push_member_sum(report: &mut Report, members: &Members<'_>) -> Result<(), AllocError>
     ensures { OnOk result (report.new ≡ report.old ++ member_sum_line (members_of members.now)) }
 {
@@ -92,7 +96,8 @@ pub(crate) fn push_member_sum(report: &mut Report, members: &Members<'_>) -> Res
     Ok(())
 }
 
-/// The bytes that the packages take when they are installed.
+/// The bytes that the packages take when they are installed, by their installed sizes. A u128 holds
+/// the sum of any number of them.
 fn installed_bytes(members: &Members<'_>) -> u128
     ensures { result ≡ sum_by member_size (members_of members.now) }
 {
@@ -103,7 +108,7 @@ fn installed_bytes(members: &Members<'_>) -> u128
     sum
 }
 
-/// The bytes that the package at a place takes.
+/// The installed size of the package at a place, counted from 0.
 fn size_at(members: &Members<'_>, i: usize) -> u64
     requires { i < length (members_of members.now) }
     ensures { option_map member_size (slice_get (members_of members.now) i) ≡ Some result }

@@ -1,3 +1,6 @@
+-- The definitions of this crate, whose rules stand in `docs/commands.md`, "Files that several
+-- packages list".
+
 -- what only inner contracts and proofs use
 pub mod Once
 pub mod Named

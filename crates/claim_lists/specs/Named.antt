@@ -1,8 +1,10 @@
 -- Claims whose paths are names.
+-- Which bytes are a name, stands in `docs/commands.md`, "Words". Serves the contracts of
+-- `name_of_path` and `names_of_claims`.
 use Rattle.std.specs.Prelude.{◌≡◌, ℕ, List, Some, slice_get}
 use Rattle.base_core.specs.Name.{IsName}
 use Rattle.path_claims.specs.Claims.{PathClaim}
 
--- each path is UTF-8 of 1 to 1,024 bytes in sound parts
+-- each path of these claims is a name: UTF-8 of 1 to 1,024 bytes in sound parts
 abbrev pub HaveNames : List PathClaim → Type 0
 HaveNames claims = (i : ℕ) (c : PathClaim) → slice_get claims i ≡ Some c → IsName c.path

@@ -1,5 +1,8 @@
 //! Claims in the order of their paths: the claim of a path, one claim of each path, and the names
 //! that paths are.
+//! What a claim is, stands in `docs/commands.md`, "Files that several packages list"; which bytes
+//! are a name, in "Words" there. The calls here are dictionaries of claims: their contracts say all
+//! of them.
 
 ghost use Rattle.std.specs.Prelude.{◌≡◌, ◌<◌, ◌≤◌, true, false, length, map, option_and_then, slice_get, IfSome, IfOk};
 ghost use Rattle.std.specs.List.{find};
@@ -29,9 +32,10 @@ pub fn find_claim(claims: &[Claim<'_>], path: &FilePath<'_>) -> Option<usize>
     claim_at(claims, path, at)
 }
 
-/// The same, for paths that are asked for in their order: it looks first at the place `next`, and
-/// leaves there the place behind the claim that it found, or the one where it would stand. Where it
-/// has to look no further it makes three comparisons.
+/// The place of the first claim of a path, as `find_claim` answers it, for paths that are asked for
+/// in their order: it looks first at the place `next`, and leaves there the place behind the claim
+/// that it found, or the one where it would stand. Where it has to look no further it makes three
+/// comparisons.
 pub fn find_next_claim(claims: &[Claim<'_>], path: &FilePath<'_>, next: &mut usize) -> Option<usize>
     requires { IsSorted claim_cmp (map claim_seen claims.now) }
     ensures within { IfSome result (λ i. i < length claims.now) }
@@ -47,7 +51,8 @@ pub fn find_next_claim(claims: &[Claim<'_>], path: &FilePath<'_>, next: &mut usi
     found
 }
 
-/// The claim at the place of a path, if it has the path.
+/// The place at which a path belongs among claims, if the claim there has the path: `at` is how
+/// many claims have paths before it.
 fn claim_at(claims: &[Claim<'_>], path: &FilePath<'_>, at: usize) -> Option<usize>
     requires sorted { IsSorted claim_cmp (map claim_seen claims.now) }
     requires bound { at ≤ length claims.now }
@@ -67,7 +72,7 @@ fn claim_at(claims: &[Claim<'_>], path: &FilePath<'_>, at: usize) -> Option<usiz
     }
 }
 
-/// How many claims have paths before this one; it looks first at this place.
+/// How many claims have paths before this one; it looks first at this place (`guess`).
 fn place_near(claims: &[Claim<'_>], path: &FilePath<'_>, guess: usize) -> usize
     requires { IsSorted claim_cmp (map claim_seen claims.now) }
     ensures bound { result ≤ length claims.now }
@@ -86,7 +91,7 @@ fn place_near(claims: &[Claim<'_>], path: &FilePath<'_>, guess: usize) -> usize
     guess
 }
 
-/// How many claims have paths before this one.
+/// How many claims have paths before this one, found by halving.
 fn place_of(claims: &[Claim<'_>], path: &FilePath<'_>) -> usize
     requires { IsSorted claim_cmp (map claim_seen claims.now) }
     ensures bound { result ≤ length claims.now }
@@ -118,7 +123,7 @@ pub fn one_of_each_path<'a>(
     Ok(firsts)
 }
 
-/// The bytes of a path whose parts are not joined.
+/// The bytes of a path, whose folder and name are joined by `/`; the root's name is empty.
 fn path_bytes(alloc: Global, path: &FilePath<'_>) -> Result<Vec<u8>, AllocError>
     ensures { IfOk result (λ bytes. bytes.items ≡ joined_path path.now) }
 {

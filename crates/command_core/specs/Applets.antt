@@ -1,4 +1,6 @@
 -- What each applet may have, after apk(8): flags, options with values, operands.
+-- The rules stand in `docs/commands.md`, "Words", and for each applet in the section of
+-- `docs/commands.md` that has its name.
 use Rattle.std.specs.Prelude.{ℕ, ◌||◌, Option, Some, None, if◌then◌else◌}
 use Rattle.command_core.specs.declared.command.Applet.{Applet}
 use Rattle.command_core.specs.declared.command.Applet.TheVariants.{Add, Del, Upgrade, Fix, Info, Verify, Adbdump, Mkpkg, Mkndx, Version, Demo}
@@ -8,29 +10,30 @@ use Rattle.command_core.specs.declared.operands.OperandRule.{OperandRule}
 use Rattle.command_core.specs.declared.values.TheConstants.{OUTPUT}
 use Rattle.command_core.specs.Operands.{at_least, exactly}
 
--- the letter of the option that has to be given a value, if there is one
+-- the letter of the option that an applet needs, so that it has to be given a value, if there is one
 abbrev pub needed_option : Applet → Option ℕ
 needed_option Mkndx = Some OUTPUT
 needed_option applet = None
 
 -- ---- operands
 
--- of `info`: one path with the kind for a path, one or more packages with another kind, any number
--- of packages without one
+-- the operands of `info`: one path with the flag `--who-owns`, one or more packages with another flag
+-- of its own, and any number of packages without one
 abbrev pub info_operands : Flags → OperandRule
 info_operands flags =
     if flags.who_owns then exactly 1 Path else
     if flags.installed || flags.contents || flags.depends then at_least 1 PackageName else
     at_least 0 PackageName
 
--- of `version` two texts to compare, or one or more to check; None where it lacks its kind
+-- the operands of `version`: two texts to compare, or one or more to check; None where the flag is
+-- lacking that says which of the two
 abbrev pub version_operands : Flags → Option OperandRule
 version_operands flags =
     if flags.test then Some (exactly 2 Any) else
     if flags.check then Some (at_least 1 Any) else
     None
 
--- the operands of an applet under its flags; None where it lacks its kind
+-- the operands of an applet under its flags; None where the flag is lacking that says what is done
 abbrev pub operand_rule : Applet → Flags → Option OperandRule
 operand_rule Add flags = Some (at_least 0 Dependency)
 operand_rule Del flags = Some (at_least 1 DependencyName)

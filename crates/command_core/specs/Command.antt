@@ -1,4 +1,5 @@
 -- What a command line asks for, and when it is a command.
+-- The rules stand in `docs/commands.md`, "Words".
 use Rattle.std.specs.Prelude.{ℕ, List}
 use Rattle.command_core.specs.declared.command.Applet.{Applet}
 use Rattle.command_core.specs.declared.command.Flags.{Flags}

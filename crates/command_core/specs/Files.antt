@@ -1,4 +1,6 @@
 -- Files and paths, as operands and values name them.
+-- The rules stand in `docs/commands.md`, "Words", the last paragraph and the row of `-o`; of a path in
+-- "`info`".
 use Rattle.std.specs.Prelude.{ℕ, nat_le, Bool, ◌&&◌, List, length, take, drop, codes, if◌then◌else◌}
 use Rattle.std.specs.Str.{bytes_eq}
 use Rattle.base_core.specs.Name.{is_name}
@@ -12,7 +14,8 @@ without_dot text = if bytes_eq (take 2 text) (codes "./") then drop 2 text else 
 abbrev pub is_file : List ℕ → Bool
 is_file text = is_name (without_dot text)
 
--- how long a file's path may be, so that its scratch name, eight bytes longer, is a name too
+-- the longest path of a file that is made, in bytes: its scratch name, `.apk-tmp` behind the path, has
+-- eight bytes more, and a name at most 1,024
 abbrev pub longest_output : ℕ
 longest_output = 1016
 
@@ -20,6 +23,7 @@ longest_output = 1016
 abbrev pub is_output : List ℕ → Bool
 is_output text = is_file text && nat_le (length (without_dot text)) longest_output
 
--- whether a text is a path, as `info --who-owns` takes it: one leading `/` is dropped
+-- whether a text is a path, as `info --who-owns` takes one: one leading `/` is dropped, and the rest is
+-- a name
 abbrev pub is_path : List ℕ → Bool
 is_path text = is_name (without_slash text)

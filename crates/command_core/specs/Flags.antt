@@ -1,11 +1,12 @@
 -- The options of a command line that take no value.
+-- The rules stand in `docs/commands.md`, "Words", the table of options, the rows without a value.
 use Rattle.std.specs.Prelude.{Bool, true, false, List, [], ◌∷◌}
 use Rattle.std.specs.List.{list_any}
 use Rattle.command_core.specs.declared.command.Flag.{Flag}
 use Rattle.command_core.specs.declared.command.Flag.TheVariants.{AllowUntrusted, NoScripts, Initdb, Simulate, Purge, Installed, Contents, Depends, WhoOwns, Test, Check}
 use Rattle.command_core.specs.declared.command.Flags.{Flags}
 
--- no flag is given
+-- the flags where none is given
 abbrev pub no_flags : Flags
 no_flags = record {
   allow_untrusted = false;
@@ -35,7 +36,7 @@ has_flag WhoOwns flags = flags.who_owns
 has_flag Test flags = flags.test
 has_flag Check flags = flags.check
 
--- the same flags, and this one
+-- the flags, with this one given too
 abbrev pub with_flag : Flag → Flags → Flags
 with_flag AllowUntrusted flags = record flags { allow_untrusted = true }
 with_flag NoScripts flags = record flags { no_scripts = true }

@@ -1,4 +1,7 @@
 -- The names of operands and values that are files.
+-- The rule stands in `docs/commands.md`, "Words", the last paragraph. Serves the law
+-- `file_operands_are_files` and what lends a name (`Operands::file`, `Values::first_file`,
+-- `Values::script_file`).
 use Rattle.std.specs.Prelude.{ℕ, ◌==◌, Bool, List, Option, Some, None, if◌then◌else◌}
 use Rattle.std.specs.List.{list_all}
 use Rattle.command_core.specs.declared.operands.Operand.{Operand}
@@ -11,7 +14,7 @@ use Rattle.command_core.specs.Values.{script_file}
 abbrev pub file_name : List ℕ → Option (List ℕ)
 file_name text = if is_file text then Some (without_dot text) else None
 
--- the name of the file that an operand is
+-- the name of the file that an operand is, without a leading `./`
 abbrev pub operand_file : Operand → List ℕ
 operand_file operand = without_dot operand.text
 
@@ -19,8 +22,8 @@ operand_file operand = without_dot operand.text
 abbrev pub are_files : List Operand → Bool
 are_files operands = list_all (λ (o : Operand). is_file o.text) operands
 
--- the part of a value of the option with a letter that may name a file: of a script the part behind
--- the first `:`
+-- the part of a value of the option with this letter that may name a file: of a script what stands
+-- behind the first `:`, of others all
 abbrev pub file_part : ℕ → List ℕ → List ℕ
 file_part letter text = if letter == SCRIPT then script_file text else text
 

@@ -1,4 +1,6 @@
 -- Operands: of which kind a text is, and which operands a rule takes.
+-- The rules stand in `docs/commands.md`, "Words", and for each applet in the section of
+-- `docs/commands.md` that has its name; of a number in "`demo N`".
 use Rattle.std.specs.Prelude.{ℕ, ◌+◌, ◌==◌, nat_lt, nat_le, Bool, true, false, not, ◌&&◌, List, [], ◌∷◌, length, Option, Some, None, is_some, if◌then◌else◌}
 use Rattle.std.specs.Char.{is_ascii_digit}
 use Rattle.std.specs.List.{list_all}
@@ -11,13 +13,13 @@ use Rattle.command_core.specs.declared.operands.OperandKind.TheVariants.{File, A
 use Rattle.command_core.specs.declared.operands.OperandRule.{OperandRule}
 use Rattle.command_core.specs.Files.{is_file, is_path}
 
--- a word at its place
+-- the operand that a word at a place is; places count from 1
 abbrev pub operand_at : ℕ → List ℕ → Operand
 operand_at place word = record { place = place; text = word }
 
 -- ---- kinds
 
--- whether a zero stands before other bytes
+-- whether a zero (48) stands before other bytes
 abbrev pub has_zero_in_front : List ℕ → Bool
 has_zero_in_front [] = false
 has_zero_in_front (d ∷ ds) = (d == 48) && nat_lt 0 (length ds)
@@ -48,20 +50,21 @@ is_of_kind Number text = is_demo_number text
 
 -- ---- rules
 
--- so many operands of a kind, or more
+-- the rule of a number of operands of a kind, or more
 abbrev pub at_least : ℕ → OperandKind → OperandRule
 at_least least kind = record { kind = kind; least = least; most = None }
 
--- so many operands of a kind
+-- the rule of just a number of operands of a kind
 abbrev pub exactly : ℕ → OperandKind → OperandRule
 exactly count kind = record { kind = kind; least = count; most = Some count }
 
--- whether there may be an operand with so many before it
+-- whether one more operand may stand behind some, by the most that there may be and how many stand
+-- before it
 abbrev pub has_room : Option ℕ → ℕ → Bool
 has_room None before = true
 has_room (Some most) before = nat_lt before most
 
--- whether a text may be an operand with so many before it
+-- whether a rule takes a text as an operand, by how many operands stand before it
 abbrev pub takes : OperandRule → ℕ → List ℕ → Bool
 takes rule before text = has_room rule.most before && is_of_kind rule.kind text
 

@@ -1,5 +1,6 @@
 -- When flags, operands and values are a command's: each is one that its applet may have, and none
 -- is lacking.
+-- The rules stand in `docs/commands.md`, "Words", the table of options and what follows it.
 use Rattle.std.specs.Prelude.{ℕ, ◌==◌, nat_le, Bool, true, false, not, ◌&&◌, ◌||◌, List, [], ◌∷◌, length, Option, Some, None, IsTrue}
 use Rattle.std.specs.List.{find, list_all, list_any}
 use Rattle.command_core.specs.declared.command.Applet.{Applet}
@@ -19,7 +20,7 @@ use Rattle.command_core.specs.Values.{compression_rule, description_rule, exclud
 
 -- ---- flags
 
--- each flag once
+-- all flags, each once
 abbrev pub all_flags : List Flag
 all_flags =
     AllowUntrusted ∷ (NoScripts ∷ (Initdb ∷ (Simulate ∷ (Purge ∷
@@ -37,7 +38,7 @@ abbrev pub are_within : Flags → Flags → Bool
 are_within allowed flags =
     list_all (λ flag. not (has_flag flag flags) || has_flag flag allowed) all_flags
 
--- the flags of every applet
+-- the flags that every applet may have
 abbrev pub common_flags : Flags
 common_flags = with_flag AllowUntrusted (with_flag NoScripts no_flags)
 
@@ -59,7 +60,7 @@ may_have applet flags = are_within (allowed_flags applet) flags && is_single kin
 
 -- ---- operands
 
--- whether there are no more operands than a rule takes
+-- whether a number of operands is no more than the most that a rule takes
 abbrev pub is_at_most : Option ℕ → ℕ → Bool
 is_at_most None count = true
 is_at_most (Some most) count = nat_le count most
@@ -82,16 +83,16 @@ value_rules Mkpkg =
 value_rules Mkndx = description_rule ∷ (output_rule ∷ (compression_rule ∷ []))
 value_rules applet = []
 
--- the rule of the option with a letter, among some
+-- the rule of the option with a letter, if it is among some rules
 abbrev pub rule_for : List ValueRule → ℕ → Option ValueRule
 rule_for rules letter = find (λ (rule : ValueRule). rule.letter == letter) rules
 
--- whether a value is one of its option; None: there is no such option
+-- whether a text may be a value of an option with this rule; None: there is no such option
 abbrev pub is_value_by : Option ValueRule → List ℕ → Bool
 is_value_by None text = false
 is_value_by (Some rule) text = is_value rule.kind text
 
--- whether two values of one option exclude each other
+-- whether two values of one option exclude each other, by the option's rule
 abbrev pub excludes_by : Option ValueRule → List ℕ → List ℕ → Bool
 excludes_by None a b = false
 excludes_by (Some rule) a b = rule.single || excludes rule.kind a b
@@ -102,7 +103,7 @@ abbrev pub are_apart : List ValueRule → OptionValue → OptionValue → Bool
 are_apart rules a b =
     not ((a.letter == b.letter) && excludes_by (rule_for rules a.letter) a.text b.text)
 
--- whether values are ones of options with these rules, and no two of them exclude each other
+-- whether each value is one of an option with one of these rules, and no two of them exclude each other
 abbrev pub are_values : List ValueRule → List OptionValue → Bool
 are_values rules [] = true
 are_values rules (v ∷ vs) =
@@ -119,6 +120,6 @@ is_command c =
     && are_values (value_rules c.applet) c.values
     && not (lacks_value (needed_option c.applet) c.values)
 
--- the same as a fact
+-- a command line is a command
 abbrev pub IsCommand : CommandLine → Type 0
 IsCommand command = IsTrue (is_command command)

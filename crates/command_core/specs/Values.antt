@@ -1,4 +1,6 @@
 -- Options with values: what the values may be, and which may stand together.
+-- The rules stand in `docs/commands.md`, "Words", the rows of options with a value; the types of
+-- scripts in "`mkpkg`".
 use Rattle.std.specs.Prelude.{ℕ, ◌==◌, nat_lt, Bool, true, false, not, ◌&&◌, List, [], ◌∷◌, length, codes, Option, Some, None}
 use Rattle.std.specs.List.{after_first, before_first, find, list_any}
 use Rattle.std.specs.Str.{bytes_eq}
@@ -33,11 +35,11 @@ script_types =
 abbrev pub colon : ℕ
 colon = 58
 
--- of TYPE:FILE the part before the first `:`, and the part behind it
+-- the type of a script: what stands before the first colon of TYPE:FILE, or all where there is none
 abbrev pub script_type : List ℕ → List ℕ
 script_type text = before_first (λ b. b == colon) text
 
--- the file of a script: what stands behind the first colon
+-- the file of a script: what stands behind the first colon of TYPE:FILE
 abbrev pub script_file : List ℕ → List ℕ
 script_file text = after_first (λ b. b == colon) text
 
@@ -64,45 +66,45 @@ excludes kind a b = false
 
 -- ---- rules
 
--- `-I` may stand often, with any text; `make_info` says which of them offend
+-- the rule of `-I`: it may stand often, with any text; `make_info` says which of them offend
 abbrev pub info_rule : ValueRule
 info_rule = record { letter = INFO; single = false; kind = Any }
 
--- `-s` may stand once for each type of script
+-- the rule of `-s`: it may stand once for each type of script
 abbrev pub script_rule : ValueRule
 script_rule = record { letter = SCRIPT; single = false; kind = Script }
 
--- `-t` may stand often, and is not empty
+-- the rule of `-t`: it may stand often, and its value is not empty
 abbrev pub trigger_rule : ValueRule
 trigger_rule = record { letter = TRIGGER; single = false; kind = Nonempty }
 
--- `-F` names a folder, once
+-- the rule of `-F`: it names a folder, once
 abbrev pub files_rule : ValueRule
 files_rule = record { letter = FILES; single = true; kind = File }
 
--- `-o` names the file that is made, once
+-- the rule of `-o`: it names the file that is made, once
 abbrev pub output_rule : ValueRule
 output_rule = record { letter = OUTPUT; single = true; kind = Output }
 
--- `-c` may only ask for no compression
+-- the rule of `-c`: it may only ask for no compression, once
 abbrev pub compression_rule : ValueRule
 compression_rule = record { letter = COMPRESSION; single = true; kind = Uncompressed }
 
--- `-d` gives an index its description, once
+-- the rule of `-d`: it gives an index its description, once
 abbrev pub description_rule : ValueRule
 description_rule = record { letter = DESCRIPTION; single = true; kind = Any }
 
--- whether an option may not stand again
+-- whether an option may not stand again: it may stand once, and was given a value
 abbrev pub is_spent : ValueRule → List OptionValue → Bool
 is_spent rule values = rule.single && is_given rule.letter values
 
--- whether a text is excluded by values that the option was given before
+-- whether a value of the option given before excludes this text
 abbrev pub is_excluded : ValueRule → List ℕ → List OptionValue → Bool
 is_excluded rule text values =
     list_any (λ (v : OptionValue). (v.letter == rule.letter) && excludes rule.kind v.text text)
     values
 
--- whether the option that has to be given a value is lacking
+-- whether the option that has to be given a value, if there is one, was given none
 abbrev pub lacks_value : Option ℕ → List OptionValue → Bool
 lacks_value None values = false
 lacks_value (Some letter) values = not (is_given letter values)

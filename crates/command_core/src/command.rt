@@ -1,4 +1,6 @@
 //! Applets, the options without a value, and what a command line asks for.
+//! The rules stand in `docs/commands.md`, "Words"; which operands an applet takes, in the section
+//! of `docs/commands.md` that has its name.
 ghost use Rattle.std.specs.Prelude.{◌≡◌, IsTrue};
 ghost use Rattle.command_core.specs.Applets.{info_operands, needed_option, operand_rule, version_operands};
 ghost use Rattle.command_core.specs.Command.{command_by};
@@ -36,19 +38,30 @@ pub enum Applet {
     Demo,
 }
 
-/// An option without a value.
+/// An option without a value; the fields of `Flags` say what each asks for.
 #[derive(Clone, Copy)]
 pub enum Flag {
+    /// `--allow-untrusted`.
     AllowUntrusted,
+    /// `--no-scripts`.
     NoScripts,
+    /// `--initdb`.
     Initdb,
+    /// `--simulate`, `-s`.
     Simulate,
+    /// `--purge`.
     Purge,
+    /// `--installed`, `-e`.
     Installed,
+    /// `--contents`, `-L`.
     Contents,
+    /// `--depends`, `-R`.
     Depends,
+    /// `--who-owns`, `-W`.
     WhoOwns,
+    /// `--test`, `-t`.
     Test,
+    /// `--check`, `-c`.
     Check,
 }
 
@@ -80,7 +93,7 @@ pub struct Flags {
 }
 
 impl Flags {
-    /// None given.
+    /// The flags where none is given.
     pub fn none() -> Flags
         ensures { result ≡ no_flags }
     {
@@ -161,7 +174,8 @@ impl Applet {
         }
     }
 
-    /// Which operands the applet takes under some flags. None: a flag is lacking that says so.
+    /// Which operands the applet takes under some flags. None: the flag is lacking that says what
+    /// is done.
     pub fn operands(self, flags: Flags) -> Option<OperandRule>
         ensures { result ≡ operand_rule self flags }
     {
@@ -214,6 +228,7 @@ pub struct Command {
     flags: Flags,
     operands: Operands,
     values: Values,
+    // The place behind the last word.
     behind: u32,
 }
 
@@ -231,7 +246,7 @@ impl Model for Command {
 }
 
 impl Command {
-    /// A command of its parts.
+    /// The command with these parts.
     pub fn of(
         applet: Applet,
         flags: Flags,
@@ -251,7 +266,7 @@ impl Command {
         }
     }
 
-    /// What is to be done.
+    /// The applet that the first operand names.
     pub fn applet(&self) -> Applet
         ensures value { result ≡ self.now.applet }
         ensures command { IsCommand self.now }
@@ -267,7 +282,7 @@ impl Command {
         self.flags
     }
 
-    /// What it is to be done with.
+    /// The operands behind the applet.
     pub fn operands(&self) -> &Operands
         ensures value { result.now ≡ self.now.operands }
         ensures command { IsCommand self.now }
@@ -283,7 +298,7 @@ impl Command {
         &self.values
     }
 
-    /// The place behind the last word, where a word that is missing is refused.
+    /// The place behind the last word, counted from 1, which is reported where a word is missing.
     pub fn behind(&self) -> u32
         ensures { result ≡ self.now.behind }
     {

@@ -4,6 +4,7 @@
 //! `words_core` reads a `Command` from the words of a command line; what is done with it needs this
 //! crate alone. The contracts cite `Command` and `Sound` (what a command is), `Applets` (which
 //! operands each applet takes), `Flags`, `Operands`, `Values`, `Files` and `Named` of `specs/`.
+//! The rules stand in `docs/commands.md`, "Words".
 #![tactic(auto)]
 
 mod command;

@@ -1,5 +1,7 @@
 //! Operands: which an applet takes, those that a command has, and what every command keeps of its
 //! files and of the option that it needs.
+//! The rules stand in `docs/commands.md`, "Words", and for each applet in the section of
+//! `docs/commands.md` that has its name.
 
 ghost use Rattle.std.specs.Prelude.{◌≡◌, ◌<◌, ◌==◌, ◌++◌, ◌∷◌, [], IfOk, IsTrue, None, OnErr, OnOk, Some, length, slice_get, ℕ};
 ghost use Rattle.std.specs.Option.{option_map};
@@ -20,7 +22,7 @@ use dep_core::{is_dep_name, is_package_name, read_dep};
 use std::alloc::{AllocError, Global};
 use std::marker::Model;
 
-/// What an operand is.
+/// Which texts may be an operand.
 #[derive(Clone, Copy)]
 pub enum OperandKind {
     /// A file, as a path below the root, which one leading `./` may stand before.
@@ -68,7 +70,7 @@ pub struct OperandRule {
 }
 
 impl OperandRule {
-    /// So many operands of a kind, or more.
+    /// The rule of a number of operands of a kind, or more.
     pub fn at_least(least: usize, kind: OperandKind) -> OperandRule
         ensures { result ≡ at_least least kind }
     {
@@ -79,7 +81,7 @@ impl OperandRule {
         }
     }
 
-    /// So many operands of a kind.
+    /// The rule of just a number of operands of a kind.
     pub fn exactly(count: usize, kind: OperandKind) -> OperandRule
         ensures { result ≡ exactly count kind }
     {
@@ -90,7 +92,8 @@ impl OperandRule {
         }
     }
 
-    /// The place of the first operand that is not taken.
+    /// The place, counted from 1, of the first operand that the rule does not take, because of its
+    /// kind or because too many stand before it.
     pub fn first_refused(&self, operands: &Operands) -> Option<u32>
         ensures { result ≡ first_refused self.now 0 operands.now }
     {
@@ -103,7 +106,7 @@ impl OperandRule {
         None
     }
 
-    // Whether a text may be an operand with so many before it.
+    // Whether the rule takes a text as an operand, by how many operands stand before it.
     fn takes(&self, before: usize, text: &[u8]) -> bool
         ensures { result ≡ takes self.now before text.now }
     {
@@ -113,7 +116,7 @@ impl OperandRule {
         self.kind.has(text)
     }
 
-    // Whether there may be an operand with so many before it.
+    // Whether there may be one more operand, by how many stand before it.
     fn has_room(&self, before: usize) -> bool
         ensures { result ≡ has_room self.now.most before }
     {
@@ -137,6 +140,7 @@ pub struct Operand {
 #[derive(Drop)]
 struct OperandEntry {
     operand: Operand,
+    // Read at once, so that lending it wants no memory.
     file: Option<Name>,
 }
 
@@ -218,6 +222,7 @@ impl Operands {
     {
         match &self.entries[i].file {
             Some(file) => file,
+            // Each operand is a file here, so that its name was read.
             None => unreachable!(),
         }
     }

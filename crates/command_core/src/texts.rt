@@ -1,4 +1,6 @@
 //! What a single text is: a file, a path, a script, a number.
+//! The rules stand in `docs/commands.md`, "Words", the last paragraph; the types of scripts in
+//! "`mkpkg`", the number in "`demo N`".
 ghost use Rattle.std.specs.Prelude.{◌≡◌, ◌==◌, IfOk, drop};
 ghost use Rattle.std.specs.Char.{is_ascii_digit};
 ghost use Rattle.std.specs.List.{list_all, list_any, position};
@@ -13,13 +15,14 @@ use dep_core::without_slash;
 use std::alloc::{AllocError, Global};
 use std::str;
 
-// How long the path of a file to be written may be, so that its scratch name is a name too.
+// The longest path of a file that is made: with `.apk-tmp` behind it, eight bytes more, it is still
+// a name, which has at most 1,024 bytes.
 const LONGEST_OUTPUT: usize = 1016;
 
 // The largest number of packages that `demo` makes.
 const LARGEST_DEMO: u32 = 20000;
 
-// The types of a package's scripts (apk-package(5)).
+// The types of a package's scripts (`docs/commands.md`, "`mkpkg`").
 static SCRIPT_TYPES: [&[u8]; 7] = [
     b"trigger",
     b"pre-install",
@@ -89,14 +92,14 @@ fn is_script_type(text: &[u8]) -> bool
     is_among(&SCRIPT_TYPES, text)
 }
 
-// Whether a text is among some.
+// Whether a text is one of some.
 fn is_among(texts: &[&[u8]], text: &[u8]) -> bool
     ensures { result ≡ list_any (λ t. bytes_eq t.now text.now) texts.now }
 {
     texts.iter().any(|one| *one == text)
 }
 
-/// Of TYPE:FILE the part before the first `:`, or all where there is none.
+/// The type of a script: of TYPE:FILE the part before the first `:`, or all where there is none.
 pub(crate) fn script_type(text: &[u8]) -> &[u8]
     ensures { result.now ≡ script_type text.now }
 {
@@ -106,7 +109,8 @@ pub(crate) fn script_type(text: &[u8]) -> &[u8]
     }
 }
 
-/// Of TYPE:FILE the part behind the first `:`, or nothing where there is none.
+/// The file of a script: of TYPE:FILE the part behind the first `:`, or nothing where there is
+/// none.
 pub(crate) fn script_file(text: &[u8]) -> &[u8]
     ensures { result.now ≡ script_file text.now }
 {

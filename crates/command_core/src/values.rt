@@ -1,4 +1,5 @@
 //! Options with values: which values each may have, and those that a command was given.
+//! The rules stand in `docs/commands.md`, "Words", the table of options, the rows with a value.
 ghost use Rattle.std.specs.Prelude.{◌≡◌, ◌<◌, ◌==◌, ◌++◌, ◌∷◌, [], IfOk, IfSome, IsTrue, OnErr, OnOk, Some, length, not, slice_get};
 ghost use Rattle.std.specs.Option.{option_map};
 ghost use Rattle.command_core.specs.Files.{is_file, without_dot};
@@ -33,11 +34,11 @@ pub struct ValueRule {
     pub letter: u8,
     /// Whether the option may stand only once.
     pub single: bool,
-    /// What a value is.
+    /// Which texts may be its value.
     pub kind: ValueKind,
 }
 
-/// What a value is.
+/// Which texts may be a value of an option.
 #[derive(Clone, Copy)]
 pub enum ValueKind {
     /// Any text.
@@ -93,7 +94,8 @@ pub struct OptionValue {
 }
 
 impl OptionValue {
-    /// Of a value TYPE:FILE, as `--script` has, the part before the first `:`.
+    /// The type of a script: of a value TYPE:FILE, as `--script` has, the part before the first
+    /// `:`.
     pub fn script_type(&self) -> &[u8]
         ensures { result.now ≡ script_type self.now.text }
     {
@@ -105,6 +107,7 @@ impl OptionValue {
 #[derive(Drop)]
 struct ValueEntry {
     value: OptionValue,
+    // Read at once, so that lending it wants no memory.
     file: Option<Name>,
 }
 
@@ -169,14 +172,15 @@ impl Values {
             .any(|entry| entry.value.letter == letter)
     }
 
-    /// Whether an option may not stand again.
+    /// Whether the option with this rule may not stand again: it may stand once, and was given a
+    /// value.
     pub fn are_spent(&self, rule: ValueRule) -> bool
         ensures { result ≡ is_spent rule self.now }
     {
         rule.single && self.is_given(rule.letter)
     }
 
-    /// Whether a text is excluded by values that the option was given before.
+    /// Whether a value that the option was given before excludes this text.
     pub fn exclude(&self, rule: ValueRule, text: &[u8]) -> bool
         ensures { result ≡ is_excluded rule text.now self.now }
     {
@@ -242,6 +246,7 @@ impl Values {
     {
         match &self.entries[i].file {
             Some(file) => file,
+            // The value is of a script and has a file, so that its name was read.
             None => unreachable!(),
         }
     }

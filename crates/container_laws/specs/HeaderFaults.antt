@@ -1,4 +1,5 @@
--- Which test of a file's header fails.
+-- Which test of a file's header fails. The tests stand in `docs/formats.md`, "Container", the rows
+-- of the header in its table.
 use Rattle.std.specs.Prelude.{◌≡◌, ◌⊎◌, ◌<◌, ◌≤◌, ℕ, List, ◌++◌, length, codes}
 use Rattle.base_core.specs.declared.Cause.{Cause}
 use Rattle.base_core.specs.declared.Cause.TheVariants.{NotAdb, Compressed, Truncated}
@@ -7,16 +8,16 @@ use Rattle.base_core.specs.declared.Cause.TheVariants.{NotAdb, Compressed, Trunc
 abbrev pub BeginsAs : List ℕ → List ℕ → Type 0
 BeginsAs mark file = (rest : List ℕ) × (file ≡ mark ++ rest)
 
--- as a compressed container
+-- a file begins as a compressed container
 abbrev pub IsCompressedFile : List ℕ → Type 0
 IsCompressedFile file = BeginsAs (codes "ADBd") file ⊎ BeginsAs (codes "ADBc") file
 
--- as none that is known
+-- a file begins as no container that is known
 abbrev pub IsNoContainer : List ℕ → Type 0
 IsNoContainer file = (IsCompressedFile file → ⊥) × (BeginsAs (codes "ADB.") file → ⊥)
 
--- no four bytes; else those of a compressed container; else others than a container has; else no
--- eight bytes
+-- The fault of a file's header: it has no four bytes; else it begins as a compressed container;
+-- else otherwise than a container begins; else it has no eight bytes
 abbrev pub IsHeaderFault : List ℕ → Cause → Type 0
 IsHeaderFault file c =
     ((length file < 4) × (c ≡ Truncated 0))

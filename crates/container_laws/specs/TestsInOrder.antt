@@ -1,4 +1,5 @@
--- The tests of a container in the order in which they are made.
+-- The tests of a container in the order in which they are made. The order stands in
+-- `docs/formats.md`, "Tests of a container".
 use Rattle.std.specs.Prelude.{◌≡◌, ◌⊎◌, ◌<◌, ℕ, true, false, List, [], ◌∷◌, Option, Some, None, Ok, slice_get}
 use Rattle.base_core.specs.declared.cause.Cause.{Cause}
 use Rattle.base_core.specs.declared.cause.Cause.TheVariants.{WrongSchema}
@@ -17,7 +18,7 @@ use Rattle.adb_view.specs.Head.{head_fault, root_of}
 use Rattle.container_laws.specs.HeaderFaults.{IsHeaderFault}
 use Rattle.pkg_core.specs.Whole.{behind_fault, root_of_schema}
 
--- of tests in their order, one has this fault, and none before it has any
+-- the fault of tests in their order: one test has it, and none before that has any
 pub record IsFirstFailing (tests : List (Option Cause)) (c : Cause) : Type 0 where
   pub place : ℕ
   pub fails : slice_get tests place ≡ Some (Some c)
@@ -33,14 +34,16 @@ tests_of_values which payload behind =
     ∷ (repeated_fault which (root_value which payload)
     ∷ (behind_fault which (root_value which payload) behind ∷ []))))
 
--- the first block is none; or there is one, and one of its tests or of those behind it fails first
+-- the fault of a file's blocks: the first block is none; or there is one, and one of its tests or
+-- of those behind it fails first
 abbrev pub IsBlocksFault : Which → Reading → Cause → Type 0
 IsBlocksFault which r c =
     (r ≡ fault c)
     ⊎ ((b : Piece) × (at : ℕ) × (behind : Reading) × (r ≡ more b at behind)
     × IsFirstFailing (tests_of_values which b.payload behind) c)
 
--- first the header, then the schema, then the blocks
+-- the fault of a file that has to have one table at its root: first of the header, then of the
+-- schema, then of the blocks
 abbrev pub IsFaultOfTable : Which → List ℕ → Cause → Type 0
 IsFaultOfTable which file c =
     IsHeaderFault file c
@@ -49,7 +52,8 @@ IsFaultOfTable which file c =
     ⊎ ((is_schema_wanted (schema_word which) schema ≡ true)
     × IsBlocksFault which (reading_of (start_of schema file)) c)))
 
--- of any of the four schemas: the header, then that it is one of the four, then its tests
+-- the fault of a container of any of the four schemas: of the header, then that it is none of the
+-- four, then of its tests
 abbrev pub IsContainerFault : List ℕ → Cause → Type 0
 IsContainerFault file c =
     IsHeaderFault file c

@@ -1,5 +1,5 @@
 //! Which test of a container is the one that is reported: the first, in the order in which the
-//! format lists them.
+//! format lists them. It stands in `docs/formats.md`, "Container" and "Tests of a container".
 //!
 //! The functions are laws. They cite the definitions of `specs/`, and those of the readers below.
 #![tactic(auto)]
@@ -22,8 +22,10 @@ pub fn the_first_fault_of_a_header_is_reported()
 /// the header, the schema, the first block, the head of its payload, the shapes of the values,
 /// their texts, the names that stand twice, and the blocks behind them.
 pub fn the_first_fault_of_a_container_is_reported()
+    // Of a file that has to have one table at its root.
     ensures table { (which : Which) (file : List ℕ) (c : Cause)
         → whole_fault which file ≡ Some c → IsFaultOfTable which file c }
+    // Of a file of any of the four schemas.
     ensures any { (file : List ℕ) (c : Cause)
         → container_fault file ≡ Some c → IsContainerFault file c }
 {}

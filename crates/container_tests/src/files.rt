@@ -1,15 +1,20 @@
-//! The contents that a package gives of its files.
+//! The contents that a package gives of its files. The order and the tests stand in
+//! `docs/formats.md`, "The other blocks".
 use base_core::Cause;
 use pkg_core::{FileContents, Package, PackageFault};
 use row_lines::{add_number, add_word};
 use std::alloc::{AllocError, Global};
 
-/// How often the next file is asked for.
+/// How often the next file is asked for, also behind an end or a refusal.
 const CALLS: u32 = 3;
 
 /// Answers `package BYTES`: the identity of a package, how many folders it has, and what three
 /// calls for its next file answer.
-pub fn add_files(alloc: Global, file: &[u8], answer: &mut Vec<u8>) -> Result<(), AllocError> {
+pub(crate) fn add_files(
+    alloc: Global,
+    file: &[u8],
+    answer: &mut Vec<u8>,
+) -> Result<(), AllocError> {
     match Package::new(alloc, file) {
         Ok(package) => add_calls(alloc, package, answer),
         Err(PackageFault::Bad(cause)) => add_cause(alloc, cause, answer),

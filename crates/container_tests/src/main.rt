@@ -1,6 +1,7 @@
 //! Answers questions to `adb_write`, `adb_values` and `pkg_core`: the words and the payloads of
 //! values, whose counts may pass a limit, and the files that a package gives. Its stored run has
-//! all rows; `tests/lines.md` describes their form.
+//! all rows; `tests/lines.md` describes their form. The README of this crate has a row for each
+//! question.
 #![tactic(auto)]
 
 mod files;
@@ -16,17 +17,24 @@ use std::io;
 use std::process::ExitCode;
 use values::{add_draft, add_file, add_repeated, add_written};
 
-/// What is asked.
+/// What is asked; the README of this crate says what each question answers.
 #[derive(Clone, Copy)]
 enum Question {
+    /// `write VALUE ..`.
     Write,
+    /// `file VALUE ..`.
     File,
+    /// `draft VALUE ..`.
     Draft,
+    /// `repeated N VALUE ..`.
     Repeated,
+    /// `numbers ORDER`.
     Numbers,
+    /// `package BYTES`.
     Package,
 }
 
+// The words that questions begin with.
 #[rattlefmt::skip]
 const QUESTIONS: [(&[u8], Question); 6] = [
     (b"write", Question::Write),

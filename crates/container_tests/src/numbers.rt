@@ -1,5 +1,5 @@
 //! Many blobs that are written in some order and then again; they take many pages of the writer's
-//! table.
+//! table. That equal values are stored once stands in `docs/formats.md`, "Canonical layout".
 use crate::values::add_len;
 use adb_view::Val;
 use adb_write::Writer;
@@ -9,14 +9,18 @@ use std::alloc::{AllocError, Global};
 /// How many blobs are written.
 const BLOBS: u32 = 5000;
 
-/// The order in which their numbers come.
+/// The order in which the numbers of the blobs come.
 #[derive(Clone, Copy)]
 enum Order {
+    /// From 0 on.
     Rising,
+    /// Down from the count of blobs.
     Falling,
+    /// By multiples of an odd number, modulo 65,536.
     Scattered,
 }
 
+// The words for the orders.
 #[rattlefmt::skip]
 const ORDERS: [(&[u8], Order); 3] = [
     (b"rising", Order::Rising),
@@ -24,7 +28,8 @@ const ORDERS: [(&[u8], Order); 3] = [
     (b"scattered", Order::Scattered),
 ];
 
-/// The number at a place.
+/// The number of the blob at a place, counted from 0. 7919 is odd, so no two of the scattered ones
+/// have one number.
 fn number_at(order: Order, i: u32) -> u32 {
     match order {
         Order::Rising => i,
@@ -44,7 +49,11 @@ fn words_of(alloc: Global, writer: &mut Writer, order: Order) -> Result<Vec<Val>
 
 /// Answers `numbers ORDER`: whether each blob has its word again, and how many bytes the payload
 /// has.
-pub fn add_numbers(alloc: Global, order: &[u8], answer: &mut Vec<u8>) -> Result<(), AllocError> {
+pub(crate) fn add_numbers(
+    alloc: Global,
+    order: &[u8],
+    answer: &mut Vec<u8>,
+) -> Result<(), AllocError> {
     let Some(order) = value_named(&ORDERS, order) else {
         return add_word(answer, b"no order");
     };

@@ -1,7 +1,8 @@
 //! Values that a writer or a draft is given, from the words of a row: `.` is null, `#` and a number
 //! an integer, `'` and bytes a blob, what stands between `[` and `]` an array, and what stands
-//! between `{` and `}` an object. Behind `*` stands how often a value is written, and `~` leaves
-//! out the words of the values before it.
+//! between `{` and `}` an object. Behind `*` stands how often a value is written, and ` ` leaves
+//! out the words of the values before it. What is written stands in `docs/formats.md`,
+//! "Canonical layout"; the words in the README of this crate.
 use adb_schema::PACKAGE_WORD;
 use adb_values::Draft;
 use adb_view::Val;
@@ -10,18 +11,25 @@ use base_core::Words;
 use row_lines::{add_number, add_word, number_of, word_at};
 use std::alloc::{AllocError, Global};
 
-/// The most bytes of a payload.
+/// The most bytes of a payload (`docs/formats.md`, "Canonical layout").
 const MOST_BYTES: usize = 268_435_455;
 
 /// What a word of a row stands for.
 #[derive(Clone, Copy)]
 enum Part<'a> {
+    /// NULL.
     Null,
+    /// An integer.
     Int(u64),
+    /// A blob.
     Blob(&'a [u8]),
+    /// A list begins, of either kind.
     Open,
+    /// The list that was opened last ends as an array.
     Array,
+    /// The list that was opened last ends as an object.
     Object,
+    /// The words of the values before are left out.
     LeaveOut,
 }
 
@@ -33,7 +41,7 @@ fn part_of(word: &[u8]) -> (Part<'_>, u64) {
     }
 }
 
-/// What a word stands for without how often.
+/// What a word stands for, once it is known how often.
 fn part_named(word: &[u8]) -> Part<'_> {
     match word {
         [b'\'', bytes @ ..] => Part::Blob(bytes),
@@ -58,6 +66,7 @@ fn long_of(word: &[u8]) -> u64 {
 /// What a writer was given.
 #[derive(Drop)]
 struct Written {
+    /// The writer.
     writer: Writer,
     /// The entries of each list that is open.
     open: Vec<Vec<Val>>,
@@ -133,7 +142,11 @@ fn payload_of(written: Written) -> Result<Vec<u8>, WriteFault> {
 }
 
 /// Answers `write VALUES`: the words of the values, and the payload whose root is the last.
-pub fn add_written(alloc: Global, words: &Words, answer: &mut Vec<u8>) -> Result<(), AllocError> {
+pub(crate) fn add_written(
+    alloc: Global,
+    words: &Words,
+    answer: &mut Vec<u8>,
+) -> Result<(), AllocError> {
     let written = write_values(alloc, words)?;
     for word in &written.words {
         let number = word.word();
@@ -147,7 +160,11 @@ pub fn add_written(alloc: Global, words: &Words, answer: &mut Vec<u8>) -> Result
 }
 
 /// Answers `file VALUES`: the file of the payload, as one of a package.
-pub fn add_file(alloc: Global, words: &Words, answer: &mut Vec<u8>) -> Result<(), AllocError> {
+pub(crate) fn add_file(
+    alloc: Global,
+    words: &Words,
+    answer: &mut Vec<u8>,
+) -> Result<(), AllocError> {
     match payload_of(write_values(alloc, words)?) {
         Ok(payload) => add_file_of(alloc, &payload, answer),
         Err(fault) => add_fault(alloc, fault, answer),
@@ -200,7 +217,11 @@ fn add_part(draft: &mut Draft, part: Part<'_>) -> Result<(), AllocError> {
 }
 
 /// Answers `draft VALUES`: the payload of a draft of these values.
-pub fn add_draft(alloc: Global, words: &Words, answer: &mut Vec<u8>) -> Result<(), AllocError> {
+pub(crate) fn add_draft(
+    alloc: Global,
+    words: &Words,
+    answer: &mut Vec<u8>,
+) -> Result<(), AllocError> {
     let mut draft = Draft::new(alloc);
     add_values(&mut draft, words, 1)?;
     match draft.finish() {
@@ -211,7 +232,11 @@ pub fn add_draft(alloc: Global, words: &Words, answer: &mut Vec<u8>) -> Result<(
 
 /// Answers `repeated N VALUES`: how many bytes the payload of a draft has that is an array of so
 /// many times these values.
-pub fn add_repeated(alloc: Global, words: &Words, answer: &mut Vec<u8>) -> Result<(), AllocError> {
+pub(crate) fn add_repeated(
+    alloc: Global,
+    words: &Words,
+    answer: &mut Vec<u8>,
+) -> Result<(), AllocError> {
     let mut draft = Draft::new(alloc);
     draft.open_list()?;
     for _ in 0..long_of(word_at(words, 1)) {
@@ -225,7 +250,11 @@ pub fn add_repeated(alloc: Global, words: &Words, answer: &mut Vec<u8>) -> Resul
 }
 
 /// Adds how many bytes a payload has.
-pub fn add_len(alloc: Global, payload: &[u8], answer: &mut Vec<u8>) -> Result<(), AllocError> {
+pub(crate) fn add_len(
+    alloc: Global,
+    payload: &[u8],
+    answer: &mut Vec<u8>,
+) -> Result<(), AllocError> {
     add_word(answer, b"bytes ")?;
     add_number(alloc, answer, payload.len() as u128)
 }

@@ -1,4 +1,5 @@
-//! Changes of a database, from the words of a row.
+//! Changes of a database, from the words of a row. The rules stand in `docs/formats.md`,
+//! "The database after a change".
 use adb_schema::ReadFault;
 use adb_write::WriteFault;
 use base_core::Words;
@@ -13,7 +14,7 @@ use std::marker::PhantomData;
 /// The database after `change FLAGS NAME ..`: the packages of the database without those of these
 /// names, and behind them those that come, with the files whose flag is 1. A file that is none has
 /// no packages. None: they are not in order, one that comes is bad, or the database is too large.
-pub fn changed_database(
+pub(crate) fn changed_database(
     alloc: Global,
     file: &[u8],
     coming: &[Vec<u8>],
@@ -29,8 +30,8 @@ pub fn changed_database(
     changed_over(alloc, file, &fronts, words)
 }
 
-/// The change of the database that these bytes are, or of an empty one, with the fronts of the
-/// packages that come.
+/// The database after a change of the one that these bytes are, or of an empty one, with the fronts
+/// of the packages that come.
 fn changed_over<'a>(
     alloc: Global,
     file: &'a [u8],
@@ -44,7 +45,7 @@ fn changed_over<'a>(
     }
 }
 
-/// The change of a database that was read.
+/// The database after a change of one that was read.
 fn change_of<'a>(
     alloc: Global,
     db: &Db<'a>,
@@ -67,7 +68,7 @@ fn change_of<'a>(
 }
 
 /// Whether a database is written again as it was read.
-pub fn unchanged_database(alloc: Global, file: &[u8]) -> Result<bool, AllocError> {
+pub(crate) fn unchanged_database(alloc: Global, file: &[u8]) -> Result<bool, AllocError> {
     match Db::read(alloc, file) {
         Ok(db) => is_written_again(alloc, &db, file),
         Err(ReadFault::Bad(_)) => Ok(false),
@@ -75,7 +76,8 @@ pub fn unchanged_database(alloc: Global, file: &[u8]) -> Result<bool, AllocError
     }
 }
 
-/// Whether the database that has the same packages is the same bytes.
+/// Whether the database with the same packages is the same bytes; it may list 100 files, each of
+/// which is owned.
 fn is_written_again(alloc: Global, db: &Db<'_>, file: &[u8]) -> Result<bool, AllocError> {
     let mut members = Members::new(alloc);
     for i in 0..db.len() {
@@ -99,7 +101,8 @@ fn is_among(words: &Words, name: &[u8]) -> bool {
     false
 }
 
-/// The database of members with these flags.
+/// The database of members with these flags, one for each file that they list; none where it is too
+/// large.
 fn written(
     alloc: Global,
     members: &Members<'_>,

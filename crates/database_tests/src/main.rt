@@ -1,6 +1,7 @@
 //! Answers questions to `db_core` and `db_write`: packages come into a database and leave it, and
 //! what is then found in it. Its stored run has all rows; `tests/lines.md` describes their form.
-//! The database stays from one row to the next, and so do the packages that are to come.
+//! The database stays from one row to the next, and so do the packages that are to come. The README
+//! of this crate has a row for each question.
 #![tactic(auto)]
 
 mod change;
@@ -16,17 +17,24 @@ use std::alloc::{AllocError, Global};
 use std::io;
 use std::process::ExitCode;
 
-/// What is asked.
+/// What is asked; the README of this crate says what each question answers.
 #[derive(Clone, Copy)]
 enum Question {
+    /// `start`.
     Start,
+    /// `package NAME VERSION FOLDER/ FILE ..`.
     Package,
+    /// `change FLAGS NAME ..`.
     Change,
+    /// `again`.
     Again,
+    /// `find NAME`.
     Find,
+    /// `owner PATH`.
     Owner,
 }
 
+// The words that questions begin with.
 #[rattlefmt::skip]
 const QUESTIONS: [(&[u8], Question); 6] = [
     (b"start", Question::Start),
@@ -40,7 +48,9 @@ const QUESTIONS: [(&[u8], Question); 6] = [
 /// A database, and the files of packages that are to come.
 #[derive(Drop)]
 struct Installed {
+    /// The database's file, as the last change wrote it; no bytes at first.
     file: Vec<u8>,
+    /// The files of the packages that are to come.
     coming: Vec<Vec<u8>>,
 }
 
@@ -71,7 +81,7 @@ impl Subject for Installed {
 }
 
 impl Installed {
-    /// A package is to come.
+    /// Takes `package NAME ..`: a package that is to come.
     fn add_package(&mut self, alloc: Global, words: &Words) -> Result<(), AllocError> {
         let file = package_file(alloc, words)?;
         self.coming.push(file)?;
@@ -112,7 +122,7 @@ fn add_count(alloc: Global, file: &[u8], answer: &mut Vec<u8>) -> Result<(), All
     }
 }
 
-/// Adds the place of the package with this name.
+/// Adds the place of the package with this name, counted from 0.
 fn add_found(
     alloc: Global,
     file: &[u8],
@@ -126,7 +136,7 @@ fn add_found(
     }
 }
 
-/// Adds the place of the package that lists this path.
+/// Adds the place of the package that lists this path, counted from 0.
 fn add_owner(
     alloc: Global,
     file: &[u8],

@@ -1,4 +1,4 @@
-//! Packages, from the words of a row.
+//! Packages, from the words of a row, as the README of this crate says under `package`.
 use adb_schema::PACKAGE_WORD;
 use adb_view::Val;
 use adb_write::{WriteFault, Writer, file_of};
@@ -6,12 +6,12 @@ use base_core::Words;
 use row_lines::word_at;
 use std::alloc::{AllocError, Global};
 
-/// The most bytes of a payload.
+/// The most bytes of a payload (`docs/formats.md`, "Canonical layout").
 const MOST_BYTES: usize = 268_435_455;
 
 /// The file of `package NAME VERSION ..`: a word that ends in a slash is a folder, another one a
 /// file in the folder before it. The root is a slash alone.
-pub fn package_file(alloc: Global, words: &Words) -> Result<Vec<u8>, AllocError> {
+pub(crate) fn package_file(alloc: Global, words: &Words) -> Result<Vec<u8>, AllocError> {
     let mut writer = Writer::new(alloc);
     let root = write_package(alloc, &mut writer, words)?;
     match writer.finish(root) {
@@ -50,7 +50,8 @@ fn write_folders(alloc: Global, writer: &mut Writer, words: &Words) -> Result<Va
     writer.arr(&folders)
 }
 
-/// Writes the folder whose word has this place.
+/// Writes the folder whose word has this place; its files are the words behind that, up to the next
+/// folder.
 fn write_folder(
     alloc: Global,
     writer: &mut Writer,

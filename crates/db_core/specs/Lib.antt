@@ -1,3 +1,6 @@
+-- The definitions of this crate, whose rules stand in `docs/formats.md`, "Schemas" and "The
+-- database after a change".
+
 -- what the contract of `apk` says
 pub mod Members
 pub mod Packages

@@ -1,4 +1,6 @@
 -- The packages after a change, and the files that they list.
+-- The rules stand in `docs/formats.md`, "The database after a change"; the words *member*, *lists*
+-- and *listing* in `docs/names.md`, "The installed database and a change of it".
 use Rattle.std.specs.Prelude.{ℕ, ◌+◌, ◌==◌, Bool, true, false, List, [], ◌∷◌, ◌++◌, Option, Some, None, is_some, bytes_eq, map}
 use Rattle.std.specs.List.{filter}
 use Rattle.base_core.specs.Listed.{IsRising}
@@ -7,48 +9,48 @@ use Rattle.adb_view.specs.Plain.{Plain}
 use Rattle.adb_fields.specs.Paths.{path_of}
 use Rattle.adb_fields.specs.Repeated.{name_of, package_name, folders_in, files_in}
 
--- a package after the change; one that comes has an id, one that stays has none
+-- a member: a package after the change; one that comes has an id, one that stays has none
 pub record Member : Type 0 where
   pub pkg : Plain
   pub id : Option (List ℕ)
 
--- a member without id stays, one with an id comes
+-- the member that a package of the database is which stays
 abbrev pub staying_member : Plain → Member
 staying_member pkg = record { pkg = pkg; id = None }
 
--- a package that comes has its container's id
+-- the member that a package is which comes, with its container's id
 abbrev pub coming_member : Plain → List ℕ → Member
 coming_member pkg id = record { pkg = pkg; id = Some id }
 
--- the name of its package
+-- the name of a member's package
 abbrev pub member_name : Member → List ℕ
 member_name m = package_name m.pkg
 
--- whether the package comes; one that stays has no id
+-- whether a member comes; one that stays has no id
 abbrev pub is_coming : Member → Bool
 is_coming m = is_some m.id
 
 -- ---- their order
 
--- each comes before those behind it, by its name
+-- members stand in byte order of their names, each name once
 abbrev pub AreInOrder : List Member → Type 0
 AreInOrder members = IsRising (map member_name members)
 
--- a name comes behind the last of members, and so behind all of them
+-- whether a name comes behind the last of some members, and so behind all of them
 abbrev pub comes_behind : List ℕ → List Member → Bool
 comes_behind name [] = true
 comes_behind name (m ∷ []) = precedes (member_name m) name
 comes_behind name (m ∷ n ∷ members) = comes_behind name (n ∷ members)
 
--- whether a place is the one that was found
+-- whether a place is the one that was found, if one was
 abbrev pub is_place : ℕ → Option ℕ → Bool
 is_place i None = false
 is_place i (Some found) = found == i
 
 -- ---- their files
 
--- A file that a member lists. The member's place counts from 0, those of the folder and of the file
--- in it count from 1.
+-- a listing: a file that a member lists, with its path, its entry and its member. The member's
+-- place counts from 0, those of the folder and of the file in it count from 1
 pub record Listing : Type 0 where
   pub path : List ℕ
   pub entry : Plain
@@ -57,7 +59,7 @@ pub record Listing : Type 0 where
   pub folder : ℕ
   pub file : ℕ
 
--- a file that a member lists, with its places
+-- the listing of a file of a member, with its places; `above` is the folder's name
 abbrev pub member_listing : Member → ℕ → ℕ → ℕ → List ℕ → Plain → Listing
 member_listing m place folder file above entry = record {
   path = path_of above (name_of entry);
@@ -68,25 +70,25 @@ member_listing m place folder file above entry = record {
   file = file;
 }
 
--- of the files of a folder, the first of which has this position
+-- the listings of the files of a folder, the first of which has the position `i`
 abbrev pub listings_in_folder : Member → ℕ → ℕ → ℕ → List ℕ → List Plain → List Listing
 listings_in_folder m place folder i above [] = []
 listings_in_folder m place folder i above (entry ∷ entries) =
     member_listing m place folder i above entry
     ∷ listings_in_folder m place folder (i + 1) above entries
 
--- of folders, the first of which has this position
+-- the listings of the files of folders, the first of which has the position `i`
 abbrev pub listings_in_folders : Member → ℕ → ℕ → List Plain → List Listing
 listings_in_folders m place i [] = []
 listings_in_folders m place i (folder ∷ folders) =
     listings_in_folder m place i 1 (name_of folder) (files_in folder)
     ++ listings_in_folders m place (i + 1) folders
 
--- of the member at this place, in the order of its folders and files
+-- the listings of the member at a place, in the order of its folders and files
 abbrev pub listings_by : ℕ → Member → List Listing
 listings_by place m = listings_in_folders m place 1 (folders_in m.pkg)
 
--- of members, the first of which has this place
+-- the listings of members, the first of which has this place
 abbrev pub listings_from : ℕ → List Member → List Listing
 listings_from place [] = []
 listings_from place (m ∷ members) = listings_by place m ++ listings_from (place + 1) members
@@ -95,6 +97,6 @@ listings_from place (m ∷ members) = listings_by place m ++ listings_from (plac
 unfoldable pub member_listings : List Member → List Listing
 member_listings members = listings_from 0 members
 
--- the files with this path, one for each member that lists it
+-- the listings of a path, one for each member that lists it: its claims
 unfoldable pub claims_of : List Member → List ℕ → List Listing
 claims_of members path = filter (λ l. bytes_eq l.path path) (member_listings members)

@@ -1,4 +1,6 @@
 -- The names of packages in byte order, among which one is found.
+-- The rule stands in `docs/DECISIONS.md`, "The installed database". Serves the contracts of
+-- `src/name_places.rt`.
 use Rattle.std.specs.Prelude.{ℕ, ◌+◌, List, [], ◌∷◌, Option, bytes_eq, option_map}
 use Rattle.std.specs.List.{find}
 use Rattle.std.specs.Ordering.{on}
@@ -13,13 +15,13 @@ pub record NameWithPlace : Type 0 where
   pub name : List ℕ
   pub place : ℕ
 
--- the names of packages, the first of which has this place
+-- the names of packages with their places, the first of which is this one
 abbrev pub placed_names_from : ℕ → List Plain → List NameWithPlace
 placed_names_from place [] = []
 placed_names_from place (pkg ∷ packages) =
     record { name = package_name pkg; place = place } ∷ placed_names_from (place + 1) packages
 
--- which comes first by its name
+-- the order of names with their places: the byte order of the names
 unfoldable pub placed_name_cmp : NameWithPlace → NameWithPlace → Ordering
 placed_name_cmp = on (λ n. n.name) bytes_cmp
 
@@ -27,6 +29,6 @@ placed_name_cmp = on (λ n. n.name) bytes_cmp
 abbrev pub placed_names_in_order : List Plain → List NameWithPlace
 placed_names_in_order packages = sorted_by placed_name_cmp (placed_names_from 0 packages)
 
--- the place beside the first name that is this one
+-- the place beside the first name of the list that is this one, if one is
 abbrev pub place_named : List ℕ → List NameWithPlace → Option ℕ
 place_named name names = option_map (λ n. n.place) (find (λ n. bytes_eq n.name name) names)

@@ -1,7 +1,8 @@
 -- What a name with its place stands for.
+-- No rule of a document: serves the contracts of `src/name_places.rt`.
 use Rattle.db_core.specs.NamePlaces.{NameWithPlace}
 use Rattle.db_core.specs.declared.name_places.NamePlace.{NamePlace}
 
--- the text in place of a slice
+-- a name with its place as contracts see it: the text in place of a slice
 abbrev pub name_seen : NamePlace → NameWithPlace
 name_seen n = record { name = n.name.now; place = n.place }

@@ -1,9 +1,11 @@
 -- The files that members own.
+-- The rule stands in `docs/formats.md`, "The database after a change": "of its files those that the
+-- package owns".
 use Rattle.std.specs.Prelude.{◌≡◌, ℕ, Bool, true, false, List, [], ◌∷◌, map}
 use Rattle.adb_fields.specs.FirstPair.{IsIn}
 use Rattle.db_core.specs.Members.{Listing, Member, member_listings}
 
--- those whose flag is set, by one flag for each
+-- the listings whose flag is set, by one flag for each; a listing without a flag is left out
 abbrev pub owned_listings : List Listing → List Bool → List Listing
 owned_listings [] flags = []
 owned_listings (l ∷ listings) [] = []
@@ -14,7 +16,7 @@ owned_listings (l ∷ listings) (false ∷ flags) = owned_listings listings flag
 abbrev pub owned_paths : List Member → List Bool → List (List ℕ)
 owned_paths members flags = map (λ l. l.path) (owned_listings (member_listings members) flags)
 
--- no path is that of files of two members
+-- no two members have a file of one path among these
 abbrev pub HaveOneOwner : List Listing → Type 0
 HaveOneOwner listings =
     (l k : Listing) → IsIn l listings → IsIn k listings → l.path ≡ k.path → l.place ≡ k.place

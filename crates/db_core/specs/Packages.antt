@@ -1,4 +1,6 @@
 -- The packages of a database, and who of them lists a file.
+-- The rules stand in `docs/formats.md`, "Schemas", tables 7 and 9, and "The texts" (which paths may
+-- be listed, and the reserved names); who owns a path, in `docs/commands.md`, "`info`".
 use Rattle.std.specs.Prelude.{ℕ, Bool, List, [], Option, Some, None, not, ◌||◌, bytes_eq}
 use Rattle.std.specs.List.{list_all, list_any}
 use Rattle.base_core.specs.Name.{is_name}
@@ -13,27 +15,27 @@ use Rattle.db_core.specs.Members.{Member, is_coming}
 abbrev pub is_package_named : List ℕ → Plain → Bool
 is_package_named name pkg = bytes_eq (package_name pkg) name
 
--- the id of an installed package: its information keeps it in the field hashes
+-- the id of an installed package, which its information keeps in the field `hashes`
 abbrev pub installed_id : Plain → List ℕ
 installed_id pkg = text_in (entry_in (entry_in pkg PACKAGE_INFO) INFO_HASHES)
 
--- a package lists a file with this path
+-- whether a package lists a file with this path
 abbrev pub lists_path : List ℕ → Plain → Bool
 lists_path path pkg = list_any (bytes_eq path) (paths_in pkg)
 
--- each path that a package lists is a name
+-- whether each path that a package lists is a name
 abbrev pub lists_names : Plain → Bool
 lists_names pkg = list_all is_name (paths_in pkg)
 
--- no path that it lists is reserved
+-- whether no path that a package lists is reserved
 abbrev pub lists_no_reserved : Plain → Bool
 lists_no_reserved pkg = list_all (λ path. not (is_reserved path)) (paths_in pkg)
 
--- a member comes, or lists no reserved path
+-- whether a member comes, or lists no reserved path: a package may list one, and a database may not
 abbrev pub comes_or_lists_no_reserved : Member → Bool
 comes_or_lists_no_reserved m = is_coming m || lists_no_reserved m.pkg
 
--- the packages of the value of a database, or of none
+-- the packages of the value of a database; none where there is no database
 abbrev pub packages_by : Option Plain → List Plain
 packages_by None = []
 packages_by (Some v) = entries_at IDB_PACKAGES v

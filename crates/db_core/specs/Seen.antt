@@ -1,4 +1,5 @@
 -- What a database and the members of the program stand for.
+-- No rule of a document: contracts speak of a database and of members by these.
 use Rattle.std.specs.Prelude.{List, option_map, map}
 use Rattle.adb_view.specs.Plain.{Plain}
 use Rattle.adb_schema.specs.Views.{idb_value}
@@ -12,6 +13,6 @@ use Rattle.db_core.specs.declared.members.Members.{Members}
 abbrev pub packages_of : Db → List Plain
 packages_of db = packages_by (option_map idb_value db.idb)
 
--- the members, in their order
+-- the members of the program, in their order
 abbrev pub members_of : Members → List Member
 members_of members = map member_by members.entries.items

@@ -1,4 +1,7 @@
 -- Members whose packages come out of sound containers, and files that a database may list.
+-- The rules stand in `docs/formats.md`, "Tests of a container" (what is sound), "Names that stand
+-- twice" and "The texts", field 401 (which paths a database may list). Serves the law of `db_write`
+-- that a new database is sound.
 use Rattle.std.specs.Prelude.{◌≡◌, ℕ, true, false, List, [], ◌∷◌, length, map, Option, Some, None}
 use Rattle.adb_view.specs.Plain.{Plain, IsNormal}
 use Rattle.adb_tables.specs.FieldIndexes.{IDB_PACKAGES}
@@ -11,14 +14,14 @@ use Rattle.adb_schema.specs.SoundContainers.{IsSoundValue}
 use Rattle.db_core.specs.Members.{Listing, Member}
 use Rattle.db_core.specs.OwnedListings.{HaveOneOwner}
 
--- a package of the value of a sound database
+-- a package is one of the value of a sound database
 pub record IsOfSoundDatabase (pkg : Plain) : Type 0 where
   pub database : Plain
   pub sound : IsSoundValue Idb database
   pub normal : IsNormal database
   pub listed : IsIn pkg (entries_at IDB_PACKAGES database)
 
--- the value of a sound package, with a digest as its id
+-- a package is the value of a sound package, whose id is a digest
 pub record IsOfSoundPackage (pkg : Plain) (id : List ℕ) : Type 0 where
   pub sound : IsSoundValue Package pkg
   pub normal : IsNormal pkg
@@ -29,12 +32,13 @@ abbrev pub IsSoundDatabaseIfAny : Option Plain → Type 0
 IsSoundDatabaseIfAny None = Unit {0}
 IsSoundDatabaseIfAny (Some database) = IsSoundValue Idb database × IsNormal database
 
--- one that has no id stays, and one with an id comes
+-- a package comes out of a sound container: of a database where it has no id and stays, of a
+-- package's own where it has one and comes
 abbrev pub IsOfSoundContainer : Plain → Option (List ℕ) → Type 0
 IsOfSoundContainer pkg None = IsOfSoundDatabase pkg
 IsOfSoundContainer pkg (Some id) = IsOfSoundPackage pkg id
 
--- so is each of some members
+-- each of some members comes out of a sound container
 abbrev pub AreOfSoundContainers : List Member → Type 0
 AreOfSoundContainers [] = Unit {0}
 AreOfSoundContainers (m ∷ members) = IsOfSoundContainer m.pkg m.id × AreOfSoundContainers members
@@ -44,7 +48,7 @@ abbrev pub NoneReserved : List (List ℕ) → Type 0
 NoneReserved [] = Unit {0}
 NoneReserved (path ∷ paths) = (is_reserved path ≡ false) × NoneReserved paths
 
--- each path has one owner, and none is reserved
+-- listings that a database may have: each path has one owner, and none is reserved
 pub record MayBeListed (listings : List Listing) : Type 0 where
   pub one_owner : HaveOneOwner listings
   pub free : NoneReserved (map (λ l. l.path) listings)

@@ -1,4 +1,7 @@
 //! The installed database as it is read.
+//! The rules stand in `docs/formats.md`, "Tests of a container" (which file is read), and
+//! "Schemas", tables 7 and 9 (what it holds); what `find` and `owner_of` answer, in
+//! `docs/DECISIONS.md`, "The installed database", and `docs/commands.md`, "`info`".
 ghost use Rattle.adb_fields.specs.ListValue.{list_value};
 ghost use Rattle.adb_fields.specs.Repeated.{entries_at, list_of};
 ghost use Rattle.adb_schema.specs.ReadFaults.{IsReadFault};
@@ -30,12 +33,17 @@ use std::alloc::{AllocError, Global};
 /// places of the packages are kept besides in byte order of names, in which a name is looked for.
 #[derive(Drop)]
 pub struct Db<'a> {
+    /// The view of the database; none where there is no file, and so no package.
     pub(crate) idb: Option<IdbView<'a>>,
+    /// The names of the packages in byte order, each with the place of its package.
     pub(crate) names: Vec<NamePlace<'a>>,
+    // The names are those of the packages, in byte order.
     ghost by_name: { map name_seen names.items
         ≡ placed_names_in_order (packages_by (option_map idb_value idb)) },
+    // Each path that a package lists is a name, and none is reserved.
     ghost named: { list_all lists_names (packages_by (option_map idb_value idb)) ≡ true },
     ghost free: { list_all lists_no_reserved (packages_by (option_map idb_value idb)) ≡ true },
+    // The database passed all tests: its value is sound.
     ghost sound: { ∥ IsSoundDatabaseIfAny (option_map idb_value idb) ∥₁ },
 }
 
@@ -64,6 +72,8 @@ impl<'a> Db<'a> {
         ensures bad { IfErr result
             (λ fault. IsReadFault fault (first_fault Tables.Idb bytes.entry.now)) }
         ensures sound { IfOk result (λ _. first_fault Tables.Idb bytes.entry.now ≡ None) }
+        // 0 is the index of `packages` among the fields of a database (1 in table 9 of
+        // `docs/formats.md`, "Schemas").
         ensures packages { IfOk result (λ db. packages_of db
             ≡ entries_at 0 (root_value Tables.Idb (payload_in bytes.entry.now))) }
     {
@@ -80,6 +90,7 @@ impl<'a> Db<'a> {
     /// Want of memory.
     pub fn open(alloc: Global, payload: &'a [u8]) -> Result<Db<'a>, AllocError>
         requires { payload_fault Tables.Idb payload.now ≡ None }
+        // 0 is the index of `packages`, as above.
         ensures { IfOk result (λ db. packages_of db
             ≡ entries_at 0 (root_value Tables.Idb payload.entry.now)) }
     {
@@ -94,7 +105,7 @@ impl<'a> Db<'a> {
         })
     }
 
-    /// How many packages there are.
+    /// How many packages the database has.
     pub fn len(&self) -> usize
         ensures value { result ≡ length (packages_of self.now) }
         ensures small { result < 2 ^ 32 }
@@ -105,7 +116,7 @@ impl<'a> Db<'a> {
         }
     }
 
-    /// Whether there is none.
+    /// Whether the database has no package.
     pub fn is_empty(&self) -> bool
         ensures { result ≡ (length (packages_of self.now) == 0) }
     {
@@ -119,12 +130,13 @@ impl<'a> Db<'a> {
     {
         match &self.idb {
             Some(idb) => package_at(&idb.packages(), i),
+            // A database without a view has no package.
             None => unreachable!(),
         }
     }
 
     /// The place of the package with this name, counted from 0; of several the first. None comes
-    /// exactly where no package has the name. The names are halved at each step.
+    /// exactly where no package has the name. The name is found by halving.
     pub fn find(&self, name: &[u8]) -> Option<usize>
         ensures found { result
             ≡ position_from (is_package_named name.now) 0 (packages_of self.now) }
@@ -145,25 +157,28 @@ impl<'a> Db<'a> {
         }
     }
 
-    /// Each path that a package of the database lists is a name.
+    /// Each path that a package of the database lists is a name, so that a file may be removed
+    /// under it.
     pub fn listed_paths_are_names(&self)
         ensures { All (λ l. IsName l.path)
             (member_listings (map staying_member (packages_of self.now))) }
     {}
 
-    /// No path that a package of the database lists is reserved.
+    /// No path that a package of the database lists is reserved: no change removes one of the
+    /// package keeper's own files as a package's.
     pub fn no_listed_path_is_reserved(&self)
         ensures { All (λ l. is_reserved l.path ≡ false)
             (member_listings (map staying_member (packages_of self.now))) }
     {}
 }
 
-/// The payload of the first block of a database's file.
+/// The payload of the first block of a database's file, which passes all tests.
 #[tactic(auto, unfolding(adb_schema::specs::Soundness::first_fault, adb_schema::specs::Soundness::payload_in))]
 fn first_payload(bytes: &[u8]) -> &[u8]
     requires { first_fault Tables.Idb bytes.now ≡ None }
     ensures { result.now ≡ payload_in bytes.entry.now }
 {
+    // The file passes all tests, so it has a first block.
     let Ok(mut blocks) = Blocks::new(bytes) else {
         unreachable!()
     };
@@ -182,23 +197,25 @@ pub fn open_idb(payload: &[u8]) -> IdbView<'_>
     open_root(payload)
 }
 
-/// The database in a payload whose head and root pass their tests.
+/// The view of the database in a payload whose head and root pass their tests.
 fn open_root(payload: &[u8]) -> IdbView<'_>
     requires head { is_none (head_fault payload.now) ≡ true }
     requires sound { is_sound payload.now (Kinds.Obj Tables.Idb) (root_of payload.now) ≡ true }
     ensures { idb_value result ≡ root_value Tables.Idb payload.now }
 {
+    // The head passes its test, by the contract.
     let Ok(adb) = Adb::new(payload) else {
         unreachable!()
     };
     IdbView::of(adb, adb.root())
 }
 
-/// The package at a place, counted from 0.
+/// The package at a place of a list, counted from 0.
 fn package_at<'a>(packages: &List<'a, PackageView<'a>>, i: usize) -> PackageView<'a>
     requires { i < count_of (entries_in (list_value packages.now)) }
     ensures { package_value result ≡ entry_in (list_value packages.now) i }
 {
+    // Never so, by the contract; `len` tells that a list has less than 2^32 entries.
     if i >= packages.len() {
         unreachable!();
     }
@@ -206,7 +223,7 @@ fn package_at<'a>(packages: &List<'a, PackageView<'a>>, i: usize) -> PackageView
     packages.get(i + 1)
 }
 
-/// Whether the package at a place, counted from 0, lists this path.
+/// Whether the package at a place of a list, counted from 0, lists this path.
 fn is_lister<'a>(packages: &List<'a, PackageView<'a>>, i: usize, path: &[u8]) -> bool
     requires { i < count_of (entries_in (list_value packages.now)) }
     ensures { result ≡ lists_path path.now (entry_in (list_value packages.now) i) }
@@ -215,7 +232,8 @@ fn is_lister<'a>(packages: &List<'a, PackageView<'a>>, i: usize, path: &[u8]) ->
     is_path_listed(&package.paths(), path)
 }
 
-/// The place of the first package that lists this path, counted from 0.
+/// The place in a list, counted from 0, of the first package that lists this path; none where no
+/// package does.
 fn find_lister<'a>(packages: &List<'a, PackageView<'a>>, path: &[u8]) -> Option<usize>
     ensures found { result ≡ position_from (lists_path path.now) 0
         (list_of (entries_in (list_value packages.now))) }

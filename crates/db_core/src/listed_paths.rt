@@ -1,4 +1,7 @@
 //! Whether folders list a file with some path, which is not joined.
+//! What a path is, stands in `docs/formats.md`, "The texts", fields 401 and 501: the folder's name,
+//! which is empty for the root, `/`, and the file's name. Who owns a path is asked by `info`
+//! (`docs/commands.md`, "`info`").
 ghost use Rattle.adb_fields.specs.ListValue.{list_value};
 ghost use Rattle.adb_fields.specs.Paths.{path_of};
 ghost use Rattle.adb_fields.specs.Repeated.{list_of, name_of, paths_under};
@@ -9,7 +12,7 @@ ghost use Rattle.std.specs.Prelude.{◌≡◌, ◌<◌, bytes_eq};
 
 use adb_schema::{DirInfo, FileInfo, List};
 
-/// Whether one of the folders lists a file with this path.
+/// Whether one of some folders lists a file with this path.
 pub(crate) fn is_path_listed<'a>(folders: &List<'a, DirInfo<'a>>, path: &[u8]) -> bool
     ensures { result ≡ list_any (bytes_eq path.now)
         (flat_map paths_under (list_of (entries_in (list_value folders.now)))) }
@@ -28,6 +31,7 @@ fn is_path_in_folder<'a>(folders: &List<'a, DirInfo<'a>>, i: usize, path: &[u8])
     ensures { result ≡ list_any (bytes_eq path.now)
         (paths_under (entry_in (list_value folders.now) i)) }
 {
+    // Never so, by the contract; `len` tells that a list has less than 2^32 entries.
     if i >= folders.len() {
         unreachable!();
     }
@@ -35,7 +39,7 @@ fn is_path_in_folder<'a>(folders: &List<'a, DirInfo<'a>>, i: usize, path: &[u8])
     is_path_of_any(&folder.files(), folder.name(), path)
 }
 
-/// Whether one of a folder's files has this path.
+/// Whether one of the files of a folder has this path.
 fn is_path_of_any<'a>(files: &List<'a, FileInfo<'a>>, folder: &[u8], path: &[u8]) -> bool
     ensures { result ≡ list_any (λ file. bytes_eq path.now (path_of folder.now (name_of file)))
         (list_of (entries_in (list_value files.now))) }
@@ -54,16 +58,19 @@ fn is_path_of_file<'a>(files: &List<'a, FileInfo<'a>>, i: usize, folder: &[u8], 
     ensures { result ≡ bytes_eq path.now
         (path_of folder.now (name_of (entry_in (list_value files.now) i))) }
 {
+    // Never so, by the contract; `len` tells that a list has less than 2^32 entries.
     if i >= files.len() {
         unreachable!();
     }
     is_path(path, folder, files.get(i + 1).name())
 }
 
-/// Whether a path is that of the file with this name in this folder.
+/// Whether a path is that of the file with this name in this folder: the two joined by `/`, or the
+/// name alone where the folder is the root.
 fn is_path(path: &[u8], folder: &[u8], name: &[u8]) -> bool
     ensures { result ≡ bytes_eq path.now (path_of folder.now name.now) }
 {
+    // A path in the root is the name alone.
     if folder.is_empty() {
         return path == name;
     }

@@ -1,4 +1,7 @@
 //! The packages after a change.
+//! The rule stands in `docs/formats.md`, "The database after a change": those that stay and those
+//! that come, in byte order of their names. How a member is added is said in `docs/DECISIONS.md`,
+//! "The installed database".
 
 ghost use Rattle.adb_fields.specs.Repeated.{package_name};
 ghost use Rattle.adb_schema.specs.Views.{package_value};
@@ -23,13 +26,16 @@ use pkg_pieces::Contents;
 use std::alloc::{AllocError, Global};
 use std::marker::Model;
 
-/// How many packages there may be.
+/// How many packages there may be after a change: as many as there may be candidates
+/// (`docs/selection.md`, "What there is to choose from").
 pub const MOST_MEMBERS: usize = 65536;
 
 /// A package after the change, and the id of one that comes.
 #[derive(Drop)]
 pub(crate) struct PackageWithId<'a> {
+    /// The package.
     pub(crate) view: PackageView<'a>,
+    /// The id of a package that comes; none of one that stays.
     pub(crate) id: Option<[u8; 32]>,
 }
 
@@ -52,15 +58,20 @@ impl<'a> Model for PackageWithId<'a> {
 /// The packages after a change, in byte order of names: those that stay and those that come.
 #[derive(Drop)]
 pub struct Members<'a> {
+    /// The packages, in byte order of their names.
     pub(crate) entries: Vec<PackageWithId<'a>>,
+    // The packages stand in byte order of their names, each name once.
     ghost in_order: { IsRising (map (λ e. member_name (member_by e)) entries.items) },
+    // There are no more packages than there may be.
     ghost few: { length entries.items ≤ MOST_MEMBERS },
+    // Each path that a package lists is a name; one that stays lists no reserved path.
     ghost named: { list_all (λ e. lists_names (member_by e).pkg) entries.items ≡ true },
     ghost free: { list_all (λ e. comes_or_lists_no_reserved (member_by e)) entries.items ≡ true },
+    // The packages come out of sound containers.
     ghost sound: { ∥ AreOfSoundContainers (map member_by entries.items) ∥₁ },
 }
 
-/// Whether the name of a package comes before another one.
+/// Whether the name of a package comes before another one in byte order.
 fn is_before(entry: &PackageWithId<'_>, name: &[u8]) -> bool
     ensures { result ≡ precedes (member_name (member_by entry.now)) name.now }
 {
@@ -74,7 +85,7 @@ impl<'a> Members<'a> {
     ghost use Rattle.db_core.specs.Members.{AreInOrder, member_listings};
     ghost use Rattle.db_core.specs.Seen.{members_of, packages_of};
 
-    /// No packages.
+    /// A list without packages.
     pub fn new(alloc: Global) -> Members<'a>
         ensures { members_of result ≡ [] }
     {
@@ -138,7 +149,7 @@ impl<'a> Members<'a> {
     }
 
     /// The place of the package with this name, counted from 0. None comes exactly where no package
-    /// has the name. The names are halved at each step.
+    /// has the name. The name is found by halving.
     pub fn find(&self, name: &[u8]) -> Option<usize>
         ensures found { (i : ℕ) (m : Member) → slice_get (members_of self.now) i ≡ Some m
             → is_place i result ≡ bytes_eq (member_name m) name.now }
@@ -173,7 +184,7 @@ impl<'a> Members<'a> {
         self.entries.len()
     }
 
-    /// Whether there is none.
+    /// Whether there is no package.
     pub fn is_empty(&self) -> bool
         ensures { result ≡ (length (members_of self.now) == 0) }
     {
@@ -189,7 +200,7 @@ impl<'a> Members<'a> {
         &self.entries[i].view
     }
 
-    /// The id of the package at a place, counted from 0. None: it stays.
+    /// The id of the package at a place, counted from 0; none where the package stays.
     pub fn id(&self, i: usize) -> Option<[u8; 32]>
         requires { i < length (members_of self.now) }
         ensures { (m : Member) → slice_get (members_of self.now) i ≡ Some m → result ≡ m.id }
@@ -197,30 +208,34 @@ impl<'a> Members<'a> {
         self.entries[i].id
     }
 
-    /// Members stand in byte order of their names, each name once.
+    /// Members stand in byte order of their names, each name once. The writer of a database asks
+    /// for it, since a database lists its packages in that order.
     pub fn members_are_in_order(&self)
         ensures { AreInOrder (members_of self.now) }
     {}
 
-    /// Each path that a member lists is a name.
+    /// Each path that a member lists is a name, so that a file may be written under it.
     pub fn listed_paths_are_names(&self)
         ensures { All (λ l. IsName l.path) (member_listings (members_of self.now)) }
     {}
 
-    /// No path that a member which stays lists is reserved.
+    /// No path that a member which stays lists is reserved, since its database passed the tests; a
+    /// package that comes may list one.
     pub fn no_path_that_stays_is_reserved(&self)
         ensures { All (λ l. is_coming l.member ≡ false → is_reserved l.path ≡ false)
             (member_listings (members_of self.now)) }
     {}
 
-    /// The packages come out of sound containers.
+    /// The packages come out of sound containers, so that what is read of them need not be judged
+    /// again, and a database of them is sound.
     pub fn packages_are_sound(&self)
         ensures { ∥ AreOfSoundContainers (members_of self.now) ∥₁ }
     {}
 }
 
 /// Each file that members list stands at its places: the member at the one among members, the
-/// folder and the file at those in it. Its path is that of the folder and the file.
+/// folder and the file at those in it. Its path is that of the folder and the file. So a claim
+/// leads back to the entry of its file.
 pub fn listings_stand_at_their_places()
     ensures { (members : List Member) (i : ℕ) (l : Listing)
         → slice_get (member_listings members) i ≡ Some l → IsListedAt members l }

@@ -1,4 +1,6 @@
 //! Names of packages in byte order, each with the place of its package.
+//! The rule stands in `docs/DECISIONS.md`, "The installed database": a database may have its
+//! packages in any order of names, so their names are kept in byte order beside it.
 ghost use Rattle.adb_fields.specs.ListValue.{list_value};
 ghost use Rattle.adb_fields.specs.Repeated.{list_of, package_name};
 ghost use Rattle.adb_schema.specs.Views.{package_value};
@@ -16,7 +18,9 @@ use std::alloc::{AllocError, Global};
 /// The name of a package, and its place in the database, counted from 0.
 #[derive(Clone, Copy)]
 pub(crate) struct NamePlace<'a> {
+    /// The name of the package.
     pub(crate) name: &'a [u8],
+    /// The place of the package in the database, counted from 0.
     pub(crate) place: usize,
 }
 
@@ -33,7 +37,7 @@ pub(crate) fn sorted_names<'a>(
     Ok(names)
 }
 
-/// The names of packages, in the order of these.
+/// The names of packages, in the order of the packages.
 fn names_of<'a>(
     alloc: Global,
     packages: &List<'a, PackageView<'a>>,
@@ -54,6 +58,7 @@ fn name_at<'a>(packages: &List<'a, PackageView<'a>>, i: usize) -> &'a [u8]
     requires { i < count_of (entries_in (list_value packages.now)) }
     ensures { result.now ≡ package_name (entry_in (list_value packages.now) i) }
 {
+    // Never so, by the contract; `len` tells that a list has less than 2^32 entries.
     if i >= packages.len() {
         unreachable!();
     }
@@ -61,7 +66,7 @@ fn name_at<'a>(packages: &List<'a, PackageView<'a>>, i: usize) -> &'a [u8]
     package.info().name()
 }
 
-/// Puts names into byte order. Equal ones stay in theirs.
+/// Puts names into byte order. Equal ones stay in the order that they have.
 fn sort_names(names: &mut Vec<NamePlace<'_>>) -> Result<(), AllocError>
     ensures { IfOk result (λ _. map name_seen names.new.items
         ≡ sorted_by placed_name_cmp (map name_seen names.old.items)) }
@@ -70,7 +75,7 @@ fn sort_names(names: &mut Vec<NamePlace<'_>>) -> Result<(), AllocError>
     Ok(())
 }
 
-/// How many names come before this one, where they are in order.
+/// How many names come before this one; the names are in byte order.
 fn count_before(names: &[NamePlace<'_>], name: &[u8]) -> usize
     requires { IsSorted placed_name_cmp (map name_seen names.now) }
     ensures within { result ≤ length names.now }
@@ -80,7 +85,8 @@ fn count_before(names: &[NamePlace<'_>], name: &[u8]) -> usize
     names.partition_point(|entry| entry.name.cmp(&name).is_lt())
 }
 
-/// The place of the first of the packages with this name, where the names are in order.
+/// The place of the first of the packages with this name, if one has it; the names are in byte
+/// order.
 pub(crate) fn place_of(names: &[NamePlace<'_>], name: &[u8]) -> Option<usize>
     requires { IsSorted placed_name_cmp (map name_seen names.now) }
     ensures { result ≡ place_named name.now (map name_seen names.now) }

@@ -1,4 +1,7 @@
 //! Which files of the members are theirs.
+//! What a member owns, stands in `docs/commands.md`, "Files that several packages list"; that a
+//! database lists of a package's files those that it owns, in `docs/formats.md`, "The database
+//! after a change".
 ghost use Rattle.std.specs.Prelude.{◌≡◌, ◌<◌, ◌==◌, ◌++◌, ◌∷◌, [], Some, length, slice_get, OnOk, OnErr};
 
 use std::alloc::{AllocError, Global};
@@ -8,6 +11,7 @@ use std::marker::Model;
 /// owns it.
 #[derive(Drop)]
 pub struct Owned {
+    /// The flags, one for each file that members list.
     flags: Vec<bool>,
 }
 
@@ -20,7 +24,7 @@ impl Model for Owned {
 }
 
 impl Owned {
-    /// No files.
+    /// A list without files.
     pub fn new(alloc: Global) -> Owned
         ensures { result ≡ [] }
     {
@@ -29,7 +33,7 @@ impl Owned {
         }
     }
 
-    /// As these flags say, one for each file.
+    /// The files as these flags say, one for each.
     pub fn of(flags: Vec<bool>) -> Owned
         ensures { result ≡ flags.items }
     {
@@ -49,14 +53,14 @@ impl Owned {
         Ok(())
     }
 
-    /// How many files there are.
+    /// How many files the list has.
     pub fn len(&self) -> usize
         ensures { result ≡ length self.now }
     {
         self.flags.len()
     }
 
-    /// Whether there is none.
+    /// Whether the list has no file.
     pub fn is_empty(&self) -> bool
         ensures { result ≡ (length self.now == 0) }
     {
@@ -71,7 +75,7 @@ impl Owned {
         self.flags[i]
     }
 
-    /// All of them.
+    /// The flags of all files, in their order.
     pub fn as_slice(&self) -> &[bool]
         ensures { result.now ≡ self.now }
     {

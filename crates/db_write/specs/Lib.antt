@@ -1,3 +1,6 @@
+-- The definitions of this crate, whose rules stand in `docs/formats.md`, "The database after a
+-- change".
+
 -- what the contract of `apk` says
 pub mod NewDatabase
 -- what only inner contracts and proofs use

@@ -1,5 +1,7 @@
 -- The database that lists members: of each its folders, and the files that it owns. No integer in
 -- it is 0.
+-- The rules stand in `docs/formats.md`, "The database after a change"; the fields in "Schemas",
+-- tables 5, 7 and 9.
 use Rattle.std.specs.Prelude.{ℕ, ◌+◌, Bool, true, false, List, [], ◌∷◌, Option, length, drop, unwrap_or, Result, Ok, Err}
 use Rattle.adb_view.specs.Plain.{Plain, Plains, none, more, blob_value, arr_value, obj_value}
 use Rattle.adb_tables.specs.FieldIndexes.{DIR_ACL, INFO_FILE_SIZE, INFO_HASHES, PACKAGE_INFO, PACKAGE_REPLACES_PRIORITY, PACKAGE_SCRIPTS, PACKAGE_TRIGGERS}
@@ -13,7 +15,8 @@ use Rattle.db_core.specs.Members.{Member}
 
 -- ---- by flags, one for each file in its order
 
--- the files whose flag is set
+-- the entries of those files whose flag is set, by one flag for each; a file without a flag is left
+-- out
 abbrev pub owned_entries : List Plain → List Bool → Plains
 owned_entries [] flags = none
 owned_entries (file ∷ files) [] = none
@@ -21,47 +24,49 @@ owned_entries (file ∷ files) (true ∷ flags) =
     more (without_zeros file) (owned_entries files flags)
 owned_entries (file ∷ files) (false ∷ flags) = owned_entries files flags
 
--- what each element makes of the flags from its first one on; each has so many
+-- what each element of a list makes of the flags from its first one on; `count` says how many each
+-- has
 abbrev pub each_by_flags :
     {X : Type 0} → (X → ℕ) → (X → List Bool → Plain) → List X → List Bool → Plains
 each_by_flags count value [] flags = none
 each_by_flags count value (x ∷ xs) flags =
     more (value x flags) (each_by_flags count value xs (drop (count x) flags))
 
--- how many they have in all
+-- how many of something the elements of a list have in all
 abbrev pub total_of : {X : Type 0} → (X → ℕ) → List X → ℕ
 total_of count [] = 0
 total_of count (x ∷ xs) = count x + total_of count xs
 
 -- ---- folders
 
--- as many flags belong to the folder
+-- how many files a folder has: as many flags belong to the folder
 abbrev pub file_count : Plain → ℕ
 file_count folder = length (files_in folder)
 
--- its name, its access list, and the files that are owned
+-- a folder in the new database: its name, its access list, and those of its files whose flag is set
 abbrev pub folder_after : Plain → List Bool → Plain
 folder_after folder flags =
     obj_value (more (blob_value (name_of folder)) (more (without_zeros (entry_in folder DIR_ACL))
     (more (arr_value (owned_entries (files_in folder) flags)) none)))
 
--- each takes as many flags as it has files
+-- the folders of a package in the new database; each takes as many flags as it has files
 abbrev pub folders_after : List Plain → List Bool → Plains
 folders_after folders flags = each_by_flags file_count folder_after folders flags
 
 -- ---- packages
 
--- as many flags belong to the member
+-- how many files a member lists: as many flags belong to the member
 abbrev pub member_file_count : Member → ℕ
 member_file_count m = total_of file_count (folders_in m.pkg)
 
--- the information of a package, whose hash is the id where it comes
+-- the information of a package in the new database, whose hash is the id where the package comes
 abbrev pub info_after : Option (List ℕ) → Plain → Plain
 info_after id info =
     info_with info (unwrap_or id (text_in (entry_in info INFO_HASHES)))
     (int_in (entry_in info INFO_FILE_SIZE))
 
--- its information, its folders, its scripts, its triggers, and its priority in replacing
+-- a package in the new database: its information, its folders, its scripts, its triggers, and its
+-- priority in replacing
 abbrev pub package_after : Member → List Bool → Plain
 package_after m flags =
     obj_value (more (info_after m.id (entry_in m.pkg PACKAGE_INFO))
@@ -70,21 +75,21 @@ package_after m flags =
     (more (without_zeros (entry_in m.pkg PACKAGE_TRIGGERS))
     (more (int_value (int_in (entry_in m.pkg PACKAGE_REPLACES_PRIORITY))) none)))))
 
--- the packages, each with the flags of its own files
+-- the packages of the new database, each with the flags of its own files
 abbrev pub packages_after : List Member → List Bool → Plains
 packages_after members flags = each_by_flags member_file_count package_after members flags
 
 -- ---- the database
 
--- the database after a change, as a value
+-- the value of the new database
 unfoldable pub database_value : List Member → List Bool → Plain
 database_value members flags = obj_value (more (arr_value (packages_after members flags)) none)
 
--- the container of a payload, unless it passes a limit
+-- the file of a database with this payload, unless the payload passes a limit of the writer
 abbrev pub database_container : Result (List ℕ) PayloadCounts → Result (List ℕ) PayloadCounts
 database_container (Ok payload) = Ok (file_of IDB_WORD payload)
 database_container (Err counts) = Err counts
 
--- the database's file, or the counts of the writer at the first value that passes a limit
+-- the file of the new database, or the counts of the writer at the first value that passes a limit
 unfoldable pub database_of : List Member → List Bool → Result (List ℕ) PayloadCounts
 database_of members flags = database_container (written_of (database_value members flags))

@@ -1,4 +1,7 @@
 //! The database's container.
+//! The rules stand in `docs/formats.md`, "The database after a change" and "Container"; the limits
+//! of a payload in "Canonical layout"; what is asked of the flags, in `docs/DECISIONS.md`, "The
+//! installed database".
 ghost use Rattle.adb_values.specs.Drafts.{draft_with};
 ghost use Rattle.adb_values.specs.Written.{IsWrittenAs};
 ghost use Rattle.adb_write.specs.Canonical.{written_of, MOST_BYTES};
@@ -32,6 +35,7 @@ use std::alloc::{AllocError, Global};
 pub fn write_db(alloc: Global, members: &Members<'_>, owned: &Owned) -> Result<Vec<u8>, WriteFault>
     ensures written { IsWrittenAs (λ file. file.items) result
         (database_of (members_of members.now) owned.now) }
+    // The file passes all tests of a database where the listings that are owned may be listed.
     ensures sound { IfOk result (λ file.
         MayBeListed (owned_listings (member_listings (members_of members.now)) owned.now)
         → IsSound Tables.Idb file.items) }
@@ -47,7 +51,8 @@ pub fn write_db(alloc: Global, members: &Members<'_>, owned: &Owned) -> Result<V
     Ok(file_of(alloc, IDB_WORD, &payload)?)
 }
 
-/// The payload of a database.
+/// The payload of the database that lists these members, and of their files those whose flag is
+/// set.
 fn database_payload(
     alloc: Global,
     members: &Members<'_>,
@@ -62,7 +67,7 @@ fn database_payload(
     draft.finish()
 }
 
-/// Writes the values of a database.
+/// Writes the values of the database into a draft.
 fn write_database(
     alloc: Global,
     draft: &mut Draft,

@@ -1,4 +1,7 @@
 //! The folders of a package, and of their files those that it owns.
+//! The rule stands in `docs/formats.md`, "The database after a change": "each folder with its name
+//! and its access list, also where it is empty, and of its files those that the package owns"; the
+//! fields in "Schemas", tables 5 and 7, which count from 1, and the constants here from 0.
 ghost use Rattle.adb_copy.specs.Known.{AreBlobsOf};
 ghost use Rattle.adb_fields.specs.Fields.{are_all_sound, array_at};
 ghost use Rattle.adb_fields.specs.Repeated.{folders_in, list_of};
@@ -21,17 +24,20 @@ use adb_values::Draft;
 use adb_view::{Adb, Arr, Val};
 use std::alloc::{AllocError, Global};
 
-/// The field of a package with its folders.
+/// The index of `paths` among the fields of a package (2 in table 7).
 const PATHS: usize = 1;
 
-/// The fields of a folder.
+/// The index of the name among the fields of a folder (1 in table 5).
 const NAME: usize = 0;
 
+/// The index of the access list of a folder (2 in table 5).
 const ACL: usize = 1;
 
+/// The index of the files of a folder (3 in table 5).
 const FILES: usize = 2;
 
-/// Writes the folders of a package with the files whose flag is set, by one flag for each.
+/// Writes the folders of a package with the files whose flag is set, by one flag for each file of
+/// the package, in order.
 pub(crate) fn write_folders(
     alloc: Global,
     draft: &mut Draft,
@@ -46,7 +52,7 @@ pub(crate) fn write_folders(
     write_folder_list(alloc, draft, adb, folders, flags)
 }
 
-/// The flags behind those of the files of a package.
+/// The flags behind those of the files of a package: the next package's.
 pub(crate) fn flags_behind<'f>(pkg: &PackageView<'_>, flags: &'f [bool]) -> &'f [bool]
     ensures { result.now
         ≡ drop (total_of file_count (folders_in (package_value pkg.now))) flags.entry.now }
@@ -56,7 +62,8 @@ pub(crate) fn flags_behind<'f>(pkg: &PackageView<'_>, flags: &'f [bool]) -> &'f 
     flags_behind_folders(adb, folders, flags)
 }
 
-/// Writes folders with the files whose flag is set. Many of their places may share a long text.
+/// Writes folders with the files whose flag is set. Many places in them may share a long text, so
+/// the texts that were written are kept.
 fn write_folder_list<'a>(
     alloc: Global,
     draft: &mut Draft,
@@ -76,6 +83,7 @@ fn write_folder_list<'a>(
     for i in 0..folders.len() {
         let folder = entry_word(folders, i);
         write_folder(draft, adb, &mut known, folder, left)?;
+        // The next folder takes the flags behind those of this one.
         left = flags_behind_folder(adb, folder, left);
     }
     draft.close_array()
@@ -96,7 +104,8 @@ fn flags_behind_folders<'a, 'f>(adb: Adb<'a>, folders: Arr<'a>, flags: &'f [bool
     left
 }
 
-/// The flags behind those of the files of the folder of a word.
+/// The flags behind those of the files of one folder, the one with this word; none are left where
+/// there are too few.
 fn flags_behind_folder<'f>(adb: Adb<'_>, folder: Val, flags: &'f [bool]) -> &'f [bool]
     requires { is_sound (payload_of adb) (Kinds.Obj Tables.Dir) folder ≡ true }
     ensures { result.now ≡ drop
@@ -111,7 +120,7 @@ fn flags_behind_folder<'f>(adb: Adb<'_>, folder: Val, flags: &'f [bool]) -> &'f 
     &flags[count..]
 }
 
-/// Writes the folder of a word with the files whose flag is set.
+/// Writes the folder with a word, with its access list and those of its files whose flag is set.
 fn write_folder(
     draft: &mut Draft,
     adb: Adb<'_>,
@@ -133,7 +142,7 @@ fn write_folder(
     draft.close_object()
 }
 
-/// Writes the files whose flag is set.
+/// Writes those of some files whose flag is set, in their order.
 fn write_files<'a>(
     draft: &mut Draft,
     adb: Adb<'a>,
@@ -158,7 +167,8 @@ fn write_files<'a>(
     draft.close_array()
 }
 
-/// Whether there is a flag at a place, and it is set.
+/// Whether there is a flag at a place, counted from 0, and it is set; a file without a flag is
+/// nobody's.
 fn is_set(flags: &[bool], i: usize) -> bool
     ensures { result ≡ unwrap_or (slice_get flags.now i) false }
 {
@@ -168,7 +178,7 @@ fn is_set(flags: &[bool], i: usize) -> bool
     flag_at(flags, i)
 }
 
-/// The flag at a place.
+/// The flag at a place, counted from 0.
 fn flag_at(flags: &[bool], i: usize) -> bool
     requires { i < length flags.now }
     ensures { slice_get flags.now i ≡ Some result }

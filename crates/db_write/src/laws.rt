@@ -1,5 +1,10 @@
-//! What a database that is written says when it is read, and that nothing changes where nothing
-//! was to be changed.
+//! What a database that is written says when it is read, and that nothing changes where nothing was
+//! to be changed.
+//! The rules stand in `docs/formats.md`, "The database after a change", and in `docs/DECISIONS.md`,
+//! "The installed database" (what is asked of files that are owned). In the clauses numbers of
+//! fields count from 0: in `entries_at 0` of a database that of `packages`, in `entry_in` of a
+//! package 2 that of `scripts`, 3 of `triggers`, 4 of `replaces-priority`, and of a folder 1 that
+//! of its access list.
 ghost use Rattle.adb_copy.specs.Zeros.{without_zeros};
 ghost use Rattle.adb_fields.specs.FirstPair.{IsIn};
 ghost use Rattle.adb_fields.specs.Repeated.{entries_at, folders_in, list_of, name_of, paths_in};
@@ -128,6 +133,7 @@ pub fn a_package_keeps_its_information()
 pub fn a_package_keeps_its_folders()
     ensures names { (m : Member) (flags : List Bool)
         → map name_of (folders_in (package_after m flags)) ≡ map name_of (folders_in m.pkg) }
+    // 1 is the index of the access list of a folder.
     ensures acls { (m : Member) (flags : List Bool)
         → map (λ folder. entry_in folder 1) (folders_in (package_after m flags))
         ≡ map (λ folder. without_zeros (entry_in folder 1)) (folders_in m.pkg) }
@@ -145,10 +151,13 @@ pub fn a_database_keeps_the_entries_of_owned_files()
 /// A package in a new database has the scripts, the triggers and the priority in replacing that it
 /// had, where an integer 0 is Null.
 pub fn a_package_keeps_its_scripts_and_its_priority()
+    // 2 is the index of `scripts` among the fields of a package.
     ensures scripts { (m : Member) (flags : List Bool)
         → entry_in (package_after m flags) 2 ≡ without_zeros (entry_in m.pkg 2) }
+    // 3 is that of `triggers`.
     ensures triggers { (m : Member) (flags : List Bool)
         → entry_in (package_after m flags) 3 ≡ without_zeros (entry_in m.pkg 3) }
+    // 4 is that of `replaces-priority`.
     ensures priority { (m : Member) (flags : List Bool)
         → int_in (entry_in (package_after m flags) 4) ≡ int_in (entry_in m.pkg 4) }
 {}

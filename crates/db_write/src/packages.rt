@@ -1,4 +1,7 @@
 //! The packages of a database.
+//! The rule stands in `docs/formats.md`, "The database after a change": what a database has of each
+//! package; the fields in "Schemas", table 7, which counts from 1. In the clauses and the constant
+//! here they count from 0: 0 is `info`, 2 `scripts`, 3 `triggers`.
 ghost use Rattle.adb_copy.specs.Zeros.{without_zeros};
 ghost use Rattle.adb_schema.specs.Views.{package_value};
 ghost use Rattle.adb_tables.specs.Values.{entry_in};
@@ -19,10 +22,12 @@ use db_core::Members;
 use std::alloc::{AllocError, Global};
 use std::marker::PhantomData;
 
-/// The field of a package with the folders that its trigger watches.
+/// The index of `triggers`, the patterns of folders that a package's trigger watches (4 in table
+/// 7).
 const TRIGGERS: usize = 3;
 
-/// Writes members with the files whose flag is set, by one flag for each.
+/// Writes the packages of members with the files whose flag is set, by one flag for each file of
+/// all members, in order.
 pub(crate) fn write_packages(
     alloc: Global,
     draft: &mut Draft,
@@ -37,12 +42,14 @@ pub(crate) fn write_packages(
     for i in 0..members.len() {
         let pkg = members.view(i);
         write_package(alloc, draft, pkg, members.id(i), left)?;
+        // The next package takes the flags behind those of this one.
         left = flags_behind(pkg, left);
     }
     draft.close_array()
 }
 
-/// Writes a package with the files whose flag is set; one that comes has an id.
+/// Writes a package with the files whose flag is set, by the flags from its first file on; a
+/// package that comes has an id.
 fn write_package<'a>(
     alloc: Global,
     draft: &mut Draft,
@@ -63,7 +70,8 @@ fn write_package<'a>(
     draft.close_object()
 }
 
-/// Writes the information of a package, whose hash is the id of one that comes.
+/// Writes the information of a package, with the id of one that comes as its hash; one that stays
+/// keeps its own.
 fn write_member_info(
     alloc: Global,
     draft: &mut Draft,
@@ -95,7 +103,7 @@ fn write_package_scripts<'a>(
     write_scripts(draft, &scripts)
 }
 
-/// Writes the folders that the trigger of a package watches.
+/// Writes the triggers of a package: the patterns of folders that its trigger watches.
 fn write_triggers(alloc: Global, draft: &mut Draft, pkg: &PackageView<'_>) -> Result<(), AllocError>
     ensures { OnOk result (draft.new
         ≡ draft_with (without_zeros (entry_in (package_value pkg.now) 3)) draft.old) }

@@ -1,54 +1,55 @@
 -- What `demo` runs: a small package of each number is made, then an index of all of them, and then
--- those are added on which no other depends.
+-- those are added on which no other depends. The rules stand in `docs/commands.md`, "`demo N`".
 use Rattle.std.specs.Prelude.{ℕ, zero, suc, ◌+◌, ◌*◌, ◌/◌, ◌%◌, nat_lt, List, [], ◌∷◌, ◌++◌, codes, if◌then◌else◌}
 
 -- ---- package i
 
--- the digit of i at a unit, as 100 for hundreds
+-- the digit of i at a unit, as 100 for hundreds, in ASCII, where `0` is byte 48
 abbrev pub digit_at : ℕ → ℕ → ℕ
 digit_at unit i = 48 + i / unit % 10
 
--- `p` and i in five digits
+-- the name of package i: `p` and i in five digits
 abbrev pub demo_name : ℕ → List ℕ
 demo_name i =
     codes "p"
     ++ (digit_at 10000 i ∷ digit_at 1000 i ∷ digit_at 100 i ∷ digit_at 10 i ∷ digit_at 1 i ∷ [])
 
--- `1.A-rB`, where A is i modulo 7, and B is i modulo 3
+-- the version of package i: `1.A-rB`, where A is i modulo 7, and B is i modulo 3
 abbrev pub demo_version : ℕ → List ℕ
 demo_version i = codes "1." ++ (digit_at 1 (i % 7) ∷ codes "-r" ++ (digit_at 1 (i % 3) ∷ []))
 
--- the folder of what it is made of
+-- the folder whose files package i holds
 abbrev pub demo_folder : ℕ → List ℕ
 demo_folder i = codes "demo/" ++ demo_name i
 
--- its one file there, which holds its name and a line end
+-- the path of the one file that package i is made of
 abbrev pub demo_file : ℕ → List ℕ
 demo_file i = demo_folder i ++ codes "/usr/share/demo/" ++ demo_name i
 
--- what that file holds
+-- what the one file of package i holds: its name and a line end
 abbrev pub demo_text : ℕ → List ℕ
 demo_text i = demo_name i ++ codes "\n"
 
--- where it lies when it is made
+-- the path of package i, in the folder of the index
 abbrev pub demo_package : ℕ → List ℕ
 demo_package i = demo_folder i ++ codes "-" ++ demo_version i ++ codes ".apk"
 
 -- ---- what is run
 
--- from the second on, each depends on that of half its number, rounded down
+-- the words that tell what package i depends on: from the second on, each depends on that of half
+-- its number, rounded down
 abbrev pub depends_words : ℕ → List (List ℕ)
 depends_words i =
     if nat_lt i 2 then [] else codes "-I" ∷ (codes "depends:" ++ demo_name (i / 2)) ∷ []
 
--- package i is made
+-- the words that make package i
 abbrev pub mkpkg_words : ℕ → List (List ℕ)
 mkpkg_words i =
     codes "mkpkg" ∷ codes "-F" ∷ demo_folder i ∷ codes "-o" ∷ demo_package i
     ∷ codes "-I" ∷ (codes "name:" ++ demo_name i) ∷ codes "-I" ∷ (codes "version:" ++ demo_version i)
     ∷ depends_words i
 
--- where their index lies, and the repositories, which name it
+-- the path of the index
 abbrev pub demo_index : List ℕ
 demo_index = codes "demo/index.adb"
 
@@ -56,12 +57,12 @@ demo_index = codes "demo/index.adb"
 abbrev pub demo_repositories : List ℕ
 demo_repositories = demo_index ++ codes "\n"
 
--- where the packages 1 to n lie
+-- the paths of the packages 1 to n
 abbrev pub demo_packages : ℕ → List (List ℕ)
 demo_packages zero = []
 demo_packages (suc i) = demo_packages i ++ (demo_package (suc i) ∷ [])
 
--- the index of n packages is made
+-- the words that make the index of n packages
 abbrev pub mkndx_words : ℕ → List (List ℕ)
 mkndx_words n = codes "mkndx" ∷ codes "-o" ∷ demo_index ∷ demo_packages n
 
@@ -69,11 +70,11 @@ mkndx_words n = codes "mkndx" ∷ codes "-o" ∷ demo_index ∷ demo_packages n
 abbrev pub top_name : ℕ → ℕ → List (List ℕ)
 top_name n i = if nat_lt n (2 * i) then demo_name i ∷ [] else []
 
--- those of the packages 1 to i on which none of n depends
+-- the names of those of the packages 1 to i on which none of n depends
 abbrev pub top_names : ℕ → ℕ → List (List ℕ)
 top_names n zero = []
 top_names n (suc i) = top_names n i ++ top_name n (suc i)
 
--- those of n packages are added
+-- the words that add those of n packages on which no other depends
 abbrev pub add_words : ℕ → List (List ℕ)
 add_words n = codes "add" ∷ codes "--initdb" ∷ codes "--allow-untrusted" ∷ top_names n n

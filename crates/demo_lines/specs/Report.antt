@@ -1,4 +1,4 @@
--- What `demo` prints.
+-- What `demo` prints. The line stands in `docs/commands.md`, "`demo N`".
 use Rattle.std.specs.Prelude.{ℕ, ◌-◌, List, ◌++◌, length, take, codes}
 use Rattle.std.specs.Fmt.{decimal}
 use Rattle.std.specs.List.{after_last}
@@ -8,7 +8,8 @@ use Rattle.dep_core.specs.World.{is_line_end}
 abbrev pub last_line : List ℕ → List ℕ
 last_line report = after_last is_line_end (take (length report - 1) report)
 
--- how many packages it made, and the last line of the report of their installation
+-- the line of `demo`: how many packages it made, and the last line of the report of their
+-- installation
 abbrev pub demo_line : ℕ → List ℕ → List ℕ
 demo_line n report =
     codes "demo " ++ decimal n ++ codes ": " ++ last_line report ++ codes "\n"

@@ -1,4 +1,5 @@
-//! How many packages `demo` makes, what it runs, and what it prints.
+//! How many packages `demo` makes, what it runs, and what it prints. The rules stand in
+//! `docs/commands.md`, "`demo N`".
 //!
 //! `Count` of `specs/` says how an operand is read, `Lines` which command lines make, index and
 //! install so many small packages, and `Report` how their installation is told.

@@ -1,4 +1,5 @@
-//! The command lines that `demo` runs: how many packages it makes, and what it prints.
+//! The command lines that `demo` runs: how many packages it makes, and what it prints. The rules
+//! stand in `docs/commands.md`, "`demo N`".
 //!
 //! How many words there are before a call that adds some is bounded by round numbers, 16, 32 and
 //! 100,000: a list of words has a limit, 4,294,967,294, and no command of `demo` comes near it.
@@ -28,7 +29,7 @@ pub fn mkpkg_words(alloc: Global, i: u16) -> Result<Words, AllocError>
     Ok(words)
 }
 
-// The same, where there is no word yet.
+// Adds the words that make package i, where there is no word yet.
 fn push_mkpkg(words: &mut Words, alloc: Global, i: u16) -> Result<(), AllocError>
     requires { words.old ≡ [] }
     ensures { OnOk result (words.new ≡ mkpkg_words i) }
@@ -41,7 +42,7 @@ fn push_mkpkg(words: &mut Words, alloc: Global, i: u16) -> Result<(), AllocError
     push_depends(words, alloc, i)
 }
 
-// What package i depends on, if it depends on one.
+// Adds the words that tell what package i depends on, if it depends on one.
 fn push_depends(words: &mut Words, alloc: Global, i: u16) -> Result<(), AllocError>
     requires { length words.old < 16 }
     ensures { OnOk result (words.new ≡ words.old ++ depends_words i) }
@@ -52,7 +53,7 @@ fn push_depends(words: &mut Words, alloc: Global, i: u16) -> Result<(), AllocErr
     push_option(words, b"-I", &name_word(alloc, b"depends:", i / 2)?)
 }
 
-// An option and its value.
+// Adds an option and its value, a word each.
 fn push_option(words: &mut Words, option: &[u8], value: &[u8]) -> Result<(), AllocError>
     requires { length words.old < 32 }
     ensures { OnOk result (words.new ≡ words.old ++ option.now ∷ value.now ∷ []) }
@@ -61,7 +62,7 @@ fn push_option(words: &mut Words, option: &[u8], value: &[u8]) -> Result<(), All
     words.push(value)
 }
 
-// A word, and in it the name of package i.
+// A word that begins so, and ends with the name of package i.
 fn name_word(alloc: Global, front: &[u8], i: u16) -> Result<Vec<u8>, AllocError>
     ensures { IfOk result (λ text. text.items ≡ front.now ++ demo_name i) }
 {
@@ -91,7 +92,7 @@ pub fn mkndx_words(alloc: Global, n: u16) -> Result<Words, AllocError>
     Ok(words)
 }
 
-// Where the packages 1 to n lie.
+// Adds the paths of the packages 1 to n.
 fn push_packages(words: &mut Words, alloc: Global, n: u16) -> Result<(), AllocError>
     requires { length words.old < 16 }
     ensures { OnOk result (words.new ≡ words.old ++ demo_packages n) }
@@ -102,7 +103,7 @@ fn push_packages(words: &mut Words, alloc: Global, n: u16) -> Result<(), AllocEr
     Ok(())
 }
 
-// Where package i lies.
+// Adds the path of package i.
 fn push_package(words: &mut Words, alloc: Global, i: u16) -> Result<(), AllocError>
     requires { length words.old < 100000 }
     ensures { OnOk result (words.new ≡ words.old ++ demo_package i ∷ []) }
@@ -124,7 +125,7 @@ pub fn add_words(alloc: Global, n: u16) -> Result<Words, AllocError>
     Ok(words)
 }
 
-// The names of those of n packages on which no other depends.
+// Adds the names of those of n packages on which no other depends.
 fn push_top_names(words: &mut Words, alloc: Global, n: u16) -> Result<(), AllocError>
     requires { length words.old < 16 }
     ensures { OnOk result (words.new ≡ words.old ++ top_names n n) }
@@ -135,7 +136,7 @@ fn push_top_names(words: &mut Words, alloc: Global, n: u16) -> Result<(), AllocE
     Ok(())
 }
 
-// The name of package i, if none of n depends on it.
+// Adds the name of package i, if none of n depends on it: the first that does has twice its number.
 fn push_if_top(words: &mut Words, alloc: Global, n: u16, i: u16) -> Result<(), AllocError>
     requires { length words.old < 100000 }
     ensures { OnOk result (words.new ≡ words.old ++ top_name n i) }
@@ -158,7 +159,7 @@ pub fn demo_count(operands: &Operands) -> u16
     number_of(operands.get(0).text.as_bytes())
 }
 
-// The number that the text is.
+// The number that the text is: 1 to 20,000, which fits a u16.
 fn number_of(text: &[u8]) -> u16
     requires { IsTrue (is_demo_number text.now) }
     ensures { result ≡ digits_value 10 text.now }
@@ -172,7 +173,8 @@ fn number_of(text: &[u8]) -> u16
     }
 }
 
-/// The line that tells how n packages were installed, by the report of that.
+/// The line of `demo`: that n packages were made, and the last line of the report of their
+/// installation.
 pub fn demo_line(alloc: Global, n: u16, report: &[u8]) -> Result<Text, AllocError>
     ensures { IfOk result (λ line. line ≡ demo_line n report.now) }
 {

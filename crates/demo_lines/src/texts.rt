@@ -1,20 +1,21 @@
-//! The texts that package i is made of, and those of its files.
+//! The texts that package i is made of, and those of its files. The rules stand in
+//! `docs/commands.md`, "`demo N`".
 ghost use Rattle.std.specs.Prelude.{◌≡◌, ◌<◌, ◌++◌, IfOk, OnOk};
 ghost use Rattle.demo_lines.specs.Lines.{demo_file, demo_folder, demo_index, demo_name, demo_package, demo_repositories, demo_text, demo_version, digit_at};
 
 use std::alloc::{AllocError, Global};
 
-/// Where the index of all packages lies.
+/// The path of the index of all packages.
 pub(crate) const INDEX: &[u8] = b"demo/index.adb";
 
-/// The repositories, which name the index.
+/// What `etc/apk/repositories` holds in the tree of `demo`: one line, which names the index.
 pub fn demo_repositories() -> &'static [u8]
     ensures { result.now ≡ demo_repositories }
 {
     b"demo/index.adb\n"
 }
 
-/// The one file that package i is made of.
+/// The path of the one file that package i is made of.
 pub fn demo_file(alloc: Global, i: u16) -> Result<Vec<u8>, AllocError>
     ensures { IfOk result (λ text. text.items ≡ demo_file i) }
 {
@@ -24,7 +25,7 @@ pub fn demo_file(alloc: Global, i: u16) -> Result<Vec<u8>, AllocError>
     Ok(text)
 }
 
-/// What that file holds.
+/// What the one file of package i holds: its name and a line end.
 pub fn demo_text(alloc: Global, i: u16) -> Result<Vec<u8>, AllocError>
     ensures { IfOk result (λ text. text.items ≡ demo_text i) }
 {
@@ -34,7 +35,7 @@ pub fn demo_text(alloc: Global, i: u16) -> Result<Vec<u8>, AllocError>
     Ok(text)
 }
 
-/// The folder of what package i is made of.
+/// The folder whose files package i holds, which `mkpkg` is given with `-F`.
 pub(crate) fn demo_folder(alloc: Global, i: u16) -> Result<Vec<u8>, AllocError>
     ensures { IfOk result (λ text. text.items ≡ demo_folder i) }
 {
@@ -43,7 +44,7 @@ pub(crate) fn demo_folder(alloc: Global, i: u16) -> Result<Vec<u8>, AllocError>
     Ok(text)
 }
 
-/// Where package i lies when it is made.
+/// The path of package i, in the folder of the index.
 pub(crate) fn demo_package(alloc: Global, i: u16) -> Result<Vec<u8>, AllocError>
     ensures { IfOk result (λ text. text.items ≡ demo_package i) }
 {
@@ -54,7 +55,7 @@ pub(crate) fn demo_package(alloc: Global, i: u16) -> Result<Vec<u8>, AllocError>
     Ok(text)
 }
 
-/// Adds the name of package i.
+/// Adds the name of package i: `p` and i in five digits.
 pub(crate) fn push_name(text: &mut Vec<u8>, i: u16) -> Result<(), AllocError>
     ensures { OnOk result (text.new.items ≡ text.old.items ++ demo_name i) }
 {
@@ -69,7 +70,7 @@ pub(crate) fn push_name(text: &mut Vec<u8>, i: u16) -> Result<(), AllocError>
     text.extend_from_slice(&digits)
 }
 
-/// Adds its version.
+/// Adds the version of package i: `1.A-rB`, where A is i modulo 7, and B is i modulo 3.
 pub(crate) fn push_version(text: &mut Vec<u8>, i: u16) -> Result<(), AllocError>
     ensures { OnOk result (text.new.items ≡ text.old.items ++ demo_version i) }
 {
@@ -80,7 +81,7 @@ pub(crate) fn push_version(text: &mut Vec<u8>, i: u16) -> Result<(), AllocError>
     Ok(())
 }
 
-// The digit of i at a unit.
+// The digit of i at a unit, as 100 for hundreds, in ASCII, where `0` is byte 48.
 fn digit_at(unit: u16, i: u16) -> u8
     requires { 0 < unit }
     ensures { result ≡ digit_at unit i }

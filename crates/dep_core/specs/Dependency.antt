@@ -1,4 +1,6 @@
 -- Dependencies, after apk-package(5) and apk-world(5): their parts, and which bytes these have.
+-- The rules stand in `docs/formats.md`, "Dependencies", the first two paragraphs; the match bits in
+-- "Versions", the last paragraph.
 use Rattle.std.specs.Prelude.{ℕ, ◌==◌, nat_lt, nat_le, Bool, false, not, ◌&&◌, ◌||◌, List, [], ◌∷◌, length, codes, Option}
 use Rattle.std.specs.Char.{is_ascii_alphanumeric}
 use Rattle.std.specs.List.{list_all, list_any}
@@ -18,37 +20,38 @@ abbrev pub dependency_by : List ℕ → Option (List ℕ) → ℕ → Bool → O
 dependency_by name version bits conflict tag =
     record { name = name; version = version; bits = bits; conflict = conflict; tag = tag }
 
--- the bytes that end a name: `!`, `<`, `=`, `>`, `@`, `~`
+-- whether a byte is a mark, which ends a name: `!`, `<`, `=`, `>`, `@` or `~`
 abbrev pub is_mark : ℕ → Bool
 is_mark b = (b == 33) || (b == 60) || (b == 61) || (b == 62) || (b == 64) || (b == 126)
 
--- a printable byte that is no mark of the grammar
+-- whether a name may have this byte: it is from 0x21 to 0x7e, and no mark
 abbrev pub is_name_byte : ℕ → Bool
 is_name_byte b = nat_lt 32 b && nat_lt b 127 && not (is_mark b)
 
--- 1 to 255 bytes that a name may have
+-- whether the bytes are the name of a dependency: 1 to 255 bytes, each of which a name may have
 abbrev pub is_dep_name : List ℕ → Bool
 is_dep_name name = nat_lt 0 (length name) && nat_le (length name) 255 && list_all is_name_byte name
 
--- whether the bytes begin with `-` or `.`
+-- whether the bytes begin with `-` (45) or `.` (46), as no package's name does
 abbrev pub begins_with_punctuation : List ℕ → Bool
 begins_with_punctuation [] = false
 begins_with_punctuation (b ∷ rest) = (b == 45) || (b == 46)
 
--- a name that a package may have: it has no `/`
+-- whether the bytes are the name of a package: a dependency's name that neither begins with `-` or `.`
+-- nor has a `/` (47)
 abbrev pub is_package_name : List ℕ → Bool
 is_package_name name =
     is_dep_name name && not (begins_with_punctuation name) && not (list_any (λ b. b == 47) name)
 
--- letters, digits, `_`, `-`, `.`
+-- whether a tag may have this byte: a letter, a digit, `_` (95), `-` (45) or `.` (46)
 abbrev pub is_tag_byte : ℕ → Bool
 is_tag_byte b = is_ascii_alphanumeric b || (b == 95) || (b == 45) || (b == 46)
 
--- one byte or more that a tag may have
+-- whether the bytes are a tag: at least one byte, and each one that a tag may have
 abbrev pub is_tag : List ℕ → Bool
 is_tag tag = nat_lt 0 (length tag) && list_all is_tag_byte tag
 
--- each operator, and its match bits
+-- each operator as it is written, and its match bits
 abbrev pub operators : List (List ℕ × ℕ)
 operators =
     (codes "=", 1) ∷ (codes "<", 2) ∷ (codes "<=", 3) ∷ (codes ">", 4) ∷ (codes ">=", 5)

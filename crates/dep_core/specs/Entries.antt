@@ -1,4 +1,5 @@
 -- The world of a text, apart from how it is read.
+-- The rules stand in `docs/formats.md`, "World"; laws of `laws` say that *world_of* keeps them.
 use Rattle.std.specs.Prelude.{◌≡◌, ℕ, ◌+◌, ◌<◌, Bool, true, false, not, ◌&&◌, List, [], ◌∷◌, length, map, take, Some, is_ok}
 use Rattle.std.specs.List.{flat_map}
 use Rattle.std.specs.List.Sorted.{IsPermutation}
@@ -6,11 +7,11 @@ use Rattle.dep_core.specs.Dependency.{Dependency}
 use Rattle.dep_core.specs.Reading.{dependency_of}
 use Rattle.dep_core.specs.World.{IsWorld, has_name, lines_of, with_lines, words_of}
 
--- the words of all lines
+-- the words of all lines of a text, in their order
 abbrev pub words_in : List ℕ → List (List ℕ)
 words_in text = flat_map words_of (lines_of text)
 
--- whether no name stands twice
+-- whether no two of some dependencies have the same name
 abbrev pub have_different_names : List Dependency → Bool
 have_different_names [] = true
 have_different_names (d ∷ rest) = not (has_name d.name rest) && have_different_names rest
@@ -24,8 +25,9 @@ pub record IsWorldOf (text : List ℕ) (world : List Dependency) : Type 0 where
   pub same : IsPermutation entries world
   pub in_order : IsWorld world
 
--- the first line with which the lines so far are no world any more
+-- this line, counted from 1, is the first one with which the lines so far are no world any more
 pub record IsFirstBadLine (text : List ℕ) (line : ℕ) : Type 0 where
+  -- how many lines stand before it
   pub before : ℕ
   pub number : line ≡ before + 1
   pub within : before < length (lines_of text)

@@ -1,4 +1,5 @@
 -- What the refusals of the readers say.
+-- The rules stand in `docs/formats.md`, "World" and "Repositories": the first bad line is reported.
 use Rattle.std.specs.Prelude.{◌≡◌, ℕ, List, Result, Err}
 use Rattle.dep_core.specs.declared.world.WorldFault.{WorldFault}
 use Rattle.dep_core.specs.declared.world.WorldFault.TheVariants.{Bad as BadWorld, Memory as WorldMemory}

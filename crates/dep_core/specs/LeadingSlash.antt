@@ -1,7 +1,8 @@
 -- A path below the root may be written with one `/` in front.
+-- The rules stand in `docs/formats.md`, "Repositories", and `docs/commands.md`, "`info`".
 use Rattle.std.specs.Prelude.{ℕ, ◌==◌, if◌then◌else◌, List, [], ◌∷◌}
 
--- a text without one leading `/`
+-- a text without one leading `/` (47)
 abbrev pub without_slash : List ℕ → List ℕ
 without_slash [] = []
 without_slash (b ∷ rest) = if b == 47 then rest else b ∷ rest

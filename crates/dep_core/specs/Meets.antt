@@ -1,4 +1,5 @@
 -- What a `Dep` stands for, and what meets it.
+-- The rule stands in `docs/formats.md`, "Dependencies", the last paragraph.
 use Rattle.std.specs.Prelude.{ℕ, Bool, true, false, ◌&&◌, List, Option, Some, None, option_copied}
 use Rattle.std.specs.Str.{bytes_eq}
 use Rattle.version_core.specs.Matching.{matches}
@@ -9,7 +10,8 @@ use Rattle.dep_core.specs.Dependency.{Dependency, dependency_by}
 abbrev pub dependency : Dep → Dependency
 dependency dep = dependency_by dep.name.now dep.version dep.op dep.conflict (option_copied dep.tag)
 
--- whether a version, if there is one, is wanted
+-- whether the version that was found, if there is one, is one that is wanted: any is where none is
+-- named, and else it matches
 abbrev pub is_wanted : Option (List ℕ) → ℕ → Option (List ℕ) → Bool
 is_wanted None bits found = true
 is_wanted (Some wanted) bits None = false

@@ -1,4 +1,7 @@
 -- Which dependency a text is, if it is one.
+-- The rules stand in `docs/formats.md`, "Dependencies", the paragraph of the text of a dependency.
+-- Each definition `at_..` reads from one place of the grammar on, with the dependency as it was read so
+-- far.
 use Rattle.std.specs.Prelude.{ℕ, ◌==◌, Bool, true, false, not, ◌&&◌, ◌||◌, if◌then◌else◌, List, [], ◌∷◌, ◌++◌, drop, codes, Option, Some, None, is_some}
 use Rattle.std.specs.List.{prefix_len, take_while}
 use Rattle.std.specs.Map.{lookup}
@@ -6,11 +9,11 @@ use Rattle.std.specs.Str.{bytes_eq}
 use Rattle.version_core.specs.Order.{is_version}
 use Rattle.dep_core.specs.Dependency.{Dependency, dependency_by, is_name_byte, is_dep_name, is_tag_byte, is_tag, operators}
 
--- what stands behind the longest front of such bytes
+-- what is left of a text behind the longest front of bytes that have a property
 abbrev pub rest_behind : (ℕ → Bool) → List ℕ → List ℕ
 rest_behind p text = drop (prefix_len p text) text
 
--- `<`, `=`, `>`, `~`
+-- whether operators have this byte: `<`, `=`, `>` or `~`
 abbrev pub is_operator_byte : ℕ → Bool
 is_operator_byte b = (b == 60) || (b == 61) || (b == 62) || (b == 126)
 
@@ -18,7 +21,7 @@ is_operator_byte b = (b == 60) || (b == 61) || (b == 62) || (b == 126)
 abbrev pub operator_bits : List ℕ → Option ℕ
 operator_bits text = lookup (bytes_eq text) (operators ++ ((codes "=~", 9) ∷ (codes "~=", 9) ∷ []))
 
--- whether a byte does not begin a tag
+-- whether a byte is not the `@` (64) that stands before a tag
 abbrev pub is_not_at : ℕ → Bool
 is_not_at b = not (b == 64)
 
@@ -26,21 +29,21 @@ is_not_at b = not (b == 64)
 abbrev pub any_version : Bool → List ℕ → Dependency
 any_version conflict name = dependency_by name None 1 conflict None
 
--- the same dependency with a tag
+-- a dependency with this tag in place of its own
 abbrev pub with_tag : Dependency → List ℕ → Dependency
 with_tag d tag = dependency_by d.name d.version d.bits d.conflict (Some tag)
 
--- the same dependency with a version and an operator
+-- a dependency with this wanted version and these match bits in place of its own
 abbrev pub with_constraint : Dependency → List ℕ → ℕ → Dependency
 with_constraint d version bits = dependency_by d.name (Some version) bits d.conflict d.tag
 
--- behind the version: nothing, or the tag, if none stands behind the name
+-- reads behind the version: nothing, or `@` (64) and the tag, if none stands behind the name
 unfoldable pub at_version_end : Dependency → List ℕ → Option Dependency
 at_version_end d [] = Some d
 at_version_end d (b ∷ tag) =
     if (b == 64) && (not (is_some d.tag) && is_tag tag) then Some (with_tag d tag) else None
 
--- behind the operator: the version
+-- reads behind the operator: the version, up to an `@`
 unfoldable pub at_version : Dependency → ℕ → List ℕ → Option Dependency
 at_version d bits text =
     if is_version (take_while is_not_at text)
@@ -48,19 +51,20 @@ at_version d bits text =
     (rest_behind is_not_at text)
     else None
 
--- what is read behind an operator; nothing where its bytes are none
+-- reads on behind the bytes of an operator, with its match bits; there are none where they are no
+-- operator
 abbrev pub at_operator_end : Dependency → Option ℕ → List ℕ → Option Dependency
 at_operator_end d None text = None
 at_operator_end d (Some bits) text = at_version d bits text
 
--- behind the name and its tag: nothing, or the operator
+-- reads behind the name and its tag: nothing, or the operator
 unfoldable pub at_constraint : Dependency → List ℕ → Option Dependency
 at_constraint d [] = Some d
 at_constraint d (b ∷ rest) =
     at_operator_end d (operator_bits (take_while is_operator_byte (b ∷ rest)))
     (rest_behind is_operator_byte (b ∷ rest))
 
--- behind `@`: the tag
+-- reads behind the `@`: the tag
 unfoldable pub at_tag : Dependency → List ℕ → Option Dependency
 at_tag d text =
     if is_tag (take_while is_tag_byte text)
@@ -68,12 +72,12 @@ at_tag d text =
     (rest_behind is_tag_byte text)
     else None
 
--- behind the name: the tag, if one stands there
+-- reads behind the name: the tag behind `@` (64), if one stands there
 unfoldable pub at_name_end : Dependency → List ℕ → Option Dependency
 at_name_end d [] = Some d
 at_name_end d (b ∷ rest) = if b == 64 then at_tag d rest else at_constraint d (b ∷ rest)
 
--- behind the mark of a conflict: the name
+-- reads behind the mark of a conflict, or from the front where there is none: the name
 unfoldable pub at_name : Bool → List ℕ → Option Dependency
 at_name conflict text =
     if is_dep_name (take_while is_name_byte text)
@@ -81,7 +85,7 @@ at_name conflict text =
     (rest_behind is_name_byte text)
     else None
 
--- the dependency that a text is
+-- the dependency that a text is, or None where it is none; `!` (33) in front makes it a conflict
 unfoldable pub dependency_of : List ℕ → Option Dependency
 dependency_of [] = None
 dependency_of (b ∷ rest) = if b == 33 then at_name true rest else at_name false (b ∷ rest)

@@ -1,4 +1,5 @@
 -- Repositories: where indexes lie, a path on each line, some under a tag.
+-- The rules stand in `docs/formats.md`, "Repositories".
 use Rattle.std.specs.Prelude.{ℕ, ◌+◌, ◌-◌, ◌==◌, Bool, true, false, ◌&&◌, if◌then◌else◌, List, [], ◌∷◌, ◌++◌, length, take, Option, Some, None, Result, Ok, Err}
 use Rattle.std.specs.Option.{option_map}
 use Rattle.std.specs.List.{suffix_len, take_while}
@@ -21,11 +22,11 @@ repository tag path = record { tag = tag; path = path }
 abbrev pub without_trailing_blanks : List ℕ → List ℕ
 without_trailing_blanks text = take (length text - suffix_len is_blank text) text
 
--- without spaces and tabs at both ends
+-- the text without spaces and tabs at both ends
 abbrev pub without_outer_blanks : List ℕ → List ℕ
 without_outer_blanks text = without_trailing_blanks (rest_behind is_blank text)
 
--- an empty line, or one that begins with a number sign
+-- whether a line, without blanks at its ends, is passed over: it is empty, or begins with `#` (35)
 abbrev pub is_comment : List ℕ → Bool
 is_comment [] = true
 is_comment (b ∷ rest) = b == 35
@@ -35,12 +36,13 @@ abbrev pub begins_with_blank : List ℕ → Bool
 begins_with_blank [] = false
 begins_with_blank (b ∷ rest) = is_blank b
 
--- one leading slash is dropped, and the rest must be a name
+-- the repository at a path, perhaps under a tag: one leading slash is dropped, and the rest must be a
+-- name
 abbrev pub at_path : Option (List ℕ) → List ℕ → Option Repository
 at_path tag path =
     if is_name (without_slash path) then Some (repository tag (without_slash path)) else None
 
--- behind `@`: the tag, blanks, the path
+-- the repository of a text behind `@`: the tag, blanks, the path
 unfoldable pub tagged_repository : List ℕ → Option Repository
 tagged_repository text =
     let tag = take_while is_tag_byte text in
@@ -48,7 +50,8 @@ tagged_repository text =
     if is_tag tag && begins_with_blank rest then at_path (Some tag) (rest_behind is_blank rest)
     else None
 
--- a line without blanks at its ends, which is neither empty nor a comment
+-- the repository of a line without blanks at its ends that is not passed over; `@` (64) stands before a
+-- tag
 unfoldable pub repository_of : List ℕ → Option Repository
 repository_of [] = None
 repository_of (b ∷ rest) = if b == 64 then tagged_repository rest else at_path None (b ∷ rest)

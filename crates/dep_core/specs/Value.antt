@@ -1,18 +1,21 @@
 -- Dependencies as they stand in a package's information: a name, a version and a match number,
 -- which is the match bits of the operator, and 16 more for a conflict.
+-- The rules stand in `docs/formats.md`, "Dependencies", the paragraph of the value in a package; the
+-- three fields are those of "Schemas", table 1.
 use Rattle.std.specs.Prelude.{ℕ, ◌+◌, ◌%◌, ◌==◌, nat_lt, Bool, true, false, ◌&&◌, if◌then◌else◌, List, [], ◌∷◌, Option, Some, None, unwrap_or}
 use Rattle.version_core.specs.Order.{is_version}
 use Rattle.version_core.specs.Op.{is_op}
 use Rattle.dep_core.specs.Dependency.{Dependency}
 
--- an empty version is none, and a match number that is absent counts as 0
+-- the three fields of a dependency in a package: an empty version is none, and a match number that is
+-- absent counts as 0
 pub record DepValue : Type 0 where
   pub name : List ℕ
   pub version : List ℕ
   pub matching : Option ℕ
 
--- 16 stands for a conflict, and 7 for any version; no number stands for the operator `=` or for
--- none
+-- the match number of a dependency, or None where it is left out: 16 stands for a conflict, and 7 (so
+-- 23) for any version; none is written for the operator `=` (1) alone or for no version
 abbrev pub matching_of : Option (List ℕ) → ℕ → Bool → Option ℕ
 matching_of None bits true = Some 23
 matching_of None bits false = None
@@ -28,11 +31,11 @@ dep_value d =
       matching = matching_of d.version d.bits d.conflict;
     }
 
--- below 32, and its low four bits are an operator
+-- whether a number is a match number: below 32, and its low four bits are an operator
 abbrev pub is_matching : ℕ → Bool
 is_matching matching = nat_lt matching 32 && is_op (matching % 16)
 
--- a version, or no bytes
+-- whether a text is a version, or empty
 abbrev pub is_version_or_empty : List ℕ → Bool
 is_version_or_empty [] = true
 is_version_or_empty (b ∷ rest) = is_version (b ∷ rest)

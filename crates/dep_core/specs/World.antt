@@ -1,5 +1,6 @@
 -- World, after apk-world(5): what is asked of the installed packages, a dependency for each name,
 -- in byte order of the names.
+-- The rules stand in `docs/formats.md`, "World".
 use Rattle.std.specs.Prelude.{ℕ, ◌+◌, ◌==◌, Bool, true, not, ◌&&◌, ◌||◌, if◌then◌else◌, List, [], ◌∷◌, ◌++◌, length, Option, Some, None, option_and_then, Result, Ok, Err, IsTrue}
 use Rattle.std.specs.List.{filter, list_all, list_any, slice_split}
 use Rattle.std.specs.Ordering.{is_lt, match_ordering}
@@ -33,16 +34,16 @@ with_entry d (e ∷ rest) =
 abbrev pub without_name : List ℕ → List Dependency → List Dependency
 without_name name world = filter (λ (d : Dependency). not (bytes_eq d.name name)) world
 
--- a line for each entry
+-- the text of a world: a line for each entry, which ends with a line end (10)
 abbrev pub world_text : List Dependency → List ℕ
 world_text [] = []
 world_text (d ∷ rest) = dep_text d ++ (10 ∷ world_text rest)
 
--- space and tab
+-- whether a byte is a blank: a space (32) or a tab (9)
 abbrev pub is_blank : ℕ → Bool
 is_blank b = (b == 32) || (b == 9)
 
--- whether a byte ends a line
+-- whether a byte is a line end (10)
 abbrev pub is_line_end : ℕ → Bool
 is_line_end b = b == 10
 
@@ -65,7 +66,7 @@ with_words world (word ∷ words) =
     option_and_then (λ more. with_words more words)
     (option_and_then (with_new_entry world) (dependency_of word))
 
--- what comes of the world so far, or this line where it is bad
+-- what comes of the world that a line leaves, or the number of that line where it is bad
 abbrev pub or_bad_line : ℕ → (List Dependency → Result (List Dependency) ℕ)
     → Option (List Dependency) → Result (List Dependency) ℕ
 or_bad_line line next None = Err line

@@ -1,4 +1,6 @@
 //! Dependencies: their parts, names, tags and operators, and what meets them.
+//! The rules stand in `docs/formats.md`, "Dependencies"; the match bits of an operator in
+//! "Versions".
 
 ghost use Rattle.std.specs.Prelude.{IsTrue, ◌≡◌, Some, IfSome, is_some, ◌==◌};
 ghost use Rattle.std.specs.Option.{option_copied};
@@ -63,7 +65,7 @@ impl<'a> Dep<'a> {
         }
     }
 
-    /// The dependency with a tag.
+    /// This dependency, with a tag.
     pub(crate) fn with_tag(self, tag: &'a [u8]) -> Dep<'a>
         requires { IsTrue (is_tag tag.now) }
         ensures { dependency result ≡ with_tag (dependency self.entry) tag.entry.now }
@@ -73,7 +75,7 @@ impl<'a> Dep<'a> {
         dep
     }
 
-    /// The dependency on some versions.
+    /// This dependency, on the versions that compare so with the wanted one.
     pub(crate) fn with_constraint(self, version: Version<'a>, op: Op) -> Dep<'a>
         requires { IsTrue (is_some (operator_text op)) }
         ensures { dependency result ≡ with_constraint (dependency self.entry) version.entry op }
@@ -85,14 +87,15 @@ impl<'a> Dep<'a> {
     }
 }
 
-/// The operator `=`, which a dependency without version has.
+/// The operator `=`, whose match bits are 1; a dependency without version has it.
 fn equal() -> Op
     ensures { result ≡ 1 }
 {
     Op::of(1).unwrap()
 }
 
-/// The operator that a text is. None comes exactly where it is none.
+/// The operator that a text is, `=~` and `~=` being other texts of `~`. None comes exactly where it
+/// is none.
 pub fn operator_of(text: &[u8]) -> Option<Op>
     ensures bits { result ≡ operator_bits text.now }
     ensures has_text { IfSome result (λ op. IsTrue (is_some (operator_text op))) }

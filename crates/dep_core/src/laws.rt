@@ -1,5 +1,6 @@
 //! What follows from the definitions, for all texts and dependencies: the body of a law only calls
 //! laws of lower crates, and its contract is proved.
+//! The rules stand in `docs/formats.md`, "Dependencies", "World" and "Repositories".
 
 ghost use Rattle.std.specs.Prelude.{◌≡◌, ℕ, List, None, Some, Ok, Err, IsTrue, is_ok, map, unwrap_or};
 ghost use Rattle.dep_core.specs.Dependency.{Dependency};

@@ -8,6 +8,7 @@
 //! (what a `Dep` stands for, and what meets it), `World` and `Repositories`, and `LeadingSlash`
 //! (one slash before a path). `Spelling`, `Entries` and `RepositoryText` say the same apart from
 //! how a text is read, and the functions of `laws` join the two.
+//! The rules stand in `docs/formats.md`, "Dependencies", "World" and "Repositories".
 #![tactic(auto)]
 
 mod dep;

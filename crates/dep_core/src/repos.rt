@@ -1,4 +1,5 @@
 //! Repositories: the lines of `etc/apk/repositories` and how they are read.
+//! The rules stand in `docs/formats.md`, "Repositories".
 
 ghost use Rattle.std.specs.Prelude.{◌≡◌, ◌<◌, ◌==◌, ◌++◌, length, slice_get, Some, None, if◌then◌else◌, IfOk, IfErr, option_copied};
 ghost use Rattle.std.specs.Option.{option_map};
@@ -27,6 +28,7 @@ impl From<AllocError> for ReposFault {
 
     ghost from_gives = { λ _ fault. fault ≡ Memory };
 
+    /// Where no memory was given the repositories are not read.
     fn from(_: AllocError) -> ReposFault {
         ReposFault::Memory
     }
@@ -35,7 +37,9 @@ impl From<AllocError> for ReposFault {
 /// The file of an index, and its tag.
 #[derive(Drop)]
 struct Repo {
+    /// The tag under which world may ask for its packages.
     tag: Option<Text>,
+    /// The name of the index file.
     path: Name,
 }
 
@@ -50,6 +54,7 @@ impl Model for Repo {
 /// Where indexes lie, in the order of the lines, some under a tag.
 #[derive(Drop)]
 pub struct Repos {
+    /// One for each line that is not passed over.
     repos: Vec<Repo>,
 }
 
@@ -81,21 +86,21 @@ impl Repos {
         Ok(Repos { repos })
     }
 
-    /// How many there are.
+    /// How many repositories there are.
     pub fn len(&self) -> usize
         ensures { result ≡ length self.now }
     {
         self.repos.len()
     }
 
-    /// Whether there is none.
+    /// Whether there is no repository.
     pub fn is_empty(&self) -> bool
         ensures { result ≡ (length self.now == 0) }
     {
         self.repos.is_empty()
     }
 
-    /// The path at an index.
+    /// The file of the index of a repository, by how many repositories stand before it.
     pub fn path(&self, i: usize) -> &Name
         requires { i < length self.now }
         ensures { option_map (λ repo. repo.path) (slice_get self.now i) ≡ Some result.now }
@@ -103,7 +108,7 @@ impl Repos {
         &self.repos[i].path
     }
 
-    /// The tag at an index.
+    /// The tag of a repository, if it has one, by how many repositories stand before it.
     pub fn tag(&self, i: usize) -> Option<&[u8]>
         requires { i < length self.now }
         ensures { option_map (λ repo. repo.tag) (slice_get self.now i)
@@ -113,7 +118,7 @@ impl Repos {
     }
 }
 
-/// Adds what a line names, and tells whether the line is good.
+/// Adds the repository that a line names, if it names one, and tells whether the line is good.
 fn add_line(alloc: Global, repos: &mut Vec<Repo>, line: &[u8]) -> Result<bool, AllocError>
     ensures { IfOk result (λ good.
         option_map (λ found. repos.old.items ++ found) (repositories_on line.now)
@@ -130,7 +135,7 @@ fn add_line(alloc: Global, repos: &mut Vec<Repo>, line: &[u8]) -> Result<bool, A
     Ok(true)
 }
 
-/// Without spaces and tabs at both ends.
+/// The text without spaces and tabs at both ends.
 fn without_outer_blanks(text: &[u8]) -> &[u8]
     ensures { result.now ≡ without_outer_blanks text.now }
 {

@@ -1,4 +1,5 @@
 //! Dependencies as texts and as values of a package's information: how they are read and written.
+//! The rules stand in `docs/formats.md`, "Dependencies".
 
 ghost use Rattle.std.specs.Prelude.{◌≡◌, IsTrue, true, is_some, IfSome, ◌++◌, IfOk, OnOk, ◌≤◌, length, not, position};
 ghost use Rattle.std.specs.Option.{option_map};
@@ -65,7 +66,7 @@ fn at_tag<'a>(dep: Dep<'a>, text: &'a [u8]) -> Option<Dep<'a>>
     at_constraint(dep.with_tag(tag), rest)
 }
 
-/// Reads an operator and the version behind it.
+/// Reads an operator and the version behind it, or nothing.
 #[tactic(auto, unfolding(crate::specs::Reading::at_constraint))]
 fn at_constraint<'a>(dep: Dep<'a>, text: &'a [u8]) -> Option<Dep<'a>>
     ensures { option_map dependency result ≡ at_constraint (dependency dep.entry) text.entry.now }
@@ -101,7 +102,8 @@ fn at_version_end<'a>(dep: Dep<'a>, text: &'a [u8]) -> Option<Dep<'a>>
     }
 }
 
-/// What a match number says of a conflict, above the bits of the operator.
+/// 16: what a match number has above the four bits of the operator where it is a conflict. All
+/// match numbers are below twice as much.
 const CONFLICT: u64 = 16;
 
 /// The dependency of a package's information: a name, a version, which may be empty, and a match
@@ -120,7 +122,8 @@ pub fn dep_of<'a>(name: &'a [u8], version: &'a [u8], matching: u64) -> Option<De
     dep_of_parts(name, version, matching)
 }
 
-/// The same of a name and a version that are known to be good, so that neither is looked at.
+/// What `dep_of` answers, of a name and a version that are known to be good, so that neither is
+/// looked at.
 #[tactic(auto, unfolding(crate::specs::ValueReading::dependency_of_value))]
 pub fn dep_of_parts<'a>(name: &'a [u8], version: &'a [u8], matching: u64) -> Option<Dep<'a>>
     requires name { is_dep_name name.now ≡ true }
@@ -149,7 +152,8 @@ fn is_version_or_empty(text: &[u8]) -> bool
     text.is_empty() || Version::read(text).is_some()
 }
 
-/// The operator against the wanted version, if there is one.
+/// The operator against the wanted version that the low four bits of a match number stand for; None
+/// where any version is taken.
 fn wanted_op(low: Op) -> Option<Op>
     ensures bits { result ≡ bits_of low }
     ensures has_text { IfSome result (λ op. IsTrue (is_some (operator_text op))) }
@@ -173,7 +177,7 @@ pub fn dep_text(alloc: Global, dep: &Dep<'_>) -> Result<Text, AllocError>
     Text::of(alloc, &text)
 }
 
-/// Adds the text of a dependency.
+/// Adds the text of a dependency behind what is written already.
 pub fn append_dep(text: &mut Vec<u8>, dep: &Dep<'_>) -> Result<(), AllocError>
     ensures { OnOk result (text.new.items ≡ text.old.items ++ dep_text (dependency dep.now)) }
 {

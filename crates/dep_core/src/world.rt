@@ -1,4 +1,6 @@
 //! World (apk-world(5)): its entries, how they are read from a text and written as one, and edits.
+//! The rules stand in `docs/formats.md`, "World"; how a command edits world in `docs/commands.md`,
+//! "`add` and `del`".
 
 ghost use Rattle.std.specs.Prelude.{◌≡◌, ◌<◌, ◌==◌, Some, length, slice_get, IfOk, IfErr, OnOk, OnErr, IsTrue, [], None, not, if◌then◌else◌};
 ghost use Rattle.dep_core.specs.Meets.{dependency};
@@ -34,6 +36,7 @@ impl From<AllocError> for WorldFault {
 
     ghost from_gives = { λ _ fault. fault ≡ Memory };
 
+    /// Where no memory was given the world is not read.
     fn from(_: AllocError) -> WorldFault {
         WorldFault::Memory
     }
@@ -44,6 +47,7 @@ impl From<AllocError> for WorldFault {
 #[derive(Drop)]
 pub struct World {
     alloc: Global,
+    /// In byte order of their names, one a name.
     entries: Vec<Entry>,
 }
 
@@ -124,7 +128,7 @@ impl World {
         self.entries.is_empty()
     }
 
-    /// The entry at an index.
+    /// An entry, by how many entries stand before it.
     pub fn entry(&self, i: usize) -> Dep<'_>
         requires { i < length self.now }
         ensures { slice_get self.now i ≡ Some (dependency result) }
@@ -136,6 +140,7 @@ impl World {
 /// A dependency that owns its parts.
 #[derive(Drop)]
 pub struct Entry {
+    // The parts are those of `Dep`, with texts of their own.
     name: Text,
     version: Option<Text>,
     op: Op,
@@ -180,7 +185,7 @@ impl Entry {
         })
     }
 
-    /// The dependency.
+    /// The dependency, lent.
     pub fn dep(&self) -> Dep<'_>
         ensures { dependency result ≡ self.now }
     {
@@ -198,7 +203,7 @@ impl Entry {
         }
     }
 
-    /// Its name.
+    /// The name of the dependency.
     pub fn name(&self) -> &[u8]
         ensures { result.now ≡ self.now.name }
     {
@@ -251,6 +256,7 @@ fn index_of(entries: &[Entry], name: &[u8]) -> Result<usize, usize>
 #[derive(Drop)]
 pub struct Found<'a> {
     alloc: Global,
+    /// Each entry under its own name.
     by_name: BTreeMap<&'a [u8], Entry>,
 }
 
@@ -269,7 +275,7 @@ impl<'a> Model for Found<'a> {
 }
 
 impl<'a> Found<'a> {
-    /// Nothing.
+    /// No entries, as before the first line.
     pub fn new(alloc: Global) -> Found<'a>
         ensures { result ≡ [] }
     {
@@ -319,7 +325,7 @@ impl<'a> Found<'a> {
         Ok(old.is_none())
     }
 
-    /// The entries.
+    /// All entries, in byte order of their names.
     pub fn into_entries(self) -> Result<Vec<Entry>, AllocError>
         ensures value { IfOk result (λ entries. entries.items ≡ self.entry) }
         ensures world { IsWorld self.entry }

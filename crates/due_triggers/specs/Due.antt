@@ -1,4 +1,5 @@
--- Which triggers are due after a change, by the plan of its files.
+-- Which triggers are due after a change, by the plan of its files. The rules stand in
+-- `docs/commands.md`, "`add` and `del`", which triggers are due and how they are refused.
 use Rattle.std.specs.Prelude.{ℕ, Bool, true, List, ◌++◌, Option, Some, None, Result, Ok, Err}
 use Rattle.change_outcome.specs.ChangeOutcome.{name_at_place}
 use Rattle.db_core.specs.Members.{Member}
@@ -7,11 +8,12 @@ use Rattle.own_core.specs.declared.planning.FilePlan.{FilePlan}
 use Rattle.report_core.specs.declared.refusal.Refusal.{Refusal}
 use Rattle.report_core.specs.declared.refusal.Refusal.TheVariants.{TriggerNeeded}
 
--- the files that a plan writes and removes
+-- the paths of the files of packages that a plan writes and removes
 abbrev pub planned_paths : FilePlan → List (List ℕ)
 planned_paths plan = written_names plan ++ plan.removals
 
--- the refusal where the trigger of the package at a place is due
+-- the answer where the trigger of the package at a place is due, which refuses the change, or where
+-- none is
 abbrev pub trigger_needed : List Member → Option ℕ → Result Bool Refusal
 trigger_needed members None = Ok true
 trigger_needed members (Some place) = Err (TriggerNeeded (name_at_place members place))

@@ -1,12 +1,13 @@
--- What a pattern without its first part has to match.
+-- What a pattern without its first part has to match. Serves the proofs of `src/pattern.rt`; the
+-- rule stands in `docs/commands.md`, "`add` and `del`", which triggers are due.
 use Rattle.std.specs.Prelude.{ℕ, ◌==◌, Bool, List}
 use Rattle.std.specs.List.{list_any}
 use Rattle.change_outcome.specs.Triggers.{is_part_matched, suffixes_of}
 
--- a `*` is 42
+-- whether a pattern has a `*`, which is byte 42
 abbrev pub has_star : List ℕ → Bool
 has_star pattern = list_any (λ b. b == 42) pattern
 
--- a pattern matches some end of the bytes
+-- whether a pattern matches some end of the bytes
 abbrev pub is_end_matched : List ℕ → List ℕ → Bool
 is_end_matched pattern bytes = list_any (is_part_matched pattern) (suffixes_of bytes)

@@ -1,5 +1,5 @@
 //! The packages whose triggers are due, by the folders of the files that a change writes and
-//! removes.
+//! removes. The rules stand in `docs/commands.md`, "`add` and `del`", which triggers are due.
 
 ghost use Rattle.adb_schema.specs.Views.{package_value};
 ghost use Rattle.change_outcome.specs.Triggers.{due_line, due_lines, folders_of_paths, has_due_trigger, is_watched, trigger_lines, unless_trigger};

@@ -1,4 +1,5 @@
-//! Whether a pattern of a trigger matches a folder.
+//! Whether a pattern of a trigger matches a folder. The rule stands in `docs/commands.md`,
+//! "`add` and `del`", which triggers are due: the sentences on patterns.
 ghost use Rattle.base_core.specs.Name.{parts_of};
 ghost use Rattle.change_outcome.specs.Triggers.{are_parts_matched, is_folder_matched, is_part_matched};
 ghost use Rattle.due_triggers.specs.Stars.{has_star, is_end_matched};
@@ -33,7 +34,7 @@ fn are_parts_matched(pattern: &[u8], folder: &[u8]) -> bool
         .all(|(wanted, part)| is_part_matched(wanted, part))
 }
 
-/// One less than the number of parts.
+/// How many slashes (byte 47) bytes have: one less than their number of parts.
 fn count_slashes(bytes: &[u8]) -> usize
     ensures { result ≡ count_by (λ b. b == 47) bytes.now }
 {
@@ -70,7 +71,8 @@ fn is_end_matched(pattern: &[u8], bytes: &[u8]) -> bool
     left.ends_with(wanted)
 }
 
-/// What stands behind the first place of a piece.
+/// What stands behind the first place of a piece without a star, if it stands anywhere. In the
+/// clause 42 is a `*`.
 fn behind_first<'a>(piece: &[u8], bytes: &'a [u8]) -> Option<&'a [u8]>
     ensures { (pattern : List ℕ) → has_star piece.now ≡ false
         → is_end_matched (piece.now ++ 42 ∷ pattern) bytes.now
@@ -88,7 +90,7 @@ fn behind_first<'a>(piece: &[u8], bytes: &'a [u8]) -> Option<&'a [u8]>
     }
 }
 
-/// What stands behind the byte at a place.
+/// What stands behind the byte at a place, counted from 0.
 fn behind(bytes: &[u8], at: usize) -> &[u8]
     requires { at < length bytes.now }
     ensures { result.now ≡ drop (at + 1) bytes.now }
@@ -96,7 +98,7 @@ fn behind(bytes: &[u8], at: usize) -> &[u8]
     &bytes[at + 1..]
 }
 
-/// Where the first `*` of a pattern stands.
+/// Where the first `*` (byte 42) of a pattern stands, counted from 0.
 fn first_star(pattern: &[u8]) -> Option<usize>
     ensures found { result ≡ position (λ b. b == 42) pattern.now }
     ensures within { IfSome result (λ at. at < length pattern.now) }

@@ -1,6 +1,8 @@
-//! What a package says of its trigger. The marks serve the borrow checker alone, which does not
-//! know the parts of a view that is made and lent in a function unless the signature names the
-//! view.
+//! What a package says of its trigger. The rule stands in `docs/commands.md`, "`add` and `del`",
+//! which triggers are due; the fields in `docs/formats.md`, "Schemas", tables 6 and 7.
+//!
+//! The marks serve the borrow checker alone, which does not know the parts of a view that is made
+//! and lent in a function unless the signature names the view.
 ghost use Rattle.adb_fields.specs.ListValue.{list_value};
 ghost use Rattle.adb_fields.specs.Repeated.{package_name};
 ghost use Rattle.adb_schema.specs.Views.{package_value};
@@ -13,7 +15,7 @@ use crate::pattern::is_folder_matched;
 use adb_schema::{List, PackageView};
 use std::marker::PhantomData;
 
-/// The name of a package.
+/// The name of a package, which its view lends.
 pub(crate) fn name_of<'a>(pkg: &PackageView<'a>, _mark: PhantomData<PackageView<'a>>) -> &'a [u8]
     ensures { result.now ≡ package_name (package_value pkg.now) }
 {
@@ -21,7 +23,7 @@ pub(crate) fn name_of<'a>(pkg: &PackageView<'a>, _mark: PhantomData<PackageView<
     info.name()
 }
 
-/// Whether a package has a trigger script.
+/// Whether a package has a trigger script: one without bytes is none.
 pub(crate) fn has_trigger_script<'a>(
     pkg: &PackageView<'a>,
     _mark: PhantomData<PackageView<'a>>,

@@ -1,4 +1,6 @@
--- How a change that is made ready is carried through.
+-- How a change that is made ready is carried through. Serves the proofs of `carry_change` and
+-- `finish_change` in `src/carrying.rt`; the rules stand in `docs/commands.md`, "`add` and `del`",
+-- and in `docs/crash-safety.md`, "A change of several files".
 use Rattle.std.specs.Prelude.{◌≡◌, ℕ, List, Some, Result, slice_get}
 use Rattle.adb_write.specs.Canonical.{overflow_of}
 use Rattle.base_core.specs.Files.{Files}
@@ -20,7 +22,8 @@ use Rattle.engine_core.specs.declared.planning.Planned.{Planned}
 
 -- ---- what it comes to
 
--- with these bytes of the database, unless the intent passes a limit of the writer
+-- what a change comes to that is ready but for the intent, with these bytes of the database: it is
+-- done, or refused where the intent passes a limit of the writer
 abbrev pub ready_change :
     Inputs → Replacement → ChangeWishes → List MemberFound → Files → List ℕ
     → Result ChangeDone Refusal
@@ -31,21 +34,21 @@ ready_change inputs r wishes found files database =
     (overflow_of (value_of_intent (intent_of_lists actions.removals actions.writes)))
     (change_done inputs r wishes found files records)
 
--- by some packages that are found, and over some files
+-- the files of a change are planned, by some packages that are found and over some files
 abbrev pub HasPlan : List TreeState → ChangeWishes → Planned → Type 0
 HasPlan history wishes p =
     (found : List MemberFound) × (files : Files) × IsPlanned history wishes p found files
 
 -- ---- a package that was changed
 
--- the refusal names the member whose file is bad, and the test that failed
+-- the refusal names the member at a place, whose file is bad, and tells the test that failed
 abbrev pub IsPackageBad : List Member → ℕ → Cause → Refusal → Type 0
 IsPackageBad members place cause refusal =
     (m : Member)
     × (slice_get members place ≡ Some m)
     × (refusal ≡ PackageBad (member_name m) (version_text m.pkg) cause)
 
--- carrying out fails so where the package of the member at a place was changed since it was tested
+-- how carrying out fails where the package of the member at a place was changed since it was tested
 abbrev pub IsRefusedPackage : List Member → ℕ → Cause → Refused → Type 0
 IsRefusedPackage members place cause (IsRefused refusal) = IsPackageBad members place cause refusal
 IsRefusedPackage members place cause Disk = ⊥

@@ -1,4 +1,6 @@
--- What a run of a change answers, and what it makes of the tree.
+-- What a run of a change answers, and what it makes of the tree. The rules stand in
+-- `docs/commands.md`, "`add` and `del`" and "`upgrade` and `fix`"; what a crash leaves in
+-- `docs/crash-safety.md`, "A change of several files".
 use Rattle.std.specs.Prelude.{◌≡◌, ◌⊎◌, ℕ, true, List, [], Option, Some, None, Result, Ok, Err, OnOk, IfErr, Contains}
 use Rattle.base_core.specs.Calls.{IfObservable}
 use Rattle.base_core.specs.Faults.{Counts}
@@ -32,21 +34,21 @@ use Rattle.engine_core.specs.Selecting.{pool_for}
 
 -- ---- what it answers
 
--- nothing comes behind the report
+-- the report as it is answered: nothing comes behind it
 abbrev pub report_as_is : List ℕ → List ℕ
 report_as_is report = report
 
--- the report alone of what a change comes to
+-- what a change comes to, of which only the report counts, or its refusal
 abbrev pub report_in : Result ChangeDone Refusal → Result (List ℕ) Refusal
 report_in wanted = and_then wanted (λ done. Ok done.report)
 
--- it is a change that writes or removes something
+-- a change comes to its end, and writes or removes something
 abbrev pub DoesCommit : Result ChangeDone Refusal → Type 0
 DoesCommit (Ok done) = done.commits ≡ true
 DoesCommit (Err refusal) = ⊥
 
--- By its identity, name and version the file is the package of the candidate. But as a package it is
--- refused with this cause: a digest of contents differs.
+-- The file of a candidate's package is spoiled: by its identity, name and version it is that
+-- package, but as a package it is refused with this cause: a digest of contents differs.
 pub record IsSpoiledPackage (c : Candidate) (file : List ℕ) (cause : Cause) : Type 0 where
   pub agrees : unless_different c (package_in_file file) ≡ Ok (package_in_file file)
   pub wanted : Digest
@@ -72,7 +74,7 @@ pub record IsFoundChanged (coming : List Candidate) (wanted : Result ChangeDone 
 
 -- ---- what it makes of the tree
 
--- the change is staged and carried through, or the tree failed on the way
+-- a change is staged and carried through, or the tree failed on the way
 pub record IsCommit (wanted : Result ChangeDone Refusal) (v : TreeState)
     (old now : List TreeState) (result : Result (List ℕ) Refused) : Type 0 where
   pub done : ChangeDone
@@ -107,7 +109,7 @@ pub record ComesTo (coming : List Candidate) (wanted : Result ChangeDone Refusal
   pub proper : IfObservable old (λ v. v.names intent_name ≡ None → IsEmptyStage (files_of v)
       → (DoesCommit wanted → HasRoomToStage (files_of v)) → after.misuses ≡ before.misuses)
 
--- the candidates whose packages are read
+-- the candidates whose packages a change reads; a refusal reads none
 abbrev pub coming_in : Result Selected Refusal → List Candidate
 coming_in (Ok s) = candidates_that_come s.replacement
 coming_in (Err refusal) = []

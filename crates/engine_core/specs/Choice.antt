@@ -1,15 +1,18 @@
--- Which candidates are chosen.
+-- Which candidates are chosen. The rules stand in `docs/selection.md`, "What satisfies world" and
+-- "Which selection is taken".
 use Rattle.std.specs.Prelude.{◌≡◌, ℕ, List, Option, Some, None, Result, Ok, Err}
 use Rattle.pool_core.specs.Rank.{SealedPool}
 use Rattle.report_core.specs.declared.refusal.Refusal.{Refusal}
 use Rattle.solve_core.specs.Selection.{IsFirstSelection, IsSatisfying}
 
--- the places of the first preferred selection; or none, where no selection satisfies the world
+-- what is chosen among candidates: the places of the first preferred selection; or none, where no
+-- selection satisfies the world
 abbrev pub IsChoice : SealedPool → Option (List ℕ) → Type 0
 IsChoice pool None = (selection : List ℕ) → IsSatisfying pool selection → ⊥
 IsChoice pool (Some trace) = IsFirstSelection pool trace
 
--- nothing is chosen where a refusal stands in the place of the candidates
+-- what is chosen where candidates are made, or refused: nothing where a refusal stands in their
+-- place
 abbrev pub IsChoiceFrom : Result SealedPool Refusal → Option (List ℕ) → Type 0
 IsChoiceFrom (Ok pool) chosen = IsChoice pool chosen
 IsChoiceFrom (Err refusal) chosen = chosen ≡ None

@@ -1,4 +1,6 @@
--- What is known of a change as it is made ready.
+-- What is known of a change as it is made ready. Serves the contracts between the steps of a
+-- change, from `make_change` to `carry_change`; the rules stand in `docs/commands.md`,
+-- "What a change does with files" and "`add` and `del`".
 use Rattle.std.specs.Prelude.{◌≡◌, ℕ, Bool, true, false, not, List, All, Contains, Option, Some, None, IfSome, bytes_eq, slice_get}
 use Rattle.std.specs.Option.{option_copied}
 use Rattle.adb_rules.specs.Reserved.{is_reserved}
@@ -38,7 +40,7 @@ IsRootRead history inputs = IfObservable history (λ v. IsRootOfFiles (files_of 
 
 -- ---- the packages
 
--- one of these candidates has its identity, its name and its version
+-- a member is of one of these candidates: it has its identity, its name and its version
 pub record IsOfCandidate (coming : List Candidate) (m : Member) : Type 0 where
   pub candidate : Candidate
   pub comes : Contains coming candidate
@@ -51,11 +53,11 @@ abbrev pub AreOfCandidates : List Candidate → List Member → Type 0
 AreOfCandidates coming members = (place : ℕ) (m : Member) → slice_get members place ≡ Some m
     → is_coming m ≡ true → IsOfCandidate coming m
 
--- what was read of the root, when the packages have arrived
+-- what was read of the root, as it is known when the packages have arrived
 abbrev pub inputs_arrived : Arrived → Inputs
 inputs_arrived a = inputs_of_selection a.selection.now
 
--- which packages take the place of which
+-- which packages take the place of which, as it is known when they have arrived
 abbrev pub replacement_arrived : Arrived → Replacement
 replacement_arrived a = replacement_seen a.selection.now
 
@@ -63,7 +65,7 @@ replacement_arrived a = replacement_seen a.selection.now
 abbrev pub members_arrived : Arrived → List Member
 members_arrived a = members_of a.members.now
 
--- those that come were read, and are those that are found
+-- the packages that come were read, and with those that stay they are the ones that are found
 pub record AreArrivals (history : List TreeState) (s : Selection) (names : PlacedNames)
     (arrivals : Arrivals) (found : List MemberFound) : Type 0 where
   pub database : HasItsDatabase s
@@ -73,14 +75,15 @@ pub record AreArrivals (history : List TreeState) (s : Selection) (names : Place
   pub root : IsRootRead history (inputs_of_selection s)
   pub coming : AreOfCandidates (candidates_that_come (replacement_seen s)) (members_found found)
 
--- and their members stand one beside the other
+-- the packages after a change have arrived: they were read, and their members stand one beside the
+-- other
 pub record IsArrived (history : List TreeState) (a : Arrived) (found : List MemberFound) : Type 0 where
   pub read : AreArrivals history a.selection.now a.names.now a.arrivals.now found
   pub members : members_arrived a ≡ members_found found
 
 -- ---- the plan
 
--- the files are planned, over these where the tree shows its files
+-- the files of a change are planned, over these files where the tree shows its files
 pub record IsPlanned (history : List TreeState) (wishes : ChangeWishes) (p : Planned)
     (found : List MemberFound) (files : Files) : Type 0 where
   pub arrived : IsArrived history p.arrived.now found
@@ -96,18 +99,19 @@ pub record IsPlanned (history : List TreeState) (wishes : ChangeWishes) (p : Pla
 
 -- ---- the database and world
 
--- the bytes that the database, world and the text database get
+-- the new database and world of a change: the text is that of the new world, and both have the
+-- names of their files
 pub record AreRecordsOf (inputs : Inputs) (records : NewRecords) : Type 0 where
   pub world : records.world ≡ world_text inputs.root.new_world
   pub database_name : records.database_name ≡ Names.database_name
   pub world_name : records.world_name ≡ Names.world_name
 
--- only a file that differs is written
+-- the bytes that are to be written of a file: only one that differs is written
 abbrev pub bytes_if : Bool → List ℕ → Option (List ℕ)
 bytes_if true bytes = Some bytes
 bytes_if false bytes = None
 
--- what of them is written
+-- what of the database and world is written
 pub record AreRecordWrites (inputs : Inputs) (records : NewRecords) (writes : RecordWrites)
     : Type 0 where
   pub database_name : writes.database_name.now ≡ records.database_name

@@ -1,4 +1,5 @@
--- A run by the packages that are found.
+-- A run by the packages that are found. Serves the contract of `change_members` in `src/making.rt`;
+-- the rules stand in `docs/commands.md`, "What a change does with files".
 use Rattle.std.specs.Prelude.{◌≡◌, ℕ, List, Option, Result, Ok}
 use Rattle.base_core.specs.Calls.{IfObservable}
 use Rattle.base_core.specs.Faults.{Counts}
@@ -13,7 +14,7 @@ use Rattle.package_changes.specs.Changes.{Replacement}
 use Rattle.path_clashes.specs.Clash.{NamePair}
 use Rattle.engine_core.specs.ChangeRun.{ComesTo}
 
--- where reads find these packages
+-- a run of a change by these packages, where reads find them
 pub record IsFoundRun (inputs : Inputs) (r : Replacement) (wishes : ChangeWishes)
     (found : List MemberFound) (old now : List TreeState) (before after : Counts)
     (result : Result (List ℕ) Refused) : Type 0 where

@@ -1,4 +1,5 @@
--- How it is told why there is no plan.
+-- How it is told why there is no plan. Serves the contract of `refused_plan` in `src/planning.rt`;
+-- the rules stand in `docs/commands.md`, "What a change does with files", the three tests.
 use Rattle.std.specs.Prelude.{◌≡◌}
 use Rattle.change_inputs.specs.declared.root.Refused.{Refused}
 use Rattle.change_inputs.specs.declared.root.Refused.TheVariants as Commands

@@ -1,4 +1,5 @@
--- What the parts of a run say.
+-- What the parts of a run of a change say, each by what it is given. Serves the contracts of
+-- `src/changing.rt`; the contract of the whole run is *IsChangeRun*.
 use Rattle.std.specs.Prelude.{◌≡◌, ℕ, List, Option, Result, OnOk, IfErr, IsErrOf}
 use Rattle.base_core.specs.Calls.{IfObservable}
 use Rattle.base_core.specs.Faults.{Counts, GoesOn, HasCause, IsNoFault}
@@ -18,7 +19,7 @@ use Rattle.engine_core.specs.Changed.{IsClashOfSelectedOver, Selected, change_of
 use Rattle.engine_core.specs.Choice.{IsChoiceFrom}
 use Rattle.engine_core.specs.Selecting.{pool_by}
 
--- a run by what is selected, or refused in its place
+-- a run by what is selected, or by the refusal in its place
 pub record IsSelectedRun (command : CommandLine) (selected : Result Selected Refusal)
     (old now : List TreeState) (before after : Counts)
     (result : Result (List ℕ) Refused) : Type 0 where
@@ -34,7 +35,7 @@ pub record IsSelectedRun (command : CommandLine) (selected : Result Selected Ref
       (and_then selected (change_of_selected command read files clash))
       old now before after result
 
--- a run by these inputs, and by what is chosen
+-- a run by these inputs, and by whatever is chosen among their candidates
 abbrev pub IsRunBy :
     CommandLine → Inputs → List TreeState → List TreeState → Counts → Counts
     → Result (List ℕ) Refused → Type 0

@@ -1,4 +1,5 @@
--- What a selection of the program stands for.
+-- What a selection of the program stands for. Serves the contracts of `src/changing.rt` and
+-- `src/making.rt`, of which a `Selection` is handed on.
 use Rattle.std.specs.Prelude.{◌≡◌}
 use Rattle.change_inputs.specs.Inputs.{Inputs}
 use Rattle.change_inputs.specs.Seen.{inputs_seen}
@@ -17,11 +18,11 @@ abbrev pub replacement_seen : Selection → Replacement
 replacement_seen s =
     replacement_of_choice s.again.now (inputs_of_selection s) s.pool.now s.trace.now
 
--- with what was read of the root
+-- what contracts see in a selection: what was read of the root, and the replacement
 abbrev pub selection_seen : Selection → Selected
 selection_seen s =
     record { inputs = inputs_of_selection s; replacement = replacement_seen s }
 
--- its database is that of the inputs
+-- the database of a selection is the one of its inputs
 abbrev pub HasItsDatabase : Selection → Type 0
 HasItsDatabase s = packages_of s.db.now ≡ (inputs_of_selection s).root.database.packages

@@ -1,4 +1,5 @@
--- What a command says of a change beside world.
+-- What a command says of a change beside world. The rules stand in `docs/commands.md`,
+-- "`add` and `del`" and "`upgrade` and `fix`".
 use Rattle.std.specs.Prelude.{ℕ, Bool, ◌||◌, if◌then◌else◌, List, [], ◌∷◌, map, Option, Some, None, Result, Err}
 use Rattle.change_inputs.specs.Inputs.{Inputs}
 use Rattle.change_outcome.specs.ChangeOutcome.{ChangeWishes}
@@ -16,7 +17,7 @@ use Rattle.report_core.specs.declared.refusal.Refusal.TheVariants.{NotInstalled}
 abbrev pub operand_texts : List Operand → List (List ℕ)
 operand_texts operands = map (λ o. o.text) operands
 
--- the names that were to go: those that `del` takes out of world
+-- the names that were to go, whether they do or not: those that `del` takes out of world
 abbrev pub names_to_go : Applet → List Operand → List (List ℕ)
 names_to_go Del operands = operand_texts operands
 names_to_go applet operands = []
@@ -27,7 +28,7 @@ names_to_upgrade Upgrade [] = all_names
 names_to_upgrade Upgrade (o ∷ operands) = listed_names (operand_texts (o ∷ operands))
 names_to_upgrade applet operands = no_names
 
--- the names that `fix` installs again
+-- the names that `fix` installs again: those of its operands
 abbrev pub names_to_reinstall : Applet → List Operand → List (List ℕ)
 names_to_reinstall Fix operands = operand_texts operands
 names_to_reinstall applet operands = []
@@ -40,29 +41,29 @@ wishes_of command = record {
   to_go = names_to_go command.applet command.operands;
 }
 
--- a package of the name is installed
+-- whether a package of the name is installed before the change
 abbrev pub is_installed_name : Inputs → List ℕ → Bool
 is_installed_name inputs name = was_installed inputs.root.database.packages name
 
--- world has an entry of the name, or a package of it is installed
+-- whether world has an entry of the name, or a package of it is installed
 abbrev pub is_known_name : Inputs → List ℕ → Bool
 is_known_name inputs name = has_name name inputs.root.world || is_installed_name inputs name
 
--- the place of the first operand whose text is no such name
+-- the place of the first operand whose text is no known name
 abbrev pub first_unknown : (List ℕ → Bool) → List Operand → Option ℕ
 first_unknown is_known [] = None
 first_unknown is_known (o ∷ operands) =
     if is_known o.text then first_unknown is_known operands else Some o.place
 
--- `del` is refused a name that is neither in world nor installed; `upgrade` and `fix` are refused
--- one that is not installed
+-- the word that is refused as not installed: `del` is refused a name that is neither in world nor
+-- installed; `upgrade` and `fix` are refused one that is not installed
 abbrev pub unknown_place : Applet → Inputs → List Operand → Option ℕ
 unknown_place Del inputs operands = first_unknown (is_known_name inputs) operands
 unknown_place Upgrade inputs operands = first_unknown (is_installed_name inputs) operands
 unknown_place Fix inputs operands = first_unknown (is_installed_name inputs) operands
 unknown_place applet inputs operands = None
 
--- an operand that names no known package refuses the command
+-- what comes next, unless an operand that names no known package refuses the command
 abbrev pub unless_place : {A : Type 0} → Option ℕ → Result A Refusal → Result A Refusal
 unless_place None next = next
 unless_place (Some place) next = Err (NotInstalled place)

@@ -1,4 +1,6 @@
--- What a change writes, and where it comes from.
+-- What a change writes, and where it comes from. Serves the contracts of `src/writes.rt`; the rules
+-- stand in `docs/commands.md`, "What a change does with files" and "`add` and `del`", what is
+-- written.
 use Rattle.std.specs.Prelude.{◌≡◌, ◌⊎◌, ℕ, true, false, List, [], ◌∷◌, ◌++◌, Option, Some, None, Contains, is_some, option_and_then, slice_get}
 use Rattle.std.specs.Borrow.{Bor}
 use Rattle.arrivals.specs.Arrivals.{arrivals_seen, package_in}
@@ -31,14 +33,14 @@ entry_of_write members w =
 abbrev pub Packages : Type 0
 Packages = ℕ → Option TestedPackage
 
--- it is the file that a write is of
+-- a file in a package is the one that a write is of
 pub record IsFileOfWrite (packages : Packages) (w : FileWrite) (f : PackagedFile) : Type 0 where
   pub read : packages w.member ≡ Some f.package.now
   pub member : f.member ≡ w.member
   pub folder : f.folder ≡ w.folder
   pub file : f.file ≡ w.file
 
--- a link's text, or the file in the package
+-- where the bytes of a write come from: a link's text, or the file in the package
 abbrev pub IsSourceOfWrite : List Member → Packages → FileWrite → Source → Type 0
 IsSourceOfWrite members packages w (Bytes own) = ⊥
 IsSourceOfWrite members packages w (Link target) =
@@ -57,28 +59,29 @@ pub record IsFileWrite (members : List Member) (packages : Packages) (planned : 
 
 -- ---- the database and world
 
--- given bytes; neither a link nor a file of a package
+-- a source is these bytes, and neither a link nor a file of a package
 abbrev pub HasBytes : List ℕ → Source → Type 0
 HasBytes bytes (Bytes own) = own.now ≡ bytes
 HasBytes bytes (Link target) = ⊥
 HasBytes bytes (File f) = ⊥
 
--- what is staged under a name are these bytes
+-- what is staged under this name are these bytes
 pub record IsRecordWrite (name bytes : List ℕ) (write : StagedWrite) : Type 0 where
   pub named : write_name write ≡ name
   pub source : HasBytes bytes write.source
 
--- the bytes of a file that is written; where there are none it stays
+-- a write is that of a record, whose bytes are given where it is written; where none are given it
+-- stays
 abbrev pub IsRecordOf : List ℕ → Option (Bor (List ℕ)) → StagedWrite → Type 0
 IsRecordOf name None write = ⊥
 IsRecordOf name (Some bytes) write = IsRecordWrite name bytes.now write
 
--- a write for a record that changes, none for one that stays
+-- the writes of a record, the database or world: one where it changes, none where it stays
 abbrev pub record_writes : Bor (List ℕ) → Option (Bor (List ℕ)) → List StagedWrite
 record_writes name None = []
 record_writes name (Some bytes) = record { name = name; source = Bytes bytes } ∷ []
 
--- of the database and of world, where they are written
+-- the names of the database and of world, where they are written
 abbrev pub record_names : RecordWrites → List (List ℕ)
 record_names r =
     name_if_needed (is_some r.database) r.database_name.now
@@ -86,7 +89,7 @@ record_names r =
 
 -- ---- each write
 
--- a file of a package, or the database, or world
+-- a write is that of a file of a package, of the database, or of world
 abbrev pub IsWriteBy :
     List Member → Packages → List FileWrite → RecordWrites → StagedWrite → Type 0
 IsWriteBy members packages planned r write =
@@ -96,11 +99,11 @@ IsWriteBy members packages planned r write =
 
 -- ---- what was read
 
--- the package that was read for the member at a place
+-- the package that was read for the member at a place, if one was
 abbrev pub package_at : Arrivals → ℕ → Option TestedPackage
 package_at arrivals place = option_and_then package_in (slice_get (arrivals_seen arrivals) place)
 
--- of each member that comes the package was read
+-- the package of each member that comes was read
 abbrev pub HasPackages : List Member → Arrivals → Type 0
 HasPackages members arrivals = (place : ℕ) (m : Member) → slice_get members place ≡ Some m
     → is_coming m ≡ true → is_some (package_at arrivals place) ≡ true

@@ -1,4 +1,6 @@
-//! A change that is made ready is carried through.
+//! A change that is made ready is carried through. The rules stand in `docs/commands.md`,
+//! "`add` and `del`", what is written and refused, and in `docs/crash-safety.md`,
+//! "A change of several files".
 ghost use Rattle.base_core.specs.Files.{Files};
 ghost use Rattle.change_inputs.specs.Chains.{and_then};
 ghost use Rattle.change_outcome.specs.ChangeOutcome.{file_change, touched_paths, unless_too_large};
@@ -35,8 +37,12 @@ fn carry_change<T: Tree>(
     records: &NewRecords,
     tree: &mut T,
 ) -> Result<Text, Refused>
+    // The files of the change are planned, over the tree as it is now.
     requires plan { HasPlan (T.history tree.old) (wishes_of command.now) planned.now }
+    // These records are those of what was read.
     requires records { AreRecordsOf (inputs_arrived planned.now.arrived.now) records.now }
+    // The run comes to the change with these records, or to the refusal that its intent is too
+    // large.
     ensures comes { (found : List MemberFound) (files : Files)
         → IsPlanned (T.history tree.old) (wishes_of command.now) planned.now found files
         → ComesTo (candidates_that_come (replacement_arrived planned.now.arrived.now))
@@ -44,6 +50,7 @@ fn carry_change<T: Tree>(
         (replacement_arrived planned.now.arrived.now) (wishes_of command.now) found files
         records.now.database.items) (T.history tree.old) (T.history tree.new) (T.counts tree.old)
         (T.counts tree.new) result }
+    // How the tree's counts explain the answer.
     ensures counts { IsRunCounted (T.counts tree.old) (T.counts tree.new) result }
 {
     a_package_that_was_read_is_that_of_its_file();
@@ -59,6 +66,7 @@ fn carry_change<T: Tree>(
     )?;
     let removals = removals_of(alloc, plan.removals(), loaded.is_from_text())?;
     let names = names_of(alloc, &writes)?;
+    // Two laws: what a list of names holds are names, so the intent of both lists is one.
     removals.are_names();
     names.are_names();
     let report = report_of(alloc, command, planned)?;
@@ -66,6 +74,7 @@ fn carry_change<T: Tree>(
     if is_idle(&removals, &names) {
         return Ok(report);
     }
+    // A law: none of the names is the intent's or below the stage.
     stage.names_are_free();
     let mut piece = Piece::new();
     match carry_out(&mut stage, tree, &writes, &mut piece) {
@@ -90,6 +99,7 @@ pub(crate) fn finish_change<T: Tree>(
     tree: &mut T,
 ) -> Result<Text, Refused>
     requires { HasPlan (T.history tree.old) (wishes_of command.now) planned.now }
+    // The run comes to the change, unless a trigger is due or a limit of the writer is passed.
     ensures comes { (found : List MemberFound) (files : Files)
         → IsPlanned (T.history tree.old) (wishes_of command.now) planned.now found files
         → ComesTo (candidates_that_come (replacement_arrived planned.now.arrived.now))

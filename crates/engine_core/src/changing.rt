@@ -1,4 +1,6 @@
-//! A change of what is installed, from the words to its end, or only simulated.
+//! A change of what is installed, from the words to its end, or only simulated. The rules stand in
+//! `docs/commands.md`, "`add` and `del`" and "`upgrade` and `fix`": the refusals, in their order,
+//! and the report.
 
 ghost use Rattle.change_inputs.specs.Seen.{inputs_seen};
 ghost use Rattle.engine_core.specs.ChangeRun.{IsChangeRun};
@@ -38,8 +40,11 @@ use std::alloc::{AllocError, Global};
 /// `PathClash`, `Owned`, `TriggerNeeded`, and `ResultTooLarge` of the database and then of the
 /// intent. `Disk` where the tree failed, and `Memory`.
 pub fn change<T: Tree>(alloc: Global, command: &Command, tree: &mut T) -> Result<Text, Refused>
+    // What is answered, and what is done to the tree, moment by moment.
     ensures run { IsChangeRun command.now (T.history tree.old) (T.history tree.new)
         (T.counts tree.old) (T.counts tree.new) result }
+    // How the tree's counts explain the answer: no count falls, a fault has its cause, and any
+    // other answer hides none.
     ensures counts { IsRunCounted (T.counts tree.old) (T.counts tree.new) result }
 {
     a_choice_exists();
@@ -51,7 +56,7 @@ pub fn change<T: Tree>(alloc: Global, command: &Command, tree: &mut T) -> Result
     change_loaded(alloc, command, &loaded, tree)
 }
 
-// By what was read of the root.
+// Goes on with what was read of the root: makes the candidates.
 fn change_loaded<T: Tree>(
     alloc: Global,
     command: &Command,
@@ -73,7 +78,7 @@ fn change_loaded<T: Tree>(
     }
 }
 
-// By the candidates.
+// Goes on with the candidates: refuses an operand that is not installed, and chooses.
 fn change_in_pool<'a, T: Tree>(
     alloc: Global,
     command: &Command,
@@ -82,9 +87,12 @@ fn change_in_pool<'a, T: Tree>(
     again: &Words,
     tree: &mut T,
 ) -> Result<Text, Refused>
+    // The candidates are those of the command and of what was read.
     requires pool { pool_by command.now (inputs_seen loaded.now) ≡ Ok pool.now }
     requires again { again.now ≡ names_to_reinstall command.now.applet command.now.operands }
+    // The database and world still stand as they were read, where the tree shows its files.
     requires root { IsRootRead (T.history tree.old) (inputs_seen loaded.now) }
+    // The run is one by what was read and by whatever is chosen.
     ensures run { IsRunBy command.now (inputs_seen loaded.now) (T.history tree.old)
         (T.history tree.new) (T.counts tree.old) (T.counts tree.new) result }
     ensures counts { IsRunCounted (T.counts tree.old) (T.counts tree.new) result }
@@ -106,17 +114,20 @@ fn change_in_pool<'a, T: Tree>(
     change_selected(alloc, command, &selection, tree)
 }
 
-// By the candidates that are selected.
+// Goes on with the candidates that are selected: reports with `--simulate`, and else makes the
+// change.
 fn change_selected<T: Tree>(
     alloc: Global,
     command: &Command,
     selection: &Selection<'_, '_>,
     tree: &mut T,
 ) -> Result<Text, Refused>
+    // The database is the one of the selection, opened.
     requires database { HasItsDatabase selection.now }
     requires pool { pool_by command.now (inputs_of_selection selection.now)
         ≡ Ok selection.now.pool.now }
     requires root { IsRootRead (T.history tree.old) (inputs_of_selection selection.now) }
+    // The run is one by what is selected.
     ensures run { IsSelectedRun command.now (Ok (selection_seen selection.now))
         (T.history tree.old) (T.history tree.new) (T.counts tree.old) (T.counts tree.new) result }
     ensures counts { IsRunCounted (T.counts tree.old) (T.counts tree.new) result }
@@ -129,7 +140,7 @@ fn change_selected<T: Tree>(
     make_change(alloc, command, selection, tree)
 }
 
-/// Reports what would change.
+/// Reports what would change, as `--simulate` asks for it.
 pub(crate) fn simulate(
     alloc: Global,
     command: &Command,

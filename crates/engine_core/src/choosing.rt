@@ -1,5 +1,6 @@
 //! The candidates that take the place of the packages before, and how they are chosen. Laws:
-//! something is chosen, and just one thing.
+//! something is chosen, and just one thing. The rules stand in `docs/selection.md`,
+//! "Which selection is taken".
 
 ghost use Rattle.change_inputs.specs.Seen.{inputs_seen};
 ghost use Rattle.engine_core.specs.Chosen.{IsChosen};
@@ -40,11 +41,15 @@ pub(crate) fn choose<'a>(
 /// The candidates that take the place of the packages before, with what they were chosen from.
 #[derive(Clone, Copy)]
 pub(crate) struct Selection<'r, 'a> {
+    /// What was read of the root.
     pub loaded: &'a Loaded,
+    /// The database of the root, opened.
     pub db: &'r Db<'a>,
+    /// The candidates.
     pub pool: &'r Sealed<'a>,
+    /// The places of the chosen candidates, in the order in which they were chosen.
     pub trace: &'r Trace,
-    /// The names that are to be installed again.
+    /// The names that are to be installed again, which `fix` asks for.
     pub again: &'r Words,
 }
 
@@ -56,7 +61,7 @@ pub fn a_choice_exists()
     options_are_the_best_first();
 }
 
-/// Just one thing is chosen.
+/// Just one thing is chosen, so a choice depends on the candidates alone.
 pub fn a_choice_is_unique()
     ensures { (pool : Result SealedPool Refusal) (a b : Option (List ℕ)) →
         IsChoiceFrom pool a → IsChoiceFrom pool b → a ≡ b }

@@ -1,5 +1,7 @@
 //! What a change needs behind the plan of its files: the database and world, the report, and what
-//! is refused last.
+//! is refused last. The rules stand in `docs/commands.md`, "`add` and `del`" (what is written,
+//! reported and refused), and of the database's bytes in `docs/formats.md`,
+//! "The database after a change".
 ghost use Rattle.base_core.specs.Files.{Files};
 ghost use Rattle.base_core.specs.Tree.{TreeState};
 ghost use Rattle.change_inputs.specs.Answers.{Agrees};
@@ -31,9 +33,13 @@ use std::alloc::{AllocError, Global};
 /// The database and world after a change, and their names.
 #[derive(Drop)]
 pub(crate) struct NewRecords {
+    /// The bytes of the new database.
     pub database: Vec<u8>,
+    /// The text of the new world.
     pub world: Text,
+    /// The name of the database's file.
     pub database_name: Name,
+    /// The name of world's file.
     pub world_name: Name,
 }
 
@@ -63,7 +69,7 @@ pub(crate) fn new_records(
     })
 }
 
-/// The bytes, if they are to be written.
+/// The bytes of a file, if they differ from those that stand there and so are to be written.
 fn bytes_if(is_other: bool, bytes: &[u8]) -> Option<&[u8]>
     ensures { option_copied result ≡ bytes_if is_other bytes.now }
 {
@@ -73,8 +79,8 @@ fn bytes_if(is_other: bool, bytes: &[u8]) -> Option<&[u8]>
     Some(bytes)
 }
 
-/// What of them is written: the database where its file is absent or has other bytes, and world
-/// where it differs.
+/// What of the database and world is written: the database where its file is absent or has other
+/// bytes, and world where it differs.
 pub(crate) fn record_writes_of<'c>(loaded: &Loaded, records: &'c NewRecords) -> RecordWrites<'c>
     ensures { AreRecordWrites (inputs_seen loaded.now) records.now result }
 {
@@ -88,7 +94,8 @@ pub(crate) fn record_writes_of<'c>(loaded: &Loaded, records: &'c NewRecords) -> 
     }
 }
 
-/// The report of a change.
+/// The report of a change that is made: what becomes of each package, of the names that were to go,
+/// of configuration and triggers, and the total.
 pub(crate) fn report_of(
     alloc: Global,
     command: &Command,
@@ -120,7 +127,7 @@ pub(crate) fn report_of(
     Text::of(alloc, report.bytes())
 }
 
-/// Whether nothing is removed or written.
+/// Whether a change removes and writes nothing.
 pub(crate) fn is_idle(removals: &Names, writes: &Names) -> bool
     ensures { result ≡ not (does_something
         (record { removals = removals.now; writes = writes.now })) }
@@ -151,7 +158,8 @@ fn package_bad(
     })
 }
 
-/// The same as an answer.
+/// How a change ends where a package that was tested is bad when it is read once more:
+/// `package_bad`, or want of memory.
 pub(crate) fn refused_package(
     alloc: Global,
     members: &Members<'_>,

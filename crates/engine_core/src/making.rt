@@ -1,4 +1,6 @@
-//! A change is made: its packages are read, its files are planned, and it is carried through.
+//! A change is made: its packages are read, its files are planned, and it is carried through. The
+//! rules stand in `docs/commands.md`, "What a change does with files", and the order of the
+//! refusals in "`add` and `del`".
 ghost use Rattle.base_core.specs.Tree.{TreeState};
 ghost use Rattle.change_inputs.specs.Inputs.{Inputs};
 ghost use Rattle.change_outcome.specs.MembersAfter.{MemberFound};
@@ -27,7 +29,7 @@ use own_core::plan;
 use package_changes::PlacedNames;
 use std::alloc::Global;
 
-/// Makes the change of a selection.
+/// Makes the change of a selection: reads the packages that come, and goes on with them.
 ///
 /// # Errors
 ///
@@ -43,7 +45,9 @@ pub(crate) fn make_change<T: Tree>(
     requires pool { pool_by command.now (inputs_of_selection selection.now)
         ≡ Ok selection.now.pool.now }
     requires root { IsRootRead (T.history tree.old) (inputs_of_selection selection.now) }
+    // The change is not only simulated.
     requires real { command.now.flags.simulate ≡ false }
+    // The run is one by what is selected.
     ensures run { IsSelectedRun command.now (Ok (selection_seen selection.now))
         (T.history tree.old) (T.history tree.new) (T.counts tree.old) (T.counts tree.new) result }
     ensures counts { IsRunCounted (T.counts tree.old) (T.counts tree.new) result }
@@ -69,7 +73,8 @@ pub(crate) fn make_change<T: Tree>(
     change_members(alloc, command, selection, &names, &arrivals, tree)
 }
 
-/// Makes the change the packages of which were read.
+/// Goes on with the packages that were read: sets them beside those that stay, as the members after
+/// the change.
 fn change_members<'a, 'm, T: Tree>(
     alloc: Global,
     command: &Command,
@@ -78,10 +83,13 @@ fn change_members<'a, 'm, T: Tree>(
     arrivals: &'m Arrivals,
     tree: &mut T,
 ) -> Result<Text, Refused>
+    // The packages that come and those that stay may stand in one database.
     requires members { CanBeMembers (packages_of selection.now.db.now)
         (arrivals_seen arrivals.now) }
+    // They are those that reads find.
     requires read { (found : List MemberFound)
         × AreArrivals (T.history tree.old) selection.now names.now arrivals.now found }
+    // Where reads find these packages, the run is the change with them.
     ensures run { (found : List MemberFound) (read : Reads)
         → AreArrivals (T.history tree.old) selection.entry.now names.entry.now arrivals.entry.now
         found
@@ -102,7 +110,7 @@ fn change_members<'a, 'm, T: Tree>(
     plan_change(alloc, command, &arrived, tree)
 }
 
-/// Makes the change whose packages were read.
+/// Goes on with the members: plans the files of the change, or refuses it.
 fn plan_change<T: Tree>(
     alloc: Global,
     command: &Command,

@@ -1,4 +1,6 @@
-//! The packages after a change, and the plan of its files, by which its triggers are tested.
+//! The packages after a change, and the plan of its files, by which its triggers are tested. The
+//! rules stand in `docs/commands.md`, "What a change does with files", and of triggers in
+//! "`add` and `del`", which triggers are due.
 
 ghost use Rattle.change_inputs.specs.Answers.{Agrees};
 ghost use Rattle.change_outcome.specs.ChangeOutcome.{name_at_place};
@@ -42,7 +44,7 @@ pub(crate) fn refused_plan(fault: PlanFault) -> Refused
     }
 }
 
-/// Tests that no trigger is due, or that there is leave not to run it.
+/// Tests that no trigger is due, or that there is leave not to run it (`--no-scripts`).
 ///
 /// # Errors
 ///
@@ -78,18 +80,24 @@ fn member_name(alloc: Global, members: &Members<'_>, place: usize) -> Result<Tex
     Text::of(alloc, view.info().name())
 }
 
-/// The packages after a change, with what they were selected from and read of.
+/// The packages after a change, with what they were selected from and what was read of them.
 #[derive(Clone, Copy)]
 pub(crate) struct Arrived<'r, 'a, 'm, 'x> {
+    /// The candidates that were selected, and what was read of the root.
     pub selection: &'r Selection<'r, 'a>,
+    /// The names of the packages before and of the candidates, each with its place.
     pub names: &'r PlacedNames<'a>,
+    /// The packages that come, read and tested, among those that stay.
     pub arrivals: &'m Arrivals,
+    /// The packages after the change, as the database is to list them.
     pub members: &'r Members<'x>,
 }
 
-/// And the plan of the change's files.
+/// The packages after a change, with the plan of its files.
 #[derive(Clone, Copy)]
 pub(crate) struct Planned<'r, 'a, 'm, 'x> {
+    /// The packages after the change.
     pub arrived: &'r Arrived<'r, 'a, 'm, 'x>,
+    /// What the change removes, writes, lays beside and keeps.
     pub plan: &'m FilePlan,
 }

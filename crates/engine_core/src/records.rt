@@ -1,4 +1,6 @@
-//! The database after a change, and the stage of its files.
+//! The database after a change, and the stage of its files. The rules stand in `docs/formats.md`,
+//! "The database after a change", and in `docs/crash-safety.md`, "A change of several files"; the
+//! limits in `docs/formats.md`, "Canonical layout".
 ghost use Rattle.adb_write.specs.Canonical.{overflow_of};
 ghost use Rattle.change_inputs.specs.Answers.{Agrees};
 ghost use Rattle.change_outcome.specs.ChangeOutcome.{is_other_file, unless_large, unless_overflow};
@@ -52,7 +54,7 @@ pub(crate) fn is_other_file(found: Option<&[u8]>, bytes: &[u8]) -> bool
     }
 }
 
-/// Begins the stage of a change.
+/// Begins the stage of a change: makes its intent in memory. The tree is not touched.
 ///
 /// # Errors
 ///

@@ -1,4 +1,5 @@
-//! What a change removes.
+//! What a change removes. The rules stand in `docs/commands.md`, "What a change does with files",
+//! and of the text database in "A root of version 2".
 ghost use Rattle.change_files.specs.PlanLists.{names_in_order};
 ghost use Rattle.change_outcome.specs.ChangeOutcome.{name_if_needed};
 ghost use Rattle.journal_intent.specs.FreeNames.{AreOnce};
@@ -32,7 +33,7 @@ pub(crate) fn removals_of(
     copies_of(alloc, &names)
 }
 
-/// Adds each of some names.
+/// Adds each of some names at the end.
 fn push_each<'a>(names: &mut Vec<&'a Name>, more: &'a Names) -> Result<(), AllocError>
     ensures { OnOk result (map (λ n. n.now) names.new.items
         ≡ map (λ n. n.now) names.old.items ++ more.entry.now) }
@@ -43,7 +44,7 @@ fn push_each<'a>(names: &mut Vec<&'a Name>, more: &'a Names) -> Result<(), Alloc
     Ok(())
 }
 
-/// Puts names into byte order.
+/// Puts names into byte order, in which the intent lists them.
 fn sort_names(names: &mut Vec<&Name>) -> Result<(), AllocError>
     ensures { OnOk result (map (λ n. n.now) names.new.items
         ≡ sorted_by bytes_cmp (map (λ n. n.now) names.old.items)) }
@@ -52,7 +53,7 @@ fn sort_names(names: &mut Vec<&Name>) -> Result<(), AllocError>
     Ok(())
 }
 
-/// Copies of names.
+/// Copies of names, in the same order.
 pub(crate) fn copies_of(alloc: Global, names: &[&Name]) -> Result<Names, AllocError>
     ensures { IfOk result (λ copies. copies ≡ map (λ n. n.now) names.now) }
 {

@@ -1,4 +1,4 @@
-//! What `info` tells of a root.
+//! What `info` tells of a root. The rules stand in `docs/commands.md`, "`info`".
 ghost use Rattle.base_core.specs.Read.{OnlyReads};
 ghost use Rattle.change_inputs.specs.Answers.{Agrees, AgreesUnlessDisk};
 ghost use Rattle.change_inputs.specs.Seen.{installed_seen};
@@ -30,7 +30,7 @@ pub fn info<T: Tree>(alloc: Global, command: &Command, tree: &mut T) -> Result<I
     Ok(done)
 }
 
-// By the database.
+// Tells of the packages of the database, or refuses it.
 fn tell_installed(
     alloc: Global,
     command: &Command,

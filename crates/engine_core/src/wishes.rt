@@ -1,4 +1,5 @@
-//! What a command says of a change beside world.
+//! What a command says of a change beside world. The rules stand in `docs/commands.md`,
+//! "`add` and `del`" and "`upgrade` and `fix`".
 ghost use Rattle.change_inputs.specs.Seen.{inputs_seen};
 ghost use Rattle.db_core.specs.Seen.{packages_of};
 ghost use Rattle.dep_core.specs.World.{has_name};
@@ -16,10 +17,11 @@ use dep_core::World;
 use pool_core::Upgrade;
 use std::alloc::{AllocError, Global};
 
-/// The most names that a list of words holds.
+/// The most texts that a list of words holds (`docs/commands.md`, "Answers and statuses"):
+/// 2^32 - 2.
 const MOST_NAMES: usize = 4294967294;
 
-/// The names that were to go: those that `del` takes out of world.
+/// The names that were to go, whether they do or not: those that `del` takes out of world.
 ///
 /// # Errors
 ///
@@ -34,11 +36,11 @@ pub(crate) fn names_to_go(alloc: Global, command: &Command) -> Result<Words, All
     }
 }
 
-/// The names that `fix` installs again.
+/// The names that `fix` installs again: those of its operands.
 ///
 /// # Errors
 ///
-/// The same.
+/// Want of memory, also where they are more than a list of words holds.
 pub(crate) fn names_to_reinstall(alloc: Global, command: &Command) -> Result<Words, AllocError>
     ensures { IfOk result
         (λ names. names ≡ names_to_reinstall command.now.applet command.now.operands) }
@@ -61,7 +63,7 @@ pub(crate) fn names_to_upgrade<'a>(command: &Command, names: &'a Words) -> Upgra
     }
 }
 
-// The listed names, or all where none is listed.
+// What `upgrade` upgrades: the listed names, or all where none is listed.
 fn all_or_listed(names: &Words) -> Upgrade<'_>
     ensures all { names.entry.now ≡ [] → names_upgraded_by result ≡ all_names }
     ensures listed { (names.entry.now ≡ [] → ⊥)
@@ -73,7 +75,7 @@ fn all_or_listed(names: &Words) -> Upgrade<'_>
     Upgrade::Listed(names)
 }
 
-/// The texts of operands.
+/// The texts of operands, in their order.
 ///
 /// # Errors
 ///

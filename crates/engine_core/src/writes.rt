@@ -1,4 +1,5 @@
-//! What a change writes.
+//! What a change writes. The rules stand in `docs/commands.md`, "What a change does with files" and
+//! "`add` and `del`", what is written.
 ghost use Rattle.change_files.specs.PlanLists.{names_in_order};
 ghost use Rattle.db_core.specs.Seen.{members_of};
 ghost use Rattle.engine_core.specs.Writing.{HasPackages, IsFileWrite, IsSourceOfWrite, IsWriteBy, package_at, record_names, record_writes, write_name};
@@ -19,16 +20,21 @@ use own_core::{FilePlan, Write};
 use stage_files::{PackagedFile, Source, StagedWrite};
 use std::alloc::{AllocError, Global};
 
-/// The database and world, as they are written. None: the file stays.
+/// The database and world, as they are written. Where no bytes are given the file stays as it is.
 #[derive(Clone, Copy)]
 pub(crate) struct RecordWrites<'c> {
+    /// The name of the database's file.
     pub database_name: &'c Name,
+    /// Its new bytes, where it is written.
     pub database: Option<&'c [u8]>,
+    /// The name of world's file.
     pub world_name: &'c Name,
+    /// Its new text, where it is written.
     pub world: Option<&'c [u8]>,
 }
 
-/// Where the bytes of a planned write come from.
+/// Where the bytes of a planned write come from: the text of a link, or the file of the package
+/// that was read for its member.
 fn source_of<'c>(members: &Members<'c>, arrivals: &'c Arrivals, write: &Write) -> Source<'c>
     requires file { IsOfComingFile (members_of members.now) (write_seen write.now) }
     requires packages { HasPackages (members_of members.now) arrivals.now }
@@ -50,7 +56,7 @@ fn source_of<'c>(members: &Members<'c>, arrivals: &'c Arrivals, write: &Write) -
     }
 }
 
-/// Adds each planned write.
+/// Adds the staged write of each write that the plan has.
 fn push_files<'c>(
     writes: &mut Vec<StagedWrite<'c>>,
     members: &Members<'c>,
@@ -77,7 +83,7 @@ fn push_files<'c>(
     Ok(())
 }
 
-/// Adds a write of these bytes, if there are any to write.
+/// Adds a write of the database or of world, if it has bytes to write.
 fn push_record<'c>(
     writes: &mut Vec<StagedWrite<'c>>,
     name: &'c Name,
@@ -95,7 +101,7 @@ fn push_record<'c>(
     Ok(())
 }
 
-/// Puts writes into the order of their names.
+/// Puts writes into byte order of their names, in which the intent lists them.
 fn sort_writes(writes: &mut Vec<StagedWrite<'_>>) -> Result<(), AllocError>
     ensures { OnOk result (writes.new.items
         ≡ sorted_by (on write_name bytes_cmp) writes.old.items) }
@@ -104,7 +110,7 @@ fn sort_writes(writes: &mut Vec<StagedWrite<'_>>) -> Result<(), AllocError>
     Ok(())
 }
 
-/// What a change writes, in byte order of names.
+/// What a change writes, files of packages, database and world, in byte order of the names.
 pub(crate) fn writes_of<'c>(
     alloc: Global,
     members: &Members<'c>,
@@ -112,11 +118,16 @@ pub(crate) fn writes_of<'c>(
     plan: &'c FilePlan,
     records: &RecordWrites<'c>,
 ) -> Result<Vec<StagedWrite<'c>>, AllocError>
+    // Each planned write is of a file of a package that comes.
     requires sources { HasSources (members_of members.now) plan.now }
+    // Each package that comes was read.
     requires packages { HasPackages (members_of members.now) arrivals.now }
+    // No name is written twice.
     requires once { AreOnce (written_names plan.now ++ record_names records.now) }
+    // The names are those of the plan and of the records, in byte order.
     ensures names { IfOk result (λ writes. map write_name writes.items
         ≡ names_in_order (written_names plan.entry.now ++ record_names records.now)) }
+    // Each write has the bytes that are to stand under its name.
     ensures each { IfOk result (λ writes. All (IsWriteBy (members_of members.now)
         (package_at arrivals.entry.now) (writes_in plan.entry.now.writes) records.now)
         writes.items) }
@@ -129,7 +140,7 @@ pub(crate) fn writes_of<'c>(
     Ok(writes)
 }
 
-/// The names of writes.
+/// The names of writes, in the same order.
 pub(crate) fn names_of(alloc: Global, writes: &[StagedWrite<'_>]) -> Result<Names, AllocError>
     ensures { IfOk result (λ names. names ≡ map write_name writes.now) }
 {

@@ -1,4 +1,7 @@
 -- What claims of members speak of.
+-- Claims and owners stand in `docs/commands.md`, "Files that several packages list"; folders, files
+-- and their entries in `docs/formats.md`, "Schemas", tables 4, 5 and 7. Serves the contracts of
+-- this crate and of `own_core`.
 use Rattle.std.specs.Prelude.{◌≡◌, ℕ, ◌-◌, ◌<◌, ◌≤◌, Bool, false, ◌&&◌, List, map, Option, Some, None, slice_get}
 use Rattle.base_core.specs.Name.{IsName}
 use Rattle.adb_view.specs.Plain.{Plain, null}
@@ -14,12 +17,13 @@ use Rattle.change_files.specs.FileChange.{FileChange}
 
 -- ---- files
 
--- a file of folders, by their positions, which count from 1
+-- the entry of a file in some folders, by the positions of its folder and of the file in it, which
+-- count from 1
 abbrev pub listed_file_at : Plain → ℕ → ℕ → Plain
 listed_file_at folders folder file =
     entry_in (entry_in (entry_in folders (folder - 1)) DIR_FILES) (file - 1)
 
--- folders have a file with these positions, which count from 1
+-- some folders have a file with these positions, which count from 1
 pub record HasFileAt (folders : Plain) (folder file : ℕ) : Type 0 where
   pub folder_low : 0 < folder
   pub folder_high : folder ≤ count_of (entries_in folders)
@@ -28,7 +32,7 @@ pub record HasFileAt (folders : Plain) (folder file : ℕ) : Type 0 where
 
 -- ---- claims
 
--- what a member lists: Null, as if it listed nothing, where there is no member
+-- the folders that a member lists: Null, as if it listed nothing, where there is no member
 abbrev pub folders_if_any : Option Member → Plain
 folders_if_any None = null
 folders_if_any (Some m) = entry_in m.pkg PACKAGE_PATHS
@@ -44,17 +48,17 @@ pub record IsClaimOf (members : List Member) (c : PathClaim) : Type 0 where
   pub place : HasFileAt (entry_in member.pkg PACKAGE_PATHS) c.folder c.file
   pub name : IsName c.path
 
--- each of these claims does
+-- each of these claims speaks of a file of one of the members
 abbrev pub AreClaimsOf : List Member → List PathClaim → Type 0
 AreClaimsOf members cs = (i : ℕ) (c : PathClaim) → slice_get cs i ≡ Some c → IsClaimOf members c
 
--- the packages of a database, none of which comes
+-- the packages of a database, as members none of which comes
 abbrev pub members_before : Db → List Member
 members_before db = map staying_member (packages_of db)
 
 -- ---- members that come
 
--- false where there is no member
+-- whether a member comes; not where there is none
 abbrev pub comes_if_any : Option Member → Bool
 comes_if_any None = false
 comes_if_any (Some m) = is_coming m
@@ -63,15 +67,15 @@ comes_if_any (Some m) = is_coming m
 abbrev pub comes_at : List Member → ℕ → Bool
 comes_at members place = comes_if_any (slice_get members place)
 
--- a member that comes lists a reserved path
+-- whether a claim is that of a member which comes, and of a reserved path
 abbrev pub is_reserved_coming : List Member → PathClaim → Bool
 is_reserved_coming members c = is_reserved c.path && comes_at members c.member
 
--- the claim is that of the path's owner, and this member comes
+-- whether a claim is that of its path's owner, and this member comes
 unfoldable pub is_of_coming_owner : List Member → PathClaim → Bool
 is_of_coming_owner members c =
     is_member c.member (owner_of_path members c.path) && comes_at members c.member
 
--- the packages before, as members none of which comes
+-- the packages before a change, as members none of which comes
 abbrev pub old_members : FileChange → List Member
 old_members change = map staying_member change.old

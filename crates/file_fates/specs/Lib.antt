@@ -1,3 +1,6 @@
+-- The definitions of this crate, whose rules stand in `docs/commands.md`, "What a change does
+-- with files".
+
 -- what the contracts of this crate's calls say
 pub mod ClaimEntries
 pub mod Sides

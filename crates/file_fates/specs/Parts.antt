@@ -1,4 +1,6 @@
 -- The files that come and those that go, as the program holds them.
+-- The rules stand in `docs/commands.md`, "What a change does with files". Serves the contract of
+-- `parts_of` in `src/parts.rt`.
 use Rattle.std.specs.Prelude.{◌≡◌, Bool, true, false, List, map}
 use Rattle.std.specs.List.{filter}
 use Rattle.base_core.specs.Tree.{TreeState}
@@ -13,28 +15,30 @@ use Rattle.file_fates.specs.Sides.{claims_before, file_change_of}
 use Rattle.file_fates.specs.declared.change.Change.{Change}
 use Rattle.file_fates.specs.declared.parts.Parts.{Parts}
 
--- the claims of files that go in, of those laid beside, and of paths removed and kept
+-- the claims of the files that take their paths
 abbrev pub ins_of : Parts → List PathClaim
 ins_of parts = map claim_seen parts.ins.items
 
--- of the files that are laid beside the user's
+-- the claims of the files that are laid beside the user's
 abbrev pub asides_of : Parts → List PathClaim
 asides_of parts = map claim_seen parts.asides.items
 
--- of the files that are removed
+-- the claims of the files that are removed
 abbrev pub removed_of : Parts → List PathClaim
 removed_of parts = map claim_seen parts.removed.items
 
--- of the files that stay, since the user changed them
+-- the claims of the files that stay, since the user changed them
 abbrev pub kept_of_parts : Parts → List PathClaim
 kept_of_parts parts = map claim_seen parts.kept.items
 
--- the claims of paths that are left over where these files are laid beside others
+-- the claims of paths that are left over, where the files of the claims `asides` are laid beside
+-- others
 abbrev pub left_claims_by : Change → List PathClaim → List PathClaim
 left_claims_by change asides =
     filter (λ c. is_left (file_change_of change) asides c.path) (claims_before change)
 
--- The files that come are parted by their fates, and those that are left over by whether they stay.
+-- the files of a change are parted: those that come by their fates, and those that are left over by
+-- whether they stay
 pub record AreParts (change : Change) (history : List TreeState) (coming : List PathClaim)
     (parts : Parts) : Type 0 where
   pub fates : List Fates.Fate

@@ -1,4 +1,6 @@
 -- The claims of the packages before a change and after it, as the program holds them.
+-- No rule of a document: serves the contracts of this crate; *FileChange* of `change_files` is what
+-- both sides come to.
 use Rattle.std.specs.Prelude.{◌≡◌, List, map}
 use Rattle.list_order.specs.Sorted.{sorted_by}
 use Rattle.db_core.specs.Seen.{members_of, packages_of}
@@ -10,20 +12,21 @@ use Rattle.change_files.specs.FileChange.{FileChange}
 use Rattle.file_fates.specs.ClaimEntries.{AreClaimsOf, members_before}
 use Rattle.file_fates.specs.declared.change.Change.{Change}
 
--- the change of files that both sides come to
+-- the change of files that the packages before and after come to
 abbrev pub file_change_of : Change → FileChange
 file_change_of c =
     record { old = packages_of c.db.now; members = members_of c.members.now; purge = c.purge }
 
--- of the packages before, in byte order of their paths
+-- the claims of the packages before, in byte order of their paths
 abbrev pub claims_before : Change → List PathClaim
 claims_before c = map claim_seen c.before.now
 
--- of the packages after, in byte order of their paths
+-- the claims of the packages after, in byte order of their paths
 abbrev pub claims_after : Change → List PathClaim
 claims_after c = map claim_seen c.after.now
 
--- the claims are those of the packages: before the change one for each path, after it all
+-- the claims of a change are those of its packages: before the change one for each path, after it
+-- all
 pub record HasClaims (c : Change) : Type 0 where
   pub before : HasFirsts (sorted_by claim_cmp (claims_in (members_before c.db.now)))
       (claims_before c)

@@ -1,4 +1,6 @@
 //! A change of packages, with the files that they list.
+//! Which packages and files these are, stands in `docs/commands.md`, "Files that several packages
+//! list"; what is asked of the lists of claims, in *HasClaims* of `specs/Sides.antt`.
 
 use db_core::{Db, Members};
 use path_claims::Claim;
@@ -7,14 +9,14 @@ use path_claims::Claim;
 /// paths: before it one claim for each path, after it all claims.
 #[derive(Clone, Copy)]
 pub struct Change<'c, 'o, 'n> {
-    /// The packages before it.
+    /// The database before the change.
     pub db: &'c Db<'o>,
-    /// The packages after it.
+    /// The packages after the change: those that stay and those that come.
     pub members: &'c Members<'n>,
-    /// What those before it list, one claim for each path.
+    /// What the packages before the change list, one claim for each path.
     pub before: &'c [Claim<'o>],
-    /// All claims of those after it.
+    /// All claims of the packages after the change.
     pub after: &'c [Claim<'n>],
-    /// Configuration that the user changed goes with its package.
+    /// Whether configuration that the user changed goes with its package (`del --purge`).
     pub purge: bool,
 }

@@ -1,4 +1,6 @@
 //! The files that come: claims by which members that come list paths that they own.
+//! The rules stand in `docs/commands.md`, "Files that several packages list" (owners) and "What a
+//! change does with files" ("each file that a package which comes owns is written").
 
 ghost use Rattle.std.specs.Prelude.{◌≡◌, IfOk, map};
 ghost use Rattle.std.specs.List.{filter};
@@ -15,7 +17,7 @@ use db_core::Members;
 use path_claims::Claim;
 use std::alloc::{AllocError, Global};
 
-/// Whether the member of a claim comes.
+/// Whether the member of a claim comes: it has the id of a package that is read.
 pub fn comes(members: &Members<'_>, claim: &Claim<'_>) -> bool
     requires { IsClaimOf (members_of members.now) (claim_seen claim.now) }
     ensures { result ≡ comes_at (members_of members.now) claim.now.member }
@@ -23,7 +25,8 @@ pub fn comes(members: &Members<'_>, claim: &Claim<'_>) -> bool
     members.id(claim.member as usize).is_some()
 }
 
-/// Whether a claim is that of its path's owner, and this member comes.
+/// Whether a claim is that of its path's owner (`owner` is the owner's place), and this member
+/// comes.
 #[tactic(auto, unfolding(crate::specs::ClaimEntries::is_of_coming_owner))]
 fn is_of_coming_owner(members: &Members<'_>, claim: &Claim<'_>, owner: Option<u32>) -> bool
     requires file { IsClaimOf (members_of members.now) (claim_seen claim.now) }
@@ -36,7 +39,8 @@ fn is_of_coming_owner(members: &Members<'_>, claim: &Claim<'_>, owner: Option<u3
     }
 }
 
-/// The claims of owners that come, in the order that they have.
+/// Those of some claims that are of a path's owner which comes, in their order. `owners` has for
+/// each claim the place of the owner of its path, or none.
 fn owned_claims<'n>(
     alloc: Global,
     members: &Members<'n>,
@@ -58,7 +62,8 @@ fn owned_claims<'n>(
     Ok(owned)
 }
 
-/// For each path whose owner comes the claim by which this lists it, in the order of paths.
+/// For each path whose owner comes, the claim by which the owner lists it, in the order of paths.
+/// `owners` has for each claim the place of the owner of its path, or none.
 pub fn coming_claims<'n>(
     alloc: Global,
     members: &Members<'n>,

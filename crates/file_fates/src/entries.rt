@@ -1,4 +1,7 @@
-//! What the entries say of which claims speak.
+//! What the entries of files say, to which claims lead.
+//! What an entry says of a file's bytes, stands in `docs/commands.md`, "What a change does with
+//! files", **Files below `etc/` are the user's**; the fields of an entry in `docs/formats.md`,
+//! "Schemas", table 4.
 
 ghost use Rattle.std.specs.Prelude.{◌-◌, ◌<◌, ◌≤◌};
 ghost use Rattle.adb_fields.specs.ListValue.{list_value};
@@ -15,7 +18,7 @@ use file_guard::{ListedFile, listed_file};
 use path_claims::Claim;
 use std::marker::PhantomData;
 
-/// What the file at a position of a folder says, which counts from 1.
+/// What the entry of the file at a position of a folder says; positions count from 1.
 fn listed_in_files<'a>(files: &List<'a, FileInfo<'a>>, file: u32) -> ListedFile<'a>
     requires low { 0 < file }
     requires high { file ≤ count_of (entries_in (list_value files.now)) }
@@ -25,7 +28,8 @@ fn listed_in_files<'a>(files: &List<'a, FileInfo<'a>>, file: u32) -> ListedFile<
     listed_file(&file)
 }
 
-/// The same of a file of folders; positions count from 1.
+/// What the entry of a file of some folders says, by the positions of its folder and of the file in
+/// it, which count from 1.
 fn listed_in_folders<'a>(folders: &List<'a, DirInfo<'a>>, folder: u32, file: u32) -> ListedFile<'a>
     requires { HasFileAt (list_value folders.now) folder file }
     ensures { IsOfEntry result (listed_file_at (list_value folders.now) folder file) }
@@ -34,7 +38,9 @@ fn listed_in_folders<'a>(folders: &List<'a, DirInfo<'a>>, folder: u32, file: u32
     listed_in_files(&folder.files(), file)
 }
 
-/// The same of a package's file.
+/// What the entry of a package's file says that a claim speaks of. In the clauses, 1 is the index
+/// of `paths` among the fields of a package, counted from 0 (2 in table 7 of `docs/formats.md`,
+/// "Schemas").
 fn listed_in<'a>(pkg: &PackageView<'a>, claim: &Claim<'_>) -> ListedFile<'a>
     requires { HasFileAt (entry_in (package_value pkg.now) 1) claim.now.folder claim.now.file }
     ensures { IsOfEntry result
@@ -43,7 +49,7 @@ fn listed_in<'a>(pkg: &PackageView<'a>, claim: &Claim<'_>) -> ListedFile<'a>
     listed_in_folders(&pkg.paths(), claim.folder, claim.file)
 }
 
-/// What the entry of the file that a claim of a member speaks of says.
+/// What the entry of the file says that a claim of a member after the change speaks of.
 #[tactic(auto, unfolding(crate::specs::ClaimEntries::claim_entry))]
 pub(crate) fn listed_after<'a>(members: &Members<'a>, claim: &Claim<'_>) -> ListedFile<'a>
     requires { IsClaimOf (members_of members.now) (claim_seen claim.now) }
@@ -52,9 +58,9 @@ pub(crate) fn listed_after<'a>(members: &Members<'a>, claim: &Claim<'_>) -> List
     listed_in(members.view(claim.member as usize), claim)
 }
 
-/// The same of a claim of a database's package. The mark serves the borrow checker alone, which
-/// does not know the parts of a view that is made and lent here unless the signature names the view
-/// as an argument.
+/// What the entry of the file says that a claim of a database's package speaks of. The mark serves
+/// the borrow checker alone, which does not know the parts of a view that is made and lent here
+/// unless the signature names the view as an argument.
 #[tactic(auto, unfolding(crate::specs::ClaimEntries::claim_entry))]
 pub(crate) fn listed_before<'a>(
     db: &Db<'a>,

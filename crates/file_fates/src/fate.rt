@@ -1,4 +1,6 @@
 //! What becomes of each file that comes.
+//! The rule stands in `docs/commands.md`, "What a change does with files", **Files below `etc/` are
+//! the user's**: when a file counts as changed, and where the new one is laid then.
 
 ghost use Rattle.std.specs.Prelude.{◌≡◌, ◌↔◌, ◌∷◌, ◌++◌, [], Option, true, false, map, IfOk, IsTrue, IsSomeAnd, OnOk};
 ghost use Rattle.adb_fields.specs.JoinedPath.{joined_path};
@@ -28,15 +30,15 @@ use std::marker::PhantomData;
 /// What becomes of a file that comes, and of the one that stands under its path.
 #[derive(Clone, Copy)]
 pub(crate) enum Fate {
-    /// It takes the path.
+    /// The file takes the path.
     GoesIn,
-    /// The user's file stays, and the new one is not laid down.
+    /// The user's file stays, and the new one is left out.
     GivesWay,
-    /// The user's file stays, and the new one is laid beside it.
+    /// The user's file stays, and the new one is laid beside it as `PATH.apk-new`.
     GoesAside,
 }
 
-/// What the packages before say of a path, if they list it.
+/// What the database before the change says of a path, if one of its packages lists the path.
 fn listed_so_far<'o>(change: &Change<'_, 'o, '_>, path: &FilePath<'_>) -> Option<ListedFile<'o>>
     requires { HasClaims change.now }
     ensures { IsOfEntryIfAny result (old_entry (file_change_of change.now) (joined_path path.now)) }
@@ -47,7 +49,7 @@ fn listed_so_far<'o>(change: &Change<'_, 'o, '_>, path: &FilePath<'_>) -> Option
     }
 }
 
-/// Whether a name beside another one is short enough, and no package lists it.
+/// Whether the name beside another one is short enough, and no package lists it after the change.
 fn is_free_beside(
     alloc: Global,
     change: &Change<'_, '_, '_>,
@@ -57,7 +59,7 @@ fn is_free_beside(
     ensures { IfOk result (λ free. free ≡ is_free_beside (file_change_of change.now) name.now) }
 {
     let bytes = aside_bytes(alloc, name.as_bytes())?;
-    // A name has at most 1,024 bytes.
+    // A name has at most 1,024 bytes (`docs/commands.md`, "Words").
     if bytes.len() > 1024 {
         return Ok(false);
     }
@@ -68,7 +70,8 @@ fn is_free_beside(
     Ok(find_claim(change.after, &beside).is_none())
 }
 
-/// Whether the new entry says the same as the one before, if there was one.
+/// Whether the new entry says the same of a file as the one before, if there was one: then the
+/// package's file did not change.
 fn agrees_with_old(new: &ListedFile<'_>, old: &Option<ListedFile<'_>>) -> bool
     ensures { (entry : Plain) (before : Option Plain) → IsOfEntry new.now entry
         → IsOfEntryIfAny old.now before → result ≡ agrees_with_old before entry }
@@ -79,7 +82,9 @@ fn agrees_with_old(new: &ListedFile<'_>, old: &Option<ListedFile<'_>>) -> bool
     }
 }
 
-/// What becomes of a file where the user changed the one under its path.
+/// What becomes of a file that comes where the user changed the one under its path: it is left out
+/// where it does not differ from the one that was installed, or cannot be laid beside; else it is
+/// laid beside.
 fn fate_beside(
     alloc: Global,
     change: &Change<'_, '_, '_>,
@@ -98,7 +103,8 @@ fn fate_beside(
     Ok(Fate::GoesAside)
 }
 
-/// Whether a file stands there that is neither as the new entry says nor as the old one.
+/// Whether a file stands there whose bytes are neither those that the new entry tells nor those
+/// that the old one tells. `found` is none where no file stands there.
 pub(crate) fn is_changed(found: Option<Comparison>) -> bool
     ensures { IsTrue result ↔ IsSomeAnd found (λ c. (c.as_new ≡ false) × (c.as_old ≡ false)) }
 {
@@ -108,7 +114,8 @@ pub(crate) fn is_changed(found: Option<Comparison>) -> bool
     }
 }
 
-/// What becomes of a file of configuration that comes.
+/// What becomes of a file of configuration that comes: the file under its path is read, and
+/// compared with both entries.
 fn guarded_fate<T: Tree>(
     alloc: Global,
     tree: &mut T,
@@ -127,6 +134,7 @@ fn guarded_fate<T: Tree>(
     let new = listed_after(change.members, claim);
     let old = listed_so_far(change, &claim.path);
     let found = compare_file(tree, &name, Some(new), old)?;
+    // The user changed the file: its bytes stay.
     if is_changed(found) {
         let fate = fate_beside(alloc, change, &name, &new, &old)?;
         return Ok(fate);
@@ -134,7 +142,8 @@ fn guarded_fate<T: Tree>(
     Ok(Fate::GoesIn)
 }
 
-/// What becomes of a file that comes.
+/// What becomes of a file that comes; one that is not below `etc` takes its path, and nothing is
+/// read.
 fn fate_of<T: Tree>(
     alloc: Global,
     tree: &mut T,
@@ -154,7 +163,7 @@ fn fate_of<T: Tree>(
     Ok(Fate::GoesIn)
 }
 
-/// Puts a fate behind the others.
+/// Puts the fate of a file behind the others.
 fn add_fate(fates: &mut Vec<Fate>, fate: Fate) -> Result<(), AllocError>
     ensures { OnOk result (fates.new.items ≡ fates.old.items ++ fate ∷ []) }
 {
@@ -162,7 +171,7 @@ fn add_fate(fates: &mut Vec<Fate>, fate: Fate) -> Result<(), AllocError>
     Ok(())
 }
 
-/// What becomes of each file that comes.
+/// What becomes of each file that comes, in their order.
 pub(crate) fn fates_of<T: Tree>(
     alloc: Global,
     tree: &mut T,

@@ -1,4 +1,6 @@
 //! Configuration, which the user may change, and the names beside it.
+//! The rule stands in `docs/commands.md`, "What a change does with files", **Files below `etc/` are
+//! the user's**.
 
 ghost use Rattle.std.specs.Prelude.{◌≡◌, ◌≤◌, ◌+◌, IfOk, length, option_map};
 ghost use Rattle.adb_fields.specs.JoinedPath.{joined_path};
@@ -9,10 +11,11 @@ use adb_fields::FilePath;
 use base_core::Name;
 use std::alloc::{AllocError, Global};
 
-/// What stands behind the name of a file that is laid beside another one.
+/// What stands behind the path in the name of a file that is laid beside another one.
 const ASIDE_ENDING: &[u8] = b".apk-new";
 
-/// Whether a path is that of configuration: it is below `etc`.
+/// Whether a path is that of configuration: it is below `etc`. The path is its folder and its name,
+/// or has all in its name.
 pub(crate) fn is_guarded(path: &FilePath<'_>) -> bool
     ensures { result ≡ is_guarded (joined_path path.now) }
 {
@@ -22,7 +25,7 @@ pub(crate) fn is_guarded(path: &FilePath<'_>) -> bool
     path.folder == b"etc".as_slice() || path.folder.starts_with(b"etc/")
 }
 
-/// The bytes of the name beside this one.
+/// The bytes of the name beside a name, `NAME.apk-new`, however long.
 pub(crate) fn aside_bytes(alloc: Global, name: &[u8]) -> Result<Vec<u8>, AllocError>
     ensures { IfOk result (λ bytes. bytes.items ≡ aside_name name.now) }
 {
@@ -31,7 +34,7 @@ pub(crate) fn aside_bytes(alloc: Global, name: &[u8]) -> Result<Vec<u8>, AllocEr
     Ok(bytes)
 }
 
-/// The name beside this one. The ending has eight bytes, and a name at most 1,024.
+/// The name beside a name, `NAME.apk-new`. The ending has eight bytes, and a name at most 1,024.
 pub fn name_beside(alloc: Global, name: &Name) -> Result<Name, AllocError>
     requires { length name.now + 8 ≤ 1024 }
     ensures { IfOk result (λ beside. beside ≡ aside_name name.now) }
@@ -40,7 +43,8 @@ pub fn name_beside(alloc: Global, name: &Name) -> Result<Name, AllocError>
     Name::of(alloc, &bytes)
 }
 
-/// The path beside which a file of this path would lie: what stands in front of the ending.
+/// The path beside which a file of this path would lie: what stands in front of the ending. None
+/// where the path does not end so.
 pub(crate) fn path_beside<'a>(path: &FilePath<'a>) -> Option<FilePath<'a>>
     ensures { option_map joined_path result ≡ path_beside (joined_path path.now) }
 {

@@ -6,6 +6,9 @@
 //! (a change, as claims before and after it), `Fates` and `Going` (what becomes of a file that
 //! comes, and of one that is left over), `Found` (the same, as the tree shows it) and `Parts` of
 //! `specs/`.
+//! The rules stand in `docs/commands.md`, "What a change does with files", from "Then each file
+//! that a package which comes owns is written" on; the words *fate*, *aside*, *left over* and
+//! *kept* in `docs/names.md`, "The installed database and a change of it".
 #![tactic(auto)]
 
 mod change;

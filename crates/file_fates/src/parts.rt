@@ -1,4 +1,6 @@
 //! The files that come by what becomes of them, and the files that go.
+//! The rules stand in `docs/commands.md`, "What a change does with files": what is removed ("a file
+//! that the old database lists and that no package lists any more"), and what stays below `etc/`.
 
 ghost use Rattle.std.specs.Prelude.{◌≡◌, IfOk, OnOk, Some, [], ◌∷◌, ◌++◌, length, map};
 ghost use Rattle.std.specs.List.{filter};
@@ -28,7 +30,7 @@ use path_claims::Claim;
 use std::alloc::{AllocError, Global};
 use std::marker::PhantomData;
 
-/// Whether two fates are one.
+/// Whether two fates are the same.
 fn is_fate(one: Fate, other: Fate) -> bool
     ensures { result ≡ is_fate (fate_seen one) (fate_seen other) }
 {
@@ -40,7 +42,8 @@ fn is_fate(one: Fate, other: Fate) -> bool
     }
 }
 
-/// The claims of the files that come with this fate.
+/// The claims of the files that come with this fate, in the order of their paths. `fates` has the
+/// fate of each.
 fn claims_with<'n>(
     alloc: Global,
     coming: &[Claim<'n>],
@@ -60,7 +63,8 @@ fn claims_with<'n>(
     Ok(some)
 }
 
-/// Whether a file is laid beside another one under this path.
+/// Whether a file is laid beside another one under this path: the path is the name beside that of
+/// one of these claims.
 fn is_beside(asides: &[Claim<'_>], path: &FilePath<'_>) -> bool
     requires { IsSorted claim_cmp (map claim_seen asides.now) }
     ensures { result ≡ is_beside (map claim_seen asides.now) (joined_path path.now) }
@@ -90,8 +94,8 @@ fn is_left(
     !is_beside(asides, path)
 }
 
-/// The claims of the packages before whose paths no package lists any more, and under which nothing
-/// is laid beside another file.
+/// The claims of the packages before the change whose paths are left over: no package lists them
+/// any more, and nothing is laid beside another file there.
 fn left_claims<'o>(
     alloc: Global,
     change: &Change<'_, 'o, '_>,
@@ -104,6 +108,7 @@ fn left_claims<'o>(
         (claims_before change.now)) }
 {
     let mut left = Vec::new(alloc);
+    // Paths are asked for in their order, so each search goes on where the last one ended.
     let mut next = 0;
     for i in 0..change.before.len() {
         if is_left(change, asides, &change.before[i].path, &mut next) {
@@ -113,7 +118,8 @@ fn left_claims<'o>(
     Ok(left)
 }
 
-/// Whether the user's file stays though no package lists its path any more.
+/// Whether the user's file stays under a path that is left over: it is configuration, the user
+/// changed it, and changed files do not go with their packages.
 fn does_stay<T: Tree>(
     alloc: Global,
     tree: &mut T,
@@ -126,6 +132,7 @@ fn does_stay<T: Tree>(
     ensures tree { OnlyReads TreeFault.Disk (T.history tree.old) (T.history tree.new)
         (T.counts tree.old) (T.counts tree.new) result }
 {
+    // Only configuration may stay, and not with `--purge`: no file is read.
     if change.purge || !is_guarded(&claim.path) {
         return Ok(false);
     }
@@ -143,7 +150,7 @@ fn add_flag(flags: &mut Vec<bool>, flag: bool) -> Result<(), AllocError>
     Ok(())
 }
 
-/// For each claim of a path that is left over whether the user's file stays there.
+/// For each claim of a path that is left over, whether the user's file stays there.
 fn stays_of<T: Tree>(
     alloc: Global,
     tree: &mut T,
@@ -164,14 +171,14 @@ fn stays_of<T: Tree>(
     Ok(stays)
 }
 
-/// Whether two flags are one.
+/// Whether two flags are the same.
 fn is_flag(one: bool, other: bool) -> bool
     ensures { result ≡ is_flag one other }
 {
     if one { other } else { !other }
 }
 
-/// The claims whose flag is this one.
+/// The claims whose flag is this one. `flags` has one for each of them.
 fn claims_where<'o>(
     alloc: Global,
     left: &[Claim<'o>],
@@ -194,17 +201,18 @@ fn claims_where<'o>(
 /// The files of a change by what becomes of them, in the order of paths.
 #[derive(Drop)]
 pub struct Parts<'o, 'n> {
-    /// Those that take their paths.
+    /// The files that take their paths.
     pub ins: Vec<Claim<'n>>,
-    /// Those that are laid beside the user's.
+    /// The files that are laid beside the user's.
     pub asides: Vec<Claim<'n>>,
-    /// The paths that are removed.
+    /// The files that are removed.
     pub removed: Vec<Claim<'o>>,
-    /// The paths at which the user's file stays.
+    /// The files that stay, since the user changed them.
     pub kept: Vec<Claim<'o>>,
 }
 
-/// The files that come and those that go.
+/// Parts the files of a change: those that come (`coming`) by their fates, and those that are left
+/// over by whether the user's file stays. Files of configuration are read, each once.
 pub fn parts_of<'o, 'n, T: Tree>(
     alloc: Global,
     tree: &mut T,

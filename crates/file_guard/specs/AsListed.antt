@@ -1,19 +1,23 @@
--- Whether bytes are what a package's entry of a file says of them.
+-- Whether bytes are what a package's entry of a file says of them. The rules stand in
+-- `docs/commands.md`, "What a change does with files", what counts as changed; the fields in
+-- `docs/formats.md`, "Schemas", table 4.
 use Rattle.std.specs.Prelude.{ℕ, ◌==◌, Bool, not, ◌&&◌, if◌then◌else◌, List, ◌++◌, length, drop, codes, bytes_eq, is_none}
 use Rattle.adb_view.specs.Plain.{Plain}
 use Rattle.adb_tables.specs.FieldIndexes.{FILE_HASHES, FILE_SIZE, FILE_TARGET}
 use Rattle.adb_tables.specs.Values.{entry_in, int_in, text_in}
 use Rattle.pkg_core.specs.Contents.{hash_fault}
 
--- in bytes; 0 where the entry tells none
+-- the size of a file in bytes, as its entry tells it; 0 where the entry tells none
 abbrev pub file_size : Plain → ℕ
 file_size entry = int_in (entry_in entry FILE_SIZE)
 
--- its length says which digest it is; no bytes where the entry tells none
+-- the digest of a file, as its entry tells it: its length says which one it is; no bytes where the
+-- entry tells none
 abbrev pub file_hash : Plain → List ℕ
 file_hash entry = text_in (entry_in entry FILE_HASHES)
 
--- of a link `00 a0` and the link's text; of another file no bytes
+-- the target of a file, as its entry tells it: of a link `00 a0` and the link's text; of another
+-- file no bytes
 abbrev pub file_target : Plain → List ℕ
 file_target entry = text_in (entry_in entry FILE_TARGET)
 
@@ -21,8 +25,8 @@ file_target entry = text_in (entry_in entry FILE_TARGET)
 abbrev pub has_target : Plain → Bool
 has_target entry = not (length (file_target entry) == 0)
 
--- what stands for a link to a target: a mark, and the link's text, which is the target without the
--- two bytes `00 a0` that it begins with
+-- the bytes that stand for a link to a target: a mark, and the link's text, which is the target
+-- without the two bytes `00 a0` that it begins with
 abbrev pub link_to : List ℕ → List ℕ
 link_to target = codes "!<symlink>" ++ drop 2 target
 
@@ -30,8 +34,8 @@ link_to target = codes "!<symlink>" ++ drop 2 target
 abbrev pub link_bytes : Plain → List ℕ
 link_bytes entry = link_to (file_target entry)
 
--- By a size, a hash and a target: a link's bytes; bytes with the hash; or, where there is none, no
--- bytes at a size of 0.
+-- Whether bytes are as an entry tells by a size, a hash and a target: a link's bytes; bytes with
+-- the hash; or, where there is none, no bytes at a size of 0.
 unfoldable pub is_as_listed_by : ℕ → List ℕ → List ℕ → List ℕ → Bool
 is_as_listed_by size hash target bytes =
     if not (length target == 0) then bytes_eq bytes (link_to target)

@@ -1,4 +1,5 @@
--- What a `ListedFile` says of bytes, and how a file of a tree compares with two of them.
+-- What a `ListedFile` says of bytes, and how a file of a tree compares with two of them. Serves the
+-- contracts of `compare_file`, `listed_file` and `ListedFile::agrees`.
 use Rattle.std.specs.Prelude.{◌≡◌, ℕ, Bool, false, List, Option, Some, None}
 use Rattle.std.specs.Option.{option_map}
 use Rattle.adb_view.specs.Plain.{Plain}
@@ -6,23 +7,24 @@ use Rattle.file_guard.specs.AsListed.{file_hash, file_size, file_target, is_as_l
 use Rattle.file_guard.specs.declared.compare.Comparison.{Comparison}
 use Rattle.file_guard.specs.declared.compare.ListedFile.{ListedFile}
 
--- it says what the entry says
+-- a `ListedFile` says of the bytes what the entry says
 pub record IsOfEntry (listed : ListedFile) (entry : Plain) : Type 0 where
   pub size : listed.size ≡ file_size entry
   pub hash : listed.hash.now ≡ file_hash entry
   pub target : listed.target.now ≡ file_target entry
 
--- where nothing is listed, no bytes are as listed
+-- whether bytes are as a `ListedFile` tells; where nothing is listed, no bytes are
 abbrev pub is_as_told : Option ListedFile → List ℕ → Bool
 is_as_told None bytes = false
 is_as_told (Some listed) bytes =
     is_as_listed_by listed.size listed.hash.now listed.target.now bytes
 
--- with what is listed after a change and before it; a side that lists nothing agrees with no bytes
+-- how bytes compare with what is listed after a change and before it; a side that lists nothing
+-- agrees with no bytes
 abbrev pub comparison_by : Option ListedFile → Option ListedFile → List ℕ → Comparison
 comparison_by new old bytes =
     record { as_new = is_as_told new bytes; as_old = is_as_told old bytes }
 
--- of the file that stands there, if there is one
+-- how the file that stands there compares, if there is one
 abbrev pub comparison_of : Option ListedFile → Option ListedFile → Option (List ℕ) → Option Comparison
 comparison_of new old found = option_map (comparison_by new old) found

@@ -1,5 +1,6 @@
 //! What an entry of a file says of its bytes, and a file of a tree, read once and compared with two
-//! entries.
+//! entries. The rules stand in `docs/commands.md`, "What a change does with files", what counts as
+//! changed.
 
 ghost use Rattle.std.specs.Prelude.{◌≡◌, ℕ, List, length, Option, Some, IfOk};
 ghost use Rattle.std.specs.Option.{option_map};
@@ -39,9 +40,11 @@ pub fn compare_file<T: Tree>(
     new: Option<ListedFile<'_>>,
     old: Option<ListedFile<'_>>,
 ) -> Result<Option<Comparison>, Disk>
+    // Of every tree: the answer is right of some file under the name, or of its absence.
     ensures found { IfOk result (λ answer. (file : Option (List ℕ))
         × IfObservable (T.history tree.old) (λ v. file ≡ files_of v name.now)
         × (answer ≡ comparison_of new.entry old.entry file)) }
+    // Where the tree tells its files, it is right of the one that stands there.
     ensures answer { IfOk result (λ found. IfObservable (T.history tree.old) (λ v.
         found ≡ comparison_of new.entry old.entry (files_of v name.now))) }
     ensures tree { OnlyReads (record {}) (T.history tree.old) (T.history tree.new)
@@ -54,7 +57,7 @@ pub fn compare_file<T: Tree>(
     Ok(Some(comparison))
 }
 
-/// The same of a file that is there, and has so many bytes.
+/// Compares a file that is there, and has so many bytes, with two entries.
 fn compare_present<T: Tree>(
     tree: &mut T,
     name: &Name,
@@ -91,16 +94,16 @@ fn compare_present<T: Tree>(
 /// What an entry of a file says of its bytes.
 #[derive(Clone, Copy)]
 pub struct ListedFile<'a> {
-    /// How many there are.
+    /// How many bytes there are; 0 where the entry tells none.
     pub size: u64,
-    /// Their digest, of the function that its length tells; empty where there is none.
+    /// The digest of the bytes, by the function that its length tells; empty where there is none.
     pub hash: &'a [u8],
     /// A link's target, behind a number of two bytes; empty where it is no link.
     pub target: &'a [u8],
 }
 
 impl<'a> ListedFile<'a> {
-    /// Whether both say the same of the bytes.
+    /// Whether two entries say the same of the bytes.
     #[tactic(auto, unfolding(crate::specs::AsListed::do_entries_agree))]
     pub fn agrees(&self, other: &ListedFile<'_>) -> bool
         ensures { (a b : Plain) → IsOfEntry self.now a → IsOfEntry other.now b
@@ -110,7 +113,7 @@ impl<'a> ListedFile<'a> {
     }
 }
 
-/// What this entry says.
+/// What the entry of a file says of its bytes.
 pub fn listed_file<'a>(file: &FileInfo<'a>) -> ListedFile<'a>
     ensures { IsOfEntry result (file_value file.now) }
 {

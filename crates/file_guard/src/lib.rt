@@ -1,4 +1,5 @@
-//! Whether a file of a tree has the bytes that a package's entry tells.
+//! Whether a file of a tree has the bytes that a package's entry tells. The rules stand in
+//! `docs/commands.md`, "What a change does with files", what counts as changed.
 //!
 //! `ListedFile` is what an entry of a file (apk-package(5)) says of its bytes. `compare_file` reads
 //! the file under a name once, piece by piece, and compares it with the entry of the package that

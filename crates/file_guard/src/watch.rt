@@ -1,4 +1,6 @@
-//! A comparison of a file's bytes, which come piece by piece, with an entry.
+//! A comparison of a file's bytes, which come piece by piece, with an entry. It serves
+//! `compare_file`; the rules stand in `docs/commands.md`, "What a change does with files", what
+//! counts as changed.
 
 ghost use Rattle.std.specs.Prelude.{◌≡◌, ℕ, Bool, List, [], ◌++◌, drop, Some};
 ghost use Rattle.file_guard.specs.Listed.{is_as_told};
@@ -7,10 +9,12 @@ ghost use Rattle.file_guard.specs.Watching.{Watches};
 use crate::compare::ListedFile;
 use piece_core::Hasher;
 
-/// What stands in front of a link's text in the file that stands for it.
+/// What stands in front of a link's text in the file that is written for the link
+/// (`docs/commands.md`, "What a change does with files").
 const LINK_MARK: &[u8] = b"!<symlink>";
 
-/// How many bytes stand in front of a link's text in an entry.
+/// How many bytes stand in front of a link's text in an entry (`docs/formats.md`, "The texts",
+/// field 406: `00 a0`).
 const TEXT_AT: usize = 2;
 
 /// What the bytes that are still to come have to be. Contracts see, by `Watching` of `specs/`, what
@@ -26,7 +30,8 @@ pub(crate) enum Watch<'a> {
 }
 
 impl<'a> Watch<'a> {
-    /// Before the first byte.
+    /// The watch of an entry, before the first byte of the file; nothing is as listed where there
+    /// is no entry.
     pub fn new(listed: Option<ListedFile<'a>>) -> Watch<'a>
         ensures { Watches result (is_as_told listed.entry) [] }
     {
@@ -36,7 +41,7 @@ impl<'a> Watch<'a> {
         }
     }
 
-    /// Behind further bytes.
+    /// The watch behind further bytes of the file.
     pub fn take(self, bytes: &[u8]) -> Watch<'a>
         ensures { (test : List ℕ → Bool) (so_far : List ℕ) → Watches self.entry test so_far
             → Watches result test (so_far ++ bytes.now) }
@@ -51,7 +56,7 @@ impl<'a> Watch<'a> {
         }
     }
 
-    /// Whether the file is as listed, behind its last byte.
+    /// Whether the file is as listed, where no further byte comes.
     pub fn is_met(self) -> bool
         ensures { (test : List ℕ → Bool) (bytes : List ℕ) → Watches self.entry test bytes
             → result ≡ test bytes }
@@ -64,7 +69,8 @@ impl<'a> Watch<'a> {
     }
 }
 
-/// What is to come of a file that is listed so.
+/// The watch of a file that is listed so: its link's bytes, its digest, or no bytes are due; by a
+/// size alone nothing is as listed.
 fn watch_listed<'a>(listed: ListedFile<'a>) -> Watch<'a>
     ensures { Watches result (is_as_told (Some listed.entry)) [] }
 {
@@ -80,7 +86,7 @@ fn watch_listed<'a>(listed: ListedFile<'a>) -> Watch<'a>
     Watch::Never
 }
 
-/// The text of a link with this target.
+/// The text of a link with this target; none where the target is too short to have one.
 fn text_of(target: &[u8]) -> &[u8]
     ensures { result.now ≡ drop 2 target.now }
 {
@@ -90,7 +96,7 @@ fn text_of(target: &[u8]) -> &[u8]
     }
 }
 
-/// What is to come behind some bytes, where these were to come.
+/// What is to come behind some bytes, where these two runs of bytes were to come.
 fn bytes_behind<'a>(first: &'a [u8], second: &'a [u8], bytes: &[u8]) -> Watch<'a>
     ensures { (test : List ℕ → Bool) (so_far : List ℕ)
         → Watches (Watch.Exactly first.entry second.entry) test so_far

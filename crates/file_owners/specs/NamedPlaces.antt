@@ -1,4 +1,6 @@
 -- The places of the members that a package names.
+-- The rule stands in `docs/commands.md`, "Files that several packages list" (*names*). Serves the
+-- contracts of `src/named.rt`.
 use Rattle.std.specs.Prelude.{◌≡◌, ℕ, ◌==◌, List, length, Some, slice_get}
 use Rattle.std.specs.List.{list_any}
 use Rattle.std.specs.List.Sorted.{IsSorted}
@@ -7,13 +9,13 @@ use Rattle.adb_view.specs.Plain.{Plain}
 use Rattle.db_core.specs.Members.{Member}
 use Rattle.file_owners.specs.Replaces.{names_package}
 
--- they rise, and are those of the members that the package names
+-- the places rise, and are those of the members that the package names
 pub record ArePlacesNamed (members : List Member) (pkg : Plain) (places : List ℕ) : Type 0 where
   pub rising : IsSorted nat_cmp places
   pub named : (y : ℕ) (m : Member) → slice_get members y ≡ Some m
       → list_any (λ place. place == y) places ≡ names_package pkg m.pkg
 
--- for each member in its order
+-- for each member, in its order, the list has the places of the members that it names
 pub record ArePlacesOfEach (members : List Member) (named : List (List ℕ)) : Type 0 where
   pub long : length named ≡ length members
   pub each : (x : ℕ) (m : Member) (places : List ℕ) → slice_get members x ≡ Some m

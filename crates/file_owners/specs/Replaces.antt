@@ -1,4 +1,5 @@
 -- Which of two packages takes over the files of the other (apk-package(5), "replaces").
+-- The rule stands in `docs/commands.md`, "Files that several packages list".
 use Rattle.std.specs.Prelude.{ℕ, ◌==◌, nat_lt, Bool, false, not, ◌&&◌, ◌||◌, List, Option, Some, None}
 use Rattle.std.specs.List.{list_any}
 use Rattle.adb_view.specs.Plain.{Plain}
@@ -11,38 +12,39 @@ use Rattle.dep_core.specs.Meets.{meets}
 use Rattle.adb_rules.specs.Dependencies.{dependency_in}
 use Rattle.list_order.specs.ByteOrder.{precedes}
 
--- the version of a package, as its information has it
+-- the text of a package's version, as its information has it
 abbrev pub version_text : Plain → List ℕ
 version_text pkg = text_in (entry_in (entry_in pkg PACKAGE_INFO) INFO_VERSION)
 
--- a positive dependency is met by a name and a version
+-- whether a dependency, if there is one, is no conflict and is met by a name and a version
 abbrev pub is_replaced_by : Option Dependency → List ℕ → List ℕ → Bool
 is_replaced_by None name version = false
 is_replaced_by (Some d) name version = not d.conflict && meets d name (Some version)
 
--- an entry of what a package replaces names y: it is positive, and met by y's own name and version
+-- whether an entry of what a package replaces names y: it is no conflict, and is met by y's own
+-- name and version
 abbrev pub is_named_by : Plain → Plain → Bool
 is_named_by entry y =
     is_version (version_text y)
     && is_replaced_by (dependency_in entry) (package_name y) (version_text y)
 
--- x names y: an entry of what x replaces does
+-- whether x names y: an entry of what x replaces does
 unfoldable pub names_package : Plain → Plain → Bool
 names_package x y =
     list_any (λ entry. is_named_by entry y) (entries_at INFO_REPLACES (entry_in x PACKAGE_INFO))
 
--- 0 where the package tells none
+-- the priority of a package in replacing: 0 where the package tells none
 abbrev pub replacing_priority : Plain → ℕ
 replacing_priority pkg = int_in (entry_in pkg PACKAGE_REPLACES_PRIORITY)
 
--- of two that name each other: the one with the greater priority, and of equal ones the one whose
--- name is the later in byte order
+-- whether the first of two packages that name each other is preferred: it has the greater priority,
+-- or at equal priority the name that is the later in byte order
 unfoldable pub is_preferred_to : Plain → Plain → Bool
 is_preferred_to x y =
     nat_lt (replacing_priority y) (replacing_priority x)
     || ((replacing_priority x == replacing_priority y)
     && precedes (package_name y) (package_name x))
 
--- x takes over the files of y
+-- whether x takes over the files of y: it names y, and is not named back or is preferred
 unfoldable pub takes_over : Plain → Plain → Bool
 takes_over x y = names_package x y && (not (names_package y x) || is_preferred_to x y)

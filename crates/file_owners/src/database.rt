@@ -1,4 +1,7 @@
 //! The files that the packages of a database list, as claims.
+//! What a database lists stands in `docs/formats.md`, "Schemas", tables 4, 5, 7 and 9; that a
+//! package which stays claims those files, in `docs/commands.md`, "Files that several packages
+//! list".
 
 ghost use Rattle.std.specs.Prelude.{◌≡◌, ◌<◌, [], Some, IfOk, length, map, slice_get};
 ghost use Rattle.db_core.specs.Members.{Member, listings_by, member_listings, staying_member};
@@ -32,7 +35,7 @@ pub fn claims_in_database<'a>(alloc: Global, db: &Db<'a>) -> Result<Vec<Claim<'a
     Ok(sorted)
 }
 
-/// The files in the order of packages, folders and files.
+/// The files of a database as claims, in the order of packages, folders and files.
 fn listed_files<'a>(alloc: Global, db: &Db<'a>) -> Result<Vec<Claim<'a>>, AllocError>
     ensures { IfOk result (λ claims. map claim_seen claims.items
         ≡ with_listings [] (member_listings (map staying_member (packages_of db.now)))) }
@@ -44,9 +47,9 @@ fn listed_files<'a>(alloc: Global, db: &Db<'a>) -> Result<Vec<Claim<'a>>, AllocE
     Ok(claims)
 }
 
-/// Adds the files of the package at a place, counted from 0. The mark serves the borrow checker
-/// alone, which does not know the parts of a view that is made and lent here unless the signature
-/// names the view as an argument.
+/// Adds the files of the package at a place of the database, counted from 0, to the claims. The
+/// mark serves the borrow checker alone, which does not know the parts of a view that is made and
+/// lent here unless the signature names the view as an argument.
 fn add_package<'a>(
     claims: &mut Vec<Claim<'a>>,
     db: &Db<'a>,
@@ -59,6 +62,7 @@ fn add_package<'a>(
         → map claim_seen claims.new.items
         ≡ with_listings (map claim_seen claims.old.items) (listings_by i m)) }
 {
+    // Never so, by the contract; `len` tells that places are below 2^32.
     if i >= db.len() {
         unreachable!();
     }

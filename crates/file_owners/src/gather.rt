@@ -1,4 +1,7 @@
 //! The files that members list, as claims.
+//! The rule stands in `docs/commands.md`, "Files that several packages list": a package that comes
+//! claims each file that it lists, and one that stays those that the database lists for it. Members
+//! count from 0, folders and files from 1, as the words of a claim are defined in `docs/names.md`.
 
 ghost use Rattle.std.specs.Prelude.{◌≡◌, ◌<◌, ◌+◌, [], ◌∷◌, Some, IfOk, length, map, slice_get};
 ghost use Rattle.adb_fields.specs.Paths.{path_of};
@@ -18,12 +21,15 @@ use std::alloc::{AllocError, Global};
 /// Where a folder stands: the member's place counts from 0, the folder's in it from 1.
 #[derive(Clone, Copy)]
 struct FolderPlace<'a> {
+    /// The place of the member, counted from 0.
     member: u32,
+    /// The position of the folder in the member's package, counted from 1.
     folder: u32,
+    /// The name of the folder; empty for the root.
     name: &'a [u8],
 }
 
-/// Adds a file of a folder. Its position there counts from 1.
+/// Adds a file of a folder to the claims. `file` is its position in the folder, counted from 1.
 fn add_file<'a>(
     claims: &mut Vec<Claim<'a>>,
     place: &FolderPlace<'a>,
@@ -49,7 +55,7 @@ fn add_file<'a>(
     Ok(())
 }
 
-/// Adds the files of a folder.
+/// Adds the files of a folder to the claims. In the clause, 1 is the position of the first file.
 fn add_files<'a>(
     claims: &mut Vec<Claim<'a>>,
     place: &FolderPlace<'a>,
@@ -66,7 +72,7 @@ fn add_files<'a>(
     Ok(())
 }
 
-/// Adds the files of the folder with this index, which counts from 0.
+/// Adds the files of the folder with an index, which counts from 0, to the claims.
 fn add_folder<'a>(
     claims: &mut Vec<Claim<'a>>,
     member: u32,
@@ -80,6 +86,7 @@ fn add_folder<'a>(
         (name_of (nth (entries_in (list_value folders.now)) i))
         (files_in (nth (entries_in (list_value folders.now)) i)))) }
 {
+    // Never so, by the contract; `len` tells that a list has less than 2^32 entries.
     if i >= folders.len() {
         unreachable!();
     }
@@ -92,7 +99,8 @@ fn add_folder<'a>(
     add_files(claims, &place, &folder.files())
 }
 
-/// Adds the files of folders.
+/// Adds the files of the folders of a member to the claims. In the clause, 1 is the position of the
+/// first folder.
 pub(crate) fn add_folders<'a>(
     claims: &mut Vec<Claim<'a>>,
     member: u32,
@@ -108,7 +116,7 @@ pub(crate) fn add_folders<'a>(
     Ok(())
 }
 
-/// Adds the files of the member at a place, counted from 0.
+/// Adds the files of the member at a place, counted from 0, to the claims.
 fn add_member<'a>(
     claims: &mut Vec<Claim<'a>>,
     members: &Members<'a>,
@@ -123,18 +131,19 @@ fn add_member<'a>(
     add_folders(claims, place_of(members, i), &view.paths())
 }
 
-/// A place among members, as claims have it.
+/// A place among members in 32 bits, as claims have it.
 pub(crate) fn place_of(members: &Members<'_>, i: usize) -> u32
     requires { i < length (members_of members.now) }
     ensures { result ≡ i }
 {
+    // Never so, by the contract; `len` tells that there are at most 65,536 members.
     if i >= members.len() {
         unreachable!();
     }
     i as u32
 }
 
-/// All files that members list.
+/// All files that members list, as claims, in the order of members, folders and files.
 pub(crate) fn claims_in<'a>(
     alloc: Global,
     members: &Members<'a>,

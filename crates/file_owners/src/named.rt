@@ -1,4 +1,7 @@
 //! Which members each member names in what it replaces.
+//! The rule stands in `docs/commands.md`, "Files that several packages list": "One package *names*
+//! another where an entry of its `replaces` that is no conflict is met by the other's name and
+//! version." Since no two members have one name, an entry names one at most.
 
 ghost use Rattle.std.specs.Prelude.{◌≡◌, ◌<◌, ◌==◌, ◌||◌, ℕ, List, Some, IfOk, length, map, slice_get};
 ghost use Rattle.std.specs.List.{list_any};
@@ -22,8 +25,8 @@ use adb_schema::{DepView, List, PackageView};
 use db_core::Members;
 use std::alloc::{AllocError, Global};
 
-/// For each member the places of those that it names, in rising order. Each entry of what members
-/// replace is read once.
+/// For each member, in its order, the places of those that it names, in rising order. Each entry of
+/// what members replace is read once.
 pub(crate) fn places_of_each(
     alloc: Global,
     members: &Members<'_>,
@@ -40,7 +43,7 @@ pub(crate) fn places_of_each(
     Ok(named)
 }
 
-/// The places of the members that a package names, in rising order.
+/// The places of the members that a package names, in rising order; each may stand more than once.
 fn places_named(
     alloc: Global,
     members: &Members<'_>,
@@ -57,7 +60,7 @@ fn places_named(
     Ok(places)
 }
 
-/// The places of the members that entries name.
+/// The places of the members that entries of a `replaces` name, in the order of the entries.
 fn places_in<'a>(
     alloc: Global,
     members: &Members<'_>,
@@ -78,7 +81,7 @@ fn places_in<'a>(
     Ok(places)
 }
 
-/// Adds a place, if there is one.
+/// Adds a place to a list of places, if there is one.
 fn add_place(places: &mut Vec<u32>, place: Option<u32>) -> Result<(), AllocError>
     ensures { IfOk result (λ _. (y : ℕ) → list_any (λ p. p == y) places.new.items
         ≡ (list_any (λ p. p == y) places.old.items || is_place y place)) }
@@ -89,7 +92,8 @@ fn add_place(places: &mut Vec<u32>, place: Option<u32>) -> Result<(), AllocError
     Ok(())
 }
 
-/// The place of the member that an entry names, if it names one.
+/// The place of the member that an entry of a `replaces` names, if it names one: a member has the
+/// entry's name, and its version meets the entry.
 fn place_named(members: &Members<'_>, entry: &DepView<'_>) -> Option<u32>
     requires { IsSoundDependency (dependency_value entry.now) }
     ensures { (y : ℕ) (m : Member) → slice_get (members_of members.now) y ≡ Some m
@@ -108,7 +112,7 @@ fn place_named(members: &Members<'_>, entry: &DepView<'_>) -> Option<u32>
     }
 }
 
-/// Whether a place is among places in rising order.
+/// Whether a place is among places in rising order, found by halving.
 pub(crate) fn is_among(places: &[u32], place: u32) -> bool
     requires { IsSorted nat_cmp places.now }
     ensures { result ≡ list_any (λ p. p == place) places.now }

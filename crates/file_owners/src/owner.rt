@@ -1,5 +1,7 @@
 //! The owners of the files that members list, by which of two packages takes over the files of the
 //! other.
+//! The rules stand in `docs/commands.md`, "Files that several packages list": which of two packages
+//! beats the other, who owns a path, and which path is reported where nobody does.
 
 ghost use Rattle.std.specs.Prelude.{◌≡◌, ◌<◌, Some, IfOk, length, map, option_map, slice_get, List, true, false};
 ghost use Rattle.db_core.specs.Members.{Member, member_listings};
@@ -31,15 +33,19 @@ use version_core::Version;
 /// names.
 #[derive(Drop)]
 struct Claimants<'m, 'a> {
+    /// The packages after the change.
     members: &'m Members<'a>,
+    /// For each member the places of those that it names, in rising order.
     named: Vec<Vec<u32>>,
+    // These are the places of the members that each names.
     ghost each: { ArePlacesOfEach (members_of members.now) (map (λ v. v.items) named.items) },
 }
 
 impl<'m, 'a> Contest for Claimants<'m, 'a> {
     ghost beats = { λ claimants. member_beats (members_of claimants.members.now) };
 
-    /// A place behind the last member beats nothing and is not beaten.
+    /// Whether the member at the first place beats that at the second. A place behind the last
+    /// member beats nothing and is not beaten.
     fn beats(&self, one: u32, other: u32) -> bool {
         if one as usize >= self.members.len() {
             return false;
@@ -51,7 +57,8 @@ impl<'m, 'a> Contest for Claimants<'m, 'a> {
     }
 }
 
-/// Whether the member at one place takes over the files of the one at another.
+/// Whether the member at the first place takes over the files of that at the second, where `named`
+/// has the places that each member names.
 fn member_beats(members: &Members<'_>, named: &[Vec<u32>], one: u32, other: u32) -> bool
     requires one { one < length (members_of members.now) }
     requires other { other < length (members_of members.now) }
@@ -74,12 +81,16 @@ fn member_beats(members: &Members<'_>, named: &[Vec<u32>], one: u32, other: u32)
 ///
 /// Want of memory.
 pub fn owners_of_files<'a>(alloc: Global, members: &Members<'a>) -> Result<Owners<'a>, AllocError>
+    // The files in the order of their paths, each with the places at which it is listed.
     ensures claims { IfOk result (λ found. map claim_seen found.claims.items
         ≡ sorted_by claim_cmp (claims_in (members_of members.now))) }
+    // For each of these the place of the member that owns its path, or none.
     ensures owners { IfOk result (λ found. found.owners.items
         ≡ map (λ c. owner_of_path (members_of members.now) c.path)
         (map claim_seen found.claims.items)) }
+    // For each file, in the order of members, folders and files, whether its member owns it.
     ensures owned { IfOk result (λ found. found.owned.items ≡ owned_of (members_of members.now)) }
+    // The first path in byte order that nobody owns, with its rivals.
     ensures contested { IfOk result (λ found. option_map contested_seen found.contested
         ≡ contested_of (members_of members.now)) }
 {
@@ -88,7 +99,7 @@ pub fn owners_of_files<'a>(alloc: Global, members: &Members<'a>) -> Result<Owner
     owners_of(alloc, &Claimants { members, named }, claims)
 }
 
-/// Whether a dependency is positive, and met by a name and a version.
+/// Whether an entry of a `replaces` is no conflict, and is met by a name and a version.
 fn is_replaced(dep: &DepView<'_>, name: &[u8], version: &Version<'_>) -> bool
     requires { IsSoundDependency (dependency_value dep.now) }
     ensures { result
@@ -100,8 +111,8 @@ fn is_replaced(dep: &DepView<'_>, name: &[u8], version: &Version<'_>) -> bool
     }
 }
 
-/// Whether an entry of what a package replaces names another package: it is positive, and met by
-/// that one's own name and version. Neither is judged, since sound containers hold both.
+/// Whether an entry of what a package replaces names another package: it is no conflict, and is met
+/// by that one's own name and version. Neither is judged, since sound containers hold both.
 pub(crate) fn is_named_by(entry: &DepView<'_>, pkg: &PackageView<'_>) -> bool
     requires entry { IsSoundDependency (dependency_value entry.now) }
     requires version { is_version (version_text (package_value pkg.now)) ≡ true }
@@ -112,7 +123,8 @@ pub(crate) fn is_named_by(entry: &DepView<'_>, pkg: &PackageView<'_>) -> bool
     is_replaced(entry, info.name(), &version)
 }
 
-/// Of two packages that name each other, whether the first is preferred.
+/// Whether the first of two packages that name each other is preferred: it has the greater priority
+/// in replacing, or at equal priority the later name.
 #[tactic(auto, unfolding(crate::specs::Replaces::is_preferred_to))]
 pub(crate) fn is_preferred<'a, 'b>(one: &PackageView<'a>, other: &PackageView<'b>) -> bool
     ensures { result ≡ is_preferred_to (package_value one.now) (package_value other.now) }

@@ -2,6 +2,7 @@
 //!
 //! The contract cites `Replacing`, `Reading` and `Recovery` (the state that files stand for) of
 //! `journal_core`.
+//! The rules stand in `docs/crash-safety.md`, "A whole file replaced".
 #![tactic(auto)]
 
 mod replacing;

@@ -1,4 +1,6 @@
 //! A whole file in the place of another.
+//! The rules stand in `docs/crash-safety.md`, "A whole file replaced", its four steps and what
+//! follows of them.
 ghost use Rattle.std.specs.Prelude.{◌≡◌, ◌≢◌, ◌≤◌, [], ◌∷◌, ℕ, Bool, List, length, IfOk, OnOk, OnErr, IsErrOf};
 ghost use Rattle.base_core.specs.Calls.{HasNow, IfObservable};
 ghost use Rattle.base_core.specs.Crash.{Since, IsOrderly};
@@ -31,6 +33,7 @@ pub fn replace<T: Tree>(
     name: &Name,
     bytes: &[u8],
 ) -> Result<(), TreeFault>
+    // 1,016: the scratch name has eight bytes more, and a name at most 1,024.
     requires length { length name.now ≤ 1016 }
     requires apart { name.now ≢ intent_name }
 
@@ -73,6 +76,8 @@ pub fn replace<T: Tree>(
     // Where there is no memory, no call of the tree was made.
     ensures memory { IsErrOf result TreeFault.Memory → tree.new ≡ tree.old }
 
+    // No count of faults falls; a fault of the tree is answered only where that count rose, and Ok
+    // only where it did not.
     ensures goes_on { GoesOn (T.counts tree.old) (T.counts tree.new) }
     ensures disk { IsErrOf result TreeFault.Disk
         → HasCause (T.counts tree.old) (T.counts tree.new) }
@@ -87,7 +92,8 @@ pub fn replace<T: Tree>(
     Ok(())
 }
 
-/// The name under which the new file is made.
+/// The scratch name of an output, under which the new file is made: eight bytes longer, so that it
+/// is a name where the output's has at most 1,016.
 fn scratch_name(alloc: Global, name: &Name) -> Result<Name, AllocError>
     requires { length name.now ≤ 1016 }
     ensures { IfOk result (λ scratch. scratch ≡ scratch_of name.now) }
@@ -97,7 +103,8 @@ fn scratch_name(alloc: Global, name: &Name) -> Result<Name, AllocError>
     Name::of(alloc, &bytes)
 }
 
-/// Makes the new file under the scratch name and moves it to its name.
+/// Makes the new file under the scratch name and moves it to its name. The clauses are those of
+/// `replace`, for any scratch name on which no state rests.
 fn write_beside<T: Tree>(
     tree: &mut T,
     scratch: &Name,
@@ -113,9 +120,14 @@ fn write_beside<T: Tree>(
     ensures others { IfObservable (T.history tree.old) (λ v.
         Since (KeepsMapsBut (name.now ∷ scratch.now ∷ []) v) (T.history tree.old)
         (T.history tree.new)) }
+
+    // No count of faults falls; a fault of the tree is answered only where that count rose, and Ok
+    // only where it did not.
     ensures goes_on { GoesOn (T.counts tree.old) (T.counts tree.new) }
     ensures cause { OnErr result (HasCause (T.counts tree.old) (T.counts tree.new)) }
     ensures kept { OnOk result (IsNoFault (T.counts tree.old) (T.counts tree.new)) }
+
+    // Where the names may have a file each, no call is a misuse.
     ensures proper { IfObservable (T.history tree.old) (λ v. HasBothPlaces scratch.now name.now v
         → (T.counts tree.new).misuses ≡ (T.counts tree.old).misuses) }
 {
@@ -123,16 +135,22 @@ fn write_beside<T: Tree>(
     settle(tree, scratch, name)
 }
 
-/// Makes a new file with these bytes under a name on which no state rests, and syncs it.
+/// Makes a new file with these bytes under a name on which no state rests, in place of what stands
+/// there, and syncs it: only a synced file may be moved to its name.
 fn fill<T: Tree>(tree: &mut T, name: &Name, bytes: &[u8]) -> Result<(), Disk>
     ensures moments { IfObservable (T.history tree.old) (λ v.
         Since (IsUntouched name.now v) (T.history tree.old) (T.history tree.new)) }
     ensures filled { IfObservable (T.history tree.old)
         (λ v. OnOk result (IfObservable (T.history tree.new)
         (IsFilling name.now (synced_file bytes.now) v))) }
+
+    // No count of faults falls; a fault of the tree is answered only where that count rose, and Ok
+    // only where it did not.
     ensures goes_on { GoesOn (T.counts tree.old) (T.counts tree.new) }
     ensures cause { OnErr result (HasCause (T.counts tree.old) (T.counts tree.new)) }
     ensures kept { OnOk result (IsNoFault (T.counts tree.old) (T.counts tree.new)) }
+
+    // Where the name may have a file, no call is a misuse.
     ensures proper { IfObservable (T.history tree.old) (λ v. HasPlace name.now v
         → (T.counts tree.new).misuses ≡ (T.counts tree.old).misuses) }
     ensures names { IfObservable (T.history tree.old) (λ v.
@@ -140,6 +158,7 @@ fn fill<T: Tree>(tree: &mut T, name: &Name, bytes: &[u8]) -> Result<(), Disk>
     ensures others { IfObservable (T.history tree.old) (λ v.
         Since (KeepsMapsBut (name.now ∷ []) v) (T.history tree.old) (T.history tree.new)) }
 {
+    // Laws that the proof needs; they compute nothing.
     a_crash_may_leave_the_files_as_read();
     order_outlasts_a_crash::<Journal>();
     remove(tree, name)?;
@@ -148,7 +167,8 @@ fn fill<T: Tree>(tree: &mut T, name: &Name, bytes: &[u8]) -> Result<(), Disk>
     sync_file(tree, name)
 }
 
-/// Moves a synced file to its name, and makes the names last.
+/// Moves a synced file to its name, and makes the names last: without the second a crash could
+/// still bring the old file back behind an Ok.
 fn settle<T: Tree>(tree: &mut T, from: &Name, to: &Name) -> Result<(), Disk>
     requires { to.now ≢ intent_name }
     ensures moments { IfObservable (T.history tree.old) (λ v. (bytes : List ℕ) (start : TreeState)
@@ -160,12 +180,18 @@ fn settle<T: Tree>(tree: &mut T, from: &Name, to: &Name) -> Result<(), Disk>
     ensures others { IfObservable (T.history tree.old) (λ v.
         Since (KeepsMapsBut (to.now ∷ from.now ∷ []) v) (T.history tree.old)
         (T.history tree.new)) }
+
+    // No count of faults falls; a fault of the tree is answered only where that count rose, and Ok
+    // only where it did not.
     ensures goes_on { GoesOn (T.counts tree.old) (T.counts tree.new) }
     ensures cause { OnErr result (HasCause (T.counts tree.old) (T.counts tree.new)) }
     ensures kept { OnOk result (IsNoFault (T.counts tree.old) (T.counts tree.new)) }
+
+    // Where the file may be moved, no call is a misuse.
     ensures proper { IfObservable (T.history tree.old) (λ v. CanRename from.now to.now v
         → (T.counts tree.new).misuses ≡ (T.counts tree.old).misuses) }
 {
+    // Laws that the proof needs; they compute nothing.
     a_crash_may_leave_the_files_as_read();
     order_outlasts_a_crash::<Journal>();
     rename(tree, from, to)?;

@@ -1,4 +1,5 @@
 //! Why a call on the host fails, and what of it the program tells.
+//! The rules stand in `docs/commands.md`, "A fault of the tree".
 
 use std::alloc::{AllocError, Global};
 use std::io;
@@ -78,12 +79,14 @@ impl HostFault {
 }
 
 impl From<AllocError> for HostFault {
+    /// Want of memory is a fault of its own.
     fn from(_: AllocError) -> HostFault {
         HostFault::Memory
     }
 }
 
 impl From<io::Error> for HostFault {
+    /// The host's error; that it has no memory is told as want of memory.
     fn from(error: io::Error) -> HostFault {
         if error.kind() == ErrorKind::OutOfMemory {
             return HostFault::Memory;
@@ -95,15 +98,18 @@ impl From<io::Error> for HostFault {
 /// The call that failed first, the paths that it was given, and why it failed.
 #[derive(Drop)]
 pub struct Failure {
+    // The call in words, as `rename`.
     call: &'static str,
+    // The path that it was given; empty where there is none to tell.
     path: Vec<u8>,
+    // The second path of a rename; empty for other calls.
     target: Vec<u8>,
     fault: HostFault,
 }
 
 impl Failure {
-    /// What is told of a call on a path, and on a second path or none. Where there is no memory a
-    /// path goes untold.
+    /// The failure of a call on a path, and on a second path or none (empty). Where there is no
+    /// memory for a path it goes untold.
     pub fn new(
         alloc: Global,
         call: &'static str,
@@ -155,7 +161,7 @@ impl Failure {
         }
     }
 
-    /// Whether a path is one of the call's own.
+    /// Whether a path is one that the call was given.
     fn names(&self, path: &[u8]) -> bool {
         path == self.path.as_slice() || path == self.target.as_slice()
     }

@@ -1,4 +1,6 @@
 //! What the host has at a path, and what its errors mean.
+//! The rules stand in `docs/crash-safety.md`, "What the host's tree does", the row of each call on
+//! a path and that of `size`.
 
 use super::failure::{HostFault, Reason};
 use std::alloc::Global;
@@ -10,8 +12,11 @@ use std::{fs, str};
 /// What the host has at a path.
 #[derive(Clone, Copy)]
 pub enum Found {
+    /// No file and no folder.
     Nothing,
+    /// A folder.
     Folder,
+    /// A regular file.
     File(LookedAt),
 }
 
@@ -19,13 +24,16 @@ pub enum Found {
 /// of the host.
 #[derive(Clone, Copy)]
 pub struct LookedAt {
+    /// Its length in bytes.
     pub len: u64,
+    // The host's number of the device that the file is on.
     device: u64,
+    // The number of the file on its device.
     number: u64,
 }
 
 impl LookedAt {
-    /// By its length, and by the two numbers that tell files of a host apart.
+    /// The file of which the host tells this.
     fn of(data: &Metadata) -> LookedAt {
         LookedAt {
             len: data.len(),
@@ -41,7 +49,7 @@ impl LookedAt {
 }
 
 impl Found {
-    /// Whether a folder stands there.
+    /// Whether a folder stands at the path.
     pub fn is_folder(&self) -> bool {
         matches!(self, Found::Folder)
     }
@@ -74,7 +82,7 @@ pub fn look<R: Files>(
     Err(HostFault::at(alloc, reason, path))
 }
 
-/// Whether the host tells the same file or folder twice.
+/// Whether what the host tells twice is of the same file or folder.
 pub fn is_same(a: &Metadata, b: &Metadata) -> bool {
     a.dev() == b.dev() && a.ino() == b.ino()
 }
@@ -88,7 +96,7 @@ fn is_absence(kind: ErrorKind) -> bool {
     )
 }
 
-/// A path as the host takes it.
+/// A path as the host takes one: as text.
 pub fn path_text(path: &[u8]) -> Result<&str, HostFault> {
     match str::from_utf8(path) {
         Ok(text) => Ok(text),
@@ -104,7 +112,7 @@ pub fn parent_of(path: &[u8]) -> &[u8] {
     }
 }
 
-/// What a path has behind its folder.
+/// The last part of a path, behind the folder that it stands in.
 pub fn last_part_of(path: &[u8]) -> &[u8] {
     match path.iter().rposition(|byte| *byte == b'/') {
         Some(end) => &path[end + 1..],

@@ -1,4 +1,6 @@
 //! The folder that the last paths stood in, and a shorter way to its files where it is deep.
+//! The rules stand in `docs/crash-safety.md`, "What the host's tree does", the point of a deep
+//! folder.
 
 use super::Host;
 use super::failure::HostFault;
@@ -18,14 +20,16 @@ const PATHS_IN_A_ROW: u32 = 4;
 /// The folder that the last paths stood in. The root is the empty path.
 #[derive(Drop)]
 pub struct LastFolder {
+    // Its path.
     path: Vec<u8>,
     // How many paths in a row stood in it.
     paths: u32,
+    // The folder held open, where it is deep and was asked for often enough.
     opened: Option<OpenFolder>,
 }
 
 impl LastFolder {
-    /// A folder that no path stood in so far.
+    /// The folder at a path, in which no path stood so far.
     pub fn new(path: Vec<u8>) -> LastFolder {
         LastFolder {
             path,
@@ -39,7 +43,7 @@ impl LastFolder {
         self.path.as_slice() == path
     }
 
-    /// A path in this folder as the host takes it.
+    /// A path in this folder as the host takes it, which counts as one more path in a row.
     pub fn host_path<'b, R: Host>(
         &'b mut self,
         rt: &R,
@@ -65,10 +69,11 @@ fn is_deep(folder: &[u8]) -> bool {
 /// An open folder, and the path by which the host leads to it in one step.
 #[derive(Drop)]
 struct OpenFolder {
-    // It stays open as long as the path is used.
+    // The open folder, which stays open as long as the path is used.
     _file: File,
     // The path of the folder and a slash, with the part that was asked for last.
     path: Vec<u8>,
+    // How long the path of the folder and the slash are.
     folder_len: usize,
 }
 
@@ -96,7 +101,7 @@ impl OpenFolder {
         }))
     }
 
-    /// The path to a part of the folder.
+    /// The path by which the host takes a file or a folder in the open folder, by its last part.
     fn path_to(&mut self, part: &[u8]) -> Result<&str, HostFault> {
         self.path.truncate(self.folder_len);
         self.path.extend_from_slice(part)?;
@@ -104,7 +109,7 @@ impl OpenFolder {
     }
 }
 
-/// Whether what stands at a path itself is an open file.
+/// Whether an open file is what stands at a path itself.
 fn leads_to<R: Host>(rt: &R, path: &str, file: &File) -> bool {
     match (fs::symlink_metadata(rt, path), file.metadata()) {
         (Ok(found), Ok(opened)) => is_same(&found, &opened),

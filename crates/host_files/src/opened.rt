@@ -1,5 +1,7 @@
 //! Files that stay open between calls, and the lock on the root: one run writes there, or any
 //! number read.
+//! The rules stand in `docs/crash-safety.md`, "What the host's tree does", the rows of `read_at`,
+//! `create`, `append` and `sync`, and the point of the lock.
 
 use super::Host;
 use super::failure::{HostFault, Reason};
@@ -16,7 +18,9 @@ use std::{fs, thread};
 pub struct Opened {
     path: Vec<u8>,
     file: File,
+    // How many bytes it has, as far as this run knows.
     len: u64,
+    // The offset at which the next read goes on; None where that is not known.
     at: Option<u64>,
 }
 
@@ -70,7 +74,7 @@ impl Opened {
         Ok(())
     }
 
-    /// Adds a piece at the end.
+    /// Adds a piece at the end of the file. After a fault a front of it may be there.
     pub fn add(&mut self, piece: &[u8]) -> Result<(), HostFault> {
         self.file.write_all(piece)?;
         self.len = self.len.saturating_add(piece.len() as u64);
@@ -82,7 +86,7 @@ impl Opened {
         self.file.set_len(self.len).is_ok()
     }
 
-    /// Lets the host write the file through.
+    /// Lets the host write the bytes of the file through to the disk.
     pub fn write_through(&self) -> Result<(), HostFault> {
         Ok(self.file.sync_all()?)
     }
@@ -112,10 +116,10 @@ pub enum Lock {
     Exclusive,
 }
 
-/// How long one sleep is while another run holds the lock.
+/// How long one sleep is, in milliseconds, while another run holds the lock.
 const SLEEP_MILLISECONDS: u64 = 50;
 
-/// How often the lock is tried: for 60 seconds.
+/// How often the lock is tried: as many sleeps as 60 seconds (60,000 milliseconds) have.
 const MOST_TRIES: u64 = 60_000 / SLEEP_MILLISECONDS;
 
 /// Waits until no other run stands in the way, 60 seconds at most. The lock holds until the file

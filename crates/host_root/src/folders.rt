@@ -1,4 +1,5 @@
-//! Folders: those on the way to a file, those that hold nothing, and those whose names changed.
+//! Folders: those on the way to a file, those that hold nothing, and those whose names changed. The
+//! rules stand in `docs/crash-safety.md`, "What the host's tree does".
 
 use host_files::{Found, Host, HostFault, LastFolder, Reason, look, parent_of, path_text};
 use std::alloc::Global;
@@ -12,11 +13,11 @@ use std::io::ErrorKind;
 #[derive(Drop)]
 pub struct Folders {
     alloc: Global,
-    // Those that were looked at or made.
+    // The folders that this run has looked at or made.
     known: BTreeSet<Vec<u8>>,
-    // A known one, or the root.
+    // The folder of the path before, which is a known one, or the root: a deep one is held open.
     last: LastFolder,
-    // Those whose names changed since they were last written through.
+    // The folders whose names changed since they were last written through.
     changed: BTreeSet<Vec<u8>>,
 }
 
@@ -31,7 +32,7 @@ impl Folders {
         }
     }
 
-    /// Whether all on the way to a path are folders.
+    /// Whether all that stands on the way to a path are folders.
     pub fn have_way<R: Files>(&mut self, rt: &R, path: &[u8]) -> Result<bool, HostFault> {
         if self.knows_way(path)? {
             return Ok(true);
@@ -54,7 +55,7 @@ impl Folders {
     }
 
     /// A path as the host takes it: the shorter way, where the folder that it stands in is the last
-    /// one.
+    /// one, and deep.
     pub fn host_path<'b, R: Host>(
         &'b mut self,
         rt: &R,
@@ -205,7 +206,7 @@ impl Folders {
         Ok(true)
     }
 
-    /// Forgets a folder that is gone.
+    /// Forgets a folder that is gone: it is neither known nor to be written through.
     fn forget(&mut self, folder: &[u8]) {
         self.known.remove(folder);
         self.changed.remove(folder);
@@ -215,7 +216,7 @@ impl Folders {
     }
 }
 
-/// What stands at a path.
+/// What stands at a path itself, found by the plain path; a symbolic link is a fault.
 fn look_at<R: Files>(rt: &R, alloc: Global, path: &[u8]) -> Result<Found, HostFault> {
     look(rt, alloc, path, path_text(path)?)
 }
@@ -233,6 +234,8 @@ fn keep(folders: &mut BTreeSet<Vec<u8>>, folder: Vec<u8>) -> Result<(), HostFaul
 fn empty_tree<R: Host>(rt: &R, alloc: Global, root: &[u8]) -> Result<Vec<Vec<u8>>, HostFault> {
     let mut folders = Vec::new(alloc);
     push(alloc, &mut folders, root)?;
+    // The list grows while it is walked over: each folder adds those in it. The bound shows the
+    // checker that this ends.
     for next in 0..usize::MAX {
         if next >= folders.len() {
             break;

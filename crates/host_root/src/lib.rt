@@ -2,7 +2,7 @@
 //! that stay open, the folders on the way to a file, and those whose names changed.
 //!
 //! This crate is trusted: no contract can say what a host does. It is to be read with `host_tree`,
-//! which stands on it.
+//! which stands on it, against the table in `docs/crash-safety.md`, "What the host's tree does".
 #![tactic(auto)]
 
 mod folders;

@@ -1,4 +1,6 @@
-//! The root: the folder that the program runs in, with the files that stay open between calls.
+//! The root: the folder that the program runs in, with the files that stay open between calls. The
+//! rules stand in `docs/crash-safety.md`, "What the host's tree does": the rows of its table, and
+//! what follows the table.
 
 use super::folders::Folders;
 use host_files::{
@@ -13,16 +15,20 @@ use std::fs::{File, OpenOptions};
 /// this program that writes there.
 #[derive(Drop)]
 pub struct Root<'a, R: Host> {
+    // The runtime that the host is asked by.
     rt: &'a R,
     alloc: Global,
+    // Which lock the first call takes: shared, or for this run alone.
     lock: Lock,
     // The folder itself, open while this run holds the lock on it.
     held: Option<File>,
-    // The file that was read last, and the one that is being written.
+    // The file that was read last.
     reader: Option<Opened>,
+    // The file that is being written.
     writer: Option<Opened>,
     // The file that was looked at last, unless something was written since.
     seen: Option<(Vec<u8>, LookedAt)>,
+    // What is known of the folders below the root.
     folders: Folders,
     // Whether the host once failed to write something through, or to cut off the front of a piece.
     // It may have dropped what it could not write, so that a second try would succeed for nothing:
@@ -107,7 +113,7 @@ impl<'a, R: Host> Root<'a, R> {
         }
     }
 
-    /// Fills the buffer with the bytes of the file at a path.
+    /// Fills the buffer with the bytes of the file at a path, from an offset on.
     pub fn fill(&mut self, path: &[u8], at: u64, into: &mut [u8]) -> Result<(), HostFault> {
         self.enter()?;
         if !is_open(&self.reader, path) {
@@ -237,7 +243,7 @@ impl<'a, R: Host> Root<'a, R> {
     }
 }
 
-/// Renames, by paths as the host takes them.
+/// Renames in one step of the host, by the plain paths.
 fn rename_path<R: Host>(rt: &R, from: &[u8], to: &[u8]) -> Result<(), HostFault> {
     Ok(fs::rename(rt, path_text(from)?, path_text(to)?)?)
 }

@@ -1,5 +1,6 @@
-//! Answers questions to `host_tree` on the folder that it runs in. Its stored run has all rows;
-//! `tests/lines.md` describes their form.
+//! Answers questions to `host_tree` on the folder that it runs in. The rules stand in
+//! `docs/crash-safety.md`, "What the host's tree does". Its stored run has all rows;
+//! `tests/lines.md` describes their form, and the README of this crate has a row for each question.
 #![tactic(auto)]
 
 use base_core::{Disk, Name, Tree, TreeFault, Words};
@@ -17,7 +18,9 @@ const MOST_BYTES: u128 = 1_000_000;
 /// The folder that the program runs in, and the tree that stands for it.
 #[derive(Drop)]
 struct HostFolder<'a, R: Host> {
+    /// The runtime that the host is asked by.
     rt: &'a R,
+    /// The tree that stands for the folder.
     tree: HostTree<'a, R>,
 }
 
@@ -52,7 +55,7 @@ impl<'a, R: Host> Subject for HostFolder<'a, R> {
 }
 
 impl<'a, R: Host> HostFolder<'a, R> {
-    /// Makes a synced file.
+    /// Makes a file of these bytes by three calls, of which the last syncs it.
     fn write(&mut self, name: &Name, bytes: &[u8]) -> Result<(), Disk> {
         self.tree.create(name)?;
         self.tree.append(name, bytes)?;
@@ -150,7 +153,7 @@ impl<'a, R: Host> HostFolder<'a, R> {
     }
 }
 
-/// Adds how a call ended.
+/// Adds how a call ended: `ok` or `fault`.
 fn add_outcome<E: Drop>(answer: &mut Vec<u8>, outcome: Result<(), E>) -> Result<(), AllocError> {
     match outcome {
         Ok(()) => answer.extend_from_slice(b"ok"),

@@ -1,8 +1,9 @@
--- The counts of what stands for a part of the host: it may fail at any call, and is never misused as
--- far as it tells.
+-- The counts of what stands for a part of the host. The rules stand in `docs/crash-safety.md`,
+-- "Misuses, faults and counts".
 use Rattle.std.specs.Prelude.{ℕ, true}
 use Rattle.base_core.specs.Faults.{Counts}
 
--- so many of its calls have failed
+-- the counts of a host's tree or sink of which so many calls have failed: it may fail at any call,
+-- and tells no misuse and no want of memory of its own
 abbrev pub host_counts : ℕ → Counts
 host_counts faults = record { faults = faults; misuses = 0; wants = 0; fallible = true }

@@ -23,9 +23,13 @@ use std::alloc::Global;
 /// is neither a regular file nor a folder.
 #[derive(Drop)]
 pub struct HostTree<'a, R: Host> {
+    /// Where memory is taken.
     alloc: Global,
+    /// The folder, with the files that stay open.
     root: Root<'a, R>,
+    /// How many calls have failed.
     faults: u64,
+    /// What failed first, for the line behind `ERROR: the tree failed`.
     failure: Option<Failure>,
 }
 
@@ -43,17 +47,19 @@ impl<'a, R: Host> HostTree<'a, R> {
         }
     }
 
-    /// What failed first, if anything did.
+    /// What failed first, if anything did (`docs/commands.md`, "A fault of the tree").
     pub fn failure(&self) -> Option<&Failure> {
         self.failure.as_ref()
     }
 
-    /// The name that may have its new file although the run failed.
+    /// The name that may have its new file although the run failed: it was renamed, and that was
+    /// not written through.
     pub fn unsynced_target(&self) -> Option<&[u8]> {
         self.root.unsynced_target()
     }
 
-    /// Counts a fault, and keeps what failed, if it is the first.
+    /// Counts a fault, and keeps what failed, if it is the first: the call, its path, and the other
+    /// path of a rename.
     fn note_failure(
         &mut self,
         call: &'static str,
@@ -80,6 +86,7 @@ impl<'a, R: Host> HostTree<'a, R> {
     ) -> Result<T, Disk>
         ensures ok { OnOk result (self.new.faults ≡ self.old.faults) }
         ensures err { OnErr result (self.new.faults ≡ next_count self.old.faults) }
+        // No count falls.
         ensures later { self.old.faults ≤ self.new.faults }
     {
         match answer {
@@ -93,37 +100,46 @@ impl<'a, R: Host> Tree for HostTree<'a, R> {
     ghost use Rattle.std.proofs.lemmas.List.Elements.{All-nil};
     ghost use Rattle.base_core.specs.Tree.{IsWhole};
 
+    // The history is not observable: no contract sees the host's files.
     ghost history = { λ tree. [] };
 
+    // The counts are those of a host's tree with so many faults.
     ghost counts = { λ tree. host_counts tree.faults };
 
+    // Each state of the history is whole, as there is none.
     ghost whole = { λ tree. All-nil IsWhole };
 
+    // How many bytes the file under a name has, or None where there is none.
     fn size(&mut self, name: &Name) -> Result<Option<u64>, Disk> {
         let answer = self.root.length_of(name.as_bytes());
         self.note_answer("look at", name, answer)
     }
 
+    // Fills the buffer with the bytes of a file from an offset on.
     fn read_at(&mut self, name: &Name, at: u64, into: &mut [u8]) -> Result<(), Disk> {
         let answer = self.root.fill(name.as_bytes(), at, into);
         self.note_answer("read", name, answer)
     }
 
+    // Makes an empty file under an absent name.
     fn create(&mut self, name: &Name) -> Result<(), Disk> {
         let answer = self.root.begin(name.as_bytes());
         self.note_answer("create", name, answer)
     }
 
+    // Adds a piece at the end of a file.
     fn append(&mut self, name: &Name, piece: &[u8]) -> Result<(), Disk> {
         let answer = self.root.add(name.as_bytes(), piece);
         self.note_answer("write", name, answer)
     }
 
+    // Lets the host write a file through.
     fn sync(&mut self, name: &Name) -> Result<(), Disk> {
         let answer = self.root.write_file_through(name.as_bytes());
         self.note_answer("sync", name, answer)
     }
 
+    // Lets `to` lead to the file of `from`, in one step.
     fn rename(&mut self, from: &Name, to: &Name) -> Result<(), Disk> {
         match self.root.move_file(from.as_bytes(), to.as_bytes()) {
             Ok(()) => Ok(()),
@@ -133,11 +149,13 @@ impl<'a, R: Host> Tree for HostTree<'a, R> {
         }
     }
 
+    // Takes a name away; an absent one changes nothing.
     fn remove(&mut self, name: &Name) -> Result<(), Disk> {
         let answer = self.root.take_off(name.as_bytes());
         self.note_answer("remove", name, answer)
     }
 
+    // Lets the host write the folders through whose names changed.
     fn sync_names(&mut self) -> Result<(), Disk> {
         match self.root.write_names_through() {
             Ok(()) => Ok(()),
@@ -145,6 +163,8 @@ impl<'a, R: Host> Tree for HostTree<'a, R> {
         }
     }
 
+    // The files below a folder, by their names; want of memory for the answer is no fault of the
+    // tree.
     fn list(&mut self, alloc: Global, folder: &Name) -> Result<Names, TreeFault> {
         match list_below(&mut self.root, alloc, folder) {
             Ok(names) => Ok(names),

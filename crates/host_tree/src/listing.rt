@@ -1,4 +1,5 @@
-//! The files below a folder.
+//! The files below a folder. The rule stands in `docs/crash-safety.md`,
+//! "What the host's tree does", the row of `list`.
 ghost use Rattle.std.specs.Prelude.{◌≡◌, ◌↔◌, ◌-◌, [], ◌∷◌, ◌++◌, ℕ, List, All, Contains, IfOk, IsTrue, OnErr, OnOk, Some, length, slice_get};
 ghost use Rattle.std.specs.Cmp.Lexicographic.{slice_cmp};
 ghost use Rattle.std.specs.List.Sorted.{IsSorted};
@@ -44,7 +45,9 @@ pub fn list_below<R: Host>(
 #[derive(Drop)]
 struct Walk {
     alloc: Global,
+    /// The folders that are still to be visited.
     folders: Vec<Name>,
+    /// The files that were found.
     files: Vec<Name>,
 }
 
@@ -103,7 +106,7 @@ impl Walk {
     }
 }
 
-/// Names in order, each once.
+/// Names in byte order, each once: of equal ones that stand side by side one is left.
 fn each_once(alloc: Global, sorted: Vec<Name>) -> Result<Names, AllocError>
     requires { IsSorted (slice_cmp nat_cmp) sorted.items }
     ensures rising { IfOk result IsRising }

@@ -1,4 +1,5 @@
--- What `info` tells of the packages that are installed (apk(8)).
+-- What `info` tells of the packages that are installed (apk(8)). The rules stand in
+-- `docs/commands.md`, "`info`": the table of what each form prints, and what is refused.
 use Rattle.std.specs.Prelude.{ℕ, List, [], ◌∷◌, map, Option, Some, None, is_some, Result, Ok, Err, if◌then◌else◌}
 use Rattle.std.specs.List.{flat_map}
 use Rattle.std.specs.Option.{option_map_or}
@@ -25,23 +26,23 @@ use Rattle.installed_info.specs.declared.telling.Form.TheVariants.{Contents, Dep
 
 -- ---- of one package
 
--- what it is; a package that does not say so has an empty line there
+-- the section on what a package is; a package that does not say so has an empty line there
 abbrev pub description_text : Plain → List ℕ
 description_text pkg =
     description_section (package_name pkg) (version_text pkg)
     (text_in (entry_in (entry_in pkg PACKAGE_INFO) INFO_DESCRIPTION))
 
--- the paths that it lists, folder by folder
+-- the section with the paths that a package lists, folder by folder
 abbrev pub contents_text : Plain → List ℕ
 contents_text pkg = contents_section (package_name pkg) (version_text pkg) (paths_in pkg)
 
--- what it depends on
+-- the section with what a package depends on
 abbrev pub depends_text : Plain → List ℕ
 depends_text pkg =
     depends_section (package_name pkg) (version_text pkg)
     (map dep_text (dependencies_in (entry_in (entry_in pkg PACKAGE_INFO) INFO_DEPENDS)))
 
--- that it owns a path
+-- the line that tells that a package owns a path
 abbrev pub owner_line : List ℕ → Plain → List ℕ
 owner_line path pkg = report_line (owner_text path (package_name pkg) (version_text pkg))
 
@@ -55,16 +56,16 @@ package_info Owner path pkg = owner_line (without_slash path) pkg
 
 -- ---- of operands
 
--- nothing where it asks for a package that is not installed
+-- what is told of an operand: nothing where it asks for a package that is not installed
 abbrev pub operand_info : Form → List Plain → Operand → List ℕ
 operand_info form packages o =
     option_map_or (package_info form o.text) (package_asked form packages o.text) []
 
--- in the order given
+-- what is told of operands, in the order given
 abbrev pub operands_info : Form → List Plain → List Operand → List ℕ
 operands_info form packages operands = flat_map (operand_info form packages) operands
 
--- the first operand that asks for a package that is not installed, if there is one
+-- the refusal of the first operand that asks for a package that is not installed, if there is one
 abbrev pub info_refusal : Form → List Plain → List Operand → Option Refusal
 info_refusal form packages [] = None
 info_refusal form packages (o ∷ operands) =
@@ -73,22 +74,23 @@ info_refusal form packages (o ∷ operands) =
 
 -- ---- of a database
 
--- the names of all packages, in byte order
+-- a line with the name of each package, in byte order of the names
 abbrev pub names_info : List Plain → List ℕ
 names_info packages = report_lines (sorted_by bytes_cmp (map package_name packages))
 
 -- ---- what is told
 
--- a report, and a refusal behind it, if there is one
+-- what is told: a report, and a refusal behind it, if there is one
 abbrev pub info_done : List ℕ → Option Refusal → InfoDone
 info_done report late = record { report = report; late = late }
 
--- a report, unless there is a refusal
+-- what is told: the report, unless there is a refusal, which stands in its place
 abbrev pub info_unless : Option Refusal → List ℕ → Result InfoDone Refusal
 info_unless None report = Ok (info_done report None)
 info_unless (Some refusal) report = Err refusal
 
--- `-e` tells which packages are installed, and is refused behind that
+-- what a form tells of packages and operands; `-e` tells which packages are installed, and is
+-- refused behind that
 abbrev pub form_info : Form → List Plain → List Operand → Result InfoDone Refusal
 form_info Installed packages operands =
     Ok (info_done (operands_info Installed packages operands)

@@ -1,4 +1,6 @@
--- Which of the packages that are installed an operand asks for.
+-- Which of the packages that are installed an operand asks for. The rules stand in
+-- `docs/commands.md`, "`info`"; that names and paths stand once in a database in `docs/formats.md`,
+-- "Names that stand twice".
 use Rattle.std.specs.Prelude.{ℕ, List, Option}
 use Rattle.std.specs.List.{find}
 use Rattle.adb_view.specs.Plain.{Plain}
@@ -7,15 +9,16 @@ use Rattle.dep_core.specs.LeadingSlash.{without_slash}
 use Rattle.installed_info.specs.declared.telling.Form.{Form}
 use Rattle.installed_info.specs.declared.telling.Form.TheVariants.{Owner}
 
--- the one with a name; no two packages of a database have one name
+-- the package with a name; no two packages of a database have one name
 abbrev pub package_named : List Plain → List ℕ → Option Plain
 package_named packages name = find (is_package_named name) packages
 
--- the one that lists a path; no two packages of a database list one path
+-- the package that lists a path; no two packages of a database list one path
 abbrev pub path_owner : List Plain → List ℕ → Option Plain
 path_owner packages path = find (lists_path path) packages
 
--- an operand is a path, which one leading `/` may stand before, or the name of a package
+-- the package that an operand asks for: it is a path, which one leading `/` may stand before, or
+-- the name of a package
 abbrev pub package_asked : Form → List Plain → List ℕ → Option Plain
 package_asked Owner packages path = path_owner packages (without_slash path)
 package_asked form packages name = package_named packages name

@@ -2,7 +2,8 @@
 //! they list, what they depend on, which of some are installed, and which one owns a path.
 //!
 //! The contract of `tell` cites `Info` of `specs/` (what is told, in each form) and with it `Form`
-//! (which form a command asks for) and `Packages` (which package an operand asks for).
+//! (which form a command asks for) and `Packages` (which package an operand asks for). The rules
+//! stand in `docs/commands.md`, "`info`".
 #![tactic(auto)]
 
 mod names;

@@ -1,4 +1,5 @@
-//! The names of all packages.
+//! The names of all packages, which `info` without operands tells. The rule stands in
+//! `docs/commands.md`, "`info`", the first row of its table.
 ghost use Rattle.adb_fields.specs.Repeated.{package_name};
 ghost use Rattle.adb_view.specs.Plain.{Plain};
 ghost use Rattle.db_core.specs.Seen.{packages_of};
@@ -16,7 +17,7 @@ use db_core::Db;
 use std::alloc::{AllocError, Global};
 use std::marker::PhantomData;
 
-/// A line for each package, in byte order of their names.
+/// What `info` without operands tells: a line for each package, in byte order of their names.
 pub(crate) fn tell_names(alloc: Global, db: &Db<'_>) -> Result<InfoDone, AllocError>
     ensures { IfOk result (λ done. done ≡ info_done (names_info (packages_of db.now)) None) }
 {
@@ -30,7 +31,7 @@ pub(crate) fn tell_names(alloc: Global, db: &Db<'_>) -> Result<InfoDone, AllocEr
     })
 }
 
-// The names of the packages, in the order of these.
+// The names of the packages, in the order in which the database has these.
 fn names_of<'a>(alloc: Global, db: &Db<'a>) -> Result<Vec<&'a [u8]>, AllocError>
     ensures { IfOk result (λ names. map (λ n. n.now) names.items
         ≡ map package_name (packages_of db.now)) }
@@ -63,7 +64,7 @@ fn sort_names(names: &mut Vec<&[u8]>) -> Result<(), AllocError>
     Ok(())
 }
 
-// Adds a line for each name.
+// Adds a line for each name, in the order given.
 fn push_lines(report: &mut Vec<u8>, names: &[&[u8]]) -> Result<(), AllocError>
     ensures { OnOk result (report.new.items
         ≡ report.old.items ++ report_lines (map (λ n. n.now) names.now)) }

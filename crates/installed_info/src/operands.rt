@@ -1,5 +1,5 @@
 //! What is told of the packages that operands ask for, and the place of the package that an operand
-//! asks for.
+//! asks for. The rules stand in `docs/commands.md`, "`info`".
 
 ghost use Rattle.db_core.specs.Seen.{packages_of};
 ghost use Rattle.installed_info.specs.Info.{info_done, info_refusal, info_unless, operands_info, package_info};
@@ -20,7 +20,8 @@ use report_core::Refusal;
 use std::alloc::{AllocError, Global};
 use std::marker::PhantomData;
 
-/// What a form tells of each, unless the package of one is not installed.
+/// What a form other than `-e` tells of each operand, unless the package of one is not installed:
+/// then just that is refused.
 pub(crate) fn tell_operands(
     alloc: Global,
     form: Form,
@@ -46,7 +47,7 @@ pub(crate) fn tell_operands(
     }))
 }
 
-/// What a form tells of those whose packages are installed; the first of the others is refused
+/// What `-e` tells of the operands whose packages are installed; the first of the others is refused
 /// behind that.
 pub(crate) fn tell_installed(
     alloc: Global,
@@ -124,7 +125,7 @@ pub(crate) fn place_asked(
     }
 }
 
-// The place of the package with a name.
+// The place of the package with a name, counted from 0.
 fn place_of_name(db: &Db<'_>, name: &[u8]) -> Option<usize>
     ensures found { option_and_then (slice_get (packages_of db.now)) result
         ≡ package_named (packages_of db.now) name.now }
@@ -133,7 +134,7 @@ fn place_of_name(db: &Db<'_>, name: &[u8]) -> Option<usize>
     db.find(name)
 }
 
-// The place of the package that lists a path. No package lists what is no name.
+// The place of the package that lists a path, counted from 0. No package lists what is no name.
 fn place_of_owner(alloc: Global, db: &Db<'_>, path: &[u8]) -> Result<Option<usize>, AllocError>
     ensures found { IfOk result (λ place. option_and_then (slice_get (packages_of db.now)) place
         ≡ path_owner (packages_of db.now) path.now) }

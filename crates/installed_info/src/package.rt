@@ -1,4 +1,5 @@
-//! What is told of a package, and what it depends on, a line each.
+//! What is told of a package, and what it depends on, a line each. The rules stand in
+//! `docs/commands.md`, "`info`", the table of what each form prints.
 
 ghost use Rattle.adb_fields.specs.Repeated.{package_name};
 ghost use Rattle.adb_schema.specs.Views.{package_value, dependency_value};
@@ -61,7 +62,7 @@ fn push_info(
     }
 }
 
-// Adds what a package is.
+// Adds the section on what a package is.
 fn push_description(report: &mut Vec<u8>, pkg: &PackageView<'_>) -> Result<(), AllocError>
     ensures { OnOk result (report.new.items
         ≡ report.old.items ++ description_text (package_value pkg.now)) }
@@ -72,7 +73,7 @@ fn push_description(report: &mut Vec<u8>, pkg: &PackageView<'_>) -> Result<(), A
     Ok(())
 }
 
-// Adds the paths that a package lists.
+// Adds the section with the paths that a package lists.
 fn push_contents(report: &mut Vec<u8>, pkg: &PackageView<'_>) -> Result<(), AllocError>
     ensures { OnOk result (report.new.items
         ≡ report.old.items ++ contents_text (package_value pkg.now)) }
@@ -83,7 +84,7 @@ fn push_contents(report: &mut Vec<u8>, pkg: &PackageView<'_>) -> Result<(), Allo
     Ok(())
 }
 
-// Adds what a package depends on.
+// Adds the section with what a package depends on.
 fn push_depends(
     alloc: Global,
     report: &mut Vec<u8>,
@@ -98,7 +99,7 @@ fn push_depends(
     Ok(())
 }
 
-// Adds that a package owns a path.
+// Adds the line that tells that a package owns a path.
 fn push_owner(report: &mut Vec<u8>, path: &[u8], pkg: &PackageView<'_>) -> Result<(), AllocError>
     ensures { OnOk result (report.new.items
         ≡ report.old.items ++ owner_line path.now (package_value pkg.now)) }
@@ -110,7 +111,8 @@ fn push_owner(report: &mut Vec<u8>, path: &[u8], pkg: &PackageView<'_>) -> Resul
     Ok(())
 }
 
-// Adds a line that begins with a package's name and version.
+// Adds a line that begins with a package's name and version, `NAME-VERSION`, and ends with the
+// rest.
 fn push_heading(report: &mut Vec<u8>, pkg: &PackageView<'_>, rest: &[u8]) -> Result<(), AllocError>
     ensures { OnOk result (report.new.items ≡ report.old.items
         ++ report_line (name_version (package_name (package_value pkg.now))
@@ -124,7 +126,7 @@ fn push_heading(report: &mut Vec<u8>, pkg: &PackageView<'_>, rest: &[u8]) -> Res
     Ok(())
 }
 
-/// Adds the dependencies of a list.
+/// Adds the dependencies of a list, a line each. A list's entries count from 1.
 pub(crate) fn push_dependencies<'a>(
     alloc: Global,
     report: &mut Vec<u8>,
@@ -139,7 +141,8 @@ pub(crate) fn push_dependencies<'a>(
     Ok(())
 }
 
-// Adds an entry, unless it is no dependency.
+// Adds the line of an entry, unless the entry is no dependency: one that is a value out of the rule
+// says none.
 fn push_entry(alloc: Global, report: &mut Vec<u8>, entry: &DepView<'_>) -> Result<(), AllocError>
     ensures { OnOk result (report.new.items ≡ report.old.items
         ++ option_map_or (λ d. report_line (dep_text d))
@@ -151,7 +154,7 @@ fn push_entry(alloc: Global, report: &mut Vec<u8>, entry: &DepView<'_>) -> Resul
     }
 }
 
-// Adds a dependency.
+// Adds the line of a dependency, as its text is written.
 fn push_dependency(alloc: Global, report: &mut Vec<u8>, needed: &Dep<'_>) -> Result<(), AllocError>
     ensures { OnOk result (report.new.items
         ≡ report.old.items ++ report_line (dep_text (dependency needed.now))) }
@@ -160,7 +163,7 @@ fn push_dependency(alloc: Global, report: &mut Vec<u8>, needed: &Dep<'_>) -> Res
     push_line(report, text.as_bytes())
 }
 
-/// Adds a line.
+/// Adds a text and a line end.
 pub(crate) fn push_line(report: &mut Vec<u8>, text: &[u8]) -> Result<(), AllocError>
     ensures { OnOk result (report.new.items ≡ report.old.items ++ report_line text.now) }
 {

@@ -1,4 +1,6 @@
-//! The paths that a package lists, a line each.
+//! The paths that a package lists, a line each. The rule stands in `docs/commands.md`, "`info`",
+//! the row of `info -L`; the order of the paths is that of `docs/formats.md`,
+//! "The database after a change".
 ghost use Rattle.adb_fields.specs.ListValue.{list_value};
 ghost use Rattle.adb_fields.specs.Paths.{path_of};
 ghost use Rattle.adb_fields.specs.Repeated.{list_of, name_of, paths_under};
@@ -11,7 +13,7 @@ use crate::package::push_line;
 use adb_schema::{DirInfo, FileInfo, List};
 use std::alloc::AllocError;
 
-/// Adds the paths of the files of folders.
+/// Adds the paths of the files of a package's folders, in their order.
 pub(crate) fn push_paths<'a>(
     report: &mut Vec<u8>,
     folders: &List<'a, DirInfo<'a>>,
@@ -58,7 +60,7 @@ fn push_files<'a>(
     Ok(())
 }
 
-// Adds the path of a file of a folder.
+// Adds the path of a file of a folder; the root folder has the empty name, and no `/` follows it.
 fn push_path(report: &mut Vec<u8>, folder: &[u8], name: &[u8]) -> Result<(), AllocError>
     ensures { OnOk result (report.new.items
         ≡ report.old.items ++ report_line (path_of folder.now name.now)) }

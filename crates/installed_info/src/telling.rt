@@ -1,4 +1,5 @@
-//! What `info` tells, form by form, and what follows of it.
+//! What `info` tells, form by form, and what follows of it. The rules stand in `docs/commands.md`,
+//! "`info`".
 
 ghost use Rattle.db_core.specs.Seen.{packages_of};
 ghost use Rattle.installed_info.specs.Info.{form_info, info_of};
@@ -44,7 +45,7 @@ pub fn tell(
     tell_form(alloc, Form::of(command.flags()), command.operands(), db)
 }
 
-// What one form of it tells.
+// What one form of `info` tells, of a database and operands.
 fn tell_form(
     alloc: Global,
     form: Form,
@@ -66,23 +67,23 @@ fn tell_form(
     }
 }
 
-/// What `info` is asked for.
+/// What `info` is asked for: its form.
 #[derive(Clone, Copy)]
 pub(crate) enum Form {
-    /// What packages are; without words, which ones are installed.
+    /// What packages are; without operands, which ones are installed.
     Description,
-    /// The paths that they list.
+    /// The paths that packages list.
     Contents,
-    /// What they depend on.
+    /// What packages depend on.
     Depends,
-    /// Which of them are installed.
+    /// Which of the names given are installed.
     Installed,
     /// Which package owns a path.
     Owner,
 }
 
 impl Form {
-    /// The form that flags ask for.
+    /// The form that flags ask for, of which at most one is given.
     pub(crate) fn of(flags: Flags) -> Form
         ensures { result ≡ form_of flags }
     {
@@ -114,8 +115,10 @@ pub struct InfoDone {
 /// The only refusal is that what an operand asks for is not installed, and only `info -e` has one
 /// behind its report.
 pub fn info_refuses_an_operand()
+    // A refusal in the report's place.
     ensures refused { (c : CommandLine) (packages : List Plain) (refusal : Refusal)
         → info_of c packages ≡ Err refusal → IsOfAnOperand c.operands refusal }
+    // A refusal behind the report.
     ensures late { (c : CommandLine) (packages : List Plain) (done : InfoDone)
         (refusal : Refusal) → info_of c packages ≡ Ok done → done.late ≡ Some refusal
         → (c.flags.installed ≡ true) × IsOfAnOperand c.operands refusal }
@@ -124,9 +127,11 @@ pub fn info_refuses_an_operand()
 /// A package that owns a path is installed and lists it; where names stand once, as in a database,
 /// each package that lists a path owns it.
 pub fn owners_are_those_that_list_a_path()
+    // Of any packages.
     ensures owner { (packages : List Plain) (path : List ℕ) (pkg : Plain)
         → path_owner packages path ≡ Some pkg
         → IsIn pkg packages × IsIn path (paths_in pkg) }
+    // Of a database, whose first field has the packages.
     ensures lister { (database pkg : Plain) (path : List ℕ) → NamesStandOnce Idb database
         → IsIn pkg (entries_at 0 database) → IsIn path (paths_in pkg)
         → path_owner (entries_at 0 database) path ≡ Some pkg }
@@ -135,9 +140,11 @@ pub fn owners_are_those_that_list_a_path()
 /// A package that is asked for by a name is installed and has it; where names stand once, as in a
 /// database, each package is the one of its name.
 pub fn packages_have_the_names_that_ask_for_them()
+    // Of any packages.
     ensures asked { (packages : List Plain) (name : List ℕ) (pkg : Plain)
         → package_named packages name ≡ Some pkg
         → IsIn pkg packages × (package_name pkg ≡ name) }
+    // Of a database, whose first field has the packages.
     ensures named { (database pkg : Plain) → NamesStandOnce Idb database
         → IsIn pkg (entries_at 0 database)
         → package_named (entries_at 0 database) (package_name pkg) ≡ Some pkg }

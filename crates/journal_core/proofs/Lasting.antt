@@ -5,7 +5,8 @@ use Rattle.std.specs.Str.{bytes_eq}
 use Rattle.base_core.specs.Calls.{IfObservable, HasNow, Moves}
 use Rattle.base_core.specs.Crash.{Since}
 use Rattle.base_core.specs.Files.{NameMap, drop_name}
-use Rattle.base_core.specs.Tree.{TreeState, File, IsAmong, bytes_at, after_append, after_create, after_failed_append, after_remove, after_rename, after_sync, after_sync_names, change_at, files_of, move_at, remove_at, same_state, Anywhere, CanCreate, CanRename, HasName}
+use Rattle.base_core.specs.Lists.{IsIn}
+use Rattle.base_core.specs.Tree.{TreeState, File, bytes_at, after_append, after_create, after_failed_append, after_remove, after_rename, after_sync, after_sync_names, change_at, files_of, move_at, remove_at, same_state, Anywhere, CanCreate, CanRename, HasName}
 use Rattle.journal_core.specs.Kept.{IsInNoMap, NamesLastBut}
 use Rattle.journal_core.specs.Recovering.{IsReplayed}
 use Rattle.journal_core.specs.Recovery.{intent_name, stage_name}
@@ -21,8 +22,8 @@ pub some_none : (o : Option ℕ) → o ≡ None → IsSome o → ⊥
 some_none None none some = cc
 some_none (Some n) none some = cc
 
-no_more_maps : (older : List NameMap) (map : NameMap) → older ≡ [] → IsAmong map older → ⊥
-no_more_maps older map none among = subst (λ l. IsAmong map l) none among
+no_more_maps : (older : List NameMap) (map : NameMap) → older ≡ [] → IsIn map older → ⊥
+no_more_maps older map none among = subst (λ l. IsIn map l) none among
 
 or_left : (a b : Bool) → (a || b) ≡ false → a ≡ false
 or_left true b e = cc

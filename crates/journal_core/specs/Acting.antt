@@ -1,4 +1,6 @@
 -- The actions of a stage, one after another.
+-- The rules stand in `docs/crash-safety.md`, "A change of several files". Serves the contracts of
+-- `acting`, and those of `publishing`.
 use Rattle.std.specs.Prelude.{◌≡◌, ◌⊎◌, ◌<◌, ◌+◌, ◌^◌, ℕ, Bool, true, false, List, ◌∷◌, length, None, Result, OnOk, OnErr}
 use Rattle.base_core.specs.Calls.{IfObservable}
 use Rattle.base_core.specs.Files.{Files}
@@ -27,7 +29,8 @@ full_stage intent = record {
   acted = 0;
 }
 
--- a file that is there is moved, and nothing happens where none is there
+-- what the move of a file that may wait at a place makes of the tree: a file that is there is moved to
+-- its name, and nothing happens where none is there; after a fault the file was moved or not
 pub record MovesIfThere {T E : Type 0} (place name : List ℕ) (old new : List TreeState)
     (result : Result T E) : Type 0 where
   pub ok : OnOk result (IfObservable old (λ v.
@@ -35,12 +38,13 @@ pub record MovesIfThere {T E : Type 0} (place name : List ℕ) (old new : List T
   pub err : OnErr result (IfObservable old (λ v.
       (new ≡ old) ⊎ (new ≡ after_rename place name v ∷ old)))
 
--- the name of the next write's file
+-- the name under which the file of the next write waits; its number has at most 64 bits
 pub record IsNextName (name : List ℕ) (stage : Staging) : Type 0 where
   pub is : name ≡ stage_name (stage.staged + 1)
   pub few : stage.staged + 1 < 2 ^ 64
 
--- from the start on nothing has happened to the state, and the stage goes on
+-- a moment of the actions: from the start on nothing has happened to the state, and so many of the
+-- stage's actions are done
 pub record GoesWith (ignored : List ℕ → Bool) (files : Files) (stage : Staging)
     (start v : TreeState) : Type 0 where
   pub still : IsStill ignored start v

@@ -1,4 +1,6 @@
 -- How an intent comes to stand under its name.
+-- The rules stand in `docs/crash-safety.md`, "A change of several files", step 2 of the table. Serves
+-- the contracts of `publishing`.
 use Rattle.std.specs.Prelude.{◌≡◌, ◌≢◌, ◌≤◌, ◌<◌, ℕ, ◌+◌, ◌^◌, Bool, true, List, Some, None, length}
 use Rattle.base_core.specs.Files.{Files}
 use Rattle.base_core.specs.Tree.{TreeState, File, files_of}
@@ -9,7 +11,8 @@ use Rattle.journal_intent.specs.FreeNames.{HasFreeNames}
 use Rattle.journal_core.specs.Quiet.{IsQuiet}
 use Rattle.journal_core.specs.Staged.{Publishes}
 
--- a new file stands under the name, where none stood, and nothing else changed
+-- a moment at which a new file stands under a name, where none stood at the start, and nothing else has
+-- changed
 pub record IsWritten (place : List ℕ) (file : File) (start v : TreeState) : Type 0 where
   pub absent : start.names place ≡ None
   pub number : ℕ
@@ -19,8 +22,9 @@ pub record IsWritten (place : List ℕ) (file : File) (start v : TreeState) : Ty
   pub names : (q : List ℕ) → q ≢ place → v.names q ≡ start.names q
   pub kept : (q : List ℕ) (n : ℕ) → q ≢ place → v.names q ≡ Some n → v.files n ≡ start.files n
 
--- all waits: the intent as number 0, beside these files, which have neither it nor one under its
--- name; and the files of its writes
+-- a moment before the publishing at which all waits: the intent under the name with number 0, and the
+-- files of its writes; `base` are the files as read without the intent, and `made` is how many files
+-- were made before it
 pub record IsReady (intent : Intent) (base : Files) (made : ℕ) (v : TreeState) : Type 0 where
   -- no intent stands under its name
   pub absent : v.names intent_name ≡ None
@@ -39,11 +43,12 @@ pub record IsReady (intent : Intent) (base : Files) (made : ℕ) (v : TreeState)
   -- each file that waits for a write is synced; the writes are numbered from 1
   pub synced : (k n : ℕ) → 1 ≤ k → k < 1 + length intent.writes → v.names (stage_name k) ≡ Some n
       → (v.files n).synced ≡ true
-  -- its writes can be numbered, and its actions leave the intent and the stage alone
+  -- its writes can be numbered in 64 bits, and its actions leave the intent and the stage alone
   pub few : length intent.writes < 2 ^ 63
   pub free : HasFreeNames intent
 
--- a moment at which it moves to its name
+-- a moment of the publishing, at which the intent may move to its name: a crash leaves a state from
+-- before, or that of these files where an intent made since is read
 pub record IsEntering (ignored : List ℕ → Bool) (files : Files) (number : ℕ)
     (start v : TreeState) : Type 0 where
   pub orderly : IsOrderly (RestsOn ignored) v
@@ -51,7 +56,7 @@ pub record IsEntering (ignored : List ℕ → Bool) (files : Files) (number : �
   pub unpublished : (Publishes ignored files number v → ⊥) → IsQuiet ignored start v
   pub made : start.made ≤ v.made
 
--- one at which no crash undoes this
+-- a moment behind the publishing: the intent is read, and no crash undoes this
 pub record IsEntered (ignored : List ℕ → Bool) (files : Files) (made : ℕ)
     (v : TreeState) : Type 0 where
   pub settled : IsSettled ignored files v

@@ -1,4 +1,6 @@
 -- What a call of a stage keeps: the files under other names, and the names that no crash undoes.
+-- The rules stand in `docs/crash-safety.md`, "A change of several files", the list of what is proved,
+-- and in "Recovery".
 use Rattle.std.specs.Prelude.{◌≡◌, ◌≢◌, ◌⊎◌, ℕ, ◌+◌, true, false, List, [], length, None, Some, slice_get}
 use Rattle.base_core.specs.Crash.{Since}
 use Rattle.base_core.specs.Files.{Files, NameMap}
@@ -8,7 +10,7 @@ use Rattle.journal_intent.specs.FreeNames.{IsNoneOf}
 
 -- ---- the files as read
 
--- they stay as they are under each name but these
+-- the files as read stay as they are under each name but these
 abbrev pub KeepsFilesBut : (List ℕ → Type 0) → TreeState → TreeState → Type 0
 KeepsFilesBut these start v = (q : List ℕ) → (these q → ⊥) → files_of v q ≡ files_of start q
 
@@ -20,15 +22,15 @@ IsOfAction intent acted q =
     ⊎ ((i : ℕ) × (acted ≡ length intent.removals + i)
     × ((slice_get intent.writes i ≡ Some q) ⊎ (q ≡ stage_name (i + 1))))
 
--- they are these files once the intent that is read is done and gone
+-- the files as read are these files, once the intent that is read is done and gone
 abbrev pub RecoversTo : Files → TreeState → Type 0
 RecoversTo files v = recovered_files (files_of v) ≡ files
 
--- the intent's name, or one below the stage
+-- a name that waits: the intent's, or one below the stage
 abbrev pub IsWaitingName : List ℕ → Type 0
 IsWaitingName name = (name ≡ intent_name) ⊎ (is_staged name ≡ true)
 
--- the intent, and each file below the stage, is as it was or is gone
+-- the intent, and each file below the stage, is as it was at the start or is gone
 abbrev pub IsLessWaiting : TreeState → TreeState → Type 0
 IsLessWaiting start v = (q : List ℕ) → IsWaitingName q
     → (files_of v q ≡ None) ⊎ (files_of v q ≡ files_of start q)
@@ -38,12 +40,13 @@ abbrev pub HasOldOrNewBytes : Files → Files → TreeState → Type 0
 HasOldOrNewBytes old new v =
     (q : List ℕ) → (IsWaitingName q → ⊥) → (files_of v q ≡ old q) ⊎ (files_of v q ≡ new q)
 
--- so it stays at each moment since, whatever the old files are
+-- each name that does not wait has old bytes or new ones at each moment since, whatever the old files
+-- are, if so it was at this moment
 abbrev pub KeepsOldOrNewBytes : Files → TreeState → List TreeState → List TreeState → Type 0
 KeepsOldOrNewBytes files v old new =
     (base : Files) → HasOldOrNewBytes base files v → Since (HasOldOrNewBytes base files) old new
 
--- the intent stays, and each file that waits stays or goes
+-- the intent stays as it was at the start, and each file that waits stays or goes
 pub record KeepsIntent (start v : TreeState) : Type 0 where
   pub intent : v.names intent_name ≡ start.names intent_name
   pub waiting : IsLessWaiting start v
@@ -55,12 +58,13 @@ abbrev pub NamesLastBut : List (List ℕ) → TreeState → Type 0
 NamesLastBut these v =
     (map : NameMap) → IsMapOf v map → (q : List ℕ) → IsNoneOf q these → map q ≡ v.names q
 
--- so does each name but the intent's and those below the stage
+-- each name but the intent's and those below the stage leads in every map where it leads as read, so no
+-- crash undoes its change
 abbrev pub ShownNamesLast : TreeState → Type 0
 ShownNamesLast v = (map : NameMap) → IsMapOf v map → (q : List ℕ) → q ≢ intent_name
     → is_staged q ≡ false → map q ≡ v.names q
 
--- and each of these but some
+-- each name but the intent's, those below the stage and these leads in every map where it leads as read
 abbrev pub ShownNamesLastBut : List (List ℕ) → TreeState → Type 0
 ShownNamesLastBut these v = (map : NameMap) → IsMapOf v map → (q : List ℕ) → IsNoneOf q these
     → q ≢ intent_name → is_staged q ≡ false → map q ≡ v.names q

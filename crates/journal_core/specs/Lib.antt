@@ -1,3 +1,4 @@
+-- The definitions of this crate. Each file names the place of its rule.
 -- what the contract of `apk` says
 pub mod Recovery
 pub mod Replacing

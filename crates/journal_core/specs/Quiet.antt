@@ -1,11 +1,12 @@
 -- A moment at which nothing has happened to the state.
+-- The rules stand in `docs/crash-safety.md`, "What files stand for", the table, *quiet* and *still*.
 use Rattle.std.specs.Prelude.{◌≡◌, ◌≤◌, ℕ, Bool, List}
 use Rattle.base_core.specs.Crash.{IsImage, IsOrderly}
 use Rattle.base_core.specs.Files.{Files}
 use Rattle.base_core.specs.Tree.{TreeState, files_of}
 use Rattle.journal_core.specs.Recovery.{RestsOn, state_of}
 
--- each crash leaves a state that one at an earlier moment might have left
+-- each crash leaves a state that one at the start might have left, apart from the ignored names
 abbrev pub IsQuiet : (List ℕ → Bool) → TreeState → TreeState → Type 0
 IsQuiet ignored start v =
     (image : Files) → IsImage v image → (was : Files) × IsImage start was

@@ -1,14 +1,17 @@
 -- What is read while a whole file is replaced.
+-- The rule stands in `docs/crash-safety.md`, "A whole file replaced", the point of the files as read.
+-- Serves the contract of `replace` of `file_replacement`.
 use Rattle.std.specs.Prelude.{◌≡◌, ◌≢◌, ◌⊎◌, ℕ, List}
 use Rattle.base_core.specs.Files.{Files}
 use Rattle.base_core.specs.Tree.{TreeState, files_of}
 use Rattle.journal_core.specs.Replacing.{replaced_files_by, scratch_of}
 
--- the files are the old ones, apart from the scratch name, or they are the new ones
+-- the files `now` are the old ones, apart from the scratch name, or they are the new ones, with these
+-- bytes at the name
 abbrev pub IsOldOrReplaced : List ℕ → List ℕ → List ℕ → Files → Files → Type 0
 IsOldOrReplaced scratch name bytes old now =
     ((q : List ℕ) → q ≢ scratch → now q ≡ old q) ⊎ (now ≡ replaced_files_by scratch name bytes old)
 
--- the files as read are so
+-- the files as read are the old ones, apart from the scratch name of this name, or the new ones
 abbrev pub IsReadAs : List ℕ → List ℕ → Files → TreeState → Type 0
 IsReadAs name bytes old v = IsOldOrReplaced (scratch_of name) name bytes old (files_of v)

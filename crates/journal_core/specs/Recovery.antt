@@ -1,5 +1,6 @@
 -- What files stand for, also in the midst of a change: the intent that is still to be done, and the
 -- names that no state has.
+-- The rules stand in `docs/crash-safety.md`, "What files stand for", the table.
 use Rattle.std.specs.Prelude.{◌≡◌, ◌⊎◌, ◌≤◌, ◌<◌, ℕ, ◌+◌, Bool, false, ◌||◌, if◌then◌else◌, List, [], ◌∷◌, length, Option, Some, None}
 use Rattle.std.specs.Str.{bytes_eq}
 use Rattle.std.specs.List.{list_any}
@@ -11,7 +12,7 @@ unfoldable pub use Rattle.journal_intent.specs.Intent.{read_intent}
 
 -- ---- the intent
 
--- the intent in a file, if the file is there and is one
+-- the intent that a file under the intent's name spells, if the file is there and spells one
 abbrev pub intent_at : Option (List ℕ) → Option Intent
 intent_at None = None
 intent_at (Some file) = read_intent file
@@ -37,14 +38,14 @@ after_moves k [] files = files
 after_moves k (name ∷ names) files =
     after_moves (k + 1) names (move_if files (stage_name k) name (files (stage_name k)))
 
--- the files once all actions are done
+-- the files once all actions of an intent are done: first the removals, then the moves, from the
+-- waiting file 1 on
 abbrev pub after_actions : Intent → Files → Files
 after_actions intent files = after_moves 1 intent.writes (without_names intent.removals files)
 
 -- ---- what files stand for
 
--- the files behind a recovery: without an intent they stay; else its actions are done, and it is
--- gone
+-- the files once this intent is done and gone: without an intent they stay
 abbrev pub recovered_files_by : Option Intent → Files → Files
 recovered_files_by None files = files
 recovered_files_by (Some intent) files = drop_name (after_actions intent files) intent_name
@@ -83,7 +84,7 @@ abbrev pub IsSettled : (List ℕ → Bool) → Files → TreeState → Type 0
 IsSettled ignored files v =
     (image : Files) → IsImage v image → state_of ignored image ≡ state_of ignored files
 
--- each crash leaves a state that one at an earlier moment might have left, or that of these files
+-- each crash leaves a state that one at the start might have left, or that of these files
 abbrev pub IsOldOrNew : (List ℕ → Bool) → TreeState → Files → TreeState → Type 0
 IsOldOrNew ignored start files v = (image : Files) → IsImage v image
     → ((was : Files) × IsImage start was × (state_of ignored image ≡ state_of ignored was))

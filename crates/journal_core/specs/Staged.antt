@@ -1,5 +1,7 @@
 -- A stage: how new files come to wait, what the publishing of the intent does, the actions behind
 -- it, and what a recovery leaves.
+-- The rules stand in `docs/crash-safety.md`, "A change of several files", and for what a recovery
+-- leaves in "Recovery".
 use Rattle.std.specs.Prelude.{◌≡◌, ◌⊎◌, ◌≤◌, ◌<◌, ℕ, ◌+◌, Bool, true, false, if◌then◌else◌, List, [], ◌∷◌, ◌++◌, length, Option, Some, None, IsSome, slice_get}
 use Rattle.base_core.specs.Files.{Files, NameMap, IsFolderOf, put_name}
 use Rattle.base_core.specs.Tree.{TreeState, IsMapOf, files_by, files_of}
@@ -20,7 +22,7 @@ pub record Staging : Type 0 where
   pub published : Bool
   pub acted : ℕ
 
--- the removals and the writes
+-- how many actions an intent has: its removals and its writes
 abbrev pub action_count : Intent → ℕ
 action_count intent = length intent.removals + length intent.writes
 
@@ -34,20 +36,20 @@ new_stage removals writes = record {
   acted = 0;
 }
 
--- the intent is there and is no intent container, for this cause
+-- what stands under the intent's name is no intent container, for this cause
 abbrev pub IsIntentFault : Files → Cause → Type 0
 IsIntentFault files cause = (file : List ℕ) × (files intent_name ≡ Some file)
     × (first_fault IntentTable file ≡ Some cause)
 
 -- ---- staging
 
--- files with these bytes waiting, from number k on
+-- the files with more files that wait, which have these bytes, the first of them as number k
 abbrev pub with_staged : ℕ → List (List ℕ) → Files → Files
 with_staged k [] files = files
 with_staged k (bytes ∷ contents) files =
     with_staged (k + 1) contents (put_name files (stage_name k) bytes)
 
--- and with those of the file that is begun, as number k
+-- the files with one more that waits as number k, where there are bytes for it: the file that is begun
 abbrev pub with_begun : ℕ → Option (List ℕ) → Files → Files
 with_begun k None files = files
 with_begun k (Some bytes) files = put_name files (stage_name k) bytes
@@ -99,7 +101,7 @@ pub record IsActing (stage : Staging) (files : Files) (v : TreeState) : Type 0 w
 abbrev pub unstaged_files : Files → Files
 unstaged_files files q = if is_staged q then None else recovered_files files q
 
--- nothing waits
+-- nothing waits in a map or in files: no name below the stage leads anywhere
 abbrev pub IsEmptyStage : {X : Type 0} → (List ℕ → Option X) → Type 0
 IsEmptyStage files = (q : List ℕ) → is_staged q ≡ true → files q ≡ None
 
@@ -114,7 +116,8 @@ Publishes ignored files made v =
     × (made ≤ n)
     × (state_of ignored (files_of v) ≡ state_of ignored files)
 
--- so it was at one of the moments
+-- at one of these moments an intent that was made as file number `made` or later was read and stood for
+-- these files
 abbrev pub HasPublished : (List ℕ → Bool) → Files → ℕ → List TreeState → Type 0
 HasPublished ignored files made [] = ⊥
 HasPublished ignored files made (v ∷ earlier) =
@@ -130,7 +133,8 @@ pub record IsOnTheWay (ignored : List ℕ → Bool) (files : Files) (start : Tre
       → IsQuiet ignored start v
   pub made : start.made ≤ v.made
 
--- each moment since is one, and by one of them such an intent was read
+-- a run so far that leads to these files: each of its moments is on the way to them, and by one of them
+-- an intent of the run that stands for them was read
 pub record PublishedBy (ignored : List ℕ → Bool) (files : Files) (start : TreeState)
     (old new : List TreeState) : Type 0 where
   pub added : List TreeState
@@ -140,7 +144,8 @@ pub record PublishedBy (ignored : List ℕ → Bool) (files : Files) (start : Tr
 
 -- ---- room
 
--- a name that is present, or that a stage may make so
+-- a name that is present in these files, or under which the intent or a file may come to stand while
+-- they wait
 abbrev pub MayBePresent : Files → List ℕ → Type 0
 MayBePresent files q =
     IsSome (files q) ⊎ ((q ≡ intent_name) ⊎ ((k : ℕ) × (q ≡ stage_name k)))
@@ -149,7 +154,7 @@ MayBePresent files q =
 pub record HasRoomBeside (files : Files) : Type 0 where
   pub folders : (p q : List ℕ) → IsFolderOf p q → MayBePresent files p → MayBePresent files q → ⊥
 
--- and nothing waits yet
+-- nothing waits yet, and the files stay folder-like with the intent and all that may wait
 pub record HasRoomToStage (files : Files) : Type 0 where
   pub empty : IsEmptyStage files
   pub beside : HasRoomBeside files

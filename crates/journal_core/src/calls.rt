@@ -1,5 +1,7 @@
 //! The calls of a tree that change it, each under a name of its own, so that a caller's proof can
 //! cite their clauses.
+//! What each call does stands in `docs/crash-safety.md`, "What each call does"; the contract is
+//! that of the same call of the trait `Tree` of `base_core`.
 ghost use Rattle.base_core.specs.Calls.{IsCounted, Moves};
 ghost use Rattle.base_core.specs.Tree.{after_append, after_create, after_failed_append, after_remove, after_rename, after_sync, after_sync_names, same_state, Anywhere, CanCreate, CanRename, HasName};
 
@@ -15,7 +17,7 @@ pub fn remove<T: Tree>(tree: &mut T, name: &Name) -> Result<(), Disk>
     tree.remove(name)
 }
 
-/// Makes an empty file.
+/// Makes an empty file under a name that is absent.
 pub fn create<T: Tree>(tree: &mut T, name: &Name) -> Result<(), Disk>
     ensures moves { Moves (CanCreate name.now) (after_create name.now) (after_create name.now)
         (T.history tree.old) (T.history tree.new) result }
@@ -25,7 +27,7 @@ pub fn create<T: Tree>(tree: &mut T, name: &Name) -> Result<(), Disk>
     tree.create(name)
 }
 
-/// Adds the bytes at the file's end.
+/// Adds the bytes at the end of the file of the name.
 pub fn append<T: Tree>(tree: &mut T, name: &Name, bytes: &[u8]) -> Result<(), Disk>
     ensures moves { Moves (HasName name.now) (after_append name.now bytes.now)
         (after_failed_append name.now)
@@ -36,7 +38,7 @@ pub fn append<T: Tree>(tree: &mut T, name: &Name, bytes: &[u8]) -> Result<(), Di
     tree.append(name, bytes)
 }
 
-/// Makes the file's bytes last.
+/// Makes the bytes of the file last, so that a crash leaves them.
 pub fn sync_file<T: Tree>(tree: &mut T, name: &Name) -> Result<(), Disk>
     ensures moves { Moves (HasName name.now) (after_sync name.now) same_state
         (T.history tree.old) (T.history tree.new) result }
@@ -56,7 +58,7 @@ pub fn rename<T: Tree>(tree: &mut T, from: &Name, to: &Name) -> Result<(), Disk>
     tree.rename(from, to)
 }
 
-/// Makes the names last.
+/// Makes all names last, so that a crash undoes no change of them.
 pub fn sync_all_names<T: Tree>(tree: &mut T) -> Result<(), Disk>
     ensures moves { Moves Anywhere after_sync_names same_state (T.history tree.old)
         (T.history tree.new) result }

@@ -1,4 +1,5 @@
 //! A stage: new files wait under names of their own until one step lets all of them count.
+//! The rules stand in `docs/crash-safety.md`, "A change of several files".
 ghost use Rattle.std.specs.Prelude.{◌≡◌, ◌⊎◌, ◌≤◌, ◌<◌, ◌+◌, ◌++◌, ◌∷◌, [], ◌^◌, ℕ, Bool, true, false, List, Some, None, length, IfOk, OnOk, OnErr, IsErrOf, IsSome, nat_lt};
 ghost use Rattle.adb_schema.specs.Soundness.{first_fault};
 ghost use Rattle.adb_tables.specs.declared.tables.Which.TheVariants.{Intent as IntentTable};
@@ -96,7 +97,8 @@ impl Stage {
         })
     }
 
-    /// The stage whose intent was found in a file, and is published.
+    /// The stage whose intent was found in a file: all its files were staged, it is published, and
+    /// none of its actions counts as done, since each may be done twice.
     pub fn found(alloc: Global, file: Vec<u8>) -> Result<Stage, RecoverFault>
         ensures intent { IfOk result (λ stage. read_intent file.items ≡ Some stage.intent) }
         ensures published { IfOk result (λ stage. stage.published ≡ true) }
@@ -121,32 +123,37 @@ impl Stage {
     pub(crate) fn has_more(&self) -> bool
         ensures { result ≡ nat_lt self.now.acted (action_count self.now.intent) }
     {
+        // A law that the proof needs; it computes nothing.
         self.intent.names_are_free();
         self.acted < self.intent.removals_len() + self.intent.writes_len()
     }
 
-    /// The names of its actions are free, and no write stands twice.
+    /// The names of the stage's actions are free, and no write stands twice. There are fewer than
+    /// 2^63 actions, so that their count and the number behind it have 64 bits.
     pub fn names_are_free(&self)
         ensures free { HasFreeNames self.now.intent }
         ensures few { action_count self.now.intent < 2 ^ 63 }
     {
+        // A law that the proof needs; it computes nothing.
         self.intent.names_are_free();
     }
 
-    /// The name of the next write's file.
+    /// The name under which the file of the next write waits: the writes are numbered from 1.
     fn next_name(&self) -> &Name
         requires { self.now.staged < length self.now.intent.writes }
         ensures { IsNextName result.now self.now }
     {
+        // A law that the proof needs; it computes nothing.
         self.intent.names_are_free();
         self.intent.stage_name(self.staged + 1)
     }
 
-    /// The name of the file that is begun.
+    /// The name under which the file that is begun waits.
     fn open_name(&self) -> &Name
         requires { self.now.is_open ≡ true }
         ensures { IsNextName result.now self.now }
     {
+        // A law that the proof needs; it computes nothing.
         self.intent.names_are_free();
         self.intent.stage_name(self.staged + 1)
     }
@@ -157,6 +164,7 @@ impl Stage {
         requires more { self.old.staged < length self.old.intent.writes }
 
         // From an orderly tree on, each moment is orderly, and nothing has happened to the state.
+        // Once it has answered Ok, an empty file waits for the next write.
         ensures moments { IfObservable (T.history tree.old) (λ v. (ignored : List ℕ → Bool)
             (contents : List (List ℕ)) (base : Files) → IsOrderly (RestsOn ignored) v
             → IsStaged self.old contents None base v
@@ -176,13 +184,19 @@ impl Stage {
             (T.history tree.old) (T.history tree.new)) }
         ensures view { OnOk result (self.new ≡ record self.old { is_open = true }) }
         ensures err { OnErr result (self.new ≡ self.old) }
+
+        // No count of faults falls; a fault of the tree is answered only where that count rose, and
+        // Ok only where it did not.
         ensures goes_on { GoesOn (T.counts tree.old) (T.counts tree.new) }
         ensures cause { OnErr result (HasCause (T.counts tree.old) (T.counts tree.new)) }
         ensures kept { OnOk result (IsNoFault (T.counts tree.old) (T.counts tree.new)) }
+
+        // Where there is room for the stage, no call is a misuse.
         ensures proper { IfObservable (T.history tree.old) (λ v. (contents : List (List ℕ))
             (base : Files) → IsStaged self.old contents None base v → HasRoomToStage base
             → (T.counts tree.new).misuses ≡ (T.counts tree.old).misuses) }
     {
+        // Laws that the proof needs; they compute nothing.
         a_crash_may_leave_the_files_as_read();
         order_outlasts_a_crash::<Journal>();
         create(tree, self.next_name())?;
@@ -193,6 +207,9 @@ impl Stage {
     /// Adds bytes to the file that is begun.
     pub fn file_append<T: Tree>(&mut self, tree: &mut T, piece: &[u8]) -> Result<(), Disk>
         requires { self.old.is_open ≡ true }
+
+        // From an orderly tree on, each moment is orderly, and nothing has happened to the state.
+        // Once it has answered Ok, the piece stands behind the bytes so far.
         ensures moments { IfObservable (T.history tree.old) (λ v. (ignored : List ℕ → Bool)
             (contents : List (List ℕ)) (so_far : List ℕ) (base : Files)
             → IsOrderly (RestsOn ignored) v → IsStaged self.old contents (Some so_far) base v
@@ -212,13 +229,19 @@ impl Stage {
             Since (KeepsMapsBut [] v) (T.history tree.old) (T.history tree.new)) }
         ensures view { OnOk result (self.new ≡ self.old) }
         ensures err { OnErr result (self.new ≡ self.old) }
+
+        // No count of faults falls; a fault of the tree is answered only where that count rose, and
+        // Ok only where it did not.
         ensures goes_on { GoesOn (T.counts tree.old) (T.counts tree.new) }
         ensures cause { OnErr result (HasCause (T.counts tree.old) (T.counts tree.new)) }
         ensures kept { OnOk result (IsNoFault (T.counts tree.old) (T.counts tree.new)) }
+
+        // No call is a misuse.
         ensures proper { IfObservable (T.history tree.old) (λ v. (contents : List (List ℕ))
             (so_far : List ℕ) (base : Files) → IsStaged self.old contents (Some so_far) base v
             → (T.counts tree.new).misuses ≡ (T.counts tree.old).misuses) }
     {
+        // Laws that the proof needs; they compute nothing.
         a_crash_may_leave_the_files_as_read();
         order_outlasts_a_crash::<Journal>();
         append(tree, self.open_name(), piece)
@@ -227,6 +250,9 @@ impl Stage {
     /// The file that is begun is whole: its bytes are made to last.
     pub fn file_end<T: Tree>(&mut self, tree: &mut T) -> Result<(), Disk>
         requires { self.old.is_open ≡ true }
+
+        // From an orderly tree on, each moment is orderly, and nothing has happened to the state.
+        // Once it has answered Ok, the bytes so far wait for this write, synced.
         ensures moments { IfObservable (T.history tree.old) (λ v. (ignored : List ℕ → Bool)
             (contents : List (List ℕ)) (so_far : List ℕ) (base : Files)
             → IsOrderly (RestsOn ignored) v → IsStaged self.old contents (Some so_far) base v
@@ -235,6 +261,9 @@ impl Stage {
             (so_far : List ℕ) (base : Files) → IsStaged self.old contents (Some so_far) base v
             → OnOk result (HasNow (T.history tree.new)
             (IsStaged self.new (contents ++ so_far ∷ []) None base))) }
+
+        // At each moment, whatever it answers, the files as read stay as they are, and no name
+        // changes.
         ensures others { IfObservable (T.history tree.old) (λ v.
             Since (λ w. files_of w ≡ files_of v) (T.history tree.old) (T.history tree.new)) }
         ensures maps { IfObservable (T.history tree.old) (λ v.
@@ -242,13 +271,19 @@ impl Stage {
         ensures view { OnOk result
             (self.new ≡ record self.old { staged = self.old.staged + 1; is_open = false }) }
         ensures err { OnErr result (self.new ≡ self.old) }
+
+        // No count of faults falls; a fault of the tree is answered only where that count rose, and
+        // Ok only where it did not.
         ensures goes_on { GoesOn (T.counts tree.old) (T.counts tree.new) }
         ensures cause { OnErr result (HasCause (T.counts tree.old) (T.counts tree.new)) }
         ensures kept { OnOk result (IsNoFault (T.counts tree.old) (T.counts tree.new)) }
+
+        // No call is a misuse.
         ensures proper { IfObservable (T.history tree.old) (λ v. (contents : List (List ℕ))
             (so_far : List ℕ) (base : Files) → IsStaged self.old contents (Some so_far) base v
             → (T.counts tree.new).misuses ≡ (T.counts tree.old).misuses) }
     {
+        // Laws that the proof needs; they compute nothing.
         a_crash_may_leave_the_files_as_read();
         order_outlasts_a_crash::<Journal>();
         sync_file(tree, self.open_name())?;
@@ -313,9 +348,14 @@ impl Stage {
             (HasNow (T.history tree.new) (KeepsFilesBut (λ q. q ≡ intent_name) v))) }
         ensures view { OnOk result (self.new ≡ record self.old { published = true; acted = 0 }) }
         ensures err { OnErr result (self.new ≡ self.old) }
+
+        // No count of faults falls; a fault of the tree is answered only where that count rose, and
+        // Ok only where it did not.
         ensures goes_on { GoesOn (T.counts tree.old) (T.counts tree.new) }
         ensures cause { OnErr result (HasCause (T.counts tree.old) (T.counts tree.new)) }
         ensures kept { OnOk result (IsNoFault (T.counts tree.old) (T.counts tree.new)) }
+
+        // Where there is room for the stage, no call is a misuse.
         ensures proper { IfObservable (T.history tree.old) (λ v. (contents : List (List ℕ))
             (base : Files) → IsStaged self.old contents None base v → HasRoomToStage base
             → (T.counts tree.new).misuses ≡ (T.counts tree.old).misuses) }
@@ -329,6 +369,9 @@ impl Stage {
     /// Does the next action; true exactly where one was left.
     pub fn apply_one<T: Tree>(&mut self, tree: &mut T) -> Result<bool, Disk>
         requires { self.old.published ≡ true }
+
+        // From an orderly tree on, each moment is orderly, and nothing has happened to the state.
+        // Once it has answered Ok, the stage's count of actions done is true of the tree.
         ensures moments { IfObservable (T.history tree.old) (λ v. (ignored : List ℕ → Bool)
             (files : Files) → IsOrderly (RestsOn ignored) v → IsActing self.old files v
             → Since (IsStill ignored v) (T.history tree.old) (T.history tree.new)) }
@@ -353,6 +396,9 @@ impl Stage {
         // Whatever it answers, it touches no other name than those of its action.
         ensures others { IfObservable (T.history tree.old) (λ v. HasNow (T.history tree.new)
             (KeepsFilesBut (IsOfAction self.old.intent self.old.acted) v)) }
+
+        // True is answered exactly where an action was left, which then counts as done; where none
+        // was left no call is made. A call that fails leaves the stage as it was.
         ensures answer { IfOk result
             (λ was_left. was_left ≡ nat_lt self.old.acted (action_count self.old.intent)) }
         ensures more { self.old.acted < action_count self.old.intent
@@ -360,9 +406,15 @@ impl Stage {
         ensures none_left { action_count self.old.intent ≤ self.old.acted
             → OnOk result (self.new ≡ self.old) × (tree.new ≡ tree.old) }
         ensures err { OnErr result (self.new ≡ self.old) }
+
+        // No count of faults falls; a fault of the tree is answered only where that count rose, and
+        // Ok only where it did not.
         ensures goes_on { GoesOn (T.counts tree.old) (T.counts tree.new) }
         ensures cause { OnErr result (HasCause (T.counts tree.old) (T.counts tree.new)) }
         ensures kept { OnOk result (IsNoFault (T.counts tree.old) (T.counts tree.new)) }
+
+        // Where the files of the actions done leave room for the intent and all that may wait, no
+        // call is a misuse.
         ensures proper { IfObservable (T.history tree.old) (λ v. (files : Files)
             → IsActing self.old files v → HasRoomBeside files
             → (T.counts tree.new).misuses ≡ (T.counts tree.old).misuses) }
@@ -377,6 +429,10 @@ impl Stage {
     pub fn finish<T: Tree>(&mut self, tree: &mut T) -> Result<(), Disk>
         requires published { self.old.published ≡ true }
         requires all { self.old.acted ≡ action_count self.old.intent }
+
+        // From an orderly tree on, each moment is orderly, and nothing has happened to the state.
+        // Once it has answered Ok, each crash leaves the state of the actions done, the files as
+        // read are these, and no intent is read.
         ensures moments { IfObservable (T.history tree.old) (λ v. (ignored : List ℕ → Bool)
             (files : Files) → IsOrderly (RestsOn ignored) v → IsActing self.old files v
             → Since (IsStill ignored v) (T.history tree.old) (T.history tree.new)) }
@@ -398,6 +454,9 @@ impl Stage {
             → Since (λ w. w.names intent_name ≡ None → NamesLastBut (intent_name ∷ []) w)
             (T.history tree.old) (T.history tree.new)) }
         ensures gone { OnOk result (IfObservable (T.history tree.new) (IsInNoMap intent_name)) }
+
+        // At each moment the intent and what waits are as they were or are gone, and no other name
+        // has changed; the stage stays as it is, whatever it answers.
         ensures waiting { IfObservable (T.history tree.old) (λ v.
             Since (IsLessWaiting v) (T.history tree.old) (T.history tree.new)) }
         ensures others { IfObservable (T.history tree.old) (λ v. HasNow (T.history tree.new)
@@ -406,12 +465,18 @@ impl Stage {
             Since (KeepsFilesBut (λ q. q ≡ intent_name) v)
             (T.history tree.old) (T.history tree.new)) }
         ensures view { self.new ≡ self.old }
+
+        // No count of faults falls; a fault of the tree is answered only where that count rose, and
+        // Ok only where it did not.
         ensures goes_on { GoesOn (T.counts tree.old) (T.counts tree.new) }
         ensures cause { OnErr result (HasCause (T.counts tree.old) (T.counts tree.new)) }
         ensures kept { OnOk result (IsNoFault (T.counts tree.old) (T.counts tree.new)) }
+
+        // No call is a misuse.
         ensures proper { IfObservable (T.history tree.old)
             (λ v. (T.counts tree.new).misuses ≡ (T.counts tree.old).misuses) }
     {
+        // Laws that the proof needs; they compute nothing.
         a_crash_may_leave_the_files_as_read();
         order_outlasts_a_crash::<Journal>();
         sync_all_names(tree)?;
@@ -420,7 +485,8 @@ impl Stage {
     }
 }
 
-/// Does all actions that are left.
+/// Does all actions of a published stage that are left. The clauses are those of `apply_one`, once
+/// for all of them.
 pub fn apply_all<T: Tree>(stage: &mut Stage, tree: &mut T) -> Result<(), Disk>
     requires published { stage.old.published ≡ true }
     requires within { stage.old.acted ≤ action_count stage.old.intent }
@@ -440,9 +506,15 @@ pub fn apply_all<T: Tree>(stage: &mut Stage, tree: &mut T) -> Result<(), Disk>
         Since (KeepsIntent v) (T.history tree.old) (T.history tree.new)) }
     ensures all { OnOk result (stage.new.acted ≡ action_count stage.new.intent) }
     ensures published { OnOk result (stage.new.published ≡ true) }
+
+    // No count of faults falls; a fault of the tree is answered only where that count rose, and Ok
+    // only where it did not.
     ensures goes_on { GoesOn (T.counts tree.old) (T.counts tree.new) }
     ensures cause { OnErr result (HasCause (T.counts tree.old) (T.counts tree.new)) }
     ensures kept { OnOk result (IsNoFault (T.counts tree.old) (T.counts tree.new)) }
+
+    // Where the files of the actions done leave room for the intent and all that may wait, no call
+    // is a misuse.
     ensures proper { IfObservable (T.history tree.old) (λ v. (files : Files)
         → IsActing stage.old files v → HasRoomBeside files
         → (T.counts tree.new).misuses ≡ (T.counts tree.old).misuses) }

@@ -1,4 +1,6 @@
 -- What the actions of an intent need of its names.
+-- The rules stand in `docs/formats.md`, "The texts", the row of 1001 and 1002, and "Names that stand
+-- twice"; what they are for in `docs/crash-safety.md`, "A change of several files".
 use Rattle.std.specs.Prelude.{◌≡◌, ◌⊎◌, ◌≢◌, ℕ, zero, suc, ◌+◌, true, false, List, [], ◌∷◌}
 use Rattle.std.specs.Str.{bytes_eq}
 use Rattle.std.specs.List.{list_any}
@@ -15,27 +17,27 @@ IsOneOf name names = list_any (bytes_eq name) names ≡ true
 abbrev pub IsNoneOf : List ℕ → List (List ℕ) → Type 0
 IsNoneOf name names = list_any (bytes_eq name) names ≡ false
 
--- neither the intent's own name nor one below the stage, so not that of a waiting file either
+-- a free name: neither the intent's own nor one below the stage, so not that of a waiting file either
 pub record IsFreeName (name : List ℕ) : Type 0 where
   pub no_intent : name ≢ intent_name
   pub unstaged : is_staged name ≡ false
   pub no_place : (k : ℕ) → name ≢ stage_name k
 
--- the intent's own name, or that of a waiting file
+-- a taken name: the intent's own, or that of a waiting file
 abbrev pub IsTakenName : List ℕ → Type 0
 IsTakenName name = (name ≡ intent_name) ⊎ ((k : ℕ) × (name ≡ stage_name k))
 
--- each name is free
+-- each of these names is free
 abbrev pub AreFreeNames : List (List ℕ) → Type 0
 AreFreeNames [] = Unit {0}
 AreFreeNames (name ∷ names) = IsFreeName name × AreFreeNames names
 
--- each name once
+-- each of these names stands once among them
 abbrev pub AreOnce : List (List ℕ) → Type 0
 AreOnce [] = Unit {0}
 AreOnce (name ∷ names) = IsNoneOf name names × AreOnce names
 
--- its names are free, no write stands twice, and none is removed
+-- the names of an intent are free, no write stands twice, and no name is both written and removed
 pub record HasFreeNames (intent : Intent) : Type 0 where
   pub removals : AreFreeNames intent.removals
   pub writes : AreFreeNames intent.writes
@@ -47,7 +49,7 @@ abbrev pub stage_names_from : ℕ → ℕ → List (List ℕ)
 stage_names_from k zero = []
 stage_names_from k (suc n) = stage_name k ∷ stage_names_from (k + 1) n
 
--- each text is a name
+-- each of these values is a text that is a name
 abbrev pub AllNamed : Plains → Type 0
 AllNamed none = Unit {0}
 AllNamed (more v vs) = IsName (text_in v) × AllNamed vs

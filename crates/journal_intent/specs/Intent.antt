@@ -1,5 +1,7 @@
 -- The intent: what a change of several files has still to do, the file that says so, and the names
 -- under which new files wait.
+-- The rules stand in `docs/crash-safety.md`, "What files stand for" and "A change of several files",
+-- the table of names; of the container in `docs/formats.md`, "Schemas", table 10.
 use Rattle.std.specs.Prelude.{◌≡◌, ℕ, Bool, List, ◌++◌, map, Option, Some, None, codes, decimal, nat_eq, true, false, AllPairs}
 use Rattle.std.specs.Str.{bytes_eq}
 use Rattle.std.specs.List.{starts_with, All}
@@ -14,11 +16,11 @@ use Rattle.adb_tables.specs.declared.tables.Which.TheVariants.{Intent as IntentT
 
 -- ---- names
 
--- the file that says what is left to do
+-- the name of the intent: the file that says what a change has still to do
 abbrev pub intent_name : List ℕ
 intent_name = codes "lib/apk/intent"
 
--- where new files wait for their names
+-- the stage's folder, in which new files wait for their names
 abbrev pub stage_folder : List ℕ
 stage_folder = codes "lib/apk/stage"
 
@@ -32,7 +34,8 @@ stage_name k = stage_folder ++ (codes "/" ++ decimal k)
 
 -- ---- the intent
 
--- the names to be removed, and the names whose new files wait as number 1, 2, and so on
+-- an intent: the names to be removed, and the names to be written, whose new files wait as number 1, 2,
+-- and so on
 pub record Intent : Type 0 where
   pub removals : List (List ℕ)
   pub writes : List (List ℕ)
@@ -54,7 +57,8 @@ unfoldable pub read_intent : List ℕ → Option Intent
 read_intent file = intent_unless (first_fault IntentTable file)
     (root_value IntentTable (payload_in file))
 
--- each name is one that a change may have, and none stands twice
+-- the names of a change: each is one that a change may have, which excludes the intent's and those
+-- below the stage, and none stands twice
 pub record AreChangeNames (names : List (List ℕ)) : Type 0 where
   pub each : All (λ name. is_change_name name ≡ true) names
   pub once : AllPairs (λ a b. bytes_eq a b ≡ false) names

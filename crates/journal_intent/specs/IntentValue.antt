@@ -1,9 +1,11 @@
 -- The plain value of an intent, which its container holds.
+-- The rule stands in `docs/formats.md`, "Schemas", table 10.
 use Rattle.std.specs.Prelude.{ℕ, List}
 use Rattle.adb_view.specs.Plain.{Plain, Plains, none, more, arr_value, obj_value, text_plains}
 use Rattle.journal_intent.specs.Intent.{Intent}
 
--- the array of the removals, and behind it that of the writes
+-- the plain value of an intent: an object of the array of its removals, and behind it that of its
+-- writes
 abbrev pub value_of_intent : Intent → Plain
 value_of_intent intent =
     obj_value (more (arr_value (text_plains intent.removals))

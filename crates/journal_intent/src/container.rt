@@ -1,4 +1,5 @@
-//! The container of an intent is written.
+//! The container of an intent is written, and is read back as this intent. The rules stand in
+//! `docs/formats.md`, "Schemas", table 10, and "Canonical layout".
 ghost use Rattle.std.specs.Prelude.{◌≡◌, ◌++◌, ◌<◌, ◌+◌, ◌^◌, ℕ, List, Some, None, length, IfOk, OnOk, IsErrOf};
 ghost use Rattle.adb_schema.specs.declared.read.TheConstants.{INTENT_WORD};
 ghost use Rattle.adb_values.specs.Drafts.{draft_with};
@@ -36,8 +37,10 @@ pub(crate) fn intent_file(
         ≡ Some (bytes, values) }
     ensures fits { OnOk result
         (overflow_of (value_of_intent (intent_of_lists removals.now writes.now)) ≡ None) }
+    // The count of all names, and the number behind it, have 64 bits.
     ensures few { OnOk result (length removals.now + length writes.now < 2 ^ 63) }
 {
+    // A law that the proof needs; it computes nothing.
     an_intent_is_read_back();
     let mut draft = Draft::new(alloc);
     draft.open_list()?;
@@ -49,8 +52,8 @@ pub(crate) fn intent_file(
     Ok(file)
 }
 
-/// The container of an intent's canonical payload is read as this intent, and has not too many
-/// names.
+/// The container of an intent's canonical payload is read as this intent, and the intent has fewer
+/// than 2^63 names.
 fn an_intent_is_read_back()
     ensures read { (removals writes : List (List ℕ)) → AreChangeNames (removals ++ writes)
         → overflow_of (value_of_intent (intent_of_lists removals writes)) ≡ None
@@ -61,16 +64,18 @@ fn an_intent_is_read_back()
         → overflow_of (value_of_intent (intent_of_lists removals writes)) ≡ None
         → length removals + length writes < 2 ^ 63 }
 {
+    // Laws that the proof needs; they compute nothing.
     a_file_is_spelled();
     what_is_spelled_is_read();
     a_value_overflows_exactly_past_a_limit();
+    // Laws that the proof needs; they compute nothing.
     no_text_is_bad_where_each_keeps_its_rule();
     no_name_is_repeated_where_each_stands_once();
     a_container_of_a_good_value_is_sound();
     what_a_container_is_made_of_is_read_back();
 }
 
-/// Writes an array of names.
+/// Writes names into a draft, as an array of texts.
 fn write_names(draft: &mut Draft, names: &Names) -> Result<(), AllocError>
     ensures { OnOk result
         (draft.new ≡ draft_with (arr_value (text_plains names.now)) draft.old) }
@@ -82,7 +87,7 @@ fn write_names(draft: &mut Draft, names: &Names) -> Result<(), AllocError>
     draft.close_array()
 }
 
-/// Equal names.
+/// A copy of names.
 pub(crate) fn copy_of_names(alloc: Global, names: &Names) -> Result<Names, AllocError>
     ensures { IfOk result (λ copy. copy ≡ names.now) }
 {

@@ -1,4 +1,5 @@
 //! The lists of an intent are read from its container.
+//! The rules stand in `docs/formats.md`, "Schemas", table 10, and "Tests of a container".
 ghost use Rattle.std.specs.Prelude.{◌≡◌, ◌<◌, ◌+◌, ◌^◌, Some, None, length, map, IfOk, IfErr, OnOk};
 ghost use Rattle.adb_fields.specs.ListValue.{list_value};
 ghost use Rattle.adb_fields.specs.Repeated.{list_of};
@@ -18,7 +19,9 @@ use std::alloc::{AllocError, Global};
 /// The two lists of an intent.
 #[derive(Drop)]
 pub(crate) struct IntentLists {
+    /// The names to be removed.
     pub(crate) removals: Names,
+    /// The names to be written.
     pub(crate) writes: Names,
 }
 
@@ -31,10 +34,12 @@ pub(crate) struct IntentLists {
 pub(crate) fn read_lists(alloc: Global, file: &[u8]) -> Result<IntentLists, ReadFault>
     ensures intent { IfOk result
         (λ lists. read_intent file.now ≡ Some (intent_of_lists lists.removals lists.writes)) }
+    // The count of all names, and the number behind it, have 64 bits.
     ensures few { IfOk result (λ lists. length lists.removals + length lists.writes < 2 ^ 63) }
     ensures bad { IfErr result (λ fault. IsReadFault fault (first_fault IntentTable file.now)) }
     ensures good { OnOk result (first_fault IntentTable file.now ≡ None) }
 {
+    // A law that the proof needs; it computes nothing.
     sound_containers_hold_sound_values();
     let checked = read_adb(alloc, file, Which::Intent)?;
     let intent = checked.intent();
@@ -43,11 +48,12 @@ pub(crate) fn read_lists(alloc: Global, file: &[u8]) -> Result<IntentLists, Read
     Ok(IntentLists { removals, writes })
 }
 
-/// The names of a list, each of which is one.
+/// The names in a list of texts, each of which is a name.
 fn names_in<'a>(alloc: Global, list: List<'a, &'a [u8]>) -> Result<Names, AllocError>
     requires { AllNamed (entries_in (list_value list)) }
     ensures value { IfOk result
         (λ names. names ≡ map text_in (list_of (entries_in (list_value list.entry)))) }
+    // A list in a payload counts its entries in 32 bits.
     ensures few { IfOk result (λ names. length names < 2 ^ 32) }
 {
     let mut names = Names::new(alloc);

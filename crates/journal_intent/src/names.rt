@@ -1,5 +1,7 @@
 //! The fixed names of a change: that of the intent, the folder of the stage, and those of the files
 //! that wait in it. Laws say what follows of them and of an intent that is read.
+//! The rules stand in `docs/crash-safety.md`, "A change of several files", the table of names; the
+//! law of free names in `docs/formats.md`, "The texts" and "Names that stand twice".
 
 ghost use Rattle.std.specs.Prelude.{◌≡◌, IfOk, ◌≢◌, ◌<◌, ◌^◌, ◌++◌, ℕ, true, List, Some, None};
 ghost use Rattle.journal_intent.specs.FreeNames.{stage_names_from, HasFreeNames, IsTakenName};
@@ -59,6 +61,7 @@ pub fn an_intent_is_read_from_a_sound_container()
 /// The files that wait for an intent's actions stand below the stage's folder, each under a name of
 /// its own.
 pub fn each_waiting_file_has_its_own_name()
+    // The numbers are those of the program, of 64 bits.
     ensures apart { (j k : ℕ) → j < 2 ^ 64 → k < 2 ^ 64 → stage_name j ≡ stage_name k → j ≡ k }
     ensures staged { (k : ℕ) → is_staged (stage_name k) ≡ true }
     ensures no_intent { (k : ℕ) → stage_name k ≢ intent_name }
@@ -77,10 +80,11 @@ pub fn a_read_intent_has_free_names()
     ensures { (file : List ℕ) (intent : Intent) → read_intent file ≡ Some intent
         → HasFreeNames intent }
 {
+    // A law that the proof needs; it computes nothing.
     sound_containers_hold_sound_values();
 }
 
-/// So are the names of a change that is to be made.
+/// The names of a change that is to be made are free, no write stands twice, and none is removed.
 pub fn the_names_of_a_change_are_free()
     ensures { (removals writes : List (List ℕ)) → AreChangeNames (removals ++ writes)
         → HasFreeNames (intent_of_lists removals writes) }

@@ -1,4 +1,5 @@
-//! An intent with all that its actions need.
+//! An intent with all the memory that its actions need. The rules stand in `docs/crash-safety.md`,
+//! "A change of several files": memory is taken when a stage begins, and never later.
 ghost use Rattle.std.specs.Prelude.{◌≡◌, ◌++◌, ◌≤◌, ◌<◌, ◌+◌, ◌^◌, ℕ, List, Some, None, length, slice_get, IfOk, IfErr, OnOk, IsErrOf};
 ghost use Rattle.adb_schema.specs.ReadFaults.{IsReadFault};
 ghost use Rattle.adb_schema.specs.Soundness.{first_fault};
@@ -21,12 +22,17 @@ use std::marker::Model;
 /// the files that wait.
 #[derive(Drop)]
 pub struct PreparedIntent {
+    /// The names to be removed.
     removals: Names,
+    /// The names to be written.
     writes: Names,
     /// The names of the waiting files, from number 0 on, which is the intent's own.
     stage_names: Names,
+    /// The name of the intent.
     name: Name,
+    /// The container that spells the intent.
     file: Vec<u8>,
+    // The names are these for each intent, the file spells it, and there are few enough names.
     ghost waiting: { stage_names ≡ stage_names_from 0 (length writes + 1) },
     ghost named: { name ≡ intent_name },
     ghost spelled: { read_intent file.items ≡ Some (intent_of_lists removals writes) },
@@ -124,7 +130,7 @@ impl PreparedIntent {
         self.writes.len()
     }
 
-    /// The removal with this index.
+    /// The name that the removal with this index takes away; so many removals stand before it.
     pub fn removal(&self, i: usize) -> &Name
         requires { i < length self.now.removals }
         ensures { slice_get self.now.removals i ≡ Some result.now }
@@ -132,7 +138,8 @@ impl PreparedIntent {
         self.removals.get(i)
     }
 
-    /// The write with this index.
+    /// The name that the write with this index gets; so many writes stand before it, and its file
+    /// waits under a number that is one more.
     pub fn write(&self, i: usize) -> &Name
         requires { i < length self.now.writes }
         ensures { slice_get self.now.writes i ≡ Some result.now }
@@ -141,7 +148,7 @@ impl PreparedIntent {
     }
 
     /// The name of the waiting file with this number: 0 for the intent's container, and from 1 on
-    /// those of the writes.
+    /// for the writes.
     pub fn stage_name(&self, k: usize) -> &Name
         requires { k ≤ length self.now.writes }
         ensures { result.now ≡ stage_name k }
@@ -156,19 +163,22 @@ impl PreparedIntent {
         &self.name
     }
 
-    /// The bytes of its container.
+    /// The bytes of the intent's container.
     pub fn file(&self) -> &[u8]
         ensures { read_intent result.now ≡ Some self.now }
     {
         &self.file
     }
 
-    /// Its names are free, each write stands once, and it has fewer than 2^63 of them.
+    /// The names of the intent are free, each write stands once, and there are fewer than 2^63 of
+    /// them.
     pub fn names_are_free(&self)
         ensures free { HasFreeNames self.now }
         ensures few { length self.now.removals + length self.now.writes < 2 ^ 63 }
     {
+        // A law that the proof needs; it computes nothing.
         a_read_intent_has_free_names();
+        // The proof needs that the file spells this intent.
         let _ = &self.file;
     }
 }

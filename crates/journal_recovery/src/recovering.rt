@@ -1,4 +1,6 @@
 //! What an earlier change left to do is done, and nothing waits any more.
+//! The rules stand in `docs/crash-safety.md`, "Recovery"; which actions an intent has, in "A change
+//! of several files".
 ghost use Rattle.std.specs.Prelude.{◌≡◌, [], ℕ, Bool, true, List, Some, None, IsSome, OnOk, OnErr, IsErrOf};
 ghost use Rattle.adb_schema.specs.Soundness.{first_fault};
 ghost use Rattle.adb_tables.specs.declared.tables.Which.TheVariants.{Intent as IntentTable};
@@ -66,7 +68,7 @@ pub fn recover<T: Tree>(alloc: Global, tree: &mut T) -> Result<(), RecoverFault>
         → Since (λ w. w.names intent_name ≡ None → ShownNamesLast w)
         (T.history tree.old) (T.history tree.new)) }
 
-    // Nor does a crash bring the intent back.
+    // Once it has answered Ok, no crash brings an intent back that it found.
     ensures gone { IfObservable (T.history tree.old) (λ v. IsSome (v.names intent_name)
         → OnOk result (HasNow (T.history tree.new) (IsInNoMap intent_name))) }
 
@@ -85,6 +87,9 @@ pub fn recover<T: Tree>(alloc: Global, tree: &mut T) -> Result<(), RecoverFault>
         → IsIntentFault (files_of v) cause → T.history tree.new ≡ T.history tree.old) }
     ensures found { (cause : Cause) → IsErrOf result (RecoverFault.IntentBad cause)
         → (file : List ℕ) × (first_fault IntentTable file ≡ Some cause) }
+
+    // No count of faults falls; a fault of the tree is answered only where that count rose, and Ok
+    // only where it did not.
     ensures goes_on { GoesOn (T.counts tree.old) (T.counts tree.new) }
     ensures disk { IsErrOf result RecoverFault.Disk
         → HasCause (T.counts tree.old) (T.counts tree.new) }
@@ -103,7 +108,8 @@ pub fn recover<T: Tree>(alloc: Global, tree: &mut T) -> Result<(), RecoverFault>
     Ok(())
 }
 
-/// Finishes what the intent says, if there is one.
+/// Does the actions of the intent and takes it away, if one stands there. The clauses are those of
+/// `recover`, but that what waits without an intent stays.
 fn replay<T: Tree>(alloc: Global, tree: &mut T) -> Result<(), RecoverFault>
     ensures moments { IfObservable (T.history tree.old) (λ v. (ignored : List ℕ → Bool)
         → IsOrderly (RestsOn ignored) v
@@ -138,6 +144,9 @@ fn replay<T: Tree>(alloc: Global, tree: &mut T) -> Result<(), RecoverFault>
         → IsIntentFault (files_of v) cause → T.history tree.new ≡ T.history tree.old) }
     ensures found { (cause : Cause) → IsErrOf result (RecoverFault.IntentBad cause)
         → (file : List ℕ) × (first_fault IntentTable file ≡ Some cause) }
+
+    // No count of faults falls; a fault of the tree is answered only where that count rose, and Ok
+    // only where it did not.
     ensures goes_on { GoesOn (T.counts tree.old) (T.counts tree.new) }
     ensures disk { IsErrOf result RecoverFault.Disk
         → HasCause (T.counts tree.old) (T.counts tree.new) }
@@ -146,6 +155,8 @@ fn replay<T: Tree>(alloc: Global, tree: &mut T) -> Result<(), RecoverFault>
         → IsNoFault (T.counts tree.old) (T.counts tree.new) }
     ensures refused { (cause : Cause) → IsErrOf result (RecoverFault.IntentBad cause)
         → IsNoFault (T.counts tree.old) (T.counts tree.new) }
+
+    // Where an intent that is found has room for its actions, no call is a misuse.
     ensures proper { IfObservable (T.history tree.old) (λ v. HasRoomToReplay (files_of v)
         → (T.counts tree.new).misuses ≡ (T.counts tree.old).misuses) }
 {
@@ -156,7 +167,9 @@ fn replay<T: Tree>(alloc: Global, tree: &mut T) -> Result<(), RecoverFault>
     }
 }
 
-/// Does what the intent of this file says.
+/// Does the actions of the intent that this file spells, all of them, since which were done before
+/// is not told, and takes the intent away. The clauses are those of `replay`, where the file is
+/// what stands under the intent's name.
 fn replay_file<T: Tree>(alloc: Global, tree: &mut T, file: Vec<u8>) -> Result<(), RecoverFault>
     ensures moments { IfObservable (T.history tree.old) (λ v. (ignored : List ℕ → Bool)
         → IsOrderly (RestsOn ignored) v → files_of v intent_name ≡ Some file.items
@@ -186,6 +199,9 @@ fn replay_file<T: Tree>(alloc: Global, tree: &mut T, file: Vec<u8>) -> Result<()
     ensures good { OnOk result (first_fault IntentTable file.items ≡ None) }
     ensures bad_idle { (cause : Cause) → first_fault IntentTable file.items ≡ Some cause
         → T.history tree.new ≡ T.history tree.old }
+
+    // No count of faults falls; a fault of the tree is answered only where that count rose, and Ok
+    // only where it did not.
     ensures goes_on { GoesOn (T.counts tree.old) (T.counts tree.new) }
     ensures disk { IsErrOf result RecoverFault.Disk
         → HasCause (T.counts tree.old) (T.counts tree.new) }
@@ -194,6 +210,8 @@ fn replay_file<T: Tree>(alloc: Global, tree: &mut T, file: Vec<u8>) -> Result<()
         → IsNoFault (T.counts tree.old) (T.counts tree.new) }
     ensures refused { (cause : Cause) → IsErrOf result (RecoverFault.IntentBad cause)
         → IsNoFault (T.counts tree.old) (T.counts tree.new) }
+
+    // Where an intent that is found has room for its actions, no call is a misuse.
     ensures proper { IfObservable (T.history tree.old) (λ v. files_of v intent_name
         ≡ Some file.items → HasRoomToReplay (files_of v)
         → (T.counts tree.new).misuses ≡ (T.counts tree.old).misuses) }
@@ -204,7 +222,8 @@ fn replay_file<T: Tree>(alloc: Global, tree: &mut T, file: Vec<u8>) -> Result<()
     Ok(())
 }
 
-/// Takes away all that waits.
+/// Takes away every name below the stage, once no intent is read: so nothing happens to the state,
+/// and no other name changes.
 fn empty_stage<T: Tree>(alloc: Global, tree: &mut T) -> Result<(), TreeFault>
     ensures moments { IfObservable (T.history tree.old) (λ v. (ignored : List ℕ → Bool)
         → IsOrderly (RestsOn ignored) v → v.names intent_name ≡ None
@@ -222,6 +241,9 @@ fn empty_stage<T: Tree>(alloc: Global, tree: &mut T) -> Result<(), TreeFault>
         → HasNow (T.history tree.new) (IsInNoMap intent_name))) }
     ensures idle { IfObservable (T.history tree.old) (λ v. IsEmptyStage v.names
         → T.history tree.new ≡ T.history tree.old) }
+
+    // No count of faults falls; a fault of the tree is answered only where that count rose, and Ok
+    // only where it did not.
     ensures goes_on { GoesOn (T.counts tree.old) (T.counts tree.new) }
     ensures disk { IsErrOf result TreeFault.Disk
         → HasCause (T.counts tree.old) (T.counts tree.new) }
@@ -229,6 +251,8 @@ fn empty_stage<T: Tree>(alloc: Global, tree: &mut T) -> Result<(), TreeFault>
     ensures memory { IsErrOf result TreeFault.Memory
         → (T.history tree.new ≡ T.history tree.old)
         × IsNoFault (T.counts tree.old) (T.counts tree.new) }
+
+    // No call is a misuse.
     ensures proper { IfObservable (T.history tree.old) (λ v. (T.counts tree.new).misuses
         ≡ (T.counts tree.old).misuses) }
 {
@@ -238,7 +262,7 @@ fn empty_stage<T: Tree>(alloc: Global, tree: &mut T) -> Result<(), TreeFault>
     Ok(())
 }
 
-/// Takes these names away.
+/// Takes these names away, which all lie below the stage. The clauses are those of `empty_stage`.
 fn remove_all<T: Tree>(tree: &mut T, names: &Names) -> Result<(), Disk>
     ensures moments { IfObservable (T.history tree.old) (λ v. (ignored : List ℕ → Bool)
         → IsOrderly (RestsOn ignored) v → v.names intent_name ≡ None → AllStaged names.now
@@ -256,12 +280,18 @@ fn remove_all<T: Tree>(tree: &mut T, names: &Names) -> Result<(), Disk>
     ensures gone { IfObservable (T.history tree.old) (λ v. OnOk result (IsInNoMap intent_name v
         → HasNow (T.history tree.new) (IsInNoMap intent_name))) }
     ensures none { names.now ≡ [] → T.history tree.new ≡ T.history tree.old }
+
+    // No count of faults falls; a fault of the tree is answered only where that count rose, and Ok
+    // only where it did not.
     ensures goes_on { GoesOn (T.counts tree.old) (T.counts tree.new) }
     ensures cause { OnErr result (HasCause (T.counts tree.old) (T.counts tree.new)) }
     ensures kept { OnOk result (IsNoFault (T.counts tree.old) (T.counts tree.new)) }
+
+    // No call is a misuse.
     ensures proper { IfObservable (T.history tree.old) (λ v. (T.counts tree.new).misuses
         ≡ (T.counts tree.old).misuses) }
 {
+    // Laws that the proof needs; they compute nothing.
     a_crash_may_leave_the_files_as_read();
     order_outlasts_a_crash::<Journal>();
     for i in 0..names.len() {

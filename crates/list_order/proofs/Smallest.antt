@@ -1,7 +1,7 @@
 -- The smallest of several texts.
-use Rattle.std.proofs.Common.{◌≡◌, ℕ, zero, Bool, true, false, List, [], ◌∷◌, Option, Some, None, refl, ap, sym, ◌∙◌}
+use Rattle.std.proofs.Common.{◌≡◌, ℕ, zero, Bool, true, false, List, [], ◌∷◌, Some, refl, ap, sym, ◌∙◌}
 use Rattle.std.specs.Prelude.{if◌then◌else◌, slice_get}
-use Rattle.std.specs.Ordering.{is_gt, is_lt}
+use Rattle.std.specs.Ordering.{is_gt}
 use Rattle.std.proofs.lemmas.Cmp.{nat_list_cmp_total}
 use Rattle.list_order.specs.ByteOrder.{bytes_cmp, smaller_text, smallest_text}
 use Rattle.list_order.specs.Sorted.{sorted_by, with_element}

@@ -1,4 +1,6 @@
--- Byte order.
+-- Byte order: texts compared byte by byte, the first that differs decides, and a text comes before
+-- those that it begins. The rule is that of `docs/names.md`, *byte order*; in `docs/formats.md`,
+-- "World" and "The database after a change" stand on it.
 use Rattle.std.specs.Prelude.{ℕ, Bool, List, [], ◌∷◌, Option, Some, None, if◌then◌else◌}
 use Rattle.std.specs.Ordering.{nat_cmp, is_lt}
 use Rattle.std.specs.declared.cmp.Ordering.{Ordering}
@@ -12,12 +14,12 @@ bytes_cmp = slice_cmp nat_cmp
 abbrev pub precedes : List ℕ → List ℕ → Bool
 precedes a b = is_lt (bytes_cmp a b)
 
--- the smaller of a text and another one, where there is another one
+-- the smaller of two texts by byte order; the first where there is no other
 abbrev pub smaller_text : List ℕ → Option (List ℕ) → Option (List ℕ)
 smaller_text a None = Some a
 smaller_text a (Some b) = if precedes b a then Some b else Some a
 
--- the first of several texts
+-- the smallest of several texts by byte order, if there is one
 abbrev pub smallest_text : List (List ℕ) → Option (List ℕ)
 smallest_text [] = None
 smallest_text (a ∷ texts) = smaller_text a (smallest_text texts)

@@ -1,7 +1,10 @@
 //! Lists in order: what it is that a list is sorted, and byte order.
 //!
-//! The contracts of the crates above cite `Sorted` and `ByteOrder` of `specs/`; two laws say
-//! what follows from them.
+//! The contracts of the crates above cite `Sorted` and `ByteOrder` of `specs/`; two laws say what
+//! follows from them.
+//!
+//! The rules stand in `docs/names.md`, *sorted* and *byte order*; the orders of names in
+//! `docs/formats.md`, "World" and "The database after a change", stand on them.
 #![tactic(auto)]
 
 ghost use Rattle.list_order.specs.ByteOrder.{bytes_cmp, smallest_text};

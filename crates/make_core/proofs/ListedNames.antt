@@ -13,7 +13,7 @@ use Rattle.adb_fields.specs.Paths.{path_of}
 use Rattle.adb_rules.specs.Rules.{is_file_name, is_folder_name}
 use Rattle.package_files.specs.Folders.{FolderListing, before_slashes, path_below, names_in_folder, folder_names, folder_of, folders_of, folders_over, is_slash, listing_of, last_part_of}
 use Rattle.package_files.specs.Package.{Source, SourceFolder, kind_of_file, installed_size, size_of_folder, size_of_kind}
-use Rattle.package_files.specs.Sources.{on_success, each_from, file_at, sources_from, folder_at, source_folders_from, found_at}
+use Rattle.package_files.specs.Sources.{and_then, each_from, file_at, sources_from, folder_at, source_folders_from, found_at}
 use Rattle.make_info.specs.Reads.{Reads}
 use Rattle.make_info.specs.declared.fault.MakeFault.{MakeFault}
 use Rattle.make_core.proofs.Apart.{AreApartFiles, IsApart, Rises, folder_names_of, in_order_in, in_order_rises, rises_apart, source_names}
@@ -148,7 +148,7 @@ pub record IsAfter {A B : Type 0} (r : Result A MakeFault) (next : A → Result 
   pub is : r ≡ Ok x
   pub gives : next x ≡ Ok y
 
-pub after_ok : {A B : Type 0} (r : Result A MakeFault) (next : A → Result B MakeFault) (y : B) → on_success r next ≡ Ok y → IsAfter r next y
+pub after_ok : {A B : Type 0} (r : Result A MakeFault) (next : A → Result B MakeFault) (y : B) → and_then r next ≡ Ok y → IsAfter r next y
 after_ok (Ok x) next y e = record { x = x; is = refl; gives = e }
 after_ok (Err f) next y e = absurd (cc (e))
 
@@ -163,7 +163,7 @@ pub each_read : {X Y : Type 0} (R : X → Y → Type 0) (count : X → ℕ) (of 
     → (n : ℕ) (xs : List X) (ys : List Y) → each_from count of n xs ≡ Ok ys → AllOf R xs ys
 each_read R count of h n [] ys e = let same : [] ≡ ys = cc (e) in subst (AllOf R []) same tt
 each_read R count of h n (x ∷ xs) ys e =
-    let one = after_ok (of n x) (λ y. on_success (each_from count of (n + count x) xs) (λ zs. Ok (y ∷ zs))) ys e in
+    let one = after_ok (of n x) (λ y. and_then (each_from count of (n + count x) xs) (λ zs. Ok (y ∷ zs))) ys e in
     let two = after_ok (each_from count of (n + count x) xs) (λ zs. Ok (one.x ∷ zs)) ys one.gives in
     let gives = two.gives in
     let same : one.x ∷ two.x ≡ ys = cc (gives) in

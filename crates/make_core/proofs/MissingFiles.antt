@@ -16,7 +16,7 @@ use Rattle.make_info.specs.declared.fault.MakeFault.TheVariants.{FileMissing}
 use Rattle.package_files.specs.Folders.{FolderListing, folder_names, folders_of, last_part_of, listing_of, names_in_folder, path_below}
 use Rattle.make_package.specs.Making.{container_unless, made_package, or_info_bad, package_container, package_of_parts}
 use Rattle.package_files.specs.Package.{Script, Source, SourceFolder}
-use Rattle.package_files.specs.Sources.{each_from, file_at, folder_at, folders_below, found_at, on_success, script_at, scripts_from, source_folders_from, sources_from, values_with}
+use Rattle.package_files.specs.Sources.{each_from, file_at, folder_at, folders_below, found_at, and_then, script_at, scripts_from, source_folders_from, sources_from, values_with}
 use Rattle.pkg_core.specs.Contents.{Contents}
 use Rattle.make_core.specs.Missing.{IsAbsent, IsMissingFile, IsMissingScript}
 use Rattle.make_core.proofs.ListedNames.{filter_in, stands_in}
@@ -28,7 +28,7 @@ data Fails {A B : Type 0} (r : Result A MakeFault) (next : A → Result B MakeFa
   at_first : r ≡ Err fault → Fails r next fault
   behind : (x : A) → r ≡ Ok x → next x ≡ Err fault → Fails r next fault
 
-fails_by : {A B : Type 0} (r : Result A MakeFault) (next : A → Result B MakeFault) (fault : MakeFault) → on_success r next ≡ Err fault → Fails r next fault
+fails_by : {A B : Type 0} (r : Result A MakeFault) (next : A → Result B MakeFault) (fault : MakeFault) → and_then r next ≡ Err fault → Fails r next fault
 fails_by (Ok x) next fault e = behind x refl e
 fails_by (Err f) next fault e = let same : f ≡ fault = cc (e) in at_first (ap Err same)
 
@@ -48,7 +48,7 @@ module _ {X Y : Type 0} (R : X → MakeFault → Type 0) (count : X → ℕ) (of
   rest_fails n x xs y fault further (behind ys e f) = absurd (cc (f))
 
   first_fails : (n : ℕ) (x : X) (xs : List X) (fault : MakeFault) → ((f : MakeFault) → each_from count of (n + count x) xs ≡ Err f → IsFaultOfOne R xs f)
-      → Fails (of n x) (λ y. on_success (each_from count of (n + count x) xs) (λ ys. Ok (y ∷ ys))) fault → IsFaultOfOne R (x ∷ xs) fault
+      → Fails (of n x) (λ y. and_then (each_from count of (n + count x) xs) (λ ys. Ok (y ∷ ys))) fault → IsFaultOfOne R (x ∷ xs) fault
   first_fails n x xs fault further (at_first e) = record { x = x; is_in = inl refl; is = each n x fault e }
   first_fails n x xs fault further (behind y e f) =
       rest_fails n x xs y fault further (fails_by (each_from count of (n + count x) xs) (λ ys. Ok (y ∷ ys)) fault f)
@@ -56,7 +56,7 @@ module _ {X Y : Type 0} (R : X → MakeFault → Type 0) (count : X → ℕ) (of
   each_fails : (n : ℕ) (xs : List X) (fault : MakeFault) → each_from count of n xs ≡ Err fault → IsFaultOfOne R xs fault
   each_fails n [] fault e = absurd (cc (e))
   each_fails n (x ∷ xs) fault e =
-      first_fails n x xs fault (λ f g. each_fails (n + count x) xs f g) (fails_by (of n x) (λ y. on_success (each_from count of (n + count x) xs) (λ ys. Ok (y ∷ ys))) fault e)
+      first_fails n x xs fault (λ f g. each_fails (n + count x) xs f g) (fails_by (of n x) (λ y. and_then (each_from count of (n + count x) xs) (λ ys. Ok (y ∷ ys))) fault e)
 
 -- ---- one file
 
@@ -65,7 +65,7 @@ abbrev IsMissingAt : Reads → ℕ → List ℕ → MakeFault → Type 0
 IsMissingAt read place name fault = (fault ≡ FileMissing place) × IsAbsent read name
 
 missing_by : {A : Type 0} (read : Reads) (place n : ℕ) (name : List ℕ) (found : Option (List ℕ)) (next : List ℕ → Result A MakeFault) (fault : MakeFault) → read n name ≡ found → ((bytes : List ℕ) → next bytes ≡ Err fault → ⊥)
-    → on_success (found_at place found) next ≡ Err fault → IsMissingAt read place name fault
+    → and_then (found_at place found) next ≡ Err fault → IsMissingAt read place name fault
 missing_by read place n name None next fault is never e = let same : fault ≡ FileMissing place = cc (e) in (same, (n, is))
 missing_by read place n name (Some bytes) next fault is never e = absurd (never bytes e)
 
@@ -147,18 +147,18 @@ module _ (command : CommandLine) (names : List (List ℕ)) (read : Reads) (place
   at_files scripts items (behind sources e f) = absurd (packed_never command scripts items sources place f)
 
   at_information : (scripts : List Script)
-      → Fails (or_info_bad (information command)) (λ about. on_success (folders_below read (length scripts) (values_with FILES command.values) names) (package_of_parts command scripts about)) (FileMissing place) → IsMissing read command names place
+      → Fails (or_info_bad (information command)) (λ about. and_then (folders_below read (length scripts) (values_with FILES command.values) names) (package_of_parts command scripts about)) (FileMissing place) → IsMissing read command names place
   at_information scripts (at_first e) = absurd (info_never (information command) place e)
   at_information scripts (behind items e f) = at_files scripts items (fails_by (folders_below read (length scripts) (values_with FILES command.values) names) (package_of_parts command scripts items) (FileMissing place) f)
 
   at_scripts : Fails (scripts_from read 0 (values_with SCRIPT command.values)) (λ scripts.
-      on_success (or_info_bad (information command)) (λ about. on_success (folders_below read (length scripts) (values_with FILES command.values) names) (package_of_parts command scripts about))) (FileMissing place) → IsMissing read command names place
+      and_then (or_info_bad (information command)) (λ about. and_then (folders_below read (length scripts) (values_with FILES command.values) names) (package_of_parts command scripts about))) (FileMissing place) → IsMissing read command names place
   at_scripts (at_first e) = inl (script_is_missing read (values_with SCRIPT command.values) place e)
   at_scripts (behind scripts e f) =
-      at_information scripts (fails_by (or_info_bad (information command)) (λ about. on_success (folders_below read (length scripts) (values_with FILES command.values) names) (package_of_parts command scripts about)) (FileMissing place) f)
+      at_information scripts (fails_by (or_info_bad (information command)) (λ about. and_then (folders_below read (length scripts) (values_with FILES command.values) names) (package_of_parts command scripts about)) (FileMissing place) f)
 
 pub made_missing : (command : CommandLine) (names : List (List ℕ)) (read : Reads) (place : ℕ) → made_package command names read ≡ Err (FileMissing place) → IsMissing read command names place
 unfolding made_package
 made_missing command names read place e =
     at_scripts command names read place (fails_by (scripts_from read 0 (values_with SCRIPT command.values)) (λ scripts.
-    on_success (or_info_bad (information command)) (λ about. on_success (folders_below read (length scripts) (values_with FILES command.values) names) (package_of_parts command scripts about))) (FileMissing place) e)
+    and_then (or_info_bad (information command)) (λ about. and_then (folders_below read (length scripts) (values_with FILES command.values) names) (package_of_parts command scripts about))) (FileMissing place) e)

@@ -19,7 +19,7 @@ use Rattle.adb_sound.specs.Contents.{contents_size}
 use Rattle.adb_sound.specs.Container.{container_of, package_by}
 use Rattle.make_package.specs.Making.{container_unless, made_package, or_info_bad, package_container, package_of_parts}
 use Rattle.package_files.specs.Package.{Script, SourceFolder, contents_of_folders, installed_size, value_of_package}
-use Rattle.package_files.specs.Sources.{AreNamesFor, on_success, folders_below, values_with, scripts_from, texts_of}
+use Rattle.package_files.specs.Sources.{AreNamesFor, and_then, folders_below, values_with, scripts_from, texts_of}
 use Rattle.adb_sound.specs.Root.{IsRootOf}
 use Rattle.make_info.specs.Reads.{Reads}
 use Rattle.make_core.proofs.Apart.{Tells, package_once, rises_from_pairs}
@@ -109,10 +109,10 @@ pub made_of : (P : Plain → List Contents → List ℕ → Type 0) → Holds P 
 unfolding made_package
 made_of P holds sizes exact needs tells command names read bytes below e short =
     let one = after_ok (scripts_from read 0 (values_with SCRIPT command.values)) (λ scripts.
-    on_success (or_info_bad (information command)) (λ about.
-    on_success (folders_below read (length scripts) (values_with FILES command.values) names) (package_of_parts command scripts about))) bytes e in
+    and_then (or_info_bad (information command)) (λ about.
+    and_then (folders_below read (length scripts) (values_with FILES command.values) names) (package_of_parts command scripts about))) bytes e in
     let two = after_ok (or_info_bad (information command)) (λ about.
-    on_success (folders_below read (length one.x) (values_with FILES command.values) names) (package_of_parts command one.x about)) bytes one.gives in
+    and_then (folders_below read (length one.x) (values_with FILES command.values) names) (package_of_parts command one.x about)) bytes one.gives in
     let three = after_ok (folders_below read (length one.x) (values_with FILES command.values) names) (package_of_parts command one.x two.x) bytes two.gives in
     record {
       scripts = one.x;
@@ -144,10 +144,10 @@ pub made_back : Holds IsReadBack → Sizes → Exact → Needs → Tells → (co
     → made_package command names read ≡ Ok bytes → length bytes < 2 ^ 64 → packed_package command names read ≡ Ok (package_with_contents bytes)
 made_back holds sizes exact needs tells command names read bytes below e short =
     let made = made_of IsReadBack holds sizes exact needs tells command names read bytes below e short in
-    ap (λ r. on_success r (λ scripts.
-    on_success (or_info_bad (information command)) (λ about.
-    on_success (folders_below read (length scripts) (values_with FILES command.values) names) (packed_of_parts command scripts about)))) made.scripts_read
-    ∙ ap (λ r. on_success r (λ about.
-    on_success (folders_below read (length made.scripts) (values_with FILES command.values) names) (packed_of_parts command made.scripts about))) made.items_read
-    ∙ ap (λ r. on_success r (packed_of_parts command made.scripts made.items)) made.sources_read
+    ap (λ r. and_then r (λ scripts.
+    and_then (or_info_bad (information command)) (λ about.
+    and_then (folders_below read (length scripts) (values_with FILES command.values) names) (packed_of_parts command scripts about)))) made.scripts_read
+    ∙ ap (λ r. and_then r (λ about.
+    and_then (folders_below read (length made.scripts) (values_with FILES command.values) names) (packed_of_parts command made.scripts about))) made.items_read
+    ∙ ap (λ r. and_then r (packed_of_parts command made.scripts made.items)) made.sources_read
     ∙ ap Ok (sym made.holds)

@@ -1,4 +1,7 @@
 -- Which files a package holds: those below a folder of a tree.
+-- The rule stands in `docs/commands.md`, "`mkpkg`": "With `-F DIR` the package holds all files
+-- below DIR, under their names below it." Serves the law
+-- `a_made_package_has_the_files_below_its_folder`.
 use Rattle.std.specs.Prelude.{◌≡◌, ℕ, List, ◌∷◌, ◌++◌, map, Some, All}
 use Rattle.std.specs.List.Sorted.{IsPermutation}
 use Rattle.base_core.specs.Files.{Files}
@@ -8,11 +11,11 @@ use Rattle.adb_fields.specs.Repeated.{files_in, folders_in, name_of, paths_in}
 use Rattle.package_files.specs.Folders.{path_below}
 use Rattle.package_files.specs.Package.{value_of_file}
 
--- the name in the tree of a path below a folder: behind a slash (47)
+-- the name in the tree of a path below a folder: the path behind the folder and a slash (47)
 abbrev pub name_below : List ℕ → List ℕ → List ℕ
 name_below dir path = dir ++ 47 ∷ path
 
--- a file of a package, in a folder of it, is what the bytes under its path in the tree are
+-- a file of a package, in a folder of the package, is what the bytes under its path in the tree are
 pub record IsFileBelow (files : Files) (dir folder : List ℕ) (file : Plain) : Type 0 where
   pub bytes : List ℕ
   pub stands : files (name_below dir (path_of folder (name_of file))) ≡ Some bytes

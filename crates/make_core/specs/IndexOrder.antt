@@ -1,4 +1,6 @@
 -- Of which packages an index tells, and in which order.
+-- The rule stands in `docs/commands.md`, "`mkndx PACKAGE..`". Serves the law
+-- `a_made_index_has_its_packages_in_order`.
 use Rattle.std.specs.Prelude.{◌≡◌, ℕ, ◌+◌, List, [], ◌∷◌, map, Some, None}
 use Rattle.std.specs.List.Sorted.{IsPermutation, IsSorted}
 use Rattle.adb_view.specs.Plain.{Plain}
@@ -11,12 +13,12 @@ use Rattle.make_info.specs.Reads.{Reads}
 use Rattle.pkg_core.specs.Whole.{package_fault}
 use Rattle.adb_tables.specs.FieldIndexes.{INDEX_PACKAGES}
 
--- the entries of an index's packages
+-- the entries that an index has of its packages
 abbrev pub packages_in : Plain → List Plain
 packages_in index = entries_at INDEX_PACKAGES index
 
--- the read of each operand finds a file that passes all tests of a package; the read of the first
--- operand has this number
+-- the read of each operand finds its file, which passes all tests of a package; the read of the
+-- first operand has the number `n`
 abbrev pub AreSoundPackages : Reads → ℕ → List Operand → List (List ℕ) → Type 0
 AreSoundPackages read n [] [] = Unit {0}
 AreSoundPackages read n [] (file ∷ files) = ⊥
@@ -25,7 +27,8 @@ AreSoundPackages read n (o ∷ operands) (file ∷ files) =
     (read n (without_dot o.text) ≡ Some file) × (package_fault file ≡ None)
     × AreSoundPackages read (n + 1) operands files
 
--- an index tells of just the packages that operands name, in order
+-- an index tells of just the packages that operands name, in the order of its entries; reads are
+-- numbered from 0
 pub record HasPackagesInOrder (read : Reads) (operands : List Operand) (index : Plain) :
     Type 0 where
   pub files : List (List ℕ)

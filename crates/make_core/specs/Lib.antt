@@ -1,3 +1,6 @@
+-- The definitions of this crate, whose rules stand in `docs/commands.md`, "`mkpkg`" and "`mkndx
+-- PACKAGE..`".
+
 -- what its laws say
 pub mod FilesBelow
 pub mod IndexOrder

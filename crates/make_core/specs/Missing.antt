@@ -1,22 +1,25 @@
 -- At which option a file that is missing is reported.
+-- The rules stand in `docs/commands.md`, "`mkpkg`" (`word N: no such file`), and in
+-- `docs/DECISIONS.md`, "Making" (a file that was listed below the folder of `-F` and is then not
+-- found). Serves the law `a_missing_file_is_reported_at_its_option`.
 use Rattle.std.specs.Prelude.{◌≡◌, ℕ, List, ◌∷◌, None, Contains}
 use Rattle.command_core.specs.Files.{without_dot}
 use Rattle.command_core.specs.Values.{script_file}
 use Rattle.command_core.specs.declared.values.OptionValue.{OptionValue}
 use Rattle.make_info.specs.Reads.{Reads}
 
--- a read finds nothing under the name
+-- a read finds nothing under a name
 abbrev pub IsAbsent : Reads → List ℕ → Type 0
 IsAbsent read name = (n : ℕ) × (read n name ≡ None)
 
--- the place is that of a script whose file is absent
+-- the place is that of a script's option whose file is absent
 pub record IsMissingScript (read : Reads) (scripts : List OptionValue) (place : ℕ) : Type 0 where
   pub script : OptionValue
   pub given : Contains scripts script
   pub at : script.place ≡ place
   pub absent : IsAbsent read (without_dot (script_file script.text))
 
--- the place is that of the folder, and one of the names that were listed below it is absent
+-- the place is that of `-F`, and one of the names that were listed below its folder is absent
 pub record IsMissingFile (read : Reads) (folders : List OptionValue) (names : List (List ℕ))
     (place : ℕ) : Type 0 where
   pub folder : OptionValue

@@ -1,5 +1,7 @@
 -- What a package and an index that are made hold when they are read again: the value that the
 -- command and the reads give, and of a package the contents of its files.
+-- The rules stand in `docs/commands.md`, "`mkpkg`" and "`mkndx PACKAGE..`". Serves the laws
+-- `a_made_package_is_read_back` and `a_made_index_is_read_back`.
 use Rattle.command_core.specs.declared.values.TheConstants.{FILES, SCRIPT, TRIGGER}
 use Rattle.std.specs.Prelude.{ℕ, List, length, Result, Ok, Err}
 use Rattle.adb_sound.specs.Container.{package_by}
@@ -13,10 +15,11 @@ use Rattle.make_info.specs.Reads.{Reads}
 use Rattle.make_info.specs.declared.fault.MakeFault.{MakeFault}
 use Rattle.make_package.specs.Making.{or_info_bad}
 use Rattle.package_files.specs.Package.{Script, SourceFolder, contents_of_folders, installed_size, value_of_package}
-use Rattle.package_files.specs.Sources.{folders_below, on_success, scripts_from, texts_of, values_with}
+use Rattle.package_files.specs.Sources.{folders_below, and_then, scripts_from, texts_of, values_with}
 use Rattle.pkg_core.specs.Whole.{Packed}
 
--- by what was read of each part, in the order in which they are read
+-- the value and the contents of a package, by what was read of each part, in the order in which the
+-- parts are read
 abbrev pub packed_of_parts :
     CommandLine → List Script → List InfoItem → List SourceFolder → Result Packed MakeFault
 packed_of_parts command scripts about folders =
@@ -28,12 +31,13 @@ packed_of_parts command scripts about folders =
 -- the value and the contents of the package that a command asks for
 abbrev pub packed_package : CommandLine → List (List ℕ) → Reads → Result Packed MakeFault
 packed_package command names read =
-    on_success (scripts_from read 0 (values_with SCRIPT command.values)) (λ scripts.
-    on_success (or_info_bad (information command)) (λ about.
-    on_success (folders_below read (length scripts) (values_with FILES command.values) names)
+    and_then (scripts_from read 0 (values_with SCRIPT command.values)) (λ scripts.
+    and_then (or_info_bad (information command)) (λ about.
+    and_then (folders_below read (length scripts) (values_with FILES command.values) names)
     (packed_of_parts command scripts about)))
 
--- the entries in their order; or the fault of the first operand that gives none
+-- the value of an index with these entries, put in order; or the fault of the first operand that
+-- gives none
 abbrev pub index_value_of : List ℕ → Result (List Plain) MakeFault → Result Plain MakeFault
 index_value_of description (Ok entries) =
     Ok (value_of_index description (sorted_by entry_cmp entries))

@@ -1,4 +1,6 @@
 //! `mkpkg` and `mkndx`: a package and an index are made, and they are sound.
+//! The rules stand in `docs/commands.md`, "`mkpkg`" and "`mkndx PACKAGE..`", with the refusals in
+//! their order; that what is made is sound, in `docs/DECISIONS.md`, "Making".
 ghost use Rattle.base_core.specs.Calls.{IfObservable};
 ghost use Rattle.base_core.specs.Read.{OnlyReads};
 ghost use Rattle.make_index.specs.Files.{AreFiles, reads_of};
@@ -26,13 +28,17 @@ use std::alloc::Global;
 /// where the tree failed, and `Memory`.
 pub fn mkpkg<T: Tree>(alloc: Global, command: &Command, tree: &mut T) -> Result<Vec<u8>, MakeFault>
     requires { command.now.applet ≡ Applet.Mkpkg }
+    // Over the files of a tree that tells them: the package is theirs, or the refusal.
     ensures ok { IfOk result (λ file. IfObservable (T.history tree.old) (λ v.
         IsMadeIn command.now v (Ok file.items))) }
     ensures err { IfErr result (λ fault. OnRefusal fault (λ made.
         IfObservable (T.history tree.old) (λ v. IsMadeIn command.now v made))) }
+    // Over every tree: by some names below the folder and some reads.
     ensures found { IfOk result (λ file. IsMadeBySome command.now (Ok file.items)) }
     ensures found_err { IfErr result (λ fault. OnRefusal fault (IsMadeBySome command.now)) }
+    // What is made passes all tests of a container.
     ensures sound { IfOk result (λ file. container_fault file.items ≡ None) }
+    // The tree is only read, and `Disk` has a fault of it for its cause.
     ensures tree { OnlyReads MakeFault.Disk (T.history tree.old) (T.history tree.new)
         (T.counts tree.old) (T.counts tree.new) result }
 {
@@ -50,11 +56,15 @@ pub fn mkpkg<T: Tree>(alloc: Global, command: &Command, tree: &mut T) -> Result<
 /// index passes a limit of the writer. `Disk` where the tree failed, and `Memory`.
 pub fn mkndx<T: Tree>(alloc: Global, command: &Command, tree: &mut T) -> Result<Vec<u8>, MakeFault>
     requires { command.now.applet ≡ Applet.Mkndx }
+    // Over the files of a tree that tells them.
     ensures made { IfObservable (T.history tree.old) (λ v.
         IsMadeBy (λ file. file.items) result (made_index command.now (reads_of v))) }
+    // Over every tree: by some bytes for each read. The first operand's read has the number 0.
     ensures found { (read : Reads) × AreFiles read 0 command.now.operands
         × IsMadeBy (λ file. file.items) result (made_index command.now read) }
+    // What is made passes all tests of a container.
     ensures sound { IfOk result (λ file. container_fault file.items ≡ None) }
+    // The tree is only read, and `Disk` has a fault of it for its cause.
     ensures tree { OnlyReads MakeFault.Disk (T.history tree.old) (T.history tree.new)
         (T.counts tree.old) (T.counts tree.new) result }
 {

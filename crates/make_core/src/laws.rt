@@ -1,5 +1,7 @@
 //! What is made is sound, and what it holds: no test of a container fails (apk-v3(5)), and it is
 //! read back.
+//! The rules stand in `docs/commands.md`, "`mkpkg`" and "`mkndx PACKAGE..`", and in
+//! `docs/formats.md`, "Tests of a container".
 ghost use Rattle.adb_schema.specs.Soundness.{payload_in, root_value};
 ghost use Rattle.adb_tables.specs.declared.tables.Which.TheVariants.{Index, Package};
 ghost use Rattle.command_core.specs.declared.values.TheConstants.{FILES, SCRIPT};

@@ -1,5 +1,7 @@
 -- What an index says of a package (apk-v3(5)): its info, with the package's id and the length of
 -- its file.
+-- The rule stands in `docs/commands.md`, "`mkndx PACKAGE..`"; what an id is, in `docs/formats.md`,
+-- "The other blocks".
 use Rattle.std.specs.Prelude.{ℕ, List, length}
 use Rattle.adb_view.specs.Plain.{Plain}
 use Rattle.adb_tables.specs.FieldIndexes.{PACKAGE_INFO}
@@ -7,7 +9,7 @@ use Rattle.adb_tables.specs.Values.{entry_in}
 use Rattle.adb_copy.specs.Zeros.{info_with}
 use Rattle.pkg_core.specs.Whole.{package_id, package_with_contents}
 
--- what an index says of the package in a file
+-- the entry that an index has of the package in a file
 abbrev pub entry_of_package : List ℕ → Plain
 entry_of_package file =
     info_with (entry_in (package_with_contents file).value PACKAGE_INFO) (package_id file)

@@ -1,4 +1,6 @@
 -- The order of the entries of an index.
+-- The rule stands in `docs/commands.md`, "`mkndx PACKAGE..`": "Packages are ordered by name,
+-- version, the version's text and id".
 use Rattle.std.specs.Prelude.{ℕ, List}
 use Rattle.std.specs.Ordering.{on, then_cmp}
 use Rattle.std.specs.declared.cmp.Ordering.{Ordering}
@@ -8,19 +10,19 @@ use Rattle.adb_view.specs.Plain.{Plain}
 use Rattle.adb_tables.specs.FieldIndexes.{INFO_HASHES, INFO_NAME, INFO_VERSION}
 use Rattle.adb_tables.specs.Values.{entry_in, text_in}
 
--- the fields by which entries are put in order
+-- the name of the package that an entry is of
 abbrev pub name_in : Plain → List ℕ
 name_in entry = text_in (entry_in entry INFO_NAME)
 
--- its version, as text
+-- the version of the package that an entry is of, as text
 abbrev pub version_in : Plain → List ℕ
 version_in entry = text_in (entry_in entry INFO_VERSION)
 
--- its id, which an index has as its hash
+-- the id of the package that an entry is of, which an index has as its hash
 abbrev pub id_in : Plain → List ℕ
 id_in entry = text_in (entry_in entry INFO_HASHES)
 
--- by name, then by version, then by the version's text, then by id
+-- the order of entries: by name, then by version, then by the version's text, then by id
 unfoldable pub entry_cmp : Plain → Plain → Ordering
 entry_cmp =
     then_cmp (on name_in bytes_cmp)

@@ -1,4 +1,5 @@
 -- The files that the operands of `mkndx` name, and what reads of a tree find.
+-- No rule of a document: serves the contracts of `src/index.rt`.
 use Rattle.std.specs.Prelude.{◌≡◌, ℕ, ◌+◌, List, [], ◌∷◌, Some}
 use Rattle.base_core.specs.Files.{IsFile}
 use Rattle.base_core.specs.Tree.{TreeState, files_of}
@@ -6,13 +7,14 @@ use Rattle.command_core.specs.Files.{without_dot}
 use Rattle.command_core.specs.declared.operands.Operand.{Operand}
 use Rattle.make_info.specs.Reads.{Reads}
 
--- what the reads of operands find are files; the read of the first one has this number
+-- what the reads of operands find are files, where they find something; the read of the first
+-- operand has the number `n`
 abbrev pub AreFiles : Reads → ℕ → List Operand → Type 0
 AreFiles read n [] = Unit {0}
 AreFiles read n (o ∷ operands) =
     ((file : List ℕ) → read n (without_dot o.text) ≡ Some file → IsFile file)
     × AreFiles read (n + 1) operands
 
--- over a tree in this state each read finds what stands there
+-- the reads of a tree in this state: each finds what stands under its name
 abbrev pub reads_of : TreeState → Reads
 reads_of v n name = files_of v name

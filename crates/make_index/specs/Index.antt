@@ -1,4 +1,6 @@
 -- What `mkndx` makes (apk(8)): an index of packages.
+-- The rule stands in `docs/commands.md`, "`mkndx PACKAGE..`", with the refusals in their order; the
+-- fields in `docs/formats.md`, "Schemas", table 8.
 use Rattle.command_core.specs.declared.values.TheConstants.{DESCRIPTION}
 use Rattle.std.specs.Prelude.{ℕ, ◌+◌, ◌==◌, List, [], ◌∷◌, Option, Some, None, Result, Ok, Err}
 use Rattle.std.specs.List.{find}
@@ -22,20 +24,22 @@ use Rattle.list_order.specs.Sorted.{sorted_by}
 
 -- ---- the value
 
--- an index with this description and these entries; no pattern tells the names of the packages'
--- files
+-- the value of an index with this description and these entries; no pattern tells the names of the
+-- packages' files
 unfoldable pub value_of_index : List ℕ → List Plain → Plain
 value_of_index description entries =
     obj_value (more (blob_value description) (more (arr_value (plains_of_list entries)) none))
 
 -- ---- the packages, operand by operand
 
--- the package's entry, unless a test of its file fails; the place is the operand's
+-- the entry of the package in a file, unless a test of the file fails (`cause`); the place is that
+-- of the operand which names the file
 abbrev pub entry_unless : ℕ → List ℕ → Option Cause → Result Plain MakeFault
 entry_unless place file None = Ok (entry_of_package file)
 entry_unless place file (Some cause) = Err (FileBad place cause)
 
--- the entry of what was found under the name that an argument gives, if it is a sound package
+-- the entry of what was found under the name that the operand at a place gives, if that is a sound
+-- package
 abbrev pub found_entry : ℕ → Option (List ℕ) → Result Plain MakeFault
 found_entry place None = Err (FileMissing place)
 found_entry place (Some file) = entry_unless place file (package_fault file)
@@ -47,8 +51,8 @@ and_entries (Err fault) others = Err fault
 and_entries (Ok entry) (Err fault) = Err fault
 and_entries (Ok entry) (Ok entries) = Ok (entry ∷ entries)
 
--- the entries of all, or the first refusal; the read of the first operand has this number, counted
--- from 0
+-- the entries of all packages that operands name, or the first refusal; the read of the first
+-- operand has the number `n`, counted from 0
 abbrev pub found_entries : Reads → ℕ → List Operand → Result (List Plain) MakeFault
 found_entries read n [] = Ok []
 found_entries read n (o ∷ operands) =
@@ -57,37 +61,37 @@ found_entries read n (o ∷ operands) =
 
 -- ---- the file
 
--- the container of a payload, unless it passes a limit
+-- the file of an index with this payload, unless the payload passes a limit of the writer
 abbrev pub index_container : Result (List ℕ) PayloadCounts → Result (List ℕ) MakeFault
 index_container (Ok payload) = Ok (file_of INDEX_WORD payload)
 index_container (Err counts) = Err (TooLarge counts.0 counts.1)
 
--- of these entries, in any order
+-- the index of these entries, which are put in order, or the refusal where it passes a limit
 unfoldable pub index_of : List ℕ → List Plain → Result (List ℕ) MakeFault
 index_of description entries =
     index_container (written_of (value_of_index description (sorted_by entry_cmp entries)))
 
--- of the packages that the operands find, or the fault of the first that gives none
+-- the index of the entries of packages that were found, or the fault of the first that gives none
 abbrev pub index_of_found : List ℕ → Result (List Plain) MakeFault → Result (List ℕ) MakeFault
 index_of_found description (Ok entries) = index_of description entries
 index_of_found description (Err fault) = Err fault
 
--- of the packages that operands name
+-- the index of the packages that operands name, by what each read finds
 abbrev pub index_by : List ℕ → List Operand → Reads → Result (List ℕ) MakeFault
 index_by description operands read = index_of_found description (found_entries read 0 operands)
 
 -- ---- of a command
 
--- what the index says of itself; nothing, where `-d` is not given
+-- the text of a value, or nothing where there is none
 abbrev pub text_or_empty : Option OptionValue → List ℕ
 text_or_empty None = []
 text_or_empty (Some v) = v.text
 
--- the value of the first `-d`, or nothing
+-- what an index says of itself: the value of the first `-d`, or nothing
 abbrev pub description_in : List OptionValue → List ℕ
 description_in values = text_or_empty (find (λ (v : OptionValue). v.letter == DESCRIPTION) values)
 
--- the container's bytes, or the first refusal, by what each read finds under a name; reads are
--- numbered from 0
+-- the index of a command: the container's bytes, or the first refusal, by what each read finds
+-- under a name; reads are numbered from 0
 unfoldable pub made_index : CommandLine → Reads → Result (List ℕ) MakeFault
 made_index command read = index_by (description_in command.values) command.operands read

@@ -1,4 +1,6 @@
 -- What is kept of a package until the index is written, and what the calls that keep it answer.
+-- No rule of a document but that of `docs/DECISIONS.md`, "Making", on entries that are too large.
+-- Serves the contracts of `src/entry.rt` and `src/source.rt`.
 use Rattle.std.specs.Prelude.{◌≡◌, ℕ, List, true, IsTrue, is_none, Option, Some, Result, Ok, Err}
 use Rattle.base_core.specs.declared.cause.Cause.{Cause}
 use Rattle.adb_view.specs.Head.{head_fault, root_of}
@@ -19,23 +21,23 @@ use Rattle.make_index.specs.declared.source.EntrySource.TheVariants.{Payload, Fi
 
 -- ---- entries
 
--- an entry made once more of its own fields
+-- an entry, made once more of its own fields: nothing is lost by writing it into another payload
 abbrev pub copy_of_entry : Plain → Plain
 copy_of_entry entry = info_with entry (text_in (entry_in entry INFO_HASHES))
     (int_in (entry_in entry INFO_FILE_SIZE))
 
--- the entry that is still to be written
+-- the entry that is written from what is kept
 abbrev pub kept_value : EntrySource → Plain
 kept_value (Payload own) = copy_of_entry (root_value PkgInfo own.payload.items)
 kept_value (File own) = entry_of_package own.file.items
 
--- a payload of its own can be read, and holds this entry
+-- a payload of its own can be read, and its root is this entry
 pub record HoldsEntry (payload : List ℕ) (entry : Plain) : Type 0 where
   pub head : is_none (head_fault payload) ≡ true
   pub sound : is_sound payload (Obj PkgInfo) (root_of payload) ≡ true
   pub value : copy_of_entry (root_value PkgInfo payload) ≡ entry
 
--- what an entry is ordered by
+-- the name, version and id are those of the entry, by which it is ordered, and the version is one
 pub record IsKeyed (name version id : List ℕ) (entry : Plain) : Type 0 where
   pub by_name : name ≡ name_in entry
   pub by_version : version ≡ version_in entry
@@ -44,7 +46,8 @@ pub record IsKeyed (name version id : List ℕ) (entry : Plain) : Type 0 where
 
 -- ---- answers
 
--- an answer, seen by a view, is what a definition gives; want of memory says nothing of it
+-- an answer, seen by a view, is what a definition gives; want of memory says nothing, and no tree
+-- can have failed
 abbrev pub IsMade :
     {A B : Type 0} → (A → B) → Result A MakeFault → Result B MakeFault → Type 0
 IsMade view (Ok x) wanted = wanted ≡ Ok (view x)
@@ -52,7 +55,8 @@ IsMade view (Err Memory) wanted = Unit {0}
 IsMade view (Err Disk) wanted = ⊥
 IsMade view (Err fault) wanted = wanted ≡ Err fault
 
--- the same of an answer that a tree may have failed
+-- an answer, seen by a view, is what a definition gives; want of memory and a fault of the tree say
+-- nothing
 abbrev pub IsMadeBy :
     {A B : Type 0} → (A → B) → Result A MakeFault → Result B MakeFault → Type 0
 IsMadeBy view (Ok x) wanted = wanted ≡ Ok (view x)
@@ -60,7 +64,7 @@ IsMadeBy view (Err Memory) wanted = Unit {0}
 IsMadeBy view (Err Disk) wanted = Unit {0}
 IsMadeBy view (Err fault) wanted = wanted ≡ Err fault
 
--- a package at this place is refused for the first of its tests that fails
+-- a package that the operand at this place names is refused for the first of its tests that fails
 abbrev pub IsRefusedAt : ℕ → MakeFault → Option Cause → Type 0
 IsRefusedAt place (FileBad at cause) failed = (at ≡ place) × (failed ≡ Some cause)
 IsRefusedAt place Memory failed = Unit {0}

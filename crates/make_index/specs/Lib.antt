@@ -1,3 +1,5 @@
+-- The definitions of this crate, whose rules stand in `docs/commands.md`, "`mkndx PACKAGE..`".
+
 -- what the contract of `apk` says
 pub mod Entries
 pub mod EntryOrder

@@ -1,14 +1,15 @@
 -- What the program's entries stand for.
+-- No rule of a document: serves the contracts of `src/entry.rt` and `src/index.rt`.
 use Rattle.std.specs.Prelude.{List, Vec, map}
 use Rattle.std.specs.declared.alloc.Global.{Global}
 use Rattle.adb_view.specs.Plain.{Plain}
 use Rattle.make_index.specs.Kept.{kept_value}
 use Rattle.make_index.specs.declared.entry.Entry.{Entry}
 
--- the plain value
+-- the plain value of an entry, as it is written
 abbrev pub entry_view : Entry → Plain
 entry_view entry = kept_value entry.source
 
--- of several, in their order
+-- the plain values of entries, in their order
 abbrev pub entries_view : Vec Entry Global → List Plain
 entries_view entries = map entry_view entries.items

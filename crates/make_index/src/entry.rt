@@ -1,4 +1,6 @@
 //! An entry of an index: the tests of its package, and its order among the others.
+//! The rules stand in `docs/commands.md`, "`mkndx PACKAGE..`" (the order of packages, and that each
+//! must pass all tests of `verify`), and "`verify FILE..`" there.
 ghost use Rattle.adb_schema.specs.Soundness.{first_fault, payload_in, root_value};
 ghost use Rattle.adb_values.specs.Drafts.{draft_with};
 ghost use Rattle.base_core.specs.declared.cause.Cause.{Cause};
@@ -30,10 +32,15 @@ use version_core::Version;
 /// What an index says of a package. Contracts see the plain value, by `entry_view` of `specs/`.
 #[derive(Drop)]
 pub(crate) struct Entry {
+    /// The name of the package.
     name: Vec<u8>,
+    /// The text of the package's version.
     version: Vec<u8>,
+    /// The id of the package: the SHA-256 of its payload.
     id: [u8; 32],
+    /// What the entry is written from.
     source: EntrySource,
+    // The three are those of the entry, and the version is one.
     ghost keyed: { IsKeyed name.items version.items id (kept_value source) },
 }
 
@@ -82,7 +89,7 @@ impl Entry {
         self.id.cmp(&other.id)
     }
 
-    /// Writes the entry.
+    /// Writes the entry into the draft of an index.
     pub(crate) fn write(&self, alloc: Global, draft: &mut Draft) -> Result<(), AllocError>
         ensures { OnOk result (draft.new ≡ draft_with (entry_view self.now) draft.old) }
     {
@@ -98,26 +105,34 @@ fn compare_versions(one: &[u8], other: &[u8]) -> Ordering
 {
     match (Version::read(one), Version::read(other)) {
         (Some(one), Some(other)) => one.compare(&other),
+        // Both texts are versions, by the contract.
         _ => unreachable!(),
     }
 }
 
-/// What an entry is made of. No payload: it passes a limit of the writer.
+/// What an entry is made of, of a package that was tested.
 #[derive(Drop)]
 struct Parts {
+    /// The name of the package.
     name: Vec<u8>,
+    /// The text of the package's version.
     version: Vec<u8>,
+    /// The id of the package: the SHA-256 of its payload.
     id: [u8; 32],
+    /// The entry in a payload of its own; none where the entry alone passes a limit of the writer.
     payload: Option<Vec<u8>>,
 }
 
-/// Makes all tests of a package, and gives what its entry is made of.
+/// Makes all tests of the package in a file, which the operand at this place names, and gives what
+/// its entry is made of.
 fn read_parts(alloc: Global, place: u32, file: &[u8]) -> Result<Parts, MakeFault>
+    // What is refused is told with the first test that fails.
     ensures bad { IfErr result (λ fault. IsRefusedAt place fault (package_fault file.now)) }
     ensures sound { IfOk result (λ _. package_fault file.now ≡ None) }
     ensures opened { IfOk result (λ _. first_fault Tables.Package file.now ≡ None) }
     ensures keys { IfOk result (λ parts.
         IsKeyed parts.name.items parts.version.items parts.id (entry_of_package file.now)) }
+    // A payload that is kept holds the entry.
     ensures payload { IfOk result (λ parts.
         IfSome parts.payload (λ payload. HoldsEntry payload.items (entry_of_package file.now))) }
 {
@@ -168,7 +183,7 @@ pub(crate) fn open_tested<'a>(
     }
 }
 
-/// Reads the files of a package to the last.
+/// Reads the files of a package to the last, which tests their contents.
 fn test_files(pkg: &mut Package<'_>) -> Result<(), Cause>
     ensures files { result_err result ≡ fault_in (opened_files pkg.old) }
     ensures value { opened_value pkg.new ≡ opened_value pkg.old }
@@ -178,7 +193,7 @@ fn test_files(pkg: &mut Package<'_>) -> Result<(), Cause>
     Ok(())
 }
 
-/// A package at this place is refused.
+/// The refusal of a package, which the operand at this place names, for a fault of it.
 fn refused(place: u32, fault: PackageFault) -> MakeFault
     ensures { (failed : Option Cause) → IsFaultOf fault failed → IsRefusedAt place result failed }
 {

@@ -1,5 +1,7 @@
 //! Makes an index of packages (apk(8), `mkndx`): reads the packages that operands name, puts their
 //! entries in order, and writes the container.
+//! The rule stands in `docs/commands.md`, "`mkndx PACKAGE..`", with the refusals in their order;
+//! the fields in `docs/formats.md`, "Schemas", table 8.
 
 ghost use Rattle.adb_tables.specs.Schema.{shape_of, table};
 ghost use Rattle.adb_schema.specs.Soundness.{first_fault};
@@ -53,10 +55,13 @@ use version_core::order_is_total;
 /// index passes a limit of the writer. `Disk` where the tree failed, and `Memory`.
 pub fn make<T: Tree>(alloc: Global, command: &Command, tree: &mut T) -> Result<Vec<u8>, MakeFault>
     requires { command.now.applet ≡ Applet.Mkndx }
+    // Over the files of a tree that tells them.
     ensures made { IfObservable (T.history tree.old) (λ v.
         IsMadeBy (λ file. file.items) result (made_index command.now (reads_of v))) }
+    // Over every tree: by some bytes for each read. The first operand's read has the number 0.
     ensures found { (read : Reads) × AreFiles read 0 command.now.operands
         × IsMadeBy (λ file. file.items) result (made_index command.now read) }
+    // The tree is only read, and `Disk` has a fault of it for its cause.
     ensures tree { OnlyReads MakeFault.Disk (T.history tree.old) (T.history tree.new)
         (T.counts tree.old) (T.counts tree.new) result }
 {
@@ -65,7 +70,7 @@ pub fn make<T: Tree>(alloc: Global, command: &Command, tree: &mut T) -> Result<V
     index_file(alloc, description(command.values()), entries)
 }
 
-/// The description that a command gives, or nothing.
+/// The description that a command gives by `-d`, or nothing.
 fn description(values: &Values) -> &[u8]
     ensures { result.now ≡ description_in values.now }
 {
@@ -100,7 +105,7 @@ fn read_entries<T: Tree>(
     Ok(entries)
 }
 
-/// Adds an entry at the end.
+/// Puts an entry behind the others.
 fn add_entry(entries: &mut Vec<Entry>, entry: Entry) -> Result<(), AllocError>
     ensures { IfOk result (λ _.
         map entry_view entries.new.items
@@ -111,7 +116,7 @@ fn add_entry(entries: &mut Vec<Entry>, entry: Entry) -> Result<(), AllocError>
 }
 
 /// Reads the package in the file of this name, and makes all tests of it. The operand at a place
-/// names it.
+/// names the file.
 fn read_entry<T: Tree>(
     alloc: Global,
     place: u32,
@@ -129,7 +134,8 @@ fn read_entry<T: Tree>(
     entry_of(alloc, place, found)
 }
 
-/// The entry of what was found.
+/// The entry of what was found under the name that the operand at a place gives; a file that is
+/// absent is refused.
 fn entry_of(alloc: Global, place: u32, found: Option<Vec<u8>>) -> Result<Entry, MakeFault>
     ensures made { IsMade entry_view result (found_entry place (bytes_in found)) }
     ensures bytes { IfSome (bytes_in found) IsFile }
@@ -149,13 +155,14 @@ fn index_file(alloc: Global, description: &[u8], entries: Vec<Entry>) -> Result<
     ensures { IsMade (λ file. file.items) result
         (index_of description.now (map entry_view entries.items)) }
 {
+    // Only the order changes.
     let mut entries = entries;
     sort_entries(&mut entries)?;
     let payload = index_payload(alloc, description, &entries)?;
     Ok(file_of(alloc, INDEX_WORD, &payload)?)
 }
 
-/// Puts entries into their order; equal ones stay in theirs.
+/// Puts entries into the order of an index; equal ones stay in the order that they have.
 fn sort_entries(entries: &mut Vec<Entry>) -> Result<(), AllocError>
     ensures { IfOk result (λ _.
         map entry_view entries.new.items ≡ sorted_by entry_cmp (map entry_view entries.old.items)) }
@@ -165,7 +172,7 @@ fn sort_entries(entries: &mut Vec<Entry>) -> Result<(), AllocError>
     Ok(())
 }
 
-/// The payload of an index.
+/// The payload of an index with this description and these entries, in their order.
 fn index_payload(alloc: Global, description: &[u8], entries: &[Entry]) -> Result<Vec<u8>, MakeFault>
     ensures made { IfOk result (λ payload.
         written_of (value_of_index description.now (map entry_view entries.now))
@@ -179,7 +186,8 @@ fn index_payload(alloc: Global, description: &[u8], entries: &[Entry]) -> Result
     Ok(draft.finish()?)
 }
 
-/// Writes the values of an index.
+/// Writes the values of an index: its description, and its entries. No pattern for names of package
+/// files is written.
 fn write_index(
     alloc: Global,
     draft: &mut Draft,
@@ -195,7 +203,7 @@ fn write_index(
     draft.close_object()
 }
 
-/// Writes an array of entries.
+/// Writes entries as an array, in their order.
 fn write_entries(alloc: Global, draft: &mut Draft, entries: &[Entry]) -> Result<(), AllocError>
     ensures { OnOk result (draft.new
         ≡ draft_with (arr_value (plains_of_list (map entry_view entries.now))) draft.old) }
@@ -210,10 +218,13 @@ fn write_entries(alloc: Global, draft: &mut Draft, entries: &[Entry]) -> Result<
 /// The entry of a package is normal and has the shape of an info, and its version is one where the
 /// package is sound.
 pub fn an_entry_is_an_info()
+    // The entry is an object of the fields of table 3.
     ensures shape { (file : List ℕ)
         → HasShape (shape_of (Kinds.Obj Tables.PkgInfo)) (entry_of_package file) }
+    // The entry is normal where the file is one.
     ensures normal { (file : List ℕ) → All (λ b. b < 256) file → length file < 2 ^ 64
         → IsNormal (entry_of_package file) }
+    // Its version is one where the package is sound.
     ensures version { (file : List ℕ) → first_fault Tables.Package file ≡ None
         → is_version (version_in (entry_of_package file)) ≡ true }
 {
@@ -250,7 +261,8 @@ pub fn entries_stand_by_name_version_and_id()
         → bytes_cmp (id_in a) (id_in b) ≡ Less → entry_cmp a b ≡ Less }
 {}
 
-/// The name, the version and the id of an entry are its fields of these names in the table.
+/// The name, the version and the id by which an entry is ordered are its fields of these names in
+/// the table.
 pub fn an_entry_is_ordered_by_its_named_fields()
     ensures name { (fields : Plains) (v : Plain)
         → value_by_name (codes "name") (table PkgInfo) fields ≡ Some v

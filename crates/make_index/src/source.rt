@@ -1,4 +1,7 @@
 //! What is kept of a package until the index is written.
+//! The rule for what is kept stands in `docs/DECISIONS.md`, "Making": the file of a package whose
+//! information alone passes a limit of the writer is kept to the end. What an entry has, says
+//! `docs/commands.md`, "`mkndx PACKAGE..`".
 ghost use Rattle.adb_schema.specs.Soundness.{first_fault, root_value};
 ghost use Rattle.adb_tables.specs.Values.{is_sound, entry_in};
 ghost use Rattle.adb_view.specs.Head.{head_fault, root_of};
@@ -20,36 +23,41 @@ use adb_write::WriteFault;
 use pkg_core::{Package, PackageFault};
 use std::alloc::{AllocError, Global};
 
-/// A payload of its own for an entry, which is its root.
+/// A payload whose root is the entry of one package, and nothing else is in it.
 #[derive(Drop)]
 pub(crate) struct EntryPayload {
+    /// The bytes of the payload.
     pub(crate) payload: Vec<u8>,
+    // The payload can be read, and its root is an object of the fields of table 3.
     ghost head: { is_none (head_fault payload.items) ≡ true },
     ghost sound: { is_sound payload.items (Kinds.Obj Tables.PkgInfo) (root_of payload.items)
         ≡ true },
 }
 
-/// The file of a package.
+/// The file of a package whose entry alone passes a limit of the writer.
 #[derive(Drop)]
 pub(crate) struct PackageFile {
+    /// The bytes of the file.
     pub(crate) file: Vec<u8>,
+    // The first block of the file passes all tests of a package; the contents behind it were tested
+    // before.
     ghost sound: { is_none (first_fault Tables.Package file.items) ≡ true },
 }
 
-/// An entry of an index that is still to be written.
+/// What the entry of a package is written from.
 #[derive(Drop)]
 pub(crate) enum EntrySource {
     /// The entry in a payload of its own.
     Payload(EntryPayload),
     /// The package's file, where the entry alone passes a limit of the writer. An index with it is
-    /// too large.
+    /// too large, and the two counts that the refusal tells are found by writing the entry again.
     File(PackageFile),
 }
 
 impl EntrySource {
     ghost use Rattle.make_index.specs.Kept.{kept_value};
 
-    /// Writes the entry.
+    /// Writes the entry into a draft.
     pub(crate) fn write(&self, alloc: Global, draft: &mut Draft) -> Result<(), AllocError>
         ensures { OnOk result (draft.new ≡ draft_with (kept_value self.now) draft.old) }
     {
@@ -63,11 +71,12 @@ impl EntrySource {
 impl EntryPayload {
     ghost use Rattle.make_index.specs.Kept.{copy_of_entry};
 
-    /// Writes the entry.
+    /// Writes the entry into a draft, with the id and the length that it has.
     fn write(&self, alloc: Global, draft: &mut Draft) -> Result<(), AllocError>
         ensures { OnOk result (draft.new ≡ draft_with
             (copy_of_entry (root_value Tables.PkgInfo self.now.payload.items)) draft.old) }
     {
+        // The payload was written here, so its head is good.
         let Ok(adb) = Adb::new(&self.payload) else {
             unreachable!()
         };
@@ -77,7 +86,7 @@ impl EntryPayload {
 }
 
 impl PackageFile {
-    /// Writes the entry.
+    /// Writes the entry into a draft: the package is opened once more.
     fn write(&self, alloc: Global, draft: &mut Draft) -> Result<(), AllocError>
         ensures { OnOk result
             (draft.new ≡ draft_with (entry_of_package self.now.file.items) draft.old) }
@@ -85,12 +94,14 @@ impl PackageFile {
         match Package::new(alloc, &self.file) {
             Ok(pkg) => write_package(alloc, draft, &pkg, self.file.len() as u64),
             Err(PackageFault::Memory) => Err(AllocError),
+            // The file was opened before, and passed the tests.
             Err(PackageFault::Bad(_)) => unreachable!(),
         }
     }
 }
 
-/// Writes the entry of a package whose file has this length.
+/// Writes the entry of a package whose file has this length. In the clauses, 0 is the index of
+/// `info` among the fields of a package (1 in table 7 of `docs/formats.md`, "Schemas").
 fn write_package(
     alloc: Global,
     draft: &mut Draft,
@@ -106,7 +117,8 @@ fn write_package(
     write_info(alloc, draft, &info, &id, len)
 }
 
-/// The entry of a package in a payload of its own, or None where it passes a limit of the writer.
+/// The entry of a package in a payload of its own, or None where the entry passes a limit of the
+/// writer. `len` is the length of the package's file.
 pub(crate) fn entry_payload(
     alloc: Global,
     pkg: &Package<'_>,

@@ -1,4 +1,5 @@
--- Of which faults a fault of making speaks.
+-- Which fault of making a fault of another kind is. Serves the conversions to `MakeFault` and the
+-- contracts of the crates that make containers.
 use Rattle.std.specs.Prelude.{◌≡◌, ℕ, List, Result, Err}
 use Rattle.base_core.specs.declared.tree.TreeFault.{TreeFault}
 use Rattle.base_core.specs.declared.tree.TreeFault.TheVariants as Trees
@@ -13,12 +14,13 @@ abbrev pub IsMakeFaultOf : TreeFault → MakeFault → Type 0
 IsMakeFaultOf Trees.Disk fault = fault ≡ Disk
 IsMakeFaultOf Trees.Memory fault = fault ≡ Memory
 
--- and that a fault of the writer is
+-- the fault of making that a fault of the writer is
 abbrev pub IsMakeFaultBy : WriteFault → MakeFault → Type 0
 IsMakeFaultBy (Writes.TooLarge bytes values) fault = fault ≡ TooLarge bytes values
 IsMakeFaultBy Writes.Memory fault = fault ≡ Memory
 
--- a refusal is at the first place that offends; want of memory says nothing of the values
+-- a fault of the information is at the first place that offends; want of memory says nothing of the
+-- values
 abbrev pub IsInfoFault : {A : Type 0} → MakeFault → Result A ℕ → Type 0
 IsInfoFault (FileMissing place) answer = ⊥
 IsInfoFault (FileBad place cause) answer = ⊥
@@ -27,13 +29,13 @@ IsInfoFault (TooLarge bytes values) answer = ⊥
 IsInfoFault Disk answer = ⊥
 IsInfoFault Memory answer = Unit {0}
 
--- the counts with which the writer stops; want of memory says nothing of them
+-- a fault of writing has the counts with which the writer stops; want of memory says nothing of them
 abbrev pub IsOverflow : MakeFault → Result (List ℕ) PayloadCounts → Type 0
 IsOverflow (TooLarge bytes values) written = written ≡ Err (bytes, values)
 IsOverflow Memory written = Unit {0}
 IsOverflow fault written = ⊥
 
--- whatever the answer, unless the tree failed
+-- P holds whatever the answer is, unless it is that the tree failed
 abbrev pub UnlessDisk : {A : Type 0} → Result A MakeFault → Type 0 → Type 0
 UnlessDisk (Err Disk) P = Unit {0}
 UnlessDisk result P = P

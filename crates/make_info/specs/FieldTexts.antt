@@ -1,5 +1,7 @@
 -- The values of `-I` of a command: which field each is for, the package's name and version among
 -- them, and the file that is made.
+-- The rules stand in `docs/commands.md`, "`mkpkg`", the first paragraphs, and in "Words", the rows of
+-- `-I` and `-o`.
 use Rattle.command_core.specs.declared.values.TheConstants.{INFO, OUTPUT}
 use Rattle.std.specs.Prelude.{ℕ, ◌+◌, ◌==◌, nat_lt, Bool, false, List, [], ◌∷◌, ◌++◌, length, take, drop, position, codes, Option, Some, None, option_map, option_and_then, is_some, not, ◌&&◌, if◌then◌else◌}
 use Rattle.std.specs.List.{filter}
@@ -21,7 +23,7 @@ pub record FieldText : Type 0 where
   pub field : Field
   pub value : List ℕ
 
--- by the index of the first `:`
+-- the field and the value of a text, by how many bytes stand before its first `:`
 abbrev pub field_text_from : List ℕ → Option ℕ → Option FieldText
 field_text_from text None = None
 field_text_from text (Some colon) =
@@ -33,11 +35,11 @@ field_text_from text (Some colon) =
 abbrev pub field_text_in : List ℕ → Option FieldText
 field_text_in text = field_text_from text (position (λ b. b == COLON) text)
 
--- fields are told apart by the words that name them
+-- whether two fields are one: they are told apart by the words that name them
 abbrev pub is_same : Field → Field → Bool
 is_same f g = bytes_eq (field_word f) (field_word g)
 
--- false too where the text is no FIELD:VALUE
+-- whether a text FIELD:VALUE is for this field; false too where the text is none
 abbrev pub is_text_for : Field → Option FieldText → Bool
 is_text_for f None = false
 is_text_for f (Some given) = is_same given.field f
@@ -46,7 +48,8 @@ is_text_for f (Some given) = is_same given.field f
 abbrev pub is_for : Field → OptionValue → Bool
 is_for f v = is_text_for f (field_text_in v.text)
 
--- other options with a value, such as `-o`, say nothing of the information
+-- whether a value is one of `-I`; other options with a value, such as `-o`, say nothing of the
+-- information
 abbrev pub is_info_option : OptionValue → Bool
 is_info_option v = v.letter == INFO
 
@@ -54,7 +57,7 @@ is_info_option v = v.letter == INFO
 abbrev pub values_of_info : List OptionValue → List OptionValue
 values_of_info values = filter is_info_option values
 
--- what is given, if it is for this field
+-- the value of a text FIELD:VALUE, if it is for this field
 abbrev pub text_when_for : Field → Option FieldText → Option (List ℕ)
 text_when_for f None = None
 text_when_for f (Some given) = if is_same given.field f then Some given.value else None
@@ -68,7 +71,7 @@ abbrev pub first_text_for : Field → List OptionValue → Option (List ℕ)
 first_text_for f [] = None
 first_text_for f (v ∷ vs) = option_or (text_for f v) (first_text_for f vs)
 
--- a text that a rule allows
+-- this value, if its rule allows it
 abbrev pub if_passes : (List ℕ → Bool) → List ℕ → Option (List ℕ)
 if_passes is_good value = if is_good value then Some value else None
 
@@ -77,16 +80,16 @@ abbrev pub package_name_in : List OptionValue → Option (List ℕ)
 package_name_in values =
     option_and_then (if_passes is_package_name) (first_text_for Fields.Name values)
 
--- a version that the grammar allows; of several `-I version:..` the first counts
+-- the package's version, where one is given and good; of several the first counts
 abbrev pub package_version_in : List OptionValue → Option (List ℕ)
 package_version_in values =
     option_and_then (if_passes is_version) (first_text_for Fields.Version values)
 
--- NAME-VERSION.apk
+-- the name of a package's file, where the output has none of its own: NAME-VERSION.apk
 abbrev pub package_file_name : List ℕ → List ℕ → List ℕ
 package_file_name name version = name ++ (HYPHEN ∷ version ++ codes ".apk")
 
--- None where one of the two is lacking
+-- the name of a package's file; None where its name or its version is lacking
 abbrev pub package_file_name_of : Option (List ℕ) → Option (List ℕ) → Option (List ℕ)
 package_file_name_of name version =
     option_and_then (λ name. option_map (package_file_name name) version) name
@@ -95,15 +98,16 @@ package_file_name_of name version =
 abbrev pub default_output : List OptionValue → Option (List ℕ)
 default_output values = package_file_name_of (package_name_in values) (package_version_in values)
 
--- the value of `-o`, without a leading `./`
+-- the file that a value of `-o` names, without a leading `./`
 abbrev pub file_name_in : OptionValue → List ℕ
 file_name_in v = without_dot v.text
 
--- the file that `-o` names
+-- the file that `-o` names, if it was given
 abbrev pub named_output : List OptionValue → Option (List ℕ)
 named_output values = option_map file_name_in (first_value OUTPUT values)
 
--- a scratch name beside it would be no name; where no output is known nothing is too long
+-- whether a file's name is too long, since its scratch name, eight bytes longer, would be none; where
+-- no output is known nothing is too long
 abbrev pub is_long_name : Option (List ℕ) → Bool
 is_long_name None = false
 is_long_name (Some file) = nat_lt LONGEST_OUTPUT (length file)

@@ -1,4 +1,6 @@
 -- The fields that `-I` of `mkpkg` may give, and what a value of each says (apk(8), `mkpkg`).
+-- The rules stand in `docs/commands.md`, "`mkpkg`", the table of fields; of dependencies without tag in
+-- `docs/formats.md`, "Dependencies".
 use Rattle.std.specs.Prelude.{ℕ, ◌^◌, ◌==◌, nat_lt, Bool, true, false, ◌&&◌, if◌then◌else◌, List, [], ◌∷◌, length, map, codes, Option, Some, None, option_map, option_and_then, is_some, Result, Ok, Err}
 use Rattle.std.specs.List.{filter, find, slice_split}
 use Rattle.std.specs.Str.{bytes_eq}
@@ -14,7 +16,7 @@ use Rattle.make_info.specs.declared.field.Field.TheVariants as Fields
 use Rattle.make_info.specs.declared.field.Kind.{Kind}
 use Rattle.make_info.specs.declared.field.Kind.TheVariants as Kinds
 
--- the word that names a field
+-- the word that names a field: what stands before the `:` of a value of `-I`
 abbrev pub field_word : Field → List ℕ
 field_word Fields.Name = codes "name"
 field_word Fields.Version = codes "version"
@@ -82,7 +84,8 @@ is_list Kinds.Number = false
 is_list Kinds.Dependencies = true
 is_list Kinds.Texts = true
 
--- a value of a field; pairs of digits stand for their bytes
+-- one value of a field: a text, a number, or a dependency; pairs of hexadecimal digits stand for their
+-- bytes
 pub data FieldValue : Type 0 where
   text : List ℕ → FieldValue
   number : ℕ → FieldValue
@@ -90,12 +93,13 @@ pub data FieldValue : Type 0 where
 
 -- ---- the values that a text is under a kind; None where it is outside of the kind's grammar
 
--- a text that its rule allows is the field's one value
+-- the values of a field that has one text, which its rule has to allow
 abbrev pub text_if : Bool → List ℕ → Option (List FieldValue)
 text_if true value = Some (text value ∷ [])
 text_if false value = None
 
--- the bytes that hexadecimal digits spell; of a text that is none, no value
+-- the values of a field of hexadecimal digits: the bytes that they spell; None where the text is no
+-- such digits
 abbrev pub value_of_digits : Result (List ℕ) FromHexError → Option (List FieldValue)
 value_of_digits (Ok bytes) = Some (text bytes ∷ [])
 value_of_digits (Err e) = None
@@ -106,37 +110,38 @@ decimal_number value =
     if is_decimal value && nat_lt (digits_value 10 value) (2 ^ 64) then
     Some (digits_value 10 value) else None
 
--- the parts between spaces; empty ones are passed over
+-- whether a part of a list is counted: empty ones, between two spaces, are passed over
 abbrev pub is_nonempty : List ℕ → Bool
 is_nonempty part = nat_lt 0 (length part)
 
--- only spaces (32) part them; a tab is a byte of its part
+-- the parts of a list, between spaces (32) alone: a tab is a byte of its part
 abbrev pub nonempty_parts : List ℕ → List (List ℕ)
 nonempty_parts value = filter is_nonempty (slice_split (λ b. b == 32) value)
 
--- each part is a value of its own
+-- the values of a list of texts: each part is a value of its own
 abbrev pub text_values : List (List ℕ) → List FieldValue
 text_values parts = map text parts
 
--- a tag stands in world alone, never in a package
+-- a dependency, if it has no tag: a tag stands in world alone, never in a package
 abbrev pub if_untagged : Dependency → Option Dependency
 if_untagged d = if is_some d.tag then None else Some d
 
--- a dependency without tag
+-- the dependency without tag that a text is, if it is one
 abbrev pub need_in : List ℕ → Option Dependency
 need_in part = option_and_then if_untagged (dependency_of part)
 
--- a dependency in front of others; one that is none spoils all
+-- the values of a dependency and of others behind it; None where one of them is no dependency
 abbrev pub and_needs : Option Dependency → Option (List FieldValue) → Option (List FieldValue)
 and_needs d others =
     option_and_then (λ d. option_map (λ others. need d ∷ others) others) d
 
--- one value for each part; None where a part is no dependency
+-- the values of a list of dependencies, one for each part; None where a part is no dependency
 abbrev pub needs_in : List (List ℕ) → Option (List FieldValue)
 needs_in [] = Some []
 needs_in (part ∷ parts) = and_needs (need_in part) (needs_in parts)
 
--- A list kind may give several values, or none; each other kind gives one. Of texts all is allowed.
+-- the values that a text is under a kind: of a list several or none, of another kind one; None where
+-- the text is not allowed
 abbrev pub values_by_kind : Kind → List ℕ → Option (List FieldValue)
 values_by_kind Kinds.PackageName value = text_if (is_package_name value) value
 values_by_kind Kinds.PackageVersion value = text_if (is_version value) value

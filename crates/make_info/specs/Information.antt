@@ -1,5 +1,7 @@
 -- The information of a package, as the values of `-I` say it (apk(8), `mkpkg`), and its value
 -- (apk-v3(5)).
+-- The rules stand in `docs/commands.md`, "`mkpkg`", the table of fields and the row of `invalid package
+-- information`; the order of the fields in `docs/formats.md`, "Schemas", tables 1 and 3.
 use Rattle.std.specs.Prelude.{ℕ, Bool, false, ◌&&◌, ◌||◌, not, if◌then◌else◌, List, [], ◌∷◌, ◌++◌, map, Option, Some, None, option_map, option_and_then, is_some, unwrap_or, Result, Ok, Err}
 use Rattle.std.specs.List.{find, flat_map, list_any}
 use Rattle.command_core.specs.Command.{CommandLine}
@@ -12,17 +14,18 @@ use Rattle.make_info.specs.Fields.{FieldValue, text, number, need, is_list, kind
 use Rattle.make_info.specs.FieldTexts.{FieldText, field_text_in, values_of_info, is_for, is_same, is_too_long}
 use Rattle.make_info.specs.Values.{number_value, size_value}
 
--- A field with a value. An information is the list of all of them, in the order given: of a list
--- field one item for each part of each text, of another field one item.
+-- An item of an information: a field with a value. An information is the list of all of them, in the
+-- order given: of a list field one item for each part of each text, of another field one item.
 pub record InfoItem : Type 0 where
   pub field : Field
   pub value : FieldValue
 
--- one item: a field of a list has one for each of its parts
+-- an item by its parts
 abbrev pub info_item : Field → FieldValue → InfoItem
 info_item f value = record { field = f; value = value }
 
--- the items so far, with values of a field
+-- the items so far, and behind them one for each of these values of a field; None where there are no
+-- values, since the text is not allowed
 abbrev pub with_values :
     List InfoItem → Field → Option (List FieldValue) → Option (List InfoItem)
 with_values before f values = option_map (λ values. before ++ map (info_item f) values) values
@@ -32,8 +35,8 @@ abbrev pub items_of_text : FieldText → Option (List InfoItem)
 items_of_text given =
     with_values [] given.field (values_by_kind (kind_of_field given.field) given.value)
 
--- what one value of `-I` says; None where it is no FIELD:VALUE, or the value is outside the field's
--- grammar
+-- the items that one value of `-I` says; None where it is no FIELD:VALUE, or the value is outside the
+-- field's grammar
 abbrev pub items_of_option : OptionValue → Option (List InfoItem)
 items_of_option v = option_and_then items_of_text (field_text_in v.text)
 
@@ -43,7 +46,7 @@ repeats_field before None = false
 repeats_field before (Some given) =
     not (is_list (kind_of_field given.field)) && list_any (is_for given.field) before
 
--- a field that is given once is given again
+-- whether a value is for a field that is given once, and one for it stands before
 abbrev pub is_second : List OptionValue → OptionValue → Bool
 is_second before v = repeats_field before (field_text_in v.text)
 
@@ -54,14 +57,14 @@ offends too_long before v =
     not (is_some (items_of_option v))
     || (is_second before v || (too_long && is_for Fields.Version v))
 
--- the place of the first value that offends behind those before it
+-- the place of the first of these values that offends behind those before it
 abbrev pub first_offence : Bool → List OptionValue → List OptionValue → Option ℕ
 first_offence too_long before [] = None
 first_offence too_long before (v ∷ vs) =
     if offends too_long before v then Some v.place
     else first_offence too_long (before ++ v ∷ []) vs
 
--- whether a package's name or version is lacking
+-- whether no value is for the package's name, or none for its version
 abbrev pub lacks_name_or_version : List OptionValue → Bool
 lacks_name_or_version values =
     not (list_any (is_for Fields.Name) values) || not (list_any (is_for Fields.Version) values)
@@ -70,7 +73,7 @@ lacks_name_or_version values =
 abbrev pub all_items : List OptionValue → List InfoItem
 all_items values = flat_map (λ v. unwrap_or (items_of_option v) []) values
 
--- the place that offends, or else the rest
+-- a refusal at the place that offends, if there is one, and else what is given
 abbrev pub unless_offence :
     Option ℕ → Result (List InfoItem) ℕ → Result (List InfoItem) ℕ
 unless_offence None otherwise = otherwise
@@ -84,20 +87,20 @@ information_of values behind =
     unless_offence (first_offence (is_too_long values) [] own)
     (if lacks_name_or_version own then Err behind else Ok (all_items own))
 
--- of a command line; the place behind its last argument is where a lacking name or version is
--- reported
+-- the information that a command line says, or the first place that offends; the place behind its last
+-- argument is where a lacking name or version is reported
 abbrev pub information : CommandLine → Result (List InfoItem) ℕ
 information command = information_of command.values command.behind
 
 -- ---- the value of an information
 
--- name, version, match
+-- the object of a dependency (table 1): name, version, match
 abbrev pub need_value : DepValue → Plain
 need_value v =
     obj_value
     (more (blob_value v.name) (more (blob_value v.version) (more (number_value v.matching) none)))
 
--- as a container stores it; a text that is empty is Null
+-- the plain value that stands in a package for one value of a field; a text that is empty is Null
 abbrev pub plain_value : FieldValue → Plain
 plain_value (text bytes) = blob_value bytes
 plain_value (number n) = int n
@@ -107,7 +110,7 @@ plain_value (need d) = need_value (dep_value d)
 abbrev pub is_item_for : Field → InfoItem → Bool
 is_item_for f item = is_same item.field f
 
--- Null, where nothing is given for a field
+-- the plain value of an item; Null where nothing is given for the field
 abbrev pub item_value : Option InfoItem → Plain
 item_value None = null
 item_value (Some item) = plain_value item.value
@@ -116,19 +119,19 @@ item_value (Some item) = plain_value item.value
 abbrev pub value_of_single : Field → List InfoItem → Plain
 value_of_single f info = item_value (find (is_item_for f) info)
 
--- the values of all items of a field
+-- the plain values of all items of a field, in their order
 abbrev pub plains_for : Field → List InfoItem → Plains
 plains_for f [] = none
 plains_for f (item ∷ items) =
     if is_item_for f item then more (plain_value item.value) (plains_for f items)
     else plains_for f items
 
--- the value of a field to which each value adds
+-- the value of a field to which each value adds: an array
 abbrev pub value_of_list : Field → List InfoItem → Plain
 value_of_list f info = arr_value (plains_for f info)
 
--- the fields of table 3 in order, with the size of the files; hashes, the file's size, layer and
--- the last field are Null
+-- the 22 fields of table 3 in order, with the size of the files; hashes (3), file-size (13), layer (20)
+-- and the unused one (22) are Null
 abbrev pub information_fields : List InfoItem → ℕ → Plains
 information_fields info size =
     more (value_of_single Fields.Name info) (more (value_of_single Fields.Version info) (more null
@@ -142,7 +145,7 @@ information_fields info size =
     (more (value_of_list Fields.Recommends info) (more null
     (more (value_of_list Fields.Tags info) (more null none)))))))))))))))))))))
 
--- the object of these fields
+-- the object of a package's information, with the size of the files
 unfoldable pub information_value : List InfoItem → ℕ → Plain
 information_value info size = obj_value (information_fields info size)
 

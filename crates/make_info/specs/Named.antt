@@ -1,4 +1,6 @@
 -- Which value stands at the field of a table that a word names (apk-v3(5)).
+-- The rule stands in `docs/formats.md`, "Schemas", table 3. Serves the law
+-- `an_option_gives_the_field_of_its_name`.
 use Rattle.std.specs.Prelude.{ℕ, List, [], ◌∷◌, Option, Some, None, if◌then◌else◌}
 use Rattle.std.specs.Str.{bytes_eq}
 use Rattle.adb_tables.specs.Schema.{field_name_text}
@@ -9,14 +11,15 @@ use Rattle.make_info.specs.declared.field.Field.TheVariants as Fields
 use Rattle.make_info.specs.Fields.{is_list, kind_of_field}
 use Rattle.make_info.specs.Information.{InfoItem, value_of_list, value_of_single}
 
--- of values in the order of a table's fields, the one at the field of a name
+-- the value at the field of this name, of values in the order of a table's fields; None where no field
+-- has the name
 abbrev pub value_by_name : List ℕ → List Field → Plains → Option Plain
 value_by_name word [] values = None
 value_by_name word (f ∷ fields) none = None
 value_by_name word (f ∷ fields) (more v values) =
     if bytes_eq (field_name_text f.name) word then Some v else value_by_name word fields values
 
--- the value of a field that `-I` gives: of a list its items, else the one. The priority in
+-- the value of a field that `-I` gives: of a list the array of its items, else the one. The priority in
 -- replacing is none of a package's information.
 abbrev pub value_of_field : Options.Field → List InfoItem → Option Plain
 value_of_field Fields.ReplacesPriority info = None

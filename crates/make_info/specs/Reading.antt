@@ -1,4 +1,6 @@
 -- How the values of `-I` are read one after the other.
+-- The rules stand in `docs/commands.md`, "`mkpkg`". Serves the contracts of `information`, whose public
+-- ones cite *information*.
 use Rattle.std.specs.Prelude.{ℕ, Bool, not, ◌&&◌, ◌||◌, if◌then◌else◌, List, [], ◌∷◌, Option, Some, None, is_some}
 use Rattle.std.specs.List.{find}
 use Rattle.make_info.specs.declared.field.Field.TheVariants as Fields
@@ -6,11 +8,11 @@ use Rattle.make_info.specs.Fields.{is_list, is_nonempty, kind_of_field, values_b
 use Rattle.make_info.specs.FieldTexts.{FieldText, field_text_in, is_same}
 use Rattle.make_info.specs.Information.{InfoItem, is_item_for, with_values}
 
--- a part between spaces, unless it is empty
+-- the list of a part between spaces, unless it is empty
 abbrev pub nonempty_part : List ℕ → List (List ℕ)
 nonempty_part part = if is_nonempty part then part ∷ [] else []
 
--- whether there is an item for a field
+-- whether there is an item for the field of this text
 abbrev pub has_item_for : FieldText → List InfoItem → Bool
 has_item_for given before = is_some (find (is_item_for given.field) before)
 

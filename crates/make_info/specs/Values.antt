@@ -1,4 +1,6 @@
 -- Values that may be lacking, and lists of values.
+-- The rules stand in `docs/formats.md`, "Values": an entry may be Null. Serves the definitions of
+-- values of this crate and of others that write containers.
 use Rattle.std.specs.Prelude.{ℕ, ◌==◌, if◌then◌else◌, List, [], ◌∷◌, Option, Some, None}
 use Rattle.adb_view.specs.Plain.{Plain, null, int, Plains, none, more}
 
@@ -7,11 +9,11 @@ abbrev pub plains_of_list : List Plain → Plains
 plains_of_list [] = none
 plains_of_list (v ∷ vs) = more v (plains_of_list vs)
 
--- a size; one of 0 is Null
+-- the plain value of a size; one of 0 is Null
 abbrev pub size_value : ℕ → Plain
 size_value n = if n == 0 then null else int n
 
--- a number that may be lacking
+-- the plain value of a number that may be lacking, and is Null then
 abbrev pub number_value : Option ℕ → Plain
 number_value None = null
 number_value (Some n) = int n

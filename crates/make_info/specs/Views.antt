@@ -1,4 +1,5 @@
 -- What the program's values stand for.
+-- Serves the contracts of `information` and `writing`.
 use Rattle.dep_core.specs.Meets.{dependency}
 use Rattle.make_info.specs.declared.information.FieldText.{FieldText as FieldSlices}
 use Rattle.make_info.specs.declared.information.Value.{Value}
@@ -8,17 +9,17 @@ use Rattle.make_info.specs.Fields.{FieldValue, text, number, need}
 use Rattle.make_info.specs.FieldTexts.{FieldText}
 use Rattle.make_info.specs.Information.{InfoItem}
 
--- of a text FIELD:VALUE that was taken apart
+-- the field and the value of a text FIELD:VALUE that was taken apart
 abbrev pub field_text_view : FieldSlices → FieldText
 field_text_view slice = record { field = slice.field; value = slice.value.now }
 
--- of one value; hexadecimal digits have become the bytes that they spell
+-- one value of a field; hexadecimal digits have become the bytes that they spell
 abbrev pub value_view : Value → FieldValue
 value_view (Text bytes) = text bytes.now
 value_view (Bytes bytes) = text bytes.items
 value_view (Number n) = number n
 value_view (Need dep) = need (dependency dep)
 
--- of a field with a value
+-- an item: a field with a value
 abbrev pub item_view : Item → InfoItem
 item_view e = record { field = e.field; value = value_view e.value }

@@ -1,4 +1,5 @@
-//! Why nothing was made.
+//! Why nothing was made. The rules stand in `docs/commands.md`, "`mkpkg`" and "`mkndx PACKAGE..`",
+//! the tables of refusals.
 use adb_write::WriteFault;
 use base_core::{Cause, Disk, TreeFault};
 use std::alloc::AllocError;
@@ -28,6 +29,7 @@ impl From<AllocError> for MakeFault {
 
     ghost from_gives = { λ _ fault. fault ≡ Memory };
 
+    /// Where no memory was given nothing was made.
     fn from(_: AllocError) -> MakeFault {
         MakeFault::Memory
     }
@@ -39,6 +41,7 @@ impl From<Disk> for MakeFault {
 
     ghost from_gives = { λ _ fault. fault ≡ DiskFault };
 
+    /// A failed call of the tree is a fault of it.
     fn from(_: Disk) -> MakeFault {
         MakeFault::Disk
     }
@@ -49,6 +52,7 @@ impl From<TreeFault> for MakeFault {
 
     ghost from_gives = { λ tree fault. IsMakeFaultOf tree fault };
 
+    /// A listing that failed is a fault of the tree, or there was no memory for it.
     fn from(fault: TreeFault) -> MakeFault {
         match fault {
             TreeFault::Disk => MakeFault::Disk,
@@ -62,6 +66,7 @@ impl From<WriteFault> for MakeFault {
 
     ghost from_gives = { λ write fault. IsMakeFaultBy write fault };
 
+    /// A payload that could not be written passes a limit, or there was no memory for it.
     fn from(fault: WriteFault) -> MakeFault {
         match fault {
             WriteFault::TooLarge { bytes, values } => MakeFault::TooLarge { bytes, values },

@@ -1,4 +1,5 @@
 //! The fields of `-I` of `mkpkg` (apk(8)), and what a value of each has to be.
+//! The rules stand in `docs/commands.md`, "`mkpkg`", the table of fields.
 ghost use Rattle.make_info.specs.Fields.{field_of, field_word, is_list, kind_of_field, field_among, decimal_number};
 ghost use Rattle.command_core.specs.Operands.{is_decimal, has_zero_in_front};
 ghost use Rattle.std.specs.Char.{is_ascii_digit};
@@ -30,7 +31,7 @@ pub(crate) enum Field {
     Tags,
 }
 
-/// What a value has to be.
+/// What a value of a field has to be.
 #[derive(Clone, Copy)]
 pub enum Kind {
     /// A package's name.
@@ -49,7 +50,7 @@ pub enum Kind {
     Texts,
 }
 
-// All fields.
+// All fields that `-I` may give, each once.
 static FIELDS: [Field; 18] = [
     Field::Name,
     Field::Version,
@@ -72,7 +73,7 @@ static FIELDS: [Field; 18] = [
 ];
 
 impl Field {
-    /// The field that a word names.
+    /// The field that a word names; None where it names none.
     #[tactic(auto, unfolding(crate::specs::Fields::field_of))]
     pub(crate) fn of(word: &[u8]) -> Option<Field>
         ensures { result ≡ field_of word.now }
@@ -80,7 +81,7 @@ impl Field {
         find_named(&FIELDS, word)
     }
 
-    // The word that names it.
+    // The word that names the field.
     fn word(self) -> &'static [u8]
         ensures { result.now ≡ field_word self }
     {
@@ -106,7 +107,7 @@ impl Field {
         }
     }
 
-    /// What a value of it has to be.
+    /// What a value of the field has to be.
     pub(crate) fn kind(self) -> Kind
         ensures { result ≡ kind_of_field self }
     {

@@ -1,4 +1,6 @@
 //! The information of a package, read from the values of `-I` of `mkpkg` (apk(8)).
+//! The rules stand in `docs/commands.md`, "`mkpkg`", the table of fields and the row of `invalid
+//! package information`.
 
 ghost use Rattle.dep_core.specs.Meets.{dependency};
 ghost use Rattle.hex.specs.Hex.{decode_of};
@@ -34,7 +36,9 @@ const COLON: u8 = b':';
 /// A field, and the value that is given for it.
 #[derive(Clone, Copy)]
 pub(crate) struct FieldText<'a> {
+    /// The field that the value is for.
     pub field: Field,
+    /// What stands behind the first `:`.
     pub value: &'a [u8],
 }
 
@@ -118,7 +122,7 @@ fn read_values<'a>(
     Ok(Information { entries })
 }
 
-// Adds what a value says. False: it offends.
+// Adds what a value of `-I` says. False: the value offends.
 #[tactic(auto, unfolding(crate::specs::Reading::items_with))]
 fn add_value<'a>(
     entries: &mut Items<'a>,
@@ -147,23 +151,29 @@ fn is_lacking(entries: &Items<'_>) -> bool
     entries.find(Field::Name).is_none() || entries.find(Field::Version).is_none()
 }
 
-/// What is said of a field.
+/// One value of a field.
 #[derive(Drop)]
 pub(crate) enum Value<'a> {
+    /// A text as it was given.
     Text(&'a [u8]),
+    /// The bytes that hexadecimal digits spell.
     Bytes(Vec<u8>),
+    /// A number.
     Number(u64),
+    /// A dependency without tag.
     Need(Dep<'a>),
 }
 
-/// A field, and something that is said of it.
+/// An item of the information: a field, and one value of it.
 #[derive(Drop)]
 pub(crate) struct Item<'a> {
+    /// The field.
     pub field: Field,
+    /// What was given for it.
     pub value: Value<'a>,
 }
 
-/// What is said, in the order given.
+/// The items of an information, in the order given.
 #[derive(Drop)]
 pub(crate) struct Items<'a> {
     pub(crate) alloc: Global,
@@ -181,7 +191,7 @@ impl<'a> Model for Items<'a> {
 }
 
 impl<'a> Items<'a> {
-    /// Nothing said.
+    /// No items.
     pub(crate) fn new(alloc: Global) -> Items<'a>
         ensures { result ≡ [] }
     {
@@ -191,7 +201,7 @@ impl<'a> Items<'a> {
         }
     }
 
-    /// What is said first of a field.
+    /// The first item of a field, if there is one.
     pub(crate) fn find(&self, field: Field) -> Option<&Item<'a>>
         ensures { option_map (λ entry. item_view entry.now) result ≡ find
             (is_item_for field) self.now }
@@ -199,7 +209,7 @@ impl<'a> Items<'a> {
         self.entries.iter().find(|entry| entry.field == field)
     }
 
-    // Puts a field with its value behind the others.
+    // Adds an item behind the others.
     fn push(&mut self, field: Field, value: Value<'a>) -> Result<(), AllocError>
         ensures { OnOk result (self.new ≡ self.old ++ info_item field
             (value_view value.entry) ∷ []) }
@@ -208,7 +218,8 @@ impl<'a> Items<'a> {
         Ok(())
     }
 
-    /// Adds what a value says. False: it is outside of the grammar of its field.
+    /// Adds what a value says of its field. False: the value is outside of the grammar of the
+    /// field.
     pub(crate) fn add(&mut self, given: FieldText<'a>) -> Result<bool, AllocError>
         ensures { IfOk result (λ good. (if good then Some self.new else None)
             ≡ with_values self.old given.entry.field
@@ -226,7 +237,7 @@ impl<'a> Items<'a> {
         }
     }
 
-    // Adds a text that is good or not.
+    // Adds a text that its rule allows. False: the rule does not.
     fn add_text(&mut self, field: Field, text: &'a [u8], is_good: bool) -> Result<bool, AllocError>
         ensures { IfOk result (λ good. (if good then Some self.new else None)
             ≡ with_values self.old field (text_if is_good text.entry.now)) }
@@ -238,7 +249,7 @@ impl<'a> Items<'a> {
         Ok(true)
     }
 
-    // Adds the bytes of a text of digits.
+    // Adds the bytes that hexadecimal digits spell. False: the text is no such digits.
     fn add_bytes(&mut self, field: Field, digits: &'a [u8]) -> Result<bool, AllocError>
         ensures { IfOk result (λ good. (if good then Some self.new else None)
             ≡ with_values self.old field (value_of_digits (decode_of digits.entry.now))) }
@@ -253,7 +264,7 @@ impl<'a> Items<'a> {
         }
     }
 
-    // Adds a number.
+    // Adds a number. False: the text is none below 2^64, or has a zero in front.
     fn add_number(&mut self, field: Field, digits: &[u8]) -> Result<bool, AllocError>
         ensures { IfOk result (λ good. (if good then Some self.new else None)
             ≡ with_values self.old field (option_map (λ n. number n ∷ [])
@@ -266,7 +277,7 @@ impl<'a> Items<'a> {
         Ok(true)
     }
 
-    // Adds dependencies.
+    // Adds dependencies, with spaces between them. False: one of them is none without tag.
     fn add_needs(&mut self, field: Field, texts: &'a [u8]) -> Result<bool, AllocError>
         ensures { IfOk result (λ good. (if good then Some self.new else None)
             ≡ with_values self.old field (needs_in (nonempty_parts texts.entry.now))) }
@@ -279,7 +290,8 @@ impl<'a> Items<'a> {
         Ok(true)
     }
 
-    // Adds a dependency, or nothing for an empty part.
+    // Adds a dependency, or nothing for an empty part. False: the part is no dependency without
+    // tag.
     fn add_need(&mut self, field: Field, part: &'a [u8]) -> Result<bool, AllocError>
         ensures { IfOk result (λ good. (if good then Some self.new else None)
             ≡ with_values self.old field (needs_in (nonempty_part part.entry.now))) }
@@ -296,7 +308,7 @@ impl<'a> Items<'a> {
         }
     }
 
-    // Adds texts.
+    // Adds texts with spaces between them, those that are not empty. True always.
     fn add_texts(&mut self, field: Field, texts: &'a [u8]) -> Result<bool, AllocError>
         ensures { IfOk result (λ good. (if good then Some self.new else None)
             ≡ with_values self.old field (Some (text_values (nonempty_parts texts.entry.now)))) }

@@ -1,4 +1,6 @@
 //! Under which name a container is written (apk(8)): the file that `-o` names, or NAME-VERSION.apk.
+//! The rules stand in `docs/commands.md`, "`mkpkg`" and "`mkndx PACKAGE..`", and in "Words", the
+//! row of `-o`.
 ghost use Rattle.make_info.specs.FieldTexts.{first_text_for, is_too_long, package_name_in, named_output, default_output, text_for, package_version_in};
 ghost use Rattle.make_info.specs.Information.{information};
 ghost use Rattle.make_info.specs.Output.{is_mkpkg, output_name, package_output};
@@ -24,7 +26,8 @@ use version_core::{Version, versions_have_version_bytes};
 /// What stands between NAME and VERSION.
 const HYPHEN: u8 = b'-';
 
-/// How long a file's name may be, so that a scratch name beside it is a name too.
+/// The longest name of a file that is made, in bytes: with `.apk-tmp` behind it, eight bytes more,
+/// it is still a name, which has at most 1,024.
 const LONGEST_OUTPUT: usize = 1016;
 
 /// NAME-VERSION.apk, where a good name and a good version are given.
@@ -61,7 +64,7 @@ pub(crate) fn is_too_long(values: &Values) -> bool
     name.len() + version.len() + b"-.apk".len() > LONGEST_OUTPUT
 }
 
-// Whether an output is named.
+// Whether `-o` names an output.
 fn is_output_named(values: &Values) -> bool
     ensures { result ≡ is_some (named_output values.now) }
 {
@@ -103,7 +106,7 @@ fn first_text_for(values: &Values, field: Field) -> Option<&[u8]>
     None
 }
 
-// What a value of an option gives for a field.
+// What a value of an option gives for a field, if it is one of `-I` and for that field.
 fn text_for(value: &OptionValue, field: Field) -> Option<&[u8]>
     ensures { option_map (λ text. text.now) result ≡ text_for field value.entry.now }
 {
@@ -133,6 +136,7 @@ pub fn output_name(alloc: Global, command: &Command) -> Result<Option<Name>, All
 fn named_output(alloc: Global, command: &Command) -> Result<Option<Name>, AllocError>
     ensures { IfOk result (λ name. name ≡ named_output command.now.values) }
 {
+    // A law that the proof needs; it computes nothing.
     values_are_of_their_kind();
     match command.values().first_file(OUTPUT) {
         Some(file) => {
@@ -143,14 +147,14 @@ fn named_output(alloc: Global, command: &Command) -> Result<Option<Name>, AllocE
     }
 }
 
-// Whether the output may be named by what is packed.
+// Whether the applet is `mkpkg`, whose output may be named by what is packed.
 fn is_mkpkg(applet: Applet) -> bool
     ensures { result ≡ is_mkpkg applet }
 {
     applet == Applet::Mkpkg
 }
 
-// The name of a package's file, where its information is allowed.
+// The name of the output of `mkpkg`, where its information is allowed.
 fn package_output(alloc: Global, command: &Command) -> Result<Option<Name>, AllocError>
     ensures { IfOk result (λ name. name ≡ package_output command.now) }
 {
@@ -160,6 +164,7 @@ fn package_output(alloc: Global, command: &Command) -> Result<Option<Name>, Allo
     if let Some(name) = named_output(alloc, command)? {
         return Ok(Some(name));
     }
+    // A law that the proof needs; it computes nothing.
     versions_have_version_bytes();
     match default_output(alloc, command.values())? {
         Some(file) => Name::read(alloc, &file),
@@ -167,7 +172,7 @@ fn package_output(alloc: Global, command: &Command) -> Result<Option<Name>, Allo
     }
 }
 
-// Whether the information of a package is allowed.
+// Whether the information that `mkpkg` is given is allowed.
 fn is_allowed(alloc: Global, command: &Command) -> Result<bool, AllocError>
     ensures { IfOk result (λ allowed. allowed ≡ is_ok (information command.now)) }
 {
@@ -178,11 +183,12 @@ fn is_allowed(alloc: Global, command: &Command) -> Result<bool, AllocError>
     }
 }
 
-/// An output's name has room for eight bytes more in a name.
+/// An output's name has room for the eight bytes more of its scratch name.
 pub fn an_output_is_short()
     ensures { (command : CommandLine) (name : List ℕ) → IsCommand command
         → output_name command ≡ Some name → length name ≤ LONGEST_OUTPUT }
 {
+    // A law that the proof needs; it computes nothing.
     values_are_of_their_kind();
 }
 
@@ -192,10 +198,11 @@ pub fn a_package_with_information_has_an_output()
         → IsTrue (is_ok (information command)) → IsSome (output_name command) }
 {}
 
-/// The output of an index is given.
+/// `mkndx` needs `-o`, so that the output of an index is given.
 pub fn an_index_has_an_output()
     ensures { (command : CommandLine) → IsCommand command → command.applet ≡ Mkndx
         → IsSome (output_name command) }
 {
+    // A law that the proof needs; it computes nothing.
     a_command_has_what_its_applet_may_have();
 }

@@ -1,5 +1,6 @@
 //! Writes the information of a package as an object of table 3 (`docs/formats.md`, "Schemas"),
 //! field by field.
+//! That of a dependency is table 1, and its match number stands in "Dependencies".
 ghost use Rattle.adb_values.specs.Drafts.{draft_with, draft_with_all};
 ghost use Rattle.adb_view.specs.Plain.{blob_value};
 ghost use Rattle.dep_core.specs.Meets.{dependency};
@@ -25,11 +26,12 @@ enum Column {
     List(Field),
     /// The size of the package's files.
     InstalledSize,
-    /// Nothing.
+    /// Nothing: `mkpkg` does not give the field.
     Null,
 }
 
-/// The fields of a package's information in order.
+/// The 22 fields of a package's information in the order of table 3; `mkpkg` leaves out hashes (3),
+/// the file's size (13), layer (20) and the unused one (22).
 const COLUMNS: [Column; 22] = [
     Column::Single(Field::Name),
     Column::Single(Field::Version),
@@ -135,7 +137,7 @@ impl Items<'_> {
 }
 
 impl Value<'_> {
-    // The number, if it is one.
+    // The number, if the value is one.
     fn number(&self) -> Option<u64>
         ensures { result ≡ number_in (value_view self.now) }
     {

@@ -12,7 +12,7 @@ use Rattle.make_info.specs.Reads.{Reads}
 use Rattle.make_info.specs.Values.{number_value, plains_of_list}
 use Rattle.make_package.specs.Making.{made_package, or_info_bad}
 use Rattle.package_files.specs.Package.{Script, SourceFolder, contents_of_folders, installed_size, package_fields, value_of_folder, value_of_package, value_of_scripts}
-use Rattle.package_files.specs.Sources.{AreNamesFor, folders_below, on_success, scripts_from, texts_of, values_with}
+use Rattle.package_files.specs.Sources.{AreNamesFor, folders_below, and_then, scripts_from, texts_of, values_with}
 use Rattle.make_core.specs.ReadBack.{packed_of_parts, packed_package}
 use Rattle.make_core.proofs.ListedNames.{after_ok}
 use Rattle.make_core.proofs.PackageFiles.{folders_stand, list-plains}
@@ -37,10 +37,10 @@ pub made_from : ReadsBack → (command : CommandLine) (names : List (List ℕ)) 
 made_from back command names read bytes made =
     let whole : Packed = package_with_contents bytes in
     let one = after_ok (scripts_from read 0 (values_with SCRIPT command.values)) (λ scripts.
-    on_success (or_info_bad (information command)) (λ about.
-    on_success (folders_below read (length scripts) (values_with FILES command.values) names) (packed_of_parts command scripts about))) whole (back command names read bytes made.below made.made made.short) in
+    and_then (or_info_bad (information command)) (λ about.
+    and_then (folders_below read (length scripts) (values_with FILES command.values) names) (packed_of_parts command scripts about))) whole (back command names read bytes made.below made.made made.short) in
     let two = after_ok (or_info_bad (information command)) (λ about.
-    on_success (folders_below read (length one.x) (values_with FILES command.values) names) (packed_of_parts command one.x about)) whole one.gives in
+    and_then (folders_below read (length one.x) (values_with FILES command.values) names) (packed_of_parts command one.x about)) whole one.gives in
     let three = after_ok (folders_below read (length one.x) (values_with FILES command.values) names) (packed_of_parts command one.x two.x) whole two.gives in
     let gives = three.gives in
     let v : Plain = value_of_package (information_value two.x (installed_size three.x)) three.x one.x (texts_of (values_with TRIGGER command.values)) (replaces_priority two.x) in

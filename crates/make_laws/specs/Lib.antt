@@ -1,3 +1,5 @@
+-- The definitions of this crate, whose rules stand in `docs/commands.md`, "`mkpkg`".
+
 -- what the laws say
 pub mod NamedFields
 pub mod MadePackages

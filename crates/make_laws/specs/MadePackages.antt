@@ -1,4 +1,6 @@
 -- A package that is made, and what it holds in the words of the format (apk-package(5)).
+-- The rules stand in `docs/commands.md`, "`mkpkg`", the paragraph on `-F DIR`; the names of fields
+-- in `docs/formats.md`, "Schemas". Serves the laws of `src/packages.rt`.
 use Rattle.command_core.specs.declared.values.TheConstants.{FILES, TRIGGER}
 use Rattle.std.specs.Prelude.{◌≡◌, ◌↔◌, ◌⊎◌, ◌==◌, ℕ, ◌+◌, ◌*◌, ◌^◌, ◌<◌, List, [], length, map, codes, sum_by, Ok, All}
 use Rattle.std.specs.List.{filter, flat_map}
@@ -31,73 +33,74 @@ contained_package bytes = root_value Package (payload_in bytes)
 
 -- ---- folders and files
 
--- the folders stand in byte order of their names, each once, and so do the files of each
+-- the folders of a package stand in byte order of their names, each once, and so do the files of
+-- each
 pub record IsInByteOrder (pkg : Plain) : Type 0 where
   pub folders : IsRising (map name_of (folders_in pkg))
   pub files : All (λ folder. IsRising (map name_of (files_in folder))) (folders_in pkg)
 
--- the folder is the root, or the path stands below it, at any depth
+-- the folder is over the path: it is the root, or the path stands below it, at any depth
 abbrev pub IsOverPath : List ℕ → List ℕ → Type 0
 IsOverPath folder path = (folder ≡ []) ⊎ IsFolderOf folder path
 
--- a folder of the package is over the path of one of the names, which stand below `dir`
+-- a folder of the package is over the path of one of the names, which stand below `dir` of the tree
 abbrev pub IsOverOne : List ℕ → List (List ℕ) → List ℕ → Type 0
 IsOverOne dir names folder =
     (path : List ℕ) × IsIn (name_below dir path) names × IsOverPath folder path
 
--- the folders are just those that are over a path
+-- the folders of a package are just those that are over the path of a name
 abbrev pub HasFoldersOver : List ℕ → List (List ℕ) → Plain → Type 0
 HasFoldersOver dir names pkg =
     (folder : List ℕ) → IsIn folder (map name_of (folders_in pkg)) ↔ IsOverOne dir names folder
 
 -- ---- who may do what
 
--- what one may do with a file
+-- the digit of a mode by which the bytes of a file, or the names in a folder, may be read
 abbrev pub MAY_READ : ℕ
 MAY_READ = 4
 
--- to change its bytes, or the names in a folder
+-- the digit of a mode by which the bytes of a file, or the names in a folder, may be changed
 abbrev pub MAY_WRITE : ℕ
 MAY_WRITE = 2
 
--- enter a folder, or run a file
+-- the digit of a mode by which a folder may be entered, or a file be run
 abbrev pub MAY_ENTER : ℕ
 MAY_ENTER = 1
 
--- the mode by what the user, the group and all others may do
+-- the mode by what the user, the group and all others may do, each an octal digit
 abbrev pub mode_of : ℕ → ℕ → ℕ → ℕ
 mode_of user group others = 64 * user + 8 * group + others
 
--- all may read it and its user may write it
+-- the mode of a file that all may read and its user may write: octal 644
 abbrev pub readable : ℕ
 readable = mode_of (MAY_READ + MAY_WRITE) MAY_READ MAY_READ
 
--- and all may enter it too
+-- the mode of a folder that all may read and enter, and its user may write: octal 755
 abbrev pub enterable : ℕ
 enterable = mode_of (MAY_READ + MAY_WRITE + MAY_ENTER) (MAY_READ + MAY_ENTER) (MAY_READ + MAY_ENTER)
 
--- its access list says so, with root as user and group
+-- the access list of a file says that all may read it and root may write it
 abbrev pub IsReadableFile : Plain → Type 0
 IsReadableFile file = IsAccessOfRoot readable (field_named File (codes "acl") file)
 
--- the folder may be entered, and its files be read
+-- a folder may be entered by all, and its files be read
 pub record IsEnterableFolder (folder : Plain) : Type 0 where
   pub itself : IsAccessOfRoot enterable (field_named Dir (codes "acl") folder)
   pub files : All IsReadableFile (files_in folder)
 
 -- ---- triggers and sizes
 
--- the triggers are the texts of `-t`, in the order given
+-- the triggers of a package are the texts of `-t`, in the order given
 abbrev pub HasTriggersInOrder : List OptionValue → Plain → Type 0
 HasTriggersInOrder values pkg =
     map text_in (entries_named Package (codes "triggers") pkg)
     ≡ map (λ (v : OptionValue). v.text) (filter (λ (v : OptionValue). v.letter == TRIGGER) values)
 
--- what the file's entry says of its length
+-- the size that a file's entry tells
 abbrev pub size_told : Plain → ℕ
 size_told file = int_in (field_named File (codes "size") file)
 
--- the installed size is the sum of the sizes that the files tell
+-- the installed size of a package is the sum of the sizes that its files tell
 abbrev pub HasSizeOfFiles : Plain → Type 0
 HasSizeOfFiles pkg =
     int_in (field_named PkgInfo (codes "installed-size") (field_named Package (codes "info") pkg))

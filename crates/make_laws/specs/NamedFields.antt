@@ -1,4 +1,6 @@
 -- The field of a value by its name in the table (apk-v3(5)).
+-- The tables stand in `docs/formats.md`, "Schemas". By these definitions the laws trust no number
+-- of a field.
 use Rattle.std.specs.Prelude.{◌≡◌, ℕ, suc, List, [], ◌∷◌, codes, if◌then◌else◌}
 use Rattle.std.specs.Str.{bytes_eq}
 use Rattle.adb_fields.specs.Repeated.{list_of}
@@ -9,7 +11,8 @@ use Rattle.adb_tables.specs.declared.tables.Which.{Which}
 use Rattle.adb_tables.specs.declared.tables.Which.TheVariants.{Acl}
 use Rattle.adb_view.specs.Plain.{Plain, int, blob}
 
--- the place of the field of this name, counted from 0; behind the last where there is none
+-- the place of the field of this name in a table, counted from 0; behind the last where there is
+-- none
 abbrev pub place_of_name : List ℕ → List Field → ℕ
 place_of_name name [] = 0
 place_of_name name (f ∷ fields) =
@@ -19,11 +22,11 @@ place_of_name name (f ∷ fields) =
 abbrev pub field_named : Which → List ℕ → Plain → Plain
 field_named which name v = entry_in v (place_of_name name (table which))
 
--- the entries of that field, which is an array
+-- the entries of the field of this name, which is an array
 abbrev pub entries_named : Which → List ℕ → Plain → List Plain
 entries_named which name v = list_of (entries_in (field_named which name v))
 
--- the access list gives this mode, to the user and the group `root`
+-- an access list gives this mode, with `root` as user and group
 pub record IsAccessOfRoot (mode : ℕ) (acl : Plain) : Type 0 where
   pub of_mode : field_named Acl (codes "mode") acl ≡ int mode
   pub of_user : field_named Acl (codes "user") acl ≡ blob (codes "root")

@@ -1,4 +1,6 @@
 -- Which values `-I` takes, field by field (apk(8), `mkpkg`), and what each says.
+-- The rules stand in `docs/commands.md`, "`mkpkg`": the table of fields, and which field is given
+-- once; the grammar of a dependency in `docs/formats.md`, "Dependencies".
 use Rattle.std.specs.Prelude.{◌≡◌, ◌≢◌, ℕ, ◌*◌, ◌+◌, ◌^◌, ◌<◌, ◌==◌, Bool, true, false, not, List, [], ◌∷◌, ◌++◌, length, map, None, Some}
 use Rattle.std.specs.Fmt.{decimal}
 use Rattle.std.specs.List.{filter, slice_split}
@@ -12,13 +14,13 @@ use Rattle.make_info.specs.declared.field.Field.{Field}
 use Rattle.make_info.specs.declared.field.Field.TheVariants as Fields
 use Rattle.make_info.specs.Fields.{FieldValue, text, number, need, field_word}
 
--- FIELD:VALUE; a colon (58) stands between them
+-- the text of a value of `-I`: FIELD:VALUE, with a colon (58) between them
 abbrev pub option_text : Field → List ℕ → List ℕ
 option_text f value = field_word f ++ 58 ∷ value
 
 -- ---- the grammars
 
--- two digits, of either case, spell each byte
+-- hexadecimal digits spell bytes: two digits, of either case, spell each byte
 abbrev pub SpellsBytes : List ℕ → List ℕ → Type 0
 SpellsBytes [] [] = Unit {0}
 SpellsBytes [] (byte ∷ bytes) = ⊥
@@ -29,15 +31,15 @@ SpellsBytes (high ∷ low ∷ digits) (byte ∷ bytes) =
     × (byte ≡ h * 16 + l))
     × SpellsBytes digits bytes
 
--- the digits of a number below 2^64, as it is printed
+-- a text spells a number below 2^64: its decimal digits, as it is printed
 abbrev pub SpellsNumber : List ℕ → ℕ → Type 0
 SpellsNumber value n = (n < 2 ^ 64) × (value ≡ decimal n)
 
--- the parts between spaces (32) that are not empty
+-- the parts of a value between spaces (32) that are not empty
 abbrev pub spaced_parts : List ℕ → List (List ℕ)
 spaced_parts value = filter (λ part. not (length part == 0)) (slice_split (λ b. b == 32) value)
 
--- each part spells a dependency without tag
+-- each part spells a dependency without tag, in their order
 abbrev pub SpellNeeds : List (List ℕ) → List FieldValue → Type 0
 SpellNeeds [] [] = Unit {0}
 SpellNeeds [] (value ∷ values) = ⊥
@@ -49,19 +51,19 @@ SpellNeeds (part ∷ parts) (need d ∷ values) =
 
 -- ---- field by field
 
--- the value itself
+-- a value of a field of text says the value itself
 abbrev pub SaysText : List ℕ → List FieldValue → Type 0
 SaysText value said = said ≡ text value ∷ []
 
--- one number
+-- a value of a field of a number says one number
 abbrev pub SaysNumber : List ℕ → List FieldValue → Type 0
 SaysNumber value said = (n : ℕ) × SpellsNumber value n × (said ≡ number n ∷ [])
 
--- a dependency for each part
+-- a value of a list of dependencies says a dependency for each part
 abbrev pub SaysNeeds : List ℕ → List FieldValue → Type 0
 SaysNeeds value said = SpellNeeds (spaced_parts value) said
 
--- a value of the field is allowed, and says this
+-- a value is allowed for the field, and says this
 abbrev pub SaysOfField : Field → List ℕ → List FieldValue → Type 0
 SaysOfField Fields.Name value said = (is_package_name value ≡ true) × SaysText value said
 SaysOfField Fields.Version value said = (is_version value ≡ true) × SaysText value said
@@ -99,8 +101,9 @@ is_list_field f = false
 abbrev pub IsGivenFor : Field → OptionValue → Type 0
 IsGivenFor f option = (value : List ℕ) × (option.text ≡ option_text f value)
 
--- An option is taken behind those before it: its value is one of its field; where the field is no
--- list it is the first; and it is no version that makes NAME-VERSION.apk too long.
+-- an option is taken behind those before it (*taken* in `docs/names.md`, "Command lines and what
+-- comes of them"): its value is one of its field; where the field is no list it is the first; and
+-- it is no version that makes NAME-VERSION.apk too long (`too_long`)
 pub record IsTakenOption (too_long : Bool) (before : List OptionValue) (option : OptionValue) :
     Type 0 where
   pub field : Field

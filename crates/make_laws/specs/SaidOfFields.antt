@@ -1,4 +1,7 @@
 -- What the options of a command say of a field, and how a package tells it.
+-- The rule stands in `docs/commands.md`, "`mkpkg`": a field of a list may be given several times,
+-- and each value is added; any other is given once. Serves the law
+-- `a_made_package_tells_what_its_options_say`.
 use Rattle.command_core.specs.declared.values.TheConstants.{INFO}
 use Rattle.std.specs.Prelude.{◌≡◌, ◌⊎◌, ◌==◌, List, [], ◌∷◌, ◌++◌, map, Bool, true, false}
 use Rattle.std.specs.List.{filter}
@@ -15,13 +18,13 @@ use Rattle.make_laws.specs.NamedFields.{field_named}
 use Rattle.make_laws.specs.OptionGrammar.{IsGivenFor, SaysOfField, is_list_field, option_text}
 use Rattle.std.specs.Prelude.{ℕ, codes}
 
--- an option says this of the field; one of another field says nothing
+-- an option says this of the field; an option of another field says nothing
 abbrev pub SaysOfOne : Field → OptionValue → List FieldValue → Type 0
 SaysOfOne f option said =
     ((value : List ℕ) × (option.text ≡ option_text f value) × SaysOfField f value said)
     ⊎ ((IsGivenFor f option → ⊥) × (said ≡ []))
 
--- options say this, one behind the other
+-- options say this of the field, one behind the other
 abbrev pub SayOfField : Field → List OptionValue → List FieldValue → Type 0
 SayOfField f [] said = said ≡ []
 SayOfField f (option ∷ options) said =
@@ -37,23 +40,24 @@ abbrev pub TellsFirst : List FieldValue → Plain → Type 0
 TellsFirst [] v = v ≡ null
 TellsFirst (x ∷ said) v = v ≡ plain_value x
 
--- by whether the field is a list
+-- a value tells what is said, by whether the field is a list: of a list all, else the first
 abbrev pub TellsAsList : Bool → List FieldValue → Plain → Type 0
 TellsAsList true said v = TellsAll said v
 TellsAsList false said v = TellsFirst said v
 
--- of a list all, of another field the first
+-- a value tells what is said of the field: of a list all, of another field the first
 abbrev pub TellsOfField : Field → List FieldValue → Plain → Type 0
 TellsOfField f said v = TellsAsList (is_list_field f) said v
 
--- where a package tells of a field: in its information, but the priority in replacing
+-- what a package tells of a field: in its information, but for the priority in replacing, which is
+-- a field of the package
 abbrev pub told_of_field : Field → Plain → Plain
 told_of_field Fields.ReplacesPriority pkg =
     field_named Package (field_word Fields.ReplacesPriority) pkg
 told_of_field f pkg =
     field_named PkgInfo (field_word f) (field_named Package (codes "info") pkg)
 
--- the package tells what the options of a command say of the field
+-- the package tells what the options `-I` of a command say of the field
 pub record TellsOptions (f : Field) (values : List OptionValue) (pkg : Plain) : Type 0 where
   pub said : List FieldValue
   pub say : SayOfField f (filter (λ (v : OptionValue). v.letter == INFO) values) said

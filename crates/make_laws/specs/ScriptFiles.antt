@@ -1,4 +1,6 @@
 -- Which file a script is (apk(8), `mkpkg`).
+-- The rule stands in `docs/commands.md`, "`mkpkg`": TYPE of `-s`, and FILE is read whole. Serves
+-- the law `a_made_package_has_its_scripts`.
 use Rattle.std.specs.Prelude.{◌≡◌, ◌⊎◌, ℕ, List, Some}
 use Rattle.adb_fields.specs.FirstPair.{IsIn}
 use Rattle.adb_tables.specs.declared.tables.Which.TheVariants.{Package, Scripts}
@@ -10,7 +12,7 @@ use Rattle.make_info.specs.Reads.{Reads}
 use Rattle.make_laws.specs.NamedFields.{field_named}
 use Rattle.std.specs.Prelude.{codes}
 
--- an option gives a script of this type, whose file is found with these bytes
+-- an option gives a script of this type, and a read finds its file with these bytes
 pub record IsGivenScript (read : Reads) (options : List OptionValue) (type bytes : List ℕ) :
     Type 0 where
   pub option : OptionValue
@@ -19,17 +21,17 @@ pub record IsGivenScript (read : Reads) (options : List OptionValue) (type bytes
   pub number : ℕ
   pub found : read number (without_dot (script_file option.text)) ≡ Some bytes
 
--- no option gives one
+-- no option gives a script of this type
 abbrev pub IsNotGiven : List OptionValue → List ℕ → Type 0
 IsNotGiven options type =
     (option : OptionValue) → IsIn option options → script_type option.text ≡ type → ⊥
 
--- the script of the type that a package has: the one that is given, or none
+-- what a package has as its script of the type: the one that is given, or none where none is given
 abbrev pub IsScriptGiven : Reads → List OptionValue → List ℕ → Plain → Type 0
 IsScriptGiven read options type script =
     ((bytes : List ℕ) × IsGivenScript read options type bytes × (script ≡ blob_value bytes))
     ⊎ (IsNotGiven options type × (script ≡ null))
 
--- what the package has as its script of this type; Null where it has none
+-- what a package has as its script of this type; Null where it has none
 abbrev pub script_named : List ℕ → Plain → Plain
 script_named type pkg = field_named Scripts type (field_named Package (codes "scripts") pkg)

@@ -1,13 +1,16 @@
 -- What the bytes of a file are (apk-package(5)), apart from how they are taken apart.
+-- The rule stands in `docs/commands.md`, "`mkpkg`": "A file whose bytes are `!<symlink>` and a
+-- UTF-8 text that is not empty is a symbolic link to that text." Serves the law
+-- `a_file_tells_what_its_bytes_are`.
 use Rattle.std.specs.Prelude.{◌≡◌, ◌≢◌, ℕ, true, List, [], ◌++◌, codes}
 use Rattle.std.specs.Str.{is_utf8}
 
--- the bytes are a mark and a text, which is the target of a symbolic link
+-- the bytes of a file are those of a symbolic link: a mark and a text, which is the link's target
 pub record IsLinkTo (target bytes : List ℕ) : Type 0 where
   pub marked : bytes ≡ codes "!<symlink>" ++ target
   pub some : target ≢ []
   pub utf8 : is_utf8 target ≡ true
 
--- they are no link
+-- the bytes of a file are those of no link
 abbrev pub IsNoLink : List ℕ → Type 0
 IsNoLink bytes = (target : List ℕ) → IsLinkTo target bytes → ⊥

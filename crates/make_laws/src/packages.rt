@@ -1,4 +1,6 @@
-//! What a package that is made holds.
+//! What a package that is made holds: laws over the definitions of `make_package`.
+//! The rules stand in `docs/commands.md`, "`mkpkg`": the paragraph on `-F DIR`, and the options
+//! `-I`, `-s` and `-t`.
 ghost use Rattle.adb_fields.specs.FirstPair.{IsIn};
 ghost use Rattle.adb_fields.specs.Repeated.{folders_in};
 ghost use Rattle.command_core.specs.Command.{CommandLine};

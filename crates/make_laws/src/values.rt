@@ -1,5 +1,8 @@
 //! Which values `-I` of `mkpkg` takes and what `--script` gives, and what the values of a package
-//! and of an index tell, field by field.
+//! and of an index tell, field by field: laws over the definitions of `make_info`, `package_files`
+//! and `make_index`.
+//! The rules stand in `docs/commands.md`, "`mkpkg`" (the table of fields) and "`mkndx PACKAGE..`";
+//! the names of fields in `docs/formats.md`, "Schemas".
 ghost use Rattle.adb_copy.specs.Zeros.{without_zeros};
 ghost use Rattle.adb_tables.specs.Values.{entry_in, int_in, text_in};
 ghost use Rattle.adb_tables.specs.declared.tables.Which.TheVariants.{Dep, File, Index, Package, PkgInfo};
@@ -27,7 +30,8 @@ ghost use Rattle.std.specs.Prelude.{◌≡◌, ◌↔◌, ◌==◌, ◌++◌, �
 
 use dep_core::{read_texts_are_spelled, spelled_texts_are_read};
 
-/// A text gives a value to a field exactly where it is FIELD:VALUE.
+/// A text gives a value to a field exactly where it is FIELD:VALUE: the field's name, a colon, and
+/// the value.
 pub fn a_text_gives_a_value_to_a_field()
     ensures { (t value : List ℕ) (f : Field)
         → field_text_in t ≡ Some (record { field = f; value = value }) ↔ t ≡ option_text f value }
@@ -61,11 +65,13 @@ pub fn a_script_is_given_as_its_type_and_its_file()
 /// A file of a package tells what its bytes in the tree are: where they are a link, the target and
 /// neither size nor hash; else how many they are and their SHA-256, and no target.
 pub fn a_file_tells_what_its_bytes_are()
+    // A link: 0 and 160 are the kind 0xa000, little-endian.
     ensures link { (name bytes target : List ℕ) → IsLinkTo target bytes
         → (let file = value_of_file (record { name = name; bytes = bytes }) in
         (field_named File (codes "target") file ≡ blob_value (0 ∷ 160 ∷ target))
         × (field_named File (codes "size") file ≡ null)
         × (field_named File (codes "hashes") file ≡ null)) }
+    // A regular file.
     ensures regular { (name bytes : List ℕ) → IsNoLink bytes
         → (let file = value_of_file (record { name = name; bytes = bytes }) in
         (field_named File (codes "target") file ≡ null)

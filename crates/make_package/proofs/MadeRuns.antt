@@ -23,7 +23,7 @@ use Rattle.package_files.specs.Package.{SourceFolder}
 use Rattle.package_files.specs.Packed.{IsPacking}
 use Rattle.package_files.specs.Runs.{Explains, IsAnswer}
 use Rattle.make_package.specs.Scripts.{AreScripts, IsScript, script_view, scripts_view}
-use Rattle.package_files.specs.Sources.{AreNamesFor, on_success, each_from, folder_at, folders_below, source_folders_from, found_at, values_with, script_at, scripts_from}
+use Rattle.package_files.specs.Sources.{AreNamesFor, and_then, each_from, folder_at, folders_below, source_folders_from, found_at, values_with, script_at, scripts_from}
 use Rattle.make_info.specs.Reads.{Reads}
 use Rattle.make_info.specs.declared.fault.MakeFault.{MakeFault}
 use Rattle.make_info.specs.declared.fault.MakeFault.TheVariants.{FileMissing, FileBad, InfoBad, TooLarge, Disk, Memory}
@@ -41,7 +41,7 @@ abbrev pub one_read : OptionValue → ℕ
 one_read v = 1
 
 pub script_own : RestsOnOwn one_read script_at
-script_own f g n v h = ap (λ (o : Option (List ℕ)). on_success (found_at v.place o) (next_of v)) (h n (without_dot (script_file v.text)) (omega arith) (omega arith))
+script_own f g n v h = ap (λ (o : Option (List ℕ)). and_then (found_at v.place o) (next_of v)) (h n (without_dot (script_file v.text)) (omega arith) (omega arith))
 
 pub scripts_none : (scripts : Vec Script Global) → scripts.items ≡ [] → AreScripts scripts []
 scripts_none scripts e = ap (map script_view) e
@@ -76,7 +76,7 @@ scripts_same told xs ys scripts e h = let P : List OptionValue → Type 0 = λ l
 -- ---- as many as there are values
 
 module _ {X Y : Type 0} (count : X → ℕ) (of : ℕ → X → Result Y MakeFault) where
-  long_by : (r : Result Y MakeFault) (e : Result (List Y) MakeFault) (ys : List Y) (m : ℕ) → on_success r (λ y0. on_success e (λ l. Ok (y0 ∷ l))) ≡ Ok ys → ((l : List Y) → e ≡ Ok l → length l ≡ m) → length ys ≡ suc m
+  long_by : (r : Result Y MakeFault) (e : Result (List Y) MakeFault) (ys : List Y) (m : ℕ) → and_then r (λ y0. and_then e (λ l. Ok (y0 ∷ l))) ≡ Ok ys → ((l : List Y) → e ≡ Ok l → length l ≡ m) → length ys ≡ suc m
   long_by (Ok y0) (Ok l) ys m e h = let all : ys ≡ y0 ∷ l = cc in ap length all ∙ ap suc (h l refl)
   long_by (Ok y0) (Err x) ys m e h = absurd (cc)
   long_by (Err x) e ys m i h = absurd (cc)
@@ -129,10 +129,10 @@ both_parts told ss ds names scripts r p q =
 
 module _ (command : CommandLine) (names : List (List ℕ)) (read : Reads) where
   abbrev behind_info : List packages.Script → List InfoItem → Result (List ℕ) MakeFault
-  behind_info scripts about = on_success (folders_below read (length scripts) (values_with FILES command.values) names) (package_of_parts command scripts about)
+  behind_info scripts about = and_then (folders_below read (length scripts) (values_with FILES command.values) names) (package_of_parts command scripts about)
 
   abbrev behind_scripts : List packages.Script → Result (List ℕ) MakeFault
-  behind_scripts scripts = on_success (or_info_bad (information command)) (behind_info scripts)
+  behind_scripts scripts = and_then (or_info_bad (information command)) (behind_info scripts)
 
   pub scripts_fault : (fault : MakeFault) → IsAnswer AreScripts (Err fault) (scripts_from read 0 (values_with SCRIPT command.values)) → IsAnswer IsBytes (Err fault) (made_package command names read)
   unfolding made_package
@@ -140,10 +140,10 @@ module _ (command : CommandLine) (names : List (List ℕ)) (read : Reads) where
 
   to_info : (ys : List packages.Script) → scripts_from read 0 (values_with SCRIPT command.values) ≡ Ok ys → made_package command names read ≡ behind_scripts ys
   unfolding made_package
-  to_info ys e = ap (λ (r : Result (List packages.Script) MakeFault). on_success r behind_scripts) e
+  to_info ys e = ap (λ (r : Result (List packages.Script) MakeFault). and_then r behind_scripts) e
 
   pub info_fault : (ys : List packages.Script) (fault : MakeFault) → scripts_from read 0 (values_with SCRIPT command.values) ≡ Ok ys → IsInfoFault fault (information command) → IsAnswer IsBytes (Err fault) (made_package command names read)
-  info_fault ys (InfoBad place) e h = to_info ys e ∙ ap (λ (r : Result (List InfoItem) ℕ). on_success (or_info_bad r) (behind_info ys)) h
+  info_fault ys (InfoBad place) e h = to_info ys e ∙ ap (λ (r : Result (List InfoItem) ℕ). and_then (or_info_bad r) (behind_info ys)) h
   info_fault ys Memory e h = tt
   info_fault ys Disk e h = tt
   info_fault ys (FileMissing p) e h = absurd h
@@ -151,7 +151,7 @@ module _ (command : CommandLine) (names : List (List ℕ)) (read : Reads) where
   info_fault ys (TooLarge b v) e h = absurd h
 
   to_folders : (ys : List packages.Script) (about : List InfoItem) → scripts_from read 0 (values_with SCRIPT command.values) ≡ Ok ys → information command ≡ Ok about → made_package command names read ≡ behind_info ys about
-  to_folders ys about e i = to_info ys e ∙ ap (λ (r : Result (List InfoItem) ℕ). on_success (or_info_bad r) (behind_info ys)) i
+  to_folders ys about e i = to_info ys e ∙ ap (λ (r : Result (List InfoItem) ℕ). and_then (or_info_bad r) (behind_info ys)) i
 
   pub folders_fault : (scripts : Vec Script Global) (about : List InfoItem) (fault : MakeFault) → information command ≡ Ok about
       → AreParts (values_with SCRIPT command.values) (values_with FILES command.values) names scripts (Err fault) read → IsAnswer IsBytes (Err fault) (made_package command names read)
@@ -167,7 +167,7 @@ module _ (command : CommandLine) (names : List (List ℕ)) (read : Reads) where
   parts_made scripts about packing r i h made =
       let Q : Result (List ℕ) MakeFault → Type 0 = λ w. IsAnswer IsBytes r w in
       let R : List packages.Script → Type 0 = λ l. IsAnswer IsBytes r (package_of_parts command l about h.rest.0) in
-      subst Q (sym (to_folders h.given about h.are i ∙ ap (λ (x : Result (List SourceFolder) MakeFault). on_success x (package_of_parts command h.given about)) h.rest.1))
+      subst Q (sym (to_folders h.given about h.are i ∙ ap (λ (x : Result (List SourceFolder) MakeFault). and_then x (package_of_parts command h.given about)) h.rest.1))
       (subst R h.view (made h.rest.0 h.rest.2))
 
 -- ---- a run, of what is made

@@ -6,7 +6,7 @@ use Rattle.command_core.specs.declared.values.OptionValue.{OptionValue}
 use Rattle.package_files.specs.Package as packages
 use Rattle.package_files.specs.Runs.{IsAnswer}
 use Rattle.make_package.specs.Scripts.{IsScript}
-use Rattle.package_files.specs.Sources.{on_success, found_at, script_at}
+use Rattle.package_files.specs.Sources.{and_then, found_at, script_at}
 use Rattle.make_info.specs.Reads.{Reads}
 use Rattle.make_info.specs.declared.fault.MakeFault.{MakeFault}
 use Rattle.make_package.specs.declared.writing.Script.{Script}
@@ -29,6 +29,6 @@ pub script_is : (read : Reads) (n : ℕ) (v : OptionValue) (file : List ℕ) (sc
     → IsAnswer IsFound (Ok script.bytes) (found_at v.place (read n file)) → IsAnswer IsScript (Ok script) (script_at read n v)
 script_is read n v file script e k h = (
   record { field = script_type v.text; bytes = h.0 },
-  ap (λ (r : Result (List ℕ) MakeFault). on_success r (next_of v)) (sym (ap (λ (name : List ℕ). found_at v.place (read n name)) e) ∙ h.1),
+  ap (λ (r : Result (List ℕ) MakeFault). and_then r (next_of v)) (sym (ap (λ (name : List ℕ). found_at v.place (read n name)) e) ∙ h.1),
   λ j. let s : packages.Script = record { field = k j; bytes = sym h.2 j } in s,
 )

@@ -1,3 +1,5 @@
+-- The definitions of this crate, whose rules stand in `docs/commands.md`, "`mkpkg`".
+
 -- what the contract of `apk` says
 pub mod Making
 -- what only inner contracts and proofs use

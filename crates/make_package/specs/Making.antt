@@ -1,5 +1,7 @@
 -- What `mkpkg` makes (apk(8)): a package of its command, of the names below its folder, and of what
 -- reads find.
+-- The rule stands in `docs/commands.md`, "`mkpkg`", with the refusals in their order; the limits of
+-- a payload in `docs/formats.md`, "Canonical layout".
 use Rattle.command_core.specs.declared.values.TheConstants.{FILES, SCRIPT, TRIGGER}
 use Rattle.std.specs.Prelude.{ℕ, List, length, Option, Some, None, Result, Ok, Err}
 use Rattle.adb_view.specs.Plain.{Plain}
@@ -13,28 +15,31 @@ use Rattle.make_info.specs.Reads.{Reads}
 use Rattle.make_info.specs.declared.fault.MakeFault.{MakeFault}
 use Rattle.make_info.specs.declared.fault.MakeFault.TheVariants.{InfoBad, TooLarge}
 use Rattle.package_files.specs.Package.{SourceFolder, Script, value_of_package, installed_size, contents_of_folders}
-use Rattle.package_files.specs.Sources.{on_success, values_with, texts_of, scripts_from, folders_below}
+use Rattle.package_files.specs.Sources.{and_then, values_with, texts_of, scripts_from, folders_below}
 
 -- ---- the file
 
--- a package is written whole, or, where its payload passes a limit of the writer, not at all
+-- the bytes of a package, where its value passes no limit of the writer; else the refusal, with the
+-- two counts at which it does
 abbrev pub container_unless :
     Option PayloadCounts → Plain → List Contents → Result (List ℕ) MakeFault
 container_unless None v contents = Ok (container_of PACKAGE_WORD v contents)
 container_unless (Some counts) v contents = Err (TooLarge counts.0 counts.1)
 
--- the container of a value and of contents, unless the value passes a limit
+-- the container of a package's value and of the contents of its files, unless the value passes a
+-- limit
 unfoldable pub package_container : Plain → List Contents → Result (List ℕ) MakeFault
 package_container v contents = container_unless (overflow_of v) v contents
 
 -- ---- the package
 
--- what `-I` may not say is a fault of making, at the place of its argument
+-- what `-I` says of a package; where it says what it may not, that is a fault of making, at the
+-- place of its argument
 abbrev pub or_info_bad : Result (List InfoItem) ℕ → Result (List InfoItem) MakeFault
 or_info_bad (Ok information) = Ok information
 or_info_bad (Err place) = Err (InfoBad place)
 
--- the package of what was read
+-- the package of what was read: of the scripts, of what `-I` says (`about`), and of the folders
 abbrev pub package_of_parts :
     CommandLine → List Script → List InfoItem → List SourceFolder → Result (List ℕ) MakeFault
 package_of_parts command scripts about folders =
@@ -43,10 +48,11 @@ package_of_parts command scripts about folders =
     (texts_of (values_with TRIGGER command.values)) (replaces_priority about))
     (contents_of_folders 1 folders)
 
--- scripts first, then the information, then the files below the folder
+-- the package of a command, by the names below its folder and by reads: scripts first, then the
+-- information, then the files below the folder; or the first refusal
 unfoldable pub made_package : CommandLine → List (List ℕ) → Reads → Result (List ℕ) MakeFault
 made_package command names read =
-    on_success (scripts_from read 0 (values_with SCRIPT command.values)) (λ scripts.
-    on_success (or_info_bad (information command)) (λ about.
-    on_success (folders_below read (length scripts) (values_with FILES command.values) names)
+    and_then (scripts_from read 0 (values_with SCRIPT command.values)) (λ scripts.
+    and_then (or_info_bad (information command)) (λ about.
+    and_then (folders_below read (length scripts) (values_with FILES command.values) names)
     (package_of_parts command scripts about)))

@@ -1,21 +1,23 @@
 -- Scripts as the program has them.
+-- No rule of a document: serves the contracts of `src/reading.rt` and `src/writing.rt`, whose types
+-- are slices.
 use Rattle.std.specs.Prelude.{◌≡◌, List, Vec, map}
 use Rattle.std.specs.declared.alloc.Global.{Global}
 use Rattle.package_files.specs.Package as packages
 use Rattle.make_package.specs.declared.writing.Script.{Script}
 
--- a script's type and its bytes
+-- a script as contracts see it: its type and its bytes
 abbrev pub script_view : Script → packages.Script
 script_view script = record { field = script.kind.now; bytes = script.bytes.items }
 
--- of several, in the order given
+-- scripts as contracts see them, in their order
 abbrev pub scripts_view : List Script → List packages.Script
 scripts_view scripts = map script_view scripts
 
--- a script that is read is this one
+-- a script of the program stands for this one
 abbrev pub IsScript : Script → packages.Script → Type 0
 IsScript script is = script_view script ≡ is
 
--- so are all
+-- scripts of the program stand for these, one by one and in their order
 abbrev pub AreScripts : Vec Script Global → List packages.Script → Type 0
 AreScripts scripts are = scripts_view scripts.items ≡ are

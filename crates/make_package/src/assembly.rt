@@ -1,4 +1,7 @@
 //! The container of a package: its payload, and the contents blocks behind it.
+//! The rules stand in `docs/formats.md`, "Container" and "The other blocks"; what the installed
+//! size is, in `docs/commands.md`, "`mkpkg`"; that the contents are not held twice, in
+//! `docs/DECISIONS.md`, "Making".
 ghost use Rattle.command_core.specs.declared.values.TheConstants.{TRIGGER};
 ghost use Rattle.std.specs.Prelude.{ℕ, ◌≡◌, ◌≤◌, ◌<◌, ◌^◌, ◌++◌, Ok, List, length, map, IfOk, IfErr};
 ghost use Rattle.adb_schema.specs.declared.read.TheConstants.{PACKAGE_WORD};
@@ -24,7 +27,8 @@ use make_info::{Information, MakeFault};
 use package_files::{File, Folder, Packing, put_in_front};
 use std::alloc::{AllocError, Global};
 
-/// The package of a command, with this information, these files and these scripts.
+/// The bytes of the package of a command, with this information (`about`), these files (`packing`)
+/// and these scripts.
 pub(crate) fn package(
     alloc: Global,
     command: &Command,
@@ -32,10 +36,13 @@ pub(crate) fn package(
     packing: Packing<'_>,
     scripts: &[Script<'_>],
 ) -> Result<Vec<u8>, MakeFault>
+    // Each regular file that was packed has its bytes in the blocks, so that the sum of the sizes
+    // is no more than they are.
     requires { packed_size packing.folders.items ≤ length packing.blocks.items }
     ensures made { (sources : List SourceFolder) → IsPacking packing.entry sources
         → IsAnswer IsBytes result (package_of_parts command.now
         (scripts_view scripts.now) about.now sources) }
+    // The tree is not asked, so it is not what failed.
     ensures disk { IsNotDisk result }
 {
     // Each size stands in the blocks, so that the sum has 64 bits.
@@ -52,7 +59,7 @@ pub(crate) fn package(
     Ok(file)
 }
 
-/// The sum of the sizes of the files of folders.
+/// The installed size of a package: the sum of the sizes of the files of all folders.
 fn installed_size(folders: &[Folder<'_>]) -> u64
     requires { packed_size folders.now < 2 ^ 64 }
     ensures { result ≡ packed_size folders.now }
@@ -64,7 +71,7 @@ fn installed_size(folders: &[Folder<'_>]) -> u64
     size
 }
 
-/// The sum of the sizes of files.
+/// The sum of the sizes of the files of a folder.
 fn size_in(files: &[File<'_>]) -> u64
     requires { files_size files.now < 2 ^ 64 }
     ensures { result ≡ files_size files.now }
@@ -76,8 +83,8 @@ fn size_in(files: &[File<'_>]) -> u64
     size
 }
 
-/// The payload of a package with this information, these folders and scripts, and with what the
-/// values of options say.
+/// The payload of a package with this information, these folders and scripts, with the triggers and
+/// the priority that the options say, and with the installed size `size`.
 fn payload(
     alloc: Global,
     values: &Values,
@@ -101,7 +108,7 @@ fn payload(
     Ok(draft.finish()?)
 }
 
-/// The package with this payload and these blocks behind it, which are not held twice.
+/// The bytes of the package with this payload and these blocks behind it, which are not held twice.
 fn package_file(alloc: Global, payload: &[u8], mut blocks: Vec<u8>) -> Result<Vec<u8>, AllocError>
     requires { length payload.now ≤ MOST_BYTES }
     ensures { IfOk result (λ bytes. bytes.items

@@ -1,4 +1,5 @@
 //! Makes the package that a command asks for, of what it reads in a tree.
+//! The rule stands in `docs/commands.md`, "`mkpkg`", with the refusals in their order.
 ghost use Rattle.base_core.specs.Read.{OnlyReads};
 ghost use Rattle.make_package.specs.Answers.{IsBytes, IsMadeRun};
 ghost use Rattle.make_package.specs.Making.{made_package};
@@ -27,8 +28,11 @@ use std::alloc::Global;
 /// where the tree failed, and `Memory`.
 pub fn make<T: Tree>(alloc: Global, command: &Command, tree: &mut T) -> Result<Vec<u8>, MakeFault>
     requires { command.now.applet ≡ Applet.Mkpkg }
+    // The tree is only read, and `Disk` has a fault of it for its cause.
     ensures tree { OnlyReads MakeFault.Disk (T.history tree.old) (T.history tree.new)
         (T.counts tree.old) (T.counts tree.new) result }
+    // The bytes are the package of the command, of names below its folder and of some reads; or the
+    // first refusal is told.
     ensures made { IsMadeRun (T.history tree.old) command.now result }
 {
     a_command_has_what_its_applet_may_have();
@@ -36,7 +40,8 @@ pub fn make<T: Tree>(alloc: Global, command: &Command, tree: &mut T) -> Result<V
     pack(alloc, command, tree, &names)
 }
 
-/// Makes the package of the names below the folder.
+/// Makes the package of a command, of the names that are listed below its folder: scripts first,
+/// then the information, then the files.
 fn pack<T: Tree>(
     alloc: Global,
     command: &Command,

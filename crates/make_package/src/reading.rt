@@ -1,5 +1,7 @@
 //! Reads what options name in the tree (apk(8), `mkpkg`): the folder whose files a package holds,
 //! and the files of its scripts.
+//! The rules stand in `docs/commands.md`, "`mkpkg`" (TYPE:FILE of `-s`, and `-F DIR`) and "Words"
+//! (the options).
 ghost use Rattle.base_core.specs.Calls.{IfObservable};
 ghost use Rattle.base_core.specs.Read.{OnlyReads};
 ghost use Rattle.command_core.specs.Sound.{value_rules, are_values};
@@ -28,12 +30,16 @@ pub(crate) fn list_names<T: Tree>(
     tree: &mut T,
     values: &Values,
 ) -> Result<Names, MakeFault>
+    // The values are those that `mkpkg` may have.
     requires { IsTrue (are_values (value_rules Mkpkg) values.now) }
     ensures tree { OnlyReads MakeFault.Disk (T.history tree.old) (T.history tree.new)
         (T.counts tree.old) (T.counts tree.new) result }
+    // Listing can fail by the tree and for want of memory alone.
     ensures cut { IsCutOff result }
+    // Where the tree tells its files, these are the names below the folder.
     ensures names { IfOk result (λ names. IfObservable (T.history tree.old) (λ v.
         AreBelow (values_with FILES values.now) v names)) }
+    // Whatever the tree answers, these are names below the folder, in byte order and each once.
     ensures order { IfOk result (λ names. AreNamesFor (values_with FILES values.now) names) }
 {
     match values.first_file(FILES) {
@@ -45,8 +51,8 @@ pub(crate) fn list_names<T: Tree>(
     }
 }
 
-/// Packs the files of these names, which are listed below the folder that an option gives; nothing
-/// where no folder is given.
+/// Packs the files of these names, which are listed below the folder that `-F` gives; nothing where
+/// no folder is given.
 pub(crate) fn pack_below<'a, T: Tree>(
     alloc: Global,
     tree: &mut T,
@@ -70,14 +76,14 @@ pub(crate) fn pack_below<'a, T: Tree>(
     }
 }
 
-/// The value of the option that gives a folder, if it is given.
+/// The first value of `-F`, which gives a folder, if it is given.
 fn first_folder(values: &Values) -> Option<&OptionValue>
     ensures { IsFirstValue result (values_with FILES values.entry.now) }
 {
     values.first(FILES)
 }
 
-/// Reads the scripts that values give, in the order given.
+/// Reads the scripts that the values of `-s` give, in the order given.
 pub(crate) fn read_scripts<'a, T: Tree>(
     alloc: Global,
     tree: &mut T,
@@ -92,6 +98,7 @@ pub(crate) fn read_scripts<'a, T: Tree>(
     let mut scripts = Vec::new(alloc);
     for i in 0..values.len() {
         let value = values.get(i);
+        // The values of all options stand in one list.
         if value.letter != SCRIPT {
             continue;
         }
@@ -101,7 +108,7 @@ pub(crate) fn read_scripts<'a, T: Tree>(
     Ok(scripts)
 }
 
-/// Adds a script at the end.
+/// Puts a script behind the others.
 fn push_script<'a>(scripts: &mut Vec<Script<'a>>, script: Script<'a>) -> Result<(), AllocError>
     ensures { OnOk result (scripts.new.items ≡ scripts.old.items ++ script.entry ∷ []) }
 {
@@ -109,7 +116,7 @@ fn push_script<'a>(scripts: &mut Vec<Script<'a>>, script: Script<'a>) -> Result<
     Ok(())
 }
 
-/// Reads the script that a value gives, in the file of this name.
+/// Reads the script that a value of `-s` gives as TYPE:FILE, from the file of this name.
 fn read_script<'a, T: Tree>(
     alloc: Global,
     tree: &mut T,

@@ -1,5 +1,7 @@
 //! Writes the value of a package (apk-v3(5)): its information, its folders with their files, its
 //! scripts and triggers.
+//! The rules stand in `docs/commands.md`, "`mkpkg`" (modes, users, which fields are left out), and
+//! in `docs/formats.md`, "Schemas", tables 2, 4, 5, 6 and 7: the fields in their order.
 ghost use Rattle.command_core.specs.declared.values.TheConstants.{TRIGGER};
 ghost use Rattle.adb_values.specs.Drafts.{draft_with};
 ghost use Rattle.adb_view.specs.Plain.{arr_value, blob_value};
@@ -17,14 +19,15 @@ use make_info::{Information, write_number, write_size};
 use package_files::{File, Folder};
 use std::alloc::AllocError;
 
-/// The mode of every folder.
+/// The mode of every folder (493 in `docs/commands.md`, "`mkpkg`"): all may read and enter, and
+/// root may write.
 const FOLDER_MODE: u64 = 0o755;
 
-/// The mode of every file.
+/// The mode of every file (420 there): all may read, and root may write.
 const FILE_MODE: u64 = 0o644;
 
 /// Writes a package with this information, these folders and scripts, with the triggers that the
-/// values of options say, and with the size of its files.
+/// values of options say, and with the installed size `size`.
 pub(crate) fn write_package(
     draft: &mut Draft,
     values: &Values,
@@ -59,7 +62,7 @@ fn write_paths(draft: &mut Draft, folders: &[Folder<'_>]) -> Result<(), AllocErr
     draft.close_array()
 }
 
-/// Writes a folder with its files.
+/// Writes a folder with its access list and its files.
 fn write_folder(draft: &mut Draft, folder: &Folder<'_>) -> Result<(), AllocError>
     ensures { OnOk result (draft.new ≡ draft_with (packed_folder folder.now) draft.old) }
 {
@@ -82,7 +85,7 @@ fn write_files(draft: &mut Draft, files: &[File<'_>]) -> Result<(), AllocError>
     draft.close_array()
 }
 
-/// Writes a file; its time is Null.
+/// Writes a file with its access list; the time is Null.
 fn write_file(draft: &mut Draft, file: &File<'_>) -> Result<(), AllocError>
     ensures { OnOk result (draft.new ≡ draft_with (packed_file file.now) draft.old) }
 {
@@ -110,13 +113,14 @@ fn write_acl(draft: &mut Draft, mode: u64) -> Result<(), AllocError>
 /// A script of a package.
 #[derive(Drop)]
 pub(crate) struct Script<'a> {
-    /// Its type, the name of its field.
+    /// The type of the script, which is the name of its field.
     pub(crate) kind: &'a [u8],
-    /// Its bytes.
+    /// The bytes of the script's file.
     pub(crate) bytes: Vec<u8>,
 }
 
-/// Writes the scripts: a field for each type, in order.
+/// Writes the scripts: a field for each type, in the order of table 6. A type without script is
+/// NULL.
 fn write_scripts(draft: &mut Draft, scripts: &[Script<'_>]) -> Result<(), AllocError>
     ensures { OnOk result
         (draft.new ≡ draft_with (value_of_scripts (scripts_view scripts.now)) draft.old) }
@@ -132,7 +136,7 @@ fn write_scripts(draft: &mut Draft, scripts: &[Script<'_>]) -> Result<(), AllocE
     draft.close_object()
 }
 
-/// The bytes of the script of a type, or nothing.
+/// The bytes of the first script of a type, or none where there is none.
 fn script_of<'a>(scripts: &'a [Script<'_>], kind: &[u8]) -> &'a [u8]
     ensures { result.now ≡ script_in (scripts_view scripts.now) kind.now }
 {
@@ -144,7 +148,7 @@ fn script_of<'a>(scripts: &'a [Script<'_>], kind: &[u8]) -> &'a [u8]
     &[]
 }
 
-/// Writes the triggers: the values of the option for them, in the order given.
+/// Writes the triggers: the values of `-t`, in the order given.
 fn write_triggers(draft: &mut Draft, values: &Values) -> Result<(), AllocError>
     ensures { OnOk result (draft.new ≡ draft_with (arr_value (plains_of_list (map blob_value
         (texts_of (values_with TRIGGER values.now))))) draft.old) }

@@ -23,7 +23,7 @@ use Rattle.make_package.specs.Making.{container_unless, made_package, or_info_ba
 use Rattle.make_info.specs.Output.{output_name}
 use Rattle.package_files.specs.Package.{Script, Source, SourceFolder, contents_of_folders, installed_size, value_of_package}
 use Rattle.make_index.specs.Files.{AreFiles}
-use Rattle.package_files.specs.Sources.{AreNamesFor, on_success, each_from, file_at, sources_from, folder_at, folders_below, found_at, values_with, script_at, scripts_from, texts_of}
+use Rattle.package_files.specs.Sources.{AreNamesFor, and_then, each_from, file_at, sources_from, folder_at, folders_below, found_at, values_with, script_at, scripts_from, texts_of}
 use Rattle.make_info.specs.Reads.{Reads}
 use Rattle.make_info.specs.declared.fault.MakeFault.{MakeFault}
 use Rattle.make_info.specs.declared.fault.MakeFault.TheVariants.{FileMissing, FileBad, InfoBad, TooLarge, Disk, Memory}
@@ -98,14 +98,14 @@ fine_err A B (TooLarge bytes values) h = tt
 fine_err A B Disk h = absurd h
 fine_err A B Memory h = absurd h
 
-after_fine : {A B : Type 0} (r : Result A MakeFault) (next : A → Result B MakeFault) → IsRefusalOrMade r → ((x : A) → IsRefusalOrMade (next x)) → IsRefusalOrMade (on_success r next)
+after_fine : {A B : Type 0} (r : Result A MakeFault) (next : A → Result B MakeFault) → IsRefusalOrMade r → ((x : A) → IsRefusalOrMade (next x)) → IsRefusalOrMade (and_then r next)
 after_fine (Ok x) next h further = further x
 after_fine {A} {B} (Err why) next h further = fine_err A B why h
 
 each_fine : {X Y : Type 0} (count : X → ℕ) (of : ℕ → X → Result Y MakeFault) → ((n : ℕ) (x : X) → IsRefusalOrMade (of n x)) → (n : ℕ) (xs : List X) → IsRefusalOrMade (each_from count of n xs)
 each_fine count of h n [] = tt
 each_fine count of h n (x ∷ xs) =
-    after_fine (of n x) (λ y. on_success (each_from count of (n + count x) xs) (λ ys. Ok (y ∷ ys))) (h n x)
+    after_fine (of n x) (λ y. and_then (each_from count of (n + count x) xs) (λ ys. Ok (y ∷ ys))) (h n x)
     (λ y. after_fine (each_from count of (n + count x) xs) (λ ys. Ok (y ∷ ys)) (each_fine count of h (n + count x) xs) (λ ys. tt))
 
 found_fine : (place : ℕ) (found : Option (List ℕ)) → IsRefusalOrMade (found_at place found)
@@ -155,10 +155,10 @@ pub package_fine : (command : CommandLine) (names : List (List ℕ)) (read : Rea
 unfolding made_package
 package_fine command names read =
     after_fine (scripts_from read 0 (values_with SCRIPT command.values))
-    (λ scripts. on_success (or_info_bad (information command)) (λ about. on_success (folders_below read (length scripts) (values_with FILES command.values) names) (package_of_parts command scripts about)))
+    (λ scripts. and_then (or_info_bad (information command)) (λ about. and_then (folders_below read (length scripts) (values_with FILES command.values) names) (package_of_parts command scripts about)))
     (each_fine (λ v. 1) (script_at read) (script_fine read) 0 (values_with SCRIPT command.values))
     (λ scripts.
-    after_fine (or_info_bad (information command)) (λ about. on_success (folders_below read (length scripts) (values_with FILES command.values) names) (package_of_parts command scripts about))
+    after_fine (or_info_bad (information command)) (λ about. and_then (folders_below read (length scripts) (values_with FILES command.values) names) (package_of_parts command scripts about))
     (info_fine (information command))
     (λ about.
     after_fine (folders_below read (length scripts) (values_with FILES command.values) names) (package_of_parts command scripts about)

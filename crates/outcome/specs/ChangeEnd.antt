@@ -1,6 +1,7 @@
 -- How a command ends that changes what is installed: it is refused for a stated fault, or since no
 -- selection satisfies the new world; else the first preferred selection takes the place of the
--- packages before.
+-- packages before. What is told stands in `docs/commands.md`, "`add` and `del`", what is refused,
+-- and what is taken in `docs/selection.md`, "Which selection is taken".
 use Rattle.std.specs.Prelude.{◌≡◌, ◌⊎◌, ◌++◌, ℕ, Bool, true, false, List, Option, Some, Result, Ok, Err}
 use Rattle.base_core.specs.Files.{Files}
 use Rattle.base_core.specs.declared.cause.Cause.{Cause}
@@ -24,8 +25,8 @@ use Rattle.outcome.specs.Work.{recovery_fault, work_files}
 
 -- ---- stated faults
 
--- of the input: the files that are read of the root, too many packages to choose from, or an
--- operand whose package is not installed
+-- whether a refusal is of the input: of the files that are read of the root, of too many packages
+-- to choose from, or of an operand whose package is not installed
 abbrev pub is_input_refusal : Refusal → Bool
 is_input_refusal NoDatabase = true
 is_input_refusal (DatabaseBad cause) = true
@@ -40,8 +41,8 @@ is_input_refusal (NotInstalled place) = true
 is_input_refusal (ResultTooLarge bytes values) = true
 is_input_refusal other = false
 
--- of the packages that come, go and stay: their files, scripts and triggers, and the files that
--- they would leave
+-- whether a refusal is of the packages that come, go and stay: of their files, scripts and
+-- triggers, and of the files that they would leave
 abbrev pub is_package_refusal : Refusal → Bool
 is_package_refusal (PackageMissing name version) = true
 is_package_refusal (PackageBad name version cause) = true
@@ -56,7 +57,7 @@ is_package_refusal other = false
 
 -- ---- without a selection
 
--- its input is refused, whatever might be chosen
+-- a command is refused for its input, whatever might be chosen
 pub record IsInputRefused (command : CommandLine) (files : Files) (o : Outcome) : Type 0 where
   pub refusal : Refusal
   pub stated : is_input_refusal refusal ≡ true
@@ -73,7 +74,7 @@ pub record HasNoSelection (command : CommandLine) (files : Files) (o : Outcome) 
 
 -- ---- with the first one
 
--- The change is committed and reported: first what becomes of each package. One that is only
+-- A change is committed and reported: first what becomes of each package. One that is only
 -- simulated leaves the files.
 pub record IsReported (command : CommandLine) (files : Files) (selected : Selected)
     (done : ChangeDone) (o : Outcome) : Type 0 where
@@ -82,14 +83,16 @@ pub record IsReported (command : CommandLine) (files : Files) (selected : Select
   pub report : o.out ≡ change_lines (changes_of selected.replacement) ++ rest
   pub simulated : command.flags.simulate ≡ true → (o.files ≡ files) × (o.commits ≡ false)
 
--- by what comes of the change: it is made, or a stated fault of its packages is refused
+-- how a change ends whose candidates are selected: it is made, or a stated fault of its packages is
+-- refused
 abbrev pub IsEndBy :
     CommandLine → Files → Selected → Result ChangeDone Refusal → Outcome → Type 0
 IsEndBy command files selected (Ok done) o = IsReported command files selected done o
 IsEndBy command files selected (Err refusal) o =
     (is_package_refusal refusal ≡ true) × (o ≡ just_refusal files refusal)
 
--- the first preferred selection of the candidates takes the place of the packages before
+-- the first preferred selection of the candidates takes the place of the packages before, up to the
+-- end of the change
 pub record TakesFirstSelection (command : CommandLine) (files : Files) (o : Outcome) : Type 0 where
   pub pool : SealedPool
   pub is_pool : pool_for command (reads_in files) ≡ Ok pool
@@ -105,19 +108,19 @@ pub record TakesFirstSelection (command : CommandLine) (files : Files) (o : Outc
 
 -- ---- each end
 
--- over the files on which it works
+-- each end of a change, over the files on which it works
 abbrev pub IsChangeEnd : CommandLine → Files → Outcome → Type 0
 IsChangeEnd command files o =
     IsInputRefused command files o
     ⊎ (HasNoSelection command files o ⊎ TakesFirstSelection command files o)
 
--- over the files in which a run begins: a bad intent is refused before all else
+-- a run ends with a bad intent refused, before all else, over the files in which it begins
 pub record IsIntentRefused (files : Files) (o : Outcome) : Type 0 where
   pub cause : Cause
   pub bad : recovery_fault Changes files ≡ Some cause
   pub outcome : o ≡ just_refusal files (IntentBad cause)
 
--- each end of a run: that, or an end over the files that a recovery leaves
+-- each end of a run: a bad intent, or an end over the files that a recovery leaves
 abbrev pub IsRunEnd : CommandLine → Files → Outcome → Type 0
 IsRunEnd command files o =
     IsIntentRefused files o ⊎ IsChangeEnd command (work_files Changes files) o

@@ -1,4 +1,6 @@
--- The outcome of a command. `demo` is apart: it runs other commands.
+-- The outcome of a command. `demo` is apart: it runs other commands. What comes before each command
+-- stands in `docs/commands.md`, "Before the commands that write, and `info`", and what each comes
+-- to in its own section.
 use Rattle.std.specs.Prelude.{◌≡◌, ◌⊎◌, ℕ, true, List, [], Option, Some, None, Result, Ok, Err, Contains}
 use Rattle.adb_schema.specs.Soundness.{first_fault}
 use Rattle.adb_tables.specs.declared.tables.Which.TheVariants.{Intent as IntentTable}
@@ -26,7 +28,8 @@ use Rattle.outcome.specs.Work.{recovery_fault, work_files}
 
 -- ---- the outcome of an applet
 
--- by what no function computes, by what its reads find, and by the files, which it may change
+-- the outcome of an applet, by what no function computes, by what its reads find, and by the files,
+-- which it may change
 abbrev pub applet_outcome : Applet → CommandLine → Given → Reads → Files → Outcome
 applet_outcome Verify command given read files = verify read files command.operands
 applet_outcome Version command given read files = version files command.flags command.operands
@@ -40,14 +43,14 @@ applet_outcome Demo command given read files = just_report files []
 applet_outcome other command given read files =
     change read files command given.chosen given.clash
 
--- of a command whose files are recovered, if it recovers
+-- the outcome of a command over the files on which it works
 abbrev pub command_outcome : CommandLine → Given → Reads → Files → Outcome
 command_outcome command given read files =
     applet_outcome command.applet command given read files
 
 -- ---- over the files of a tree
 
--- each read finds the file under its name
+-- what reads find in these files: each the file under its name
 abbrev pub reads_in : Files → Reads
 reads_in files n name = files name
 
@@ -58,14 +61,15 @@ IsOutcomeOver command files outcome =
     × IsGiven command (reads_in files) files given
     × (outcome ≡ command_outcome command given (reads_in files) files)
 
--- a bad intent is refused before all else but a usage error, and nothing changes
+-- the outcome of a command, unless it has to recover and cannot: then a bad intent is refused
+-- before all else but a usage error, and nothing changes
 abbrev pub IsOutcomeUnless : Option Cause → CommandLine → Files → Outcome → Type 0
 IsOutcomeUnless (Some cause) command files outcome =
     outcome ≡ just_refusal files (IntentBad cause)
 IsOutcomeUnless None command files outcome =
     IsOutcomeOver command (work_files (effect_of command.applet) files) outcome
 
--- of what was read of the words: a usage error is told before any file is looked at
+-- the outcome of what was read of the words: a usage error is told before any file is looked at
 abbrev pub IsOutcomeOf : Result CommandLine ℕ → Files → Outcome → Type 0
 IsOutcomeOf (Err place) files outcome = outcome ≡ just_refusal files (Usage place)
 IsOutcomeOf (Ok command) files outcome =
@@ -99,7 +103,7 @@ IsFoundOver command outcome =
     × ((outcome ≡ command_outcome command given read files)
     ⊎ IsSpoiled command read given files outcome)
 
--- some file is no intent container, and that is refused
+-- some file is no intent container, and that is refused; nothing else is known of the files
 abbrev pub IsFoundUnrecovered : Outcome → Type 0
 IsFoundUnrecovered outcome =
     (file : List ℕ)
@@ -107,7 +111,8 @@ IsFoundUnrecovered outcome =
     × (first_fault IntentTable file ≡ Some cause)
     × (outcome ≡ just_refusal no_names (IntentBad cause))
 
--- the same on a tree whose files no contract knows; a usage error and a bad intent tell of no files
+-- *IsOutcomeOf* on a tree whose files no contract knows; a usage error and a bad intent tell of no
+-- files
 abbrev pub IsFoundOutcomeOf : Result CommandLine ℕ → Outcome → Type 0
 IsFoundOutcomeOf (Err place) outcome = outcome ≡ just_refusal no_names (Usage place)
 IsFoundOutcomeOf (Ok command) outcome =

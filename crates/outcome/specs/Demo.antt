@@ -1,4 +1,5 @@
--- `demo`: other commands are run, in a tree of their own.
+-- `demo`: other commands are run, in a tree of their own. The rules stand in `docs/commands.md`,
+-- "`demo N`".
 use Rattle.std.specs.Prelude.{◌≡◌, ℕ, zero, suc, List, [], Option, Some, None}
 use Rattle.base_core.specs.Files.{Files, no_names, put_name}
 use Rattle.root_names.specs.RootNames.{repositories_name}
@@ -11,7 +12,8 @@ use Rattle.outcome.specs.Outcome.{Outcome, just_report, report_unless}
 
 -- ---- one run behind another
 
--- a refusal ends all; else the words are run over the files that were left
+-- what a run comes to behind another, whose refusal ends all; else the words are run over the files
+-- that were left
 abbrev pub IsRunUnless : Option Refusal → List (List ℕ) → Files → Outcome → Outcome → Type 0
 IsRunUnless (Some refusal) words files before outcome = outcome ≡ before
 IsRunUnless None words files before outcome = IsOutcomeOf (command_of words) files outcome
@@ -22,7 +24,7 @@ IsRunBehind words files before outcome = IsRunUnless before.refusal words files 
 
 -- ---- the runs
 
--- the repositories stand in a tree that is else empty
+-- the outcome before the first run: the repositories stand in a tree that is else empty
 abbrev pub demo_start : Outcome
 demo_start = just_report (put_name no_names repositories_name demo_repositories) []
 
@@ -38,14 +40,15 @@ ArePackaged (suc i) outcome =
     × ArePackaged i before
     × IsRunBehind (mkpkg_words (suc i)) (with_demo_file (suc i) before.files) before outcome
 
--- then their index
+-- the packages 1 to n are made, and their index behind them
 abbrev pub AreIndexed : ℕ → Outcome → Type 0
 AreIndexed n outcome =
     (before : Outcome)
     × ArePackaged n before
     × IsRunBehind (mkndx_words n) before.files before outcome
 
--- then they are installed
+-- the packages 1 to n are made and indexed, and those on which no other depends are added behind
+-- that
 abbrev pub AreInstalled : ℕ → Outcome → Type 0
 AreInstalled n outcome =
     (before : Outcome)
@@ -54,8 +57,8 @@ AreInstalled n outcome =
 
 -- ---- what is told
 
--- the last line of the last run, or the first refusal; of the files of the run itself nothing is
--- read, and none is changed
+-- what `demo` tells: the last line of the last run, or the first refusal; of the files of the run
+-- itself nothing is read, and none is changed
 abbrev pub IsDemoOutcome : ℕ → Files → Outcome → Type 0
 IsDemoOutcome n files outcome =
     (last : Outcome)

@@ -1,4 +1,5 @@
--- `adbdump`: a container is printed as text.
+-- `adbdump`: a container is printed as text. The rules stand in `docs/commands.md`,
+-- "`adbdump FILE`", and in `docs/formats.md`, "Dump text" and "Tests of a container".
 use Rattle.std.specs.Prelude.{ℕ, List, [], ◌∷◌, Option, Some, None, Result, Ok, Err}
 use Rattle.std.specs.Option.{option_or}
 use Rattle.base_core.specs.Files.{Files}
@@ -21,24 +22,24 @@ use Rattle.make_info.specs.Reads.{Reads}
 use Rattle.pkg_core.specs.Whole.{root_of_schema}
 use Rattle.outcome.specs.Outcome.{Outcome, just_refusal, just_report}
 
--- the framing of the blocks that are left; nothing is asked of what they hold
+-- the first fault of the framing of the blocks that are left; nothing is asked of what they hold
 abbrev pub framing_fault : Reading → Option Cause
 framing_fault done = None
 framing_fault (fault c) = Some c
 framing_fault (more b at r) = framing_fault r
 
--- the head of a payload and its shape, and nothing of its texts
+-- the first fault of a payload's head and shape; nothing is asked of its texts
 abbrev pub form_fault : Which → List ℕ → Option Cause
 form_fault which payload =
     option_or (head_fault payload) (shape_fault payload (shape_of (Obj which)) (root_of payload))
 
--- the first block, and then the framing of the others
+-- the first fault of the blocks: of the first block, and then of the framing of the others
 abbrev pub dump_fault : Which → Reading → Option Cause
 dump_fault which done = None
 dump_fault which (fault c) = Some c
 dump_fault which (more b at r) = option_or (form_fault which b.payload) (framing_fault r)
 
--- the text, unless a test failed
+-- the text of a container, unless a test failed
 abbrev pub or_text : Option Cause → List ℕ → Result (List ℕ) Cause
 or_text None text = Ok text
 or_text (Some cause) text = Err cause
@@ -48,12 +49,13 @@ abbrev pub dump_of_blocks : Which → Reading → Result (List ℕ) Cause
 dump_of_blocks which r =
     or_text (dump_fault which r) (dump_text which (root_value which (first_payload r)))
 
--- a schema that no table of a root has is a wrong one
+-- the text of blocks by the table at their root; a schema that no table of a root has is a wrong
+-- one
 abbrev pub dump_with_root : ℕ → Reading → Option Which → Result (List ℕ) Cause
 dump_with_root schema r None = Err (WrongSchema schema)
 dump_with_root schema r (Some which) = dump_of_blocks which r
 
--- by the schema in the header, or the header's fault
+-- the text of a file by the schema in its header, or the header's fault
 abbrev pub dump_with_schema : List ℕ → Result ℕ Cause → Result (List ℕ) Cause
 dump_with_schema file (Err c) = Err c
 dump_with_schema file (Ok schema) =
@@ -64,12 +66,12 @@ dump_with_schema file (Ok schema) =
 unfoldable pub dump_of : List ℕ → Result (List ℕ) Cause
 dump_of file = dump_with_schema file (header_of file)
 
--- the text is the report; or the operand is refused, which has this place
+-- the outcome of a text: it is the report; or the operand at this place is refused
 abbrev pub text_outcome : Files → ℕ → Result (List ℕ) Cause → Outcome
 text_outcome files place (Ok text) = just_report files text
 text_outcome files place (Err cause) = just_refusal files (FileBad place cause)
 
--- by what a read finds for the argument at a place
+-- the outcome of what a read finds for the argument at a place
 abbrev pub dump_outcome : Files → ℕ → Option (List ℕ) → Outcome
 dump_outcome files place None = just_refusal files (FileMissing place)
 dump_outcome files place (Some bytes) = text_outcome files place (dump_of bytes)

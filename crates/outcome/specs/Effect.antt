@@ -1,4 +1,6 @@
--- What a command looks at, and what it changes.
+-- What a command looks at, and what it changes. The rules stand in `docs/commands.md`,
+-- "Before the commands that write, and `info`", and in `docs/crash-safety.md`,
+-- "Misuses, faults and counts", its last part but one.
 use Rattle.std.specs.Prelude.{ℕ, Bool, true, false, List, Option, None, Result, Ok, Err}
 use Rattle.make_info.specs.Output.{output_name}
 use Rattle.command_core.specs.Command.{CommandLine}
@@ -8,18 +10,18 @@ use Rattle.command_core.specs.declared.command.Applet.TheVariants.{Adbdump, Add,
 
 -- what a command may do to the files, from nothing to several of them
 pub data Effect : Type 0 where
-  -- it looks at the words alone
+  -- the command looks at its words alone
   Computes : Effect
-  -- it reads files, and leaves them as they are
+  -- the command reads files, and leaves them as they are
   Reads : Effect
-  -- it recovers, reads files, and leaves them as they are then
+  -- the command recovers, reads files, and leaves them as they are then
   Tells : Effect
-  -- it recovers, reads files, and writes one
+  -- the command recovers, reads files, and writes one
   Makes : Effect
-  -- it recovers, reads files, and writes and removes several in one step
+  -- the command recovers, reads files, and writes and removes several in one step
   Changes : Effect
 
--- of the command that an applet names
+-- the effect of a command, by the applet that it names
 abbrev pub effect_of : Applet → Effect
 effect_of Version = Computes
 effect_of Demo = Computes
@@ -33,7 +35,7 @@ effect_of Del = Changes
 effect_of Upgrade = Changes
 effect_of Fix = Changes
 
--- what it comes to is the same over all files
+-- whether what a command comes to is the same over all files
 abbrev pub does_rest_on_words : Effect → Bool
 does_rest_on_words Computes = true
 does_rest_on_words Reads = false
@@ -41,7 +43,7 @@ does_rest_on_words Tells = false
 does_rest_on_words Makes = false
 does_rest_on_words Changes = false
 
--- whether it leaves the tree as it is, whatever it finds there
+-- whether a command leaves the tree as it is, whatever it finds there
 abbrev pub does_only_read : Effect → Bool
 does_only_read Computes = true
 does_only_read Reads = true
@@ -49,7 +51,7 @@ does_only_read Tells = false
 does_only_read Makes = false
 does_only_read Changes = false
 
--- whether it first recovers: it finishes the change that an intent tells of
+-- whether a command first recovers: it finishes the change that an intent tells of
 abbrev pub does_recover : Effect → Bool
 does_recover Computes = false
 does_recover Reads = false
@@ -67,26 +69,26 @@ output_if Changes command = None
 
 -- ---- of a command line; a usage error looks at nothing, and changes nothing
 
--- a usage error counts as a command that computes
+-- the effect of a command line; a usage error counts as a command that computes
 abbrev pub effect_by : Result CommandLine ℕ → Effect
 effect_by (Ok command) = effect_of command.applet
 effect_by (Err place) = Computes
 
--- of a command line, also of one that is a usage error
+-- whether the outcome of a command line is the same over all files, as that of a usage error is
 abbrev pub rests_on_words : Result CommandLine ℕ → Bool
 rests_on_words (Ok command) = does_rest_on_words (effect_of command.applet)
 rests_on_words (Err place) = true
 
--- no file of the root is written or removed
+-- whether a command line writes and removes no file of the root
 abbrev pub reads_only : Result CommandLine ℕ → Bool
 reads_only (Ok command) = does_only_read (effect_of command.applet)
 reads_only (Err place) = true
 
--- the name of the file that it makes, if it makes one
+-- the name of the file that a command line makes, if it makes one
 abbrev pub output_by : Result CommandLine ℕ → Option (List ℕ)
 output_by (Ok command) = output_if (effect_of command.applet) command
 output_by (Err place) = None
 
--- the output of a command line
+-- the output of a command line, by its words
 abbrev pub output : List (List ℕ) → Option (List ℕ)
 output words = output_by (command_of words)

@@ -1,5 +1,7 @@
 -- What no function computes of what a command finds: the names that it lists, the candidates that
--- it chooses, and the first clash of names.
+-- it chooses, and the first clash of names. The rules stand in `docs/commands.md`, "`mkpkg`"
+-- (`-F DIR`) and "What a change does with files" (test 2), and in `docs/selection.md`,
+-- "Which selection is taken".
 use Rattle.std.specs.Prelude.{◌≡◌, ℕ, List, [], Option, None}
 use Rattle.base_core.specs.Files.{Files}
 use Rattle.command_core.specs.Command.{CommandLine}
@@ -15,23 +17,23 @@ use Rattle.path_clashes.specs.Clash.{NamePair}
 use Rattle.outcome.specs.Effect.{Effect, Changes, effect_of}
 use Rattle.outcome.specs.Make.{IsListing}
 
--- an outcome is a function of these, of what reads find, and of the files
+-- what an outcome rests on beside the command, what reads find, and the files
 pub record Given : Type 0 where
-  -- the names that it lists
+  -- the names below the folder of `-F` that the command lists
   pub names : List (List ℕ)
-  -- the places of the candidates that it chooses, in the order in which they are chosen; None where
-  -- none satisfy the world
+  -- the places of the candidates that the command chooses, in the order in which they are chosen;
+  -- None where none satisfy the world
   pub chosen : Option (List ℕ)
-  -- the first clash of the names after a change
+  -- the first clash of the names after a change, if there is one
   pub clash : Option NamePair
 
--- of a command that lists and chooses nothing
+-- what is given to a command that lists and chooses nothing
 abbrev pub nothing_given : Given
 nothing_given = record { names = []; chosen = None; clash = None }
 
 -- ---- what is chosen
 
--- by what reads find; only a change chooses
+-- what a command chooses, by what reads find; only a change chooses
 abbrev pub IsChosenFor : Effect → CommandLine → Reads → Option (List ℕ) → Type 0
 IsChosenFor Changes command read chosen = IsChoiceFrom (pool_for command read) chosen
 IsChosenFor other command read chosen = chosen ≡ None
@@ -43,13 +45,13 @@ abbrev pub IsListingFor : Applet → CommandLine → Files → List (List ℕ) �
 IsListingFor Mkpkg command files names = IsListing (values_with FILES command.values) files names
 IsListingFor other command files names = names ≡ []
 
--- the first clash of the names after a change; only a change has one
+-- the first clash of the names after a command, which only a change has
 abbrev pub IsClashBy :
     Effect → CommandLine → Reads → Files → Option (List ℕ) → Option NamePair → Type 0
 IsClashBy Changes command read files chosen clash = IsClashFor command read files chosen clash
 IsClashBy other command read files chosen clash = clash ≡ None
 
--- all this, where reads find what stands in these files
+-- all that a command is given, where reads find what stands in these files
 pub record IsGiven (command : CommandLine) (read : Reads) (files : Files) (given : Given)
     : Type 0 where
   pub names : IsListingFor command.applet command files given.names
@@ -65,14 +67,14 @@ abbrev pub MayBeListedFor : Applet → CommandLine → List (List ℕ) → Type 
 MayBeListedFor Mkpkg command names = AreNamesFor (values_with FILES command.values) names
 MayBeListedFor other command names = names ≡ []
 
--- only a change has a clash: the first one among some standing files
+-- the first clash of names after a command among some standing files; only a change has one
 abbrev pub MayClash :
     Effect → CommandLine → Reads → Files → Option (List ℕ) → Option NamePair → Type 0
 MayClash Changes command read files chosen clash =
     (standing : Files) × IsClashForOver command read files standing chosen clash
 MayClash other command read files chosen clash = clash ≡ None
 
--- all this, by some files
+-- all that a command may be given on a tree whose files no contract knows, by some files
 pub record MayBeGiven (command : CommandLine) (read : Reads) (files : Files) (given : Given)
     : Type 0 where
   pub names : MayBeListedFor command.applet command given.names

@@ -1,4 +1,5 @@
--- `mkpkg` and `mkndx`: a package or an index is made.
+-- `mkpkg` and `mkndx`: a package or an index is made. The rules stand in `docs/commands.md`,
+-- "`mkpkg`" and "`mkndx PACKAGE..`".
 use Rattle.std.specs.Prelude.{◌≡◌, ℕ, if◌then◌else◌, List, [], ◌∷◌, ◌++◌, length, codes, nat_eq, Option, Some, None, Result, Ok, Err}
 use Rattle.std.specs.Fmt.{decimal}
 use Rattle.std.specs.List.{starts_with}
@@ -20,7 +21,8 @@ use Rattle.outcome.specs.Outcome.{Outcome, commit_report, just_refusal, just_rep
 
 -- ---- what is below the folder that `-F` names
 
--- what a listing of a folder tells of: whole names, with the folder in front
+-- what a listing of a folder tells of: the files below it under their whole names, with the folder
+-- in front
 abbrev pub files_below : List ℕ → Files → Files
 files_below folder files name =
     if starts_with nat_eq name (folder ++ codes "/") then files name else None
@@ -33,13 +35,14 @@ IsListing (folder ∷ values) files names =
 
 -- ---- what comes of it
 
--- a reserved name is refused as an output
+-- an outcome, unless its output has a reserved name, which is refused
 abbrev pub unless_reserved : Files → Option (List ℕ) → Outcome → Outcome
 unless_reserved files None otherwise = otherwise
 unless_reserved files (Some name) otherwise =
     if is_reserved name then just_refusal files (Reserved name) else otherwise
 
--- these bytes stand under the output's name, and nothing under its scratch name
+-- the files once an output is written: these bytes stand under its name, and nothing under its
+-- scratch name
 abbrev pub files_with_output : Option (List ℕ) → List ℕ → Files → Files
 files_with_output None bytes files = files
 files_with_output (Some name) bytes files = replaced_files name bytes files
@@ -55,20 +58,21 @@ make_outcome files output report (Err (BadFile place cause)) =
 make_outcome files output report (Err (BadInfo place)) = just_refusal files (InfoBad place)
 make_outcome files output report (Err (TooLarge bytes values)) =
     unless_reserved files output (just_refusal files (ResultTooLarge bytes values))
--- the definitions of what is made give neither of these
+-- a fault of the tree and want of memory: the definitions of what is made give neither
 make_outcome files output report (Err Disk) = just_report files []
 make_outcome files output report (Err Memory) = just_report files []
 
--- a package of the names below its folder, and of what reads find; nothing is reported
+-- the outcome of `mkpkg`: a package of the names below its folder, and of what reads find; nothing
+-- is reported
 abbrev pub mkpkg : Reads → Files → CommandLine → List (List ℕ) → Outcome
 mkpkg read files command names =
     make_outcome files (output_name command) [] (made_package command names read)
 
--- the report of an index
+-- the report of `mkndx` over so many packages
 abbrev pub index_line : ℕ → List ℕ
 index_line count = codes "Index has " ++ decimal count ++ codes " packages\n"
 
--- an index of the packages that the operands name, as reads find them
+-- the outcome of `mkndx`: an index of the packages that the operands name, as reads find them
 abbrev pub mkndx : Reads → Files → CommandLine → Outcome
 mkndx read files command =
     make_outcome files (output_name command) (index_line (length command.operands))

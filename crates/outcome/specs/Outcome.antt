@@ -1,10 +1,11 @@
--- What a command comes to.
+-- What a command comes to. The rules stand in `docs/commands.md`, "Answers and statuses": the rows
+-- of done and refused.
 use Rattle.std.specs.Prelude.{ℕ, Bool, true, false, List, [], Option, Some, None}
 use Rattle.base_core.specs.Files.{Files}
 use Rattle.report_core.specs.Texts.{refusal_line}
 use Rattle.report_core.specs.declared.refusal.Refusal.{Refusal}
 
--- of one run that came to its end
+-- what one run comes to that comes to its end
 pub record Outcome : Type 0 where
   -- why the command is refused, if it is
   pub refusal : Option Refusal
@@ -14,7 +15,7 @@ pub record Outcome : Type 0 where
   pub err : List ℕ
   -- the files afterwards
   pub files : Files
-  -- whether it writes or removes files
+  -- whether the run writes or removes files
   pub commits : Bool
 
 -- the line of a refusal, if there is one
@@ -22,7 +23,7 @@ abbrev pub line_of : Option Refusal → List ℕ
 line_of None = []
 line_of (Some refusal) = refusal_line refusal
 
--- a report, and a refusal behind it, if there is one; nothing is written
+-- the outcome with a report, and with a refusal behind it, if there is one; nothing is written
 abbrev pub outcome_of : Option Refusal → List ℕ → Files → Outcome
 outcome_of refusal report files = record {
   refusal = refusal;
@@ -32,19 +33,19 @@ outcome_of refusal report files = record {
   commits = false;
 }
 
--- files are written, and a report
+-- the outcome with a report, whose files are written
 abbrev pub commit_report : Files → List ℕ → Outcome
 commit_report files report = record (outcome_of None report files) { commits = true }
 
--- a report, and nothing is written or removed
+-- the outcome with a report, by which nothing is written or removed
 abbrev pub just_report : Files → List ℕ → Outcome
 just_report files report = outcome_of None report files
 
--- a refusal, and nothing is written or removed
+-- the outcome with a refusal, by which nothing is printed on standard output, written or removed
 abbrev pub just_refusal : Files → Refusal → Outcome
 just_refusal files refusal = outcome_of (Some refusal) [] files
 
--- the refusal, if there is one, and the report otherwise
+-- the outcome with the refusal, if there is one, and with the report otherwise
 abbrev pub report_unless : Files → Option Refusal → List ℕ → Outcome
 report_unless files None report = just_report files report
 report_unless files (Some refusal) report = just_refusal files refusal

@@ -1,10 +1,12 @@
--- Which commands first finish what an earlier change left undone: a list by itself, beside which a law
--- sets what `Effect` says.
+-- Which commands first finish what an earlier change left undone: a list by itself, beside which a
+-- law sets what `Effect` says. The rule stands in `docs/commands.md`,
+-- "Before the commands that write, and `info`".
 use Rattle.std.specs.Prelude.{Bool, true, false}
 use Rattle.command_core.specs.declared.command.Applet.{Applet}
 use Rattle.command_core.specs.declared.command.Applet.TheVariants.{Adbdump, Add, Del, Demo, Fix, Info, Mkndx, Mkpkg, Upgrade, Verify, Version}
 
--- those that tell or change what is installed, and those that make a file below the root
+-- whether an applet has to recover first: those do that tell or change what is installed, and those
+-- that make a file below the root
 abbrev pub must_recover : Applet → Bool
 must_recover Add = true
 must_recover Del = true

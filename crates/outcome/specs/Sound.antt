@@ -1,4 +1,5 @@
--- When what a command leaves under a name is a sound container.
+-- When what a command leaves under a name is a sound container. The rule stands in
+-- `docs/formats.md`, "Tests of a container"; it serves the law `what_is_made_is_sound`.
 use Rattle.std.specs.Prelude.{◌≡◌, ℕ, ◌<◌, ◌^◌, List, length, Some, None}
 use Rattle.base_core.specs.Files.{Files}
 use Rattle.pkg_core.specs.Whole.{container_fault}

@@ -1,4 +1,5 @@
--- The outcome of the words of a command line.
+-- The outcome of the words of a command line. The rules stand in `docs/commands.md`: "Words", and
+-- the section of each command.
 use Rattle.std.specs.Prelude.{ℕ, List, Result, Ok, Err}
 use Rattle.base_core.specs.Files.{Files, no_names}
 use Rattle.command_core.specs.Command.{CommandLine}
@@ -10,13 +11,13 @@ use Rattle.outcome.specs.Commands.{IsFoundOutcomeOf, IsOutcomeOf}
 use Rattle.outcome.specs.Demo.{IsDemoOutcome}
 use Rattle.outcome.specs.Outcome.{Outcome}
 
--- the outcome of a command: `demo` runs others
+-- the outcome of a command by its applet: `demo` runs others
 abbrev pub IsOutcomeFor : Applet → CommandLine → Files → Outcome → Type 0
 IsOutcomeFor Demo command files outcome =
     IsDemoOutcome (demo_count command.operands) files outcome
 IsOutcomeFor other command files outcome = IsOutcomeOf (Ok command) files outcome
 
--- of what was read of the words of a command line
+-- the outcome of what was read of the words of a command line
 abbrev pub IsOutcomeBy : Result CommandLine ℕ → Files → Outcome → Type 0
 IsOutcomeBy (Ok command) files outcome = IsOutcomeFor command.applet command files outcome
 IsOutcomeBy (Err place) files outcome = IsOutcomeOf (Err place) files outcome
@@ -27,13 +28,13 @@ IsOutcome words files outcome = IsOutcomeBy (command_of words) files outcome
 
 -- ---- over a tree whose files no contract knows
 
--- `demo` rests on no files
+-- *IsOutcomeFor* on a tree whose files no contract knows: `demo` rests on no files
 abbrev pub IsFoundOutcomeFor : Applet → CommandLine → Outcome → Type 0
 IsFoundOutcomeFor Demo command outcome =
     IsDemoOutcome (demo_count command.operands) no_names outcome
 IsFoundOutcomeFor other command outcome = IsFoundOutcomeOf (Ok command) outcome
 
--- the same over files that no contract knows
+-- *IsOutcomeBy* on a tree whose files no contract knows
 abbrev pub IsFoundOutcomeBy : Result CommandLine ℕ → Outcome → Type 0
 IsFoundOutcomeBy (Ok command) outcome = IsFoundOutcomeFor command.applet command outcome
 IsFoundOutcomeBy (Err place) outcome = IsFoundOutcomeOf (Err place) outcome

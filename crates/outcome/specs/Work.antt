@@ -1,4 +1,6 @@
--- The files on which a command works, and why it may not begin.
+-- The files on which a command works, and why it may not begin. The rules stand in
+-- `docs/commands.md`, "Before the commands that write, and `info`", and in `docs/crash-safety.md`,
+-- "Recovery".
 use Rattle.std.specs.Prelude.{ℕ, List, Option, Some, None}
 use Rattle.adb_schema.specs.Soundness.{first_fault}
 use Rattle.adb_tables.specs.declared.tables.Which.TheVariants.{Intent as IntentTable}
@@ -8,7 +10,7 @@ use Rattle.journal_core.specs.Recovery.{intent_name}
 use Rattle.journal_core.specs.Staged.{unstaged_files}
 use Rattle.outcome.specs.Effect.{Effect, Computes, Reads, Tells, Makes, Changes}
 
--- those that a recovery leaves, of a command that recovers
+-- the files on which a command works: of one that recovers those that a recovery leaves
 abbrev pub work_files : Effect → Files → Files
 work_files Computes files = files
 work_files Reads files = files

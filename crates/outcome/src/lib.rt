@@ -4,11 +4,13 @@
 //! It is a crate of definitions. `Outcome` of `specs/` says what a command comes to, `Words` what a
 //! command line comes to, `Commands` what each command but `demo` does, `Effect` what it looks at
 //! and changes, and `Version`, `Verify`, `Dump`, `Make`, `Telling` and `Changing` what each comes
-//! to;
-//! `Demo` says what `demo` runs, and `Given` what no function computes of an outcome. `ChangeEnd`,
-//! `Recovers` and `Sound` are what laws cite: how a change ends, which commands recover, and when a
-//! file is a sound container. The functions are laws: they do nothing, and
-//! their contracts say what follows from the definitions, for all words and files.
+//! to; `Demo` says what `demo` runs, and `Given` what no function computes of an outcome.
+//! `ChangeEnd`, `Recovers` and `Sound` are what laws cite: how a change ends, which commands
+//! recover, and when a file is a sound container.
+//!
+//! The functions are laws: they do nothing, and their contracts say what follows from the
+//! definitions, for all words and files. The rules stand in `docs/commands.md`, in the sections
+//! that the heads of the files of `specs/` name.
 #![tactic(auto)]
 
 ghost use Rattle.std.specs.Prelude.{◌≡◌, ◌⊎◌, ℕ, true, false, List, None, Some, Result, Ok, Err, IsSome, IsTrue, is_some, not};
@@ -66,7 +68,7 @@ pub fn an_outcome_is_unique()
     a_change_has_a_first_clash_or_none();
 }
 
-/// So it is with a command over the files on which it works.
+/// A command has one outcome over the files on which it works, and no second one.
 pub fn an_outcome_over_files_is_unique()
     ensures { (command : CommandLine) (files : Files) (a b : Outcome)
         → IsOutcomeOver command files a → IsOutcomeOver command files b → a ≡ b }
@@ -87,7 +89,8 @@ pub fn a_command_that_reads_leaves_the_files()
     reading_leaves_the_files();
 }
 
-// So it is with each command but `demo`.
+// `a_command_that_reads_leaves_the_files` for each command but `demo`, of what was read of its
+// words.
 fn reading_leaves_the_files()
     ensures files { (read : Result CommandLine ℕ) (files : Files) (o : Outcome)
         → IsTrue (reads_only read) → IsOutcomeOf read files o → o.files ≡ files }
@@ -124,8 +127,10 @@ pub fn a_refusal_commits_nothing()
 
 /// A command that commits nothing leaves the files as they are, or as a recovery leaves them.
 pub fn a_command_that_commits_nothing_leaves_the_files()
+    // Of a command over the files on which it works.
     ensures over { (command : CommandLine) (files : Files) (o : Outcome)
         → IsOutcomeOver command files o → o.commits ≡ false → o.files ≡ files }
+    // Of a command line, which may first recover.
     ensures words { (words : List (List ℕ)) (files : Files) (o : Outcome)
         → IsOutcome words files o → o.commits ≡ false → (o.files ≡ files)
         ⊎ (o.files ≡ work_files (effect_by (command_of words)) files) }
@@ -139,19 +144,24 @@ pub fn a_command_that_commits_nothing_leaves_the_files()
 /// leaves, and leave these where they commit nothing. `verify`, `adbdump`, `version` and `demo`
 /// leave all files as they are.
 pub fn a_command_recovers()
+    // The list of `must_recover` is that of the effects.
     ensures recovers { (applet : Applet) → does_recover (effect_of applet) ≡ must_recover applet }
+    // A bad intent is refused, and all files stay.
     ensures bad { (words : List (List ℕ)) (command : CommandLine) (files : Files) (o : Outcome)
         (cause : Cause) → command_of words ≡ Ok command → IsTrue (must_recover command.applet)
         → fault_of_intent (files intent_name) ≡ Some cause → IsOutcome words files o
         → o ≡ just_refusal files (IntentBad cause) }
+    // Else the command works on the files that a recovery leaves.
     ensures works { (words : List (List ℕ)) (command : CommandLine) (files : Files) (o : Outcome)
         → command_of words ≡ Ok command → IsTrue (must_recover command.applet)
         → fault_of_intent (files intent_name) ≡ None → IsOutcome words files o
         → IsOutcomeOver command (unstaged_files files) o }
+    // These it leaves where it commits nothing.
     ensures leaves { (words : List (List ℕ)) (command : CommandLine) (files : Files) (o : Outcome)
         → command_of words ≡ Ok command → IsTrue (must_recover command.applet)
         → fault_of_intent (files intent_name) ≡ None → IsOutcome words files o
         → o.commits ≡ false → o.files ≡ unstaged_files files }
+    // The other commands leave all files as they are.
     ensures others { (words : List (List ℕ)) (command : CommandLine) (files : Files) (o : Outcome)
         → command_of words ≡ Ok command → must_recover command.applet ≡ false
         → IsOutcome words files o → (o.files ≡ files) × (o.commits ≡ false) }
@@ -187,9 +197,11 @@ pub fn a_root_has_no_database_where_no_file_of_one_stands()
 /// selection takes the place of the packages before: that is committed and reported, unless the
 /// packages have a stated fault. A bad intent is refused before all else.
 pub fn a_change_takes_the_first_selection_or_is_refused()
+    // Of a command over the files on which it works.
     ensures over { (command : CommandLine) (files : Files) (o : Outcome)
         → effect_of command.applet ≡ Changes → IsOutcomeOver command files o
         → IsChangeEnd command files o }
+    // Of a run, which first recovers.
     ensures words { (words : List (List ℕ)) (command : CommandLine) (files : Files) (o : Outcome)
         → command_of words ≡ Ok command → effect_of command.applet ≡ Changes
         → IsOutcome words files o → IsRunEnd command files o }
@@ -197,7 +209,8 @@ pub fn a_change_takes_the_first_selection_or_is_refused()
     a_change_that_is_made_passes_each_test();
 }
 
-/// A change leaves room for the next one: a recovery finds no intent, and nothing waits.
+/// A change leaves room for the next one: a recovery finds no intent, nothing waits, and the files
+/// stay folder-like with what a stage may make.
 pub fn a_change_leaves_room_for_the_next()
     ensures { (words : List (List ℕ)) (files : Files) (o : Outcome)
         → effect_by (command_of words) ≡ Changes → IsOutcome words files o → o.refusal ≡ None
@@ -217,7 +230,7 @@ pub fn an_outcome_of_words_is_the_same_everywhere()
     words_alone_are_the_same_everywhere();
 }
 
-// So it is with each command but `demo`.
+// `an_outcome_of_words_is_the_same_everywhere` for each command but `demo`.
 fn words_alone_are_the_same_everywhere()
     ensures { (read : Result CommandLine ℕ) (files others : Files) (o : Outcome)
         → IsTrue (rests_on_words read) → IsOutcomeOf read files o

@@ -1,4 +1,6 @@
 -- What a change does with names, by the parts of its files.
+-- The rule stands in `docs/commands.md`, "What a change does with files", test 2. Serves the
+-- contracts of `src/clashes.rt`.
 use Rattle.std.specs.Prelude.{◌&&◌, ◌||◌, ◌++◌, ◌∷◌, [], ℕ, Bool, not, List, map, bytes_eq, is_some}
 use Rattle.std.specs.List.{filter, find, list_any}
 use Rattle.db_core.specs.Seen.{members_of}
@@ -14,14 +16,16 @@ use Rattle.file_fates.specs.Sides.{claims_after, claims_before}
 use Rattle.file_fates.specs.declared.change.Change.{Change}
 use Rattle.file_fates.specs.declared.parts.Parts.{Parts}
 
--- the database, the world, the paths that members which come list, and the names beside others
+-- the names that count as written: the database, the world, the paths that members which come list,
+-- and the names beside others
 abbrev pub names_written_by : Change → Parts → List (List ℕ)
 names_written_by change parts =
     database_name ∷ world_name ∷ [] ++ map (λ c. c.path)
     (filter (λ c. comes_at (members_of change.members.now) c.member) (claims_after change))
     ++ map (λ c. aside_name c.path) (asides_of parts)
 
--- a path that packages before list, that no package lists any more and where no file is kept
+-- whether a path is let go: packages before list it, no package lists it any more, and no file is
+-- kept there
 abbrev pub is_let_go_by : Change → Parts → List ℕ → Bool
 is_let_go_by change parts name =
     is_some (find (is_of_path name) (claims_before change))

@@ -1,4 +1,7 @@
 -- What a plan of a change says, and why there is none.
+-- The rules stand in `docs/commands.md`, "What a change does with files", and are said by
+-- `change_files`, `path_clashes` and `file_owners`; this file says which of them a plan or a
+-- refusal promises, and over which files.
 use Rattle.std.specs.Prelude.{◌≡◌, ℕ, Bool, true, false, List, map, Option, Some, None, All, Contains, option_map, slice_get}
 use Rattle.adb_rules.specs.Reserved.{is_reserved}
 use Rattle.adb_tables.specs.FieldIndexes.{PACKAGE_PATHS}
@@ -25,22 +28,23 @@ use Rattle.own_core.specs.declared.fault.PlanFault.{PlanFault}
 use Rattle.own_core.specs.declared.fault.PlanFault.TheVariants.{Disk, Memory, Owned, PathClash, Reserved}
 use Rattle.own_core.specs.declared.planning.FilePlan.{FilePlan}
 
--- the change of files between a database and some members
+-- the change of files between a database and some members, with or without `--purge`
 abbrev pub change_by : Db → Members → Bool → FileChange
 change_by old after purge =
     record { old = packages_of old; members = members_of after; purge = purge }
 
 -- ---- a plan
 
--- over these files the lists are the change's
+-- over these files the lists of a plan are those of the change: what is removed, written, laid
+-- beside and kept
 pub record ArePlanLists (change : FileChange) (files : Files) (plan : FilePlan) : Type 0 where
   pub removals : plan.removals ≡ removals_of change files
   pub writes : writes_in plan.writes ≡ file_writes_of change files
   pub aside : plan.aside ≡ aside_of change files
   pub kept : plan.kept ≡ kept_of change files
 
--- The lists are the change's over some files, and over some no name is a folder of another. Where
--- the tree tells its files both are these.
+-- the lists of a plan are those of the change over some files, and over some no name is a folder of
+-- another; where the tree tells its files both are these
 pub record IsPlanOf (change : FileChange) (history : List TreeState) (plan : FilePlan) : Type 0 where
   pub files : Files
   pub told : IfObservable history (λ v. files ≡ files_of v)
@@ -48,22 +52,24 @@ pub record IsPlanOf (change : FileChange) (history : List TreeState) (plan : Fil
   pub no_clash : IfObservable history (λ v. HasNoClash (name_change change files) files)
   pub may_have_none : MayBeClashOf (name_change change files) None
 
--- each file has its owner, no package that comes lists a reserved path, and no path is contested
+-- what a plan promises of the members alone: each file is told whether its package owns it, no
+-- package that comes lists a reserved path, and no path is contested
 pub record IsPlanFor (members : List Member) (plan : FilePlan) : Type 0 where
   pub owned : plan.owned ≡ owned_of members
   pub allowed : first_reserved members ≡ None
   pub owners : contested_of members ≡ None
 
--- under which files are written: paths, and the names of files laid beside others
+-- the names under which files are written: paths, and the names of files laid beside others
 abbrev pub written_names : FilePlan → List (List ℕ)
 written_names plan = map (λ w. w.name) (writes_in plan.writes)
 
--- a name that a package may list
+-- a name that a package may list: it is one, and not reserved
 pub record IsOpenName (name : List ℕ) : Type 0 where
   pub named : IsName name
   pub unreserved : is_reserved name ≡ false
 
--- what is removed and what is written are such names, in byte order, and none is both
+-- what a plan removes and what it writes are names that a package may list, in byte order, and none
+-- is both
 pub record HasOwnNames (plan : FilePlan) : Type 0 where
   pub removals : All IsOpenName plan.removals
   pub writes : All IsOpenName (written_names plan)
@@ -71,24 +77,24 @@ pub record HasOwnNames (plan : FilePlan) : Type 0 where
   pub writes_rise : IsRising (written_names plan)
   pub apart : (name : List ℕ) → Contains plan.removals name → Contains (written_names plan) name → ⊥
 
--- the member of a write comes, and has the file
+-- the member of a write comes, and has the file at the write's positions
 pub record IsOfComingFile (members : List Member) (w : FileWrite) : Type 0 where
   pub member : Member
   pub at : slice_get members w.member ≡ Some member
   pub comes : is_coming member ≡ true
   pub place : HasFileAt (entry_in member.pkg PACKAGE_PATHS) w.folder w.file
 
--- each file that is written is one of a member that comes
+-- each file that a plan writes is one of a member that comes
 abbrev pub HasSources : List Member → FilePlan → Type 0
 HasSources members plan = All (IsOfComingFile members) (writes_in plan.writes)
 
 -- ---- why there is none
 
--- of the member at a place, if there is one
+-- the name of the member at a place, if there is one
 abbrev pub member_name_at : List Member → ℕ → Option (List ℕ)
 member_name_at members place = option_map member_name (slice_get members place)
 
--- the first path that no package owns, and the names of two that list it
+-- a path is the first that no package owns, and the names are those of its rivals
 pub record IsContest (members : List Member) (path first second : List ℕ) : Type 0 where
   pub contest : ContestedPath
   pub is : contested_of members ≡ Some contest
@@ -96,7 +102,7 @@ pub record IsContest (members : List Member) (path first second : List ℕ) : Ty
   pub lister : member_name_at members contest.rivals.first ≡ Some first
   pub other : member_name_at members contest.rivals.second ≡ Some second
 
--- of the faults of a plan the one that tells of a contested path; each other one is none
+-- the fault tells of a contested path with its rivals; a fault of another kind does not
 abbrev pub IsOwnedBy : List Member → PlanFault → Type 0
 IsOwnedBy members (Reserved path) = ⊥
 IsOwnedBy members (PathClash path other) = ⊥
@@ -104,7 +110,8 @@ IsOwnedBy members (Owned path first second) = IsContest members path first secon
 IsOwnedBy members Disk = ⊥
 IsOwnedBy members Memory = ⊥
 
--- over these files a clash of names is the first one, and comes before a contested path
+-- over these files: a clash of names that is told is the first one, and where a contested path is
+-- told there is no clash, which would come before it
 abbrev pub IsRefusalOf : FileChange → Files → PlanFault → Type 0
 IsRefusalOf change files (Reserved path) = Unit {0}
 IsRefusalOf change files (PathClash path other) =
@@ -113,16 +120,16 @@ IsRefusalOf change files (Owned path first second) = HasNoClash (name_change cha
 IsRefusalOf change files Disk = Unit {0}
 IsRefusalOf change files Memory = Unit {0}
 
--- by some files, and over some, this is the first clash of the names after the change, or there is
--- none; where the tree tells its files the first are these
+-- the clash, or that there is none, may be what is found among the names after the change; where
+-- the tree tells its files these decide
 pub record IsClashBySome (change : FileChange) (history : List TreeState)
     (clash : Option NamePair) : Type 0 where
   pub files : Files
   pub told : IfObservable history (λ v. files ≡ files_of v)
   pub may : MayBeClashOf (name_change change files) clash
 
--- over any tree: a clash of names is told where there may be one, and a contested path where there
--- may be none
+-- over any tree: a clash of names is told only where there may be one, and a contested path only
+-- where there may be none
 abbrev pub MayBeRefusalOf : FileChange → List TreeState → PlanFault → Type 0
 MayBeRefusalOf change history (Reserved path) = Unit {0}
 MayBeRefusalOf change history (PathClash path other) =
@@ -131,8 +138,8 @@ MayBeRefusalOf change history (Owned path first second) = IsClashBySome change h
 MayBeRefusalOf change history Disk = Unit {0}
 MayBeRefusalOf change history Memory = Unit {0}
 
--- over any tree: a reserved path comes before all but want of memory, and a contested path has its
--- names
+-- over any tree, by the members alone: a reserved path is the first, another fault is told only
+-- where there is none (want of memory aside), and a contested path has the names of its rivals
 abbrev pub IsRefusalFor : List Member → PlanFault → Type 0
 IsRefusalFor members (Reserved path) = first_reserved members ≡ Some path
 IsRefusalFor members (PathClash path other) = first_reserved members ≡ None

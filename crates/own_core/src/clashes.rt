@@ -1,4 +1,8 @@
-//! The names that a change writes and lets go of, and whether one of them is a folder of another.
+//! The names that a change writes and lets go of, among which `path_clashes` looks for one that is
+//! a folder of another.
+//! The rule stands in `docs/commands.md`, "What a change does with files", test 2: which names
+//! there are afterwards. The words *lets go* and *counts as written* stand in `docs/names.md`, "The
+//! installed database and a change of it".
 
 ghost use Rattle.std.specs.Prelude.{◌≡◌, ◌&&◌, ◌||◌, ◌++◌, ◌∷◌, [], not, is_some, IfOk, OnOk, map};
 ghost use Rattle.std.specs.List.{filter, find};
@@ -24,7 +28,7 @@ use path_clashes::LetGo;
 use root_names::{DATABASE_NAME, WORLD_NAME};
 use std::alloc::{AllocError, Global};
 
-/// The names beside the paths of claims.
+/// The names beside the paths of claims, `PATH.apk-new` of each, in their order.
 pub(crate) fn names_beside(alloc: Global, asides: &[Claim<'_>]) -> Result<Names, AllocError>
     requires { HaveNamesBeside (map claim_seen asides.now) }
     ensures { IfOk result
@@ -38,7 +42,7 @@ pub(crate) fn names_beside(alloc: Global, asides: &[Claim<'_>]) -> Result<Names,
     Ok(names)
 }
 
-/// Adds the paths that members which come list.
+/// Adds the paths that members which come list, by the claims of all members.
 fn add_coming<'a>(
     paths: &mut Vec<FilePath<'a>>,
     members: &Members<'_>,
@@ -57,7 +61,7 @@ fn add_coming<'a>(
     Ok(())
 }
 
-/// Adds names.
+/// Adds names to paths, each as a path without folder.
 fn add_names<'a>(paths: &mut Vec<FilePath<'a>>, names: &'a Names) -> Result<(), AllocError>
     ensures { OnOk result
         (map joined_path paths.new.items ≡ map joined_path paths.old.items ++ names.now) }
@@ -109,12 +113,17 @@ pub(crate) fn written_paths<'a>(
     Ok(paths)
 }
 
-/// The paths that packages before list, that no package lists any more and where no file is kept.
+/// What a change lets go of: the paths that packages before list, that no package lists any more
+/// and where no file is kept.
 #[derive(Clone, Copy)]
 pub(crate) struct LetGoPaths<'c, 'o, 'n> {
+    /// The files that the old database lists, one of each path.
     pub(crate) before: &'c [Claim<'o>],
+    /// The files that packages list after the change.
     pub(crate) after: &'c [Claim<'n>],
+    /// The files that stay, since the user changed them.
     pub(crate) kept: &'c [Claim<'o>],
+    // All three are in the order of paths, so that a path is found by halving.
     ghost before_sorted: { IsSorted claim_cmp (map claim_seen before.now) },
     ghost after_sorted: { IsSorted claim_cmp (map claim_seen after.now) },
     ghost kept_sorted: { IsSorted claim_cmp (map claim_seen kept.now) },

@@ -1,4 +1,6 @@
 //! Why there is no plan.
+//! The rules stand in `docs/commands.md`, "What a change does with files", the tests 1 to 3 in
+//! their order; how each is printed, in "Error lines" there.
 
 ghost use Rattle.own_core.specs.declared.fault.PlanFault.TheVariants as Faults;
 
@@ -8,18 +10,19 @@ use std::alloc::AllocError;
 /// Why there is no plan of a change.
 #[derive(Drop)]
 pub enum PlanFault {
-    /// A package that comes lists a path that no package may hold. It is the first one.
+    /// A package that comes lists a path that no package may hold. `path` is the first one in byte
+    /// order.
     Reserved {
         path: Name,
     },
-    /// After the change `path` would be a folder of `other`, and at least one of them is written.
-    /// It is the first such pair.
+    /// After the change `path` would be a folder of `other`, and at least one of them counts as
+    /// written. They are the first such pair in byte order.
     PathClash {
         path: Name,
         other: Name,
     },
-    /// The first path that no package owns, the first package that lists it, and the first other
-    /// one that this one does not beat.
+    /// No package owns `path`: the first such path in byte order, with the name of the first
+    /// package that lists it and that of the first other one that this one does not beat.
     Owned {
         path: Name,
         first: Text,
@@ -37,6 +40,7 @@ impl From<AllocError> for PlanFault {
 
     ghost from_gives = { λ _ fault. fault ≡ Memory };
 
+    // The fault that want of memory is.
     fn from(_: AllocError) -> PlanFault {
         PlanFault::Memory
     }
@@ -48,6 +52,7 @@ impl From<TreeFault> for PlanFault {
 
     ghost from_gives = { λ failed fault. fault ≡ fault_of_tree failed };
 
+    // The fault that a failed read of the tree is.
     fn from(failed: TreeFault) -> PlanFault {
         match failed {
             TreeFault::Disk => PlanFault::Disk,

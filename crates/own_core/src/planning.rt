@@ -1,4 +1,6 @@
 //! The plan of files of a change.
+//! The rules stand in `docs/commands.md`, "What a change does with files": the tests, in their
+//! order, and then what is written, removed, laid beside and kept.
 
 ghost use Rattle.std.specs.Prelude.{◌≡◌, ◌<◌, All, IfErr, IfOk, None, Some, length, map, option_map};
 ghost use Rattle.std.specs.List.{filter};
@@ -43,15 +45,20 @@ use std::alloc::{AllocError, Global};
 /// What a change removes, writes and keeps.
 #[derive(Drop)]
 pub struct FilePlan {
+    /// The names that are removed, in byte order.
     pub(crate) removals: Names,
+    /// What is written, in byte order of the names.
     pub(crate) writes: Writes,
+    /// Whether each listed file belongs to its package.
     pub(crate) owned: Owned,
+    /// The paths beside which a file is laid, in byte order.
     pub(crate) aside: Names,
+    /// The paths at which the user's file stays though its package is gone, in byte order.
     pub(crate) kept: Names,
 }
 
 impl FilePlan {
-    /// The names that are removed, also where no file stands.
+    /// The names that are removed, in byte order; one of them may have no file in the tree.
     pub fn removals(&self) -> &Names
         ensures { result.now ≡ self.now.removals }
     {
@@ -65,21 +72,22 @@ impl FilePlan {
         &self.writes
     }
 
-    /// For each file that packages list after the change whether its package owns it.
+    /// For each file that packages list after the change, in the order of packages, folders and
+    /// files, whether its package owns it.
     pub fn owned(&self) -> &Owned
         ensures { result.now ≡ self.now.owned }
     {
         &self.owned
     }
 
-    /// The paths beside which a file is laid.
+    /// The paths beside which a file is laid, in byte order.
     pub fn aside(&self) -> &Names
         ensures { result.now ≡ self.now.aside }
     {
         &self.aside
     }
 
-    /// The paths at which the user's file stays though its package is gone.
+    /// The paths at which the user's file stays though its package is gone, in byte order.
     pub fn kept(&self) -> &Names
         ensures { result.now ≡ self.now.kept }
     {
@@ -87,7 +95,8 @@ impl FilePlan {
     }
 }
 
-/// The first two names after the change of which one is a folder of the other.
+/// The first two names after the change of which one is a folder of the other; none where no two
+/// are.
 fn clash_of<T: Tree>(
     alloc: Global,
     tree: &mut T,
@@ -102,9 +111,11 @@ fn clash_of<T: Tree>(
         (map claim_seen coming.now) }
     requires parts { AreParts change.now (T.history tree.old) (map claim_seen coming.now)
         parts.now }
+    // Over the files of a tree that tells them the answer is the first clash.
     ensures clash { IfOk result (λ found. IfObservable (T.history tree.old) (λ v. IsClashOf
         (name_change (file_change_of change.now) (files_of v)) (files_of v)
         (option_map clash_seen found))) }
+    // Over any tree, also one that shows no files, the answer may be the first clash.
     ensures may { IfOk result (λ found.
         MayBeClashOf (names_changed_by change.now parts.now) (option_map clash_seen found)) }
     ensures tree { OnlyReads TreeFault.Disk (T.history tree.old) (T.history tree.new)
@@ -120,7 +131,7 @@ fn clash_of<T: Tree>(
     first_clash(alloc, tree, &written, &let_go)
 }
 
-/// Whether a member that comes lists a reserved path by a claim.
+/// Whether a claim is of a member that comes, and of a reserved path.
 fn is_reserved_coming(members: &Members<'_>, claim: &Claim<'_>) -> bool
     requires { IsClaimOf (members_of members.now) (claim_seen claim.now) }
     ensures { result ≡ is_reserved_coming (members_of members.now) (claim_seen claim.now) }
@@ -128,7 +139,7 @@ fn is_reserved_coming(members: &Members<'_>, claim: &Claim<'_>) -> bool
     is_reserved_file(claim.path.folder, claim.path.name) && comes(members, claim)
 }
 
-/// The first reserved path that a package which comes lists.
+/// The first reserved path in byte order that a package which comes lists.
 fn first_reserved(
     alloc: Global,
     members: &Members<'_>,
@@ -148,7 +159,7 @@ fn first_reserved(
     Ok(None)
 }
 
-/// The name of the member at a place.
+/// The name of the member at a place, counted from 0.
 fn member_name_at(alloc: Global, members: &Members<'_>, place: u32) -> Result<Text, AllocError>
     requires { place < length (members_of members.now) }
     ensures { IfOk result (λ name. member_name_at (members_of members.now) place ≡ Some name) }
@@ -157,7 +168,7 @@ fn member_name_at(alloc: Global, members: &Members<'_>, place: u32) -> Result<Te
     Text::of(alloc, view.info().name())
 }
 
-/// The refusal where no package owns a path.
+/// The refusal of a change where no package owns a path: the path and the names of its rivals.
 fn contest(
     alloc: Global,
     members: &Members<'_>,
@@ -178,7 +189,8 @@ fn contest(
     })
 }
 
-/// The lists of a change against which nothing stands.
+/// The plan of a change against which nothing stands: the lists that its parts are, with the flags
+/// `owned`.
 fn lists_of(alloc: Global, parts: &Parts<'_, '_>, owned: Vec<bool>) -> Result<FilePlan, AllocError>
     requires removed { HaveNames (removed_of parts.now) }
     requires kept { HaveNames (kept_of_parts parts.now) }
@@ -216,6 +228,7 @@ fn plan_of_claims<T: Tree>(
     requires contested { option_map contested_seen contested.now
         ≡ contested_of (members_of change.now.members.now) }
     requires owned { owned.items ≡ owned_of (members_of change.now.members.now) }
+    // Test 1 was made: no package that comes lists a reserved path.
     requires unreserved { first_reserved (members_of change.now.members.now) ≡ None }
     requires named { All (λ l. IsName l.path)
         (member_listings (members_of change.now.members.now)) }
@@ -259,16 +272,26 @@ pub fn plan<'c, T: Tree>(
     tree: &mut T,
     purge: bool,
 ) -> Result<FilePlan, PlanFault>
+    // Over the files of a tree that tells them, and else over some, the lists are the change's.
     ensures plan { IfOk result
         (IsPlanOf (change_by old.now after.now purge) (T.history tree.old)) }
+    // What is removed and what is written are names that a package may list, and none is both.
     ensures names { IfOk result HasOwnNames }
+    // Each write has its contents from a file of a package that comes.
     ensures sources { IfOk result (HasSources (members_of after.now)) }
+    // Each file has its owner, and neither a reserved nor a contested path stands.
     ensures lists { IfOk result (IsPlanFor (members_of after.now)) }
+    // Over the files of a tree that tells them: a clash is the first one, and comes before a
+    // contested path.
     ensures refusal { IfErr result (λ fault. IfObservable (T.history tree.old) (λ v.
         IsRefusalOf (change_by old.now after.now purge) (files_of v) fault)) }
+    // The same over some files, where the tree does not tell them.
     ensures may { IfErr result
         (MayBeRefusalOf (change_by old.now after.now purge) (T.history tree.old)) }
+    // What was found in the packages alone: a reserved path comes first, and a contested one has
+    // its rivals.
     ensures cause { IfErr result (IsRefusalFor (members_of after.now)) }
+    // The tree is only read, and `Disk` has a fault of it for its cause.
     ensures tree { OnlyReads PlanFault.Disk (T.history tree.old) (T.history tree.new)
         (T.counts tree.old) (T.counts tree.new) result }
 {

@@ -1,4 +1,7 @@
-//! The names at which files that come are written.
+//! The names at which files that come are written, and whose contents they get.
+//! The rules stand in `docs/commands.md`, "What a change does with files": "each file that a
+//! package which comes owns is written", and where one is laid beside as `PATH.apk-new`. Positions
+//! of folders and files count as in `docs/formats.md`, "The other blocks".
 
 ghost use Rattle.std.specs.Prelude.{◌≡◌, ◌<◌, ◌==◌, ◌++◌, ◌∷◌, [], IfOk, OnOk, Some, length, map, slice_get};
 ghost use Rattle.list_order.specs.Sorted.{sorted_by};
@@ -16,15 +19,20 @@ use std::alloc::{AllocError, Global};
 /// (`path`) and the file's in it count from 1, as in blocks of contents.
 #[derive(Drop)]
 pub struct Write {
+    /// The name under which the file is written: its path, or the name beside that.
     pub name: Name,
+    /// The place of the member that has the file, counted from 0.
     pub member: u32,
+    /// The position of the folder in the member's package, counted from 1.
     pub path: u32,
+    /// The position of the file in its folder, counted from 1.
     pub file: u32,
 }
 
 /// What is written, in byte order of names.
 #[derive(Drop)]
 pub struct Writes {
+    /// The writes, in byte order of their names.
     pub(crate) writes: Vec<Write>,
 }
 
@@ -52,7 +60,7 @@ impl Writes {
     }
 }
 
-/// Adds a write of the file that a claim speaks of.
+/// Adds a write of the file that a claim speaks of, under a name.
 fn add_write(writes: &mut Vec<Write>, name: Name, claim: &Claim<'_>) -> Result<(), AllocError>
     ensures { OnOk result (map write_seen writes.new.items
         ≡ map write_seen writes.old.items ++ write_by name (claim_seen claim.now) ∷ []) }
@@ -66,7 +74,7 @@ fn add_write(writes: &mut Vec<Write>, name: Name, claim: &Claim<'_>) -> Result<(
     Ok(())
 }
 
-/// Adds a write under its own path for each claim.
+/// Adds for each claim a write under its own path.
 fn add_in(alloc: Global, writes: &mut Vec<Write>, ins: &[Claim<'_>]) -> Result<(), AllocError>
     requires { HaveNames (map claim_seen ins.now) }
     ensures { OnOk result (map write_seen writes.new.items
@@ -79,7 +87,7 @@ fn add_in(alloc: Global, writes: &mut Vec<Write>, ins: &[Claim<'_>]) -> Result<(
     Ok(())
 }
 
-/// Adds a write under the name beside its path for each claim.
+/// Adds for each claim a write under the name beside its path.
 fn add_beside(
     alloc: Global,
     writes: &mut Vec<Write>,
@@ -97,7 +105,7 @@ fn add_beside(
     Ok(())
 }
 
-/// Puts writes into the order of their names.
+/// Puts writes into the byte order of their names.
 fn sort_writes(writes: &mut Vec<Write>) -> Result<(), AllocError>
     ensures { OnOk result (map write_seen writes.new.items
         ≡ sorted_by write_cmp (map write_seen writes.old.items)) }
@@ -106,7 +114,8 @@ fn sort_writes(writes: &mut Vec<Write>) -> Result<(), AllocError>
     Ok(())
 }
 
-/// The writes of files that take their paths and of files that are laid beside others.
+/// The writes of a plan: of files that take their paths (`ins`), and of files that are laid beside
+/// others (`asides`).
 pub(crate) fn writes_of(
     alloc: Global,
     ins: &[Claim<'_>],

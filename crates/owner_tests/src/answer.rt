@@ -1,4 +1,5 @@
-//! Who owns the files of packages, as text.
+//! Who owns the files of packages, as text. The rules stand in `docs/commands.md`,
+//! "Files that several packages list".
 
 use adb_schema::FilePath;
 use db_core::{MOST_MEMBERS, Members};
@@ -11,7 +12,7 @@ use std::alloc::{AllocError, Global};
 /// Adds who owns the files of packages, which all come: for each path `PATH=PLACE`, or `PATH=?`
 /// where none owns it, then for each file that is listed `1` or `0` for whether its package owns
 /// it, and then the path that is contested and the places of two packages that contend for it.
-pub fn add_owners(
+pub(crate) fn add_owners(
     alloc: Global,
     containers: &[Vec<u8>],
     answer: &mut Vec<u8>,
@@ -82,7 +83,7 @@ fn add_path(path: &FilePath<'_>, answer: &mut Vec<u8>) -> Result<(), AllocError>
     answer.extend_from_slice(path.name)
 }
 
-/// Adds the flags of the files that are listed.
+/// Adds for each file that is listed `1` or `0`: whether its package owns it.
 fn add_flags(found: &Owners<'_>, answer: &mut Vec<u8>) -> Result<(), AllocError> {
     add_word(answer, b"")?;
     for owned in &found.owned {

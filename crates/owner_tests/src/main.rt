@@ -1,5 +1,6 @@
 //! Answers questions to `file_owners`: who owns the files that packages list. Its stored run has
-//! all rows; `tests/lines.md` describes their form.
+//! all rows; `tests/lines.md` describes their form. The README of this crate has a row for each
+//! question.
 #![tactic(auto)]
 
 mod answer;
@@ -13,14 +14,18 @@ use std::alloc::{AllocError, Global};
 use std::io;
 use std::process::ExitCode;
 
-/// What is asked.
+/// What is asked; the README of this crate says what each question answers.
 #[derive(Clone, Copy)]
 enum Question {
+    /// `new`.
     New,
+    /// `package NAME VERSION PRIORITY PATHS REPLACES ..`.
     Package,
+    /// `owners`.
     Owners,
 }
 
+// The words that questions begin with.
 #[rattlefmt::skip]
 const QUESTIONS: [(&[u8], Question); 3] = [
     (b"new", Question::New),
@@ -28,9 +33,10 @@ const QUESTIONS: [(&[u8], Question); 3] = [
     (b"owners", Question::Owners),
 ];
 
-/// The containers of the packages that come, in the order in which they were told.
+/// The packages that come, as the rows before have told them.
 #[derive(Drop)]
 struct ComingPackages {
+    /// Their containers, in the order in which they were told.
     packages: Vec<Vec<u8>>,
 }
 

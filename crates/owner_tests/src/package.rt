@@ -1,4 +1,5 @@
-//! The containers of packages, from the words of a row.
+//! The containers of packages, from the words of a row. Each is made of a dump text
+//! (`docs/formats.md`, "Dump text"); how a row writes a package stands in the README of this crate.
 
 use base_core::Words;
 use row_dump::{DumpFault, container_of};
@@ -8,7 +9,7 @@ use std::alloc::{AllocError, Global};
 /// The container of `package NAME VERSION PRIORITY PATHS REPLACES..`. The paths have commas between
 /// them, and each is that of an empty file. What is replaced is `NAME:VERSION:MATCH`, where the
 /// number says which versions match. None where the words give no container.
-pub fn package_of(alloc: Global, words: &Words) -> Result<Option<Vec<u8>>, AllocError> {
+pub(crate) fn package_of(alloc: Global, words: &Words) -> Result<Option<Vec<u8>>, AllocError> {
     let mut dump = Vec::new(alloc);
     dump.extend_from_slice(b"#%SCHEMA: 676b6370\ninfo:\n")?;
     add_field(&mut dump, b"  name: ", word_at(words, 1))?;
@@ -33,7 +34,7 @@ fn add_field(dump: &mut Vec<u8>, field: &[u8], value: &[u8]) -> Result<(), Alloc
     dump.extend_from_slice(b"\n")
 }
 
-/// Adds what the package replaces.
+/// Adds the lines of what the package replaces: the words of the row from the sixth on.
 fn add_replaces(dump: &mut Vec<u8>, words: &Words) -> Result<(), AllocError> {
     if words.len() > 5 {
         dump.extend_from_slice(b"  replaces:\n")?;
@@ -48,7 +49,8 @@ fn add_replaces(dump: &mut Vec<u8>, words: &Words) -> Result<(), AllocError> {
     Ok(())
 }
 
-/// Adds folders with their files. Files of one folder that stand side by side share it.
+/// Adds the lines of folders with their files. Files of one folder that stand side by side share
+/// it. Modes are in decimal: 420 is octal 644, 493 octal 755.
 fn add_files(dump: &mut Vec<u8>, paths: &[u8]) -> Result<(), AllocError> {
     if paths.is_empty() {
         return Ok(());
@@ -71,7 +73,7 @@ fn add_files(dump: &mut Vec<u8>, paths: &[u8]) -> Result<(), AllocError> {
     Ok(())
 }
 
-/// Adds a folder's lines down to its files.
+/// Adds a folder's lines down to its files; the root has no name.
 fn add_folder(dump: &mut Vec<u8>, folder: &[u8]) -> Result<(), AllocError> {
     if folder.is_empty() {
         add_rights(

@@ -1,4 +1,7 @@
 -- What becomes of each package where a selection takes the place of the packages before.
+-- The rules stand in `docs/selection.md`, "What there is to choose from" (when a candidate is the
+-- installed package), in `docs/commands.md`, "`add` and `del`" and "`upgrade` and `fix`", and in
+-- `docs/formats.md`, "Versions" (their order).
 use Rattle.std.specs.Prelude.{ℕ, Bool, not, ◌&&◌, ◌||◌, if◌then◌else◌, List, ◌++◌, map, Option, Some, None, bytes_eq, is_some}
 use Rattle.std.specs.List.{filter_map, find, list_any}
 use Rattle.std.specs.declared.cmp.Ordering.{Ordering}
@@ -15,13 +18,14 @@ use Rattle.std.specs.Option.{option_cmp}
 use Rattle.version_core.specs.Order.{version_cmp}
 use Rattle.report_core.specs.Reports.{Change, Downgrade, Install, Purge, Reinstall, Replace, Upgrade}
 
--- the packages before, the selected ones, and the names that are to be installed again
+-- what is replaced by what: the packages before, the selected candidates, and the names that are to
+-- be installed again
 pub record Replacement : Type 0 where
   pub before : List Plain
   pub selected : List Candidate
   pub again : List (List ℕ)
 
--- as the index or the database has it
+-- the text of a candidate's version, as the index or the database has it
 abbrev pub selected_version : Candidate → List ℕ
 selected_version c = text_in (entry_in c.info INFO_VERSION)
 
@@ -29,34 +33,37 @@ selected_version c = text_in (entry_in c.info INFO_VERSION)
 abbrev pub is_selected_named : List ℕ → Candidate → Bool
 is_selected_named name c = bytes_eq c.name name
 
--- the candidate is an installed package with this version and this id: of no repository, or with
--- the same text and the same id
+-- whether a candidate is an installed package with this version and this id: it is of no
+-- repository, or has the same text and the same id
 abbrev pub is_installed_as : List ℕ → List ℕ → Candidate → Bool
 is_installed_as version id c =
     not (is_some c.repository) || (bytes_eq version (selected_version c) && is_same_id id c.id)
 
--- whether the candidate is this very package, so that it stays as it is
+-- whether a candidate is this very package of the database, so that the package stays as it is
 abbrev pub is_same_selected : Plain → Candidate → Bool
 is_same_selected pkg c = is_installed_as (version_text pkg) (installed_id pkg) c
 
--- from one version to another, by their order
+-- what becomes of a package that goes from one version to another, by their order
 abbrev pub version_change : List ℕ → List ℕ → List ℕ → Ordering → Change
 version_change name old new Less = Upgrade name old new
 version_change name old new Equal = Replace name old new
 version_change name old new Greater = Downgrade name old new
 
--- The order of two versions; a text that is none comes first, and no tested container has one.
+-- the order of the texts of two versions; a text that is no version comes first, and no tested
+-- container has one
 abbrev pub version_text_cmp : List ℕ → List ℕ → Ordering
 version_text_cmp old new = option_cmp version_cmp (version_of_text old) (version_of_text new)
 
--- none for a package that stays as it is
+-- what becomes of a package whose candidate is selected: none where the candidate is the package,
+-- unless it is to be installed again
 abbrev pub unless_same : List ℕ → Plain → Candidate → Bool → Bool → Option Change
 unless_same name pkg c is_same is_again =
     if not is_same then Some (version_change name (version_text pkg) (selected_version c)
     (version_text_cmp (version_text pkg) (selected_version c)))
     else if is_again then Some (Reinstall name (selected_version c)) else None
 
--- what becomes of a name, by the package before and the candidate selected
+-- what becomes of a name, by the package before and the selected candidate, of which either may be
+-- lacking
 abbrev pub change_between : Bool → List ℕ → Option Plain → Option Candidate → Option Change
 change_between is_again name None None = None
 change_between is_again name None (Some c) = Some (Install name (selected_version c))
@@ -75,6 +82,6 @@ abbrev pub names_on_both_sides : Replacement → List (List ℕ)
 names_on_both_sides r =
     names_in_order (map package_name r.before ++ map (λ (c : Candidate). c.name) r.selected)
 
--- the changes, in byte order of names
+-- the changes of packages, in byte order of names
 unfoldable pub changes_of : Replacement → List Change
 changes_of r = filter_map (change_of_name r) (names_on_both_sides r)

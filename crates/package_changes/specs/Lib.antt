@@ -1,3 +1,6 @@
+-- The definitions of this crate, whose rules stand in `docs/commands.md`, "`add` and `del`", and
+-- "`upgrade` and `fix`".
+
 -- what the contract of `apk` says
 pub mod Changes
 pub mod Placed

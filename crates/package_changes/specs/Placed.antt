@@ -1,4 +1,5 @@
 -- The changes that a selection leads to, with the places of the packages that they are of.
+-- The rules are those of *Changes*; *placed* stands in `docs/names.md`, "What a change comes to".
 use Rattle.std.specs.Prelude.{ℕ, List, Option, bytes_eq, map, option_map, option_and_then, slice_get}
 use Rattle.std.specs.List.{filter_map, find, list_any, position_from}
 use Rattle.adb_view.specs.Plain.{Plain}
@@ -8,35 +9,35 @@ use Rattle.pool_core.specs.Rank.{SealedPool, candidate_at, is_at}
 use Rattle.report_core.specs.Reports.{Change}
 use Rattle.package_changes.specs.Changes.{Replacement, change_between, is_selected_named, names_on_both_sides}
 
--- the packages before, the candidates, the places of the selected ones among them, and the names
--- that are to be installed again
+-- what is replaced by what, by places: the packages before, the candidates, the places of the
+-- selected ones among them, and the names that are to be installed again
 pub record PlacedReplacement : Type 0 where
   pub before : List Plain
   pub pool : SealedPool
   pub trace : List ℕ
   pub again : List (List ℕ)
 
--- the candidates at places
+-- the candidates at places, in the order of the places
 abbrev pub candidates_at : SealedPool → List ℕ → List Candidate
 candidates_at pool places = filter_map (candidate_at pool) places
 
--- the same with the candidates in place of their places
+-- a replacement with the candidates in place of their places
 abbrev pub replacement_of : PlacedReplacement → Replacement
 replacement_of p =
     record { before = p.before; selected = candidates_at p.pool p.trace; again = p.again }
 
--- the place among the candidates of the selected one with this name
+-- the place among the candidates of the selected one with this name, if one has it
 abbrev pub selected_place : SealedPool → List ℕ → List ℕ → Option ℕ
 selected_place pool trace name = find (is_at pool (is_selected_named name)) trace
 
--- what becomes of a package; its place among the packages before, counted from 0, if it was there;
--- and the place of its candidate, if one is selected
+-- what becomes of a package (`change`); its place among the packages before, counted from 0, if it
+-- was there (`old`); and the place of its candidate, if one is selected (`new`)
 pub record PlacedChange : Type 0 where
   pub change : Change
   pub old : Option ℕ
   pub new : Option ℕ
 
--- what becomes of the package of this name, whose places are these
+-- what becomes of the package of this name, with its two places; none where the package stays
 abbrev pub placed_change_with :
     List Plain → SealedPool → List (List ℕ) → List ℕ → Option ℕ → Option ℕ → Option PlacedChange
 placed_change_with before pool again name old new =
@@ -44,13 +45,14 @@ placed_change_with before pool again name old new =
     (change_between (list_any (bytes_eq name) again) name (option_and_then (slice_get before) old)
     (option_and_then (candidate_at pool) new))
 
--- by the places of its name on both sides; none where the package stays
+-- what becomes of the package of this name, with its places on both sides; none where the package
+-- stays
 unfoldable pub placed_change_of : PlacedReplacement → List ℕ → Option PlacedChange
 placed_change_of p name =
     placed_change_with p.before p.pool p.again name
     (position_from (is_package_named name) 0 p.before) (selected_place p.pool p.trace name)
 
--- in byte order of names
+-- the changes with their places, in byte order of names
 unfoldable pub placed_changes_of : PlacedReplacement → List PlacedChange
 placed_changes_of p = filter_map (placed_change_of p) (names_on_both_sides (replacement_of p))
 
@@ -64,7 +66,7 @@ pub record PlacedName : Type 0 where
   pub old : Option ℕ
   pub new : Option ℕ
 
--- what becomes of the package of this name, whose places are these
+-- what becomes of the package of this name, with its two places, also where it stays
 abbrev pub placed_name_with :
     List Plain → SealedPool → List (List ℕ) → List ℕ → Option ℕ → Option ℕ → PlacedName
 placed_name_with before pool again name old new = record {
@@ -75,24 +77,24 @@ placed_name_with before pool again name old new = record {
   new = new;
 }
 
--- by its places on both sides
+-- what becomes of the package of this name, with its places on both sides, also where it stays
 unfoldable pub placed_name_of : PlacedReplacement → List ℕ → PlacedName
 placed_name_of p name =
     placed_name_with p.before p.pool p.again name
     (position_from (is_package_named name) 0 p.before) (selected_place p.pool p.trace name)
 
--- in byte order
+-- the names on both sides with what becomes of them, in byte order
 unfoldable pub placed_names_of : PlacedReplacement → List PlacedName
 placed_names_of p = map (placed_name_of p) (names_on_both_sides (replacement_of p))
 
--- the package before that its place leads to, and the candidate
+-- the package before that the first place of a name leads to, if there is one
 abbrev pub old_package : List Plain → PlacedName → Option Plain
 old_package before n = option_and_then (slice_get before) n.old
 
--- the selected candidate that its place leads to
+-- the selected candidate that the second place of a name leads to, if there is one
 abbrev pub new_candidate : SealedPool → PlacedName → Option Candidate
 new_candidate pool n = option_and_then (candidate_at pool) n.new
 
--- the change of a name, if there is one
+-- the change of a name with its places, if there is one
 abbrev pub change_in : PlacedName → Option PlacedChange
 change_in n = option_map (λ change. record { change = change; old = n.old; new = n.new }) n.change

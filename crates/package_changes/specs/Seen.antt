@@ -1,4 +1,5 @@
 -- What the changes of the program stand for.
+-- No rule of a document: serves the contracts of `src/`, whose texts are slices.
 use Rattle.std.specs.Prelude.{ℕ, List, map, option_map}
 use Rattle.db_core.specs.Seen.{packages_of}
 use Rattle.db_core.specs.declared.db.Db.{Db}
@@ -12,7 +13,7 @@ use Rattle.package_changes.specs.declared.changes.Changes.{Changes}
 use Rattle.package_changes.specs.declared.placed.PlacedName.{PlacedName as NameOfCode}
 use Rattle.package_changes.specs.declared.placed.PlacedNames.{PlacedNames}
 
--- what becomes of a package, with texts in place of slices
+-- what becomes of a package, as contracts see it: with texts in place of slices
 abbrev pub change_seen : Change → Texts.Change
 change_seen (Install name version) = Texts.Install name.now version.now
 change_seen (Reinstall name version) = Texts.Reinstall name.now version.now
@@ -21,15 +22,15 @@ change_seen (Upgrade name old new) = Texts.Upgrade name.now old.now new.now
 change_seen (Downgrade name old new) = Texts.Downgrade name.now old.now new.now
 change_seen (Replace name old new) = Texts.Replace name.now old.now new.now
 
--- with its two places
+-- a change with its two places, as contracts see it
 abbrev pub placed_change_seen : Placed → PlacedChange
 placed_change_seen p = record { change = change_seen p.change; old = p.old; new = p.new }
 
--- the changes, in their order
+-- the changes, in their order, as contracts see them
 abbrev pub changes_seen : Changes → List PlacedChange
 changes_seen changes = map placed_change_seen changes.list.items
 
--- a name, also one whose package stays
+-- a name with what becomes of its package, as contracts see it, also where the package stays
 abbrev pub placed_name_seen : NameOfCode → PlacedName
 placed_name_seen n = record {
   name = n.name.now;
@@ -38,11 +39,12 @@ placed_name_seen n = record {
   new = n.new;
 }
 
--- the names, in their order
+-- the names, in their order, as contracts see them
 abbrev pub placed_names_seen : PlacedNames → List PlacedName
 placed_names_seen names = map placed_name_seen names.list.items
 
--- what a database, a pool and a selection say of a replacement
+-- the replacement that a database, a pool, a selection and the names that are to be installed again
+-- say
 abbrev pub replacement_by : Db → SealedPool → List ℕ → List (List ℕ) → PlacedReplacement
 replacement_by db pool trace again =
     record { before = packages_of db; pool = pool; trace = trace; again = again }

@@ -1,4 +1,5 @@
 -- The table of the names of the selected candidates.
+-- No rule of a document: serves the contracts of `src/selected.rt` and `src/placed.rt`.
 use Rattle.std.specs.Prelude.{ℕ, List, [], ◌∷◌, map, Option, Some, None, if◌then◌else◌, bytes_eq}
 use Rattle.std.specs.Borrow.{Bor}
 use Rattle.std.specs.List.{position_from}
@@ -7,11 +8,11 @@ use Rattle.db_core.specs.Packages.{is_package_named}
 use Rattle.pool_core.specs.Rank.{SealedPool}
 use Rattle.package_changes.specs.Placed.{PlacedName, placed_name_with}
 
--- what contracts see in it: each name with the place of its candidate
+-- the table as contracts see it: each name with the place of its candidate
 abbrev pub names_and_places : List (Bor (List ℕ) × ℕ) → List (List ℕ × ℕ)
 names_and_places entries = map (λ (e : Bor (List ℕ) × ℕ). (e.0.now, e.1)) entries
 
--- the place beside a name
+-- the place beside a name in the table, if the name is there
 abbrev pub place_beside : List ℕ → List (List ℕ × ℕ) → Option ℕ
 place_beside name [] = None
 place_beside name (e ∷ es) = if bytes_eq e.0 name then Some e.1 else place_beside name es

@@ -1,4 +1,7 @@
 //! What becomes of one package.
+//! The rules stand in `docs/selection.md`, "What there is to choose from" (when a candidate is the
+//! installed package), in `docs/formats.md`, "Versions" (their order), and in `docs/names.md`,
+//! "What a change comes to" (*what becomes of a package*).
 ghost use Rattle.adb_schema.specs.Views.{package_value};
 ghost use Rattle.db_core.specs.Seen.{packages_of};
 ghost use Rattle.file_owners.specs.Replaces.{version_text};
@@ -17,14 +20,15 @@ use std::cmp::Ordering;
 use std::marker::PhantomData;
 use version_core::Version;
 
-/// What becomes of a package: its name, and the versions before and after.
+/// What becomes of a package: its name, and its version; of the last three, the version before and
+/// that after.
 #[derive(Clone, Copy)]
 pub enum Change<'a> {
-    /// It comes.
+    /// The package comes.
     Install(&'a [u8], &'a [u8]),
-    /// It comes again.
+    /// The package comes again, in the version that it has.
     Reinstall(&'a [u8], &'a [u8]),
-    /// It goes.
+    /// The package goes.
     Purge(&'a [u8], &'a [u8]),
     /// A greater version takes the place of the old one.
     Upgrade(&'a [u8], &'a [u8], &'a [u8]),
@@ -37,14 +41,16 @@ pub enum Change<'a> {
 /// What becomes of a package, and where it is found.
 #[derive(Clone, Copy)]
 pub struct PlacedChange<'a> {
+    /// What becomes of the package.
     pub change: Change<'a>,
     /// The place in the database of the package before, counted from 0, if it was there.
     pub old: Option<usize>,
+    /// The place of the selected candidate in the list of all, counted from 0, if one is selected.
     pub(crate) new: Option<u32>,
 }
 
 impl<'a> PlacedChange<'a> {
-    /// The place of its candidate, if one is selected.
+    /// The place of the package's candidate, if one is selected.
     pub fn new_place(&self) -> Option<CandId>
         ensures { result ≡ self.now.new }
     {
@@ -58,13 +64,16 @@ impl<'a> PlacedChange<'a> {
 /// What is compared of a package of the database.
 #[derive(Clone, Copy)]
 pub(crate) struct OldPackage<'a> {
+    /// The text of the package's version.
     version: &'a [u8],
+    /// The id of the package, which may be lacking.
     id: &'a [u8],
 }
 
 impl<'a> OldPackage<'a> {
-    /// The texts of a package. The mark serves the borrow checker alone, which does not know the
-    /// parts of a view that is made and lent here unless the signature names the view.
+    /// What is compared of a package of the database. The mark serves the borrow checker alone,
+    /// which does not know the parts of a view that is made and lent here unless the signature
+    /// names the view.
     pub(crate) fn of(pkg: &PackageView<'a>, _mark: PhantomData<PackageView<'a>>) -> OldPackage<'a>
         ensures version { result.version.now ≡ version_text (package_value pkg.now) }
         ensures id { result.id.now ≡ installed_id (package_value pkg.now) }
@@ -85,7 +94,8 @@ pub(crate) fn install<'a>(name: &'a [u8], new: &Candidate<'a>) -> Change<'a>
     Change::Install(name, new.info.version())
 }
 
-/// What becomes of a package of the database for which no candidate is selected.
+/// What becomes of the package of the database at a place, counted from 0, for which no candidate
+/// is selected: it goes.
 pub(crate) fn purge<'a>(
     name: &'a [u8],
     db: &Db<'a>,
@@ -101,7 +111,8 @@ pub(crate) fn purge<'a>(
     Change::Purge(name, old.version)
 }
 
-/// What becomes of a package of the database whose name a selected candidate has, if anything does.
+/// What becomes of the package of the database at a place, counted from 0, whose name a selected
+/// candidate has: nothing, where the candidate is the package, unless it is to be installed again.
 pub(crate) fn replace<'a>(
     name: &'a [u8],
     db: &Db<'a>,
@@ -126,11 +137,13 @@ pub(crate) fn replace<'a>(
     None
 }
 
-/// Whether the candidate is the installed package.
+/// Whether the candidate is the installed package: it is of no repository, or has the same text of
+/// the version and the same id.
 fn is_same_selected(old: &OldPackage<'_>, new: &Candidate<'_>) -> bool
     ensures { result
         ≡ is_installed_as old.now.version.now old.now.id.now (candidate_value new.now) }
 {
+    // A candidate of no repository is the installed package itself.
     if new.repo.is_none() {
         return true;
     }
@@ -140,7 +153,8 @@ fn is_same_selected(old: &OldPackage<'_>, new: &Candidate<'_>) -> bool
     is_same_id(old.id, new.info.hashes())
 }
 
-/// Whether two ids are there, and the shorter is a front of the longer.
+/// Whether two ids are the same: both are there, and one is a front of the other, since an index
+/// may keep 20 of 32 bytes.
 pub fn is_same_id(one: &[u8], other: &[u8]) -> bool
     ensures { result ≡ is_same_id one.now other.now }
 {
@@ -150,7 +164,7 @@ pub fn is_same_id(one: &[u8], other: &[u8]) -> bool
     one.starts_with(other) || other.starts_with(one)
 }
 
-/// The change from one version to another.
+/// The change from one version of a package to another, by their order.
 fn version_change<'a>(name: &'a [u8], old: &'a [u8], new: &'a [u8]) -> Change<'a>
     ensures { change_seen result ≡ version_change name.entry.now old.entry.now new.entry.now
         (version_text_cmp old.entry.now new.entry.now) }
@@ -162,7 +176,7 @@ fn version_change<'a>(name: &'a [u8], old: &'a [u8], new: &'a [u8]) -> Change<'a
     }
 }
 
-/// The order of two versions; a text that is none comes first.
+/// The order of the texts of two versions; a text that is no version comes first.
 fn version_text_cmp(old: &[u8], new: &[u8]) -> Ordering
     ensures { result ≡ version_text_cmp old.now new.now }
 {

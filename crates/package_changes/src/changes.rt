@@ -1,4 +1,6 @@
 //! What becomes of each package that changes.
+//! The rule stands in `docs/commands.md`, "`add` and `del`", **What is reported**: a line for each
+//! package that changes, in byte order of the names. `PlacedNames` has the packages that stay too.
 ghost use Rattle.package_changes.specs.Changes.{changes_of};
 ghost use Rattle.package_changes.specs.Placed.{change_in, placed_changes_of, replacement_of};
 ghost use Rattle.package_changes.specs.Seen.{changes_seen, placed_change_seen, placed_name_seen, placed_names_seen, replacement_by};
@@ -16,6 +18,7 @@ use std::alloc::{AllocError, Global};
 /// The changes that a selection leads to, in byte order of names.
 #[derive(Drop)]
 pub struct Changes<'a> {
+    /// The changes, in byte order of the packages' names.
     pub(crate) list: Vec<PlacedChange<'a>>,
 }
 
@@ -30,8 +33,10 @@ impl<'a> Changes<'a> {
         trace: &Trace,
         again: &Words,
     ) -> Result<Changes<'a>, AllocError>
+        // What becomes of each package, by the rule.
         ensures changes { IfOk result (λ changes. map (λ c. c.change) (changes_seen changes)
             ≡ changes_of (replacement_of (replacement_by db.now pool.now trace.now again.now))) }
+        // The same with the places of each package on both sides.
         ensures places { IfOk result (λ changes. changes_seen changes
             ≡ placed_changes_of (replacement_by db.now pool.now trace.now again.now)) }
     {
@@ -39,7 +44,7 @@ impl<'a> Changes<'a> {
         Changes::of_names(alloc, &names)
     }
 
-    /// The changes among names.
+    /// The changes of those names whose packages do not stay, in the order of the names.
     pub fn of_names(alloc: Global, names: &PlacedNames<'a>) -> Result<Changes<'a>, AllocError>
         ensures { IfOk result (λ changes. changes_seen changes
             ≡ filter_map change_in (placed_names_seen names.now)) }
@@ -51,7 +56,7 @@ impl<'a> Changes<'a> {
         Ok(Changes { list })
     }
 
-    /// How many there are.
+    /// How many packages change.
     pub fn len(&self) -> usize
         ensures { result ≡ length (changes_seen self.now) }
     {
@@ -65,7 +70,7 @@ impl<'a> Changes<'a> {
         self.list.is_empty()
     }
 
-    /// The one at a place, counted from 0.
+    /// The change at a place, counted from 0.
     pub fn get(&self, i: usize) -> &PlacedChange<'a>
         requires { i < length (changes_seen self.now) }
         ensures { slice_get (changes_seen self.now) i ≡ Some (placed_change_seen result.now) }
@@ -74,7 +79,7 @@ impl<'a> Changes<'a> {
     }
 }
 
-/// Adds the change of a name, if there is one.
+/// Puts the change of a name behind the others, if there is one.
 fn push_change<'a>(
     list: &mut Vec<PlacedChange<'a>>,
     name: &PlacedName<'a>,

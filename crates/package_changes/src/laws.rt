@@ -1,5 +1,7 @@
 //! What follows from the definitions: a law is a function that does nothing, and its contract says
 //! it.
+//! No rule of a document: the law joins *Placed*, which knows packages by their places, to
+//! *Changes*, which knows them by their names.
 ghost use Rattle.db_core.specs.Packages.{is_package_named};
 ghost use Rattle.package_changes.specs.Changes.{change_of_name, is_selected_named};
 ghost use Rattle.package_changes.specs.Placed.{PlacedReplacement, candidates_at, new_candidate, old_package, placed_name_of, replacement_of};
@@ -9,11 +11,15 @@ ghost use Rattle.std.specs.Prelude.{◌≡◌, ℕ, List};
 /// The places of a name lead to the first package before that has the name, and to the first
 /// selected candidate.
 pub fn places_lead_to_packages_and_candidates()
+    // A name that is placed is the name.
     ensures name { (p : PlacedReplacement) (name : List ℕ) → (placed_name_of p name).name ≡ name }
+    // What becomes of its package is what *Changes* says.
     ensures change { (p : PlacedReplacement) (name : List ℕ)
         → (placed_name_of p name).change ≡ change_of_name (replacement_of p) name }
+    // Its place before leads to the first package before of that name.
     ensures old { (p : PlacedReplacement) (name : List ℕ)
         → old_package p.before (placed_name_of p name) ≡ find (is_package_named name) p.before }
+    // Its place among the candidates leads to the first selected one of that name.
     ensures new { (p : PlacedReplacement) (name : List ℕ)
         → new_candidate p.pool (placed_name_of p name)
         ≡ find (is_selected_named name) (candidates_at p.pool p.trace) }

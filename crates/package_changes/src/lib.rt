@@ -2,6 +2,9 @@
 //! database, a pool and a selection come in, changes with their places go out. The contracts cite
 //! `specs/`: `Changes` (what becomes of a package) and `Placed` (the places of the packages that a
 //! change is of). `report_changes` has the lines that tell them.
+//! The rules stand in `docs/commands.md`, "`add` and `del`" (a line for each package that changes,
+//! in byte order of the names), and "`upgrade` and `fix`" (what is installed again); the words in
+//! `docs/names.md`, "What a change comes to".
 #![tactic(auto)]
 
 mod change;

@@ -1,4 +1,7 @@
 //! Names in byte order, each once.
+//! No rule of a document but that of the order: `docs/commands.md`, "`add` and `del`", reports
+//! packages in byte order of their names. The contract is that of `names_in_order`, over the
+//! definition of that name in `change_files`.
 ghost use Rattle.change_files.specs.PlanLists.{names_in_order, without_repeats};
 ghost use Rattle.list_order.specs.ByteOrder.{bytes_cmp};
 ghost use Rattle.list_order.specs.Sorted.{sorted_by};
@@ -7,7 +10,7 @@ ghost use Rattle.std.specs.Prelude.{◌≡◌, map, IfOk};
 use base_core::Words;
 use std::alloc::{AllocError, Global};
 
-/// Names in byte order, each once.
+/// The names in byte order, each once.
 #[tactic(auto, unfolding(change_files::specs::PlanLists::names_in_order))]
 pub fn names_in_order<'a>(names: Vec<&'a [u8]>) -> Result<Vec<&'a [u8]>, AllocError>
     ensures { IfOk result (λ sorted. map (λ n. n.now) sorted.items
@@ -28,7 +31,7 @@ fn sort_names(names: &mut Vec<&[u8]>) -> Result<(), AllocError>
     Ok(())
 }
 
-/// Drops a name behind the same one.
+/// Drops each name that stands behind the same one.
 fn drop_repeats(names: &mut Vec<&[u8]>)
     ensures { map (λ n. n.now) names.new.items
         ≡ without_repeats (map (λ n. n.now) names.old.items) }
@@ -36,7 +39,7 @@ fn drop_repeats(names: &mut Vec<&[u8]>)
     names.dedup();
 }
 
-/// Words, as names.
+/// The words of a list as names, in their order.
 pub fn names_of_words<'a>(alloc: Global, words: &'a Words) -> Result<Vec<&'a [u8]>, AllocError>
     ensures { IfOk result (λ names. map (λ n. n.now) names.items ≡ words.entry.now) }
 {

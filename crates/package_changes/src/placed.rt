@@ -1,4 +1,6 @@
-//! What becomes of each package, name by name.
+//! What becomes of each package, name by name, also of those that stay.
+//! The rules stand in `docs/commands.md`, "`add` and `del`", **What is reported**, and "`upgrade`
+//! and `fix`"; *placed* in `docs/names.md`, "What a change comes to".
 ghost use Rattle.adb_fields.specs.Repeated.{package_name};
 ghost use Rattle.adb_schema.specs.Views.{package_value};
 ghost use Rattle.change_files.specs.PlanLists.{names_in_order};
@@ -29,16 +31,18 @@ use std::marker::PhantomData;
 /// A name of a package of the database or of a selected candidate, and what becomes of the package.
 #[derive(Clone, Copy)]
 pub struct PlacedName<'a> {
+    /// The name.
     pub name: &'a [u8],
     /// What becomes of the package, if anything does.
     pub change: Option<Change<'a>>,
     /// The place in the database of the package before, counted from 0, if it was there.
     pub old: Option<usize>,
+    /// The place of the selected candidate in the list of all, counted from 0, if one is selected.
     pub(crate) new: Option<u32>,
 }
 
 impl<'a> PlacedName<'a> {
-    /// Its candidate, if one is selected.
+    /// The package's candidate, if one is selected.
     pub fn candidate(&self, pool: &Sealed<'a>) -> Option<Candidate<'a>>
         ensures { option_map candidate_value result
             ≡ new_candidate pool.now (placed_name_seen self.now) }
@@ -51,6 +55,7 @@ impl<'a> PlacedName<'a> {
 /// once.
 #[derive(Drop)]
 pub struct PlacedNames<'a> {
+    /// The names, in byte order.
     pub(crate) list: Vec<PlacedName<'a>>,
 }
 
@@ -76,21 +81,21 @@ impl<'a> PlacedNames<'a> {
         Ok(PlacedNames { list })
     }
 
-    /// How many there are.
+    /// How many names there are.
     pub fn len(&self) -> usize
         ensures { result ≡ length (placed_names_seen self.now) }
     {
         self.list.len()
     }
 
-    /// Whether there is none.
+    /// Whether there is no name.
     pub fn is_empty(&self) -> bool
         ensures { result ≡ (length (placed_names_seen self.now) == 0) }
     {
         self.list.is_empty()
     }
 
-    /// The one at a place, counted from 0.
+    /// The name at a place, counted from 0.
     pub fn get(&self, i: usize) -> &PlacedName<'a>
         requires { i < length (placed_names_seen self.now) }
         ensures { slice_get (placed_names_seen self.now) i ≡ Some (placed_name_seen result.now) }
@@ -99,7 +104,8 @@ impl<'a> PlacedNames<'a> {
     }
 }
 
-/// The names of the packages of a database and of the selected candidates, in byte order.
+/// The names of the packages of a database and of the selected candidates, in byte order, each
+/// once.
 fn names_on_both_sides<'a>(
     alloc: Global,
     db: &Db<'a>,
@@ -116,7 +122,7 @@ fn names_on_both_sides<'a>(
     names_in_order(names)
 }
 
-/// Adds the names of the packages of a database.
+/// Adds the names of the packages of a database, in its order.
 fn push_old_names<'a>(names: &mut Vec<&'a [u8]>, db: &Db<'a>) -> Result<(), AllocError>
     ensures { OnOk result (map (λ n. n.now) names.new.items
         ≡ map (λ n. n.now) names.old.items ++ map package_name (packages_of db.now)) }
@@ -127,8 +133,9 @@ fn push_old_names<'a>(names: &mut Vec<&'a [u8]>, db: &Db<'a>) -> Result<(), Allo
     Ok(())
 }
 
-/// The name of the package at a place. The mark serves the borrow checker alone, which does not
-/// know the parts of a view that is made and lent here unless the signature names the view.
+/// The name of the package of a database at a place, counted from 0. The mark serves the borrow
+/// checker alone, which does not know the parts of a view that is made and lent here unless the
+/// signature names the view.
 fn name_at<'a>(db: &Db<'a>, i: usize, _mark: PhantomData<PackageView<'a>>) -> &'a [u8]
     requires { i < length (packages_of db.now) }
     ensures { option_map package_name (slice_get (packages_of db.now) i) ≡ Some result.now }
@@ -137,7 +144,7 @@ fn name_at<'a>(db: &Db<'a>, i: usize, _mark: PhantomData<PackageView<'a>>) -> &'
     name_of(&pkg, PhantomData)
 }
 
-/// The name of a package.
+/// The name of a package, as its information has it.
 fn name_of<'a>(pkg: &PackageView<'a>, _mark: PhantomData<PackageView<'a>>) -> &'a [u8]
     ensures { result.now ≡ package_name (package_value pkg.now) }
 {
@@ -145,7 +152,7 @@ fn name_of<'a>(pkg: &PackageView<'a>, _mark: PhantomData<PackageView<'a>>) -> &'
     info.name()
 }
 
-/// Adds the names of the selected candidates.
+/// Adds the names of the selected candidates, in the order chosen.
 fn push_selected_names<'a>(
     names: &mut Vec<&'a [u8]>,
     pool: &Sealed<'a>,
@@ -180,7 +187,7 @@ fn push_selected_name<'a>(
     }
 }
 
-/// What becomes of the packages with these names.
+/// What becomes of the packages with these names, in the order of the names.
 fn placed_names<'a>(
     alloc: Global,
     db: &Db<'a>,
@@ -200,7 +207,7 @@ fn placed_names<'a>(
     Ok(list)
 }
 
-/// What becomes of the package with this name, whose candidate has this place.
+/// What becomes of the package with this name, whose selected candidate has the place `new`.
 fn placed_name<'a>(
     db: &Db<'a>,
     pool: &Sealed<'a>,
@@ -222,7 +229,8 @@ fn placed_name<'a>(
     }
 }
 
-/// What becomes of the package with this name, which has these places.
+/// What becomes of the package with this name, which has the place `old` in the database and whose
+/// candidate has the place `new`.
 fn change_between<'a>(
     db: &Db<'a>,
     pool: &Sealed<'a>,

@@ -1,4 +1,7 @@
 //! The selected candidates: each by its place, and all of them by their names.
+//! No rule of a document: the table serves `src/placed.rt`, so that each name is looked up once.
+//! That a selection has one candidate of a name at most, says `docs/selection.md`, "What satisfies
+//! world", 3.
 ghost use Rattle.package_changes.specs.Changes.{is_selected_named};
 ghost use Rattle.package_changes.specs.Placed.{selected_place};
 ghost use Rattle.package_changes.specs.SelectedNames.{place_beside};
@@ -26,6 +29,7 @@ pub fn candidate_at<'a>(pool: &Sealed<'a>, id: CandId) -> Option<Candidate<'a>>
 /// The names of the selected candidates, each with the place of the first that has it.
 #[derive(Drop)]
 pub struct SelectedNames<'a> {
+    /// The place of the first selected candidate of each name.
     by_name: IndexMap<&'a [u8], u32>,
 }
 
@@ -55,7 +59,7 @@ impl<'a> SelectedNames<'a> {
         Ok(names)
     }
 
-    // No names.
+    // A table without names.
     fn new(alloc: Global) -> SelectedNames<'a>
         ensures { result ≡ [] }
     {
@@ -64,7 +68,7 @@ impl<'a> SelectedNames<'a> {
         }
     }
 
-    /// The place of the first selected candidate with this name.
+    /// The place of the first selected candidate with this name, if one has it.
     pub fn place_of(&self, name: &[u8]) -> Option<u32>
         ensures { result ≡ place_beside name.now self.now }
     {
@@ -89,13 +93,14 @@ impl<'a> SelectedNames<'a> {
         }
     }
 
-    // Adds a name with a place, unless it is there.
+    // Adds a name with a place, unless the name is there.
     fn add_name(&mut self, name: &'a [u8], place: u32) -> Result<(), AllocError>
         ensures { OnOk result ((other : List ℕ) → place_beside other self.new
             ≡ option_or (place_beside other self.old)
             (if bytes_eq name.entry.now other then Some place else None)) }
     {
         match self.by_name.get(name) {
+            // The first candidate of a name counts.
             Some(_) => Ok(()),
             None => {
                 self.by_name.insert(name, place)?;

@@ -13,7 +13,7 @@ use Rattle.package_files.specs.Folders.{last_part_of, listing_of, folder_names, 
 use Rattle.package_files.specs.Packed.{IsFileFrom, AreFilesFrom, IsPackedFile, ArePackedFiles, IsFolderFrom, AreFoldersFrom, IsPackedFolder, ArePackedFolders}
 use Rattle.package_files.specs.BorrowedNames.{listings_of, names_borrowed}
 use Rattle.package_files.specs.Runs.{IsAnswer, Explains}
-use Rattle.package_files.specs.Sources.{found_at, file_at, sources_from, folder_at, source_folders_from, on_success}
+use Rattle.package_files.specs.Sources.{found_at, file_at, sources_from, folder_at, source_folders_from, and_then}
 use Rattle.make_info.specs.Reads.{Reads}
 use Rattle.base_core.specs.Tree.{TreeState}
 use Rattle.make_info.specs.declared.fault.MakeFault.{MakeFault}
@@ -91,7 +91,7 @@ IsFound bytes found = found ≡ bytes.items
 
 pub file_own : (place : ℕ) → RestsOnOwn (λ (name : List ℕ). 1) (file_at place)
 file_own place f g n name h =
-    ap (λ (o : Option (List ℕ)). on_success (found_at place o) (λ bytes. let file : Source = record { name = last_part_of name; bytes = bytes } in Ok file)) (h n name (omega arith) (omega arith))
+    ap (λ (o : Option (List ℕ)). and_then (found_at place o) (λ bytes. let file : Source = record { name = last_part_of name; bytes = bytes } in Ok file)) (h n name (omega arith) (omega arith))
 
 -- what was found stands in the blocks from a place on
 abbrev pub IsFoundAt : List ℕ → ℕ → List ℕ → Type 0
@@ -107,7 +107,7 @@ pub packed_file_is : (folder file : ℕ) (before mid later : List ℕ) (place : 
     → IsAnswer (IsFoundAt mid) (Ok at) (found_at place (read n name)) → IsAnswer (IsPackedFile folder file before later) (Ok (record { name = part; kind = kind })) (file_at place read n name)
 packed_file_is folder file before mid later place read n name at part kind p k b h = (
   record { name = last_part_of name; bytes = h.0 },
-  ap (λ (r : Result (List ℕ) MakeFault). on_success r (λ bytes. let file : Source = record { name = last_part_of name; bytes = bytes } in Ok file)) h.1,
+  ap (λ (r : Result (List ℕ) MakeFault). and_then r (λ bytes. let file : Source = record { name = last_part_of name; bytes = bytes } in Ok file)) h.1,
   record {
     is = record { name = p; kind = k ∙ ap kind_of_file (sym h.2) };
     blocks = b ∙ ap (λ (l : List ℕ). before ++ contents_blocks (contents_of_file folder file l)) (sym h.2);
@@ -151,7 +151,7 @@ reads_in folder = length folder.files
 pub folder_own : (place : ℕ) → RestsOnOwn reads_in (folder_at place)
 folder_own place f g n folder h =
     let ones = total_ones folder.files in
-    ap (λ (r : Result (List Source) MakeFault). on_success r (with_name folder.name))
+    ap (λ (r : Result (List Source) MakeFault). and_then r (with_name folder.name))
     (each_rests (λ (name : List ℕ). 1) (file_at place) (file_own place) f g n folder.files (λ m name lo hi. h m name lo (omega arith)))
 
 pub folder_fault : (position : ℕ) (before later : List ℕ) (place : ℕ) (read : Reads) (n : ℕ) (folder : FolderListing) (fault : MakeFault)
@@ -164,7 +164,7 @@ pub packed_folder_is : (position : ℕ) (before later : List ℕ) (place : ℕ) 
     → IsAnswer (IsPackedFolder position before later) (Ok (record { name = name; files = files })) (folder_at place read n (record { name = name.now; files = names }))
 packed_folder_is position before later place read n name names files h = (
   record { name = name.now; files = h.0 },
-  ap (λ (r : Result (List Source) MakeFault). on_success r (with_name name.now)) h.1,
+  ap (λ (r : Result (List Source) MakeFault). and_then r (with_name name.now)) h.1,
   record { is = record { name = refl; files = h.2.are }; blocks = h.2.blocks },
 )
 

@@ -3,7 +3,7 @@ use Rattle.std.proofs.Common.{◌≡◌, ℕ, ◌+◌, ◌<◌, ◌≤◌, Bool,
 use borrow.Author.Tests.{lt-ltb, le-ltb}
 use Rattle.base_core.specs.Calls.{IfObservable}
 use Rattle.base_core.specs.Tree.{TreeState, files_of}
-use Rattle.package_files.specs.Sources.{on_success, each_from}
+use Rattle.package_files.specs.Sources.{and_then, each_from}
 use Rattle.make_info.specs.Reads.{Reads}
 use Rattle.package_files.specs.Runs.{AreObserved, Explains, IsAnswer}
 use Rattle.base_core.specs.declared.tree.TreeFault.{TreeFault}
@@ -58,18 +58,18 @@ module _ {X Y : Type 0} (count : X → ℕ) where
   each_rests of own f g n (x ∷ xs) h =
       let here : of f n x ≡ of g n x = own f g n x (λ m name lo hi. h m name lo (omega arith)) in
       let rest : each_from count (of f) (n + count x) xs ≡ each_from count (of g) (n + count x) xs = each_rests of own f g (n + count x) xs (λ m name lo hi. h m name (omega arith) (omega arith)) in
-      λ i. on_success (here i) (λ y. on_success (rest i) (λ ys. Ok (y ∷ ys)))
+      λ i. and_then (here i) (λ y. and_then (rest i) (λ ys. Ok (y ∷ ys)))
 
 module _ {Y : Type 0} where
-  more_by : (r : Result Y MakeFault) (e f : Result (List Y) MakeFault) (ys : List Y) (y : Y) → on_success r (λ y0. on_success e (λ l. Ok (y0 ∷ l))) ≡ Ok ys
-      → ((l : List Y) → e ≡ Ok l → f ≡ Ok (l ++ y ∷ [])) → on_success r (λ y0. on_success f (λ l. Ok (y0 ∷ l))) ≡ Ok (ys ++ y ∷ [])
-  more_by (Ok y0) (Ok l) f ys y e h = let all : ys ≡ y0 ∷ l = cc in ap (λ r. on_success r (λ l. Ok (y0 ∷ l))) (h l refl) ∙ ap (λ l. Ok (l ++ y ∷ [])) (sym all)
+  more_by : (r : Result Y MakeFault) (e f : Result (List Y) MakeFault) (ys : List Y) (y : Y) → and_then r (λ y0. and_then e (λ l. Ok (y0 ∷ l))) ≡ Ok ys
+      → ((l : List Y) → e ≡ Ok l → f ≡ Ok (l ++ y ∷ [])) → and_then r (λ y0. and_then f (λ l. Ok (y0 ∷ l))) ≡ Ok (ys ++ y ∷ [])
+  more_by (Ok y0) (Ok l) f ys y e h = let all : ys ≡ y0 ∷ l = cc in ap (λ r. and_then r (λ l. Ok (y0 ∷ l))) (h l refl) ∙ ap (λ l. Ok (l ++ y ∷ [])) (sym all)
   more_by (Ok y0) (Err x) f ys y e h = absurd (cc)
   more_by (Err x) e f ys y i h = absurd (cc)
 
-  stops_by : (r : Result Y MakeFault) (e f : Result (List Y) MakeFault) (ys : List Y) (fault : MakeFault) → on_success r (λ y0. on_success e (λ l. Ok (y0 ∷ l))) ≡ Ok ys
-      → ((l : List Y) → e ≡ Ok l → f ≡ Err fault) → on_success r (λ y0. on_success f (λ l. Ok (y0 ∷ l))) ≡ Err fault
-  stops_by (Ok y0) (Ok l) f ys fault e h = ap (λ r. on_success r (λ l. Ok (y0 ∷ l))) (h l refl)
+  stops_by : (r : Result Y MakeFault) (e f : Result (List Y) MakeFault) (ys : List Y) (fault : MakeFault) → and_then r (λ y0. and_then e (λ l. Ok (y0 ∷ l))) ≡ Ok ys
+      → ((l : List Y) → e ≡ Ok l → f ≡ Err fault) → and_then r (λ y0. and_then f (λ l. Ok (y0 ∷ l))) ≡ Err fault
+  stops_by (Ok y0) (Ok l) f ys fault e h = ap (λ r. and_then r (λ l. Ok (y0 ∷ l))) (h l refl)
   stops_by (Ok y0) (Err x) f ys fault e h = absurd (cc)
   stops_by (Err x) e f ys fault i h = absurd (cc)
 
@@ -79,7 +79,7 @@ module _ {X Y : Type 0} (count : X → ℕ) (of : ℕ → X → Result Y MakeFau
   each_more n m [] x ys y e so_far here =
       let same : m ≡ n = omega arith in
       let none : ys ≡ [] = cc in
-      ap (λ r. on_success r (λ z. Ok (z ∷ []))) (ap (λ k. of k x) (sym same) ∙ here) ∙ ap (λ l. Ok (l ++ y ∷ [])) (sym none)
+      ap (λ r. and_then r (λ z. Ok (z ∷ []))) (ap (λ k. of k x) (sym same) ∙ here) ∙ ap (λ l. Ok (l ++ y ∷ [])) (sym none)
   each_more n m (z ∷ zs) x ys y e so_far here =
       more_by (of n z) (each_from count of (n + count z) zs) (each_from count of (n + count z) (zs ++ x ∷ [])) ys y so_far
       (λ l g. each_more (n + count z) m zs x l y (omega arith) g here)
@@ -88,7 +88,7 @@ module _ {X Y : Type 0} (count : X → ℕ) (of : ℕ → X → Result Y MakeFau
       → each_from count of n (xs ++ x ∷ rest) ≡ Err fault
   each_stops n m [] x rest ys fault e so_far here =
       let same : m ≡ n = omega arith in
-      ap (λ r. on_success r (λ z. on_success (each_from count of (n + count x) rest) (λ l. Ok (z ∷ l)))) (ap (λ k. of k x) (sym same) ∙ here)
+      ap (λ r. and_then r (λ z. and_then (each_from count of (n + count x) rest) (λ l. Ok (z ∷ l)))) (ap (λ k. of k x) (sym same) ∙ here)
   each_stops n m (z ∷ zs) x rest ys fault e so_far here =
       stops_by (of n z) (each_from count of (n + count z) zs) (each_from count of (n + count z) (zs ++ x ∷ rest)) ys fault so_far
       (λ l g. each_stops (n + count z) m zs x rest l fault (omega arith) g here)
@@ -172,13 +172,13 @@ explained told P h = record { read = reads_or told (λ n name. None); observed =
 
 -- a fault of a part is that of the whole
 pub fault_of_part : {A B C D : Type 0} (S : A → B → Type 0) (T : C → D → Type 0) (fault : MakeFault) (part : Result B MakeFault) (next : B → Result D MakeFault)
-    → IsAnswer S (Err fault) part → IsAnswer T (Err fault) (on_success part next)
+    → IsAnswer S (Err fault) part → IsAnswer T (Err fault) (and_then part next)
 fault_of_part S T Disk part next h = tt
 fault_of_part S T Memory part next h = tt
-fault_of_part S T (FileMissing p) part next h = ap (λ r. on_success r next) h
-fault_of_part S T (FileBad p q) part next h = ap (λ r. on_success r next) h
-fault_of_part S T (InfoBad p) part next h = ap (λ r. on_success r next) h
-fault_of_part S T (TooLarge p q) part next h = ap (λ r. on_success r next) h
+fault_of_part S T (FileMissing p) part next h = ap (λ r. and_then r next) h
+fault_of_part S T (FileBad p q) part next h = ap (λ r. and_then r next) h
+fault_of_part S T (InfoBad p) part next h = ap (λ r. and_then r next) h
+fault_of_part S T (TooLarge p q) part next h = ap (λ r. and_then r next) h
 
 -- ---- faults that are handed on
 

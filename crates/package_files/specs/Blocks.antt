@@ -1,4 +1,6 @@
 -- The bytes of contents blocks.
+-- The rules stand in `docs/formats.md`, "The other blocks" (the two positions and the bytes) and
+-- "Container" (header and padding). Serves the contracts of `src/packing.rt`.
 use Rattle.std.specs.Prelude.{◌≡◌, ℕ, ◌+◌, ◌-◌, ◌≤◌, List, ◌++◌, length, take}
 use Rattle.std.specs.Int.{w32, to_le_bytes}
 use Rattle.std.specs.List.{flat_map}
@@ -11,16 +13,18 @@ use Rattle.adb_sound.specs.Container.{contents_piece}
 abbrev pub contents_block : Contents → List ℕ
 contents_block contents = block_bytes (contents_piece contents)
 
--- one after the other
+-- the blocks of some contents, one behind the other
 abbrev pub contents_blocks : List Contents → List ℕ
 contents_blocks contents = flat_map contents_block contents
 
--- what stands in front of the bytes of a file in its block: the header, and the positions
+-- what stands in front of the bytes of a file in its block: the header, and the two positions, of
+-- four bytes each
 abbrev pub contents_front : ℕ → ℕ → ℕ → List ℕ
 contents_front folder file size =
     head_bytes Kinds.Contents (8 + size) ++ (to_le_bytes w32 folder ++ to_le_bytes w32 file)
 
--- behind what was there stands the front of a block, and from a place on the bytes of its file
+-- behind `before` stands the front of the block of a file with these positions, and from the offset
+-- `at` on the bytes of the file
 pub record HasBlockFront (folder file : ℕ) (before later : List ℕ) (at : ℕ) : Type 0 where
   pub within : at ≤ length later
   pub front : take at later ≡ before ++ contents_front folder file (length later - at)

@@ -1,4 +1,6 @@
 -- Folders as the program has them.
+-- No rule of a document: serves the contracts of `src/folders.rt` and `src/packing.rt`, which
+-- borrow names.
 use Rattle.std.specs.Prelude.{◌≡◌, ℕ, ◌<◌, ◌==◌, false, List, [], ◌∷◌, length, map, slice_index_or, bytes_eq, Option, Some, None, Vec}
 use Rattle.std.specs.Borrow.{Bor}
 use Rattle.package_files.specs.Folders.{FolderListing}
@@ -8,7 +10,8 @@ use Rattle.std.specs.declared.alloc.Global.{Global}
 abbrev pub names_borrowed : Vec (Bor (List ℕ)) Global → List (List ℕ)
 names_borrowed names = map (λ (name : Bor (List ℕ)). name.now) names.items
 
--- the index of a name in a list where each stands once, or none
+-- what is found of a name in a list where each stands once: its index, counted from 0, or none
+-- where the list has not the name
 abbrev pub IsIndexOf : List ℕ → List (List ℕ) → Option ℕ → Type 0
 IsIndexOf name names None =
     (k : ℕ) → k < length names → bytes_eq name (slice_index_or names k []) ≡ false
@@ -16,7 +19,8 @@ IsIndexOf name names (Some at) =
     (at < length names)
     × ((k : ℕ) → k < length names → bytes_eq name (slice_index_or names k []) ≡ (k == at))
 
--- folders, and for each the names in the tree of its files
+-- the listings of a package's folders, for each of which the names in the tree of its files are
+-- given
 abbrev pub listings_of :
     List (List ℕ) → List (Vec (Bor (List ℕ)) Global) → List FolderListing
 listings_of [] files = []

@@ -1,4 +1,5 @@
 -- The folders of a package, and which of the files below a folder of the tree stands in which.
+-- The rule stands in `docs/commands.md`, "`mkpkg`", the paragraph on `-F DIR`.
 use Rattle.std.specs.Prelude.{ℕ, ◌+◌, ◌==◌, Bool, if◌then◌else◌, List, [], ◌∷◌, length, drop, map, filter, bytes_eq}
 use Rattle.std.specs.List.{flat_map, before_last, after_last}
 use Rattle.std.specs.Ordering.{nat_cmp}
@@ -6,25 +7,26 @@ use Rattle.std.specs.Cmp.Lexicographic.{slice_cmp}
 use Rattle.std.specs.declared.cmp.Ordering.{Ordering}
 use Rattle.std.specs.declared.cmp.Ordering.TheVariants.{Less, Equal, Greater}
 
--- `/`
+-- whether a byte is `/` (47)
 abbrev pub is_slash : ℕ → Bool
 is_slash b = b == 47
 
--- the folder in which a path stands, which is empty for the root, and the path's last part
+-- the folder in which a path stands: what is before its last `/`; empty for the root
 abbrev pub folder_of : List ℕ → List ℕ
 folder_of path = before_last is_slash path
 
--- what stands behind the last `/`, or all of it
+-- the last part of a path: what stands behind its last `/`, or all of it
 abbrev pub last_part_of : List ℕ → List ℕ
 last_part_of path = after_last is_slash path
 
--- the first of them, where a slash comes, is empty; each further one begins with this byte
+-- what stands before each slash of a text, by its first byte and what stands before the slashes
+-- behind that: nothing, if the byte is a slash; and each further one begins with the byte
 abbrev pub with_byte : ℕ → List (List ℕ) → List (List ℕ)
 with_byte b folders =
     if is_slash b then [] ∷ map (λ folder. b ∷ folder) folders
     else map (λ folder. b ∷ folder) folders
 
--- what stands before each slash
+-- what stands before each slash of a text
 abbrev pub before_slashes : List ℕ → List (List ℕ)
 before_slashes [] = []
 before_slashes (b ∷ bs) = with_byte b (before_slashes bs)
@@ -35,26 +37,27 @@ folders_over path = [] ∷ before_slashes path
 
 -- ---- names in byte order, each once
 
--- A name goes in front of the first that comes behind it; one that is there is not put in again.
--- `further` are the others with the name among them.
+-- a name put among names that rise in byte order, by its order to the first of them (`x`): it goes
+-- in front of the first that comes behind it, and one that is there is not put in again. `further`
+-- are the others with the name among them
 abbrev pub with_folder_by :
     Ordering → List ℕ → List ℕ → List (List ℕ) → List (List ℕ) → List (List ℕ)
 with_folder_by Less name x xs further = name ∷ x ∷ xs
 with_folder_by Equal name x xs further = x ∷ xs
 with_folder_by Greater name x xs further = x ∷ further
 
--- a name put among names that rise in byte order
+-- names that rise in byte order, with one more among them
 abbrev pub with_folder : List ℕ → List (List ℕ) → List (List ℕ)
 with_folder name [] = name ∷ []
 with_folder name (x ∷ xs) =
     with_folder_by (slice_cmp nat_cmp name x) name x xs (with_folder name xs)
 
--- names put among others, one by one
+-- names that rise in byte order, with others put among them, one by one
 abbrev pub with_folders : List (List ℕ) → List (List ℕ) → List (List ℕ)
 with_folders so_far [] = so_far
 with_folders so_far (name ∷ names) = with_folders (with_folder name so_far) names
 
--- in byte order, each once
+-- the names of a list, put into byte order one by one, each once
 abbrev pub sorted_names : List (List ℕ) → List (List ℕ)
 sorted_names names = with_folders [] names
 
@@ -65,24 +68,25 @@ pub record FolderListing : Type 0 where
   pub name : List ℕ
   pub files : List (List ℕ)
 
--- a name in the tree without the folder that it is below, and without the slash
+-- the path of a name in the tree below a folder: the name without the folder and without the slash
 abbrev pub path_below : List ℕ → List ℕ → List ℕ
 path_below folder name = drop (length folder + 1) name
 
--- the root and each folder that holds a path at any depth, in byte order; no folder where there
--- is no path
+-- the names of a package's folders, by the paths of its files: the root and each folder that holds
+-- a path at any depth, in byte order; no folder where there is no path
 abbrev pub folder_names : List (List ℕ) → List (List ℕ)
 folder_names paths = sorted_names (flat_map folders_over paths)
 
--- the names whose paths stand in a folder of the package, in the order listed
+-- of the names that are listed below `dir` of the tree, those whose paths stand in a folder of the
+-- package, in the order listed
 abbrev pub names_in_folder : List ℕ → List (List ℕ) → List ℕ → List (List ℕ)
 names_in_folder dir names folder =
     filter (λ name. bytes_eq (folder_of (path_below dir name)) folder) names
 
--- a folder of the package, and what stands in it
+-- a folder of the package, with the names of the files that stand in it
 abbrev pub listing_of : List ℕ → List (List ℕ) → List ℕ → FolderListing
 listing_of dir names folder = record { name = folder; files = names_in_folder dir names folder }
 
--- of the names that are listed below a folder of the tree
+-- the folders of a package, by the names that are listed below a folder of the tree
 unfoldable pub folders_of : List ℕ → List (List ℕ) → List FolderListing
 folders_of dir names = map (listing_of dir names) (folder_names (map (path_below dir) names))

@@ -1,3 +1,6 @@
+-- The definitions of this crate, whose rules stand in `docs/commands.md`, "`mkpkg`", and in
+-- `docs/formats.md`, "The other blocks".
+
 -- what the contract of `apk` says
 pub mod Folders
 pub mod Package

@@ -1,4 +1,7 @@
 -- The value of a package (apk-v3(5)) and the contents of its files, of what was read.
+-- The rules stand in `docs/commands.md`, "`mkpkg`" (modes, users, sizes, links), and in
+-- `docs/formats.md`: "Schemas", tables 2, 4, 5, 6 and 7 (the fields in their order), and "The other
+-- blocks" (contents).
 use Rattle.std.specs.Prelude.{ℕ, ◌+◌, ◌*◌, ◌^◌, ◌==◌, nat_lt, Bool, not, ◌&&◌, if◌then◌else◌, List, [], ◌∷◌, ◌++◌, length, take, drop, map, codes, bytes_eq, sum_by, Option}
 use Rattle.std.specs.Str.{is_utf8}
 use Rattle.sha2.specs.Sha256.{sha256}
@@ -9,71 +12,72 @@ use Rattle.make_info.specs.Values.{number_value, plains_of_list, size_value}
 use Rattle.package_files.specs.declared.file.FileKind.{FileKind}
 use Rattle.package_files.specs.declared.file.FileKind.TheVariants.{Link, Regular}
 
--- a file by its last part, and its bytes
+-- a file that was read, by the last part of its path, and its bytes
 pub record Source : Type 0 where
   pub name : List ℕ
   pub bytes : List ℕ
 
--- a folder by its name in the package, and the files that stand in it
+-- a folder that was read, by its name in the package, and the files that stand in it
 pub record SourceFolder : Type 0 where
   pub name : List ℕ
   pub files : List Source
 
--- a script by its type, which is its field's name, and its bytes
+-- a script that was read, by its type, which is its field's name, and its bytes
 pub record Script : Type 0 where
   pub field : List ℕ
   pub bytes : List ℕ
 
 -- ---- files
 
--- what stands behind the mark of a link
+-- the text of a link: what stands behind its mark, `!<symlink>` of 10 bytes
 abbrev pub link_text : List ℕ → List ℕ
 link_text bytes = drop 10 bytes
 
--- the bytes are the mark and a text, which is not empty
+-- whether the bytes of a file are those of a link: its mark, and a text of UTF-8 that is not empty
 unfoldable pub is_link_file : List ℕ → Bool
 is_link_file bytes =
     bytes_eq (take 10 bytes) (codes "!<symlink>") && not (length bytes == 10)
     && is_utf8 (link_text bytes)
 
--- a symbolic link with its target: the kind 0xa000 and the text; or a regular file with its size
--- and its SHA-256
+-- what the bytes of a file are: a symbolic link with its target, which is the kind 0xa000,
+-- little-endian, and the text; or a regular file with its size and its SHA-256
 unfoldable pub kind_of_file : List ℕ → FileKind
 kind_of_file bytes =
     if is_link_file bytes then Link (0 ∷ 160 ∷ link_text bytes)
     else Regular (length bytes) (sha256 bytes)
 
--- a link has the size 0
+-- the size that a package tells of a file; a link has the size 0
 abbrev pub size_of_kind : FileKind → ℕ
 size_of_kind (Link target) = 0
 size_of_kind (Regular size hash) = size
 
--- a link has no hash
+-- the hash that a package tells of a file; a link has none
 abbrev pub hash_of_kind : FileKind → List ℕ
 hash_of_kind (Link target) = []
 hash_of_kind (Regular size hash) = hash
 
--- a file that is no link has an empty target
+-- the target that a package tells of a file; a file that is no link has an empty one
 abbrev pub target_of_kind : FileKind → List ℕ
 target_of_kind (Link target) = target
 target_of_kind (Regular size hash) = []
 
--- the access list: mode, user and group
+-- the access list that `mkpkg` gives: this mode, and `root` as user and group
 abbrev pub access_value : ℕ → Plain
 access_value mode =
     obj_value
     (more (int mode) (more (blob_value (codes "root")) (more (blob_value (codes "root")) none)))
 
--- of a file 0644, of a folder 0755, by their octal digits: all may read and root may write, and all
--- may enter a folder
+-- the mode that `mkpkg` gives a file: octal 644, by its digits (all may read, and root may write);
+-- it is 420
 abbrev pub FILE_MODE : ℕ
 FILE_MODE = 6 * 8 ^ 2 + 4 * 8 + 4
 
--- 493; `FILE_MODE` is 420
+-- the mode that `mkpkg` gives a folder: octal 755, by its digits (all may read and enter, and root
+-- may write); it is 493
 abbrev pub FOLDER_MODE : ℕ
 FOLDER_MODE = 7 * 8 ^ 2 + 5 * 8 + 5
 
--- name, access list, size, time, hash and target
+-- the fields of a file's entry: name, access list, size, time (which is left out), hash and target
 abbrev pub file_fields : List ℕ → FileKind → Plains
 file_fields name kind =
     more (blob_value name) (more (access_value FILE_MODE) (more (size_value (size_of_kind kind))
@@ -88,7 +92,7 @@ value_of_kind name kind = obj_value (file_fields name kind)
 abbrev pub value_of_file : Source → Plain
 value_of_file file = value_of_kind file.name (kind_of_file file.bytes)
 
--- name, access list and files
+-- the fields of a folder's entry: name, access list and files
 abbrev pub folder_fields : List ℕ → List Plain → Plains
 folder_fields name files =
     more (blob_value name) (more (access_value FOLDER_MODE)
@@ -102,46 +106,47 @@ folder_with name files = obj_value (folder_fields name files)
 abbrev pub value_of_folder : SourceFolder → Plain
 value_of_folder folder = folder_with folder.name (map value_of_file folder.files)
 
--- the sum of the sizes
+-- the sum of the sizes of a folder's files
 abbrev pub size_of_folder : SourceFolder → ℕ
 size_of_folder folder =
     sum_by (λ (file : Source). size_of_kind (kind_of_file file.bytes)) folder.files
 
--- the sum over all files, links as 0
+-- the installed size of a package: the sum of the sizes of all files, links as 0
 abbrev pub installed_size : List SourceFolder → ℕ
 installed_size folders = sum_by size_of_folder folders
 
 -- ---- scripts
 
--- the bytes of a field's script, or none
+-- the bytes of the script that a field is for; none where no script is
 abbrev pub script_in : List Script → List ℕ → List ℕ
 script_in [] field = []
 script_in (script ∷ scripts) field =
     if bytes_eq script.field field then script.bytes else script_in scripts field
 
--- in the order of the table; a type without script is Null
+-- the fields of a package's scripts, in the order of their table; a type without script is Null
 abbrev pub script_fields : List Script → Plains
 script_fields scripts =
     plains_of_list (map (λ field. blob_value (script_in scripts field)) script_types)
 
--- the object of these; Null where the package has no script at all
+-- the scripts of a package as an object; Null where the package has no script at all
 abbrev pub value_of_scripts : List Script → Plain
 value_of_scripts scripts = obj_value (script_fields scripts)
 
 -- ---- the package
 
--- info, paths, scripts, triggers and the priority in replacing, which may be lacking
+-- the fields of a package: information, paths, scripts, triggers and the priority in replacing,
+-- which may be lacking
 abbrev pub package_fields : Plain → List Plain → List Script → List (List ℕ) → Option ℕ → Plains
 package_fields info paths scripts triggers priority =
     more info (more (arr_value (plains_of_list paths)) (more (value_of_scripts scripts)
     (more (arr_value (plains_of_list (map blob_value triggers))) (more (number_value priority) none))))
 
--- a package, by its parts
+-- the value of a package, by its parts
 abbrev pub package_with : Plain → List Plain → List Script → List (List ℕ) → Option ℕ → Plain
 package_with info paths scripts triggers priority =
     obj_value (package_fields info paths scripts triggers priority)
 
--- a package, by what was read
+-- the value of a package, by what was read
 abbrev pub value_of_package :
     Plain → List SourceFolder → List Script → List (List ℕ) → Option ℕ → Plain
 value_of_package info folders scripts triggers priority =
@@ -150,23 +155,26 @@ value_of_package info folders scripts triggers priority =
 -- ---- the contents behind it: of each regular file that is not empty, in order, with the
 -- positions of its folder and of itself, from 1
 
--- only such a file has a block of its own; a link and an empty file have none
+-- whether a file has a block of contents of its own: a regular file that is not empty has; a link
+-- and an empty file have none
 abbrev pub has_contents : FileKind → Bool
 has_contents kind = nat_lt 0 (size_of_kind kind)
 
--- of the file with these positions, of the folder and in it, if it has a block
+-- the contents of the file at these positions, of its folder and of itself in that, if it has a
+-- block
 abbrev pub contents_of_file : ℕ → ℕ → List ℕ → List Contents
 contents_of_file folder i bytes =
     if has_contents (kind_of_file bytes) then
     record { folder = folder; file = i; bytes = bytes } ∷ [] else []
 
--- of the files of a folder, from the one with this position on
+-- the contents of the files of a folder, from the one with this position on
 abbrev pub contents_of_files : ℕ → ℕ → List Source → List Contents
 contents_of_files folder i [] = []
 contents_of_files folder i (file ∷ files) =
     contents_of_file folder i file.bytes ++ contents_of_files folder (i + 1) files
 
--- of folders, from the one with this position on, in the order in which their blocks stand
+-- the contents of the files of folders, from the one with this position on, in the order in which
+-- their blocks stand
 abbrev pub contents_of_folders : ℕ → List SourceFolder → List Contents
 contents_of_folders i [] = []
 contents_of_folders i (folder ∷ folders) =

@@ -1,4 +1,6 @@
 -- Folders and files as the program packs them, and the values that stand for them.
+-- No rule of a document: serves the contracts of `src/packing.rt` and of `make_package`; *Package*
+-- says the same of what was read.
 use Rattle.std.specs.Prelude.{◌≡◌, ℕ, List, [], ◌∷◌, ◌++◌, map, sum_by, Vec}
 use Rattle.std.specs.declared.alloc.Global.{Global}
 use Rattle.adb_view.specs.Plain.{Plain}
@@ -12,24 +14,25 @@ use Rattle.package_files.specs.Blocks.{contents_blocks}
 abbrev pub packed_file : File → Plain
 packed_file file = value_of_kind file.name.now file.kind
 
--- and of a folder
+-- the entry of a folder that was packed, with those of its files
 abbrev pub packed_folder : Folder → Plain
 packed_folder folder = folder_with folder.name.now (map packed_file folder.files.items)
 
--- the sum of the sizes
+-- the sum of the sizes of files that were packed
 abbrev pub files_size : List File → ℕ
 files_size files = sum_by (λ (file : File). size_of_kind file.kind) files
 
--- of all folders
+-- the sum of the sizes of all files of folders that were packed
 abbrev pub packed_size : List Folder → ℕ
 packed_size folders = sum_by (λ (folder : Folder). files_size folder.files.items) folders
 
--- a file of a package has the name, and is what the bytes say
+-- a file that was packed is that of a file that was read: it has the name, and is what the bytes
+-- say
 pub record IsFileFrom (file : File) (source : Source) : Type 0 where
   pub name : file.name.now ≡ source.name
   pub kind : file.kind ≡ kind_of_file source.bytes
 
--- one by one, and as many
+-- files that were packed are those that were read, one by one, and as many
 abbrev pub AreFilesFrom : List File → List Source → Type 0
 AreFilesFrom [] [] = Unit {0}
 AreFilesFrom [] (source ∷ sources) = ⊥
@@ -37,12 +40,13 @@ AreFilesFrom (file ∷ files) [] = ⊥
 AreFilesFrom (file ∷ files) (source ∷ sources) =
     IsFileFrom file source × AreFilesFrom files sources
 
--- a folder of a package has the name, and its files are what their bytes say
+-- a folder that was packed is that of a folder that was read: it has the name, and its files are
+-- what their bytes say
 pub record IsFolderFrom (folder : Folder) (source : SourceFolder) : Type 0 where
   pub name : folder.name.now ≡ source.name
   pub files : AreFilesFrom folder.files.items source.files
 
--- one by one, and as many
+-- folders that were packed are those that were read, one by one, and as many
 abbrev pub AreFoldersFrom : List Folder → List SourceFolder → Type 0
 AreFoldersFrom [] [] = Unit {0}
 AreFoldersFrom [] (source ∷ sources) = ⊥
@@ -52,30 +56,33 @@ AreFoldersFrom (folder ∷ folders) (source ∷ sources) =
 
 -- ---- what is appended to the blocks meanwhile
 
--- a file was packed: it is what its bytes say, and its block of contents stands behind those before
+-- the file at position `at` of a folder was packed: it is what its bytes say, and its block of
+-- contents stands behind those before
 pub record IsPackedFile (folder at : ℕ) (before later : List ℕ) (file : File) (source : Source) :
     Type 0 where
   pub is : IsFileFrom file source
   pub blocks : later ≡ before ++ contents_blocks (contents_of_file folder at source.bytes)
 
--- so were files, from the first of the folder on
+-- the files of a folder were packed, from the first on: they are what their bytes say, and their
+-- blocks stand behind those before
 pub record ArePackedFiles (folder : ℕ) (before later : List ℕ) (files : Vec File Global)
     (sources : List Source) : Type 0 where
   pub are : AreFilesFrom files.items sources
   pub blocks : later ≡ before ++ contents_blocks (contents_of_files folder 1 sources)
 
--- a folder was packed, with its position among the folders
+-- a folder was packed, with its position among the folders, counted from 1, and the blocks of its
+-- files stand behind those before
 pub record IsPackedFolder (folder : ℕ) (before later : List ℕ) (packed : Folder)
     (source : SourceFolder) : Type 0 where
   pub is : IsFolderFrom packed source
   pub blocks : later ≡ before ++ contents_blocks (contents_of_files folder 1 source.files)
 
--- folders were packed, counted from 1, and these are the blocks of their files
+-- folders were packed, counted from 1, and `written` has the blocks of their files
 pub record ArePackedFolders (written : List ℕ) (folders : Vec Folder Global)
     (sources : List SourceFolder) : Type 0 where
   pub are : AreFoldersFrom folders.items sources
   pub blocks : written ≡ contents_blocks (contents_of_folders 1 sources)
 
--- folders and blocks together
+-- what was packed of a package is that of the folders that were read: folders and blocks together
 abbrev pub IsPacking : Packing → List SourceFolder → Type 0
 IsPacking packing sources = ArePackedFolders packing.blocks.items packing.folders sources

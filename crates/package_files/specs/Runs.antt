@@ -1,4 +1,6 @@
 -- What a call that reads a tree says of what it found.
+-- No rule of a document: serves the contracts of the calls of `make_package`, `make_index` and this
+-- crate that read; which read finds what, says *Sources*.
 use Rattle.std.specs.Prelude.{◌≡◌, ℕ, List, Result, Ok, Err}
 use Rattle.base_core.specs.Calls.{IfObservable}
 use Rattle.base_core.specs.Tree.{TreeState, files_of}
@@ -6,12 +8,13 @@ use Rattle.make_info.specs.Reads.{Reads}
 use Rattle.make_info.specs.declared.fault.MakeFault.{MakeFault}
 use Rattle.make_info.specs.declared.fault.MakeFault.TheVariants.{Disk, Memory}
 
--- where the history is observable, each read finds what stands in the tree
+-- where the history of a tree is observable, each read finds what stands in the tree under its name
 abbrev pub AreObserved : List TreeState → Reads → Type 0
 AreObserved history read =
     IfObservable history (λ v. (n : ℕ) (name : List ℕ) → read n name ≡ files_of v name)
 
--- some reads, which are as observed, explain what was found
+-- there are some reads, as observed where the tree can be, of which this holds: they explain what
+-- was found
 pub record Explains (history : List TreeState) (P : Reads → Type 0) : Type 0 where
   pub read : Reads
   pub observed : AreObserved history read

@@ -1,5 +1,8 @@
 -- What a package is made of, as reads find it: the script files, and the files of each folder.
+-- The rules stand in `docs/commands.md`, "`mkpkg`": TYPE:FILE of `-s`, the files below the folder
+-- of `-F`, and where the place of a file that is absent is reported.
 use Rattle.std.specs.Prelude.{ℕ, ◌+◌, ◌==◌, List, [], ◌∷◌, length, map, filter, Option, Some, None, Result, Ok, Err}
+pub use Rattle.base_core.specs.Lists.{and_then}
 use Rattle.base_core.specs.Listed.{AreNamesBelow}
 use Rattle.command_core.specs.Values.{script_type, script_file}
 use Rattle.command_core.specs.Files.{without_dot}
@@ -10,25 +13,19 @@ use Rattle.make_info.specs.declared.fault.MakeFault.TheVariants.{FileMissing}
 use Rattle.package_files.specs.Folders.{last_part_of, FolderListing, folders_of}
 use Rattle.package_files.specs.Package.{Source, SourceFolder, Script}
 
--- what comes of a result, or its fault
-abbrev pub on_success :
-    {A B : Type 0} → Result A MakeFault → (A → Result B MakeFault) → Result B MakeFault
-on_success (Ok x) next = next x
-on_success (Err fault) next = Err fault
-
--- what was found for the argument at a place
+-- what a read found for the argument at a place: its bytes, or that the file is missing
 abbrev pub found_at : ℕ → Option (List ℕ) → Result (List ℕ) MakeFault
 found_at place None = Err (FileMissing place)
 found_at place (Some bytes) = Ok bytes
 
--- what comes of each element, one after the other, or the first fault; an element makes so many
--- reads, and `of` is given the number of its first
+-- what comes of each element of a list, one after the other, or the first fault; an element makes
+-- so many reads (`count`), and `of` is given the number of its first
 abbrev pub each_from :
     {X Y : Type 0} → (X → ℕ) → (ℕ → X → Result Y MakeFault) → ℕ → List X → Result (List Y) MakeFault
 each_from count of n [] = Ok []
 each_from count of n (x ∷ xs) =
-    on_success (of n x)
-    (λ y. on_success (each_from count of (n + count x) xs) (λ ys. Ok (y ∷ ys)))
+    and_then (of n x)
+    (λ y. and_then (each_from count of (n + count x) xs) (λ ys. Ok (y ∷ ys)))
 
 -- ---- the values of options
 
@@ -36,61 +33,63 @@ each_from count of n (x ∷ xs) =
 abbrev pub values_with : ℕ → List OptionValue → List OptionValue
 values_with letter values = filter (λ (v : OptionValue). v.letter == letter) values
 
--- what stands in the values of an option, as TYPE:FILE or a pattern
+-- the texts of some values of an option: each is TYPE:FILE, or a pattern
 abbrev pub texts_of : List OptionValue → List (List ℕ)
 texts_of values = map (λ (v : OptionValue). v.text) values
 
--- names below the folder that the first of some values gives, if there is one
+-- the names are names below the folder that the first of some values gives, if there is one
 abbrev pub AreNamesFor : List OptionValue → List (List ℕ) → Type 0
 AreNamesFor [] names = Unit {0}
 AreNamesFor (folder ∷ others) names = AreNamesBelow (without_dot folder.text) names
 
 -- ---- scripts
 
--- a script of this type
+-- a script of this type, with these bytes
 abbrev pub script_with : List ℕ → List ℕ → Script
 script_with kind bytes = record { field = kind; bytes = bytes }
 
--- the script that a value gives as TYPE:FILE
+-- the script that a value gives as TYPE:FILE, with its file by the read of number `n`
 abbrev pub script_at : Reads → ℕ → OptionValue → Result Script MakeFault
 script_at read n v =
-    on_success (found_at v.place (read n (without_dot (script_file v.text))))
+    and_then (found_at v.place (read n (without_dot (script_file v.text))))
     (λ bytes. Ok (script_with (script_type v.text) bytes))
 
--- of all values of `-s`, from the read with this number on, or the fault of the first whose file is
--- absent
+-- the scripts of some values of `-s`, from the read of number `n` on, or the fault of the first
+-- whose file is absent
 abbrev pub scripts_from : Reads → ℕ → List OptionValue → Result (List Script) MakeFault
 scripts_from read n values = each_from (λ v. 1) (script_at read) n values
 
 -- ---- files
 
--- a file under a name in the tree
+-- the file that was read under a name in the tree
 abbrev pub source_with : List ℕ → List ℕ → Source
 source_with name bytes = record { name = last_part_of name; bytes = bytes }
 
--- the file under a name in the tree, which the argument at a place lists
+-- the file under a name in the tree by the read of number `n`; the argument at a place lists the
+-- name
 abbrev pub file_at : ℕ → Reads → ℕ → List ℕ → Result Source MakeFault
 file_at place read n name =
-    on_success (found_at place (read n name)) (λ bytes. Ok (source_with name bytes))
+    and_then (found_at place (read n name)) (λ bytes. Ok (source_with name bytes))
 
--- of files, each with a read of its own; the place is that of `-F`, where a file that is gone is
--- reported
+-- the files under names in the tree, each with a read of its own; `place` is that of `-F`, where a
+-- file that is gone is reported
 abbrev pub sources_from : ℕ → Reads → ℕ → List (List ℕ) → Result (List Source) MakeFault
 sources_from place read n names = each_from (λ name. 1) (file_at place read) n names
 
--- a folder with its files, the first of which is the read with this number
+-- a folder with its files, the first of which is the read of number `n`
 abbrev pub folder_at : ℕ → Reads → ℕ → FolderListing → Result SourceFolder MakeFault
 folder_at place read n folder =
-    on_success (sources_from place read n folder.files)
+    and_then (sources_from place read n folder.files)
     (λ files. Ok (record { name = folder.name; files = files }))
 
--- of folders, one read behind another
+-- folders with their files, one read behind another
 abbrev pub source_folders_from :
     ℕ → Reads → ℕ → List FolderListing → Result (List SourceFolder) MakeFault
 source_folders_from place read n folders =
     each_from (λ (folder : FolderListing). length folder.files) (folder_at place read) n folders
 
--- of the names that are listed below the folder that an option gives, if it is given
+-- the folders of a package by the names that are listed below the folder that the first value of
+-- `-F` gives; no folders where it is not given
 abbrev pub folders_below :
     Reads → ℕ → List OptionValue → List (List ℕ) → Result (List SourceFolder) MakeFault
 folders_below read n [] names = Ok []

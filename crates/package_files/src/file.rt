@@ -1,4 +1,6 @@
 //! The files of a package as it is packed, and what their bytes are (apk-package(5)).
+//! The rules stand in `docs/commands.md`, "`mkpkg`", the paragraph on `-F DIR` (when a file is a
+//! symbolic link), and in `docs/formats.md`, "The texts", field 406 (what its target is).
 ghost use Rattle.std.specs.Prelude.{◌≡◌, ◌∷◌, true, false, IfOk, MatchOption};
 ghost use Rattle.std.specs.Str.{is_utf8};
 ghost use Rattle.package_files.specs.Package.{is_link_file, link_text, has_contents, kind_of_file, size_of_kind, hash_of_kind, target_of_kind};
@@ -11,42 +13,42 @@ use std::str;
 /// The folders of a package with their files, and the contents blocks of these.
 #[derive(Drop)]
 pub struct Packing<'a> {
-    /// The folders, in byte order.
+    /// The folders, in byte order of their names.
     pub folders: Vec<Folder<'a>>,
-    /// The blocks, one behind the other.
+    /// The blocks of contents of the files, one behind the other.
     pub blocks: Vec<u8>,
 }
 
 /// A folder of a package, with the files that stand in it.
 #[derive(Drop)]
 pub struct Folder<'a> {
-    /// Its name, which is empty for the root.
+    /// The name of the folder; empty for the root.
     pub name: &'a [u8],
-    /// Its files, in byte order.
+    /// The files of the folder, in byte order.
     pub files: Vec<File<'a>>,
 }
 
 /// A file of a package, without its contents.
 #[derive(Drop)]
 pub struct File<'a> {
-    /// Its name in its folder.
+    /// The name of the file in its folder.
     pub name: &'a [u8],
-    /// What it is.
+    /// What the file is.
     pub kind: FileKind,
 }
 
 /// What the bytes of a file are in a package (apk-package(5)).
 #[derive(Drop)]
 pub enum FileKind {
-    /// A symbolic link: what its field `target` holds.
+    /// A symbolic link, with what its field `target` holds.
     Link { target: Text },
-    /// A regular file: its size in bytes, and its SHA-256.
+    /// A regular file, with its size in bytes and its SHA-256.
     Regular { size: u64, hash: [u8; 32] },
 }
 
 impl FileKind {
-    /// What the bytes are: a link, where they are its mark and a text that is not empty, else a
-    /// regular file.
+    /// What the bytes of a file are: a link, where they are its mark and a text that is not empty,
+    /// else a regular file.
     #[tactic(auto, unfolding(crate::specs::Package::kind_of_file))]
     pub(crate) fn of(alloc: Global, bytes: &[u8]) -> Result<FileKind, AllocError>
         ensures { IfOk result (λ kind. kind ≡ kind_of_file bytes.now) }
@@ -63,7 +65,7 @@ impl FileKind {
         }
     }
 
-    /// The size of a regular file, and 0 for a link.
+    /// The size of a regular file in bytes, and 0 for a link.
     pub fn size(&self) -> u64
         ensures { result ≡ size_of_kind self.now }
     {
@@ -102,7 +104,7 @@ impl FileKind {
     }
 }
 
-/// The target of a link: the kind 0xa000, little-endian, and the text.
+/// The target of a link: the kind 0xa000 of two bytes, little-endian, and the text.
 fn target(alloc: Global, text: &[u8]) -> Result<Text, AllocError>
     ensures { IfOk result (λ target. target ≡ 0 ∷ 160 ∷ text.now) }
 {
@@ -112,7 +114,8 @@ fn target(alloc: Global, text: &[u8]) -> Result<Text, AllocError>
     Ok(Text::from_vec(target))
 }
 
-/// The text behind the mark of a link. None comes exactly where the bytes are no link.
+/// The text behind the mark of a link, `!<symlink>`. None comes exactly where the bytes are no
+/// link.
 #[tactic(auto, unfolding(crate::specs::Package::is_link_file))]
 fn link_text(bytes: &[u8]) -> Option<&[u8]>
     ensures { MatchOption result (is_link_file bytes.now ≡ false) (λ text.
@@ -125,7 +128,7 @@ fn link_text(bytes: &[u8]) -> Option<&[u8]>
     Some(text)
 }
 
-/// Whether the bytes are UTF-8.
+/// Whether bytes are UTF-8.
 fn is_text(bytes: &[u8]) -> bool
     ensures { result ≡ is_utf8 bytes.now }
 {

@@ -1,4 +1,6 @@
 //! The folders of a package, and which of the files below a folder of the tree stands in which.
+//! The rule stands in `docs/commands.md`, "`mkpkg`", the paragraph on `-F DIR`: "Its folders are
+//! the root and each folder that holds a file at any depth, in byte order".
 ghost use Rattle.std.specs.Prelude.{◌≡◌, ◌<◌, ◌≤◌, ◌+◌, ◌-◌, not, [], length, drop, map, replicate, slice_get, OnOk, IfOk};
 ghost use Rattle.std.specs.List.{suffix_len};
 ghost use Rattle.package_files.specs.Folders.{is_slash, folder_of, last_part_of, folders_over, with_folders, with_folder, path_below, folder_names, names_in_folder};
@@ -11,6 +13,7 @@ use std::marker::Model;
 /// The names of a package's folders, in byte order, each once.
 #[derive(Drop)]
 pub(crate) struct FolderNames<'a> {
+    /// The names, in byte order, each once; they are borrowed.
     names: Vec<&'a [u8]>,
 }
 
@@ -29,7 +32,7 @@ impl<'a> Model for FolderNames<'a> {
 }
 
 impl<'a> FolderNames<'a> {
-    /// No folders.
+    /// No folders yet.
     pub(crate) fn new(alloc: Global) -> FolderNames<'a>
         ensures { result ≡ [] }
     {
@@ -38,7 +41,7 @@ impl<'a> FolderNames<'a> {
         }
     }
 
-    /// Adds the folders that hold a path, at any depth.
+    /// Adds the folders that hold a path, at any depth: the root, and what stands before each `/`.
     pub(crate) fn add_over(&mut self, path: &'a [u8]) -> Result<(), AllocError>
         ensures { OnOk result (self.new ≡ with_folders self.old (folders_over path.now)) }
     {
@@ -52,7 +55,8 @@ impl<'a> FolderNames<'a> {
     }
 
     /// Adds a folder, unless it is there. Paths that come in byte order bring the folders nearly in
-    /// order: one comes too late only behind those that its name begins, so that few are moved.
+    /// order: a folder comes too late only behind those that its name begins, so that few are
+    /// moved.
     fn add(&mut self, folder: &'a [u8]) -> Result<(), AllocError>
         ensures { OnOk result (self.new ≡ with_folder folder.now self.old) }
     {
@@ -78,7 +82,7 @@ impl<'a> FolderNames<'a> {
         self.names[i]
     }
 
-    /// The place of a folder, if it is there.
+    /// The place of a folder, counted from 0, if it is there; found by halving.
     fn index_of(&self, folder: &[u8]) -> Option<usize>
         ensures { IsIndexOf folder.now self.now result }
     {
@@ -98,6 +102,7 @@ pub(crate) fn folder_names<'a>(
     let mut folders = FolderNames::new(alloc);
     for i in 0..names.len() {
         let path = path_below(dir.len(), names.get(i).as_bytes());
+        // Where the folder is known, so are all above it.
         if folders.index_of(folder_of(path)).is_none() {
             folders.add_over(path)?;
         }
@@ -105,7 +110,7 @@ pub(crate) fn folder_names<'a>(
     Ok(folders)
 }
 
-/// The names that stand in each of these folders, in the order listed.
+/// For each of these folders the names that stand in it, in the order listed.
 pub(crate) fn names_in_folders<'a>(
     alloc: Global,
     dir: &[u8],
@@ -126,7 +131,7 @@ pub(crate) fn names_in_folders<'a>(
     Ok(files)
 }
 
-/// So many lists without a name.
+/// As many lists without a name as `len` says.
 fn empty_lists<'a>(alloc: Global, len: usize) -> Result<Vec<Vec<&'a Name>>, AllocError>
     ensures { IfOk result (λ lists. map names_borrowed lists.items ≡ replicate len []) }
 {
@@ -151,7 +156,7 @@ pub(crate) fn last_part_of(path: &[u8]) -> &[u8]
     &path[part_start(path)..]
 }
 
-/// Where the last part of a path begins.
+/// The offset at which the last part of a path begins: behind its last `/`, or 0.
 fn part_start(path: &[u8]) -> usize
     ensures value { result ≡ length path.now - suffix_len (λ b. not (is_slash b)) path.now }
     ensures within { result ≤ length path.now }
@@ -165,7 +170,8 @@ fn part_start(path: &[u8]) -> usize
     start
 }
 
-/// A name without the folder of so many bytes that it is below, and without the slash.
+/// The path of a name below a folder, whose own name has so many bytes: without the folder and
+/// without the slash behind it.
 pub(crate) fn path_below(folder: usize, name: &[u8]) -> &[u8]
     ensures { result.now ≡ drop (folder + 1) name.now }
 {

@@ -1,5 +1,8 @@
 //! Reads the files of a package, each once, and packs them: what they are, and their contents in
 //! blocks (apk-package(5)).
+//! The rules stand in `docs/formats.md`, "The other blocks" (which files have a block, positions,
+//! order) and "Container" (header and padding of a block); that a file is not held twice, in
+//! `docs/DECISIONS.md`, "Making".
 ghost use Rattle.base_core.specs.Read.{OnlyReads};
 ghost use Rattle.adb_block.specs.Piece.{padding_of};
 ghost use Rattle.base_core.specs.Calls.{IfObservable};
@@ -21,7 +24,7 @@ use base_core::{Name, Names, Tree, TreeFault, read_all};
 use make_info::MakeFault;
 use std::alloc::{AllocError, Global};
 
-/// The most bytes that memory holds in one piece.
+/// The most bytes that memory holds in one piece: a vector has no more.
 const MOST_IN_MEMORY: u64 = isize::MAX as u64;
 
 /// Appends the front of the block with the contents of a file: its header, and the positions of its
@@ -29,6 +32,7 @@ const MOST_IN_MEMORY: u64 = isize::MAX as u64;
 /// bytes. Gives where these begin. A position of more than 32 bits is cut: so many files pass the
 /// limits of a payload.
 fn begin_block(blocks: &mut Vec<u8>, position: (u64, u64), size: u64) -> Result<usize, AllocError>
+    // Eight bytes of the block are the two positions.
     ensures small { IfOk result (λ _. size < 2 ^ 63) }
     ensures at { IfOk result (λ at. at + size ≡ length blocks.new.items) }
     ensures begun { IfOk result (λ at. blocks.new.items
@@ -37,6 +41,7 @@ fn begin_block(blocks: &mut Vec<u8>, position: (u64, u64), size: u64) -> Result<
     if size > MOST_IN_MEMORY {
         return Err(AllocError);
     }
+    // The two positions have four bytes each.
     let head = block_head(BlockKind::Contents, 8 + size);
     blocks.extend_from_slice(head.bytes())?;
     blocks.extend_from_slice(&position.0.to_le_bytes()[..4])?;
@@ -60,13 +65,14 @@ fn end_block(blocks: &mut Vec<u8>, start: usize, kind: &FileKind) -> Result<(), 
         ++ replicate (padding_of (length blocks.old.items - start)) 0) }
 {
     if !kind.has_contents() {
+        // A link and an empty file have no block.
         blocks.truncate(start);
         return Ok(());
     }
     append_padding(blocks, (blocks.len() - start) as u64)
 }
 
-/// Appends zeros behind so many bytes, up to a multiple of eight.
+/// Appends zeros behind a block of so many bytes, up to the next multiple of eight.
 fn append_padding(blocks: &mut Vec<u8>, size: u64) -> Result<(), AllocError>
     ensures { OnOk result (blocks.new.items ≡ blocks.old.items ++ replicate (padding_of size) 0) }
 {
@@ -74,17 +80,18 @@ fn append_padding(blocks: &mut Vec<u8>, size: u64) -> Result<(), AllocError>
     blocks.extend_from_slice(&[0; 8][..padding as usize])
 }
 
-/// Puts bytes in front of others, which are not held twice.
+/// Puts a front before the bytes of a vector, which are not held twice.
 pub fn put_in_front(bytes: &mut Vec<u8>, front: &[u8]) -> Result<(), AllocError>
     ensures { OnOk result (bytes.new.items ≡ front.now ++ bytes.old.items) }
 {
     bytes.extend_from_slice(front)?;
+    // The front was appended; the turn brings it before the rest, in the same memory.
     bytes.rotate_right(front.len());
     Ok(())
 }
 
-/// Packs the files of these names, which the argument at a place lists below a folder of the tree:
-/// folder by folder.
+/// Packs the files of these names, which the argument at a place lists below a folder of the tree
+/// (`dir`): folder by folder. A file that was listed and is gone is a fault at that place.
 pub fn pack_names<'a, T: Tree>(
     alloc: Global,
     tree: &mut T,
@@ -92,8 +99,11 @@ pub fn pack_names<'a, T: Tree>(
     dir: &[u8],
     names: &'a Names,
 ) -> Result<Packing<'a>, MakeFault>
+    // The tree is only read, and `Disk` has a fault of it for its cause.
     ensures tree { OnlyReads MakeFault.Disk (T.history tree.old) (T.history tree.new)
         (T.counts tree.old) (T.counts tree.new) result }
+    // Some reads, from any number on, explain the answer; where the tree tells its files they find
+    // these.
     ensures read { (n : ℕ) → Explains (T.history tree.old) (λ read.
         IsAnswer IsPacking result (source_folders_from place read n
         (folders_of dir.now names.now))) }
@@ -104,8 +114,8 @@ pub fn pack_names<'a, T: Tree>(
     Ok(packing)
 }
 
-/// Packs the files of these folders, of each of which the names of its files are given. The
-/// argument at a place lists them.
+/// Packs the files of these folders, of each of which the names of its files are given (`files`).
+/// The argument at a place lists them.
 fn pack_folders<'a, T: Tree>(
     alloc: Global,
     tree: &mut T,
@@ -141,7 +151,7 @@ fn pack_folders<'a, T: Tree>(
     })
 }
 
-/// Adds a folder at the end.
+/// Puts a folder behind the others.
 fn push_folder<'a>(folders: &mut Vec<Folder<'a>>, folder: Folder<'a>) -> Result<(), AllocError>
     ensures { OnOk result (folders.new.items ≡ folders.old.items ++ folder.entry ∷ []) }
 {
@@ -149,7 +159,7 @@ fn push_folder<'a>(folders: &mut Vec<Folder<'a>>, folder: Folder<'a>) -> Result<
     Ok(())
 }
 
-/// Packs the folder at a position, with the files of these names.
+/// Packs the folder at a position, counted from 1, with the files of these names.
 fn pack_folder<'a, T: Tree>(
     alloc: Global,
     tree: &mut T,
@@ -173,8 +183,8 @@ fn pack_folder<'a, T: Tree>(
     Ok(Folder { name, files })
 }
 
-/// Packs the files of these names, which stand in the folder at a position: their contents are
-/// appended to the blocks.
+/// Packs the files of these names, which stand in the folder at a position, counted from 1: their
+/// contents are appended to the blocks.
 fn pack_files<'a, T: Tree>(
     alloc: Global,
     tree: &mut T,
@@ -197,7 +207,7 @@ fn pack_files<'a, T: Tree>(
     Ok(files)
 }
 
-/// Adds a file at the end.
+/// Puts a file behind the others.
 fn push_file<'a>(files: &mut Vec<File<'a>>, file: File<'a>) -> Result<(), AllocError>
     ensures { OnOk result (files.new.items ≡ files.old.items ++ file.entry ∷ []) }
 {
@@ -205,7 +215,8 @@ fn push_file<'a>(files: &mut Vec<File<'a>>, file: File<'a>) -> Result<(), AllocE
     Ok(())
 }
 
-/// Packs the file of a name, which has these positions: of its folder, and of itself in it.
+/// Packs the file of a name. `position` has that of its folder, and its own in the folder, both
+/// counted from 1.
 fn pack_file<'a, T: Tree>(
     alloc: Global,
     tree: &mut T,
@@ -228,7 +239,8 @@ fn pack_file<'a, T: Tree>(
     Ok(File { name, kind })
 }
 
-/// Reads the file under a name, which the argument at a place lists, as `read_in_block` does.
+/// Reads the file under a name, which the argument at a place lists, as `read_in_block` does. A
+/// file that is absent is a fault at that place.
 fn read_listed<T: Tree>(
     tree: &mut T,
     place: u32,
@@ -251,7 +263,7 @@ fn read_listed<T: Tree>(
 }
 
 /// Reads the file under a name where its bytes will stand: behind the front of a block, which is
-/// appended. Gives where the bytes begin, or None exactly where the file is absent.
+/// appended. Gives the offset at which the bytes begin, or None exactly where the file is absent.
 fn read_in_block<T: Tree>(
     tree: &mut T,
     position: (u64, u64),
@@ -273,7 +285,8 @@ fn read_in_block<T: Tree>(
     Ok(Some(at))
 }
 
-/// Reads the file under a name, which the argument at a place gives or lists.
+/// Reads the whole file under a name, which the argument at a place gives or lists. A file that is
+/// absent is a fault at that place.
 pub fn read_file<T: Tree>(
     alloc: Global,
     tree: &mut T,

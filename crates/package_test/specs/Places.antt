@@ -1,4 +1,6 @@
 -- Where the contents of a package's files begin, and what the tests of it say.
+-- The rules stand in `docs/formats.md`, "The other blocks": the contents of the files, in rising order
+-- of their positions.
 use Rattle.std.specs.Prelude.{◌≡◌, ℕ, ◌<◌, ◌==◌, ◌&&◌, ◌||◌, ◌⊎◌, nat_lt, Bool, List, [], ◌∷◌, Option, Some, None, option_map}
 use Rattle.std.specs.List.{find}
 use Rattle.adb_schema.specs.Soundness.{payload_fault}
@@ -15,13 +17,13 @@ use Rattle.package_test.specs.declared.places.FilePlace.{FilePlace}
 
 -- ---- of the bytes of a package
 
--- the contents are those of the file that begins there
+-- the contents are those of the file whose place this is, and stand there in a package of these bytes
 pub record IsAtPlace (pkg : List ℕ) (place : FilePlace) (contents : Contents) : Type 0 where
   pub folder : place.folder ≡ contents.folder
   pub file : place.file ≡ contents.file
   pub stands : HasAt pkg place.at contents.bytes
 
--- one for each file, in order
+-- there is a place for each file with contents, in order, and no other
 abbrev pub AreAtPlaces : List ℕ → List FilePlace → List Contents → Type 0
 AreAtPlaces pkg [] [] = Unit {0}
 AreAtPlaces pkg [] (contents ∷ others) = ⊥
@@ -31,19 +33,21 @@ AreAtPlaces pkg (place ∷ places) (contents ∷ others) =
 
 -- ---- what the tests say
 
--- of the files of a package
+-- what the tests say of the files of a package: each has its contents at its place, or the first failed
+-- test
 abbrev pub AreFilesTested : FilesRead → List ℕ → FilesTest → Type 0
 AreFilesTested files pkg (Sound places) =
     (fault_in files ≡ None) × AreAtPlaces pkg places.items (contents_in files)
 AreFilesTested files pkg (Bad c) = fault_in files ≡ Some c
 
--- of a whole package
+-- what the tests say of a package as a whole: no test fails, and each file has its contents at its
+-- place, or the first failed test
 abbrev pub IsWholeTested : List ℕ → FilesTest → Type 0
 IsWholeTested pkg (Sound places) =
     (package_fault pkg ≡ None) × AreAtPlaces pkg places.items (contents_in (files_in_file pkg))
 IsWholeTested pkg (Bad c) = package_fault pkg ≡ Some c
 
--- where no test fails, none of the values does
+-- where no test fails, none of the values behind a front does
 abbrev pub HasSoundPayload : Front → FilesTest → Type 0
 HasSoundPayload front (Sound places) = payload_fault Package (front_payload front) ≡ None
 HasSoundPayload front (Bad c) = Unit {0}
@@ -55,32 +59,32 @@ abbrev pub IsBeforeFile : ℕ → ℕ → ℕ → ℕ → Type 0
 IsBeforeFile folder file other_folder other_file =
     (folder < other_folder) ⊎ ((folder ≡ other_folder) × (file < other_file))
 
--- the same as a test
+-- whether a file comes before another by its folder, and then by itself
 abbrev pub is_before_file : ℕ → ℕ → ℕ → ℕ → Bool
 is_before_file folder file other_folder other_file =
     nat_lt folder other_folder || ((folder == other_folder) && nat_lt file other_file)
 
--- each file comes behind this one
+-- each of these places is of a file that comes behind the one with these positions
 abbrev pub ArePlacedBehind : ℕ → ℕ → List FilePlace → Type 0
 ArePlacedBehind folder file [] = Unit {0}
 ArePlacedBehind folder file (place ∷ places) =
     IsBeforeFile folder file place.folder place.file × ArePlacedBehind folder file places
 
--- each file comes behind all those before it
+-- each of these places is of a file that comes behind those of all places before it
 abbrev pub AreInFileOrder : List FilePlace → Type 0
 AreInFileOrder [] = Unit {0}
 AreInFileOrder (place ∷ places) =
     ArePlacedBehind place.folder place.file places × AreInFileOrder places
 
--- whether it is the place of the file with these positions, which count from 1
+-- whether a place is that of the file with these positions, which count from 1
 abbrev pub is_place_of : ℕ → ℕ → FilePlace → Bool
 is_place_of folder file place = (place.folder == folder) && (place.file == file)
 
--- the offset at which the file with these positions begins
+-- the offset at which the file with these positions begins, if its place is among these
 abbrev pub offset_of_file : ℕ → ℕ → List FilePlace → Option ℕ
 offset_of_file folder file places =
     option_map (λ place. place.at) (find (is_place_of folder file) places)
 
--- a file that begins there, by its last piece
+-- the place of the file of which a piece is a part, and which begins at this offset
 abbrev pub place_of_part : Part → ℕ → FilePlace
 place_of_part part at = record { folder = part.path; file = part.file; at = at }

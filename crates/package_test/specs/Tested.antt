@@ -1,4 +1,6 @@
 -- A package in a tree that was read and tested once.
+-- The rules stand in `docs/formats.md`, "Tests of a container" and "The other blocks". Serves the
+-- contracts of `read_package` and `TestedPackage`.
 use Rattle.std.specs.Prelude.{◌≡◌, ℕ, List, length, Option, Some, None}
 use Rattle.sha2.specs.Sha256.{sha256}
 use Rattle.adb_view.specs.Plain.{Plain}
@@ -14,29 +16,29 @@ use Rattle.package_test.specs.declared.read.PackageRead.TheVariants.{Absent, Bad
 
 -- ---- what it shows
 
--- under which name its file was read
+-- the name under which the file of a tested package was read
 abbrev pub tested_name : TestedPackage → List ℕ
 tested_name pkg = pkg.name
 
--- how many bytes its file has
+-- how many bytes the file of a tested package has
 abbrev pub tested_len : TestedPackage → ℕ
 tested_len pkg = front_file_len pkg.front
 
--- the bytes that hold its value
+-- the bytes that hold the value of a tested package
 abbrev pub tested_payload : TestedPackage → List ℕ
 tested_payload pkg = front_payload pkg.front
 
--- the plain value of the package
+-- the plain value of a tested package
 abbrev pub tested_value : TestedPackage → Plain
 tested_value pkg = root_value Package (tested_payload pkg)
 
--- the identity of a package is the SHA-256 of the bytes that hold its value
+-- the id of a tested package: the SHA-256 of the bytes that hold its value
 abbrev pub tested_id : TestedPackage → List ℕ
 tested_id pkg = sha256 (tested_payload pkg)
 
 -- ---- of which files it is
 
--- under this name it is of this file, in which no test of a package fails
+-- a tested package is that of this file, read under this name: no test of the file as a package fails
 pub record IsTestedOf (name file : List ℕ) (pkg : TestedPackage) : Type 0 where
   pub named : tested_name pkg ≡ name
   pub sound : package_fault file ≡ None
@@ -47,7 +49,7 @@ pub record IsTestedOf (name file : List ℕ) (pkg : TestedPackage) : Type 0 wher
   pub payload : tested_payload pkg ≡ payload_in file
   pub places : AreAtPlaces file pkg.places.items (contents_in (files_in_file file))
 
--- what is answered of a file under this name, or of where there is none
+-- what `read_package` answers of a file under this name, or where there is none
 abbrev pub IsReadOf : List ℕ → Option (List ℕ) → PackageRead → Type 0
 IsReadOf name None Absent = Unit {0}
 IsReadOf name None (Bad c) = ⊥

@@ -1,15 +1,18 @@
 -- What the tests of a package say of a file, or of where there is none.
+-- The rules stand in `docs/formats.md`, "Tests of a container". Serves the contract of `test_package`,
+-- which `verify` uses (`docs/commands.md`, "`verify FILE..`").
 use Rattle.std.specs.Prelude.{◌≡◌, ℕ, List, Option, Some, None}
 use Rattle.base_core.specs.declared.cause.Cause.TheVariants.{WrongSchema}
 use Rattle.pkg_core.specs.Whole.{container_fault, package_fault}
 use Rattle.package_test.specs.declared.test.PackageTest.{PackageTest}
 use Rattle.package_test.specs.declared.test.PackageTest.TheVariants.{Absent, Bad, OtherSchema, Sound}
 
--- it passes the tests in front of that of its schema, and is no package
+-- the first failed test of a file as a package is that of its schema
 abbrev pub HasOtherSchema : List ℕ → Type 0
 HasOtherSchema file = (found : ℕ) × (package_fault file ≡ Some (WrongSchema found))
 
--- what is answered of a file: the first failed test is that of the file as a container
+-- what `test_package` answers of a file, or where there is none; a fault is that of the file as a
+-- container, whatever its schema
 abbrev pub IsTestOf : Option (List ℕ) → PackageTest → Type 0
 IsTestOf None Absent = Unit {0}
 IsTestOf None OtherSchema = ⊥

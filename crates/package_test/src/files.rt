@@ -1,4 +1,5 @@
 //! The contents of a package's files are read once and tested, piece by piece.
+//! The rules stand in `docs/formats.md`, "The other blocks", the paragraph of pieces.
 
 ghost use Rattle.std.specs.Prelude.{◌≡◌, ℕ, List, Some, length, IfOk};
 ghost use Rattle.adb_block.specs.Reading.{reading_of};
@@ -21,7 +22,8 @@ use std::alloc::Global;
 /// What the tests of a package say of its files.
 #[derive(Drop)]
 pub(crate) enum FilesTest {
-    /// No test failed, and so the contents of each file begin there, in the order of the files.
+    /// No test failed: the places at which the contents of each file begin, in the order of the
+    /// files.
     Sound(Vec<FilePlace>),
     /// The first test that failed.
     Bad(Cause),
@@ -35,7 +37,7 @@ pub(crate) fn read_files<T: Tree>(
     front: &Front,
     contents: &Contents<'_>,
 ) -> Result<FilesTest, TreeFault>
-    // Of each package that is so long and has the bytes that were seen.
+    // For each package that is so long and has the bytes that were seen.
     ensures files { IfOk result (λ test. (seen : List ℕ)
         × IsSeenIn (T.history tree.old) name.now (front_file_len front.now) (front_end front.now)
         seen
@@ -43,9 +45,12 @@ pub(crate) fn read_files<T: Tree>(
         → HasAt pkg (front_end front.now) seen → AreFilesTested (files_by_blocks
         (expected_contents (value_of_contents contents.now))
         (reading_of (behind_front front.now pkg))) pkg test)) }
+    // The tree stays as it is; a failed tree is answered only where it failed, and no call is a
+    // misuse where the tree shows the file, as long as it was.
     ensures tree { ReadsFile name.now (front_file_len front.now) DiskFault (T.history tree.old)
         (T.history tree.new) (T.counts tree.old) (T.counts tree.new) result }
 {
+    // Laws that the proof needs; they compute nothing.
     the_pieces_are_refused_for_the_first_fault_of_the_blocks();
     the_pieces_of_each_file_joined_are_its_contents();
     let mut reader = PieceReader::new(front, contents, name);

@@ -6,6 +6,7 @@
 //! values and, in pieces, the contents of single files. `test_package` tells only what the tests
 //! say, a `PackageTest`. The contracts cite `Tested` (what a tested package shows, and of which
 //! files it is), `Places` (where files begin) and `Tests` of `specs/`.
+//! The rules stand in `docs/formats.md`, "Tests of a container" and "The other blocks".
 #![tactic(auto)]
 
 mod files;

@@ -1,4 +1,6 @@
 //! A package in a tree that was read and tested once.
+//! The rules stand in `docs/formats.md`, "The other blocks", the paragraph of pieces; what is held
+//! of a package in `docs/commands.md`, "`verify FILE..`".
 
 ghost use Rattle.std.specs.Prelude.{◌≡◌, true, is_none};
 ghost use Rattle.adb_schema.specs.Soundness.{payload_fault};
@@ -14,8 +16,11 @@ use pkg_pieces::{Contents, Front};
 /// file begin. Contracts see, by `Tested` of `specs/`, what it shows and of which files it is.
 #[derive(Drop)]
 pub struct TestedPackage {
+    /// The name under which it was read.
     pub(crate) name: Name,
+    /// The header and the first block, which holds the values.
     pub(crate) front: Front,
+    /// Where the contents of each file begin, in the order of the files.
     pub(crate) places: Vec<FilePlace>,
     ghost tested: { is_none (payload_fault Tables.Package (front_payload front)) ≡ true },
 }
@@ -30,14 +35,14 @@ impl TestedPackage {
     ghost use Rattle.pkg_pieces.specs.Values.{payload_of_contents, value_of_contents};
     ghost use Rattle.sha2.specs.Sha256.{sha256};
 
-    /// The name under which it stands in the tree.
+    /// The name under which the package stands in the tree.
     pub fn name(&self) -> &Name
         ensures { result.now ≡ tested_name self.now }
     {
         &self.name
     }
 
-    /// Its values. They are not tested again, and no memory is taken.
+    /// The values of the package. They are not tested again, and no memory is taken.
     pub fn contents(&self) -> Contents<'_>
         ensures value { value_of_contents result ≡ tested_value self.now }
         ensures payload { payload_of_contents result ≡ tested_payload self.now }

@@ -1,4 +1,6 @@
 //! Where the contents of a package's files begin.
+//! The order of the files is that of `docs/formats.md`, "The other blocks"; places are looked for
+//! by halving, as the README of this crate says.
 
 ghost use Rattle.std.specs.List.Sorted.{IsPartitionPoint};
 ghost use Rattle.std.specs.Prelude.{◌≡◌, ◌≤◌, ◌++◌, ◌∷◌, [], true, false, if◌then◌else◌, length, OnOk};
@@ -11,12 +13,15 @@ use std::alloc::AllocError;
 /// which count from 1, and an offset.
 #[derive(Clone, Copy)]
 pub(crate) struct FilePlace {
+    /// The position of its folder.
     pub folder: u32,
+    /// Its position in the folder.
     pub file: u32,
+    /// The offset at which its contents begin in the package.
     pub at: u64,
 }
 
-/// Keeps where a file begins, once its last piece came.
+/// Keeps where the file of a part begins, once its last piece came.
 pub(crate) fn keep_place(places: &mut Vec<FilePlace>, part: Part, at: u64) -> Result<(), AllocError>
     ensures { OnOk result (places.new.items ≡ (if part.last
         then places.old.items ++ place_of_part part at ∷ [] else places.old.items)) }

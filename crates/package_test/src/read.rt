@@ -1,5 +1,7 @@
 //! How a package in a tree is read and tested: its front, its values, and then piece by piece what
 //! stands behind them.
+//! The rules stand in `docs/formats.md`, "Tests of a container", and "The other blocks", the
+//! paragraphs of a front and of pieces.
 
 ghost use Rattle.std.specs.Prelude.{◌≡◌, ℕ, List, Option, Some, IfOk};
 ghost use Rattle.adb_schema.specs.declared.read.TheConstants.{PACKAGE_WORD};
@@ -43,10 +45,12 @@ pub fn read_package<T: Tree>(
     tree: &mut T,
     name: &Name,
 ) -> Result<PackageRead, TreeFault>
-    // What is answered of some file, which is the one under the name where the tree tells it.
+    // The answer is that for some file, which is the one under the name where the tree tells it.
     ensures read { IfOk result (λ read. (found : Option (List ℕ))
         × IfObservable (T.history tree.old) (λ v. found ≡ files_of v name.now)
         × IsReadOf name.now found read) }
+    // The tree stays as it is; a failed tree is answered only where it failed, and no call is a
+    // misuse where the tree tells its files.
     ensures tree { OnlyReads DiskFault (T.history tree.old) (T.history tree.new)
         (T.counts tree.old) (T.counts tree.new) result }
 {
@@ -54,7 +58,8 @@ pub fn read_package<T: Tree>(
     read_named(alloc, tree, name, own_name)
 }
 
-/// The same, with a copy of the name.
+/// Reads and tests the package under a name, with a copy of the name that a tested package is to
+/// own.
 fn read_named<T: Tree>(
     alloc: Global,
     tree: &mut T,
@@ -65,6 +70,8 @@ fn read_named<T: Tree>(
     ensures read { IfOk result (λ read. (found : Option (List ℕ))
         × IfObservable (T.history tree.old) (λ v. found ≡ files_of v name.now)
         × IsReadOf name.now found read) }
+    // The tree stays as it is; a failed tree is answered only where it failed, and no call is a
+    // misuse where the tree tells its files.
     ensures tree { OnlyReads DiskFault (T.history tree.old) (T.history tree.new)
         (T.counts tree.old) (T.counts tree.new) result }
 {
@@ -80,7 +87,7 @@ fn read_named<T: Tree>(
     }
 }
 
-/// What is read of a package of this name with this front, by its tests.
+/// The answer for a package of this name with this front, by what the tests said.
 fn read_by(name: Name, front: Front, test: FilesTest) -> PackageRead
     requires { HasSoundPayload front test }
     ensures { (pkg : List ℕ) → IsFrontOf PACKAGE_WORD pkg front → IsWholeTested pkg test
@@ -103,13 +110,15 @@ fn read_behind<T: Tree>(
     name: &Name,
     front: &Front,
 ) -> Result<FilesTest, TreeFault>
-    // Of each package with this front that has the bytes that were seen behind it.
+    // For each package with this front that has the bytes that were seen behind it.
     ensures whole { IfOk result (λ test. (seen : List ℕ)
         × IsSeenIn (T.history tree.old) name.now (front_file_len front.now) (front_end front.now)
         seen
         × ((pkg : List ℕ) → IsFrontOf PACKAGE_WORD pkg front.now
         → HasAt pkg (front_end front.now) seen → IsWholeTested pkg test)) }
     ensures payload { IfOk result (HasSoundPayload front.now) }
+    // The tree stays as it is; a failed tree is answered only where it failed, and no call is a
+    // misuse where the tree shows the file, as long as it was.
     ensures tree { ReadsFile name.now (front_file_len front.now) DiskFault (T.history tree.old)
         (T.history tree.new) (T.counts tree.old) (T.counts tree.new) result }
 {

@@ -1,4 +1,6 @@
 //! What the tests of a package in a tree say.
+//! The rules stand in `docs/formats.md`, "Tests of a container", and `docs/commands.md`, "`verify
+//! FILE..`".
 
 ghost use Rattle.std.specs.Prelude.{◌≡◌, ℕ, List, Option, Some, IfOk};
 ghost use Rattle.base_core.specs.Calls.{IfObservable};
@@ -39,10 +41,12 @@ pub fn test_package<T: Tree>(
     tree: &mut T,
     name: &Name,
 ) -> Result<PackageTest, TreeFault>
-    // What is answered of some file, which is the one under the name where the tree tells it.
+    // The answer is that for some file, which is the one under the name where the tree tells it.
     ensures tests { IfOk result (λ test. (found : Option (List ℕ))
         × IfObservable (T.history tree.old) (λ v. found ≡ files_of v name.now)
         × IsTestOf found test) }
+    // The tree stays as it is; a failed tree is answered only where it failed, and no call is a
+    // misuse where the tree tells its files.
     ensures tree { OnlyReads DiskFault (T.history tree.old) (T.history tree.new)
         (T.counts tree.old) (T.counts tree.new) result }
 {
@@ -50,7 +54,7 @@ pub fn test_package<T: Tree>(
     Ok(test_of(&read))
 }
 
-/// What is said of a package that was read.
+/// What the tests say, by what was read.
 fn test_of(read: &PackageRead) -> PackageTest
     ensures { (name : List ℕ) (found : Option (List ℕ)) → IsReadOf name found read.now
         → IsTestOf found result }

@@ -1,4 +1,7 @@
 -- The members that claim a path, and the one that owns it.
+-- The rules stand in `docs/commands.md`, "Files that several packages list"; the words *claim*,
+-- *owner*, *contested* and *rivals* in `docs/names.md`, "The installed database and a change of
+-- it".
 use Rattle.std.specs.Prelude.{◌≡◌, ℕ, ◌==◌, Bool, false, List, map, Option, Some, None, is_none, option_map, option_and_then, slice_get, bytes_eq}
 use Rattle.std.specs.List.{filter, find}
 use Rattle.std.specs.Ordering.{on}
@@ -8,8 +11,8 @@ use Rattle.list_order.specs.Sorted.{sorted_by}
 use Rattle.path_claims.specs.Contest.{winner, first_rivals}
 use Rattle.path_claims.specs.declared.contest.Rivals.{Rivals}
 
--- A file that a member lists. The member's place counts from 0, those of the folder and of the file
--- in it count from 1; the number says how many claims stand before it.
+-- a claim: a file that a member lists. The member's place counts from 0, those of the folder and of
+-- the file in it count from 1; the number says how many claims stand before it
 pub record PathClaim : Type 0 where
   pub path : List ℕ
   pub member : ℕ
@@ -17,11 +20,11 @@ pub record PathClaim : Type 0 where
   pub file : ℕ
   pub number : ℕ
 
--- each claim's number is its place
+-- the number of each claim is its place in the list
 abbrev pub AreNumbered : List PathClaim → Type 0
 AreNumbered claims = (i : ℕ) (c : PathClaim) → slice_get claims i ≡ Some c → c.number ≡ i
 
--- whether it claims this path
+-- whether a claim is of this path
 abbrev pub is_of_path : List ℕ → PathClaim → Bool
 is_of_path path c = bytes_eq c.path path
 
@@ -29,41 +32,42 @@ is_of_path path c = bytes_eq c.path path
 abbrev pub claimants : List PathClaim → List ℕ → List ℕ
 claimants claims path = map (λ c. c.member) (filter (is_of_path path) claims)
 
--- the claimant that beats every other
+-- the owner of a path among some claims: the claimant that beats every other; none where no
+-- claimant does
 abbrev pub owner_by : (ℕ → ℕ → Bool) → List PathClaim → List ℕ → Option ℕ
 owner_by beats claims path = winner beats (claimants claims path)
 
--- whether this member is the owner; a path without owner has none
+-- whether a member is the owner; a path without owner has none
 abbrev pub is_member : ℕ → Option ℕ → Bool
 is_member m None = false
 is_member m (Some owner) = m == owner
 
--- whether the claim's member owns its path
+-- whether a claim's member owns its path
 abbrev pub is_owner_by : (ℕ → ℕ → Bool) → List PathClaim → PathClaim → Bool
 is_owner_by beats claims c = is_member c.member (owner_by beats claims c.path)
 
--- by path
+-- the order of claims: the byte order of their paths
 unfoldable pub claim_cmp : PathClaim → PathClaim → Ordering
 claim_cmp = on (λ c. c.path) bytes_cmp
 
--- of the paths that no claimant owns, the first in byte order
+-- of the paths that no claimant owns, the first in byte order; none where each has an owner
 abbrev pub contested_path : (ℕ → ℕ → Bool) → List PathClaim → Option (List ℕ)
 contested_path beats claims =
     find (λ path. is_none (owner_by beats claims path))
     (sorted_by bytes_cmp (map (λ c. c.path) claims))
 
--- a path, and two claimants neither of which takes it over
+-- a contested path, and its rivals: two claimants, the first of which does not beat the second
 pub record ContestedPath : Type 0 where
   pub path : List ℕ
   pub rivals : Rivals
 
--- the path with its first rivals, if no member owns it
+-- a path with its rivals, if no member owns it
 abbrev pub contested_at : (ℕ → ℕ → Bool) → List PathClaim → List ℕ → Option ContestedPath
 contested_at beats claims path =
     option_map (λ rivals. record { path = path; rivals = rivals })
     (first_rivals beats (claimants claims path))
 
--- the first path that no claimant owns
+-- the first path in byte order that no claimant owns, with its rivals
 unfoldable pub contested_by : (ℕ → ℕ → Bool) → List PathClaim → Option ContestedPath
 contested_by beats claims =
     option_and_then (contested_at beats claims) (contested_path beats claims)

@@ -1,26 +1,29 @@
 -- Of members that beat each other, the one that beats every other.
+-- The rule stands in `docs/commands.md`, "Files that several packages list". Which member beats
+-- which is given as `beats`.
 use Rattle.std.specs.Prelude.{◌≡◌, ℕ, ◌==◌, Bool, true, false, not, ◌||◌, List, [], ◌∷◌, Option, None, option_map}
 use Rattle.std.specs.List.{find, list_all}
 use Rattle.path_claims.specs.declared.contest.Rivals.{Rivals}
 
--- x beats each other member
+-- whether the member x beats each other one of some members
 abbrev pub beats_each : (ℕ → ℕ → Bool) → List ℕ → ℕ → Bool
 beats_each beats members x = list_all (λ y. (x == y) || beats x y) members
 
--- the member that beats each other one
+-- the member that beats each other one; none where no member does
 unfoldable pub winner : (ℕ → ℕ → Bool) → List ℕ → Option ℕ
 winner beats members = find (beats_each beats members) members
 
--- two members, by their places
+-- two members as rivals, by their places
 abbrev pub rivals_of : ℕ → ℕ → Rivals
 rivals_of x y = record { first = x; second = y }
 
--- the first member, and the first other one that it does not beat
+-- the first of some members, and the first other one that it does not beat; none where it beats all
+-- others
 unfoldable pub first_rivals : (ℕ → ℕ → Bool) → List ℕ → Option Rivals
 first_rivals beats [] = None
 first_rivals beats (x ∷ members) =
     option_map (rivals_of x) (find (λ y. not ((x == y) || beats x y)) (x ∷ members))
 
--- no two beat each other
+-- of two members at most one beats the other
 abbrev pub IsOneWay : (ℕ → ℕ → Bool) → Type 0
 IsOneWay beats = (x y : ℕ) → beats x y ≡ true → beats y x ≡ false

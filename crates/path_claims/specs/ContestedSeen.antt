@@ -1,8 +1,10 @@
 -- What a contested path of the program stands for.
+-- No rule of a document: serves the contracts of `src/owner.rt`, whose path has its folder and its
+-- name apart.
 use Rattle.adb_fields.specs.JoinedPath.{joined_path}
 use Rattle.path_claims.specs.Claims.{ContestedPath}
 use Rattle.path_claims.specs.declared.owner.Contested.{Contested}
 
--- the path as one text, and its rivals
+-- a contested path as contracts see it: as one text, with its rivals
 abbrev pub contested_seen : Contested → ContestedPath
 contested_seen c = record { path = joined_path c.path; rivals = c.rivals }

@@ -1,3 +1,6 @@
+-- The definitions of this crate, whose rules stand in `docs/commands.md`, "Files that several
+-- packages list".
+
 -- what the contract of `apk` says
 pub mod Contest
 pub mod Claims

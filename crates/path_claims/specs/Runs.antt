@@ -1,19 +1,21 @@
 -- Claims of one path that stand together.
+-- No rule of a document: serves the contracts of `src/claim.rt`, over claims in the order of their
+-- paths.
 use Rattle.std.specs.Prelude.{ℕ, zero, suc, Bool, true, not, List, [], ◌∷◌, Option, Some, None, cond, slice_get, bytes_eq}
 use Rattle.path_claims.specs.Claims.{PathClaim}
 
--- the elements from the front on that pass
+-- the elements from the front of a list on that pass, up to the first that does not
 abbrev pub passing_front : {X : Type 0} → (X → Bool) → List X → List X
 passing_front p [] = []
 passing_front p (x ∷ xs) = cond (p x) (x ∷ passing_front p xs) []
 
--- a claim that is lacking differs from each
+-- whether two claims have different paths; a claim that is lacking differs from each
 abbrev pub differ_in_path : Option PathClaim → Option PathClaim → Bool
 differ_in_path None d = true
 differ_in_path (Some c) None = true
 differ_in_path (Some c) (Some d) = not (bytes_eq c.path d.path)
 
--- the claim has another path than the one before it, if there is one
+-- whether the claim at a place has another path than the one before it, if there is one
 abbrev pub is_first_of_path : List PathClaim → ℕ → Bool
 is_first_of_path claims zero = true
 is_first_of_path claims (suc i) = differ_in_path (slice_get claims i) (slice_get claims (suc i))

@@ -1,9 +1,11 @@
 -- What the values of the program stand for.
+-- No rule of a document: serves the contracts of `src/claim.rt`, whose paths have their folders and
+-- names apart.
 use Rattle.adb_fields.specs.JoinedPath.{joined_path}
 use Rattle.path_claims.specs.Claims.{PathClaim}
 use Rattle.path_claims.specs.declared.claim.Claim.{Claim}
 
--- folder and name are joined to one path
+-- a claim as contracts see it: folder and name are joined to one path
 abbrev pub claim_seen : Claim → PathClaim
 claim_seen c = record {
   path = joined_path c.path;

@@ -1,4 +1,7 @@
 //! Claims in the order of their paths.
+//! What a claim is, stands in `docs/commands.md`, "Files that several packages list": a package
+//! claims each file that it lists. The order serves `src/owner.rt`, so that the claims of one path
+//! stand together.
 
 ghost use Rattle.std.specs.Prelude.{◌≡◌, ◌<◌, Some, IfOk, drop, length, map, slice_get};
 ghost use Rattle.adb_fields.specs.JoinedPath.{joined_path};
@@ -14,14 +17,19 @@ use std::alloc::{AllocError, Global};
 /// file in it count from 1. The number says how many claims stand before it in the list of all.
 #[derive(Clone, Copy)]
 pub struct Claim<'a> {
+    /// The path of the file.
     pub path: FilePath<'a>,
+    /// The place of the member that lists it, counted from 0.
     pub member: u32,
+    /// The position of the folder in the member's package, counted from 1.
     pub folder: u32,
+    /// The position of the file in its folder, counted from 1.
     pub file: u32,
+    /// How many claims stand before this one in the list of all.
     pub number: usize,
 }
 
-/// Puts claims into the order of their paths. Those of one path stay in theirs.
+/// Puts claims into the order of their paths. Those of one path stay in the order that they have.
 pub fn sort_claims(claims: &mut Vec<Claim<'_>>) -> Result<(), AllocError>
     ensures { IfOk result (λ _. map claim_seen claims.new.items
         ≡ sorted_by claim_cmp (map claim_seen claims.old.items)) }
@@ -30,7 +38,7 @@ pub fn sort_claims(claims: &mut Vec<Claim<'_>>) -> Result<(), AllocError>
     Ok(())
 }
 
-/// Whether a claim has another path than the one before it.
+/// Whether the claim at a place has another path than the one before it; the first claim has.
 pub fn begins_path(claims: &[Claim<'_>], i: usize) -> bool
     requires { i < length claims.now }
     ensures { result ≡ is_first_of_path (map claim_seen claims.now) i }
@@ -41,7 +49,7 @@ pub fn begins_path(claims: &[Claim<'_>], i: usize) -> bool
     !claims[i - 1].path.compare(&claims[i].path).is_eq()
 }
 
-/// The claims from the front on that have a path.
+/// The claims from the front of a list on that have a path, up to the first that has another.
 fn run_in_front<'c, 'a>(claims: &'c [Claim<'a>], path: &FilePath<'_>) -> &'c [Claim<'a>]
     ensures { map claim_seen result.now
         ≡ passing_front (is_of_path (joined_path path.now)) (map claim_seen claims.now) }
@@ -53,7 +61,7 @@ fn run_in_front<'c, 'a>(claims: &'c [Claim<'a>], path: &FilePath<'_>) -> &'c [Cl
     &claims[..end]
 }
 
-/// The claims from one on that have its path.
+/// The claims from the one at a place on that have its path, up to the first that has another.
 pub fn run_at<'c, 'a>(claims: &'c [Claim<'a>], from: usize) -> &'c [Claim<'a>]
     requires { from < length claims.now }
     ensures { (c : PathClaim) → slice_get (map claim_seen claims.now) from ≡ Some c

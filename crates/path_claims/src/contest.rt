@@ -1,4 +1,7 @@
 //! Which of several members, of which some beat others, beats every other one.
+//! The rule stands in `docs/commands.md`, "Files that several packages list": "the one that beats
+//! every other owns it", and which two packages are reported where none does. Which member beats
+//! which, a `Contest` says.
 
 ghost use Rattle.std.specs.Prelude.{◌≡◌, ◌==◌, ◌||◌, ℕ, Bool, map};
 ghost use Rattle.path_claims.specs.Contest.{IsOneWay, beats_each, first_rivals, winner};
@@ -8,6 +11,7 @@ use crate::claim::Claim;
 
 /// Which of two members beats the other. Members are known by their places, which count from 0.
 pub trait Contest {
+    // Whether the first member beats the second, as contracts say it.
     ghost beats: { Self → ℕ → ℕ → Bool };
 
     /// Whether the first member beats the second.
@@ -18,12 +22,14 @@ pub trait Contest {
 /// The places of two members that claim one path.
 #[derive(Clone, Copy)]
 pub struct Rivals {
+    /// The first member that claims the path, by its place, counted from 0.
     pub first: u32,
+    /// The first other member that the first one does not beat.
     pub second: u32,
 }
 
-/// The only member that can beat all others: whoever is not beaten by the one before takes its
-/// place.
+/// Of the members that claim a path the only one that can beat all others: whoever is not beaten by
+/// the one before takes its place.
 fn left_over<C: Contest>(contest: &C, first: u32, claims: &[Claim<'_>]) -> u32
     ensures { result ≡ left_over (C.beats contest.now) first (map (λ c. c.member) claims.now) }
 {
@@ -36,7 +42,7 @@ fn left_over<C: Contest>(contest: &C, first: u32, claims: &[Claim<'_>]) -> u32
     left
 }
 
-/// Whether a member beats each other one.
+/// Whether a member beats each other one of those that claim a path.
 fn is_winner<C: Contest>(contest: &C, one: u32, claims: &[Claim<'_>]) -> bool
     ensures { result ≡ beats_each (C.beats contest.now) (map (λ c. c.member) claims.now) one }
 {
@@ -58,8 +64,10 @@ fn is_same_or_beaten<C: Contest>(contest: &C, one: u32, other: u32) -> bool
     contest.beats(one, other)
 }
 
-/// Of the members that claim a path the one that beats every other.
+/// Of the members that claim a path the one that beats every other; none where no member does. Each
+/// claim is asked of the contest at most twice.
 pub(crate) fn winner<C: Contest>(contest: &C, claims: &[Claim<'_>]) -> Option<u32>
+    // No two members beat each other: so one alone can be left over.
     requires { IsOneWay (C.beats contest.now) }
     ensures { result ≡ winner (C.beats contest.now) (map (λ c. c.member) claims.now) }
 {
@@ -74,7 +82,8 @@ pub(crate) fn winner<C: Contest>(contest: &C, claims: &[Claim<'_>]) -> Option<u3
     }
 }
 
-/// Of the members that claim a path the first, and the first other one that it does not beat.
+/// Of the members that claim a path the first, and the first other one that it does not beat; none
+/// where it beats all others.
 pub(crate) fn first_rivals<C: Contest>(contest: &C, claims: &[Claim<'_>]) -> Option<Rivals>
     ensures { result ≡ first_rivals (C.beats contest.now) (map (λ c. c.member) claims.now) }
 {

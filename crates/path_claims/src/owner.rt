@@ -1,4 +1,6 @@
 //! The owner of each path, and which claims are their owner's.
+//! The rule stands in `docs/commands.md`, "Files that several packages list", also for the path
+//! that is reported where no member owns it.
 
 ghost use Rattle.std.specs.Prelude.{◌≡◌, ◌+◌, ◌<◌, ℕ, Bool, Option, Some, true, IfOk, is_none, length, map, option_and_then, option_map, slice_get, ◌==◌, List};
 ghost use Rattle.std.specs.List.Sorted.{IsSorted};
@@ -15,10 +17,12 @@ use crate::contest::{Contest, Rivals, first_rivals, winner};
 use adb_fields::FilePath;
 use std::alloc::{AllocError, Global};
 
-/// A path that no member owns, and two that claim it, neither of which takes it over.
+/// A path that no member owns, with its rivals.
 #[derive(Clone, Copy)]
 pub struct Contested<'a> {
+    /// The path.
     pub path: FilePath<'a>,
+    /// The first member that claims the path, and the first other one that this one does not beat.
     pub rivals: Rivals,
 }
 
@@ -27,15 +31,17 @@ pub struct Contested<'a> {
 pub struct Owners<'a> {
     /// The claims in the order of their paths. Those of one path stand as in the list of all.
     pub claims: Vec<Claim<'a>>,
-    /// For each of these claims the member that owns its path, if one does.
+    /// For each of these claims the place of the member that owns its path, if one does.
     pub owners: Vec<Option<u32>>,
     /// For each claim in the list of all, whether its member owns its path.
     pub owned: Vec<bool>,
-    /// The first path in byte order that no member owns.
+    /// The first path in byte order that no member owns, with its rivals; none where each path has
+    /// an owner.
     pub contested: Option<Contested<'a>>,
 }
 
-/// The owner of a claim's path, where the owner of the path before it is known.
+/// The owner of a claim's path, where the owner of the path of the claim before it is known
+/// (`before`).
 fn owner_at<C: Contest>(
     contest: &C,
     claims: &[Claim<'_>],
@@ -51,13 +57,14 @@ fn owner_at<C: Contest>(
     ensures { (c : PathClaim) → slice_get (map claim_seen claims.now) i ≡ Some c
         → result ≡ owner_by (C.beats contest.now) (map claim_seen claims.now) c.path }
 {
+    // Claims of one path stand together, so the owner is that of the claim before.
     if !begins_path(claims, i) {
         return before;
     }
     winner(contest, run_at(claims, i))
 }
 
-/// For each claim the owner of its path.
+/// For each claim, in the order of paths, the owner of its path, if there is one.
 fn owners_in_order<C: Contest>(
     alloc: Global,
     contest: &C,
@@ -88,11 +95,12 @@ fn is_member(member: u32, owner: Option<u32>) -> bool
     }
 }
 
-/// Notes for each claim, by its number, whether its member is the owner.
+/// Notes for each claim, by its number, whether its member is the owner of its path.
 fn mark_owned(flags: &mut [bool], claims: &[Claim<'_>], owners: &[Option<u32>])
     requires owners { length owners.now ≡ length claims.now }
     requires flags { (j : ℕ) (c : PathClaim) → slice_get (map claim_seen claims.now) j ≡ Some c
         → c.number < length flags.old }
+    // Claims of one number, of which there is one alone, get one flag.
     requires same { (j k : ℕ) (c d : PathClaim) (o p : Option ℕ)
         → slice_get (map claim_seen claims.now) j ≡ Some c → slice_get owners.now j ≡ Some o
         → slice_get (map claim_seen claims.now) k ≡ Some d → slice_get owners.now k ≡ Some p
@@ -107,7 +115,8 @@ fn mark_owned(flags: &mut [bool], claims: &[Claim<'_>], owners: &[Option<u32>])
     }
 }
 
-/// The path of a claim that no member owns. The claim is the first of its path.
+/// The path of a claim, which is the first of its path, with the path's rivals; none where the
+/// first member beats all others.
 fn contested_from<'a, C: Contest>(
     contest: &C,
     claims: &[Claim<'a>],
@@ -129,7 +138,7 @@ fn contested_from<'a, C: Contest>(
     }
 }
 
-/// The first path that no member owns.
+/// The first path in byte order that no member owns, with its rivals.
 fn first_contested<'a, C: Contest>(
     contest: &C,
     claims: &[Claim<'a>],
@@ -153,7 +162,8 @@ fn first_contested<'a, C: Contest>(
     None
 }
 
-/// The flags of claims by their numbers, which say whether a claim's member is the owner.
+/// The flags of claims by their numbers, which say whether a claim's member is the owner of its
+/// path.
 fn owned_flags(
     alloc: Global,
     claims: &[Claim<'_>],
@@ -191,14 +201,18 @@ pub fn owners_of<'a, C: Contest>(
 ) -> Result<Owners<'a>, AllocError>
     requires one_way { IsOneWay (C.beats contest.now) }
     requires numbered { AreNumbered (map claim_seen claims.items) }
+    // The claims in the order of their paths, those of one path in the order that they had.
     ensures claims { IfOk result (λ found. map claim_seen found.claims.items
         ≡ sorted_by claim_cmp (map claim_seen claims.entry.items)) }
+    // For each of these the place of the member that owns its path, or none.
     ensures owners { IfOk result (λ found. found.owners.items
         ≡ map (λ c. owner_by (C.beats contest.now) (map claim_seen claims.entry.items) c.path)
         (map claim_seen found.claims.items)) }
+    // For each claim, in the order that the claims had, whether its member owns its path.
     ensures owned { IfOk result (λ found. found.owned.items
         ≡ map (is_owner_by (C.beats contest.now) (map claim_seen claims.entry.items))
         (map claim_seen claims.entry.items)) }
+    // The first path in byte order that no member owns, with its rivals.
     ensures contested { IfOk result (λ found. option_map contested_seen found.contested
         ≡ contested_by (C.beats contest.now) (map claim_seen claims.entry.items)) }
 {
@@ -215,7 +229,8 @@ pub fn owners_of<'a, C: Contest>(
     })
 }
 
-/// Two members that claim a path, each of which beats every other one, are one member.
+/// Two members that claim a path, each of which beats every other one, are one member: so no path
+/// has two owners.
 pub fn a_path_has_one_owner()
     ensures { (beats : ℕ → ℕ → Bool) (members : List ℕ) (x y : ℕ) → IsOneWay beats
         → list_any (λ z. x == z) members ≡ true → list_any (λ z. y == z) members ≡ true

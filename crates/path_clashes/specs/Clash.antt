@@ -1,4 +1,5 @@
 -- Names after a change of which one is a folder of another.
+-- The rule stands in `docs/commands.md`, "What a change does with files", test 2.
 use Rattle.std.specs.Prelude.{◌≡◌, ℕ, Bool, true, not, ◌&&◌, ◌||◌, List, bytes_eq, is_some}
 use Rattle.base_core.specs.Files.{Files, IsFolderOf}
 use Rattle.list_order.specs.ByteOrder.{precedes}
@@ -8,7 +9,8 @@ pub record NameChange : Type 0 where
   pub counts_as_written : List ℕ → Bool
   pub lets_go : List ℕ → Bool
 
--- a file stands under the name and does not go, or the name counts as written
+-- whether a name is there after the change: a file stands under it and does not go, or it counts as
+-- written
 abbrev pub is_name_after : NameChange → Files → List ℕ → Bool
 is_name_after change files name =
     (is_some (files name) && not (change.lets_go name)) || change.counts_as_written name
@@ -18,20 +20,20 @@ pub record NamePair : Type 0 where
   pub path : List ℕ
   pub other : List ℕ
 
--- the first is a folder of the second, both are there after the change, and at least one of them
--- counts as written
+-- a clash: the first name is a folder of the second, both are there after the change, and at least
+-- one of them counts as written
 pub record IsClash (change : NameChange) (files : Files) (pair : NamePair) : Type 0 where
   pub folder : IsFolderOf pair.path pair.other
   pub path_after : is_name_after change files pair.path ≡ true
   pub other_after : is_name_after change files pair.other ≡ true
   pub written : (change.counts_as_written pair.path || change.counts_as_written pair.other) ≡ true
 
--- by path, then by other
+-- the order of pairs: by the first name, and at equal ones by the second
 abbrev pub precedes_pair : NamePair → NamePair → Bool
 precedes_pair a b =
     precedes a.path b.path || (bytes_eq a.path b.path && precedes a.other b.other)
 
--- no clash comes before this one
+-- the first clash: no clash comes before it
 pub record IsFirstClash (change : NameChange) (files : Files) (pair : NamePair) : Type 0 where
   pub is_one : IsClash change files pair
   pub first : (other : NamePair) → IsClash change files other → precedes_pair other pair ≡ true → ⊥

@@ -1,7 +1,8 @@
 -- What a clash of the program stands for.
+-- No rule of a document: serves the contracts of `src/clash.rt`.
 use Rattle.path_clashes.specs.Clash.{NamePair}
 use Rattle.path_clashes.specs.declared.clash.Clash.{Clash}
 
--- both names as texts
+-- a clash as contracts see it: both names as texts
 abbrev pub clash_seen : Clash → NamePair
 clash_seen clash = record { path = clash.path; other = clash.other }

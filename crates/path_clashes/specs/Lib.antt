@@ -1,3 +1,6 @@
+-- The definitions of this crate, whose rule stands in `docs/commands.md`, "What a change does
+-- with files", test 2.
+
 -- what the contract of `apk` says
 pub mod Clash
 pub mod FirstClash

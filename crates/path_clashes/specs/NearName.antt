@@ -1,25 +1,28 @@
 -- What is looked for near one name that counts as written: folders above it, names below it.
+-- No rule of a document: serves the contracts of `src/near.rt` and `clash_near` in `src/clash.rt`.
+-- That a clash has a written name, near which it is found, follows from *IsClash*.
 use Rattle.std.specs.Prelude.{◌≡◌, ◌⊎◌, ◌≤◌, ℕ, Bool, true, false, not, ◌&&◌, if◌then◌else◌, List, [], Option, Some, None, IfSome, bytes_eq, is_some, length}
 use Rattle.base_core.specs.Files.{Files, IsFolderOf, no_names}
 use Rattle.list_order.specs.ByteOrder.{precedes}
 use Rattle.path_clashes.specs.Clash.{IsClash, NameChange, NamePair, is_name_after, precedes_pair}
 
--- a file stands under the name and does not go
+-- whether a file stands under the name and does not go
 abbrev pub is_standing : (List ℕ → Bool) → Files → List ℕ → Bool
 is_standing lets_go files name = is_some (files name) && not (lets_go name)
 
--- the name, where this holds
+-- the name, where a condition holds
 abbrev pub name_if : Bool → List ℕ → Option (List ℕ)
 name_if b name = if b then Some name else None
 
--- the files of which just this name, if there is one, is present
+-- files of which just this name, if there is one, is present
 abbrev pub files_with : Option (List ℕ) → Files
 files_with None q = None
 files_with (Some name) q = if bytes_eq q name then Some [] else None
 
 -- ---- above
 
--- a folder above the name that is there after the change; of those that are so long the shortest
+-- a folder above the name that is there after the change, of at least `len` bytes; of those that
+-- are so it is the shortest
 pub record IsShortestFolder (change : NameChange) (files : Files) (name : List ℕ) (len : ℕ)
     (folder : List ℕ) : Type 0 where
   pub above : IsFolderOf folder name
@@ -28,8 +31,8 @@ pub record IsShortestFolder (change : NameChange) (files : Files) (name : List �
   pub shortest : (other : List ℕ) → IsFolderOf other name → len ≤ length other
       → is_name_after change files other ≡ true → length folder ≤ length other
 
--- the shortest such folder of at least so many bytes; none, where no such one is a name after the
--- change
+-- what is found is the shortest folder above the name of at least `len` bytes that is there after
+-- the change; where none is found, there is none
 abbrev pub IsFolderFound : NameChange → Files → List ℕ → ℕ → Option (List ℕ) → Type 0
 IsFolderFound change files name len None =
     (other : List ℕ) → IsFolderOf other name → len ≤ length other
@@ -39,7 +42,7 @@ IsFolderFound change files name len (Some folder) =
 
 -- ---- below
 
--- the first of the names below a folder under which a file stands that does not go
+-- the first in byte order of the names below a folder under which a file stands that does not go
 pub record IsFirstBelow (lets_go : List ℕ → Bool) (files : Files) (folder name : List ℕ)
     : Type 0 where
   pub below : IsFolderOf folder name
@@ -47,7 +50,8 @@ pub record IsFirstBelow (lets_go : List ℕ → Bool) (files : Files) (folder na
   pub first : (other : List ℕ) → IsFolderOf folder other
       → is_standing lets_go files other ≡ true → precedes other name ≡ false
 
--- the first such name; none, where nothing stands below the folder but what is let go
+-- what is found is the first such name; where none is found, nothing stands below the folder but
+-- what is let go
 abbrev pub IsNameFound : (List ℕ → Bool) → Files → List ℕ → Option (List ℕ) → Type 0
 IsNameFound lets_go files folder None =
     (other : List ℕ) → IsFolderOf folder other → is_standing lets_go files other ≡ true → ⊥
@@ -55,28 +59,29 @@ IsNameFound lets_go files folder (Some name) = IsFirstBelow lets_go files folder
 
 -- ---- pairs with the name
 
--- the first of two pairs, where there are two
+-- the earlier of two pairs, where there are two; else the one that there is
 abbrev pub earlier_pair : Option NamePair → Option NamePair → Option NamePair
 earlier_pair None other = other
 earlier_pair (Some one) None = Some one
 earlier_pair (Some one) (Some other) = if precedes_pair other one then Some other else Some one
 
--- it is a clash, if there is a pair
+-- what is found is a clash, if it is a pair
 abbrev pub IsClashIfSome : NameChange → Files → Option NamePair → Type 0
 IsClashIfSome change files None = Unit {0}
 IsClashIfSome change files (Some pair) = IsClash change files pair
 
--- there is a pair, and the other one does not come before it
+-- a pair is found, and the other one does not come before it
 abbrev pub IsNotBefore : NamePair → Option NamePair → Type 0
 IsNotBefore other None = ⊥
 IsNotBefore other (Some pair) = precedes_pair other pair ≡ false
 
--- if the other pair is a clash, there is a pair, and the other one does not come before it
+-- if the other pair is a clash, a pair is found, and the other one does not come before it
 abbrev pub IsNoEarlierClash : NameChange → Files → Option NamePair → NamePair → Type 0
 IsNoEarlierClash change files found other = IsClash change files other → IsNotBefore other found
 
--- Of the clashes with a name the first: with the folders above it, but those also above the name
--- before it, and with the names below it; nothing is said where the name before is the same one.
+-- what is found is the first of the clashes with a name: with the folders above it, but those also
+-- above the name before it, and with the names below it; nothing is said where the name before is
+-- the same one
 pub record IsClashNear (change : NameChange) (files : Files) (before name : List ℕ)
     (found : Option NamePair) : Type 0 where
   pub is_one : IsClashIfSome change files found
@@ -88,15 +93,17 @@ pub record IsClashNear (change : NameChange) (files : Files) (before name : List
 
 -- ---- over a tree whose files no contract knows
 
--- over some files it is a clash; a folder that is not written is not above the name before
+-- over some files the pair is a clash; and its first name counts as written, or is not above the
+-- name before
 pub record IsFreshClash (change : NameChange) (before name : List ℕ) (pair : NamePair) : Type 0 where
   pub files : Files
   pub is : IsClash change files pair
   pub fresh : (change.counts_as_written pair.path ≡ true)
       ⊎ ((IsFolderOf pair.path before → ⊥) × (pair.other ≡ name))
 
--- A clash with a name may have been found. Of the clashes that written names make by themselves no
--- one with a folder above it comes before, but for folders that are also above the name before it.
+-- over any tree: what is found is a clash with a name over some files, if it is a pair. Of the
+-- clashes that written names make by themselves no one with a folder above the name comes before
+-- it, but for folders that are also above the name before it
 pub record MayBeClashNear (change : NameChange) (before name : List ℕ)
     (found : Option NamePair) : Type 0 where
   pub one : IfSome found (IsFreshClash change before name)

@@ -1,4 +1,6 @@
 //! The first clash of a change, which says under which names it lets a file go.
+//! The rule stands in `docs/commands.md`, "What a change does with files", test 2: "No name may be
+//! a folder of another one afterwards", and the first pair in byte order is reported.
 
 ghost use Rattle.std.specs.Prelude.{◌≡◌, ◌<◌, ◌≤◌, ℕ, List, true, IfOk, All, length, map, option_map, take, Bool, Option, IsSome};
 ghost use Rattle.std.specs.List.Sorted.{IsSorted};
@@ -23,11 +25,14 @@ use std::alloc::{AllocError, Global};
 /// Two names after a change, of which the first is a folder of the second.
 #[derive(Drop)]
 pub struct Clash {
+    /// The name that is a folder of the other.
     pub path: Name,
+    /// The name that lies below it.
     pub other: Name,
 }
 
-/// Whether the first clash comes before the second.
+/// Whether the first of two clashes comes before the second: by its first name, and at equal ones
+/// by its second.
 fn comes_before(one: &Clash, other: &Clash) -> bool
     ensures { result ≡ precedes_pair (clash_seen one.now) (clash_seen other.now) }
 {
@@ -36,7 +41,7 @@ fn comes_before(one: &Clash, other: &Clash) -> bool
     by_path.then(by_other).is_lt()
 }
 
-/// The first of two clashes, where there are two.
+/// The first of two clashes, where there are two; else the one that there is.
 fn first_of(one: Option<Clash>, other: Option<Clash>) -> Option<Clash>
     ensures { option_map clash_seen result
         ≡ earlier_pair (option_map clash_seen one) (option_map clash_seen other) }
@@ -54,7 +59,7 @@ fn first_of(one: Option<Clash>, other: Option<Clash>) -> Option<Clash>
     }
 }
 
-/// The bytes of a path.
+/// The bytes of a path, whose folder and name are joined by `/`; the root's name is empty.
 fn path_bytes(alloc: Global, path: &FilePath<'_>) -> Result<Vec<u8>, AllocError>
     ensures { IfOk result (λ bytes. bytes.items ≡ joined_path path.now) }
 {
@@ -72,6 +77,7 @@ fn common_len(one: &[u8], other: &[u8]) -> usize
     ensures one { result ≤ length one.now }
     ensures other { result ≤ length other.now }
     ensures same { take result one.now ≡ take result other.now }
+    // A folder that stands above both is shorter than that, since both have the `/` behind it.
     ensures folders { (folder : List ℕ) → IsFolderOf folder one.now
         → IsFolderOf folder other.now → length folder < result }
 {
@@ -82,9 +88,9 @@ fn common_len(one: &[u8], other: &[u8]) -> usize
     len
 }
 
-/// The first clash of a path that is written, with the names above it and below it. The folders
-/// that are also above the path before it were looked at with that one, and so was all where the
-/// two are the same.
+/// The first clash of a path that is written (`bytes`), with the names above it and below it. The
+/// folders that are also above the path before it (`before`) were looked at with that one, and so
+/// was all where the two are the same.
 fn clash_near<T: Tree, G: LetGo>(
     alloc: Global,
     tree: &mut T,
@@ -96,15 +102,18 @@ fn clash_near<T: Tree, G: LetGo>(
     requires sorted { IsSorted bytes_cmp (map joined_path written.now) }
     requires names { All IsName (map joined_path written.now) }
     requires written { is_path_of written.now bytes.now ≡ true }
+    // Over the files of a tree that tells them.
     ensures near { IfOk result (λ found. IfObservable (T.history tree.old) (λ v.
         IsClashNear (change_by_paths written.now (G.lets_go let_go.now)) (files_of v)
         before.now bytes.now (option_map clash_seen found))) }
+    // Over any tree, also one that shows no files.
     ensures may { IfOk result (λ found. MayBeClashNear
         (change_by_paths written.now (G.lets_go let_go.now))
         before.now bytes.now (option_map clash_seen found)) }
     ensures tree { OnlyReads TreeFault.Disk (T.history tree.old) (T.history tree.new)
         (T.counts tree.old) (T.counts tree.new) result }
 {
+    // All clashes of this name were looked for with the path before it.
     if before == bytes {
         return Ok(None);
     }
@@ -136,9 +145,12 @@ pub fn first_clash<T: Tree, G: LetGo>(
 ) -> Result<Option<Clash>, TreeFault>
     requires sorted { IsSorted bytes_cmp (map joined_path written.now) }
     requires names { All IsName (map joined_path written.now) }
+    // Over the files of a tree that tells them.
     ensures first { IfOk result (λ found. IfObservable (T.history tree.old) (λ v.
         IsClashOf (change_by_paths written.now (G.lets_go let_go.now)) (files_of v)
         (option_map clash_seen found))) }
+    // Over any tree, also one that shows no files: it is the first clash over some files, or there
+    // is none over some.
     ensures may { IfOk result (λ found. MayBeClashOf
         (change_by_paths written.now (G.lets_go let_go.now)) (option_map clash_seen found)) }
     ensures tree { OnlyReads TreeFault.Disk (T.history tree.old) (T.history tree.new)
@@ -157,6 +169,7 @@ pub fn first_clash<T: Tree, G: LetGo>(
 
 /// Which files a change lets go of, by their names.
 pub trait LetGo {
+    // Whether a file under a name goes, as contracts say it.
     ghost lets_go: { Self → List ℕ → Bool };
 
     /// Whether a file under this name goes.
@@ -164,7 +177,8 @@ pub trait LetGo {
         ensures { result ≡ Self.lets_go self.now name.now };
 }
 
-/// Where a change has no clash, none of the names that are there after it is a folder of another.
+/// Where a change has no clash, none of the names that are there after it is a folder of another:
+/// so the files after it can stand in a file system.
 pub fn files_without_a_clash_are_folder_like()
     ensures files { (change : NameChange) (files after : Files) → IsFolderLike files
         → HasNoClash change files
@@ -176,13 +190,15 @@ pub fn files_without_a_clash_are_folder_like()
         → IsFolderLike after }
 {}
 
-/// A change has one first clash, or none.
+/// A change has one first clash, or none: so what is refused is one function of the change and the
+/// files.
 pub fn a_change_has_one_first_clash()
     ensures { (change : NameChange) (files : Files) (one other : Option NamePair)
         → IsClashOf change files one → IsClashOf change files other → one ≡ other }
 {}
 
-/// Changes that say the same of each name have the same first clash.
+/// Changes that say the same of each name have the same first clash: so names may be given as lists
+/// or by claims.
 pub fn changes_that_agree_clash_alike()
     ensures { (one other : NameChange) (files : Files) (found : Option NamePair)
         → ((name : List ℕ) → one.counts_as_written name ≡ other.counts_as_written name)

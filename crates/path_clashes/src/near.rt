@@ -1,4 +1,7 @@
 //! The names above and below one name that are there after a change.
+//! The rule stands in `docs/commands.md`, "What a change does with files", test 2: which names
+//! there are afterwards. That no others are looked at is said by the README of this crate, third
+//! paragraph.
 
 ghost use Rattle.std.specs.Prelude.{◌≡◌, true, false, not, IfOk, List, All, map};
 ghost use Rattle.std.specs.List.{find};
@@ -18,7 +21,7 @@ use adb_fields::FilePath;
 use base_core::{Name, Names, Tree, TreeFault};
 use std::alloc::{AllocError, Global};
 
-/// Whether a name is one of these paths.
+/// Whether a name is one of these paths, found by halving.
 fn is_path_of(paths: &[FilePath<'_>], name: &[u8]) -> bool
     requires { IsSorted bytes_cmp (map joined_path paths.now) }
     ensures { result ≡ is_path_of paths.now name.now }
@@ -27,7 +30,8 @@ fn is_path_of(paths: &[FilePath<'_>], name: &[u8]) -> bool
     paths.binary_search_by(|other| other.compare(&path)).is_ok()
 }
 
-/// Whether a file stands under a name and does not go.
+/// Whether a file stands under a name and does not go. The tree is not asked where the change lets
+/// the file go.
 fn is_standing<T: Tree, G: LetGo>(tree: &mut T, let_go: &G, name: &Name) -> Result<bool, TreeFault>
     ensures answer { IfOk result (λ standing. IfObservable (T.history tree.old) (λ v.
         standing ≡ is_standing (G.lets_go let_go.now) (files_of v) name.now)) }
@@ -43,7 +47,8 @@ fn is_standing<T: Tree, G: LetGo>(tree: &mut T, let_go: &G, name: &Name) -> Resu
     Ok(size.is_some())
 }
 
-/// The folder's name, if it is there after the change.
+/// The name of a folder, if the name is there after the change: it is written, or a file stands
+/// under it and does not go.
 fn folder_after<T: Tree, G: LetGo>(
     alloc: Global,
     tree: &mut T,
@@ -71,8 +76,8 @@ fn folder_after<T: Tree, G: LetGo>(
     Ok(None)
 }
 
-/// The first folder above a name that is there after the change, of those that have this length or
-/// more.
+/// The shortest folder above a name that is there after the change, of those that have this length
+/// or more.
 pub(crate) fn first_folder<T: Tree, G: LetGo>(
     alloc: Global,
     tree: &mut T,
@@ -102,7 +107,7 @@ pub(crate) fn first_folder<T: Tree, G: LetGo>(
     Ok(None)
 }
 
-/// The first of several names under which a file does not go.
+/// The first of several names under which a file does not go; none where all go.
 fn first_to_stay<G: LetGo>(
     alloc: Global,
     names: &Names,
@@ -120,7 +125,7 @@ fn first_to_stay<G: LetGo>(
     Ok(None)
 }
 
-/// The first name below a folder under which a file stands that does not go.
+/// The first name in byte order below a folder under which a file stands that does not go.
 pub(crate) fn first_below<T: Tree, G: LetGo>(
     alloc: Global,
     tree: &mut T,
@@ -134,6 +139,7 @@ pub(crate) fn first_below<T: Tree, G: LetGo>(
     ensures tree { OnlyReads TreeFault.Disk (T.history tree.old) (T.history tree.new)
         (T.counts tree.old) (T.counts tree.new) result }
 {
+    // The tree lists names in byte order.
     let names = tree.list(alloc, folder)?;
     let first = first_to_stay(alloc, &names, let_go)?;
     Ok(first)

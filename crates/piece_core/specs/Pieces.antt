@@ -1,4 +1,6 @@
 -- The contents of a package's files in pieces, or the first failed test.
+-- The rules stand in `docs/formats.md`, "The other blocks", the paragraph of pieces; the tests in the
+-- paragraph of blocks of contents above it.
 use Rattle.std.specs.Prelude.{ℕ, zero, suc, ◌-◌, ◌/◌, ◌==◌, ◌++◌, nat_lt, Bool, true, false, not, if◌then◌else◌, List, [], ◌∷◌, length, take, drop, Option, Some, None}
 use Rattle.base_core.specs.declared.cause.Cause.{Cause}
 use Rattle.base_core.specs.declared.cause.Cause.TheVariants.{Truncated, DataOrder, DataSize}
@@ -19,34 +21,36 @@ pub data PiecesRead : Type 0 where
 
 -- ---- one file
 
--- a piece of a file that is expected, and whether it is its last one
+-- the part that a piece is: of this expected file, and whether it is the file's last piece
 abbrev pub part_of : Expected → Bool → Part
 part_of e last = record { path = e.folder; file = e.file; last = last }
 
--- the last piece is there only where the digest of all bytes is right
+-- the last piece of a file, and then further ones; it is there only where the digest of all bytes is
+-- right, and else the fault in its place
 abbrev pub last_piece : Expected → Option Cause → List ℕ → PiecesRead → PiecesRead
 last_piece e None bytes further = piece (part_of e true) bytes further
 last_piece e (Some c) bytes further = refusal c
 
--- so many whole pieces, and then the last one
+-- the pieces of bytes of a file: so many whole ones, then the last one, and then further pieces of
+-- other files
 abbrev pub pieces_from : ℕ → Expected → Option Cause → List ℕ → PiecesRead → PiecesRead
 pieces_from zero e digest bytes further = last_piece e digest bytes further
 pieces_from (suc n) e digest bytes further =
     piece (part_of e false) (take PIECE_LEN bytes)
     (pieces_from n e digest (drop PIECE_LEN bytes) further)
 
--- of so many bytes, how many whole pieces stand in front of the last one, which is not empty
+-- how many whole pieces of a file of so many bytes stand in front of its last one, which is not empty
 abbrev pub whole_pieces : ℕ → ℕ
 whole_pieces len = (len - 1) / PIECE_LEN
 
--- the pieces of a file's bytes
+-- the pieces of all bytes of a file, and then further ones
 abbrev pub pieces_of_bytes : Expected → List ℕ → PiecesRead → PiecesRead
 pieces_of_bytes e bytes further =
     pieces_from (whole_pieces (length bytes)) e (hash_fault e.hash bytes) bytes further
 
 -- ---- one block
 
--- what is tested before the first piece: the positions, then the size
+-- the first failed test before a file's first piece: the positions, then the size
 abbrev pub position_or_size_fault : List ℕ → Expected → Option Cause
 position_or_size_fault payload e =
     if not (has_positions_of payload e) then Some (DataOrder (e.folder, e.file) (file_pair payload))
@@ -54,19 +58,21 @@ position_or_size_fault payload e =
     then Some (DataSize e.size (length (contents_bytes payload)))
     else None
 
--- behind a failed test nothing comes
+-- the pieces, unless a test failed; then its fault in their place
 abbrev pub unless_refusal : Option Cause → PiecesRead → PiecesRead
 unless_refusal None pieces = pieces
 unless_refusal (Some c) pieces = refusal c
 
--- against the file that is expected next; (0, 0) where there is none
+-- the pieces of a payload of contents against the file that is expected next, and then further ones;
+-- where none is expected any contents are out of order, and (0, 0) was expected
 abbrev pub pieces_of_payload : List ℕ → (List Expected → PiecesRead) → List Expected → PiecesRead
 pieces_of_payload payload further [] = refusal (DataOrder (0, 0) (file_pair payload))
 pieces_of_payload payload further (e ∷ es) =
     unless_refusal (position_or_size_fault payload e)
     (pieces_of_bytes e (contents_bytes payload) (further es))
 
--- a block at an offset
+-- the pieces from a block at an offset on, `further` being those behind it; a block that is no contents
+-- is passed over, and one of contents has the 8 bytes of the positions
 abbrev pub pieces_at_block : BlockKind → List ℕ → ℕ → (List Expected → PiecesRead) → List Expected
     → PiecesRead
 pieces_at_block Kinds.Contents payload at further es =
@@ -76,14 +82,14 @@ pieces_at_block kind payload at further es = further es
 
 -- ---- all of them
 
--- what the blocks give in pieces, of the files that are expected
+-- the pieces that the blocks give, against the files that are expected
 unfoldable pub pieces_by_blocks : List Expected → Reading → PiecesRead
 pieces_by_blocks es done = unless_refusal (missing_fault es) no_piece
 pieces_by_blocks es (fault c) = refusal c
 pieces_by_blocks es (more b at r) =
     pieces_at_block b.kind b.payload at (λ left. pieces_by_blocks left r) es
 
--- the first failed test
+-- the fault that ended the pieces, if one did
 abbrev pub refusal_in : PiecesRead → Option Cause
 refusal_in no_piece = None
 refusal_in (refusal c) = Some c
@@ -91,14 +97,15 @@ refusal_in (piece part bytes pieces) = refusal_in pieces
 
 -- ---- joined
 
--- a file is whole with its last part; until then its bytes are gathered
+-- the files from a piece on, where these bytes of its file were gathered: the file is given with its
+-- last part, and until then `further` goes on with the bytes
 abbrev pub file_given : Part → List ℕ → (List ℕ → FilesRead) → FilesRead
 file_given part bytes further =
     if part.last
     then given (record { folder = part.path; file = part.file; bytes = bytes }) (further [])
     else further bytes
 
--- the files whose pieces they are, behind these bytes of the first one
+-- the files whose pieces these are, where these bytes of the first file were gathered before
 abbrev pub files_joined : PiecesRead → List ℕ → FilesRead
 files_joined no_piece so_far = no_more
 files_joined (refusal c) so_far = refused c

@@ -1,5 +1,7 @@
 //! A file of a package whose contents are handed in piece by piece, and what each piece is a part
 //! of.
+//! The rules stand in `docs/formats.md`, "The other blocks", the paragraph of pieces; the tests in
+//! the paragraph of blocks of contents above it.
 
 ghost use Rattle.std.specs.Prelude.{◌≡◌, ◌<◌, ◌≤◌, ◌+◌, ◌-◌, ℕ, List, [], ◌∷◌, ◌++◌, length, take, None, IfNone, IfOk, IfSome};
 ghost use Rattle.adb_schema.specs.Soundness.{file_pair};
@@ -14,15 +16,19 @@ use adb_schema::file_pair;
 use base_core::Cause;
 use pkg_core::{Walk, Wanted};
 
-/// The bytes in front of a file's own in its contents: the positions of its folder and of itself.
+/// 8: the bytes in front of a file's own in its contents, which are the positions of its folder and
+/// of itself, four bytes each.
 const POSITIONS_LEN: u64 = 8;
 
 /// The check of a file whose contents are handed in: which one is due, and how many of its bytes
 /// were taken. Contracts see, by `Taking` of `specs/`, which bytes these were.
 #[derive(Drop)]
 pub struct FileCheck<'a> {
+    /// The file that is due.
     wanted: Wanted<'a>,
+    /// How many of its bytes were taken.
     done: u64,
+    /// What the bytes so far come to.
     hasher: Hasher,
 }
 
@@ -58,12 +64,14 @@ impl<'a> FileCheck<'a> {
     #[tactic(auto, using(crate::proofs::Taken::more_left, crate::proofs::Taken::last_good, crate::proofs::Taken::last_bad))]
     pub fn take(self, bytes: &[u8]) -> Result<(Part, Option<FileCheck<'a>>), Cause>
         requires { length bytes.now ≡ next_len self }
+        // Of a file of which `so_far` was taken these bytes are the next piece, and `left` stays.
         ensures taken { (so_far left : List ℕ) (further : PiecesRead) → HasTaken self.entry so_far
             → length (so_far ++ (bytes.now ++ left)) ≡ self.entry.wanted.size
             → IsTaken self.entry so_far bytes.now left further result }
         // Behind the last piece all bytes that were taken have the file's digest.
         ensures digest { (so_far : List ℕ) → HasTaken self.entry so_far → IfOk result (λ taken.
             IsTested self.entry.wanted.hash.now (so_far ++ bytes.now) taken.1) }
+        // The piece is a part of this file, and its bytes are taken off what is to come.
         ensures part { IfOk result (IsPartOf self.entry) }
         ensures left { IfOk result (λ taken. IfSome taken.1 (λ further.
             file_bytes_left further ≡ file_bytes_left self.entry - length bytes.now)) }
@@ -94,7 +102,7 @@ impl<'a> FileCheck<'a> {
     }
 }
 
-/// A part of this file.
+/// The part that a piece of this file is, the last one or another.
 fn part_of(wanted: Wanted<'_>, last: bool) -> Part
     ensures { result ≡ part_of (expected_of wanted.entry) last }
 {
@@ -118,6 +126,7 @@ pub fn open_file<'a>(
     positions: &[u8; 8],
 ) -> Result<FileCheck<'a>, Cause>
     requires { 8 ≤ len }
+    // Of each payload of this length that begins with these positions.
     ensures opened { (payload : List ℕ) (further : List Expected → PiecesRead)
         → length payload ≡ len → take 8 payload ≡ positions.now
         → IsOpened (pieces_of_payload payload further (left_in walk.old)) payload
@@ -160,15 +169,18 @@ fn position_or_size_fault(found: (u32, u32), size: u64, wanted: Wanted<'_>) -> O
     None
 }
 
-/// How many bytes a piece has at most.
+/// How many bytes a piece has at most, which is what is held of a file's contents at once.
 pub const PIECE_LEN: usize = 65536;
 
-/// Which file a piece is a part of, by the position of its folder and its position in the folder,
-/// which count from 1, and whether it is the last piece of the file.
+/// Which file a piece is a part of, by the position of its folder (`path`) and its position in the
+/// folder, which count from 1, and whether the piece is the last one of the file.
 #[derive(Clone, Copy, Debug, PartialEq, Eq)]
 pub struct Part {
+    /// The position of the folder.
     pub path: u32,
+    /// The position of the file in the folder.
     pub file: u32,
+    /// Whether it is the last piece of the file.
     pub last: bool,
 }
 

@@ -1,4 +1,5 @@
 //! A digest that is taken piece by piece.
+//! The rules stand in `docs/formats.md`, "The other blocks", the digests.
 
 ghost use Rattle.std.specs.Prelude.{◌≡◌, ℕ, List, [], ◌++◌};
 ghost use Rattle.pkg_core.specs.Contents.{hash_fault};
@@ -13,14 +14,19 @@ use sha2::{Digest, Sha256, Sha512};
 /// A digest of another length is not looked at.
 #[derive(Drop)]
 pub enum Hasher {
+    /// For a digest of 20 bytes.
     Sha1(Sha1),
+    /// For a digest of 32 bytes.
     Sha256(Sha256),
+    /// For a digest of 64 bytes.
     Sha512(Sha512),
+    /// For a digest of another length: nothing is compared.
     Other,
 }
 
 impl Hasher {
-    /// A hasher that is to be compared with this digest, before the first byte.
+    /// A hasher whose digest is to be compared with this one, before the first byte. The lengths
+    /// are those of SHA-1, SHA-256 and SHA-512.
     #[tactic(auto, unfolding(pkg_core::specs::Contents::hash_fault))]
     pub fn new(hash: &[u8]) -> Hasher
         ensures { HoldsFor result hash.now [] }
@@ -33,7 +39,7 @@ impl Hasher {
         }
     }
 
-    /// Takes further bytes.
+    /// Takes further bytes of the message.
     pub fn update(&mut self, bytes: &[u8])
         ensures { (hash so_far : List ℕ) → HoldsFor self.old hash so_far
             → HoldsFor self.new hash (so_far ++ bytes.now) }
@@ -46,7 +52,7 @@ impl Hasher {
         }
     }
 
-    /// Why the bytes so far do not have the digest, if they do not.
+    /// Why the bytes that were taken do not have the digest, if they do not.
     #[tactic(auto, unfolding(pkg_core::specs::Contents::hash_fault))]
     pub fn fault(self, hash: &[u8]) -> Option<Cause>
         ensures { (so_far : List ℕ) → HoldsFor self hash.now so_far

@@ -7,6 +7,7 @@
 //! told. The contracts cite `Pieces` (what the blocks of a package give in pieces), `Hashing` (what
 //! a hasher has taken), `Taking` (where a file stands) and `Places` (where a reader stands in the
 //! blocks) of `specs/`.
+//! The rules stand in `docs/formats.md`, "The other blocks".
 #![tactic(auto)]
 
 mod file;

@@ -1,4 +1,5 @@
 //! Where a reader stands in the blocks of a package, and what the next block comes to.
+//! The rules stand in `docs/formats.md`, "The other blocks"; the framing of a block in "Container".
 
 ghost use Rattle.std.specs.Prelude.{◌≡◌, ◌≤◌, ◌+◌, ◌-◌, ℕ, List, None, Some, Ok, length, drop, IfOk, IfSome, OnOk};
 ghost use Rattle.adb_block.specs.Framing.{ended};
@@ -12,8 +13,8 @@ use adb_block::{BlockKind, Frame, padding_of};
 use base_core::Cause;
 use pkg_core::Walk;
 
-/// How many bytes stand in front of a file's own in its contents: the positions of its folder and
-/// of itself.
+/// 8: the bytes in front of a file's own in its contents, which are the positions of its folder and
+/// of itself, four bytes each.
 const POSITIONS_LEN: u64 = 8;
 
 /// Where a reader stands in the blocks of a package behind the first one: in a file of `len` bytes,
@@ -21,9 +22,13 @@ const POSITIONS_LEN: u64 = 8;
 /// whose contents are due.
 #[derive(Clone, Copy)]
 pub struct BlockPlace<'a> {
+    /// How many bytes the file has.
     pub len: u64,
+    /// The files whose contents are due.
     pub walk: Walk<'a>,
+    /// The kind of the block before.
     pub last: BlockKind,
+    /// The offset of the next block.
     pub at: u64,
 }
 
@@ -48,8 +53,10 @@ impl<'a> BlockPlace<'a> {
     /// `Truncated` where contents have fewer than eight bytes; those of `open_file`; and
     /// `DataOrder` with (0, 0) where no block is left and a file is due.
     pub fn step(&mut self, framing: Option<Frame>, positions: &[u8; 8]) -> Result<Step<'a>, Cause>
+        // The place, and the block that stands there, lie within the file.
         requires at { self.old.at ≤ self.old.len }
         requires fits { IfSome framing (λ frame. raw_size frame ≤ self.old.len - self.old.at) }
+        // For each file that is so long and has this block there.
         ensures step { (file : List ℕ) → length file ≡ self.old.len
             → IsFramed (Ok framing) (drop self.old.at file) (step_at self.old file)
             → HasPositions framing positions.now self.old file
@@ -59,6 +66,8 @@ impl<'a> BlockPlace<'a> {
         ensures behind { IfSome framing (λ frame. OnOk result (self.new.at
             ≡ self.old.at + whole_size frame (self.old.len - self.old.at))) }
         ensures within { self.new.at ≤ self.new.len }
+        // Of a file that is opened all bytes are to come; only contents open one, which is the next
+        // of the walk; and the end is told only where no block is left.
         ensures left { IfSome framing (λ frame. IfOk result (HasAllLeft frame)) }
         ensures kind { IfSome framing (λ frame. IfOk result (IsOfContents frame)) }
         ensures walk { IfOk result (λ step. WalksOn self.old.walk step self.new.walk) }
@@ -70,7 +79,8 @@ impl<'a> BlockPlace<'a> {
         }
     }
 
-    /// Where no block is left, no file may be due.
+    /// Ends the walk where no block is left: no file may be due then. The clauses are those of
+    /// `step`.
     #[tactic(auto, using(crate::proofs::Placed::end_good, crate::proofs::Placed::end_bad))]
     fn end(&mut self) -> Result<Step<'a>, Cause>
         ensures step { (file : List ℕ) → step_at self.old file ≡ ended
@@ -86,7 +96,8 @@ impl<'a> BlockPlace<'a> {
         }
     }
 
-    /// Goes on behind this block.
+    /// Goes on behind a block that is there: one of contents opens a file, and another is passed.
+    /// The clauses are those of `step`.
     fn step_over(&mut self, frame: Frame, positions: &[u8; 8]) -> Result<Step<'a>, Cause>
         requires at { self.old.at ≤ self.old.len }
         requires fits { raw_size frame ≤ self.old.len - self.old.at }
@@ -111,7 +122,7 @@ impl<'a> BlockPlace<'a> {
         }
     }
 
-    /// Opens the file whose contents this block holds.
+    /// Opens the file whose contents this block holds. The clauses are those of `step`.
     fn open(&mut self, frame: Frame, positions: &[u8; 8]) -> Result<Step<'a>, Cause>
         requires at { self.old.at ≤ self.old.len }
         requires fits { raw_size frame ≤ self.old.len - self.old.at }

@@ -1,4 +1,6 @@
 -- What was read of a block, and what it comes to.
+-- The rules stand in `docs/formats.md`, "The other blocks"; the framing of a block in "Container".
+-- Serves the contracts of `block`.
 use Rattle.std.specs.Prelude.{◌≡◌, ◌≤◌, ◌<◌, ℕ, ◌+◌, min, List, [], ◌∷◌, length, drop, Option, Some, None, Result, Ok, Err}
 use Rattle.adb_block.specs.Frames.{IsFramed, raw_size}
 use Rattle.adb_block.specs.declared.block.Frame.{Frame}
@@ -15,24 +17,25 @@ use Rattle.piece_reader.specs.declared.block.BlockStep.TheVariants.{End, Passed,
 use Rattle.piece_reader.specs.declared.piece.PieceFault.{PieceFault}
 use Rattle.piece_reader.specs.declared.piece.PieceFault.TheVariants.{Bad, Disk}
 
--- how many bytes stand in front of the payload
+-- how many bytes of a block stand in front of its payload
 abbrev pub head_size : Option Frame → ℕ
 head_size None = 0
 head_size (Some frame) = frame.head_len
 
--- what was seen of the payload: the positions, where there is room for them, else no more than the
--- payload has
+-- these bytes of a block's payload were seen: the positions, which are its first 8 bytes, where it has
+-- as many, else no more than it has
 abbrev pub SeesPositions : Option Frame → List ℕ → List ℕ → Type 0
 SeesPositions None positions seen = seen ≡ []
 SeesPositions (Some frame) positions seen =
     (length seen ≤ frame.payload_len) × (8 ≤ frame.payload_len → seen ≡ positions)
 
--- no more of a block was seen than its header and the positions
+-- no more bytes of a block were seen than its header and the 8 of the positions
 abbrev pub IsInBlock : Option Frame → ℕ → Type 0
 IsInBlock None seen = Unit {0}
 IsInBlock (Some frame) seen = seen ≤ frame.head_len + min 8 frame.payload_len
 
--- what was read of a block is what stands there; or the first failed test
+-- what was read of the block at a place of this file is what stands there; or it is the first failed
+-- test
 abbrev pub IsBlockRead : BlockPlace → List ℕ → Result BlockRead PieceFault → Type 0
 IsBlockRead place file (Ok read) =
     IsFramed (Ok read.framing) (drop place.at file) (step_at place file)
@@ -40,8 +43,8 @@ IsBlockRead place file (Ok read) =
 IsBlockRead place file (Err (Bad c)) = pieces_at place file ≡ refusal c
 IsBlockRead place file (Err Disk) = Unit {0}
 
--- what was read of a block, in a package that has it: no block is left, a block was passed, or the
--- contents of a file begin; or the first failed test
+-- what the reading of the block at a place answers for this package: no block is left, a block was
+-- passed, or the contents of a file begin; or the first failed test
 abbrev pub IsNextBlock : BlockPlace → List ℕ → Result BlockStep PieceFault → BlockPlace → Type 0
 IsNextBlock before file (Ok End) after = pieces_at before file ≡ no_piece
 IsNextBlock before file (Ok Passed) after = pieces_at before file ≡ pieces_at after file
@@ -50,20 +53,22 @@ IsNextBlock before file (Ok (Opened o)) after =
 IsNextBlock before file (Err (Bad c)) after = pieces_at before file ≡ refusal c
 IsNextBlock before file (Err Disk) after = Unit {0}
 
--- a reader stands further on then, and within the package, and so do the bytes to come of a file
+-- a reader stands further on behind a block, and within the package, and so do the bytes to come of a
+-- file that was opened
 abbrev pub GoesFurther : BlockPlace → BlockStep → BlockPlace → Type 0
 GoesFurther before End after = Unit {0}
 GoesFurther before Passed after = (before.at < after.at) × (after.at ≤ after.len)
 GoesFurther before (Opened o) after =
     (o.at + file_bytes_left o.file ≤ after.at) × (after.at ≤ after.len)
 
--- what was seen ends, at this offset, in front of what is read next
+-- what was seen ends, at this offset, no later than where the next read begins
 abbrev pub EndsBefore : ℕ → BlockStep → BlockPlace → Type 0
 EndsBefore end End after = Unit {0}
 EndsBefore end Passed after = end ≤ after.at
 EndsBefore end (Opened o) after = end ≤ o.at
 
--- the walk goes on behind the file that is opened; at the end no file is due
+-- the walk before and after a block: it goes on behind the file that is opened; at the end no file is
+-- due
 abbrev pub GoesOnWith : Walk → BlockStep → Walk → Type 0
 GoesOnWith before End after = left_in before ≡ []
 GoesOnWith before Passed after = after ≡ before

@@ -1,4 +1,6 @@
 -- A single file of a package that is read in pieces.
+-- The rules stand in `docs/formats.md`, "The other blocks", the paragraph of pieces. Serves the
+-- contracts of `FilePieces`.
 use Rattle.std.specs.Prelude.{◌≡◌, ◌<◌, ℕ, ◌+◌, ◌⊎◌, Bool, true, false, List, [], ◌++◌, length, Option, Some, None, option_map, Result, Ok, Err}
 use Rattle.base_core.specs.declared.cause.Cause.{Cause}
 use Rattle.pkg_core.specs.Contents.{Expected, hash_fault}
@@ -12,41 +14,43 @@ use Rattle.piece_reader.specs.declared.open.OpenFile.{OpenFile}
 
 -- ---- what it shows
 
--- the name of the package
+-- the name of the package that a file is read from
 abbrev pub package_of_file : FilePieces → List ℕ
 package_of_file file = file.name.now
 
--- how many bytes the package has
+-- how many bytes the package has that a file is read from
 abbrev pub len_around_file : FilePieces → ℕ
 len_around_file file = file.len
 
--- how many bytes of the file are still to be read; none where no file is open
+-- how many bytes of a file are still to be read; none where no file is open
 abbrev pub bytes_left_in : Option OpenFile → ℕ
 bytes_left_in None = 0
 bytes_left_in (Some o) = file_bytes_left o.file
 
--- how many bytes of the file are still to come
+-- how many bytes of a single file that is read are still to come
 abbrev pub bytes_left_of : FilePieces → ℕ
 bytes_left_of file = bytes_left_in file.opened
 
--- the positions, the size and the digest that its bytes are compared with; None where it has no
--- contents
+-- what the bytes of a file are compared with: its positions, its size and its digest, as the package
+-- lists them; None where it has no contents
 abbrev pub file_due : FilePieces → Option Expected
 file_due file = option_map expected_of file.due
 
--- the test that failed, if one did
+-- the fault of the test that failed in the reading of a file, if one did
 abbrev pub kept_fault : FilePieces → Option Cause
 kept_fault file = file.refused
 
 -- ---- which bytes of the package are still to come
 
--- no test failed, and of a package of these bytes those of the file that are left are still to come
+-- no test failed in the reading of a file, and from a package of these bytes the bytes `left` of the
+-- file are still to come
 abbrev pub IsFileReading : FilePieces → List ℕ → List ℕ → Type 0
 IsFileReading file pkg left = (file.refused ≡ None) × AreToCome file.opened pkg left
 
 -- ---- what is answered
 
--- these bytes are the next of those that are left, and the rest is still to come; or none is left
+-- what a call for the next piece answers where the tree shows the package: these bytes are the next of
+-- those that are left, and the rest is still to come; or none is left
 abbrev pub GivesBytes : (List ℕ → Type 0) → List ℕ → List ℕ → Result Bool PieceFault → Type 0
 GivesBytes AreToComeThen left bytes (Ok true) =
     (rest : List ℕ) × (left ≡ bytes ++ rest) × AreToComeThen rest
@@ -56,7 +60,7 @@ GivesBytes AreToComeThen left bytes (Err Disk) = Unit {0}
 
 -- ---- what the bytes are compared with, whatever the tree shows
 
--- the bytes have the size and the digest that are due; a file without contents has none
+-- the bytes have the size and the digest that are due; of a file without contents there are none
 abbrev pub AreAsDue : Option Expected → List ℕ → Type 0
 AreAsDue None bytes = bytes ≡ []
 AreAsDue (Some e) bytes = (length bytes ≡ e.size) × (hash_fault e.hash bytes ≡ None)
@@ -66,8 +70,8 @@ abbrev pub HaveOtherDigest : Option Expected → List ℕ → Cause → Type 0
 HaveOtherDigest None bytes c = ⊥
 HaveOtherDigest (Some e) bytes c = (length bytes ≡ e.size) × (hash_fault e.hash bytes ≡ Some c)
 
--- just these bytes were handed out: more are to come, or they are as is due; after a failed test
--- nothing is said
+-- just these bytes were handed out, by the state of a reader: more are to come, or they are as is due;
+-- after a failed test nothing is said
 abbrev pub HaveComeBy : Option Cause → Option OpenFile → Option Expected → List ℕ → Type 0
 HaveComeBy (Some c) opened due bytes = Unit {0}
 HaveComeBy None None due bytes = AreAsDue due bytes
@@ -77,9 +81,9 @@ HaveComeBy None (Some o) due bytes = HasTaken o.file bytes
 abbrev pub HaveCome : FilePieces → List ℕ → Type 0
 HaveCome file bytes = HaveComeBy (kept_fault file) file.opened (file_due file) bytes
 
--- What is answered behind these bytes: the piece comes behind them; or they are all, and as is due;
--- and no test failed then. Or with the piece they are all, and have another digest; or a test had
--- failed before.
+-- What a call answers when these bytes (`so_far`) were handed out before: the piece comes behind them;
+-- or they are all, and as is due; and no test failed then. Or with the piece they are all, and have
+-- another digest; or a test had failed before.
 abbrev pub ComesBehind : FilePieces → List ℕ → List ℕ → Result Bool PieceFault → FilePieces → Type 0
 ComesBehind old so_far bytes (Ok true) new =
     (kept_fault new ≡ None) × HaveCome new (so_far ++ bytes)
@@ -89,13 +93,14 @@ ComesBehind old so_far bytes (Err (Bad c)) new =
     (kept_fault old ≡ Some c) ⊎ HaveOtherDigest (file_due old) (so_far ++ bytes) c
 ComesBehind old so_far bytes (Err Disk) new = Unit {0}
 
--- the piece that came has so many bytes, and so many fewer are to come; or none is left
+-- the piece that came has so many bytes, at least one, and so many fewer are to come; or none came and
+-- none was left
 abbrev pub HasFewerLeft : FilePieces → ℕ → FilePieces → Bool → Type 0
 HasFewerLeft old len new true =
     (0 < len) × (bytes_left_of old ≡ len + bytes_left_of new)
 HasFewerLeft old len new false = bytes_left_of old ≡ 0
 
--- a failed test is kept
+-- a failed test is kept by the reader of a file
 abbrev pub HasRefusedFile : PieceFault → FilePieces → Type 0
 HasRefusedFile (Bad c) file = file.refused ≡ Some c
 HasRefusedFile Disk file = Unit {0}

@@ -1,4 +1,6 @@
 -- Where a reader of the pieces of a package stands, and what a call of it answers.
+-- The rules stand in `docs/formats.md`, "The other blocks", the paragraph of pieces; the order of the
+-- files in the paragraph above it. Serves the contracts of `PieceReader`.
 use Rattle.std.specs.Prelude.{◌≡◌, ℕ, ◌+◌, ◌-◌, if◌then◌else◌, List, [], ◌∷◌, is_none, Option, Some, None, IfSome, Result, Ok, Err}
 use Rattle.base_core.specs.declared.cause.Cause.{Cause}
 use Rattle.pkg_core.specs.Contents.{Expected}
@@ -19,68 +21,70 @@ use Rattle.piece_reader.specs.declared.reader.PieceReader.{PieceReader}
 
 -- ---- what a reader shows
 
--- the name of its package
+-- the name of the package that a reader reads
 abbrev pub name_in_tree : PieceReader → List ℕ
 name_in_tree reader = reader.name.now
 
--- how many bytes its package has
+-- how many bytes the package of a reader has
 abbrev pub package_len : PieceReader → ℕ
 package_len reader = reader.place.len
 
--- the offset of the byte that is read next
+-- the offset of the byte that is read next: in the file that is open, or else at the next block
 abbrev pub offset_in : BlockPlace → Option OpenFile → ℕ
 offset_in place None = place.at
 offset_in place (Some o) = o.at
 
--- the same of a reader
+-- the offset of the byte that a reader reads next
 abbrev pub offset_of : PieceReader → ℕ
 offset_of reader = offset_in reader.place reader.opened
 
--- the files whose last piece is still to come
+-- the files that are due: their last piece is still to come
 abbrev pub due_in : BlockPlace → Option OpenFile → List Expected
 due_in place None = left_in place.walk
 due_in place (Some o) = expected_of o.file.wanted ∷ left_in place.walk
 
--- behind the last block, and behind a failed test, no file is due
+-- the files that are due, by what is to come: behind the last block, and behind a failed test, none is
 abbrev pub due_by : Due → BlockPlace → Option OpenFile → List Expected
 due_by Files place opened = due_in place opened
 due_by Nothing place opened = []
 due_by (Refused c) place opened = []
 
--- the same of a reader
+-- the files of a reader whose last piece is still to come
 abbrev pub due_files : PieceReader → List Expected
 due_files reader = due_by reader.due reader.place reader.opened
 
--- no test failed, and the last block was not passed
+-- a reader goes on: no test failed, and the last block was not passed
 abbrev pub IsGoingOn : PieceReader → Type 0
 IsGoingOn reader = reader.due ≡ Files
 
--- and no file is open
+-- a reader goes on, and stands between two files: none is open
 abbrev pub StandsBetween : PieceReader → Type 0
 StandsBetween reader = IsGoingOn reader × (reader.opened ≡ None)
 
 -- ---- what is still to come, of a package of these bytes
 
--- those of the blocks from a place on, and in front of them the rest of the file that is open
+-- these pieces are those of the blocks from a place on, and in front of them those of what is left of
+-- the file that is open
 abbrev pub ArePiecesFrom : BlockPlace → Option OpenFile → List ℕ → PiecesRead → Type 0
 ArePiecesFrom place None pkg pieces = pieces ≡ pieces_at place pkg
 ArePiecesFrom place (Some o) pkg pieces =
     (so_far : List ℕ) × IsOpenFile o so_far pkg (pieces_at place pkg) pieces
 
--- behind the last block no piece is left; behind a failed test it alone
+-- these pieces are left, by what is to come: behind the last block none is, behind a failed test its
+-- fault alone
 abbrev pub AreLeft : Due → BlockPlace → Option OpenFile → List ℕ → PiecesRead → Type 0
 AreLeft Files place opened pkg pieces = ArePiecesFrom place opened pkg pieces
 AreLeft Nothing place opened pkg pieces = pieces ≡ no_piece
 AreLeft (Refused c) place opened pkg pieces = pieces ≡ refusal c
 
--- these pieces are still to come
+-- these pieces are still to come of a reader, from a package of these bytes
 abbrev pub IsReading : PieceReader → List ℕ → PiecesRead → Type 0
 IsReading reader pkg pieces = AreLeft reader.due reader.place reader.opened pkg pieces
 
 -- ---- what is answered
 
--- these bytes are the next piece, and what is left is still to come; no piece is left; or the first
--- failed test, which is told from then on
+-- what a call for the next piece answers: these bytes are it, and what is left is still to come; no
+-- piece is left; or the first failed test, which is told from then on
 abbrev pub AnswersNext : (PiecesRead → Type 0) → PiecesRead → List ℕ
     → Result (Option Part) PieceFault → Type 0
 AnswersNext AreToCome before bytes (Ok (Some part)) =
@@ -98,7 +102,8 @@ pub record IsOfFirstDue (before : List Expected) (part : Part)
   pub of_first : part ≡ part_of first part.last
   pub left : after ≡ (if part.last then others else first ∷ others)
 
--- the pieces come file by file; at the end no file is due
+-- the files that are due before and after a call: the pieces come file by file, and at the end no file
+-- is due
 abbrev pub ComesInOrder : List Expected → Option Part → List Expected → Type 0
 ComesInOrder before None after = before ≡ []
 ComesInOrder before (Some part) after = IsOfFirstDue before part after
@@ -109,7 +114,7 @@ pub record GoesOnBehind (part : Part) (old new : PieceReader) : Type 0 where
   pub after : IsGoingOn new
   pub open_file : is_none new.opened ≡ part.last
 
--- a failed test is kept
+-- a failed test is kept by the reader of a package
 abbrev pub HasRefused : PieceFault → PieceReader → Type 0
 HasRefused (Bad c) reader = reader.due ≡ Refused c
 HasRefused Disk reader = Unit {0}
@@ -120,12 +125,13 @@ HasRefused Disk reader = Unit {0}
 abbrev pub start_of_file : PieceReader → ℕ
 start_of_file reader = reader.start
 
--- how many bytes of the file that is open were handed out
+-- how many bytes were handed out of the file that is open, which begins at `start`; 0 where none is
+-- open
 abbrev pub handed_out_from : ℕ → Option OpenFile → ℕ
 handed_out_from start None = 0
 handed_out_from start (Some o) = o.at - start
 
--- the same of a reader
+-- how many bytes a reader has handed out of the file that is open
 abbrev pub handed_out : PieceReader → ℕ
 handed_out reader = handed_out_from reader.start reader.opened
 
@@ -134,22 +140,23 @@ abbrev pub HasPieceAt : PieceReader → List ℕ → List ℕ → Option Part �
 HasPieceAt old pkg bytes None new = Unit {0}
 HasPieceAt old pkg bytes (Some part) new = HasAt pkg (start_of_file new + handed_out old) bytes
 
--- a piece of so many bytes more was handed out of the file that is open; a file that is open stays
--- where it begins
+-- a piece of so many bytes was handed out of the file that is open, whose offset stays; behind the last
+-- piece none is open, and 0 are handed out of it
 pub record KeepsStart (part : Part) (len : ℕ) (old new : PieceReader) : Type 0 where
   pub same : IfSome old.opened (λ o. start_of_file new ≡ start_of_file old)
   pub handed : handed_out new ≡ (if part.last then 0 else handed_out old + len)
 
 -- ---- inside
 
--- the next file that was found, and the walk behind it; None where none is due
+-- the walk before and after the search for the next file: it goes on behind the file that was found;
+-- None where none is due
 abbrev pub FindsFile : Walk → Option OpenFile → Walk → Type 0
 FindsFile before None after = left_in before ≡ []
 FindsFile before (Some found) after =
     left_in before ≡ expected_of found.file.wanted ∷ left_in after
 
--- the next file was found: its contents begin, and the pieces behind them come from where the
--- reader stands then; no piece is left; or the first failed test
+-- what the search for the next file answers in this package: its contents begin, and the pieces behind
+-- them come from where the reader stands then; no piece is left; or the first failed test
 abbrev pub IsFileFound : BlockPlace → List ℕ → Result (Option OpenFile) PieceFault → BlockPlace
     → Type 0
 IsFileFound before pkg (Ok None) after = pieces_at before pkg ≡ no_piece
@@ -158,7 +165,7 @@ IsFileFound before pkg (Ok (Some o)) after =
 IsFileFound before pkg (Err (Bad c)) after = pieces_at before pkg ≡ refusal c
 IsFileFound before pkg (Err Disk) after = Unit {0}
 
--- the same of a file that is open already or is the next one
+-- what is answered of the file whose piece is next, the one that is open already or the next one
 abbrev pub IsFileOpened : PieceReader → List ℕ → PiecesRead
     → Result (Option OpenFile) PieceFault → PieceReader → Type 0
 IsFileOpened old pkg before (Ok None) new = before ≡ no_piece
@@ -167,12 +174,14 @@ IsFileOpened old pkg before (Ok (Some o)) new =
 IsFileOpened old pkg before (Err (Bad c)) new = before ≡ refusal c
 IsFileOpened old pkg before (Err Disk) new = Unit {0}
 
--- the file begins there, in front of as many bytes as were handed out
+-- an open file begins at `start`: it stands behind as many bytes as were handed out of it, and if it
+-- was open before this is where it began then
 pub record IsStartOf (old : PieceReader) (o : OpenFile) (start : ℕ) : Type 0 where
   pub stands : o.at ≡ start + handed_out old
   pub same : IfSome old.opened (λ o. start ≡ start_of_file old)
 
--- as AnswersNext, but for what comes after a failed test
+-- what a read of the next piece answers, as *AnswersNext*, but that nothing is said of what comes after
+-- a failed test
 abbrev pub IsPieceRead : PieceReader → List ℕ → PiecesRead → List ℕ
     → Result (Option Part) PieceFault → Type 0
 IsPieceRead new pkg before bytes (Ok (Some part)) = (after : PiecesRead)
@@ -181,7 +190,8 @@ IsPieceRead new pkg before bytes (Ok None) = before ≡ no_piece
 IsPieceRead new pkg before bytes (Err (Bad c)) = before ≡ refusal c
 IsPieceRead new pkg before bytes (Err Disk) = Unit {0}
 
--- the files that are due, by the file that was opened
+-- the files that are due before a file was opened: it, and those that the walk has left; none where none was
+-- opened
 abbrev pub OpensDue : List Expected → Option OpenFile → BlockPlace → Type 0
 OpensDue before None place = before ≡ []
 OpensDue before (Some o) place =

@@ -1,5 +1,6 @@
 //! What is read of a block: its header, and the positions that contents begin with; and the next
 //! file whose contents a block holds.
+//! The rules stand in `docs/formats.md`, "The other blocks"; the framing of a block in "Container".
 
 ghost use Rattle.std.specs.Prelude.{◌≡◌, ◌≤◌, ◌<◌, ◌+◌, ◌-◌, ◌^◌, ℕ, List, length, IfErr, IfOk, IfSome, OnOk};
 ghost use Rattle.adb_block.specs.Frames.{raw_size};
@@ -16,14 +17,17 @@ use base_core::{Name, Tree};
 use piece_core::{BlockPlace, FileCheck, Step};
 use pkg_pieces::HeadBytes;
 
-/// The bytes in front of a file's own in its contents: the positions of its folder and of itself.
+/// 8: the bytes in front of a file's own in its contents, which are the positions of its folder and
+/// of itself, four bytes each.
 const POSITIONS_LEN: u64 = 8;
 
 /// What was read of a block: what its header frames, and the first eight bytes of its payload,
 /// where it has as many.
 #[derive(Clone, Copy)]
 pub(crate) struct BlockRead {
+    /// What its header frames; None where no block is left.
     pub framing: Option<Frame>,
+    /// The positions that its payload begins with; zeros where it has no eight bytes.
     pub positions: [u8; 8],
 }
 
@@ -53,7 +57,7 @@ pub(crate) fn next_block<'a, T: Tree>(
     place: &mut BlockPlace<'a>,
 ) -> Result<BlockStep<'a>, PieceFault>
     requires { place.old.at ≤ place.old.len }
-    // Of each package that is so long and has the bytes that were seen.
+    // For each package that is so long and has the bytes that were seen.
     ensures block { (seen : List ℕ)
         × IsSeenIn (T.history tree.old) name.now place.old.len place.old.at seen
         × IfOk result (λ step. EndsBefore (place.old.at + length seen) step place.new)
@@ -63,6 +67,8 @@ pub(crate) fn next_block<'a, T: Tree>(
     ensures within { place.new.at ≤ place.new.len }
     ensures walk { IfOk result (λ step. GoesOnWith place.old.walk step place.new.walk) }
     ensures further { IfOk result (λ step. GoesFurther place.old step place.new) }
+    // The tree stays as it is; a failed tree is answered only where it failed, and no call is a
+    // misuse where the tree shows the file, as long as it was.
     ensures tree { ReadsFile name.now place.old.len DiskFault (T.history tree.old)
         (T.history tree.new) (T.counts tree.old) (T.counts tree.new) result }
 {
@@ -78,6 +84,7 @@ pub(crate) fn next_block<'a, T: Tree>(
 
 /// The file that a block at an offset opens: its bytes stand behind the header and the positions.
 fn file_at<'a>(file: FileCheck<'a>, at: u64, framing: Option<Frame>) -> OpenFile<'a>
+    // Offsets have 64 bits; 8 bytes are the two positions.
     requires { at + head_size framing + 8 < 2 ^ 64 }
     ensures file { result.file ≡ file.entry }
     ensures at { result.at ≡ at + head_size framing + 8 }
@@ -92,7 +99,7 @@ fn file_at<'a>(file: FileCheck<'a>, at: u64, framing: Option<Frame>) -> OpenFile
     }
 }
 
-/// Reads what has to be known of the block at a place.
+/// Reads what has to be known of the block at a place: its header and the positions.
 pub(crate) fn read_block<T: Tree>(
     tree: &mut T,
     name: &Name,
@@ -108,6 +115,8 @@ pub(crate) fn read_block<T: Tree>(
         × IfOk result (λ read. IsInBlock read.framing (length seen))
         × ((file : List ℕ) → length file ≡ place.now.len → HasAt file place.now.at seen
         → IsBlockRead place.now file result) }
+    // The tree stays as it is; a failed tree is answered only where it failed, and no call is a
+    // misuse where the tree shows the file, as long as it was.
     ensures tree { ReadsFile name.now place.now.len DiskFault (T.history tree.old)
         (T.history tree.new) (T.counts tree.old) (T.counts tree.new) result }
 {
@@ -132,6 +141,8 @@ fn read_positions<T: Tree>(
         × ((file_len : ℕ)
         → IsSeen (T.history tree.old) name.now file_len (at + head_size framing) seen)) }
     ensures disk { IfErr result (λ fault. fault ≡ DiskFault) }
+    // The tree stays as it is; a failed tree is answered only where it failed, and no call is a
+    // misuse where the tree shows the file, as long as it was.
     ensures tree { (file_len : ℕ) → at ≤ file_len
         → IfSome framing (λ frame. at + raw_size frame ≤ file_len)
         → ReadsFile name.now file_len DiskFault (T.history tree.old) (T.history tree.new)
@@ -146,7 +157,8 @@ fn read_positions<T: Tree>(
     Ok(positions)
 }
 
-/// Goes on to the next file whose contents a block holds; None behind the last block.
+/// Goes on to the next file whose contents a block holds, past blocks that hold none; None behind
+/// the last block.
 pub(crate) fn next_file<'a, T: Tree>(
     tree: &mut T,
     name: &Name,
@@ -164,6 +176,8 @@ pub(crate) fn next_file<'a, T: Tree>(
     ensures walk { IfOk result (λ found. FindsFile place.old.walk found place.new.walk) }
     ensures room { IfOk result (λ found. IfSome found (λ next.
         next.at + file_bytes_left next.file ≤ place.new.at)) }
+    // The tree stays as it is; a failed tree is answered only where it failed, and no call is a
+    // misuse where the tree shows the file, as long as it was.
     ensures tree { ReadsFile name.now place.old.len DiskFault (T.history tree.old)
         (T.history tree.new) (T.counts tree.old) (T.counts tree.new) result }
 {

@@ -6,6 +6,7 @@
 //! which it begins. Neither takes memory. The contracts cite `Readers` (which pieces of a package
 //! are still to come), `FileReading` (which bytes of a single file), `Blocks` (what a block comes
 //! to) and `Opened` (the bytes of a file that are still to come) of `specs/`.
+//! The rules stand in `docs/formats.md`, "The other blocks".
 #![tactic(auto)]
 
 mod block;

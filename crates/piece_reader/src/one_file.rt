@@ -1,4 +1,5 @@
 //! The pieces of a single file of a package.
+//! The rules stand in `docs/formats.md`, "The other blocks", the paragraph of pieces.
 
 ghost use Rattle.std.specs.Option.{ForSome};
 ghost use Rattle.std.specs.Prelude.{◌≡◌, ◌<◌, ◌≤◌, Some};
@@ -16,13 +17,17 @@ use pkg_pieces::Contents;
 /// `specs/`, which bytes of a package are still to come.
 #[derive(Drop)]
 pub struct FilePieces<'a> {
+    // The name of the package.
     pub(crate) name: &'a Name,
+    // How many bytes the package has.
     pub(crate) len: u64,
-    // They tell what is due.
+    // The values of the package, which tell what is due.
     pub(crate) contents: Contents<'a>,
     // What the bytes are compared with; None where the file has no contents.
     pub(crate) due: Option<Wanted<'a>>,
+    // The file with what is left of it; None behind its last piece.
     pub(crate) opened: Option<OpenFile<'a>>,
+    // The test that failed, if one did.
     pub(crate) refused: Option<Cause>,
     ghost within: { open_end opened ≤ len },
     ghost more: { ForSome opened (λ o. 0 < file_bytes_left o.file) },
@@ -80,7 +85,8 @@ impl<'a> FilePieces<'a> {
         }
     }
 
-    /// A file with contents that begins at this offset.
+    /// The pieces of a file with contents, which begins at this offset; each call is refused where
+    /// it has no place there.
     fn of(
         name: &'a Name,
         len: u64,
@@ -137,16 +143,19 @@ impl<'a> FilePieces<'a> {
         ensures piece { IfObservable (T.history tree.old) (λ v. (pkg left : List ℕ)
             → files_of v (package_of_file self.old) ≡ Some pkg → IsFileReading self.old pkg left
             → GivesBytes (IsFileReading self.new pkg) left piece.new result) }
-        // Of each package, also of one that was changed since: the last piece and the end come only
+        // For each package, also one that was changed since: the last piece and the end come only
         // where all bytes together have the size and the digest that are due.
         ensures tested { (so_far : List ℕ) → HaveCome self.old so_far
             → ComesBehind self.old so_far piece.new result self.new }
         ensures due { file_due self.new ≡ file_due self.old }
         ensures left { IfOk result (HasFewerLeft self.old (length piece.new) self.new) }
         ensures refused { IfErr result (λ fault. HasRefusedFile fault self.new) }
+        // A test that failed is answered by every later call.
         ensures again { IfSome (kept_fault self.old) (λ cause. result ≡ Err (Bad cause)) }
         ensures name { package_of_file self.new ≡ package_of_file self.old }
         ensures len { len_around_file self.new ≡ len_around_file self.old }
+        // The tree stays as it is; a failed tree is answered only where it failed, and no call is a
+        // misuse where the tree shows the file, as long as it was.
         ensures tree { ReadsFile (package_of_file self.old) (len_around_file self.old) DiskFault
             (T.history tree.old) (T.history tree.new) (T.counts tree.old) (T.counts tree.new)
             result }
@@ -163,7 +172,8 @@ impl<'a> FilePieces<'a> {
         }
     }
 
-    /// Reads the next piece, where no test failed.
+    /// Reads the next piece, where no test failed. The clauses are those of `next_piece`, but that
+    /// a failed test is not kept yet.
     fn read_next<T: Tree>(&mut self, tree: &mut T, piece: &mut Piece) -> Result<bool, PieceFault>
         requires { kept_fault self.old ≡ None }
         ensures piece { IfObservable (T.history tree.old) (λ v. (pkg left : List ℕ)
@@ -175,11 +185,13 @@ impl<'a> FilePieces<'a> {
         ensures left { IfOk result (HasFewerLeft self.old (length piece.new) self.new) }
         ensures name { package_of_file self.new ≡ package_of_file self.old }
         ensures len { len_around_file self.new ≡ len_around_file self.old }
+        // The tree stays as it is; a failed tree is answered only where it failed, and no call is a
+        // misuse where the tree shows the file, as long as it was.
         ensures tree { ReadsFile (package_of_file self.old) (len_around_file self.old) DiskFault
             (T.history tree.old) (T.history tree.new) (T.counts tree.old) (T.counts tree.new)
             result }
     {
-        // The file ends within the package.
+        // The proof needs that the file ends within the package.
         let _len = self.len;
         let Some(file) = self.opened.take() else {
             return Ok(false);

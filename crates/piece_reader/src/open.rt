@@ -1,4 +1,5 @@
 //! A file of a package whose pieces are read one by one.
+//! The rules stand in `docs/formats.md`, "The other blocks", the paragraph of pieces.
 
 ghost use Rattle.std.specs.Prelude.{◌≡◌, ◌≤◌, ◌<◌, ◌+◌, ◌++◌, ◌^◌, [], ℕ, List, None, Some, length, IfNone, IfOk, IfSome, IsOkAnd};
 ghost use Rattle.std.specs.Result.{result_err};
@@ -19,7 +20,9 @@ use pkg_core::Wanted;
 /// Contracts see, by `Opened` of `specs/`, which bytes of the package are still to come.
 #[derive(Drop)]
 pub(crate) struct OpenFile<'a> {
+    /// What of the file was taken, and what is due.
     pub(crate) file: FileCheck<'a>,
+    /// The offset of its next byte in the package.
     pub(crate) at: u64,
 }
 
@@ -38,10 +41,11 @@ impl<'a> OpenFile<'a> {
         name: &Name,
         piece: &mut Piece,
     ) -> Result<(Part, Option<OpenFile<'a>>), PieceFault>
+        // Offsets have 64 bits.
         requires { self.at + file_bytes_left self.file < 2 ^ 64 }
         ensures seen { NotDisk result → (file_len : ℕ)
             → IsSeen (T.history tree.old) name.now file_len self.entry.at piece.new }
-        // Of each file that has the bytes that were seen.
+        // For each file that has the bytes that were seen.
         ensures piece { (file so_far : List ℕ) (further before : PiecesRead)
             → HasAt file self.entry.at piece.new
             → self.entry.at + file_bytes_left self.entry.file ≤ length file
@@ -61,6 +65,8 @@ impl<'a> OpenFile<'a> {
         ensures room { IfOk result (λ read. IfSome read.1 (λ further.
             further.at + file_bytes_left further.file
             ≡ self.entry.at + file_bytes_left self.entry.file)) }
+        // The tree stays as it is; a failed tree is answered only where it failed, and no call is a
+        // misuse where the tree shows the file, as long as it was.
         ensures tree { (file_len : ℕ) → self.entry.at + file_bytes_left self.entry.file ≤ file_len
             → ReadsFile name.now file_len DiskFault (T.history tree.old) (T.history tree.new)
             (T.counts tree.old) (T.counts tree.new) result }

@@ -1,4 +1,5 @@
 //! A piece: the buffer that holds it, and why there is no next one.
+//! The rules stand in `docs/formats.md`, "The other blocks", the paragraph of pieces.
 
 ghost use Rattle.std.specs.Prelude.{◌≡◌, ◌≤◌, ◌+◌, ℕ, [], length, IfErr, OnOk};
 ghost use Rattle.pkg_pieces.specs.Seen.{IsSeen, ReadsFile};
@@ -12,7 +13,9 @@ use thiserror::Error;
 /// A buffer for one piece, of up to 65,536 bytes. Contracts see the bytes that it holds.
 #[derive(Drop)]
 pub struct Piece {
+    /// Room for the longest piece.
     bytes: [u8; PIECE_LEN],
+    /// How many bytes the piece has.
     len: usize,
 }
 
@@ -37,7 +40,7 @@ impl Piece {
         }
     }
 
-    /// The bytes that it holds.
+    /// The bytes that the piece holds, at most 65,536 (`PIECE_LEN` of `piece_core`).
     pub fn bytes(&self) -> &[u8]
         ensures bytes { result.now ≡ self.now }
         ensures few { length result.now ≤ 65536 }
@@ -45,7 +48,8 @@ impl Piece {
         &self.bytes[..self.len]
     }
 
-    /// Reads so many bytes of a file, from an offset on. After an error it holds some bytes.
+    /// Reads so many bytes of a file, from an offset on, into the piece. After an error the piece
+    /// holds some bytes.
     #[tactic(auto, using(pkg_pieces::proofs::SeenBytes::seen_by_read, pkg_pieces::proofs::SeenBytes::proper_where_long))]
     pub(crate) fn read<T: Tree>(
         &mut self,
@@ -59,6 +63,8 @@ impl Piece {
         ensures disk { IfErr result (λ fault. fault ≡ DiskFault) }
         ensures seen { OnOk result ((file_len : ℕ)
             → IsSeen (T.history tree.old) name.now file_len at self.new) }
+        // The tree stays as it is; a failed tree is answered only where it failed, and no call is a
+        // misuse where the tree shows the file, as long as it was.
         ensures tree { (file_len : ℕ) → at + len ≤ file_len
             → ReadsFile name.now file_len DiskFault (T.history tree.old) (T.history tree.new)
             (T.counts tree.old) (T.counts tree.new) result }
@@ -86,6 +92,7 @@ impl From<Cause> for PieceFault {
 
     ghost from_gives = { λ cause fault. fault ≡ Bad cause };
 
+    /// A failed test is why there is no piece.
     fn from(cause: Cause) -> PieceFault {
         PieceFault::Bad(cause)
     }
@@ -97,6 +104,7 @@ impl From<Disk> for PieceFault {
 
     ghost from_gives = { λ _ fault. fault ≡ DiskFault };
 
+    /// A failed call of the tree is why there is no piece.
     fn from(_: Disk) -> PieceFault {
         PieceFault::Disk
     }

@@ -1,4 +1,6 @@
 //! A reader of the pieces of a package's files, one after the other.
+//! The rules stand in `docs/formats.md`, "The other blocks", the paragraph of pieces; the order of
+//! the files in the paragraph above it.
 
 ghost use Rattle.std.specs.Option.{ForSome};
 ghost use Rattle.std.specs.Prelude.{◌≤◌, ◌≡◌, List};
@@ -16,7 +18,7 @@ use piece_core::{BlockPlace, Part};
 use pkg_core::Walk;
 use pkg_pieces::{Contents, Front};
 
-/// What is still to come.
+/// What is still to come of a reader.
 #[derive(Clone, Copy)]
 pub(crate) enum Due {
     /// The pieces of the files that are left.
@@ -33,10 +35,15 @@ pub(crate) enum Due {
 /// whose piece came last.
 #[derive(Drop)]
 pub struct PieceReader<'a> {
+    /// The name of the package.
     pub(crate) name: &'a Name,
+    /// Where the reader stands in the blocks: behind the one of the file that is open.
     pub(crate) place: BlockPlace<'a>,
+    /// The file of which a piece came and more are to come.
     pub(crate) opened: Option<OpenFile<'a>>,
+    /// The offset at which the file begins whose piece came last.
     pub(crate) start: u64,
+    /// Whether files are left, the last block was passed, or a test failed.
     pub(crate) due: Due,
     ghost within: { place.at ≤ place.len },
     ghost behind: { open_end opened ≤ place.at },
@@ -118,7 +125,7 @@ impl<'a> PieceReader<'a> {
         tree: &mut T,
         piece: &mut Piece,
     ) -> Result<Option<Part>, PieceFault>
-        // Of each package that is so long and has the bytes that were seen, from where the reader
+        // For each package that is so long and has the bytes that were seen, from where the reader
         // stood to where it stands then.
         ensures piece { (seen : List ℕ)
             × IsSeenIn (T.history tree.old) (name_in_tree self.old) (package_len self.old)
@@ -130,17 +137,24 @@ impl<'a> PieceReader<'a> {
             → (before : PiecesRead) → IsReading self.old pkg before
             → AnswersNext (IsReading self.new pkg) before piece.new result
             × IfOk result (λ found. HasPieceAt self.old pkg piece.new found self.new)) }
+        // The pieces come file by file, in the order of the package; behind a piece the reader goes
+        // on.
         ensures order { IfOk result (λ found.
             ComesInOrder (due_files self.old) found (due_files self.new)) }
         ensures goes_on { IfOk result (λ found. IfSome found (λ part.
             GoesOnBehind part self.old self.new)) }
+        // A piece that is not the last one stands wholly in front of what is read next.
         ensures bytes { IfOk result (λ found. IfSome found (λ part. part.last ≡ false
             → offset_of self.old + length piece.new ≤ offset_of self.new)) }
+        // The offset at which its file begins stays, and what was handed out grows by the piece.
         ensures start { IfOk result (λ found. IfSome found (λ part.
             KeepsStart part (length piece.new) self.old self.new)) }
+        // A test that failed is kept, and answered by every later call.
         ensures refused { IfErr result (λ fault. HasRefused fault self.new) }
         ensures name { name_in_tree self.new ≡ name_in_tree self.old }
         ensures len { package_len self.new ≡ package_len self.old }
+        // The tree stays as it is; a failed tree is answered only where it failed, and no call is a
+        // misuse where the tree shows the file, as long as it was.
         ensures tree { ReadsFile (name_in_tree self.old) (package_len self.old) DiskFault
             (T.history tree.old) (T.history tree.new) (T.counts tree.old) (T.counts tree.new)
             result }
@@ -152,7 +166,8 @@ impl<'a> PieceReader<'a> {
         }
     }
 
-    /// Reads the next piece, where files are left.
+    /// Reads the next piece, where files are left, and keeps the end or a failed test for the next
+    /// calls. The clauses are those of `next_piece`.
     fn read_due<T: Tree>(
         &mut self,
         tree: &mut T,
@@ -180,6 +195,8 @@ impl<'a> PieceReader<'a> {
         ensures refused { IfErr result (λ fault. HasRefused fault self.new) }
         ensures name { name_in_tree self.new ≡ name_in_tree self.old }
         ensures len { package_len self.new ≡ package_len self.old }
+        // The tree stays as it is; a failed tree is answered only where it failed, and no call is a
+        // misuse where the tree shows the file, as long as it was.
         ensures tree { ReadsFile (name_in_tree self.old) (package_len self.old) DiskFault
             (T.history tree.old) (T.history tree.new) (T.counts tree.old) (T.counts tree.new)
             result }
@@ -198,7 +215,8 @@ impl<'a> PieceReader<'a> {
         }
     }
 
-    /// Reads the next piece of the file that is open, or of the next one.
+    /// Reads the next piece of the file that is open, or of the next one. The clauses are those of
+    /// `next_piece`, but that a failed test is not kept yet.
     fn read_next<T: Tree>(
         &mut self,
         tree: &mut T,
@@ -225,6 +243,8 @@ impl<'a> PieceReader<'a> {
             is_none self.new.opened ≡ part.last)) }
         ensures name { name_in_tree self.new ≡ name_in_tree self.old }
         ensures len { package_len self.new ≡ package_len self.old }
+        // The tree stays as it is; a failed tree is answered only where it failed, and no call is a
+        // misuse where the tree shows the file, as long as it was.
         ensures tree { ReadsFile (name_in_tree self.old) (package_len self.old) DiskFault
             (T.history tree.old) (T.history tree.new) (T.counts tree.old) (T.counts tree.new)
             result }
@@ -232,7 +252,7 @@ impl<'a> PieceReader<'a> {
         let Some(file) = self.open_next(tree)? else {
             return Ok(None);
         };
-        // The file ends in front of the next block.
+        // The proof needs that the file ends in front of the next block.
         let _end = self.place.at;
         let (part, rest) = file.next_piece(tree, self.name, piece)?;
         self.opened = rest;
@@ -260,6 +280,8 @@ impl<'a> PieceReader<'a> {
         ensures due { self.new.due ≡ self.old.due }
         ensures name { name_in_tree self.new ≡ name_in_tree self.old }
         ensures len { package_len self.new ≡ package_len self.old }
+        // The tree stays as it is; a failed tree is answered only where it failed, and no call is a
+        // misuse where the tree shows the file, as long as it was.
         ensures tree { ReadsFile (name_in_tree self.old) (package_len self.old) DiskFault
             (T.history tree.old) (T.history tree.new) (T.counts tree.old) (T.counts tree.new)
             result }

@@ -1,4 +1,5 @@
-//! Packages of several files, with flaws.
+//! Packages of several files, with flaws. The layout stands in `docs/formats.md`, "Container",
+//! "Values" and "The other blocks".
 
 ghost use Rattle.std.specs.Prelude.{◌<◌, ◌^◌, length};
 
@@ -24,7 +25,7 @@ pub(crate) enum Flaw {
     Shortened(usize),
 }
 
-/// So many bytes: 0 to 250, again and again.
+/// The contents of a file of so many bytes: 0 to 250, again and again.
 pub(crate) fn bytes_of(alloc: Global, len: u32) -> Result<Vec<u8>, AllocError> {
     let mut bytes = Vec::new(alloc);
     for i in 0..len {
@@ -67,7 +68,8 @@ fn contents_with(alloc: Global, sizes: &[u32], i: usize, flaw: Flaw) -> Result<V
     }
 }
 
-/// The payload of the contents of the file that so many stand in front of.
+/// The payload of the contents of the file that so many stand in front of: its two positions, which
+/// count from 1, and its bytes.
 fn contents_of(alloc: Global, before: usize, size: u32) -> Result<Vec<u8>, AllocError> {
     let mut payload = Vec::new(alloc);
     payload.extend_from_slice(&1u32.to_le_bytes())?;
@@ -76,7 +78,8 @@ fn contents_of(alloc: Global, before: usize, size: u32) -> Result<Vec<u8>, Alloc
     Ok(payload)
 }
 
-/// The payload of contents with a flaw.
+/// The payload of contents with a flaw. A file's bytes stand behind its two positions, eight bytes;
+/// 255 is none of them.
 fn flawed(alloc: Global, payload: &[u8], flaw: Flaw) -> Result<Vec<u8>, AllocError> {
     let mut bytes = payload.to_vec(alloc)?;
     match flaw {
@@ -92,7 +95,9 @@ fn flawed(alloc: Global, payload: &[u8], flaw: Flaw) -> Result<Vec<u8>, AllocErr
     Ok(bytes)
 }
 
-/// The payload of a package with files of these sizes, named `a`, `b` and so on.
+/// The payload of a package with files of these sizes, named `a`, `b` and so on. A word's top four
+/// bits are its kind: 0xd an array, 0xe an object; the information of `INFO` is the object at
+/// offset 12.
 pub(crate) fn payload_of(alloc: Global, sizes: &[u32]) -> Result<Vec<u8>, AllocError> {
     let mut payload = INFO.to_vec(alloc)?;
     let mut files = Vec::new(alloc);
@@ -113,7 +118,8 @@ pub(crate) fn payload_of(alloc: Global, sizes: &[u32]) -> Result<Vec<u8>, AllocE
     Ok(payload)
 }
 
-/// Adds a file of this name, size and digest, and gives the offset of its object.
+/// Adds a file of this name, size and digest, and gives the offset of its object. The words of its
+/// fields are blobs (0x8), the size (0x1) and NULL.
 fn add_file(
     payload: &mut Vec<u8>,
     letter: u8,
@@ -148,14 +154,14 @@ fn add_words(payload: &mut Vec<u8>, words: &[u32]) -> Result<u32, AllocError> {
     Ok(at)
 }
 
-/// The low 28 bits of a number.
+/// The low 28 bits of a number, which a word of a payload has for an offset.
 pub(crate) fn low_word(number: usize) -> u32
     ensures { result < 2 ^ 28 }
 {
     (number & 0x0fff_ffff) as u32
 }
 
-/// Adds a block of the kind of this number, and its padding.
+/// Adds a block of the kind of this number (0 is values, 2 contents), and its padding.
 fn add_block(file: &mut Vec<u8>, kind: u32, payload: &[u8]) -> Result<(), AllocError> {
     let raw = low_word(payload.len()) + 4;
     file.extend_from_slice(&(kind << 30 | raw).to_le_bytes())?;

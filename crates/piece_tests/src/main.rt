@@ -1,7 +1,7 @@
 //! Answers questions to `piece_core`, `pkg_pieces`, `piece_reader` and `package_test`: a file's
 //! contents piece by piece, the front of a block against the next file, the front of a package, and
 //! the pieces of a package's files in a tree. Its stored run has all rows; `tests/lines.md`
-//! describes their form.
+//! describes their form. The README of this crate has a row for each question.
 #![tactic(auto)]
 
 ghost use Rattle.std.specs.Prelude.{◌≡◌, IfSome};
@@ -33,15 +33,20 @@ const MOST_PIECES: usize = 100;
 /// How many bytes the file has whose contents are opened.
 const OPENED: u32 = 3;
 
-/// What is asked.
+/// What is asked; the README of this crate says what each question answers.
 #[derive(Clone, Copy)]
 enum Question {
+    /// `pieces LEN`, `pieces LEN AT`.
     Pieces,
+    /// `open FOLDER FILE LEN`.
     Open,
+    /// `cuts BYTES`.
     Cuts,
+    /// Of a package with files of some sizes.
     Package(Asked),
 }
 
+// The words that questions begin with.
 #[rattlefmt::skip]
 const QUESTIONS: [(&[u8], Question); 10] = [
     (b"pieces", Question::Pieces),
@@ -84,7 +89,7 @@ pub(crate) fn small_number(word: &[u8]) -> u32 {
     u32::try_from(number).unwrap_or(0).min(MOST_BYTES)
 }
 
-/// The positions that contents begin with.
+/// The positions that contents begin with: of the folder, and of the file in it.
 fn positions(folder: u32, file: u32) -> [u8; 8] {
     let mut bytes = [0; 8];
     bytes[..4].copy_from_slice(&folder.to_le_bytes());
@@ -110,6 +115,7 @@ fn add_pieces(alloc: Global, words: &Words, answer: &mut Vec<u8>) -> Result<(), 
     if let Some(at) = number_of(word_at(words, 2)) {
         let at = usize::try_from(at).unwrap_or(0);
         if at < bytes.len() {
+            // No byte of the file is 255.
             bytes[at] = 255;
         }
     }

@@ -1,4 +1,5 @@
-//! Packages in a tree: their fronts, and their files, which are read in pieces.
+//! Packages in a tree: their fronts, and their files, which are read in pieces. The tests stand in
+//! `docs/formats.md`, "The other blocks", its last two paragraphs.
 
 use crate::made::{Flaw, low_word, package_of};
 use crate::{add_cause, add_part, small_number};
@@ -12,7 +13,7 @@ use row_lines::{add_number, add_word, word_at};
 use std::alloc::{AllocError, Global};
 use tree_memory::MemoryTree;
 
-/// The most pieces of a row's package, and the most files.
+/// The most pieces that are asked for, and the most files of a row's package.
 const MOST: usize = 100;
 
 /// What is asked of a package with files of some sizes.
@@ -39,18 +40,19 @@ pub(crate) enum Asked {
 /// What is read of a package.
 #[derive(Clone, Copy)]
 struct Reading<'r> {
-    /// The front alone.
+    /// The front alone is read, and no piece.
     front: bool,
-    /// How many calls of the tree there are behind the front, and the longest read of them.
+    /// It is told how many calls of the tree there are behind the front, and the longest read of
+    /// them.
     counts: bool,
-    /// So many of its files once more, from the last to the first.
+    /// How many of the files are read once more, from the last to the first.
     back: u32,
-    /// In between these bytes come in place of the package.
+    /// The bytes that come in place of the package before that.
     changed: Option<&'r [u8]>,
 }
 
 impl Reading<'_> {
-    /// The pieces alone.
+    /// The pieces alone, once.
     const PIECES: Reading<'static> = Reading {
         front: false,
         counts: false,
@@ -80,7 +82,7 @@ pub(crate) fn add_asked(
     add_asked_of(alloc, asked, number, &sizes, &file, answer)
 }
 
-/// The same of a package that was made.
+/// Answers what is asked of a package that was made.
 fn add_asked_of(
     alloc: Global,
     asked: Asked,
@@ -406,7 +408,7 @@ fn add_len(alloc: Global, piece: &Piece, answer: &mut Vec<u8>) -> Result<(), All
     add_number(alloc, answer, piece.bytes().len() as u128)
 }
 
-/// Adds a fault.
+/// Adds a fault of reading a piece: the cause, or that the tree failed.
 fn add_fault(alloc: Global, fault: PieceFault, answer: &mut Vec<u8>) -> Result<(), AllocError> {
     match fault {
         PieceFault::Bad(cause) => add_cause(alloc, cause, answer),

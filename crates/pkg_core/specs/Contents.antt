@@ -1,4 +1,6 @@
 -- Which files of a package have contents, and what stands for them in the blocks behind its values.
+-- The rules stand in `docs/formats.md`, "The other blocks", the second paragraph; tables 3 to 5 of
+-- "Schemas" have the fields.
 use Rattle.std.specs.Prelude.{ℕ, ◌+◌, ◌==◌, nat_lt, Bool, bytes_eq, not, ◌&&◌, if◌then◌else◌, List, [], ◌∷◌, ◌++◌, length, drop, Option, Some, None}
 use Rattle.std.specs.List.{find}
 use Rattle.sha1.specs.Sha1.{sha1}
@@ -28,7 +30,8 @@ pub record Expected : Type 0 where
   pub size : ℕ
   pub hash : List ℕ
 
--- a file without target and with a size above 0 has contents
+-- the file at a position of a folder, if it has contents, which it has where it has no target and its
+-- size is above 0
 abbrev pub expected_at : ℕ → ℕ → Plain → List Expected
 expected_at folder i file =
     if is_with_contents file
@@ -40,34 +43,37 @@ expected_at folder i file =
     } ∷ []
     else []
 
--- of the files of a folder, those with contents; positions count from i
+-- of the files of a folder those with contents, where the first of these files has position i
 abbrev pub expected_files : ℕ → ℕ → List Plain → List Expected
 expected_files folder i [] = []
 expected_files folder i (file ∷ files) =
     expected_at folder i file ++ expected_files folder (i + 1) files
 
--- of several folders, the files with contents; positions count from i
+-- of the files of several folders those with contents, where the first of these folders has position i
 abbrev pub expected_folders : ℕ → List Plain → List Expected
 expected_folders i [] = []
 expected_folders i (folder ∷ folders) =
     expected_files i 1 (files_in folder) ++ expected_folders (i + 1) folders
 
--- of a package, folder by folder
+-- the files of a package that have contents, folder by folder; positions count from 1
 abbrev pub expected_contents : Plain → List Expected
 expected_contents pkg = expected_folders 1 (folders_in pkg)
 
 -- ---- one block of contents
 
--- the bytes of a file, behind its two positions
+-- the bytes of the file in the payload of a block of contents: what stands behind its two positions,
+-- which are 8 bytes
 abbrev pub contents_bytes : List ℕ → List ℕ
 contents_bytes payload = drop 8 payload
 
--- the fault of a digest that is not the wanted one
+-- the fault of a digest of some function that is not the wanted one; None where the two are equal
 abbrev pub digest_fault : (List ℕ → Digest) → List ℕ → List ℕ → Option Cause
 digest_fault as_digest wanted found =
     if bytes_eq wanted found then None else Some (HashDiffers (as_digest wanted) (as_digest found))
 
--- whether bytes have the digest; which function it is of (FIPS 180-4) its length tells
+-- the fault of bytes that do not have this digest, if they do not; the length of the digest tells the
+-- function (FIPS 180-4): 20 bytes SHA-1, 32 SHA-256, 64 SHA-512. A digest of another length is not
+-- compared
 unfoldable pub hash_fault : List ℕ → List ℕ → Option Cause
 hash_fault hash bytes =
     if length hash == 20 then digest_fault Sha1 hash (sha1 bytes)
@@ -80,7 +86,8 @@ abbrev pub has_positions_of : List ℕ → Expected → Bool
 has_positions_of payload e =
     ((file_pair payload).0 == e.folder) && ((file_pair payload).1 == e.file)
 
--- first the positions, then the size, then the digest
+-- the first failed test of contents against an expected file: the positions, then the size, then the
+-- digest
 abbrev pub expected_fault : List ℕ → Expected → Option Cause
 expected_fault payload e =
     if not (has_positions_of payload e) then Some (DataOrder (e.folder, e.file) (file_pair payload))
@@ -88,24 +95,26 @@ expected_fault payload e =
     then Some (DataSize e.size (length (contents_bytes payload)))
     else hash_fault e.hash (contents_bytes payload)
 
--- against the file that is expected next; (0, 0) where there is none
+-- the first failed test of contents against the file that is expected next; where none is, any contents
+-- are out of order, and (0, 0) was expected
 abbrev pub next_fault : List ℕ → List Expected → Option Cause
 next_fault payload [] = Some (DataOrder (0, 0) (file_pair payload))
 next_fault payload (e ∷ es) = expected_fault payload e
 
--- a block of contents at an offset
+-- the first failed test of a block of contents at an offset: it has the 8 bytes of the positions, and
+-- its contents are those of the file that is expected next
 abbrev pub contents_block_fault : List ℕ → ℕ → List Expected → Option Cause
 contents_block_fault payload at es =
     if nat_lt (length payload) 8 then Some (Truncated at) else next_fault payload es
 
--- where blocks end, no file may be left
+-- the fault at the end of the blocks: a file is left, for which (0, 0) stands in the place of contents
 abbrev pub missing_fault : List Expected → Option Cause
 missing_fault [] = None
 missing_fault (e ∷ es) = Some (DataOrder (e.folder, e.file) (0, 0))
 
 -- ---- all of them
 
--- the contents of a file
+-- the contents of a file, with the positions of its folder and of itself in it, counted from 1
 pub record Contents : Type 0 where
   pub folder : ℕ
   pub file : ℕ
@@ -117,7 +126,7 @@ pub data FilesRead : Type 0 where
   refused : Cause → FilesRead
   given : Contents → FilesRead → FilesRead
 
--- the files, or the fault in their place
+-- the files, unless a test failed; then its fault in their place
 abbrev pub unless_fault : Option Cause → FilesRead → FilesRead
 unless_fault None files = files
 unless_fault (Some c) files = refused c
@@ -131,14 +140,15 @@ abbrev pub with_next : List ℕ → (List Expected → FilesRead) → List Expec
 with_next payload further [] = no_more
 with_next payload further (e ∷ es) = given (contents_by payload e) (further es)
 
--- what is read from a block on; one that is no contents is passed over
+-- the files that are read from a block on, `further` being what is read behind it; a block that is no
+-- contents is passed over
 abbrev pub files_at_block :
     BlockKind → List ℕ → ℕ → (List Expected → FilesRead) → List Expected → FilesRead
 files_at_block Kinds.Contents payload at further es =
     unless_fault (contents_block_fault payload at es) (with_next payload further es)
 files_at_block kind payload at further es = further es
 
--- what the blocks give, of the files that are expected
+-- the files that the blocks give, against those that are expected
 unfoldable pub files_by_blocks : List Expected → Reading → FilesRead
 files_by_blocks es done = unless_fault (missing_fault es) no_more
 files_by_blocks es (fault c) = refused c
@@ -151,7 +161,7 @@ fault_in no_more = None
 fault_in (refused c) = Some c
 fault_in (given contents files) = fault_in files
 
--- the contents up to the end or to the fault
+-- the contents that were read, up to the end or to the fault
 abbrev pub contents_in : FilesRead → List Contents
 contents_in no_more = []
 contents_in (refused c) = []
@@ -172,6 +182,7 @@ abbrev pub bytes_or_none : Option Contents → List ℕ
 bytes_or_none None = []
 bytes_or_none (Some contents) = contents.bytes
 
--- of the file with these positions among contents; a file without contents is empty
+-- the bytes of the file with these positions, among the contents of a package; a file without contents
+-- is empty
 abbrev pub bytes_of_file : ℕ → ℕ → List Contents → List ℕ
 bytes_of_file folder file contents = bytes_or_none (find (is_of_file folder file) contents)

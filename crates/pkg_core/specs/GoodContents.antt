@@ -1,4 +1,6 @@
 -- What the contents of files come to where no test fails.
+-- The rules stand in `docs/formats.md`, "The other blocks". Serves the laws
+-- `good_blocks_give_the_contents_of_each_file` and `a_package_has_the_contents_of_its_files`.
 use Rattle.std.specs.Prelude.{◌≡◌, ◌⊎◌, ℕ, true, List, [], ◌∷◌, length, None}
 use Rattle.sha1.specs.Sha1.{sha1}
 use Rattle.sha2.specs.Sha256.{sha256}
@@ -13,7 +15,7 @@ pub record IsContentsOf (e : Expected) (contents : Contents) : Type 0 where
   pub size : length contents.bytes ≡ e.size
   pub hash : hash_fault e.hash contents.bytes ≡ None
 
--- one for each file, in order
+-- there are contents for each expected file, in order, and no others
 abbrev pub AreContentsOf : List Expected → List Contents → Type 0
 AreContentsOf [] [] = Unit {0}
 AreContentsOf [] (contents ∷ others) = ⊥
@@ -33,14 +35,14 @@ pub record IsTrueTo (e : Expected) (contents : Contents) : Type 0 where
   pub size : length contents.bytes ≡ e.size
   pub digest : IsDigestOf e.hash contents.bytes
 
--- one by one, each of the expected files and its contents
+-- there are contents for each expected file, in order and no others, and each are what the entry says
 abbrev pub AreTrueTo : List Expected → List Contents → Type 0
 AreTrueTo [] [] = Unit {0}
 AreTrueTo [] (contents ∷ others) = ⊥
 AreTrueTo (e ∷ es) [] = ⊥
 AreTrueTo (e ∷ es) (contents ∷ others) = IsTrueTo e contents × AreTrueTo es others
 
--- each digest has the length of one of the three functions
+-- the digest of each expected file has the length of one of the three functions
 abbrev pub HaveDigests : List Expected → Type 0
 HaveDigests [] = Unit {0}
 HaveDigests (e ∷ es) = (is_digest_length (length e.hash) ≡ true) × HaveDigests es

@@ -1,5 +1,7 @@
 -- What a package that is read shows, and what a call for its next file answers. `opened_` is said of a
 -- package that is held whole.
+-- The rules stand in `docs/formats.md`, "The other blocks". Serves the contracts of `Package` and
+-- `Walk`.
 use Rattle.std.specs.Prelude.{◌≡◌, ℕ, ◌+◌, ◌==◌, ◌&&◌, Bool, List, [], ◌∷◌, ◌++◌, drop, Option, Some, None, Result, Ok, Err}
 use Rattle.std.specs.List.{find}
 use Rattle.base_core.specs.declared.cause.Cause.{Cause}
@@ -20,8 +22,8 @@ use Rattle.pkg_core.specs.declared.walk.FileContents.{FileContents}
 abbrev pub contents_view : FileContents → Contents
 contents_view f = record { folder = f.path; file = f.file; bytes = f.bytes.now }
 
--- the next file, and then those behind it; None where there is no more; or the first failed test,
--- which is told from then on
+-- what a call for the next file answers, by what was to be read before and is after it: the next file;
+-- None where there is no more; or the first failed test, which is told from then on
 abbrev pub IsNextFile : FilesRead → Result (Option FileContents) Cause → FilesRead → Type 0
 IsNextFile before (Ok None) after = (before ≡ no_more) × (after ≡ no_more)
 IsNextFile before (Ok (Some f)) after = before ≡ given (contents_view f) after
@@ -33,7 +35,8 @@ IsNextFile before (Err c) after = (before ≡ refused c) × (after ≡ refused c
 abbrev pub expected_of : Wanted → Expected
 expected_of w = record { folder = w.folder; file = w.file; size = w.size; hash = w.hash.now }
 
--- of folders, the first of which has this position, where so many files of the first are passed
+-- the files with contents that are left of folders, the first of which has position i, where the first
+-- j files of that folder are passed
 abbrev pub left_from : ℕ → ℕ → List Plain → List Expected
 left_from i j [] = []
 left_from i j (folder ∷ folders) =
@@ -45,7 +48,8 @@ left_in walk =
     left_from (walk.folder + 1) walk.file
     (drop walk.folder (list_of (entries_in (list_value walk.folders))))
 
--- the first of a list and those behind it, or None where it is empty
+-- the walk takes the first of the files before it and has the others after it, or answers None where
+-- there is none
 abbrev pub TakesFirst : List Expected → Option Wanted → List Expected → Type 0
 TakesFirst before None after = (before ≡ []) × (after ≡ [])
 TakesFirst before (Some w) after = before ≡ expected_of w ∷ after
@@ -56,33 +60,35 @@ TakesFirst before (Some w) after = before ≡ expected_of w ∷ after
 abbrev pub has_positions : ℕ → ℕ → Expected → Bool
 has_positions folder file e = (e.folder == folder) && (e.file == file)
 
--- the one with these positions, of files that have contents
+-- the file with these positions among files that have contents, if it is there
 abbrev pub expected_with_positions : ℕ → ℕ → List Expected → Option Expected
 expected_with_positions folder file es = find (has_positions folder file) es
 
 -- ---- the blocks with it
 
--- what is still to be read of a package
+-- the files that are still to be read of a package, without what was refused before
 abbrev pub files_left : Rest → FilesRead
 files_left rest = files_by_blocks (left_in rest.walk) (reading_of rest.blocks)
 
--- after a refusal that refusal alone
+-- the files, unless a test failed before: then that fault alone
 abbrev pub unless_refused : Option Cause → FilesRead → FilesRead
 unless_refused None files = files
 unless_refused (Some c) files = refused c
 
--- as IsNextFile, but for what comes after a refusal
+-- what a read of the next file answers, as *IsNextFile*, but that nothing is said of what comes after a
+-- fault
 abbrev pub ReadsNext : FilesRead → Result (Option FileContents) Cause → FilesRead → Type 0
 ReadsNext before (Ok None) after = (before ≡ no_more) × (after ≡ no_more)
 ReadsNext before (Ok (Some f)) after = before ≡ given (contents_view f) after
 ReadsNext before (Err c) after = before ≡ refused c
 
--- the contents are those of the first file, and the others are left
+-- the contents in a payload are those of the first expected file, and the others are left
 abbrev pub GivesFirst : List ℕ → FileContents → List Expected → List Expected → Type 0
 GivesFirst payload f [] after = ⊥
 GivesFirst payload f (e ∷ es) after = (contents_view f ≡ contents_by payload e) × (es ≡ after)
 
--- what a block of contents gives
+-- what the walk answers to a block of contents at an offset: those of the next file, where no test
+-- fails, or the first failed test
 abbrev pub GivesContents : List ℕ → ℕ → List Expected → Result FileContents Cause → List Expected
     → Type 0
 GivesContents payload at before (Ok f) after =
@@ -91,14 +97,14 @@ GivesContents payload at before (Err c) after = contents_block_fault payload at 
 
 -- ---- a package
 
--- its plain value
+-- the plain value of a package
 abbrev pub opened_value : Package → Plain
 opened_value pkg = checked_value pkg.checked
 
--- the bytes that hold it
+-- the bytes that hold the value of a package
 abbrev pub opened_payload : Package → List ℕ
 opened_payload pkg = pkg.payload.now
 
--- the files that are still to be given
+-- the files of a package that are still to be given
 abbrev pub opened_files : Package → FilesRead
 opened_files pkg = unless_refused pkg.refused (files_left pkg.rest)

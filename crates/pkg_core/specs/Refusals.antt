@@ -1,4 +1,5 @@
 -- What the refusals of this crate report.
+-- The rule stands in `docs/formats.md`, "Tests of a container": the first fault is reported.
 use Rattle.std.specs.Prelude.{◌≡◌, Option, Some}
 use Rattle.base_core.specs.declared.cause.Cause.{Cause}
 use Rattle.adb_schema.specs.declared.read.ReadFault.{ReadFault}

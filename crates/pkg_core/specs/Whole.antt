@@ -1,4 +1,6 @@
 -- The first failed test of a whole container, and what a good package holds.
+-- The rules stand in `docs/formats.md`, "Tests of a container", for the order of the tests, and "The
+-- other blocks".
 use Rattle.std.specs.Prelude.{ℕ, ◌==◌, if◌then◌else◌, List, Option, Some, None, Result, Ok, Err}
 use Rattle.sha2.specs.Sha256.{sha256}
 use Rattle.base_core.specs.declared.cause.Cause.{Cause}
@@ -24,46 +26,48 @@ root_of_schema schema =
     else if schema == INTENT_WORD then Some Intent
     else None
 
--- what stands behind the first block: of a package the contents of its files, else no contents
+-- the first failed test of what stands behind the first block: of a package the contents of its files,
+-- of another container that it has no contents
 abbrev pub behind_fault : Which → Plain → Reading → Option Cause
 behind_fault Package value r = contents_fault (expected_contents value) r
 behind_fault which value r = rest_fault which r
 
--- all tests in their order, of a file that is to be a container of this table
+-- the first failed test of a file that is to be a container with this table at its root
 unfoldable pub whole_fault : Which → List ℕ → Option Cause
 whole_fault which file = fault_with (behind_fault which) which file
 
--- the first fault of a file of this schema, where it is one of the four
+-- the first failed test of a file of this schema, which has to be one of the four
 abbrev pub fault_by_schema : List ℕ → ℕ → Option Which → Option Cause
 fault_by_schema file schema None = Some (WrongSchema schema)
 fault_by_schema file schema (Some which) = whole_fault which file
 
--- the first fault of a file by its header
+-- the first failed test of a file, by what its header tells
 abbrev pub fault_by_header : List ℕ → Result ℕ Cause → Option Cause
 fault_by_header file (Err c) = Some c
 fault_by_header file (Ok schema) = fault_by_schema file schema (root_of_schema schema)
 
--- all tests in their order, of a file that is to be a container of one of the four schemas
+-- the first failed test of a file that is to be a container of one of the four schemas
 unfoldable pub container_fault : List ℕ → Option Cause
 container_fault file = fault_by_header file (header_of file)
 
 -- ---- a package
 
--- the first fault of a package's file
+-- the first failed test of a file that is to be a package
 abbrev pub package_fault : List ℕ → Option Cause
 package_fault file = whole_fault Package file
 
--- the identity of a package is the SHA-256 of the bytes that hold its value
+-- the id of a package: the SHA-256 of its ADB payload
 abbrev pub package_id : List ℕ → List ℕ
 package_id file = sha256 (payload_in file)
 
--- what the blocks behind the first one give, of the files that its value expects
+-- the files that the blocks of a package give: the first block has the value that tells which are
+-- expected, and the blocks behind it their contents
 abbrev pub files_behind : Reading → FilesRead
 files_behind done = no_more
 files_behind (fault c) = refused c
 files_behind (more b at r) = files_by_blocks (expected_contents (root_value Package b.payload)) r
 
--- the contents behind a header that was read
+-- the files of a package, by what its header tells
 abbrev pub files_by_header : List ℕ → Result ℕ Cause → FilesRead
 files_by_header file (Ok schema) = files_behind (reading_of (start_of schema file))
 files_by_header file (Err c) = refused c

@@ -1,5 +1,7 @@
 //! The tests of a container to its end, the digests of contents, and what follows of both for every
 //! package.
+//! The rules stand in `docs/formats.md`, "Tests of a container", for the order of the tests, and
+//! "The other blocks".
 
 ghost use Rattle.std.specs.Prelude.{◌≡◌, ◌≢◌, None, IfOk, IfErr, length, ℕ, List, Some};
 ghost use Rattle.std.specs.Option.{option_or};
@@ -92,7 +94,7 @@ fn check_files(pkg: &mut Package<'_>) -> Result<(), Cause>
     Ok(())
 }
 
-/// Tests a container that has no contents.
+/// Tests a container that is no package, and so has no contents.
 #[tactic(auto, using(crate::proofs::Steps::other_fault))]
 fn verify_other(alloc: Global, bytes: &[u8], which: Which) -> Result<(), PackageFault>
     requires { which ≢ Tables.Package }
@@ -121,6 +123,7 @@ pub(crate) fn hash_fault(hash: &[u8], bytes: &[u8]) -> Option<Cause>
 /// Why a SHA-1 (FIPS 180-4) is not the one that was found: `HashDiffers`, or None where they are
 /// equal.
 pub fn sha1_fault(hash: &[u8], found: [u8; 20]) -> Option<Cause>
+    // The length of a SHA-1.
     requires { length hash.now ≡ 20 }
     ensures { result ≡ digest_fault Digests.Sha1 hash.now found }
 {
@@ -138,6 +141,7 @@ pub fn sha1_fault(hash: &[u8], found: [u8; 20]) -> Option<Cause>
 /// Why a SHA-256 (FIPS 180-4) is not the one that was found: `HashDiffers`, or None where they are
 /// equal.
 pub fn sha256_fault(hash: &[u8], found: [u8; 32]) -> Option<Cause>
+    // The length of a SHA-256.
     requires { length hash.now ≡ 32 }
     ensures { result ≡ digest_fault Digests.Sha256 hash.now found }
 {
@@ -155,6 +159,7 @@ pub fn sha256_fault(hash: &[u8], found: [u8; 32]) -> Option<Cause>
 /// Why a SHA-512 (FIPS 180-4) is not the one that was found: `HashDiffers`, or None where they are
 /// equal.
 pub fn sha512_fault(hash: &[u8], found: [u8; 64]) -> Option<Cause>
+    // The length of a SHA-512.
     requires { length hash.now ≡ 64 }
     ensures { result ≡ digest_fault Digests.Sha512 hash.now found }
 {
@@ -200,5 +205,6 @@ pub fn a_package_has_the_contents_of_its_files()
         → AreTrueTo (expected_contents (package_with_contents file).value)
         (package_with_contents file).contents }
 {
+    // A law that the proof needs; it computes nothing.
     the_first_bad_text_is_reported();
 }

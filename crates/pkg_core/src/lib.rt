@@ -6,6 +6,7 @@
 //! `Contents` (which files have contents, and what the blocks give of them), `Opened` (what a
 //! package that is read shows), `Whole` (the first failed test of a whole container), `Refusals`
 //! and `GoodContents` (what contents in which no test fails come to) of `specs/`.
+//! The rules stand in `docs/formats.md`, "Tests of a container" and "The other blocks".
 #![tactic(auto)]
 
 mod checks;

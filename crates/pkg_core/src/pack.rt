@@ -1,4 +1,5 @@
-//! A package that is read.
+//! A package that is read: its values, and the contents of its files one after the other. The rules
+//! stand in `docs/formats.md`, "Tests of a container" and "The other blocks".
 
 ghost use Rattle.std.specs.Prelude.{◌≡◌, None, IfOk, IfErr};
 ghost use Rattle.sha2.specs.Sha256.{sha256};
@@ -34,6 +35,7 @@ impl From<Cause> for PackageFault {
 
     ghost from_gives = { λ cause fault. fault ≡ Bad cause };
 
+    /// A failed test is one of the package.
     fn from(cause: Cause) -> PackageFault {
         PackageFault::Bad(cause)
     }
@@ -45,6 +47,7 @@ impl From<ReadFault> for PackageFault {
 
     ghost from_gives = { λ read fault. fault ≡ fault_of_read read };
 
+    /// A failed test of the values is one of the package, and so is want of memory for them.
     fn from(fault: ReadFault) -> PackageFault {
         match fault {
             ReadFault::Bad(cause) => PackageFault::Bad(cause),
@@ -58,9 +61,13 @@ impl From<ReadFault> for PackageFault {
 /// that hold it, and the files that are left.
 #[derive(Drop)]
 pub struct Package<'a> {
+    /// The values.
     checked: Checked<'a>,
+    /// The payload of the first block, of which the id is taken.
     payload: &'a [u8],
+    /// The blocks and the files that are still to be read.
     rest: Rest<'a>,
+    /// The test that failed, if one did.
     refused: Option<Cause>,
     ghost table: { which_of checked ≡ Tables.Package },
 }
@@ -80,9 +87,11 @@ impl<'a> Package<'a> {
     ///
     /// `Bad` with the cause of the first test that fails, or `Memory`.
     pub fn new(alloc: Global, bytes: &'a [u8]) -> Result<Package<'a>, PackageFault>
+        // It is refused for the first failed test of the values, and read where none fails.
         ensures bad { IfErr result
             (λ fault. IsFaultOf fault (first_fault Tables.Package bytes.entry.now)) }
         ensures sound { IfOk result (λ _. first_fault Tables.Package bytes.entry.now ≡ None) }
+        // It shows the value, the id and the contents of the file that it is read from.
         ensures value { IfOk result
             (λ pkg. opened_value pkg ≡ root_value Tables.Package (payload_in bytes.entry.now)) }
         ensures payload { IfOk result (λ pkg. opened_payload pkg ≡ payload_in bytes.entry.now) }
@@ -105,10 +114,11 @@ impl<'a> Package<'a> {
     pub fn values_keep_their_rules(&self)
         ensures { KeepsRules Tables.Package (opened_value self.now) }
     {
+        // A law that the proof needs; it computes nothing.
         self.checked.values_keep_their_rules();
     }
 
-    /// The package's values.
+    /// The values of the package, as a view of its table.
     pub fn view(&self) -> PackageView<'a>
         ensures { package_value result ≡ opened_value self.now }
     {
@@ -157,6 +167,7 @@ fn first_block<'a>(bytes: &'a [u8]) -> (&'a [u8], Blocks<'a>)
     ensures files { files_by_blocks (expected_contents (root_value Tables.Package result.0.now))
         (reading_of result.1) ≡ files_in_file bytes.entry.now }
 {
+    // No test of the values failed, so that the header is good and the first block is there.
     let Ok(mut blocks) = Blocks::new(bytes) else {
         unreachable!()
     };

@@ -1,5 +1,6 @@
 //! The files of a package that have contents: the walk over them, and the blocks that hold their
 //! bytes.
+//! The rules stand in `docs/formats.md`, "The other blocks", the second paragraph.
 
 ghost use Rattle.std.specs.Prelude.{◌≡◌, ◌&&◌, ◌+◌, ◌-◌, ◌<◌, ◌≤◌, ◌^◌, drop, length, ◌==◌, [], Some, IfOk, option_map};
 ghost use Rattle.std.specs.Result.{result_err};
@@ -21,8 +22,11 @@ use base_core::Cause;
 /// `specs/`.
 #[derive(Clone, Copy)]
 pub struct Walk<'a> {
+    /// All folders of the package.
     folders: List<'a, DirInfo<'a>>,
+    /// How many folders are passed.
     folder: usize,
+    /// How many files of the next folder are passed.
     file: usize,
 }
 
@@ -30,9 +34,13 @@ pub struct Walk<'a> {
 /// 1, its size in bytes, and its digest.
 #[derive(Clone, Copy)]
 pub struct Wanted<'a> {
+    /// The position of its folder in the package.
     pub folder: u32,
+    /// Its position in the folder.
     pub file: u32,
+    /// Its size in bytes.
     pub size: u64,
+    /// The digest that its bytes are to have.
     pub hash: &'a [u8],
 }
 
@@ -71,6 +79,7 @@ impl<'a> Walk<'a> {
 
     /// Goes on to the next file of the folder that has contents, or None behind the folder's last.
     fn next_in(&mut self, files: List<'a, FileInfo<'a>>) -> Option<Wanted<'a>>
+        // Positions have 32 bits.
         requires { self.old.folder + 1 < 2 ^ 32 }
         ensures folders { self.new.folders ≡ self.old.folders }
         ensures folder { self.new.folder ≡ self.old.folder }
@@ -104,7 +113,8 @@ pub fn wanted_file<'a>(view: &PackageView<'a>, folder: u32, file: u32) -> Option
     wanted_in_folder(view.paths(), folder, file)
 }
 
-/// The file with this position in the folder with another, where it has contents.
+/// The file with this position in the folder with that one, where it has contents; None where there
+/// is no such file. Positions count from 1.
 fn wanted_in_folder<'a>(
     folders: List<'a, DirInfo<'a>>,
     folder: u32,
@@ -123,7 +133,8 @@ fn wanted_in_folder<'a>(
     wanted_in(folders.get(i).files(), folder, file)
 }
 
-/// The file with this position in a folder, where it has contents.
+/// The file with this position among those of a folder, where it has contents; None where there is
+/// no such file. Positions count from 1.
 fn wanted_in<'a>(files: List<'a, FileInfo<'a>>, folder: u32, file: u32) -> Option<Wanted<'a>>
     ensures { option_map expected_of result ≡ expected_with_positions folder file
         (expected_files folder 1 (list_of (entries_in (list_value files.entry)))) }
@@ -154,15 +165,19 @@ fn has_contents(file: &FileInfo<'_>) -> bool
     file.target().is_empty() && file.size() > 0
 }
 
-/// The bytes in front of a file's own in its contents: the positions of its folder and of itself.
+/// 8: the bytes in front of a file's own in its contents, which are the positions of its folder and
+/// of itself, four bytes each.
 const HEAD: usize = 8;
 
-/// The contents of a file, with the positions of its folder and of itself in it, which count from
-/// 1. The bytes are lent.
+/// The contents of a file, with the positions of its folder (`path`) and of itself in it, which
+/// count from 1. The bytes are lent.
 #[derive(Clone, Copy)]
 pub struct FileContents<'a> {
+    /// The position of its folder in the package.
     pub path: u32,
+    /// Its position in the folder.
     pub file: u32,
+    /// Its contents.
     pub bytes: &'a [u8],
 }
 
@@ -197,11 +212,7 @@ impl<'a> Rest<'a> {
 impl<'a> Walk<'a> {
     ghost use Rattle.pkg_core.specs.Opened.{left_in, GivesContents};
 
-    /// Where the blocks end, no file may be left.
-    ///
-    /// # Errors
-    ///
-    /// `DataOrder` with the next file and the pair (0, 0), where one is left.
+    /// Ends the walk where the blocks end: no file may be left then.
     pub fn end(&mut self) -> Result<(), Cause>
         ensures exact { result_err result ≡ missing_fault (left_in self.old) }
         ensures end { IfOk result (λ _. left_in self.new ≡ []) }

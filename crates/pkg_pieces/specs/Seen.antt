@@ -1,4 +1,6 @@
 -- What reads of a file have seen of it, and what they make of the tree.
+-- What a read of a tree answers stands in `docs/crash-safety.md`, "What each call does"; that the tests
+-- count only bytes that were read, in `docs/formats.md`, "The other blocks", the paragraph of a front.
 use Rattle.std.specs.Prelude.{◌≡◌, ◌≤◌, ℕ, ◌+◌, List, length, take, drop, Some, IfSome, Result, OnOk, IfErr, IsErrOf}
 use Rattle.base_core.specs.Calls.{IfObservable}
 use Rattle.base_core.specs.Faults.{Counts, GoesOn, HasCause, IsNoFault}
@@ -9,25 +11,26 @@ use Rattle.base_core.specs.declared.tree.Disk.{Disk}
 abbrev pub HasAt : List ℕ → ℕ → List ℕ → Type 0
 HasAt file at bytes = take (length bytes) (drop at file) ≡ bytes
 
--- where the tree tells its files, and the one under this name is so long, it has these bytes there
+-- a read saw these bytes: where the tree tells its files, and the one under this name is so long, it
+-- has them at this offset
 abbrev pub IsSeen : List TreeState → List ℕ → ℕ → ℕ → List ℕ → Type 0
 IsSeen history name len at bytes =
     IfObservable history
     (λ v. IfSome (files_of v name) (λ file. length file ≡ len → HasAt file at bytes))
 
--- the same, and the bytes lie within the file
+-- a read saw these bytes, and they lie within a file that is so long
 pub record IsSeenIn (history : List TreeState) (name : List ℕ) (len at : ℕ)
     (bytes : List ℕ) : Type 0 where
   pub seen : IsSeen history name len at bytes
   pub within : at + length bytes ≤ len
 
--- the file under the name is so long
+-- the file under this name is there and is so long
 pub record IsSoLong (name : List ℕ) (len : ℕ) (v : TreeState) : Type 0 where
   pub file : List ℕ
   pub present : files_of v name ≡ Some file
   pub long : length file ≡ len
 
--- the one value of a tree's fault
+-- the fault of a failed call of a tree, which has one value only
 abbrev pub tree_fault : Disk
 tree_fault = record {}
 

@@ -1,4 +1,5 @@
 -- What a package shows whose values were tested.
+-- Serves the contracts of `Contents`; what a payload stands for is told in `docs/formats.md`, "Values".
 use Rattle.std.specs.Prelude.{ℕ, List}
 use Rattle.adb_view.specs.Adb.{payload_of}
 use Rattle.adb_view.specs.Plain.{Plain}
@@ -6,10 +7,10 @@ use Rattle.adb_schema.specs.Soundness.{root_value}
 use Rattle.adb_tables.specs.declared.tables.Which.TheVariants.{Package}
 use Rattle.pkg_pieces.specs.declared.contents.Contents.{Contents}
 
--- the bytes that hold it
+-- the bytes that hold the value of a package whose values were tested
 abbrev pub payload_of_contents : Contents → List ℕ
 payload_of_contents contents = payload_of contents.adb
 
--- its plain value
+-- the plain value of a package whose values were tested
 abbrev pub value_of_contents : Contents → Plain
 value_of_contents contents = root_value Package (payload_of_contents contents)

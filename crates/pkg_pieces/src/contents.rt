@@ -1,4 +1,6 @@
 //! The values of a package whose front was read.
+//! The rules stand in `docs/formats.md`, "Tests of a container": the shape, the texts, and names
+//! that stand twice.
 
 ghost use Rattle.std.specs.Prelude.{◌≡◌, true, None, IfOk, IfErr, is_none};
 ghost use Rattle.adb_schema.specs.ReadFaults.{IsReadFault};
@@ -61,6 +63,7 @@ impl<'a> Contents<'a> {
         ensures value { value_of_contents result ≡ root_value Tables.Package payload.entry.now }
         ensures payload { payload_of_contents result ≡ payload.entry.now }
     {
+        // The payload passes all tests, that of its head among them.
         let Ok(adb) = Adb::new(payload) else {
             unreachable!()
         };
@@ -72,6 +75,7 @@ impl<'a> Contents<'a> {
     pub fn values_keep_their_rules(&self)
         ensures { KeepsRules Tables.Package (value_of_contents self.now) }
     {
+        // A law that the proof needs; it computes nothing.
         no_text_is_bad_where_each_keeps_its_rule();
     }
 
@@ -80,14 +84,16 @@ impl<'a> Contents<'a> {
         ensures sound { IsSoundValue Tables.Package (value_of_contents self.now) }
         ensures normal { IsNormal (value_of_contents self.now) }
     {
+        // Laws that the proof needs; they compute nothing.
         bytes_are_small(self.adb.payload());
         tested_payloads_hold_sound_values();
     }
 
-    /// The package's values.
+    /// The values of the package, as a view of its table.
     pub fn view(&self) -> PackageView<'a>
         ensures { package_value result ≡ value_of_contents self.now }
     {
+        // A law that the proof needs; it computes nothing.
         values_of_few_visits_have_no_fault();
         PackageView::of(self.adb, self.adb.root())
     }
@@ -100,7 +106,7 @@ impl<'a> Contents<'a> {
     }
 }
 
-/// Tests the payload of a package, and gives it opened.
+/// Tests the payload of a package in the order that `new` tells, and gives it opened.
 fn check_payload<'a>(alloc: Global, payload: &'a [u8]) -> Result<Adb<'a>, ReadFault>
     ensures bad { IfErr result
         (λ fault. IsReadFault fault (payload_fault Tables.Package payload.entry.now)) }

@@ -1,4 +1,5 @@
 //! The front of a container in a tree: its header and its first block.
+//! The rules stand in `docs/formats.md`, "The other blocks", the paragraph of a front.
 
 ghost use Rattle.std.specs.Prelude.{◌≤◌};
 
@@ -26,6 +27,7 @@ impl From<Cause> for FrontFault {
 
     ghost from_gives = { λ cause fault. fault ≡ Bad cause };
 
+    /// A failed test is one of the front.
     fn from(cause: Cause) -> FrontFault {
         FrontFault::Bad(cause)
     }
@@ -37,6 +39,7 @@ impl From<Disk> for FrontFault {
 
     ghost from_gives = { λ _ fault. fault ≡ DiskFault };
 
+    /// A failed call of the tree is a fault of it.
     fn from(_: Disk) -> FrontFault {
         FrontFault::Disk
     }
@@ -48,6 +51,7 @@ impl From<AllocError> for FrontFault {
 
     ghost from_gives = { λ _ fault. fault ≡ Memory };
 
+    /// Where no memory was given the front has none.
     fn from(_: AllocError) -> FrontFault {
         FrontFault::Memory
     }
@@ -58,9 +62,13 @@ impl From<AllocError> for FrontFault {
 /// payload, the two numbers, and of which files it is the front.
 #[derive(Drop)]
 pub struct Front {
+    /// The schema that the file's header tells.
     pub(crate) schema: u32,
+    /// The payload of the first block.
     pub(crate) payload: Vec<u8>,
+    /// How many bytes the file has.
     pub(crate) len: u64,
+    /// The offset behind the first block and its padding.
     pub(crate) at: u64,
     ghost within: { at ≤ len },
 }
@@ -76,7 +84,7 @@ impl Front {
         &self.payload
     }
 
-    /// How many bytes the file has.
+    /// How many bytes the file of the front has.
     pub fn file_len(&self) -> u64
         ensures { result ≡ front_file_len self.now }
     {

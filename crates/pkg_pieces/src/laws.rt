@@ -1,4 +1,6 @@
 //! What follows from the definitions, for every package.
+//! Each is a row of the README of this crate; the rules stand in `docs/formats.md`, "Tests of a
+//! container".
 ghost use Rattle.std.specs.Prelude.{◌≡◌, ◌≢◌, ◌<◌, ℕ, All, List, None, Some};
 ghost use Rattle.std.specs.Option.{option_or};
 ghost use Rattle.adb_block.specs.Reading.{reading_of};

@@ -5,6 +5,7 @@
 //! container (apk-v3(5)), and `Contents` tests and lends the values that a package's front holds.
 //! The contracts cite `Front` (the tests of a front, and of which files it is one), `Seen` (which
 //! bytes of a file were seen) and `Values` (what a package shows) of `specs/`.
+//! The rules stand in `docs/formats.md`, "Tests of a container" and "The other blocks".
 #![tactic(auto)]
 
 mod contents;

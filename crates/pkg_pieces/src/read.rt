@@ -1,4 +1,6 @@
 //! How the front of a container is read from a tree.
+//! The rules stand in `docs/formats.md`, "The other blocks", the paragraph of a front; the tests
+//! and their order in "Container", the table.
 
 ghost use Rattle.std.specs.Prelude.{◌≡◌, ◌≤◌, ◌+◌, ◌-◌, ℕ, List, Option, None, true, length, min, take, IfOk, IfErr, IfSome};
 ghost use Rattle.adb_block.specs.Framing.{next_step};
@@ -33,15 +35,17 @@ pub fn read_front<T: Tree>(
     name: &Name,
     schema: u32,
 ) -> Result<Option<Front>, FrontFault>
-    // What is answered of some file, which is the one under the name where the tree tells it.
+    // The answer is that for some file, which is the one under the name where the tree tells it.
     ensures front { (found : Option (List ℕ)) × IfObservable (T.history tree.old) (λ v.
         found ≡ files_of v name.now) × IsFrontRead schema found result }
-    // And of each file that is so long, and has the bytes that were seen.
+    // And what is held is the front of each file that is so long, and has the bytes that were seen.
     ensures seen { IfOk result (λ found. IfSome found (λ front. (seen : List ℕ)
         × IsSeenIn (T.history tree.old) name.now (front_file_len front) 0 seen
         × (front_end front ≡ length seen)
         × ((file : List ℕ) → length file ≡ front_file_len front → HasAt file 0 seen
         → IsFrontOf schema file front))) }
+    // The tree stays as it is; a failed tree is answered only where it failed, and no call is a
+    // misuse where the tree tells its files.
     ensures tree { OnlyReads DiskFault (T.history tree.old) (T.history tree.new)
         (T.counts tree.old) (T.counts tree.new) result }
 {
@@ -54,10 +58,13 @@ pub fn read_front<T: Tree>(
     }
 }
 
-/// The first bytes of a file, at most eight. Contracts see the bytes.
+/// The header of a file: its first bytes, at most eight, and all that there are of fewer. Contracts
+/// see the bytes.
 #[derive(Drop)]
 struct Header {
+    /// `ADB.` and the schema; what was not read is 0.
     bytes: [u8; 8],
+    /// How many bytes were read.
     len: usize,
 }
 
@@ -72,13 +79,15 @@ impl Model for Header {
 }
 
 impl Header {
-    /// Reads the first bytes of a file that is so long.
+    /// Reads the first bytes of a file that has so many bytes.
     #[tactic(auto, using(crate::proofs::SeenBytes::seen_by_read, crate::proofs::SeenBytes::proper_where_long))]
     fn read<T: Tree>(tree: &mut T, name: &Name, len: u64) -> Result<Header, FrontFault>
         ensures len { IfOk result (λ header. length header ≡ min len 8) }
         ensures seen { IfOk result (λ header. (file_len : ℕ)
             → IsSeen (T.history tree.old) name.now file_len 0 header) }
         ensures disk { IfErr result (λ fault. fault ≡ DiskFault) }
+        // The tree stays as it is; a failed tree is answered only where it failed, and no call is a
+        // misuse where the tree shows the file, as long as it was.
         ensures tree { ReadsFile name.now len DiskFault (T.history tree.old) (T.history tree.new)
             (T.counts tree.old) (T.counts tree.new) result }
     {
@@ -88,7 +97,7 @@ impl Header {
         Ok(Header { bytes, len: some })
     }
 
-    /// The schema that it tells, or the first failed test.
+    /// The schema that the header tells, or the first failed test.
     fn schema(&self) -> Result<u32, Cause>
         ensures { result ≡ header_of self.now }
     {
@@ -110,6 +119,8 @@ fn read_payload<T: Tree>(
     ensures seen { IfOk result (λ payload. (file_len : ℕ)
         → IsSeen (T.history tree.old) name.now file_len at payload.items) }
     ensures good { IfErr result (λ fault. IsNotBad fault) }
+    // The tree stays as it is; a failed tree is answered only where it failed, and no call is a
+    // misuse where the tree shows the file, as long as it was.
     ensures tree { (file_len : ℕ) → at + len ≤ file_len → ReadsFile name.now file_len DiskFault
         (T.history tree.old) (T.history tree.new) (T.counts tree.old) (T.counts tree.new) result }
 {
@@ -118,7 +129,8 @@ fn read_payload<T: Tree>(
     Ok(payload)
 }
 
-/// Reads the front of a file that is so long.
+/// Reads the front of a file that has so many bytes. The header of the first block stands at offset
+/// 8, behind the file's.
 fn read_present<T: Tree>(
     alloc: Global,
     tree: &mut T,
@@ -130,6 +142,8 @@ fn read_present<T: Tree>(
     ensures front { (seen : List ℕ) × IsSeenIn (T.history tree.old) name.now len 0 seen
         × ((file : List ℕ) → length file ≡ len → HasAt file 0 seen
         → IsPresentRead schema result (length seen) file) }
+    // The tree stays as it is; a failed tree is answered only where it failed, and no call is a
+    // misuse where the tree shows the file, as long as it was.
     ensures tree { ReadsFile name.now len DiskFault (T.history tree.old) (T.history tree.new)
         (T.counts tree.old) (T.counts tree.new) result }
 {
@@ -138,6 +152,7 @@ fn read_present<T: Tree>(
     if found != schema {
         return Err(FrontFault::Bad(Cause::WrongSchema { found }));
     }
+    // The file's header has eight bytes, and the first block stands behind it.
     let head = HeadBytes::read(tree, name, 8, len - 8)?;
     let framed = first_framed(len - 8, &head)?;
     let padding = padding_behind(framed, len - 8);
@@ -152,7 +167,8 @@ fn read_present<T: Tree>(
     })
 }
 
-/// The first block of a file, behind whose header so many bytes are left, by the block's header.
+/// What the header of the first block of a file frames, where so many bytes are left behind the
+/// file's own header, of eight bytes.
 fn first_framed(left: u64, head: &HeadBytes) -> Result<Frame, Cause>
     requires holds { HoldsHead head.now left }
     requires short { length head.now ≤ head_len head.now }
@@ -164,6 +180,7 @@ fn first_framed(left: u64, head: &HeadBytes) -> Result<Frame, Cause>
 {
     match frame_of(None, 8, head.bytes(), left)? {
         Some(framed) => Ok(framed),
+        // A file that ends in front of its first block is a fault, and not the end.
         None => unreachable!(),
     }
 }

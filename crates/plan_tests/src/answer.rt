@@ -1,4 +1,4 @@
-//! Plans of files as text.
+//! Plans of files as text. `tests/lines.md` describes it under `plan`.
 
 use base_core::{Name, Names};
 use db_core::Owned;
@@ -9,7 +9,11 @@ use std::alloc::{AllocError, Global};
 /// Adds a plan: `-NAME` for each name that is removed, `+NAME:MEMBER.FOLDER.FILE` for each that is
 /// written, `~NAME` for each path beside which a file is laid, `=NAME` for each that is kept, and
 /// `owned:` with `1` or `0` for each file that the packages list.
-pub fn add_files(alloc: Global, plan: &FilePlan, answer: &mut Vec<u8>) -> Result<(), AllocError> {
+pub(crate) fn add_files(
+    alloc: Global,
+    plan: &FilePlan,
+    answer: &mut Vec<u8>,
+) -> Result<(), AllocError> {
     add_names(b"-", plan.removals(), answer)?;
     add_writes(alloc, plan.writes(), answer)?;
     add_names(b"~", plan.aside(), answer)?;
@@ -60,7 +64,7 @@ fn add_flags(owned: &Owned, answer: &mut Vec<u8>) -> Result<(), AllocError> {
 }
 
 /// Adds why there is no plan.
-pub fn add_fault(fault: PlanFault, answer: &mut Vec<u8>) -> Result<(), AllocError> {
+pub(crate) fn add_fault(fault: PlanFault, answer: &mut Vec<u8>) -> Result<(), AllocError> {
     match fault {
         PlanFault::Reserved { path } => add_marked(b"reserved ", &path, answer),
         PlanFault::PathClash { path, other } => {

@@ -1,4 +1,6 @@
-//! Changes of packages, from the words of rows, and the plans of their files.
+//! Changes of packages, from the words of rows, and the plans of their files. How a row tells a
+//! package stands in `tests/lines.md`; the rules of plans in `docs/commands.md`,
+//! "What a change does with files".
 use crate::answer::{add_fault, add_files};
 use crate::package::{database_file, package_file};
 use adb_schema::ReadFault;
@@ -16,13 +18,16 @@ use tree_memory::MemoryTree;
 /// The packages before a change and after it, each as its row tells it.
 #[derive(Drop)]
 pub struct ToldChange {
+    /// The packages before, a row each.
     pub before: Vec<Words>,
+    /// The packages after, a row each.
     pub after: Vec<Words>,
+    /// Whether changed configuration goes with its package.
     pub purge: bool,
 }
 
 /// Adds the plan of a change. The database after it goes out; no bytes where there is none.
-pub fn add_plan(
+pub(crate) fn add_plan(
     alloc: Global,
     tree: &mut MemoryTree,
     change: &ToldChange,
@@ -33,7 +38,7 @@ pub fn add_plan(
     add_plan_over(alloc, tree, change, &file, &fronts, answer)
 }
 
-/// Adds it over the file of a database and the fronts of the packages that come.
+/// Adds the plan over the file of a database and the fronts of the packages that come.
 fn add_plan_over<'a>(
     alloc: Global,
     tree: &mut MemoryTree,

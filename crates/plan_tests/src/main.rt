@@ -1,6 +1,6 @@
-//! Answers questions to `own_core`: what a change of packages does with files. Its stored run has
-//! all rows; `tests/lines.md` describes their form. The tree and the packages stay from one row to
-//! the next.
+//! Answers questions to `own_core` and `file_fates`: what a change of packages does with files. Its
+//! stored run has all rows; `tests/lines.md` describes their form, and the README of this crate has
+//! a row for each question. The tree and the packages stay from one row to the next.
 #![tactic(auto)]
 
 mod answer;
@@ -19,20 +19,30 @@ use std::io;
 use std::process::ExitCode;
 use tree_memory::MemoryTree;
 
-/// What is asked.
+/// What is asked; the README of this crate says what each question answers.
 #[derive(Clone, Copy)]
 enum Question {
+    /// `new`.
     New,
+    /// `installed NAME VERSION PRIORITY FILES REPLACES ..`.
     Installed,
+    /// `stays NAME`, `comes NAME VERSION PRIORITY FILES REPLACES ..`.
     After,
+    /// `file PATH BYTES`.
     Tree,
+    /// `fail_at N`.
     Fail,
+    /// `plan`.
     Plan,
+    /// `purge`.
     Purge,
+    /// `calls N`.
     Calls,
+    /// `owner PATH`.
     Owner,
 }
 
+// The words that questions begin with.
 #[rattlefmt::skip]
 const QUESTIONS: [(&[u8], Question); 10] = [
     (b"new", Question::New),
@@ -47,13 +57,16 @@ const QUESTIONS: [(&[u8], Question); 10] = [
     (b"owner", Question::Owner),
 ];
 
-/// The change that rows tell, the tree, how often the last plan asked it, and the database that it
-/// leads to.
+/// What rows have told, and what the last plan came to.
 #[derive(Drop)]
 struct Planned {
+    /// The change that rows have told so far.
     change: ToldChange,
+    /// The tree, with the files that rows have put there.
     tree: MemoryTree,
+    /// How many calls of the tree the last plan made.
     asked: u64,
+    /// The database behind the change of the last plan.
     database: Vec<u8>,
 }
 

@@ -1,4 +1,6 @@
-//! Packages and databases, from the words of rows.
+//! Packages and databases, from the words of rows. How a row writes them stands in
+//! `tests/lines.md`; the fields in `docs/formats.md`, "Schemas", where they count from 1 and the
+//! places here from 0.
 
 use adb_schema::{IDB_WORD, PACKAGE_WORD};
 use adb_view::Val;
@@ -9,39 +11,40 @@ use sha1::Sha1;
 use sha2::{Digest, Sha256};
 use std::alloc::{AllocError, Global};
 
-/// The most bytes of a payload.
+/// The most bytes of a payload (`docs/formats.md`, "Canonical layout").
 const MOST_BYTES: usize = 268_435_455;
 
-/// The fields of a package's information, up to what it replaces.
+/// How many fields of a package's information are written (table 3): those up to what the package
+/// replaces, which is the last.
 const INFO_FIELDS: usize = 17;
 
-/// The fields of a file, up to its target.
+/// How many fields of a file are written (table 4): those up to its target.
 const FILE_FIELDS: usize = 6;
 
-/// The place of a file's size.
+/// The place of a file's size, counted from 0.
 const SIZE: usize = 2;
 
-/// The place of a file's digest.
+/// The place of a file's digest, counted from 0.
 const HASHES: usize = 4;
 
-/// The place of a link's target.
+/// The place of a link's target, counted from 0.
 const TARGET: usize = 5;
 
-/// What stands before the text of a link's target: the type of a symbolic link.
+/// What stands before the text of a link's target (`docs/formats.md`, "The texts", field 406).
 const LINK: &[u8] = b"\x00\xa0";
 
-/// What stands between a path and what is said of its file.
+/// What may stand between a path and what is said of its file.
 const MARKS: &[u8] = b"=#:>";
 
 /// The container of the package of a row, without contents.
-pub fn package_file(alloc: Global, row: &Words) -> Result<Vec<u8>, AllocError> {
+pub(crate) fn package_file(alloc: Global, row: &Words) -> Result<Vec<u8>, AllocError> {
     let mut writer = Writer::new(alloc);
     let root = write_package(alloc, &mut writer, row)?;
     container(alloc, writer, root, PACKAGE_WORD)
 }
 
 /// The container of the database with the packages of these rows.
-pub fn database_file(alloc: Global, rows: &[Words]) -> Result<Vec<u8>, AllocError> {
+pub(crate) fn database_file(alloc: Global, rows: &[Words]) -> Result<Vec<u8>, AllocError> {
     let mut writer = Writer::new(alloc);
     let mut packages = Vec::new(alloc);
     for row in rows {
@@ -65,7 +68,8 @@ fn container(alloc: Global, writer: Writer, root: Val, schema: u32) -> Result<Ve
 }
 
 /// Writes the package of `WORD NAME VERSION PRIORITY FILES REPLACES..`. Files have commas between
-/// them. What is replaced is `NAME:VERSION:MATCH`, where the number says which versions match.
+/// them. What is replaced is `NAME:VERSION:MATCH`, where the number says which versions match. The
+/// name is field 0 and the version field 1 of its information.
 fn write_package(alloc: Global, writer: &mut Writer, row: &Words) -> Result<Val, AllocError> {
     let mut info = [Val::of(0); INFO_FIELDS];
     info[0] = writer.blob(word_at(row, 1))?;
@@ -91,7 +95,7 @@ fn write_number(writer: &mut Writer, number: u64) -> Result<Val, AllocError> {
     writer.int(number)
 }
 
-/// Writes what the package replaces.
+/// Writes what the package replaces: the words of the row from the sixth on.
 fn write_replaces(alloc: Global, writer: &mut Writer, row: &Words) -> Result<Val, AllocError> {
     let mut replaces = Vec::new(alloc);
     for i in 5..row.len() {
@@ -114,7 +118,9 @@ fn write_replaced(writer: &mut Writer, word: &[u8]) -> Result<Val, AllocError> {
 /// Folders that are written, and the files of the one that comes next.
 #[derive(Drop)]
 struct Folders {
+    /// The folders that are written.
     written: Vec<Val>,
+    /// The files of the folder that comes next.
     files: Vec<Val>,
 }
 

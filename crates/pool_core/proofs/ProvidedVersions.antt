@@ -1,6 +1,6 @@
 -- The version of an entry is the text at its place, and the first entry that meets a dependency is
 -- found in order.
-use Rattle.std.proofs.Common.{◌≡◌, ◌⊎◌, inl, inr, ℕ, zero, suc, ◌+◌, ◌-◌, ◌<◌, Bool, true, false, List, [], ◌∷◌, ◌++◌, append-nil, refl, sym, subst, ap, ◌∙◌, arith}
+use Rattle.std.proofs.Common.{◌≡◌, inl, inr, ℕ, zero, suc, ◌+◌, ◌-◌, ◌<◌, Bool, true, false, List, [], ◌∷◌, ◌++◌, append-nil, refl, sym, subst, ap, ◌∙◌, arith}
 use Rattle.std.specs.Prelude.{IfSome, Option, Some, None, is_some, option_to_list, if◌then◌else◌, ◌&&◌}
 use Rattle.std.specs.List.{cons_option, find}
 use Rattle.adb_view.specs.Plain.{Plain, Plains, none, more}

@@ -4,7 +4,12 @@ use Rattle.std.specs.Cmp.Lexicographic.{nat_list_cmp_total, options_total}
 use Rattle.version_core.specs.Order.{version_cmp}
 use Rattle.pool_core.specs.Candidates.{Candidate, Need, version_under}
 use Rattle.pool_core.specs.Rank.{SealedPool, UpgradedNames, rank_cmp, quality_first, is_pinned, is_untagged, has_needed_name, is_kept_installed, quality_cmp, merit_cmp, text_cmp, candidate_at, greater_version}
-use Rattle.pool_core.specs.Ranking.{Ranking, ranking_cmp, truth_first}
+use Rattle.pool_core.specs.Ranking.{Ranking, ranking_cmp, truth_first, version_key_cmp, version_order}
+use Rattle.pool_core.specs.declared.rank.VersionKey.{VersionKey}
+use Rattle.pool_core.specs.declared.rank.VersionKey.TheVariants.{ByRank, ByText}
+use Rattle.pool_core.specs.declared.versions.RankedVersion.{RankedVersion}
+use Rattle.pool_core.specs.declared.versions.VersionKind.{VersionKind}
+use Rattle.pool_core.specs.declared.versions.VersionKind.TheVariants.{Under, Own}
 
 quality_first_total : (quality : Candidate → _) → IsTotalOrder (quality_first quality)
 quality_first_total quality = on_total quality (back_total bool_cmp_total)
@@ -39,16 +44,24 @@ module _ (versions : IsTotalOrder version_cmp) where
 truth_total : (key : Ranking → _) → IsTotalOrder (truth_first key)
 truth_total key = on_total key (back_total bool_cmp_total)
 
-pub ranking_total : IsTotalOrder ranking_cmp
+pub order_of_kind : IsTotalOrder version_cmp → (kind : VersionKind) → IsTotalOrder (version_order kind)
+order_of_kind versions Under = versions_back versions
+order_of_kind versions Own = then_total (versions_back versions) (options_total nat_list_cmp_total)
+
+version_key_total : IsTotalOrder version_cmp → (key : VersionKey) (kind : VersionKind) → IsTotalOrder (version_key_cmp key kind)
+version_key_total versions ByRank kind = on_total (λ (v : RankedVersion). v.rank) nat_cmp_total
+version_key_total versions ByText kind = on_total (λ (v : RankedVersion). v.version) (order_of_kind versions kind)
+
+pub ranking_total : IsTotalOrder version_cmp → (key : VersionKey) → IsTotalOrder (ranking_cmp key)
 unfolding ranking_cmp
-ranking_total =
+ranking_total versions key =
     then_total
     (then_total (truth_total (λ r. r.pinned))
     (then_total
     (then_total (truth_total (λ r. r.untagged)) (then_total (truth_total (λ r. r.named)) (truth_total (λ r. r.kept))))
     (then_total
-    (then_total (on_total (λ (r : Ranking). r.under.rank) nat_cmp_total)
+    (then_total (on_total (λ (r : Ranking). r.under) (version_key_total versions key Under))
     (then_total (on_total (λ (r : Ranking). r.priority) (back_total nat_cmp_total))
-    (then_total (on_total (λ (r : Ranking). r.name) nat_list_cmp_total) (on_total (λ (r : Ranking). r.version.rank) nat_cmp_total))))
+    (then_total (on_total (λ (r : Ranking). r.name) nat_list_cmp_total) (on_total (λ (r : Ranking). r.version) (version_key_total versions key Own)))))
     (on_total (λ (r : Ranking). r.repository) (back_total (options_total (back_total nat_cmp_total)))))))
     (on_total (λ (r : Ranking). r.place) nat_cmp_total)

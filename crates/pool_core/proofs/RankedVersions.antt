@@ -1,24 +1,16 @@
 -- Options whose versions are ranked: what stays of each, and which texts are one.
-use Rattle.std.proofs.Common.{◌≡◌, All, inl, inr, ℕ, zero, suc, ◌+◌, ◌-◌, ◌≤◌, ◌<◌, Bool, true, false, List, [], ◌∷◌, ◌++◌, length, take, map, get_or, set, refl, sym, subst, ap, ◌∙◌, arith}
+use Rattle.std.proofs.Common.{◌≡◌, All, inl, inr, ℕ, zero, suc, ◌+◌, ◌-◌, ◌≤◌, ◌<◌, List, [], ◌∷◌, ◌++◌, length, take, map, get_or, set, refl, sym, subst, ap, ◌∙◌, arith}
 use Rattle.std.specs.Prelude.{IfSome, Option, Some, None, is_some, slice_get}
-use Rattle.std.specs.Cmp.{IsTotalOrder, then_total}
-use Rattle.std.specs.Cmp.Lexicographic.{nat_list_cmp_total, options_total}
 use Rattle.std.specs.List.Sorted.{IsPermutation}
 use Rattle.std.proofs.lemmas.List.Elements.{All-map, All-push}
 use Rattle.std.proofs.lemmas.List.Sorted.{All-permutation, IsPermutation-map}
-use Rattle.version_core.specs.Order.{version_cmp}
 use Rattle.pool_core.specs.Options.{IsIn}
 use Rattle.pool_core.specs.Ranking.{Ranking}
-use Rattle.pool_core.specs.VersionRanks.{AreRankedFrom, AreReadAlike, HaveSamePlace, IsListed, IsReadBy, rank_among, version_of, version_order, with_rank, with_rank_among}
+use Rattle.pool_core.specs.VersionRanks.{AreRankedFrom, AreReadAlike, HaveSamePlace, IsListed, IsReadBy, rank_among, version_of, with_rank, with_rank_among}
 use Rattle.pool_core.specs.declared.versions.RankedVersion.{RankedVersion}
 use Rattle.pool_core.specs.declared.versions.VersionKind.{VersionKind}
 use Rattle.pool_core.specs.declared.versions.VersionKind.TheVariants.{Under, Own}
-use Rattle.pool_core.proofs.RankOrder.{versions_back}
 use Rattle.pool_core.proofs.Steps.{get_at, take_one_more}
-
-pub order_of_kind : IsTotalOrder version_cmp → (kind : VersionKind) → IsTotalOrder (version_order kind)
-order_of_kind versions Under = versions_back versions
-order_of_kind versions Own = then_total (versions_back versions) (options_total nat_list_cmp_total)
 
 -- ---- texts
 

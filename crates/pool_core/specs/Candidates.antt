@@ -1,5 +1,8 @@
 -- The packages that a selection is made of, and what each of them meets (apk-package(5),
 -- apk-world(5)).
+-- The rules stand in `docs/selection.md`, "What there is to choose from", and, for install-if and
+-- for names that are occupied, "What satisfies world", 3 and 4. The fields are those of
+-- `docs/formats.md`, "Schemas", table 3.
 use Rattle.std.specs.Prelude.{ℕ, ◌==◌, nat_eq, nat_lt, Bool, true, false, not, ◌&&◌, ◌||◌, if◌then◌else◌, List, [], ◌∷◌, ◌++◌, length, Option, Some, None, is_some}
 use Rattle.std.specs.Option.{option_and_then, option_map_or}
 use Rattle.std.specs.List.{cons_option, filter, find, list_all, list_any, starts_with}
@@ -12,9 +15,10 @@ use Rattle.dep_core.specs.Dependency.{Dependency}
 use Rattle.dep_core.specs.Meets.{meets}
 pub use Rattle.adb_rules.specs.Dependencies.{dependency_in}
 
--- a package to choose from: what its index, or the database, says of it, and what is read of that.
--- The version is none only where the text is no version, which no tested container has.
--- Repositories count from 1; an installed package that no index has is of none
+-- a package to choose from: `info` is what its index, or the database, says of it, and the other
+-- parts are what is read of that. The version is none only where the text is no version, which no
+-- tested container has. Repositories count from 1; an installed package that no index has is of
+-- none
 pub record Candidate : Type 0 where
   pub info : Plain
   pub name : List ℕ
@@ -40,7 +44,7 @@ abbrev pub dependencies_of : Plains → List Dependency
 dependencies_of none = []
 dependencies_of (more value values) = cons_option (dependency_in value) (dependencies_of values)
 
--- the dependencies of a list of a package's information
+-- the dependencies of a value that is a list of a package's information, such as its `depends`
 abbrev pub dependencies_in : Plain → List Dependency
 dependencies_in value = dependencies_of (entries_in value)
 
@@ -64,7 +68,7 @@ candidate_by info name version id depends provides install_if priority repositor
       installed = installed;
     }
 
--- the candidate that a package's information is
+-- the candidate with this information, of a repository and its tag, installed or not
 abbrev pub candidate_of : Plain → Option ℕ → Option (List ℕ) → Bool → Candidate
 candidate_of info repository tag installed =
     candidate_by info (text_in (entry_in info INFO_NAME))
@@ -75,26 +79,28 @@ candidate_of info repository tag installed =
 
 -- ---- the list: the packages of each index, then the installed ones that no index has
 
--- the packages of a repository's index, in its order
+-- the candidates of a repository's index, with its tag: its packages, in its order, none of them
+-- installed yet
 abbrev pub candidates_of_index : ℕ → Option (List ℕ) → Plains → List Candidate
 candidates_of_index repository tag none = []
 candidates_of_index repository tag (more info infos) =
     candidate_of info (Some repository) tag false ∷ candidates_of_index repository tag infos
 
--- two ids are the same where both are nonempty and the shorter is a front of the longer
+-- whether two ids are the same: both are nonempty, and the shorter is a front of the longer
 abbrev pub is_same_id : List ℕ → List ℕ → Bool
 is_same_id a b =
     nat_lt 0 (length a)
     && (nat_lt 0 (length b) && (starts_with nat_eq a b || starts_with nat_eq b a))
 
--- two versions with the same text, or none twice
+-- whether two versions have the same text, or neither is one
 abbrev pub is_same_version : Option (List ℕ) → Option (List ℕ) → Bool
 is_same_version None None = true
 is_same_version None (Some b) = false
 is_same_version (Some a) None = false
 is_same_version (Some a) (Some b) = bytes_eq a b
 
--- whether a candidate of a repository is the installed package
+-- whether a candidate is of a repository and is the installed package: name, text of the version
+-- and id are the same
 abbrev pub is_same_package : Candidate → Candidate → Bool
 is_same_package installed c =
     is_some c.repository
@@ -105,7 +111,7 @@ is_same_package installed c =
 abbrev pub as_installed : Candidate → Candidate
 as_installed c = record c { installed = true }
 
--- each candidate that is the installed package counts as installed
+-- the list, where each candidate that is the installed package counts as installed
 abbrev pub as_installed_where_same : Candidate → List Candidate → List Candidate
 as_installed_where_same installed [] = []
 as_installed_where_same installed (c ∷ cs) =
@@ -130,7 +136,7 @@ abbrev pub need_name : Need → List ℕ
 need_name (entry d) = d.name
 need_name (named name) = name
 
--- whether an entry of provides meets a dependency; one that is a conflict provides nothing
+-- whether an entry of provides meets a dependency; an entry that is a conflict provides nothing
 abbrev pub is_met_by_entry : Dependency → Dependency → Bool
 is_met_by_entry d p = not p.conflict && meets d p.name p.version
 
@@ -138,35 +144,39 @@ is_met_by_entry d p = not p.conflict && meets d p.name p.version
 abbrev pub meets_by_own_name : Dependency → Candidate → Bool
 meets_by_own_name d c = meets d c.name c.version
 
--- whether it meets one by its own name or by something that it provides
+-- whether a candidate meets a dependency by its own name and version, or by an entry of its
+-- provides
 abbrev pub meets_dependency : Dependency → Candidate → Bool
 meets_dependency d c = meets_by_own_name d c || list_any (is_met_by_entry d) c.provides
 
--- a name that an install-if raises is met only by a candidate of that name
+-- whether a candidate meets a need; a name that an install-if raises is met only by a candidate of
+-- that name
 abbrev pub meets_need : Need → Candidate → Bool
 meets_need (entry d) c = meets_dependency d c
 meets_need (named name) c = bytes_eq name c.name
 
--- the version under which it meets a need: its own, else that of the first entry of provides that
--- meets it
+-- the version under which a candidate meets a need: its own, else that of the first entry of its
+-- provides that meets the need
 abbrev pub version_under : Need → Candidate → Option (List ℕ)
 version_under (entry d) c =
     if meets_by_own_name d c then c.version
     else option_and_then (λ (p : Dependency). p.version) (find (is_met_by_entry d) c.provides)
 version_under (named name) c = c.version
 
--- whether it is named so, or has an entry of provides of the name that is no conflict
+-- whether a candidate is among the offers of a name: it is named so, or has an entry of provides of
+-- the name that is no conflict
 abbrev pub offers_name : List ℕ → Candidate → Bool
 offers_name name c =
     bytes_eq name c.name
     || list_any (λ (p : Dependency). not p.conflict && bytes_eq name p.name) c.provides
 
--- whether an entry of provides occupies the name: it has a version and is no conflict
+-- whether an entry of provides occupies the name: it is of the name, has a version and is no
+-- conflict
 abbrev pub entry_occupies : List ℕ → Dependency → Bool
 entry_occupies name p = not p.conflict && (is_some p.version && bytes_eq name p.name)
 
--- whether it occupies the name, which one member of a selection may do: it is named so, or provides
--- the name with a version
+-- whether a candidate occupies the name, which one member of a selection may do: it is named so, or
+-- provides the name with a version
 abbrev pub occupies_name : List ℕ → Candidate → Bool
 occupies_name name c = bytes_eq name c.name || list_any (entry_occupies name) c.provides
 
@@ -180,20 +190,21 @@ positive_entries_of world = filter (λ (d : Dependency). not d.conflict) world
 abbrev pub uses_tag : List Dependency → List ℕ → Bool
 uses_tag world tag = list_any (λ (d : Dependency). option_map_or (bytes_eq tag) d.tag false) world
 
--- installed, or of an untagged repository, or of one whose tag an entry of world uses
+-- whether a candidate is allowed: installed, or of no repository or an untagged one, or of one
+-- whose tag an entry of world uses
 abbrev pub is_allowed : List Dependency → Candidate → Bool
 is_allowed world c =
     c.installed || (not (is_some c.repository) || option_map_or (uses_tag world) c.tag true)
 
--- whether it meets a conflict of world
+-- whether a candidate is barred: it meets a conflict of world
 abbrev pub is_barred_by : List Dependency → Candidate → Bool
 is_barred_by world c = list_any (λ (d : Dependency). d.conflict && meets_dependency d c) world
 
--- whether it may be selected
+-- whether a candidate may be selected: it is allowed and not barred
 abbrev pub is_eligible : List Dependency → Candidate → Bool
 is_eligible world c = is_allowed world c && not (is_barred_by world c)
 
--- whether it has an install-if that can come to apply: it may be selected itself, and the
+-- whether a candidate has an install-if that can come to apply: it may be selected itself, and its
 -- install-if is not empty and has no conflict
 abbrev pub has_usable_install_if : List Dependency → Candidate → Bool
 has_usable_install_if world c =

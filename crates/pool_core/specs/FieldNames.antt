@@ -1,4 +1,6 @@
 -- A package's information by the names of its fields.
+-- The fields and their names stand in `docs/formats.md`, "Schemas", table 3. Serves the law
+-- `a_candidate_is_read_by_field_names`, by which no number of a field has to be trusted.
 use Rattle.std.specs.Prelude.{ℕ, List, [], ◌∷◌, if◌then◌else◌}
 use Rattle.std.specs.Str.{bytes_eq}
 use Rattle.adb_view.specs.Plain.{Plain, null, Plains, none, more}
@@ -7,7 +9,7 @@ use Rattle.adb_tables.specs.Values.{entries_in}
 use Rattle.adb_tables.specs.declared.tables.Kind.{Kind}
 use Rattle.adb_tables.specs.declared.tables.Which.TheVariants.{PkgInfo}
 
--- of values in the order of a table's fields, the one at the field of a name; Null where there is
+-- of values in the order of a table's fields, the value at the field of a name; Null where there is
 -- none
 abbrev pub value_under_name : List ℕ → List (List ℕ × Kind) → Plains → Plain
 value_under_name name [] values = null
@@ -15,6 +17,6 @@ value_under_name name (f ∷ fields) none = null
 value_under_name name (f ∷ fields) (more v values) =
     if bytes_eq f.0 name then v else value_under_name name fields values
 
--- the value of a field of a package's information
+-- the value of the field of a package's information that has a name
 abbrev pub info_under_name : List ℕ → Plain → Plain
 info_under_name name info = value_under_name name (format_table PkgInfo).1 (entries_in info)

@@ -1,3 +1,6 @@
+-- The definitions of this crate, whose rules stand in `docs/selection.md`, "What there is to choose
+-- from", and "Which selection is taken".
+
 -- what the contract of `apk` says
 pub mod Candidates
 pub mod Rank

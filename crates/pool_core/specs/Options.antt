@@ -1,4 +1,7 @@
 -- The candidates that offer a name, and the options of a need.
+-- The rules stand in `docs/selection.md`: "What there is to choose from" (which candidate may be
+-- selected and what meets a need), and "Which selection is taken" (the options of a need in rank
+-- order).
 use Rattle.std.specs.Prelude.{◌≡◌, ◌<◌, ℕ, suc, Bool, true, ◌&&◌, if◌then◌else◌, List, [], ◌∷◌}
 use Rattle.pool_core.specs.Candidates.{Candidate, Need, is_eligible, meets_need, offers_name}
 use Rattle.pool_core.specs.Rank.{SealedPool, is_better}
@@ -13,13 +16,15 @@ abbrev pub AreDistinct : List ℕ → Type 0
 AreDistinct [] = Unit {0}
 AreDistinct (c ∷ cs) = (IsIn c cs → ⊥) × AreDistinct cs
 
--- the places, counted from a number, of the candidates that pass a test, in rising order
+-- the places of the candidates that pass a test, in rising order; the first candidate of the list
+-- has the place `n`
 abbrev pub places_from : ℕ → (Candidate → Bool) → List Candidate → List ℕ
 places_from n test [] = []
 places_from n test (c ∷ cs) =
     if test c then n ∷ places_from (suc n) test cs else places_from (suc n) test cs
 
--- the places of the candidates that are named so or provide the name
+-- the offers of a name: the places, counted from 0, of the candidates that are named so or provide
+-- it
 abbrev pub places_offering : List ℕ → List Candidate → List ℕ
 places_offering name candidates = places_from 0 (offers_name name) candidates
 
@@ -27,7 +32,7 @@ places_offering name candidates = places_from 0 (offers_name name) candidates
 abbrev pub may_meet : SealedPool → Need → Candidate → Bool
 may_meet pool need c = is_eligible pool.world c && meets_need need c
 
--- places in rank order with one more: it stands before the first that it is better than
+-- places in rank order, with one more, which stands before the first that it is better than
 abbrev pub insert_by_rank : (ℕ → ℕ → Bool) → ℕ → List ℕ → List ℕ
 insert_by_rank better c [] = c ∷ []
 insert_by_rank better c (d ∷ ds) =
@@ -43,13 +48,13 @@ unfoldable pub options_for : SealedPool → Need → List ℕ
 options_for pool need =
     rank_order_of (is_better pool need) (places_from 0 (may_meet pool need) pool.candidates)
 
--- each is better than those behind it
+-- each place of the list is better than those behind it
 abbrev pub IsBestFirst : (ℕ → ℕ → Bool) → List ℕ → Type 0
 IsBestFirst better [] = Unit {0}
 IsBestFirst better (c ∷ cs) =
     ((d : ℕ) → IsIn d cs → better c d ≡ true) × IsBestFirst better cs
 
--- each is below those behind it
+-- each place of the list is below those behind it
 abbrev pub AreRising : List ℕ → Type 0
 AreRising [] = Unit {0}
 AreRising (c ∷ cs) = ((d : ℕ) → IsIn d cs → c < d) × AreRising cs

@@ -1,11 +1,14 @@
 -- How plain values are told apart: each has a list of steps that build it again. The steps say
 -- nothing of the format.
+-- No rule of a document: serves the types that show a `Candidate` or a pool, whose proofs need that
+-- two such values can be told apart (`coded`).
 use Rattle.std.specs.Prelude.{◌≡◌, ℕ, zero, suc, List, [], ◌∷◌}
 use mathlib.Core.Path.{refl, ap, ◌∙◌}
 use Rattle.std.specs.Coded.{Coded, code_by, coded×, coded_list, coded_ℕ}
 use Rattle.adb_view.specs.Plain.{Plain, Plains, null, int, blob, arr, obj, none, more}
 
--- built values, where an array gets a value in front of its others
+-- built values, where the value `v` is put before the entries of an array; any other value in the
+-- array's place is dropped, which no steps of a value need
 abbrev pub with_first : Plain → Plain → List Plain → List Plain
 with_first v null rest = rest
 with_first v (int n) rest = rest
@@ -13,13 +16,13 @@ with_first v (blob b) rest = rest
 with_first v (arr vs) rest = arr (more v vs) ∷ rest
 with_first v (obj vs) rest = rest
 
--- the first value put before the entries of the second
+-- built values, where the first is put before the entries of the second
 abbrev pub first_with_second : List Plain → List Plain
 first_with_second [] = []
 first_with_second (v ∷ []) = []
 first_with_second (v ∷ (w ∷ rest)) = with_first v w rest
 
--- an array as an object with its entries
+-- an array as an object with its entries; Null for any other value
 abbrev pub as_object : Plain → Plain
 as_object null = null
 as_object (int n) = null
@@ -27,16 +30,19 @@ as_object (blob b) = null
 as_object (arr vs) = obj vs
 as_object (obj vs) = null
 
--- the first value as an object
+-- built values, where the first, an array, is made an object
 abbrev pub first_as_object : List Plain → List Plain
 first_as_object [] = []
 first_as_object (v ∷ rest) = as_object v ∷ rest
 
--- a step: what it does to the values that the steps behind it built, and its number and bytes
+-- a step: its kind, and the number and the bytes that it adds. It works on the values that the
+-- steps behind it built
 abbrev pub BuildStep : Type 0
 BuildStep = ℕ × (ℕ × List ℕ)
 
--- the values that stand after a step of this kind
+-- the values that stand after a step of a kind: 0 adds Null, 1 an integer, 2 bytes, 3 an array
+-- without entries; 4 puts the first value before the entries of the second, and 5 makes the first
+-- an object
 abbrev pub built_with : ℕ → ℕ → List ℕ → List Plain → List Plain
 built_with zero n b vs = null ∷ vs
 built_with (suc zero) n b vs = int n ∷ vs
@@ -45,7 +51,7 @@ built_with (suc (suc (suc zero))) n b vs = arr none ∷ vs
 built_with (suc (suc (suc (suc zero)))) n b vs = first_with_second vs
 built_with (suc (suc (suc (suc (suc k))))) n b vs = first_as_object vs
 
--- the values that stand after these steps, the last of which is done first
+-- the values that stand after these steps, of which the last is done first
 abbrev pub built : List BuildStep → List Plain
 built [] = []
 built (i ∷ steps) = built_with i.0 i.1.0 i.1.1 (built steps)
@@ -65,7 +71,7 @@ abbrev mutual
   steps_of_all (more v vs) steps = (4, (0, [])) ∷ steps_of v (steps_of_all vs steps)
 
 mutual
-  -- the steps of a value build it
+  -- the steps of a value build the value
   pub built_again :
       (v : Plain) (steps : List BuildStep) → built (steps_of v steps) ≡ v ∷ built steps
   built_again null steps = refl
@@ -74,7 +80,7 @@ mutual
   built_again (arr vs) steps = all_built_again vs steps
   built_again (obj vs) steps = ap first_as_object (all_built_again vs steps)
 
-  -- and those of an array its entries
+  -- the steps of an array's values build the array
   pub all_built_again :
       (vs : Plains) (steps : List BuildStep) →
       built (steps_of_all vs steps) ≡ arr vs ∷ built steps
@@ -84,12 +90,12 @@ mutual
       (built_again v (steps_of_all vs steps)
       ∙ ap (λ (z : List Plain). v ∷ z) (all_built_again vs steps))
 
--- the first value; Null where there is none
+-- the first of some values; Null where there is none
 abbrev pub first_of : List Plain → Plain
 first_of [] = null
 first_of (v ∷ vs) = v
 
--- values are told apart by the steps that build them
+-- plain values are told apart by the steps that build them
 abbrev pub plain_code : Coded Plain
 plain_code =
     code_by (List BuildStep) (coded_list (coded× coded_ℕ (coded× coded_ℕ (coded_list coded_ℕ))))

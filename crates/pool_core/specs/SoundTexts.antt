@@ -1,4 +1,6 @@
 -- Packages whose texts keep their rules, as those of a tested container do.
+-- The rules stand in `docs/formats.md`, "The texts": fields 101 to 103 for the entries of
+-- `depends`, `provides` and `install-if`, and 302 for the version.
 use Rattle.std.specs.Prelude.{◌≡◌, ◌<◌, ℕ, true}
 use Rattle.version_core.specs.Order.{is_version}
 use Rattle.adb_view.specs.Plain.{Plain}
@@ -6,13 +8,13 @@ use Rattle.adb_tables.specs.FieldIndexes.{INFO_DEPENDS, INFO_INSTALL_IF, INFO_PR
 use Rattle.adb_tables.specs.Values.{count_of, entries_in, entry_in, text_in}
 use Rattle.adb_rules.specs.SoundValues.{IsSoundDependency}
 
--- each entry of an array is a dependency
+-- each entry of a list of dependencies is a dependency
 abbrev pub HasSoundEntries : Plain → Type 0
 HasSoundEntries list = (i : ℕ) → i < count_of (entries_in list)
     → IsSoundDependency (entry_in list i)
 
--- of a package's information: the version is one, and each entry of what it depends on, of what it
--- provides and of its install-if is a dependency
+-- of a package's information: the version is one, and each entry of its `depends`, of its
+-- `provides` and of its `install-if` is a dependency
 pub record HasSoundTexts (info : Plain) : Type 0 where
   pub version : is_version (text_in (entry_in info INFO_VERSION)) ≡ true
   pub depends : HasSoundEntries (entry_in info INFO_DEPENDS)

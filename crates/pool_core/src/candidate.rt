@@ -1,5 +1,9 @@
 //! The packages to choose from, and what is read of them: `Candidate` is what a caller sees,
 //! `Details` what the pool and the search compare.
+//! The rules stand in `docs/selection.md`: "What there is to choose from" says which candidate is
+//! the installed package and what a candidate meets, and "What satisfies world", 3, which names it
+//! occupies. What each field of a package's information is, and which numbers are read, says
+//! `docs/formats.md`, "Schemas", table 3.
 ghost use Rattle.std.specs.Prelude.{◌≡◌, ◌&&◌, ◌==◌, false, not, length, option_copied};
 ghost use Rattle.std.specs.List.{list_all, list_any};
 ghost use Rattle.dep_core.specs.Dependency.{Dependency};
@@ -22,6 +26,7 @@ use version_core::Version;
 /// A place in the list of candidates, counted from 0.
 #[derive(Clone, Copy, Debug, PartialEq, Eq)]
 pub struct CandId {
+    /// The place, counted from 0; that of a candidate is below 65,536.
     pub place: u32,
 }
 
@@ -38,13 +43,14 @@ impl Model for CandId {
 /// A package to choose from, as it was given.
 #[derive(Clone, Copy)]
 pub struct Candidate<'a> {
-    /// What its index, or the database, says of it.
+    /// What the index of the package, or the database, says of the package.
     pub info: PkgInfo<'a>,
-    /// Its repository, counted from 1; none for an installed package that no index has.
+    /// The repository of the package, counted from 1; none for an installed package that no index
+    /// has.
     pub repo: Option<u64>,
-    /// The tag of its repository.
+    /// The tag of the repository, where it has one.
     pub tag: Option<&'a [u8]>,
-    /// Whether it is the installed package of its name.
+    /// Whether the package is installed.
     pub installed: bool,
 }
 
@@ -52,10 +58,18 @@ pub struct Candidate<'a> {
 /// when it is asked for, and borrows all texts.
 #[derive(Drop)]
 pub struct Details<'a> {
+    /// What the index of the package, or the database, says of the package.
     info: PkgInfo<'a>,
+    /// The repository of the package, counted from 1; none for an installed package that no index
+    /// has.
     repo: Option<u64>,
+    /// The tag of the repository, where it has one.
     tag: Option<&'a [u8]>,
+    /// Whether the package is installed.
     installed: bool,
+    /// Whether the version and the lists of dependencies are known to keep their rules, so that
+    /// they are not judged again: they were tested with the index, or when the installed package
+    /// was added.
     has_sound_texts: bool,
 }
 
@@ -77,7 +91,8 @@ impl<'a> Model for Details<'a> {
 }
 
 impl<'a> Details<'a> {
-    /// The package of a source with this word.
+    /// What is compared of the package with this word in a source; `installed` says whether the
+    /// package is installed.
     pub(crate) fn of(source: &Source<'a>, word: Val, installed: bool) -> Details<'a>
         requires { IsPackageOf source.now word }
         ensures { result ≡ candidate_of (info_in_source source.now word) source.now.repo
@@ -92,7 +107,8 @@ impl<'a> Details<'a> {
         }
     }
 
-    /// The candidate, with the information that it is read of.
+    /// The candidate as a caller sees it: the information that its parts are read from, and not the
+    /// parts.
     pub(crate) fn candidate(&self) -> Candidate<'a>
         ensures { candidate_value result ≡ self.now }
     {
@@ -104,14 +120,15 @@ impl<'a> Details<'a> {
         }
     }
 
-    /// Its name.
+    /// The name of the package.
     pub fn name(&self) -> &'a [u8]
         ensures { result.now ≡ self.now.name }
     {
         self.info.name()
     }
 
-    /// Its version; none only where the text is no version, which no tested container has.
+    /// The version of the package; none only where the text is no version, which no tested
+    /// container has.
     pub fn version(&self) -> Option<Version<'a>>
         ensures { result ≡ self.now.version }
     {
@@ -123,35 +140,37 @@ impl<'a> Details<'a> {
         }
     }
 
-    // Its id: empty, whole, or a front of it.
+    // The id of the package as its index, or the database, keeps it: none, which is empty, the
+    // whole of it, or a front of it.
     fn id(&self) -> &'a [u8]
         ensures { result.now ≡ self.now.id }
     {
         self.info.hashes()
     }
 
-    /// What it needs, and what it excludes.
+    /// What the package needs, and what it excludes: its dependencies, conflicts among them.
     pub fn depends(&self) -> Deps<'a>
         ensures { result ≡ self.now.depends }
     {
         Deps::of(self.info.depends(), self.has_sound_texts)
     }
 
-    /// What it provides.
+    /// What the package provides: names, some with a version.
     pub fn provides(&self) -> Deps<'a>
         ensures { result ≡ self.now.provides }
     {
         Deps::of(self.info.provides(), self.has_sound_texts)
     }
 
-    /// Where each of these is met, its name is needed.
+    /// The install-if of the package: where each of these is met, the name of the package is
+    /// needed.
     pub fn install_if(&self) -> Deps<'a>
         ensures { result ≡ self.now.install_if }
     {
         Deps::of(self.info.install_if(), self.has_sound_texts)
     }
 
-    /// Whether one of its dependencies is no conflict and is met by another candidate.
+    /// Whether one of the package's dependencies is no conflict and is met by another candidate.
     pub fn needs(&self, other: &Details<'_>) -> bool
         ensures { result ≡ list_any (λ (d : Dependency). not d.conflict
             && meets_dependency d other.now) self.now.depends }
@@ -159,42 +178,45 @@ impl<'a> Details<'a> {
         any_met_by(&self.depends(), other)
     }
 
-    /// How much it is preferred among providers of one name.
+    /// The provider-priority: how much the package is preferred among providers of one name. The
+    /// greater comes first.
     pub fn priority(&self) -> u64
         ensures { result ≡ self.now.priority }
     {
         self.info.provider_priority()
     }
 
-    /// Its repository, counted from 1.
+    /// The repository of the package, counted from 1; none for an installed package that no index
+    /// has.
     pub fn repo(&self) -> Option<u64>
         ensures { result ≡ self.now.repository }
     {
         self.repo
     }
 
-    /// The tag of its repository.
+    /// The tag of the package's repository, where it has one.
     pub fn tag(&self) -> Option<&'a [u8]>
         ensures { option_copied result ≡ self.now.tag }
     {
         self.tag
     }
 
-    /// Whether its repository has no tag, or it is of none.
+    /// Whether the package is of a repository without tag, or of none.
     pub fn is_untagged(&self) -> bool
         ensures { result ≡ is_untagged self.now }
     {
         self.tag.is_none()
     }
 
-    /// Whether it is installed.
+    /// Whether the package is installed, be it one of an index or not.
     pub fn is_installed(&self) -> bool
         ensures { result ≡ self.now.installed }
     {
         self.installed
     }
 
-    /// Whether it is a repository's, and the same package as one that is installed.
+    /// Whether the candidate is of a repository, and is the same package as an installed one: name,
+    /// text of the version and id are the same.
     pub(crate) fn is_same_package(&self, installed: &Details<'_>) -> bool
         ensures { result ≡ is_same_package installed.now self.now }
     {
@@ -210,14 +232,15 @@ impl<'a> Details<'a> {
         is_same_id(self.id(), installed.id())
     }
 
-    /// Whether it has an install-if, and that has no conflict.
+    /// Whether the candidate has an install-if, and none of its entries is a conflict.
     pub(crate) fn has_positive_install_if(&self) -> bool
         ensures { result ≡ has_positive_install_if self.now }
     {
         are_some_and_positive(&self.install_if())
     }
 
-    /// Whether it meets a need.
+    /// Whether the candidate meets a need: a dependency, or the name that an install-if asks for,
+    /// which only a package of that name meets.
     pub(crate) fn meets_need(&self, need: &NeedRef<'_>) -> bool
         ensures { result ≡ meets_need (need_by need.now) self.now }
     {
@@ -227,7 +250,8 @@ impl<'a> Details<'a> {
         }
     }
 
-    /// Whether it meets a dependency; it does not matter whether that is a conflict.
+    /// Whether the candidate meets a dependency by its own name and version, or by an entry of its
+    /// provides. Whether the dependency is a conflict is not looked at.
     pub fn meets(&self, dep: &Dep<'_>) -> bool
         ensures { result ≡ meets_dependency (dependency dep.now) self.now }
     {
@@ -237,7 +261,7 @@ impl<'a> Details<'a> {
         any_meets(&self.provides(), dep)
     }
 
-    /// Whether its own name and version meet a dependency.
+    /// Whether the candidate's own name and version meet a dependency.
     pub(crate) fn meets_by_own_name(&self, dep: &Dep<'_>) -> bool
         ensures { result ≡ meets_by_own_name (dependency dep.now) self.now }
     {
@@ -249,7 +273,8 @@ impl<'a> Details<'a> {
         dep.met_by(name, version.as_ref())
     }
 
-    /// Whether it occupies a name, which one member of a selection may do.
+    /// Whether the candidate occupies a name, which one member of a selection may do: it is named
+    /// so, or provides the name with a version.
     pub fn occupies(&self, name: &[u8]) -> bool
         ensures { result ≡ occupies_name name.now self.now }
     {
@@ -260,7 +285,8 @@ impl<'a> Details<'a> {
     }
 }
 
-// Whether two versions have one text.
+// Whether two versions have one text, or neither is one. Equal versions with other texts, such as
+// `1` and `01`, are two.
 fn is_same_version(one: Option<Version<'_>>, other: Option<Version<'_>>) -> bool
     ensures { result ≡ is_same_version one.entry other.entry }
 {
@@ -272,7 +298,8 @@ fn is_same_version(one: Option<Version<'_>>, other: Option<Version<'_>>) -> bool
     }
 }
 
-// Whether two ids are there, and the shorter is a front of the longer.
+// Whether two ids are the same: both are there, and one is a front of the other, since an index may
+// keep 20 of 32 bytes.
 fn is_same_id(one: &[u8], other: &[u8]) -> bool
     ensures { result ≡ is_same_id one.now other.now }
 {
@@ -282,7 +309,7 @@ fn is_same_id(one: &[u8], other: &[u8]) -> bool
     one.starts_with(other) || other.starts_with(one)
 }
 
-// Whether there are dependencies, none of them a conflict.
+// Whether there are dependencies, none of them a conflict: an install-if that can come to apply.
 fn are_some_and_positive(deps: &Deps<'_>) -> bool
     ensures { result ≡ (not (length deps.now == 0)
         && list_all (λ (d : Dependency). not d.conflict) deps.now) }
@@ -305,7 +332,7 @@ fn are_positive(deps: &Deps<'_>) -> bool
     true
 }
 
-// Whether an entry of provides occupies a name.
+// Whether an entry of a candidate's provides occupies a name.
 fn any_occupies(provides: &Deps<'_>, name: &[u8]) -> bool
     ensures { result ≡ list_any (entry_occupies name.now) provides.now }
 {
@@ -318,7 +345,8 @@ fn any_occupies(provides: &Deps<'_>, name: &[u8]) -> bool
     false
 }
 
-/// Whether an entry that is provided takes the name for itself.
+/// Whether an entry of a candidate's provides occupies a name: it is of that name, has a version,
+/// and is no conflict.
 fn entry_occupies(name: &[u8], entry: &Dep<'_>) -> bool
     ensures { result ≡ entry_occupies name.now (dependency entry.now) }
 {
@@ -328,7 +356,7 @@ fn entry_occupies(name: &[u8], entry: &Dep<'_>) -> bool
     entry.version.is_some() && name == entry.name
 }
 
-// Whether an entry of provides meets a dependency.
+// Whether an entry of a candidate's provides meets a dependency.
 fn any_meets(provides: &Deps<'_>, dep: &Dep<'_>) -> bool
     ensures { result ≡ list_any (is_met_by_entry (dependency dep.now)) provides.now }
 {
@@ -341,7 +369,8 @@ fn any_meets(provides: &Deps<'_>, dep: &Dep<'_>) -> bool
     false
 }
 
-/// Whether an entry of provides meets a dependency; one that is a conflict provides nothing.
+/// Whether one entry of a candidate's provides meets a dependency; an entry that is a conflict
+/// provides nothing.
 pub(crate) fn is_met_by_entry(dep: &Dep<'_>, entry: &Dep<'_>) -> bool
     ensures { result ≡ is_met_by_entry (dependency dep.now) (dependency entry.now) }
 {

@@ -1,5 +1,8 @@
 //! The dependencies of a package's information: read from it one by one, and judged where they are
 //! not known to keep their rules.
+//! The rules stand in `docs/formats.md`: "Schemas", tables 1 and 3, says where dependencies stand;
+//! "Dependencies" which dependency a name, a version and a match number are; "The texts", fields
+//! 101 to 103, what a tested container keeps.
 ghost use Rattle.std.specs.Prelude.{◌≡◌, ◌<◌, ◌==◌, true, length, slice_get, Some};
 ghost use Rattle.std.specs.Option.{option_map};
 ghost use Rattle.adb_fields.specs.ListValue.{list_value};
@@ -13,10 +16,11 @@ use adb_schema::{DepView, List};
 use dep_core::{Dep, dep_of, dep_of_parts};
 use std::marker::Model;
 
-/// Dependencies of a package, in the order of its information, which are read when they are asked
-/// for.
+/// A list of dependencies of a package, in the order of its information. Each is read when it is
+/// asked for. Places count from 0, and entries that are no dependency are not counted.
 #[derive(Drop)]
 pub struct Deps<'a> {
+    /// The array of the package's information, whose entries count from 1.
     list: List<'a, DepView<'a>>,
     // Whether each entry is known to be a dependency.
     are_sound: bool,
@@ -37,7 +41,7 @@ impl<'a> Model for Deps<'a> {
 }
 
 impl<'a> Deps<'a> {
-    /// The dependencies of a list; an entry that is none is passed over.
+    /// The dependencies of a list of a package's information; an entry that is none is passed over.
     pub(crate) fn of(list: List<'a, DepView<'a>>, are_sound: bool) -> Deps<'a>
         requires { are_sound ≡ true → HasSoundEntries (list_value list) }
         ensures { result ≡ dependencies_in (list_value list.entry) }
@@ -45,7 +49,7 @@ impl<'a> Deps<'a> {
         Deps { list, are_sound }
     }
 
-    /// How many there are.
+    /// How many dependencies the list has.
     pub fn len(&self) -> usize
         ensures { result ≡ length self.now }
     {
@@ -56,14 +60,14 @@ impl<'a> Deps<'a> {
         }
     }
 
-    /// Whether there is none.
+    /// Whether the list has no dependency.
     pub fn is_empty(&self) -> bool
         ensures { result ≡ (length self.now == 0) }
     {
         self.len() == 0
     }
 
-    /// The one at a place, counted from 0.
+    /// The dependency at a place of the list, counted from 0.
     pub fn get(&self, place: usize) -> Dep<'a>
         requires { place < length self.now }
         ensures { slice_get self.now place ≡ Some (dependency result) }
@@ -78,7 +82,7 @@ impl<'a> Deps<'a> {
     }
 }
 
-/// An entry that is known to be a dependency.
+/// The dependency of an entry that is known to be one, read without a test of its texts.
 #[tactic(auto, unfolding(dep_core::specs::ValueReading::dependency_of_value))]
 pub(crate) fn read_sound<'a>(view: &DepView<'a>) -> Dep<'a>
     requires { IsSoundDependency (dependency_value view.now) }
@@ -86,18 +90,19 @@ pub(crate) fn read_sound<'a>(view: &DepView<'a>) -> Dep<'a>
 {
     match dep_of_parts(view.name(), view.version(), view.matching()) {
         Some(dep) => dep,
+        // An entry that is sound is a dependency.
         None => unreachable!(),
     }
 }
 
-/// An entry, if it is a dependency.
+/// The dependency of an entry, if it is one: its name, version and match number are tested.
 pub(crate) fn read_if_sound<'a>(view: &DepView<'a>) -> Option<Dep<'a>>
     ensures { option_map dependency result ≡ dependency_in (dependency_value view.now) }
 {
     dep_of(view.name(), view.version(), view.matching())
 }
 
-// How many entries of a list are dependencies.
+// How many entries of a list are dependencies; each is tested.
 fn count_judged<'a>(list: &List<'a, DepView<'a>>) -> usize
     ensures { result ≡ length (dependencies_in (list_value list.now)) }
 {
@@ -110,7 +115,7 @@ fn count_judged<'a>(list: &List<'a, DepView<'a>>) -> usize
     count
 }
 
-// The dependency behind so many others of a list.
+// The dependency of a list that has `place` others before it; each entry up to it is tested.
 fn read_judged<'a>(list: &List<'a, DepView<'a>>, place: usize) -> Dep<'a>
     requires { place < length (dependencies_in (list_value list.now)) }
     ensures { slice_get (dependencies_in (list_value list.now)) place
@@ -125,5 +130,6 @@ fn read_judged<'a>(list: &List<'a, DepView<'a>>, place: usize) -> Dep<'a>
             passed += 1;
         }
     }
+    // There are more dependencies than `place`, by the contract.
     unreachable!()
 }

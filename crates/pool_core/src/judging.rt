@@ -1,5 +1,8 @@
 //! Whether the texts of a package's information keep their rules. A long one is judged once,
 //! however many places of the package share it.
+//! The rules stand in `docs/formats.md`, "The texts": fields 101 to 103 for the entries of
+//! `depends`, `provides` and `install-if`, and 302 for the version. What an entry is that keeps
+//! them says "Dependencies" there.
 ghost use Rattle.std.specs.Prelude.{◌≡◌, true, false, Some, IfOk, IfSome, IfNone};
 ghost use Rattle.std.specs.Option.{option_map};
 ghost use Rattle.adb_fields.specs.Fields.{are_all_sound, array_at};
@@ -26,22 +29,28 @@ use std::alloc::{AllocError, Global};
 /// `docs/formats.md`, "Schemas", which counts from 1; an index counts from 0).
 pub(crate) const PACKAGE_VERSION: usize = 1;
 
-/// The indices of its dependencies, its provides and its install-if, in the same table.
+/// The index of `depends`, in the same table (table 3, which has it as 15).
 const DEPENDS: usize = 14;
 
+/// The index of `provides` (16 in table 3).
 pub(crate) const PROVIDES: usize = 15;
 
+/// The index of `install-if` (18 in table 3).
 const INSTALL_IF: usize = 17;
 
-/// The indices of a dependency's fields (table 1), counted from 0 too.
+/// The index of the name among the fields of a dependency (table 1 of "Schemas"), counted from 0
+/// too.
 const NAME: usize = 0;
 
+/// The index of the version of a dependency (2 in table 1).
 pub(crate) const VERSION: usize = 1;
 
+/// The index of the match number of a dependency (3 in table 1).
 const MATCHING: usize = 2;
 
 /// Whether the texts of a package keep their rules: its version is a version, and each entry of its
-/// dependencies, provides and install-if is a dependency.
+/// `depends`, `provides` and `install-if` is a dependency. The answer `true` is sure; after `false`
+/// the candidate's texts are tested each time that they are read, which costs time alone.
 pub(crate) fn has_sound_texts(alloc: Global, info: PkgInfo<'_>) -> Result<bool, AllocError>
     ensures { IfOk result (λ sound. sound ≡ true → HasSoundTexts (info_value info.entry)) }
 {
@@ -63,7 +72,7 @@ pub(crate) fn has_sound_texts(alloc: Global, info: PkgInfo<'_>) -> Result<bool, 
     Ok(depends && provides && install_if)
 }
 
-// Whether each entry of a field of a package's information is a dependency.
+// Whether each entry of the list in a field of a package's information is a dependency.
 fn has_sound_entries(judged: &mut Judged<'_>, word: Val, field: usize) -> Result<bool, AllocError>
     requires sound { is_sound (payload_of judged.old.adb) (Kinds.Obj Tables.PkgInfo) word ≡ true }
     requires kind { kind_at Tables.PkgInfo field ≡ Some (Kinds.ObjArr Tables.Dep) }
@@ -75,7 +84,7 @@ fn has_sound_entries(judged: &mut Judged<'_>, word: Val, field: usize) -> Result
     are_dependencies(judged, words)
 }
 
-// Whether each of some words is a dependency's.
+// Whether each of some words is that of a dependency.
 #[tactic(auto, using(adb_fields::proofs::FieldReads::entry_sound))]
 fn are_dependencies<'a>(judged: &mut Judged<'a>, words: Arr<'a>) -> Result<bool, AllocError>
     requires { are_all_sound (payload_of judged.old.adb) (Kinds.Obj Tables.Dep)
@@ -93,7 +102,7 @@ fn are_dependencies<'a>(judged: &mut Judged<'a>, words: Arr<'a>) -> Result<bool,
     Ok(true)
 }
 
-// The dependency of a word, if it is one.
+// The dependency that the object with a word is, if it is one.
 #[tactic(auto, unfolding(dep_core::specs::ValueReading::dependency_of_value))]
 fn read_entry<'a>(judged: &mut Judged<'a>, word: Val) -> Result<Option<Dep<'a>>, AllocError>
     requires { is_sound (payload_of judged.old.adb) (Kinds.Obj Tables.Dep) word ≡ true }
@@ -112,7 +121,7 @@ fn read_entry<'a>(judged: &mut Judged<'a>, word: Val) -> Result<Option<Dep<'a>>,
     Ok(dep_of_parts(name, version, matching))
 }
 
-// The text of an object's field, if it keeps a rule.
+// The text of a field of an object, if the text keeps a rule.
 fn text_if_kept<'a>(
     judged: &mut Judged<'a>,
     which: Which,

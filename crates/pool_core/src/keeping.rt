@@ -1,6 +1,7 @@
 //! Which candidates are installed and stay before others in rank: those whose names the command
 //! does not upgrade. The names that it upgrades are put into order once, and each candidate is
 //! marked.
+//! The rule stands in `docs/selection.md`, "Which selection is taken", key 4 of the table.
 ghost use Rattle.std.specs.Prelude.{◌≡◌, ◌&&◌, map, not, IfOk};
 ghost use Rattle.pool_core.specs.Packages.{candidates_of_packages};
 ghost use Rattle.pool_core.specs.Rank.{is_kept_installed, listed_names};
@@ -30,7 +31,7 @@ pub(crate) fn kept_marks(
     }
 }
 
-// The marks where the command upgrades every name, or none.
+// The marks where the command upgrades every name (`is_upgraded`), or none.
 fn marks_with_all(
     alloc: Global,
     packages: &Packages<'_>,
@@ -46,7 +47,7 @@ fn marks_with_all(
     Ok(marks)
 }
 
-// The marks where the command upgrades some names.
+// The marks where the command upgrades the names of a list, in any order.
 fn marks_with_listed(
     alloc: Global,
     packages: &Packages<'_>,
@@ -60,7 +61,8 @@ fn marks_with_listed(
     Ok(marks)
 }
 
-// The same, where the names are in byte order, so that each candidate's is looked up.
+// The marks where the names that the command upgrades are in byte order, so that the name of each
+// candidate is looked up by halving.
 fn marks_with_sorted(
     alloc: Global,
     packages: &Packages<'_>,

@@ -1,5 +1,7 @@
 //! What the definitions of candidates, ranks and options keep, each as the contract of a function
 //! that does nothing.
+//! The rules stand in `docs/selection.md`: "Which selection is taken" (the rank), and "What there
+//! is to choose from" (options, offers, and which package is the installed one).
 ghost use Rattle.std.specs.Prelude.{◌≡◌, ◌<◌, Bool, true, false, ℕ, List, [], ◌∷◌, ◌++◌, length, Option, Some, slice_get, codes, if◌then◌else◌};
 ghost use Rattle.std.specs.Cmp.{IsTotalOrder};
 ghost use Rattle.std.specs.declared.cmp.Ordering.TheVariants.{Equal};
@@ -53,7 +55,8 @@ pub fn offers_hold_what_meets()
         IsIn c (places_offering (need_name need) pool.candidates) }
 {}
 
-/// Each part of a candidate is the value of the field of its name.
+/// Each part of a candidate is the value of the field of its name, as the names stand in
+/// `docs/formats.md`, "Schemas", table 3. So no definition depends on the number of a field alone.
 pub fn a_candidate_is_read_by_field_names()
     ensures { (info : Plain) (repository : Option ℕ) (tag : Option (List ℕ)) (installed : Bool) →
         candidate_of info repository tag installed
@@ -69,15 +72,21 @@ pub fn a_candidate_is_read_by_field_names()
 /// An installed package is known in an index by its name, by the text of its version, and by its
 /// id, of which an index may keep a front alone. Without an id it is known in none.
 pub fn an_installed_package_is_known_by_text_and_id()
+    // The names of the two are the same.
     ensures name { (installed c : Candidate) → is_same_package installed c ≡ true →
         c.name ≡ installed.name }
+    // The texts of the two versions are the same, or neither is a version.
     ensures text { (installed c : Candidate) → is_same_package installed c ≡ true →
         c.version ≡ installed.version }
+    // One id is a front of the other, and both are there.
     ensures id { (installed c : Candidate) → is_same_package installed c ≡ true →
         is_same_id c.id installed.id ≡ true }
+    // An installed package without an id is the same as none.
     ensures empty { (installed c : Candidate) → installed.id ≡ [] →
         is_same_package installed c ≡ false }
+    // Which of two ids is the front of the other makes no difference.
     ensures either { (a b : List ℕ) → is_same_id a b ≡ is_same_id b a }
+    // An id is the same as each longer one that begins with it.
     ensures front { (id rest : List ℕ) → 0 < length id → is_same_id id (id ++ rest) ≡ true }
 {}
 

@@ -2,7 +2,8 @@
 //! table of the names that they offer, and the options of a need in rank order. Views of indexes
 //! come in and stay borrowed; places in the list of candidates go out. The contracts cite `specs/`:
 //! `Candidates` (the list, and what each candidate meets), `Rank` (the eleven keys) and `Options`.
-//! `docs/selection.md` tells what is preferred and why.
+//! The rules stand in `docs/selection.md`, "What there is to choose from", and "Which selection is
+//! taken" (the table of keys, and why).
 #![tactic(auto)]
 
 mod candidate;

@@ -1,6 +1,8 @@
 //! What world says of each candidate: whether it may be selected, and whether world pins it. An
 //! entry is tried only on the candidates that offer its name, so all marks take time in proportion
 //! to the candidates, the entries and the offers of their names.
+//! The rules stand in `docs/selection.md`: "What there is to choose from" (*allowed* and *barred*),
+//! and "Which selection is taken", key 1 of the table (what is pinned).
 ghost use Rattle.std.specs.Prelude.{◌≡◌, ◌<◌, ◌&&◌, false, length, map, not, IfOk};
 ghost use Rattle.std.specs.Option.{option_map_or};
 ghost use Rattle.std.specs.List.{list_any};
@@ -22,13 +24,14 @@ use std::alloc::{AllocError, Global};
 /// What an entry of world does to a candidate.
 #[derive(Clone, Copy)]
 pub(crate) enum Effect {
-    /// It bars the candidate: no selection has it.
+    /// The entry bars the candidate: no selection has it.
     Bar,
-    /// It pins the candidate's name to its tag.
+    /// The entry pins the candidate's name to its tag.
     Pin,
 }
 
-/// For each candidate, whether it may be selected.
+/// For each candidate, whether it may be selected. `tagged` are the entries of world that have a
+/// tag, and `conflicts` those that are conflicts; the others bear on neither.
 pub(crate) fn eligible_marks(
     alloc: Global,
     packages: &Packages<'_>,
@@ -47,7 +50,8 @@ pub(crate) fn eligible_marks(
     opposite_marks(alloc, &ineligible)
 }
 
-/// For each candidate, whether world pins its name to its tag.
+/// For each candidate, whether world pins its name to its tag. `tagged` are the entries of world
+/// that have a tag.
 pub(crate) fn pinned_marks(
     alloc: Global,
     packages: &Packages<'_>,
@@ -64,7 +68,8 @@ pub(crate) fn pinned_marks(
     Ok(marks)
 }
 
-// For each candidate, whether it is of a repository whose tag world does not use.
+// For each candidate, whether it is not allowed: it is not installed, and of a repository whose tag
+// world does not use.
 fn disallowed_marks(
     alloc: Global,
     packages: &Packages<'_>,
@@ -93,14 +98,15 @@ fn no_marks(alloc: Global, packages: &Packages<'_>) -> Result<Vec<bool>, AllocEr
     Ok(marks)
 }
 
-// The marks that are set where these are not.
+// The opposite marks: one is set where its fellow is not.
 fn opposite_marks(alloc: Global, marks: &[bool]) -> Result<Vec<bool>, AllocError>
     ensures { IfOk result (λ others. others.items ≡ map not marks.now) }
 {
     marks.iter().map(|mark| !*mark).collect(alloc)
 }
 
-// Marks each candidate on which one of some entries has an effect. Other marks stay.
+// Sets the mark of each candidate on which one of some entries of world has an effect. Other marks
+// stay.
 fn mark_affected(
     marks: &mut Vec<bool>,
     packages: &Packages<'_>,
@@ -118,7 +124,8 @@ fn mark_affected(
     }
 }
 
-// Marks those of the candidates that offer an entry's name on which it has the effect.
+// Sets the mark of each candidate on which an entry of world has an effect. `ids` are the places of
+// those that offer the entry's name: it has none on the others.
 fn mark_among(
     marks: &mut Vec<bool>,
     packages: &Packages<'_>,
@@ -137,7 +144,7 @@ fn mark_among(
     }
 }
 
-// Marks the candidate at a place if the entry has this effect on it.
+// Sets the mark of the candidate at a place if the entry has this effect on the candidate.
 fn mark_one(
     marks: &mut Vec<bool>,
     packages: &Packages<'_>,
@@ -167,7 +174,7 @@ fn affects(effect: Effect, entry: &Dep<'_>, one: &Details<'_>) -> bool
     }
 }
 
-// Whether an entry pins a candidate's name to its tag.
+// Whether an entry of world pins a candidate's name to its tag: it has both. It may be a conflict.
 fn pins(entry: &Dep<'_>, one: &Details<'_>) -> bool
     ensures { result ≡ option_map_or (λ tag. bytes_eq one.now.name (dependency entry.now).name
         && option_map_or (bytes_eq tag) (dependency entry.now).tag false) one.now.tag false }
@@ -188,7 +195,8 @@ fn has_tag(dep: &Dep<'_>, tag: &[u8]) -> bool
     }
 }
 
-// Whether a candidate is installed, or of an untagged repository, or of one whose tag is used.
+// Whether a candidate is allowed: installed, or of a repository without tag, or of one whose tag
+// one of the tagged entries of world has.
 fn is_allowed(one: &Details<'_>, tagged: &[Dep<'_>]) -> bool
     ensures { result ≡ is_allowed (map dependency tagged.now) one.now }
 {
@@ -212,7 +220,8 @@ fn uses_tag(tagged: &[Dep<'_>], tag: &[u8]) -> bool
     any_has_tag(tagged, tag)
 }
 
-// The same, over the entries as the program has them.
+// Whether one of some entries has this tag; the clause speaks of the entries as the program has
+// them.
 fn any_has_tag(tagged: &[Dep<'_>], tag: &[u8]) -> bool
     ensures { result ≡ list_any
         (λ dep. option_map_or (bytes_eq tag.now) (dependency dep).tag false) tagged.now }

@@ -1,5 +1,8 @@
 //! Packages, each kept as its word and the number of its source: an index, or an installed package.
 //! What is said of a package is read from its source when it is asked for.
+//! Which package stands where says `docs/selection.md`, "What there is to choose from"; what a
+//! package's information has, `docs/formats.md`, "Schemas", table 3. That 12 bytes are kept of each
+//! is this crate's own choice, as its README says.
 ghost use Rattle.std.specs.Prelude.{All};
 ghost use Rattle.pool_core.specs.PackageWords.{IsPackageAmong};
 
@@ -12,11 +15,11 @@ use std::alloc::{AllocError, Global};
 /// Where packages come from: an index, or the database, for one package.
 #[derive(Clone, Copy)]
 pub(crate) struct Source<'a> {
-    /// The payload that they are read from.
+    /// The payload that the packages are read from.
     pub(crate) adb: Adb<'a>,
-    /// The repository, counted from 1; none for the database.
+    /// The repository of the packages, counted from 1; none for an installed package.
     pub(crate) repo: Option<u64>,
-    /// The tag of the repository.
+    /// The tag of the repository, where it has one.
     pub(crate) tag: Option<&'a [u8]>,
     /// Whether the texts of its packages are known to keep their rules.
     pub(crate) has_sound_texts: bool,
@@ -25,18 +28,22 @@ pub(crate) struct Source<'a> {
 /// A package of a source.
 #[derive(Clone, Copy)]
 pub(crate) struct PackageWord {
-    /// The word of its information in the source's payload.
+    /// The word of the package's information in the source's payload.
     pub(crate) word: u32,
-    /// The place of its source, counted from 0.
+    /// The place of the package's source, counted from 0.
     pub(crate) source: u32,
+    /// Whether the package counts as installed.
     pub(crate) installed: bool,
 }
 
 /// The packages of some sources.
 #[derive(Drop)]
 pub(crate) struct Packages<'a> {
+    /// The indexes and the installed packages, in the order in which they were added.
     sources: Vec<Source<'a>>,
+    /// The packages, in the order in which they were added.
     words: Vec<PackageWord>,
+    // Each word leads to a package of the source at its place.
     ghost sound: { All (IsPackageAmong sources.items) words.items },
 }
 
@@ -48,7 +55,7 @@ impl<'a> Packages<'a> {
     ghost use Rattle.pool_core.specs.PackageWords.{IsPackageAt};
     ghost use Rattle.pool_core.specs.Packages.{candidate_in_source, candidates_of_packages, installed_at};
 
-    /// No packages.
+    /// A list without packages.
     pub(crate) fn new(alloc: Global) -> Packages<'a>
         ensures { candidates_of_packages result ≡ [] }
     {
@@ -58,7 +65,7 @@ impl<'a> Packages<'a> {
         }
     }
 
-    /// How many there are.
+    /// How many packages there are.
     pub(crate) fn len(&self) -> usize
         ensures { result ≡ length (candidates_of_packages self.now) }
     {
@@ -88,7 +95,8 @@ impl<'a> Packages<'a> {
         own_version(&source, package)
     }
 
-    /// The version under which the package at a place meets a need.
+    /// The version under which the package at a place, counted from 0, meets a need: its own, else
+    /// that of the first entry of its provides that meets it.
     pub(crate) fn version_under(&self, place: usize, need: &NeedRef<'_>) -> RankedVersion<'a>
         requires { place < length (candidates_of_packages self.now) }
         ensures version { (c : Candidate)
@@ -101,7 +109,8 @@ impl<'a> Packages<'a> {
         version_under(&source, package, need)
     }
 
-    /// Adds a source, and answers its place. After an error the packages are as before.
+    /// Adds a source, and answers its place, counted from 0. After an error the packages are as
+    /// before.
     pub(crate) fn add_source(&mut self, source: Source<'a>) -> Result<u32, AllocError>
         ensures place { IfOk result (λ place.
             slice_get self.new.sources.items place ≡ Some source.entry) }
@@ -115,7 +124,8 @@ impl<'a> Packages<'a> {
         Ok(place)
     }
 
-    /// Adds a package of the source at a place behind the others.
+    /// Adds the package with a word in the source at a place behind the others. `installed` says
+    /// whether it counts as installed.
     pub(crate) fn push(&mut self, source: u32, word: Val, installed: bool) -> Result<(), AllocError>
         requires { IsPackageAt self.old.sources.items source word }
         ensures sources { self.new.sources ≡ self.old.sources }
@@ -133,7 +143,7 @@ impl<'a> Packages<'a> {
         Ok(())
     }
 
-    /// Lets the package at a place count as installed.
+    /// Lets the package at a place, counted from 0, count as installed.
     pub(crate) fn mark_installed(&mut self, place: usize)
         requires { place < length (candidates_of_packages self.old) }
         ensures { candidates_of_packages self.new

@@ -1,5 +1,7 @@
 //! The list of candidates in the making: the packages of each index, then the installed ones that
 //! no index has.
+//! The rules stand in `docs/selection.md`, "What there is to choose from": the order of the list,
+//! which candidate is the installed package, and how many there may be.
 ghost use Rattle.std.specs.Prelude.{◌≡◌, ◌≤◌, ◌<◌, ◌+◌, ℕ, [], ◌∷◌, ◌++◌, length, true, None, Some, slice_get, IfOk, OnOk, OnErr, IfErr, option_copied};
 ghost use Rattle.std.specs.List.{list_any};
 ghost use Rattle.adb_schema.specs.Views.{index_value, info_value};
@@ -36,8 +38,8 @@ use std::marker::Model;
 /// Why a package is not taken into a pool.
 #[derive(Clone, Copy, Debug, PartialEq, Eq)]
 pub enum PoolFault {
-    /// There would be more candidates than a pool holds; `count` is how many with the first one too
-    /// many.
+    /// There would be more candidates than a pool holds; `count` is `MOST_CANDIDATES` and 1, the
+    /// first count that is too great.
     TooMany { count: u64 },
     /// There was no memory.
     Memory,
@@ -49,23 +51,26 @@ impl From<AllocError> for PoolFault {
 
     ghost from_gives = { λ _ fault. fault ≡ Memory };
 
+    // The fault that want of memory is.
     fn from(_: AllocError) -> PoolFault {
         PoolFault::Memory
     }
 }
 
-/// The most candidates that a pool holds.
+/// The most candidates that a pool holds (`docs/selection.md`, "What there is to choose from").
 pub const MOST_CANDIDATES: usize = 65536;
 
 /// The candidates so far, and the table of the names that they offer.
 #[derive(Drop)]
 pub(crate) struct CandidateList<'a> {
+    /// The packages that the candidates are, in the order of the list.
     pub(crate) packages: Packages<'a>,
+    /// The places of the candidates that offer each name.
     pub(crate) table: Table<'a>,
 }
 
 impl<'a> CandidateList<'a> {
-    /// No candidates.
+    /// A list without candidates.
     fn new(alloc: Global) -> CandidateList<'a>
         ensures list { IsCandidateList result }
         ensures none { candidates_of_packages result.packages ≡ [] }
@@ -76,7 +81,9 @@ impl<'a> CandidateList<'a> {
         }
     }
 
-    // Puts the package of a source behind the others. After a refusal the list may only be dropped.
+    // Puts the package of a source behind the others. `source_place` is the place of the source
+    // among those of the list. After a refusal the list may only be dropped, since the table may
+    // then have a place that the packages have not.
     fn push(
         &mut self,
         source: &Source<'a>,
@@ -110,12 +117,13 @@ impl<'a> CandidateList<'a> {
         Ok(())
     }
 
-    // Puts the packages of an index, whose words these are, behind the others.
+    // Puts the packages of an index behind the others; these are the words of its packages.
     #[tactic(auto, using(adb_fields::proofs::FieldReads::entry_sound))]
     fn push_all(&mut self, source: Source<'a>, packages: Arr<'a>) -> Result<(), PoolFault>
         requires list { IsCandidateList self.old }
         requires sound { are_all_sound (payload_of source.adb) (Kinds.Obj Tables.PkgInfo)
             (array_entries packages) ≡ true }
+        // Where the source's texts keep their rules, so do those of each of these packages.
         requires texts { source.has_sound_texts ≡ true → (i : ℕ)
             → i < count_of (entries_in (array_at (payload_of source.adb)
             (Kinds.Obj Tables.PkgInfo) (array_entries packages))) → HasSoundTexts
@@ -185,8 +193,8 @@ impl<'a> CandidateList<'a> {
     }
 }
 
-// Lets each of some candidates that is an installed package count as installed, and answers whether
-// one is.
+// Lets each of some candidates count as installed if it is the installed package, and answers
+// whether one is.
 fn mark_among<'a>(packages: &mut Packages<'a>, ids: &[CandId], installed: &Details<'a>) -> bool
     requires { ids.now
         ≡ places_offering installed.now.name (candidates_of_packages packages.old) }
@@ -202,7 +210,7 @@ fn mark_among<'a>(packages: &mut Packages<'a>, ids: &[CandId], installed: &Detai
     found
 }
 
-// Lets a candidate that is an installed package count as installed, and answers whether it is one.
+// Lets a candidate count as installed if it is the installed package, and answers whether it is.
 fn mark_one<'a>(packages: &mut Packages<'a>, id: CandId, installed: &Details<'a>) -> bool
     requires { id < length (candidates_of_packages packages.old) }
     ensures same { result ≡ is_same_at installed.now (candidates_of_packages packages.old) id }
@@ -222,7 +230,9 @@ fn mark_one<'a>(packages: &mut Packages<'a>, id: CandId, installed: &Details<'a>
 /// refusal the pool is empty.
 #[derive(Drop)]
 pub struct Pool<'a> {
+    /// What memory comes from.
     alloc: Global,
+    /// The candidates so far; none before the first one is added, and after a refusal.
     list: Option<CandidateList<'a>>,
 }
 
@@ -244,7 +254,7 @@ impl<'a> Model for Pool<'a> {
 }
 
 impl<'a> Pool<'a> {
-    /// No candidates.
+    /// A pool without candidates.
     pub fn new(alloc: Global) -> Pool<'a>
         ensures { result ≡ [] }
     {
@@ -263,7 +273,7 @@ impl<'a> Pool<'a> {
         }
     }
 
-    // Keeps the candidates, unless they were refused.
+    // Keeps the candidates where all of `added` went well, and else drops them; answers `added`.
     fn keep(
         &mut self,
         list: CandidateList<'a>,
@@ -284,9 +294,10 @@ impl<'a> Pool<'a> {
         }
     }
 
-    /// Adds the packages of a repository's index; repositories are counted from 1. TooMany comes
-    /// only where the list would pass its limit, and Ok only where it does not; want of memory may
-    /// stand for either.
+    /// Adds the packages of a repository's index behind the others; repositories count from 1.
+    /// TooMany comes only where the list would pass its limit, and Ok only where it does not; want
+    /// of memory may stand for either. In the clauses, 1 is the index of `packages` among the
+    /// fields of an index, counted from 0 (2 in table 8 of `docs/formats.md`, "Schemas").
     pub fn add_index(
         &mut self,
         index: IndexView<'a>,
@@ -302,7 +313,7 @@ impl<'a> Pool<'a> {
         ensures err { OnErr result (self.new ≡ []) }
     {
         let mut list = self.take_list();
-        // The field with index 1 has the packages.
+        // The field with index 1, counted from 0, has the packages.
         let packages = objects_field(index.adb(), Which::Index, index.word(), 1, Which::PkgInfo);
         index.values_keep_their_rules();
         entries_keep_the_rule_of_their_list();
@@ -317,8 +328,8 @@ impl<'a> Pool<'a> {
     }
 
     /// Adds an installed package, or lets the candidates that are the same package count as
-    /// installed. TooMany comes only where the list would pass its limit, and Ok only where it does
-    /// not; want of memory may stand for either.
+    /// installed. It is of no repository and has no tag. TooMany comes only where the list would
+    /// pass its limit, and Ok only where it does not; want of memory may stand for either.
     pub fn add_installed(&mut self, info: PkgInfo<'a>) -> Result<(), PoolFault>
         ensures ok { OnOk result (self.new
             ≡ with_installed self.old (candidate_of (info_value info.entry) None None true)) }
@@ -333,7 +344,7 @@ impl<'a> Pool<'a> {
         self.keep(list, added)
     }
 
-    /// The candidates under a world and the names that a command upgrades.
+    /// Joins the candidates to a world and to the names that a command upgrades.
     pub fn seal(self, world: &'a World, upgrade: Upgrade<'a>) -> Result<Sealed<'a>, AllocError>
         ensures { IfOk result (λ sealed. sealed
             ≡ sealed_pool_by self.entry world.entry.now (names_upgraded_by upgrade.entry)) }

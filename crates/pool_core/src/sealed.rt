@@ -1,5 +1,8 @@
 //! The candidates under a world: which of them may be selected, which offer a name, and the options
 //! of a need, best first.
+//! The rules stand in `docs/selection.md`: "What there is to choose from" (which candidates may be
+//! selected, and what meets a dependency), "What satisfies world", 4 (install-if), and "Which
+//! selection is taken" (the rank of options).
 ghost use Rattle.std.specs.Prelude.{◌≡◌, ◌<◌, ◌^◌, ◌==◌, ◌++◌, ◌∷◌, [], map, length, slice_get, All, Some, IfOk, OnOk, filter, ◌&&◌, not, if◌then◌else◌, true, false};
 ghost use Rattle.std.specs.Option.{option_cmp, option_map_or};
 ghost use Rattle.std.specs.List.{list_all, list_any};
@@ -27,23 +30,31 @@ use crate::packages::Packages;
 use crate::pool::CandidateList;
 use crate::rank::RankedOption;
 use crate::table::Table;
-use crate::version_ranks::rank_versions;
-use crate::versions::VersionKind;
+use crate::version_ranks::rank_long_versions;
 use dep_core::{Dep, World};
 use std::alloc::{AllocError, Global};
 use std::marker::Model;
 use version_core::order_is_total;
 
-/// The candidates under a world. What is asked of each candidate again and again is marked once.
+/// The candidates under a world. What is asked of each candidate again and again is marked once. A
+/// list of marks has one for each candidate, in the order of the list.
 #[derive(Drop)]
 pub struct Sealed<'a> {
+    /// The packages that the candidates are.
     packages: Packages<'a>,
+    /// The places of the candidates that offer each name.
     table: Table<'a>,
+    /// The world that a selection is to satisfy.
     world: &'a World,
+    /// The names that the command upgrades.
     upgrade: Upgrade<'a>,
+    /// Whether each candidate may be selected.
     eligible: Vec<bool>,
+    /// Whether world pins each candidate's name to its tag.
     pinned: Vec<bool>,
+    /// Whether each candidate is installed and the command does not upgrade its name.
     kept: Vec<bool>,
+    /// The places of the candidates whose install-if can come to apply, in rising order.
     install_ifs: Vec<CandId>,
 }
 
@@ -98,7 +109,7 @@ impl<'a> Sealed<'a> {
         self.details(id).candidate()
     }
 
-    /// What is compared of a candidate.
+    /// What is compared of the candidate at a place.
     pub fn details(&self, id: CandId) -> Details<'a>
         requires { id < length self.now.candidates }
         ensures { slice_get self.now.candidates id ≡ Some result }
@@ -106,7 +117,7 @@ impl<'a> Sealed<'a> {
         self.packages.get(id.place as usize)
     }
 
-    /// What is compared of a candidate, if there is one at the place.
+    /// What is compared of the candidate at a place, if there is one.
     pub fn at(&self, id: CandId) -> Option<Details<'a>>
         ensures { result ≡ candidate_at self.now id }
     {
@@ -144,19 +155,21 @@ impl<'a> Sealed<'a> {
         }
     }
 
-    /// The same for a need whose dependency is another's.
+    /// The options of a need whose dependency is borrowed: the candidates that may be selected and
+    /// meet the need, best first.
     pub fn options_for(&self, alloc: Global, need: &NeedRef<'_>) -> Result<Options, AllocError>
         ensures { IfOk result (λ options. options ≡ options_for self.now (need_by need.now)) }
     {
         let ids = self.fitting(alloc, need)?;
+        // None and one are in order already.
         if ids.len() < 2 {
             return Ok(Options::of(ids));
         }
         self.ranked(alloc, need, &ids)
     }
 
-    // The options that have these places, best first. What each is ranked by is read once, and each
-    // text of a version is compared once for all options that share it.
+    // The options of a need, which have these places, best first. What each is ranked by is read
+    // once, and a long text of a version is compared once for all options that share it.
     fn ranked(
         &self,
         alloc: Global,
@@ -170,14 +183,14 @@ impl<'a> Sealed<'a> {
         rank_is_total();
         order_is_total();
         let mut rankings = self.rankings(alloc, need, ids, &self.packages)?;
-        rank_versions(alloc, &mut rankings, VersionKind::Under)?;
-        rank_versions(alloc, &mut rankings, VersionKind::Own)?;
-        rankings.sort_by(|one, other| one.compare(other))?;
+        let key = rank_long_versions(alloc, &mut rankings)?;
+        rankings.sort_by(|one, other| one.compare(other, key))?;
         let ids = places_of(alloc, &rankings)?;
         Ok(Options::of(ids))
     }
 
-    // What each of some candidates is ranked by.
+    // What each of some candidates is ranked by. `packages` are the pool's own: the proof reads the
+    // texts of all versions from one value of them.
     fn rankings(
         &self,
         alloc: Global,
@@ -201,7 +214,8 @@ impl<'a> Sealed<'a> {
         Ok(rankings)
     }
 
-    // What a candidate is ranked by.
+    // What the candidate at a place is ranked by. Its two versions have rank 0 until all are
+    // ranked.
     fn ranking(&self, need: &NeedRef<'_>, id: CandId, packages: &Packages<'a>) -> RankedOption<'a>
         requires within { id < length self.now.candidates }
         requires own { candidates_of_packages packages.now ≡ self.now.candidates }
@@ -225,7 +239,7 @@ impl<'a> Sealed<'a> {
         }
     }
 
-    // The candidates that may be selected and meet a need, in rising order.
+    // The places of the candidates that may be selected and meet a need, in rising order.
     fn fitting(&self, alloc: Global, need: &NeedRef<'_>) -> Result<Vec<CandId>, AllocError>
         ensures { IfOk result (λ ids. ids.items
             ≡ places_from 0 (may_meet self.now (need_by need.now)) self.now.candidates) }
@@ -265,7 +279,7 @@ impl<'a> Sealed<'a> {
         self.packages.get(place).meets_need(need)
     }
 
-    // Whether world pins the candidate's name to its tag.
+    // Whether world pins the name of the candidate at a place to its tag.
     fn is_pinned(&self, id: CandId) -> bool
         ensures { result ≡ is_pinned_at self.now id }
     {
@@ -276,7 +290,7 @@ impl<'a> Sealed<'a> {
         self.pinned[place]
     }
 
-    // Whether the candidate is installed and the command does not upgrade its name.
+    // Whether the candidate at a place is installed and the command does not upgrade its name.
     fn is_kept(&self, id: CandId) -> bool
         ensures { result ≡ is_at self.now (is_kept_installed self.now.upgraded) id }
     {
@@ -295,12 +309,12 @@ fn places_of(alloc: Global, rankings: &[RankedOption<'_>]) -> Result<Vec<CandId>
     rankings.iter().map(|ranking| ranking.id).collect(alloc)
 }
 
-/// What an entry of world does.
+/// What an entry of world is that bears on each candidate; an entry can be both.
 #[derive(Clone, Copy)]
 enum EntryKind {
-    /// It excludes what meets it.
+    /// The entry is a conflict: it bars what meets it.
     Conflict,
-    /// It has a tag.
+    /// The entry has a tag: it allows the candidates of that tag, and pins its name to it.
     Tagged,
 }
 
@@ -330,16 +344,18 @@ pub(crate) fn seal_list<'a>(
     })
 }
 
-/// What world says of each candidate: whether it may be selected, whether it is pinned, and the
-/// places of those whose install-if can come to apply.
+/// What world says of each candidate of a list.
 #[derive(Drop)]
 struct WorldMarks {
+    /// Whether each candidate may be selected.
     eligible: Vec<bool>,
+    /// Whether world pins each candidate's name to its tag.
     pinned: Vec<bool>,
+    /// The places of the candidates whose install-if can come to apply, in rising order.
     install_ifs: Vec<CandId>,
 }
 
-/// What world says of each candidate of a list.
+/// Reads what world says of each candidate of a list.
 fn marks_by_world(
     alloc: Global,
     list: &CandidateList<'_>,
@@ -366,7 +382,7 @@ fn marks_by_world(
     })
 }
 
-// The entries of world that do one thing, in their order.
+// The entries of world that are of one kind, in their order.
 fn entries_of_kind<'a>(
     alloc: Global,
     world: &'a World,
@@ -382,7 +398,7 @@ fn entries_of_kind<'a>(
     Ok(deps)
 }
 
-// Adds an entry where it does that thing.
+// Adds an entry of world to a list where the entry is of a kind.
 fn push_if<'a>(deps: &mut Vec<Dep<'a>>, dep: Dep<'a>, kind: EntryKind) -> Result<(), AllocError>
     ensures { OnOk result (map dependency deps.new.items ≡ map dependency deps.old.items
         ++ (if is_entry_of_kind kind (dependency dep.entry) then dependency dep.entry ∷ []
@@ -404,7 +420,8 @@ fn is_entry_of_kind(kind: EntryKind, dep: &Dep<'_>) -> bool
     }
 }
 
-// The places of the candidates that may be selected and have an install-if without conflict.
+// The places of the candidates that may be selected, as their marks say, and have an install-if
+// without conflict.
 fn install_ifs_among(
     alloc: Global,
     packages: &Packages<'_>,

@@ -1,4 +1,6 @@
 //! Words in byte order, in which a word is found by halving.
+//! No document has a rule for them: the contract is that of `SortedWords::of` and `has`, as the
+//! README of this crate says. `keeping` looks up the names that a command upgrades.
 ghost use Rattle.std.specs.Prelude.{◌≡◌, map, IfOk};
 ghost use Rattle.std.specs.List.{list_any};
 ghost use Rattle.std.specs.List.Sorted.{IsPermutation};
@@ -11,6 +13,7 @@ use std::marker::Model;
 /// The words of a list, in byte order.
 #[derive(Drop)]
 pub struct SortedWords<'a> {
+    /// The words, which stay borrowed.
     words: Vec<&'a [u8]>,
 }
 
@@ -28,7 +31,7 @@ impl<'a> Model for SortedWords<'a> {
 }
 
 impl<'a> SortedWords<'a> {
-    /// The words of a list, in time in proportion to n log n.
+    /// The words of a list, in byte order, in time in proportion to n log n for n words.
     pub fn of(alloc: Global, words: &'a Words) -> Result<SortedWords<'a>, AllocError>
         ensures { IfOk result (λ sorted. IsPermutation words.entry.now sorted) }
     {
@@ -37,7 +40,7 @@ impl<'a> SortedWords<'a> {
         Ok(SortedWords { words: sorted })
     }
 
-    /// Whether a word is one of them, in time in proportion to log n.
+    /// Whether a word is one of the list, in time in proportion to log n for n words.
     pub fn has(&self, word: &[u8]) -> bool
         ensures { result ≡ list_any (bytes_eq word.now) self.now }
     {
@@ -45,7 +48,7 @@ impl<'a> SortedWords<'a> {
     }
 }
 
-// The words, in their order.
+// The words of a list, borrowed, in the order of the list.
 fn borrowed_words<'a>(alloc: Global, words: &'a Words) -> Result<Vec<&'a [u8]>, AllocError>
     ensures { IfOk result (λ borrowed. map (λ word. word.now) borrowed.items ≡ words.entry.now) }
 {

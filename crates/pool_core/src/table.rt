@@ -1,6 +1,9 @@
 //! The table of names: for each name the candidates that are named so or provide it, in rising
 //! order and each once. It borrows the names. Most names have one candidate, which takes no memory
 //! of its own.
+//! The rule stands in `docs/selection.md`, "What there is to choose from": by which names a
+//! candidate meets a dependency. An entry of `provides` without version counts too, and one with a
+//! conflict bit does not.
 ghost use Rattle.std.specs.Prelude.{◌≡◌, ◌&&◌, ℕ, List, [], ◌∷◌, ◌++◌, IfOk, OnOk, None, Some, unwrap_or, not};
 ghost use Rattle.std.specs.List.{list_any};
 ghost use Rattle.std.specs.Str.{bytes_eq};
@@ -21,10 +24,11 @@ use std::slice;
 /// The candidates that offer each name.
 #[derive(Drop)]
 pub(crate) struct Table<'a> {
+    /// What memory comes from.
     alloc: Global,
     // The first candidate of each name.
     singles: IndexMap<&'a [u8], CandId>,
-    // All of them, where there are more.
+    // All candidates of each name that has two or more.
     lists: IndexMap<&'a [u8], Vec<CandId>>,
 }
 
@@ -37,7 +41,7 @@ impl<'a> Model for Table<'a> {
 }
 
 impl<'a> Table<'a> {
-    /// No names.
+    /// A table without names.
     pub(crate) fn new(alloc: Global) -> Table<'a>
         ensures { (name : List ℕ) → ids_of result name ≡ [] }
     {
@@ -48,17 +52,18 @@ impl<'a> Table<'a> {
         }
     }
 
-    /// The candidates that offer a name.
+    /// The places of the candidates that offer a name, in rising order.
     pub(crate) fn get(&self, name: &[u8]) -> &[CandId]
         ensures { result.now ≡ ids_of self.now name.now }
     {
+        // A name with a list has its first candidate in `singles` too; the list counts.
         match self.lists.get(name) {
             Some(ids) => ids.as_slice(),
             None => self.single(name),
         }
     }
 
-    // The candidate of a name that one offers.
+    // The candidate of a name that one candidate at most offers.
     fn single(&self, name: &[u8]) -> &[CandId]
         ensures { result.now ≡ unwrap_or (first_under self.now.singles name.now) [] }
     {
@@ -78,7 +83,7 @@ impl<'a> Table<'a> {
         Ok(())
     }
 
-    // Adds a candidate to each name that it provides.
+    // Adds a candidate to each name that an entry of its provides has.
     fn add_provided(&mut self, provides: &Deps<'a>, id: CandId) -> Result<(), AllocError>
         ensures { OnOk result ((name : List ℕ) → ids_of self.new name
             ≡ with_last_where (list_any
@@ -104,7 +109,8 @@ impl<'a> Table<'a> {
         Ok(())
     }
 
-    // Adds a candidate to those of a name, unless it is the last of them.
+    // Adds a candidate to those of a name, unless it is the last of them: a candidate may provide a
+    // name twice, or its own.
     fn add(&mut self, name: &'a [u8], id: CandId) -> Result<(), AllocError>
         ensures { OnOk result ((other : List ℕ) → ids_of self.new other
             ≡ with_last_where (bytes_eq other name.entry.now) (ids_of self.old other) id) }
@@ -115,7 +121,7 @@ impl<'a> Table<'a> {
         }
     }
 
-    // The same for a name that has no list.
+    // Adds a candidate to those of a name that has no list: it has one candidate at most.
     fn add_to_single(&mut self, name: &'a [u8], id: CandId) -> Result<(), AllocError>
         requires { first_under self.old.lists name.now ≡ None }
         ensures { OnOk result ((other : List ℕ) → ids_of self.new other
@@ -127,7 +133,7 @@ impl<'a> Table<'a> {
         }
     }
 
-    // The same for a name that has one candidate.
+    // Adds a second candidate to those of a name that has one, unless they are the same.
     fn add_second(&mut self, name: &'a [u8], first: CandId, id: CandId) -> Result<(), AllocError>
         requires list { first_under self.old.lists name.now ≡ None }
         requires single { first_under self.old.singles name.now ≡ Some (first ∷ []) }
@@ -142,7 +148,7 @@ impl<'a> Table<'a> {
     }
 }
 
-// Leads a name that has no candidate to one.
+// Puts the first candidate of a name into the table.
 fn insert_single<'a>(
     singles: &mut IndexMap<&'a [u8], CandId>,
     name: &'a [u8],
@@ -158,7 +164,7 @@ fn insert_single<'a>(
     }
 }
 
-// Leads a name to a list of candidates.
+// Puts the candidates of a name that has two into the table.
 fn insert_list<'a>(
     lists: &mut IndexMap<&'a [u8], Vec<CandId>>,
     name: &'a [u8],
@@ -172,7 +178,7 @@ fn insert_list<'a>(
     Ok(())
 }
 
-// Two candidates.
+// A list of two candidates.
 fn pair(alloc: Global, first: CandId, second: CandId) -> Result<Vec<CandId>, AllocError>
     ensures { IfOk result (λ ids. ids.items ≡ first ∷ second ∷ []) }
 {
@@ -193,7 +199,7 @@ fn push_once(ids: &mut Vec<CandId>, id: CandId) -> Result<(), AllocError>
     Ok(())
 }
 
-// Whether the last id is this one.
+// Whether the last of some places is this one.
 fn is_last_id(ids: &[CandId], id: CandId) -> bool
     ensures { result ≡ is_last_id id ids.now }
 {

@@ -1,20 +1,70 @@
-//! The ranks of the versions of options. Each text of a version is compared with others once for
-//! all the packages that share it, so that options are sorted by numbers.
+//! The ranks of the versions of options. Each long text of a version is compared with others once
+//! for all the packages that share it, so that options are sorted by numbers.
+//! The rule stands in `docs/selection.md`, "Which selection is taken", keys 5, 8 and 9 of the
+//! table; how versions are compared says `docs/formats.md`, "Versions". That texts are told apart
+//! by where they stand saves time alone, as the README of this crate says.
 ghost use Rattle.std.specs.Prelude.{◌≡◌, ◌<◌, ◌-◌, true, All, OnOk, IfOk, Some, length, map, slice_get};
 ghost use Rattle.std.specs.List.Sorted.{IsSorted};
-ghost use Rattle.pool_core.specs.Ranking.{Ranking};
-ghost use Rattle.pool_core.specs.VersionRanks.{AreRankedFrom, AreReadAlike, HaveSamePlace, IsListed, rank_among, version_of, version_order, with_rank_among};
+ghost use Rattle.pool_core.specs.Ranking.{Ranking, version_order};
+ghost use Rattle.pool_core.specs.VersionRanks.{AreRankedFrom, AreReadAlike, AreReadyFor, HaveSamePlace, IsListed, rank_among, version_of, with_rank_among};
+ghost use Rattle.pool_core.specs.declared.versions.VersionKind.TheVariants as Kinds;
 
-use crate::rank::{RankedOption, by_version, by_version_text};
+use crate::rank::{RankedOption, VersionKey, compare_versions};
 use crate::versions::{RankedVersion, VersionKind};
 use std::alloc::{AllocError, Global};
 use std::cmp::Ordering;
 use version_core::{Version, order_is_total};
 
-/// Ranks one version of each option among those of all, and may put the options into another order.
-/// It takes time in proportion to k log k in the k options, and compares each text that they read
-/// with log n others of the n texts.
-pub(crate) fn rank_versions<'a>(
+/// How many bytes a version has at most that is compared as it is read, in each comparison of two
+/// options. Any number is right: a greater one lets more options share long comparisons, a lesser
+/// one ranks versions that are sooner compared.
+const SHORT: usize = 64;
+
+/// Ranks the versions of options if one of them is long, and answers by what they are to be
+/// compared. The options may come into another order. It takes time in proportion to k log k in the
+/// k options, and compares each text that they read with log n others of the n texts; short texts
+/// are sooner compared than ranked.
+///
+/// # Errors
+///
+/// Want of memory.
+pub(crate) fn rank_long_versions<'a>(
+    alloc: Global,
+    options: &mut Vec<RankedOption<'a>>,
+) -> Result<VersionKey, AllocError>
+    requires under { AreReadAlike Kinds.Under options.old.items }
+    requires own { AreReadAlike Kinds.Own options.old.items }
+    ensures { IfOk result (λ key. AreReadyFor key options.old.items options.new.items) }
+{
+    if !has_long_version(options) {
+        return Ok(VersionKey::ByText);
+    }
+    rank_versions(alloc, options, VersionKind::Under)?;
+    rank_versions(alloc, options, VersionKind::Own)?;
+    Ok(VersionKey::ByRank)
+}
+
+// Whether a version of an option is long. Nothing rests on the answer but time.
+fn has_long_version(options: &[RankedOption<'_>]) -> bool {
+    for option in options {
+        if is_long(&option.under.version) || is_long(&option.version.version) {
+            return true;
+        }
+    }
+    false
+}
+
+// Whether a version is long; a version that is none is not.
+fn is_long(version: &Option<Version<'_>>) -> bool {
+    match version {
+        Some(version) => version.text().len() > SHORT,
+        None => false,
+    }
+}
+
+// Ranks one version of each option, that of a kind, among those of all, and may put the options
+// into another order.
+fn rank_versions<'a>(
     alloc: Global,
     options: &mut Vec<RankedOption<'a>>,
     kind: VersionKind,
@@ -23,6 +73,7 @@ pub(crate) fn rank_versions<'a>(
     ensures { OnOk result (AreRankedFrom kind options.old.items options.new.items) }
 {
     order_is_total();
+    // Then options that read one text stand together.
     options.sort_by(|one, other| by_place(one.version_of(kind), other.version_of(kind)))?;
     let mut versions = distinct_versions(alloc, options, kind)?;
     versions.sort_by(|one, other| compare_versions(kind, one, other))?;
@@ -30,7 +81,8 @@ pub(crate) fn rank_versions<'a>(
     Ok(())
 }
 
-// The order of two versions by the places of their texts.
+// The order of two versions by the places of their texts. Any order does that puts those of one
+// place together, so the contract says nothing.
 fn by_place(one: &RankedVersion<'_>, other: &RankedVersion<'_>) -> Ordering {
     one.source
         .cmp(&other.source)
@@ -55,7 +107,7 @@ fn distinct_versions<'a>(
     Ok(versions)
 }
 
-// A copy; the text stays borrowed.
+// A copy of a version; its text stays borrowed.
 fn same_version<'a>(version: &Option<Version<'a>>) -> Option<Version<'a>>
     ensures { result ≡ version.entry.now }
 {
@@ -88,7 +140,8 @@ fn is_same_place(one: &RankedVersion<'_>, other: &RankedVersion<'_>) -> bool
         && one.word == other.word
 }
 
-// Gives each option the rank of its version among some.
+// Gives each option the rank of its version among some, which are sorted. An option that reads the
+// text of the one before it has the rank of that one.
 fn set_ranks<'a>(
     options: &mut Vec<RankedOption<'a>>,
     kind: VersionKind,
@@ -99,6 +152,7 @@ fn set_ranks<'a>(
     ensures { options.new.items ≡ map (with_rank_among kind versions.now) options.old.items }
 {
     for i in 0..options.len() {
+        // One search among the versions for each text.
         let rank = if reads_the_text_before(options, i, kind) {
             options[i - 1].version_of(kind).rank
         } else {
@@ -108,7 +162,7 @@ fn set_ranks<'a>(
     }
 }
 
-// How many of some versions come before one.
+// How many of some sorted versions come before one, found by halving.
 fn rank_among(
     kind: VersionKind,
     versions: &[Option<Version<'_>>],
@@ -119,18 +173,4 @@ fn rank_among(
 {
     order_is_total();
     versions.partition_point(|one| compare_versions(kind, one, version).is_lt())
-}
-
-// The order of two versions of a kind.
-fn compare_versions(
-    kind: VersionKind,
-    one: &Option<Version<'_>>,
-    other: &Option<Version<'_>>,
-) -> Ordering
-    ensures { result ≡ version_order kind one.now other.now }
-{
-    match kind {
-        VersionKind::Under => by_version(one, other),
-        VersionKind::Own => by_version(one, other).then(by_version_text(one, other)),
-    }
 }

@@ -1,5 +1,7 @@
 //! The versions that options are ranked by: what is read of each, and where its text stands, so
 //! that a text which many packages share is known to be one.
+//! The rule stands in `docs/selection.md`, "Which selection is taken", the last paragraph (the
+//! version of key 5) and key 8.
 ghost use Rattle.std.specs.Prelude.{◌≡◌, ◌<◌, true, IfSome, length, option_copied, Some};
 ghost use Rattle.std.specs.Option.{option_and_then, option_map};
 ghost use Rattle.std.specs.List.{find};
@@ -29,25 +31,28 @@ use version_core::Version;
 /// A version that an option is ranked by.
 #[derive(Drop)]
 pub(crate) struct RankedVersion<'a> {
+    /// The version; none where the text is no version, or the need is met by an entry without
+    /// version.
     pub(crate) version: Option<Version<'a>>,
-    /// The place of the source that its text is read from, counted from 0.
+    /// The place of the source that the version's text is read from, counted from 0.
     pub(crate) source: u32,
-    /// The word of its text there.
+    /// The word of the version's text in that source.
     pub(crate) word: u32,
-    /// How many of the versions that are ranked come before it.
+    /// How many of the versions that are ranked come before this one; 0 until they are ranked.
     pub(crate) rank: usize,
 }
 
-/// Which of an option's versions is ranked.
+/// Which of the two versions of an option is ranked.
 #[derive(Clone, Copy)]
 pub(crate) enum VersionKind {
-    /// The version under which it meets the need.
+    /// The version under which the candidate meets the need.
     Under,
-    /// Its own.
+    /// The candidate's own version.
     Own,
 }
 
-/// The version of a package of a source.
+/// The version of the package with a word in a source. In the clause, 1 is the index of the version
+/// among the fields of a package's information (`PACKAGE_VERSION`).
 pub(crate) fn own_version<'a>(source: &Source<'a>, kept: PackageWord) -> RankedVersion<'a>
     requires { IsPackageOf source.now kept.word }
     ensures version { result.version ≡ version_of_text
@@ -65,8 +70,8 @@ pub(crate) fn own_version<'a>(source: &Source<'a>, kept: PackageWord) -> RankedV
     }
 }
 
-/// The version under which a package of a source meets a need: its own, else that of the first
-/// entry of provides that meets it.
+/// The version under which the package with a word in a source meets a need: its own, else that of
+/// the first entry of provides that meets the need.
 pub(crate) fn version_under<'a>(
     source: &Source<'a>,
     kept: PackageWord,
@@ -86,7 +91,7 @@ pub(crate) fn version_under<'a>(
     }
 }
 
-/// The version under which a package of a source meets a dependency.
+/// The version under which the package with a word in a source meets a dependency.
 fn version_meeting<'a>(source: &Source<'a>, kept: PackageWord, dep: &Dep<'_>) -> RankedVersion<'a>
     requires { IsPackageOf source.now kept.word }
     ensures version { result.version ≡ version_under (entry (dependency dep.now))
@@ -103,7 +108,8 @@ fn version_meeting<'a>(source: &Source<'a>, kept: PackageWord, dep: &Dep<'_>) ->
     provided_version(source, kept, dep)
 }
 
-// The version of the first entry of provides that meets a dependency.
+// The version of the first entry of a package's provides that meets a dependency; none where no
+// entry does. In the clause, 15 is the index of `provides` (`PROVIDES`).
 fn provided_version<'a>(source: &Source<'a>, kept: PackageWord, dep: &Dep<'_>) -> RankedVersion<'a>
     requires { IsPackageOf source.now kept.word }
     ensures version { result.version ≡ option_and_then (λ (p : Dependency). p.version)
@@ -123,6 +129,7 @@ fn provided_version<'a>(source: &Source<'a>, kept: PackageWord, dep: &Dep<'_>) -
             }
         }
     }
+    // No entry meets the dependency: a version that is none needs no place.
     RankedVersion {
         version: None,
         source: kept.source,
@@ -131,7 +138,8 @@ fn provided_version<'a>(source: &Source<'a>, kept: PackageWord, dep: &Dep<'_>) -
     }
 }
 
-// The version of an entry of provides; where it has none, its word is that of none.
+// The version of an entry of provides, which is the dependency `found`, in the source at a place.
+// Where the entry has no version, the word is 0.
 fn version_of_entry<'a>(
     source: &Source<'a>,
     place: u32,
@@ -159,7 +167,8 @@ fn version_of_entry<'a>(
     }
 }
 
-// The dependency that an entry of a list is, if it is one.
+// The dependency that an entry of a list is, if it is one; where the source's texts keep their
+// rules, each entry is.
 fn read_entry<'a>(source: &Source<'a>, entry: Val) -> Option<Dep<'a>>
     requires sound { is_sound (payload_of source.now.adb) (Kinds.Obj Tables.Dep) entry ≡ true }
     requires texts { source.now.has_sound_texts ≡ true → IsSoundDependency

@@ -16,14 +16,14 @@ use Rattle.make_info.specs.declared.fault.MakeFault.TheVariants.{TooLarge}
 use Rattle.package_files.specs.Folders.{FolderListing, folders_of}
 use Rattle.make_package.specs.Making.{container_unless, made_package, or_info_bad, package_container, package_of_parts}
 use Rattle.package_files.specs.Package.{Script, Source, SourceFolder, contents_of_folders, installed_size, value_of_package}
-use Rattle.package_files.specs.Sources.{each_from, file_at, folder_at, folders_below, found_at, on_success, script_at, script_with, scripts_from, source_with, sources_from, texts_of, values_with}
+use Rattle.package_files.specs.Sources.{each_from, file_at, folder_at, folders_below, found_at, and_then, script_at, script_with, scripts_from, source_with, sources_from, texts_of, values_with}
 use Rattle.pkg_core.specs.Contents.{Contents}
 use Rattle.refusal_laws.specs.MadeTooLarge.{IsPackageTooLarge}
 use Rattle.refusal_laws.proofs.ChangeFaults.{too_large}
 
 -- ---- nothing that is read is too large
 
-success_err : {A B : Type 0} (a : Result A MakeFault) (next : A → Result B MakeFault) (fault : MakeFault) → on_success a next ≡ Err fault → (a ≡ Err fault) ⊎ ((x : A) × (a ≡ Ok x) × (next x ≡ Err fault))
+success_err : {A B : Type 0} (a : Result A MakeFault) (next : A → Result B MakeFault) (fault : MakeFault) → and_then a next ≡ Err fault → (a ≡ Err fault) ⊎ ((x : A) × (a ≡ Ok x) × (next x ≡ Err fault))
 success_err (Ok x) next fault e = inr (x, refl, e)
 success_err (Err first) next fault e = inl (let same : first ≡ fault = cc in ap (λ (f : MakeFault). Err f) same)
 
@@ -37,7 +37,7 @@ module _ (bytes values : ℕ) where
   each_never : {X Y : Type 0} (count : X → ℕ) (of : ℕ → X → Result Y MakeFault) → ((n : ℕ) (x : X) → IsNever (of n x)) → (n : ℕ) (xs : List X) → IsNever (each_from count of n xs)
   each_never count of never n [] e = cc (e)
   each_never count of never n (x ∷ xs) e =
-      elim (success_err (of n x) (λ y. on_success (each_from count of (n + count x) xs) (λ ys. Ok (y ∷ ys))) (TooLarge bytes values) e) [
+      elim (success_err (of n x) (λ y. and_then (each_from count of (n + count x) xs) (λ ys. Ok (y ∷ ys))) (TooLarge bytes values) e) [
         | inl first ↦ never n x first
         | inr next ↦ elim (success_err (each_from count of (n + count x) xs) (λ ys. Ok (next.0 ∷ ys)) (TooLarge bytes values) next.2) [
           | inl others ↦ each_never count of never (n + count x) xs others
@@ -45,7 +45,7 @@ module _ (bytes values : ℕ) where
         ]
       ]
 
-  found_never : {A : Type 0} (place : ℕ) (found : Option (List ℕ)) (next : List ℕ → A) → IsNever (on_success (found_at place found) (λ b. Ok (next b)))
+  found_never : {A : Type 0} (place : ℕ) (found : Option (List ℕ)) (next : List ℕ → A) → IsNever (and_then (found_at place found) (λ b. Ok (next b)))
   found_never place None next e = cc (e)
   found_never place (Some b) next e = cc (e)
 
@@ -110,10 +110,10 @@ module _ (bytes values : ℕ) where
       scripts = scripts_from read 0 (values_with SCRIPT command.values)
 
       then_about : List Script → List InfoItem → Result (List ℕ) MakeFault
-      then_about found about = on_success (folders_below read (length found) (values_with FILES command.values) names) (package_of_parts command found about)
+      then_about found about = and_then (folders_below read (length found) (values_with FILES command.values) names) (package_of_parts command found about)
 
       then_scripts : List Script → Result (List ℕ) MakeFault
-      then_scripts found = on_success (or_info_bad (information command)) (then_about found)
+      then_scripts found = and_then (or_info_bad (information command)) (then_about found)
 
       value_of : List Script → List InfoItem → List SourceFolder → Plain
       value_of found about folders =
@@ -122,9 +122,9 @@ module _ (bytes values : ℕ) where
       packed_is : (found : List Script) (about : List InfoItem) (folders : List SourceFolder) → scripts ≡ Ok found → or_info_bad (information command) ≡ Ok about
           → folders_below read (length found) (values_with FILES command.values) names ≡ Ok folders → packed_package command names read ≡ Ok (package_by (value_of found about folders) (contents_of_folders 1 folders))
       packed_is found about folders s a f =
-          ap (λ (x : Result (List Script) MakeFault). on_success x (λ scripts.
-          on_success (or_info_bad (information command)) (λ about.
-          on_success (folders_below read (length scripts) (values_with FILES command.values) names) (packed_of_parts command scripts about)))) s
-          ∙ (ap (λ (x : Result (List InfoItem) MakeFault). on_success x (λ about.
-          on_success (folders_below read (length found) (values_with FILES command.values) names) (packed_of_parts command found about))) a
-          ∙ ap (λ (x : Result (List SourceFolder) MakeFault). on_success x (packed_of_parts command found about)) f)
+          ap (λ (x : Result (List Script) MakeFault). and_then x (λ scripts.
+          and_then (or_info_bad (information command)) (λ about.
+          and_then (folders_below read (length scripts) (values_with FILES command.values) names) (packed_of_parts command scripts about)))) s
+          ∙ (ap (λ (x : Result (List InfoItem) MakeFault). and_then x (λ about.
+          and_then (folders_below read (length found) (values_with FILES command.values) names) (packed_of_parts command found about))) a
+          ∙ ap (λ (x : Result (List SourceFolder) MakeFault). and_then x (packed_of_parts command found about)) f)

@@ -1,4 +1,5 @@
--- The packages that a change brings, as what is read says them.
+-- The packages that a change brings, as what is read says them. How the file of a package is found
+-- stands in `docs/commands.md`, "`add` and `del`", what is read.
 use Rattle.std.specs.Prelude.{◌≡◌, ◌+◌, ℕ, true, List, length, Option, Some, None, option_and_then, slice_get}
 use Rattle.std.specs.List.{find}
 use Rattle.adb_fields.specs.Repeated.{package_name}
@@ -12,7 +13,7 @@ use Rattle.pkg_core.specs.Whole.{package_fault}
 use Rattle.pool_core.specs.Candidates.{Candidate, is_same_id}
 use Rattle.report_core.specs.Reports.{Change}
 
--- the selected candidate of a name
+-- the selected candidate of a name, if there is one
 abbrev pub selected_of_name : Replacement → List ℕ → Option Candidate
 selected_of_name r name = find (is_selected_named name) r.selected
 
@@ -37,14 +38,14 @@ pub record IsReadFor (inputs : Inputs) (r : Replacement) (read : Reads) (name ve
   pub is_file : package_file_read read (first_index_read + length inputs.root.repositories + place)
       inputs.root.repositories candidate ≡ file
 
--- the file passes all tests, and the package in it has the candidate's id, name and version
+-- a file passes all tests, and the package in it has the candidate's id, name and version
 pub record IsAsSelected (c : Candidate) (file : List ℕ) : Type 0 where
   pub sound : package_fault file ≡ None
   pub id : is_same_id c.id (package_in_file file).id ≡ true
   pub name : package_name (package_in_file file).value ≡ c.name
   pub version : version_text (package_in_file file).value ≡ selected_version c
 
--- this package comes: it is the one in the file of the selected candidate of its name
+-- a package comes: it is the one in the file of the selected candidate of its name
 pub record IsBrought (inputs : Inputs) (r : Replacement) (read : Reads) (name : List ℕ)
     (pkg : ComingPackage) : Type 0 where
   pub version : List ℕ

@@ -1,4 +1,5 @@
--- Why a command is refused that changes the installed packages.
+-- Why a command is refused that changes the installed packages. The refusals stand in
+-- `docs/commands.md`, "`add` and `del`" and "`upgrade` and `fix`", in their order.
 use Rattle.std.specs.Prelude.{◌≡◌, ◌⊎◌, ℕ, false, List, Option, Ok}
 use Rattle.adb_fields.specs.FirstPair.{IsIn}
 use Rattle.base_core.specs.Files.{Files}
@@ -21,7 +22,8 @@ use Rattle.refusal_laws.specs.InputFaults.{AreTooMany, IsFaultOfInput}
 
 -- ---- a selection
 
--- `del` needs a name that is in world or installed, `upgrade` and `fix` one that is installed
+-- a name is none that the command knows: `del` needs one that is in world or installed, `upgrade`
+-- and `fix` one that is installed
 abbrev pub IsUnknownTo : Applet → Inputs → List ℕ → Type 0
 IsUnknownTo Del inputs name =
     (has_name name inputs.root.world ≡ false) × (is_installed_name inputs name ≡ false)
@@ -29,7 +31,7 @@ IsUnknownTo Upgrade inputs name = is_installed_name inputs name ≡ false
 IsUnknownTo Fix inputs name = is_installed_name inputs name ≡ false
 IsUnknownTo applet inputs name = ⊥
 
--- the operand at this place of the command line is such a name
+-- the operand at this place of the command line is a name that the command does not know
 pub record IsUnknownOperand (command : CommandLine) (inputs : Inputs) (place : ℕ) : Type 0 where
   pub operand : Operand
   pub given : IsIn operand command.operands
@@ -42,7 +44,8 @@ pub record IsUnsatisfied (command : CommandLine) (inputs : Inputs) : Type 0 wher
   pub is_pool : pool_by command inputs ≡ Ok pool
   pub none : (selection : List ℕ) → IsSatisfying pool selection → ⊥
 
--- a refusal behind the reading of the root and in front of the packages' files says one of these
+-- what a refusal says is so that comes behind the reading of the root and in front of the packages'
+-- files
 abbrev pub IsFaultOfSelection : CommandLine → Inputs → Refusal → Type 0
 IsFaultOfSelection command inputs (TooMany count) = AreTooMany inputs count
 IsFaultOfSelection command inputs (NotInstalled place) = IsUnknownOperand command inputs place
@@ -51,20 +54,20 @@ IsFaultOfSelection command inputs other = ⊥
 
 -- ---- a command
 
--- what it reads is there, and the candidates, an operand or the new world have this fault
+-- what a command reads is there, and the candidates, an operand or the new world have this fault
 abbrev pub IsSelectionRefused : CommandLine → Reads → Refusal → Type 0
 IsSelectionRefused command read refusal =
     (inputs : Inputs) × (inputs_of command read ≡ Ok inputs)
     × IsFaultOfSelection command inputs refusal
 
--- these candidates are selected, and the change that is to be made has this fault
+-- candidates are selected, and the change that is to be made has this fault
 abbrev pub IsChangeRefused :
     CommandLine → Reads → Files → Option (List ℕ) → Refusal → Type 0
 IsChangeRefused command read files chosen refusal =
     (s : Selected) × (selected_for command read chosen ≡ Ok s) × (command.flags.simulate ≡ false)
     × IsFaultOfChange s.inputs s.replacement (wishes_of command) read files refusal
 
--- the refusal is due by what the command finds
+-- what a refusal says of what the command finds is so: of its input, its selection or its change
 abbrev pub IsFaultOfCommand : CommandLine → Reads → Files → Option (List ℕ) → Refusal → Type 0
 IsFaultOfCommand command read files chosen refusal =
     IsFaultOfInput command read refusal

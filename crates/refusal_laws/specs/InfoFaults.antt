@@ -1,4 +1,4 @@
--- Why `info` is refused.
+-- Why `info` is refused. The refusals stand in `docs/commands.md`, "`info`", what is refused.
 use Rattle.std.specs.Prelude.{◌⊎◌}
 use Rattle.command_core.specs.Command.{CommandLine}
 use Rattle.installed_info.specs.Refusals.{IsOfAnOperand}
@@ -9,7 +9,7 @@ use Rattle.v2_core.specs.declared.read.V2Fault.TheVariants.{Bad, TooLarge}
 use Rattle.refusal_laws.specs.InputFaults.{HasNoDatabase, IsContainerBad, IsTextRefused}
 use Rattle.refusal_laws.specs.ReadBefore.{HasDatabase}
 
--- it is refused for the database alone
+-- what a refusal says of the database is so
 abbrev pub IsFaultOfDatabase : CommandLine → Reads → Refusal → Type 0
 IsFaultOfDatabase command read NoDatabase = HasNoDatabase command read
 IsFaultOfDatabase command read (DatabaseBad cause) =
@@ -18,7 +18,8 @@ IsFaultOfDatabase command read (ResultTooLarge bytes values) =
     IsTextRefused read (TooLarge bytes values)
 IsFaultOfDatabase command read other = ⊥
 
--- or the database is found, and an operand asks for what is not installed
+-- what a refusal of `info` says is so: of the database; or that is found, and an operand asks for
+-- what is not installed
 abbrev pub IsFaultOfInfo : CommandLine → Reads → Refusal → Type 0
 IsFaultOfInfo command read refusal =
     IsFaultOfDatabase command read refusal

@@ -1,4 +1,5 @@
--- Why what a change reads of a root is refused.
+-- Why what a change reads of a root is refused. The refusals stand in `docs/commands.md`,
+-- "`add` and `del`", what is refused, in their order, and in "Error lines".
 use Rattle.std.specs.Prelude.{◌≡◌, ◌⊎◌, ◌+◌, ◌<◌, ℕ, suc, false, List, ◌∷◌, length, Option, Some, None, Ok, Err, slice_get}
 use Rattle.adb_schema.specs.Soundness.{first_fault}
 use Rattle.adb_tables.specs.declared.tables.Which.TheVariants.{Idb, Index}
@@ -20,13 +21,13 @@ use Rattle.v2_core.specs.declared.read.V2Fault.TheVariants.{Bad, TooLarge}
 
 -- ---- the database
 
--- neither file of one is there, and the command may not begin one
+-- neither file of a database is there, and the command may not begin one
 pub record HasNoDatabase (command : CommandLine) (read : Reads) : Type 0 where
   pub container : read database_read database_name ≡ None
   pub text : read text_database_read text_database_name ≡ None
   pub not_begun : command.flags.initdb ≡ false
 
--- its container fails this test first
+-- the container of the database is there, and this is the first test that it fails
 pub record IsContainerBad (read : Reads) (cause : Cause) : Type 0 where
   pub file : List ℕ
   pub is_file : read database_read database_name ≡ Some file
@@ -41,7 +42,7 @@ pub record IsTextRefused (read : Reads) (fault : V2Fault) : Type 0 where
 
 -- ---- repositories
 
--- no text where the file is absent
+-- the text of the list of repositories as it is read: none where the file is absent
 abbrev pub repositories_found : Reads → List ℕ
 repositories_found read = text_found (read repositories_read repositories_name)
 
@@ -62,7 +63,7 @@ pub record IsIndexRead (read : Reads) (number : ℕ) (file : Option (List ℕ)) 
   pub is_repository : slice_get repositories place ≡ Some repository
   pub is_file : read (first_index_read + place) repository.path ≡ file
 
--- its index fails this test first
+-- the index of the repository with this number is there, and this is the first test that it fails
 pub record IsIndexBad (read : Reads) (number : ℕ) (cause : Cause) : Type 0 where
   pub file : List ℕ
   pub is_read : IsIndexRead read number (Some file)
@@ -70,7 +71,7 @@ pub record IsIndexBad (read : Reads) (number : ℕ) (cause : Cause) : Type 0 whe
 
 -- ---- each refusal
 
--- a refusal for what was read of the root says one of these
+-- what a refusal says of what was read of the root is so
 abbrev pub IsFaultOfInput : CommandLine → Reads → Refusal → Type 0
 IsFaultOfInput command read NoDatabase = HasNoDatabase command read
 IsFaultOfInput command read (DatabaseBad cause) =
@@ -89,7 +90,7 @@ IsFaultOfInput command read other = ⊥
 
 -- ---- too many
 
--- there are more packages to choose from than may be, and it tells of one too many
+-- there are more packages to choose from than may be, and the refusal tells of one too many
 pub record AreTooMany (inputs : Inputs) (count : ℕ) : Type 0 where
   pub more : MOST_CANDIDATES < length (candidates_of inputs)
   pub told : count ≡ MOST_CANDIDATES + 1

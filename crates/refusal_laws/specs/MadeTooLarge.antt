@@ -1,4 +1,5 @@
--- Why a package that is to be made is too large.
+-- Why a package that is to be made is too large. The refusal stands in `docs/commands.md`,
+-- "`mkpkg`", and the limits in `docs/formats.md`, "Canonical layout".
 use Rattle.std.specs.Prelude.{◌≡◌, ℕ, List, Ok}
 use Rattle.command_core.specs.Command.{CommandLine}
 use Rattle.make_core.specs.ReadBack.{packed_package}

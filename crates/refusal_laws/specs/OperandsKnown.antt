@@ -1,4 +1,5 @@
--- What holds of the candidates and the operands where a selection is refused.
+-- What holds of the candidates and the operands where a selection is refused. The order of these
+-- refusals stands in `docs/commands.md`, "`add` and `del`", what is refused.
 use Rattle.std.specs.Prelude.{◌≡◌, ℕ, List, ◌∷◌, ◌++◌, Ok}
 use Rattle.adb_fields.specs.FirstPair.{IsIn}
 use Rattle.change_inputs.specs.Inputs.{Inputs}
@@ -15,7 +16,7 @@ abbrev pub AreKnown : CommandLine → Inputs → List Operand → Type 0
 AreKnown command inputs operands =
     (o : Operand) → IsIn o operands → IsUnknownTo command.applet inputs o.text → ⊥
 
--- so it is with each operand before the one at this place
+-- the operand at this place is the first that the command does not know: each before it is known
 pub record IsFirstUnknown (command : CommandLine) (inputs : Inputs) (place : ℕ) : Type 0 where
   pub before : List Operand
   pub operand : Operand
@@ -24,12 +25,12 @@ pub record IsFirstUnknown (command : CommandLine) (inputs : Inputs) (place : ℕ
   pub at : operand.place ≡ place
   pub known : AreKnown command inputs before
 
--- the candidates are not too many
+-- the candidates of a command are not too many
 abbrev pub HasPool : CommandLine → Inputs → Type 0
 HasPool command inputs = (pool : SealedPool) × (pool_by command inputs ≡ Ok pool)
 
--- first the candidates are counted, then the operands are looked at in their order, and last a
--- selection is searched
+-- what is tested before this refusal of a selection: first the candidates are counted, then the
+-- operands are looked at in their order, and last a selection is searched
 abbrev pub HasPassedBeforeSelection : CommandLine → Inputs → Refusal → Type 0
 HasPassedBeforeSelection command inputs (NotInstalled place) =
     HasPool command inputs × IsFirstUnknown command inputs place

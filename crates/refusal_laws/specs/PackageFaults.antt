@@ -1,4 +1,5 @@
--- Why one of the packages that come or go with a change is refused.
+-- Why one of the packages that come or go with a change is refused. The refusals stand in
+-- `docs/commands.md`, "`add` and `del`", what is refused package by package, and in "Error lines".
 use Rattle.std.specs.Prelude.{◌≡◌, ◌⊎◌, ℕ, true, false, List, Some, None}
 use Rattle.std.specs.List.{find}
 use Rattle.adb_fields.specs.FirstPair.{IsIn}
@@ -23,7 +24,7 @@ use Rattle.refusal_laws.specs.ComingPackages.{IsBrought, IsReadFor, selected_of_
 abbrev pub IsPackageMissing : Inputs → Replacement → Reads → List ℕ → List ℕ → Type 0
 IsPackageMissing inputs r read name version = IsReadFor inputs r read name version None
 
--- its file is there, and this is the first test that it fails
+-- the file of a package that comes is there, and this is the first test that it fails
 pub record IsFileBad (inputs : Inputs) (r : Replacement) (read : Reads) (name version : List ℕ)
     (cause : Cause) : Type 0 where
   pub file : List ℕ
@@ -32,7 +33,7 @@ pub record IsFileBad (inputs : Inputs) (r : Replacement) (read : Reads) (name ve
 
 -- ---- another package
 
--- what the index says of the candidate, and what the package in its file says
+-- the wanted id is the index's, the other that of the package's file, and they are not the same id
 abbrev pub HasOtherId : Candidate → ComingPackage → List ℕ → List ℕ → Type 0
 HasOtherId c pkg wanted found =
     (wanted ≡ c.id) × (found ≡ pkg.id) × (is_same_id wanted found ≡ false)
@@ -47,8 +48,8 @@ abbrev pub HasOtherVersion : Candidate → ComingPackage → List ℕ → List �
 HasOtherVersion c pkg wanted found =
     (wanted ≡ selected_version c) × (found ≡ version_text pkg.value) × (wanted ≡ found → ⊥)
 
--- the id is another; or it is the same, and the name is another; or both are the same, and the
--- version is another
+-- the package in a file is not the candidate's: the id is another; or it is the same, and the name
+-- is another; or both are the same, and the version is another
 abbrev pub IsOtherPackage : Candidate → ComingPackage → ℕ → List ℕ → List ℕ → Type 0
 IsOtherPackage c pkg field wanted found =
     ((field ≡ id_field) × HasOtherId c pkg wanted found)
@@ -56,7 +57,8 @@ IsOtherPackage c pkg field wanted found =
     ⊎ ((field ≡ version_field) × (is_same_id c.id pkg.id ≡ true) × (c.name ≡ package_name pkg.value)
     × HasOtherVersion c pkg wanted found))
 
--- its file passes all tests, and the package in it is another one than the index says
+-- the file of a package that comes passes all tests, and the package in it is another one than the
+-- index says
 pub record IsPackageOther (inputs : Inputs) (r : Replacement) (read : Reads)
     (name version : List ℕ) (field : ℕ) (wanted found : List ℕ) : Type 0 where
   pub file : List ℕ
@@ -66,12 +68,12 @@ pub record IsPackageOther (inputs : Inputs) (r : Replacement) (read : Reads)
 
 -- ---- scripts
 
--- a package before that goes: none of its name is selected
+-- a package before goes: none of its name is selected
 pub record IsGoing (r : Replacement) (name : List ℕ) (pkg : Plain) : Type 0 where
   pub before : find (is_package_named name) r.before ≡ Some pkg
   pub unselected : selected_of_name r name ≡ None
 
--- a package of this name that comes or goes
+-- a package of this name comes or goes
 abbrev pub IsComingOrGoing : Inputs → Replacement → Reads → List ℕ → Plain → Type 0
 IsComingOrGoing inputs r read name pkg =
     ((coming : ComingPackage) × IsBrought inputs r read name coming × (pkg ≡ coming.value))

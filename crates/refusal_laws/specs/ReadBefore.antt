@@ -1,4 +1,5 @@
--- What was read without a refusal before a later one.
+-- What was read without a refusal before a later one. The order stands in `docs/commands.md`,
+-- "`add` and `del`", what is read and refused.
 use Rattle.std.specs.Prelude.{◌≡◌, List, Ok}
 use Rattle.change_inputs.specs.Database.{Database}
 use Rattle.change_inputs.specs.Inputs.{database_for, world_read}
@@ -12,7 +13,8 @@ use Rattle.report_core.specs.declared.refusal.Refusal.TheVariants.{IndexBad, Ind
 use Rattle.root_names.specs.RootNames.{world_name}
 use Rattle.refusal_laws.specs.InputFaults.{repositories_found}
 
--- there is one, or one may be begun, and it passed its tests
+-- the database was read without a refusal: it passed its tests, or there is none and one may be
+-- begun
 abbrev pub HasDatabase : CommandLine → Reads → Type 0
 HasDatabase command read = (database : Database) × (database_for command read ≡ Ok database)
 
@@ -26,11 +28,12 @@ abbrev pub HasRepositories : Reads → Type 0
 HasRepositories read =
     (repositories : List Repository) × (repositories_of (repositories_found read) ≡ Ok repositories)
 
--- the database and world
+-- the database and world were read without a refusal
 abbrev pub HasBoth : CommandLine → Reads → Type 0
 HasBoth command read = HasDatabase command read × HasWorld read
 
--- first the database is read, then world, then the repositories, and last their indexes
+-- what is read before this refusal of the input: first the database, then world, then the
+-- repositories, and last their indexes
 abbrev pub HasReadBefore : CommandLine → Reads → Refusal → Type 0
 HasReadBefore command read (WorldBad line) = HasDatabase command read
 HasReadBefore command read (RepositoriesBad line) = HasBoth command read

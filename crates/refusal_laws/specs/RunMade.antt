@@ -1,4 +1,5 @@
--- Which packages there are after a run that is not refused.
+-- Which packages there are after a run that is not refused. The rules stand in `docs/selection.md`,
+-- "Which selection is taken", and in `docs/commands.md`, "What a change does with files".
 use Rattle.std.specs.Prelude.{◌≡◌, ℕ, List, Some, Ok}
 use Rattle.base_core.specs.Files.{Files}
 use Rattle.change_outcome.specs.ChangeOutcome.{change_members, file_change}
@@ -14,8 +15,8 @@ use Rattle.solve_core.specs.Selection.{IsFirstSelection}
 use Rattle.refusal_laws.specs.PackagesAfter.{AreSelectedOnes}
 use Rattle.refusal_laws.specs.TestsPassed.{HasNoFault}
 
--- the first preferred selection of the candidates is found, the packages after the change are just
--- those, and the files that they leave have no fault
+-- a run has taken the first preferred selection: it is found, the packages after the change are
+-- just those, and the files that they leave have no fault
 pub record HasFirstSelection (command : CommandLine) (files : Files) : Type 0 where
   pub pool : SealedPool
   pub is_pool : pool_for command (reads_in files) ≡ Ok pool

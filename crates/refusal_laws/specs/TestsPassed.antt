@@ -1,4 +1,6 @@
--- What holds of the packages after a change that has passed some of its tests.
+-- What holds of the packages after a change that has passed some of its tests. The tests stand in
+-- `docs/commands.md`, "What a change does with files", 1 to 3, and "`add` and `del`", what is
+-- refused.
 use Rattle.std.specs.Prelude.{◌≡◌, ℕ, true, false, List, is_some}
 use Rattle.adb_fields.specs.FirstPair.{IsIn}
 use Rattle.adb_rules.specs.Reserved.{is_reserved}
@@ -31,20 +33,20 @@ HasNoTrigger wishes change files =
     wishes.no_scripts ≡ false → (m : Member) → IsIn m change.members
     → has_script_of m.pkg trigger_script ≡ true → IsWatchedFor change files m.pkg → ⊥
 
--- no path is reserved and no name clashes
+-- the first two tests of files passed: no path is reserved and no name clashes
 abbrev pub HasNamesOfItsOwn : FileChange → Files → Type 0
 HasNamesOfItsOwn change files =
     AreUnreserved change.members × HasNoClash (name_change change files) files
 
--- nor is a path contested
+-- all three tests of files passed: nor is a path contested
 abbrev pub HasOwners : FileChange → Files → Type 0
 HasOwners change files = HasNamesOfItsOwn change files × HaveOwners change.members
 
--- none of what would refuse the files of a change, but for the limits of what is written
+-- a change has none of what would refuse its files, but for the limits of what is written
 abbrev pub HasNoFault : ChangeWishes → FileChange → Files → Type 0
 HasNoFault wishes change files = HasOwners change files × HasNoTrigger wishes change files
 
--- what is tested before this refusal
+-- what is tested before this refusal of a change's files
 abbrev pub HasPassedBefore : ChangeWishes → FileChange → Files → Refusal → Type 0
 HasPassedBefore wishes change files (PathClash path other) = AreUnreserved change.members
 HasPassedBefore wishes change files (Owned path first second) = HasNamesOfItsOwn change files

@@ -1,4 +1,6 @@
 //! What follows from the definition of a change for its refusals and for the packages after it.
+//! What each refusal says stands in the README of this crate, and the order of refusals in
+//! `docs/commands.md`, "`add` and `del`".
 
 ghost use Rattle.std.specs.Prelude.{◌≡◌, ℕ, false, Err, List, None, Ok, Option, Some};
 ghost use Rattle.base_core.specs.Files.{Files};
@@ -40,8 +42,10 @@ use outcome::{a_change_takes_the_first_selection_or_is_refused, a_command_recove
 /// Where what a change reads of a root is refused, what the refusal says is so: of the database, of
 /// world, of the repositories or of their indexes, in this order.
 pub fn a_refused_input_has_its_fault()
+    // What it says is so.
     ensures fault { (command : CommandLine) (read : Reads) (refusal : Refusal)
         → inputs_of command read ≡ Err refusal → IsFaultOfInput command read refusal }
+    // What comes before in this order was read.
     ensures order { (command : CommandLine) (read : Reads) (refusal : Refusal)
         → inputs_of command read ≡ Err refusal → HasReadBefore command read refusal }
 {}
@@ -68,9 +72,11 @@ pub fn a_refused_change_has_its_fault()
 /// Where a run that changes the installed packages is refused, what the refusal says is so: of the
 /// intent that an earlier change left, or of the files that a recovery leaves.
 pub fn a_refused_run_has_its_fault()
+    // Of a command over the files on which it works.
     ensures over { (command : CommandLine) (files : Files) (o : Outcome) (refusal : Refusal)
         → effect_of command.applet ≡ Changes → IsOutcomeOver command files o
         → o.refusal ≡ Some refusal → IsFaultOver command files refusal }
+    // Of a run, over the files in which it begins.
     ensures words { (words : List (List ℕ)) (command : CommandLine) (files : Files) (o : Outcome)
         (refusal : Refusal) → command_of words ≡ Ok command
         → effect_of command.applet ≡ Changes → IsOutcome words files o
@@ -115,10 +121,12 @@ pub fn a_refused_change_has_passed_the_tests_before()
 /// is made has none of the others either: no path that comes is reserved, no name is a folder of
 /// another, each path has an owner, and no trigger is due.
 pub fn a_change_that_is_made_has_no_fault()
+    // Of the packages that come and go.
     ensures packages { (inputs : Inputs) (r : Replacement) (wishes : ChangeWishes) (read : Reads)
         (found : List MemberFound) (refusal : Refusal)
         → change_members inputs r wishes read ≡ Ok found
         → IsFaultOfPackage inputs r wishes read refusal → ⊥ }
+    // Of the files that they leave.
     ensures files { (inputs : Inputs) (r : Replacement) (wishes : ChangeWishes) (read : Reads)
         (clash : Option NamePair) (files : Files) (done : ChangeDone)
         → change_or_refusal inputs r wishes read clash files ≡ Ok done
@@ -144,7 +152,7 @@ pub fn the_packages_after_a_change_are_the_selected_ones()
         → AreSelectedOnes inputs r read found }
 {}
 
-/// So it is after a run that is not refused, nor only simulated: they are those of the first
+/// The packages after a run that is not refused, nor only simulated, are those of the first
 /// preferred selection.
 pub fn the_packages_after_a_run_are_those_of_the_first_selection()
     ensures { (command : CommandLine) (files : Files) (o : Outcome)

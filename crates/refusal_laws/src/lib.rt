@@ -1,5 +1,6 @@
 //! What a refusal of a change or of `info` says is so, and which packages there are after a change
-//! that is not refused.
+//! that is not refused. The refusals stand in `docs/commands.md`, "Error lines", and in the section
+//! of each command.
 //!
 //! The functions are laws. They cite `RunFaults`, `TestsPassed` and `PackagesAfter` of `specs/`,
 //! and the definitions of `outcome` and of the crates below it.

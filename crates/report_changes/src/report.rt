@@ -1,4 +1,6 @@
-//! The lines of reports.
+//! The report of a change that is only simulated, the lines on what becomes of packages, and the
+//! sum. They stand in `docs/commands.md`, "`add` and `del`", what is reported, and
+//! "`upgrade` and `fix`".
 ghost use Rattle.package_changes.specs.Changes.{changes_of};
 ghost use Rattle.package_changes.specs.Placed.{candidates_at, replacement_of};
 ghost use Rattle.report_changes.specs.Report.{candidate_size, selected_sum_line, simulated_report};
@@ -54,7 +56,7 @@ pub fn push_change_lines(report: &mut Report, changes: &Changes<'_>) -> Result<(
     Ok(())
 }
 
-/// Adds the line of a change, before which there are so many.
+/// Adds the line of a change, before which there are so many of `count`.
 fn push_change_line(
     report: &mut Report,
     before: usize,
@@ -70,7 +72,7 @@ fn push_change_line(
     Ok(())
 }
 
-/// Adds the number of a change, and how many there are.
+/// Adds the number of a change, counted from 1, and how many there are: `(1/3) `.
 fn push_number(report: &mut Report, number: u128, count: u128) -> Result<(), AllocError>
     ensures { OnOk result (report.new ≡ report.old
         ++ (codes "(" ++ decimal number ++ codes "/" ++ decimal count ++ codes ") ")) }
@@ -83,7 +85,7 @@ fn push_number(report: &mut Report, number: u128, count: u128) -> Result<(), All
     Ok(())
 }
 
-/// Adds what becomes of a package.
+/// Adds what becomes of a package: a word for that, its name, and its versions.
 fn push_change_text(report: &mut Report, change: &Change<'_>) -> Result<(), AllocError>
     ensures { OnOk result (report.new ≡ report.old ++ change_text (change_seen change.now)) }
 {
@@ -97,7 +99,7 @@ fn push_change_text(report: &mut Report, change: &Change<'_>) -> Result<(), Allo
     }
 }
 
-/// Adds a word, and a package at a version.
+/// Adds a word, and a package at a version: `Installing lib (1.1-r0)`.
 fn push_version(
     report: &mut Report,
     word: &[u8],
@@ -115,7 +117,7 @@ fn push_version(
     Ok(())
 }
 
-/// Adds a word, and a package from one version to another.
+/// Adds a word, and a package from one version to another: `Upgrading app (1.0-r0 -> 2.0-r0)`.
 fn push_versions(
     report: &mut Report,
     word: &[u8],
@@ -136,7 +138,7 @@ fn push_versions(
     Ok(())
 }
 
-/// Adds how many bytes and packages there are after a change, by what the candidates say.
+/// Adds the last line of a simulated report, by what the candidates say.
 fn push_selected_sum(
     report: &mut Report,
     pool: &Sealed<'_>,
@@ -151,7 +153,7 @@ fn push_selected_sum(
     Ok(())
 }
 
-/// Adds how many bytes and packages there are.
+/// Adds the last line of a report: how many bytes and packages are installed.
 pub fn push_sum_line(report: &mut Report, bytes: u128, count: u128) -> Result<(), AllocError>
     ensures { OnOk result (report.new ≡ report.old ++ report_line (sum_text bytes count)) }
 {
@@ -160,7 +162,7 @@ pub fn push_sum_line(report: &mut Report, bytes: u128, count: u128) -> Result<()
     Ok(())
 }
 
-/// Adds the text of that line.
+/// Adds the text of the last line, without its line end.
 fn push_sum(report: &mut Report, bytes: u128, count: u128) -> Result<(), AllocError>
     ensures { OnOk result (report.new ≡ report.old ++ sum_text bytes count) }
 {
@@ -172,7 +174,8 @@ fn push_sum(report: &mut Report, bytes: u128, count: u128) -> Result<(), AllocEr
     Ok(())
 }
 
-/// The bytes that the selected candidates take when they are installed.
+/// The bytes that the selected candidates take when they are installed. A u128 holds the sum of any
+/// number of them.
 fn selected_size(pool: &Sealed<'_>, trace: &Trace) -> u128
     ensures { result ≡ sum_by candidate_size (candidates_at pool.now trace.now) }
 {

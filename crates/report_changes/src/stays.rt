@@ -1,4 +1,5 @@
-//! Packages that were to go and stay, since others need them.
+//! Packages that were to go and stay, since others need them. The line stands in
+//! `docs/commands.md`, "`add` and `del`", what is reported: `NAME stays`.
 ghost use Rattle.change_files.specs.PlanLists.{names_in_order};
 ghost use Rattle.db_core.specs.Seen.{packages_of};
 ghost use Rattle.package_changes.specs.Changes.{is_selected_named};
@@ -57,7 +58,7 @@ fn selected_among<'n>(
         .collect(alloc)
 }
 
-/// Adds the lines of names that are in order.
+/// Adds the lines of names that are in order: those that were installed before.
 fn push_lines_of_names(
     alloc: Global,
     report: &mut Report,
@@ -76,7 +77,7 @@ fn push_lines_of_names(
     Ok(())
 }
 
-/// Adds the lines of a name.
+/// Adds the lines of a name, if a package of it was installed before.
 fn push_lines_of_name(
     alloc: Global,
     report: &mut Report,
@@ -215,7 +216,7 @@ fn push_name_in_need<'a>(
     }
 }
 
-/// Adds a name where it is wanted.
+/// Adds a name to a list where it is wanted.
 fn push_name_if<'a>(
     names: &mut Vec<&'a [u8]>,
     name: &'a [u8],
@@ -240,7 +241,7 @@ fn is_in_need(needed: &Details<'_>, details: &Details<'_>) -> bool
     details.needs(needed)
 }
 
-/// Adds that a package stays, and the names of those that need it.
+/// Adds the line that tells that a package stays, and the names of those that need it.
 fn push_stay_line(report: &mut Report, name: &[u8], names: &[&[u8]]) -> Result<(), AllocError>
     ensures { OnOk result (report.new ≡ report.old
         ++ report_line (stays_text name.now (map (λ n. n.now) names.now))) }
@@ -250,7 +251,7 @@ fn push_stay_line(report: &mut Report, name: &[u8], names: &[&[u8]]) -> Result<(
     Ok(())
 }
 
-/// Adds the text of that line.
+/// Adds the text of the line that tells that a package stays, without its line end.
 fn push_stay_text(report: &mut Report, name: &[u8], names: &[&[u8]]) -> Result<(), AllocError>
     ensures { OnOk result (report.new
         ≡ report.old ++ stays_text name.now (map (λ n. n.now) names.now)) }

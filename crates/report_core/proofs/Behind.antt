@@ -1,7 +1,7 @@
 -- A text behind another on a sink.
-use Rattle.std.proofs.Common.{◌≡◌, ◌∙◌, ℕ, List, ◌++◌, Option, Result, Ok, Err, subst, ap, refl, sym, codes, append_assoc}
-use Rattle.base_core.specs.Faults.{Counts, GoesOn, IsNoFault, FailsWithCause}
-use Rattle.base_core.specs.Sink.{Adds, AddsSome, SinkChange}
+use Rattle.std.proofs.Common.{◌≡◌, ◌∙◌, ℕ, List, ◌++◌, Option, Result, Ok, Err, subst, refl, sym, codes, append_assoc}
+use Rattle.base_core.specs.Faults.{Counts, GoesOn, IsNoFault}
+use Rattle.base_core.specs.Sink.{Adds, SinkChange}
 use Rattle.base_core.specs.Write.{Writes}
 use Rattle.report_core.specs.Texts.{package_text}
 use Rattle.report_core.proofs.Counting.{goes_on_twice, no_fault_twice, fails_after}

@@ -1,6 +1,6 @@
 -- The counts of several calls.
-use Rattle.std.proofs.Common.{◌≡◌, ◌∙◌, ◌≤◌, ◌⊎◌, inl, inr, ℕ, ◌+◌, ◌-◌, ◌^◌, min, Result, Ok, Err, arith}
-use Rattle.base_core.specs.Faults.{Counts, GoesOn, IsNoFault, HasCause, FailsWithCause, Rose, next_count}
+use Rattle.std.proofs.Common.{◌≡◌, ◌∙◌, ◌≤◌, inl, inr, ℕ, Err, arith}
+use Rattle.base_core.specs.Faults.{Counts, GoesOn, IsNoFault, HasCause, FailsWithCause, Rose}
 
 pub goes_on_twice : (a b c : Counts) → GoesOn a b → GoesOn b c → GoesOn a c
 goes_on_twice a b c h k = record {

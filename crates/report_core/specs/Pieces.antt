@@ -1,4 +1,6 @@
--- The pieces of a text.
+-- The pieces that the text of a refusal is put together from. Serves the proof of `write_error`, whose
+-- contract cites *refusal_line*; what each piece stands for is a rule of `docs/commands.md`, "Error
+-- lines".
 use Rattle.std.specs.Prelude.{ℕ, List, [], ◌∷◌, ◌++◌, Option, Some, None}
 use Rattle.std.specs.Fmt.{decimal}
 use Rattle.hex.specs.Hex.{encode_lower}
@@ -18,7 +20,7 @@ piece_text (Digest digest) = encode_lower (digest_bytes digest)
 piece_text (Position folder file) = position_text folder file
 piece_text Nothing = []
 
--- one behind another
+-- the texts of pieces, one behind another
 abbrev pub pieces_text : List Piece → List ℕ
 pieces_text [] = []
 pieces_text (piece ∷ pieces) = piece_text piece ++ pieces_text pieces

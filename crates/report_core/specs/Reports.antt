@@ -1,4 +1,6 @@
 -- What the reports of commands say (apk(8)). Each line ends with a line end.
+-- The rules stand in `docs/commands.md`: of changes in "`add` and `del`" and "`upgrade` and `fix`", of
+-- what is installed in "`info`".
 use Rattle.std.specs.Prelude.{ℕ, ◌+◌, List, [], ◌∷◌, ◌++◌, codes, length}
 use Rattle.std.specs.Fmt.{decimal}
 use Rattle.std.specs.List.{flat_map}
@@ -11,7 +13,7 @@ report_line text = text ++ codes "\n"
 abbrev pub report_lines : List (List ℕ) → List ℕ
 report_lines texts = flat_map report_line texts
 
--- NAME-VERSION
+-- a package with its version, as `NAME-VERSION`
 abbrev pub name_version : List ℕ → List ℕ → List ℕ
 name_version name version = name ++ codes "-" ++ version
 
@@ -27,11 +29,11 @@ pub data Change : Type 0 where
   Downgrade : List ℕ → List ℕ → List ℕ → Change
   Replace : List ℕ → List ℕ → List ℕ → Change
 
--- a package at a version
+-- a package with its version in brackets, as `NAME (VERSION)`
 abbrev pub name_and_version : List ℕ → List ℕ → List ℕ
 name_and_version name version = name ++ codes " (" ++ version ++ codes ")"
 
--- a package from one version to another
+-- a package whose version changes, as `NAME (OLD -> NEW)`
 abbrev pub from_version_to : List ℕ → List ℕ → List ℕ → List ℕ
 from_version_to name old new = name ++ codes " (" ++ old ++ codes " -> " ++ new ++ codes ")"
 
@@ -44,36 +46,37 @@ change_text (Upgrade name old new) = codes "Upgrading " ++ from_version_to name 
 change_text (Downgrade name old new) = codes "Downgrading " ++ from_version_to name old new
 change_text (Replace name old new) = codes "Replacing " ++ from_version_to name old new
 
--- a change with its number and how many there are
+-- the text of a change, with its number among the changes and how many there are, as `(2/5) ..`
 abbrev pub numbered_change : ℕ → ℕ → Change → List ℕ
 numbered_change number count change =
     codes "(" ++ decimal number ++ codes "/" ++ decimal count ++ codes ") " ++ change_text change
 
--- the lines of changes, the first of which has a number
+-- the lines of changes, the first of which has this number, of so many in all
 abbrev pub change_lines_from : ℕ → ℕ → List Change → List ℕ
 change_lines_from number count [] = []
 change_lines_from number count (change ∷ changes) =
     report_line (numbered_change number count change)
     ++ change_lines_from (number + 1) count changes
 
--- a line for each change, with its number and how many there are
+-- a line for each change of a report, numbered from 1
 abbrev pub change_lines : List Change → List ℕ
 change_lines changes = change_lines_from 1 (length changes) changes
 
 -- ---- what else is told of a change
 
--- texts with a space between
+-- each text with a space before it
 abbrev pub spaced_behind : List (List ℕ) → List ℕ
 spaced_behind [] = []
 spaced_behind (text ∷ texts) = codes " " ++ text ++ spaced_behind texts
 
--- a package that was to go and stays, with the names of those that need it, if there are any
+-- what a report says of a package that was to go and stays, with the names of those that need it, if
+-- there are any
 abbrev pub stays_text : List ℕ → List (List ℕ) → List ℕ
 stays_text name [] = name ++ codes " stays"
 stays_text name (first ∷ others) =
     name ++ codes " stays; required by:" ++ spaced_behind (first ∷ others)
 
--- the folder of a due trigger; the root folder is printed as `/`
+-- the folder of a due trigger as a path from the root on: a folder without a name is the root
 abbrev pub folder_text : List ℕ → List ℕ
 folder_text [] = codes "/"
 folder_text (b ∷ bytes) = b ∷ bytes
@@ -82,33 +85,33 @@ folder_text (b ∷ bytes) = b ∷ bytes
 abbrev pub trigger_text : List ℕ → List ℕ → List ℕ
 trigger_text name folder = name ++ codes ": trigger due for " ++ folder_text folder
 
--- the sum of the installed sizes, and how many packages there are
+-- the last line of a change: the sum of the installed sizes, and how many packages there are
 abbrev pub sum_text : ℕ → ℕ → List ℕ
 sum_text bytes packages =
     codes "OK: " ++ decimal bytes ++ codes " bytes in " ++ decimal packages ++ codes " packages"
 
 -- ---- `info`: a heading, what it heads, and an empty line
 
--- a heading, a line for each text, and an empty line
+-- a section: a heading, a line for each text, and an empty line
 abbrev pub section : List ℕ → List (List ℕ) → List ℕ
 section heading texts = report_line heading ++ report_lines texts ++ codes "\n"
 
--- the description of a package
+-- the section of `info NAME`: the description of a package
 abbrev pub description_section : List ℕ → List ℕ → List ℕ → List ℕ
 description_section name version description =
     section (name_version name version ++ codes " description:") (description ∷ [])
 
--- the paths of a package's files
+-- the section of `info -L NAME`: the paths of a package's files
 abbrev pub contents_section : List ℕ → List ℕ → List (List ℕ) → List ℕ
 contents_section name version paths =
     section (name_version name version ++ codes " contains:") paths
 
--- the dependencies of a package
+-- the section of `info -R NAME`: the dependencies of a package
 abbrev pub depends_section : List ℕ → List ℕ → List (List ℕ) → List ℕ
 depends_section name version dependencies =
     section (name_version name version ++ codes " depends on:") dependencies
 
--- the package that a path is of
+-- the line of `info -W PATH`: the package that owns a path
 abbrev pub owner_text : List ℕ → List ℕ → List ℕ → List ℕ
 owner_text path name version =
     codes "/" ++ path ++ codes " is owned by " ++ name_version name version

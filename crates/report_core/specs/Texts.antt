@@ -1,5 +1,7 @@
 -- The lines of refusals and faults.
-use Rattle.std.specs.Prelude.{ℕ, List, ◌∷◌, [], ◌++◌, ◌==◌, if◌then◌else◌, codes}
+-- The rules stand in `docs/commands.md`, "Error lines"; the lines of a failed tree and of want of
+-- memory in "Answers and statuses".
+use Rattle.std.specs.Prelude.{ℕ, List, ◌++◌, ◌==◌, if◌then◌else◌, codes}
 use Rattle.std.specs.Fmt.{decimal}
 use Rattle.std.specs.Int.{w32, to_be_bytes}
 use Rattle.hex.specs.Hex.{encode_lower}
@@ -10,11 +12,11 @@ use Rattle.base_core.specs.declared.cause.Digest.TheVariants.{Sha1, Sha256, Sha5
 use Rattle.report_core.specs.declared.refusal.Refusal.{Refusal}
 use Rattle.report_core.specs.declared.refusal.Refusal.TheVariants.{Usage, IntentBad, FileMissing, FileBad, VersionBad, InfoBad, NoDatabase, DatabaseBad, WorldBad, RepositoriesBad, Untrusted, IndexMissing, IndexBad, TooMany, NotInstalled, Unsatisfied, PackageMissing, PackageBad, PackageDiffers, ScriptNeeded, Reserved, PathClash, Owned, TriggerNeeded, ResultTooLarge}
 
--- eight lower-case hexadecimal digits
+-- a word or a schema in eight lower-case hexadecimal digits
 abbrev pub hex_word : ℕ → List ℕ
 hex_word word = encode_lower (to_be_bytes w32 word)
 
--- the bytes of a digest
+-- the bytes of a digest, of which the digits are printed
 abbrev pub digest_bytes : Digest → List ℕ
 digest_bytes (Sha1 bytes) = bytes
 digest_bytes (Sha256 bytes) = bytes
@@ -22,11 +24,11 @@ digest_bytes (Sha512 bytes) = bytes
 
 -- ---- causes
 
--- the positions of a folder and of a file in it
+-- the positions of a folder in a package and of a file in it, counted from 1, with a dot between
 abbrev pub position_text : ℕ → ℕ → List ℕ
 position_text folder file = decimal folder ++ codes "." ++ decimal file
 
--- what is said of a cause
+-- the text of a cause
 abbrev pub cause_text : Cause → List ℕ
 cause_text NotAdb = codes "not an ADB file"
 cause_text Compressed = codes "compressed ADB file"
@@ -54,24 +56,25 @@ cause_text (TextLine line) = codes "bad line " ++ decimal line
 
 -- ---- refusals
 
--- what is printed of a word
+-- the text of a refusal of a word: its place, counted from 1, and why
 abbrev pub word_text : ℕ → List ℕ → List ℕ
 word_text place text = codes "word " ++ decimal place ++ codes ": " ++ text
 
--- what is printed of a repository
+-- the text of a refusal of a repository: its number, counted from 1, and why
 abbrev pub repository_text : ℕ → List ℕ → List ℕ
 repository_text number text = codes "repository " ++ decimal number ++ codes ": " ++ text
 
--- what is printed of a version of a package
+-- the text of a refusal of a package: name and version, and why
 abbrev pub package_text : List ℕ → List ℕ → List ℕ → List ℕ
 package_text name version text = name ++ codes "-" ++ version ++ codes ": " ++ text
 
--- what a package says of itself in a field: its id is printed in hexadecimal digits, its name and
--- its version as they are
+-- what a package says of itself in a field of its information, as it is printed: the id (`hashes`,
+-- field 3 of table 3 in `docs/formats.md`) in hexadecimal digits, name and version as they are
 abbrev pub field_text : ℕ → List ℕ → List ℕ
 field_text field bytes = if field == 3 then encode_lower bytes else bytes
 
--- a script by its number; a number that is no script's is printed as such
+-- the name of a script by its number, which is that of table 6 in `docs/formats.md`, "Schemas"; a
+-- number that is no script's is printed as such
 abbrev pub script_name : ℕ → List ℕ
 script_name script =
     if script == 1 then codes "trigger" else
@@ -82,7 +85,7 @@ script_name script =
     if script == 6 then codes "pre-upgrade" else
     if script == 7 then codes "post-upgrade" else decimal script
 
--- what is said of a refusal
+-- the text of a refusal
 abbrev pub refusal_text : Refusal → List ℕ
 refusal_text (Usage place) = codes "usage error at word " ++ decimal place
 refusal_text (IntentBad cause) = codes "lib/apk/intent: " ++ cause_text cause
@@ -128,10 +131,10 @@ error_line text = codes "ERROR: " ++ text ++ codes "\n"
 abbrev pub refusal_line : Refusal → List ℕ
 refusal_line refusal = error_line (refusal_text refusal)
 
--- a fault of the tree
+-- the error line of a failed tree
 abbrev pub tree_line : List ℕ
 tree_line = error_line (codes "the tree failed")
 
--- want of memory
+-- the error line of want of memory
 abbrev pub memory_line : List ℕ
 memory_line = error_line (codes "out of memory")

@@ -3,6 +3,7 @@
 //!
 //! The contracts cite `Texts` (the lines of refusals and of faults) of `specs/`. `Reports` says
 //! what the reports of commands say.
+//! The rules stand in `docs/commands.md`, "Error lines".
 #![tactic(auto)]
 
 mod lines;

@@ -1,5 +1,7 @@
 //! What a command prints: its report, made whole in memory before the first byte is printed, and
 //! the line of a refusal, put together from pieces and written to a sink without memory.
+//! The rules stand in `docs/commands.md`, "Error lines"; that a report is whole before it is
+//! printed, in "Answers and statuses".
 
 ghost use Rattle.std.specs.Prelude.{◌≡◌, [], ◌∷◌, decimal, ◌++◌, OnOk, OnErr};
 ghost use Rattle.base_core.specs.Sink.{sink_change};
@@ -64,10 +66,10 @@ pub(crate) enum Piece<'a> {
     Nothing,
 }
 
-/// The pieces of a text.
+/// The pieces of a text: seven, the most that a refusal has; those that are not needed say nothing.
 pub(crate) type Pieces<'a> = [Piece<'a>; 7];
 
-/// Adds all the pieces, in order. After a fault a front of their text was added.
+/// Writes all the pieces, in order. After a fault a front of their text was written.
 pub(crate) fn write_pieces<S: Sink>(pieces: &[Piece<'_>], sink: &mut S) -> Result<(), SinkFault>
     ensures { Writes (pieces_text pieces.now)
         (sink_change S.bytes S.counts sink.old sink.new) result }
@@ -128,11 +130,12 @@ fn hex_digits(byte: u8) -> [u8; 2]
     ensures { result ≡ encode_lower (byte ∷ []) }
 {
     let mut digits = [0; 2];
+    // A byte has two digits, for which there is room.
     let _ = hex::encode_to_slice([byte], &mut digits);
     digits
 }
 
-// The bytes of a digest.
+// The bytes of a digest, of which the digits are printed.
 fn digest_bytes(digest: &Digest) -> &[u8]
     ensures { result.now ≡ digest_bytes digest.now }
 {
@@ -167,7 +170,7 @@ impl Report {
         }
     }
 
-    /// Adds bytes. A refused push changes nothing.
+    /// Adds bytes at the end. Where there is no memory nothing changes.
     pub fn push(&mut self, piece: &[u8]) -> Result<(), AllocError>
         ensures ok { OnOk result (self.new ≡ self.old ++ piece.now) }
         ensures err { OnErr result (self.new ≡ self.old) }
@@ -176,7 +179,7 @@ impl Report {
         Ok(())
     }
 
-    /// Adds a number in decimal digits. A refused push changes nothing.
+    /// Adds a number in decimal digits. Where there is no memory nothing changes.
     pub fn number(&mut self, n: u128) -> Result<(), AllocError>
         ensures ok { OnOk result (self.new ≡ self.old ++ decimal n) }
         ensures err { OnErr result (self.new ≡ self.old) }

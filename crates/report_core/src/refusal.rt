@@ -1,4 +1,5 @@
-//! Why a command is refused.
+//! Why a command is refused. The rules stand in `docs/commands.md`, "Error lines", and in the
+//! section of `docs/commands.md` of each command, in the order in which refusals are tested.
 use base_core::{Cause, Name, Text};
 
 /// Why a command is refused, in the order in which the kinds are tested; file operands are tested
@@ -81,7 +82,8 @@ pub enum Refusal {
         cause: Cause,
     },
     /// The file of this package has another id (`field` 3), name (1) or version (2) than its index
-    /// says. Ids are bytes, names and versions are texts.
+    /// says: the numbers are those of table 3 in `docs/formats.md`, "Schemas". Ids are bytes, names
+    /// and versions are texts.
     PackageDiffers {
         name: Text,
         version: Text,
@@ -90,8 +92,9 @@ pub enum Refusal {
         found: Text,
     },
     /// The package has a script that the change would run, and `--no-scripts` is not given.
-    /// `script` is its number: 1 is the trigger, 2 pre-install, 3 post-install, 4 pre-deinstall, 5
-    /// post-deinstall, 6 pre-upgrade, 7 post-upgrade.
+    /// `script` is its number in table 6 of `docs/formats.md`, "Schemas": 1 is the trigger, 2
+    /// pre-install, 3 post-install, 4 pre-deinstall, 5 post-deinstall, 6 pre-upgrade, 7
+    /// post-upgrade.
     ScriptNeeded {
         name: Text,
         script: u16,

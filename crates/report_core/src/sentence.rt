@@ -1,4 +1,5 @@
 //! The texts of refusals and causes, as pieces.
+//! The rules stand in `docs/commands.md`, "Error lines", the table of refusals and that of causes.
 ghost use Rattle.std.specs.Prelude.{◌≡◌, ◌++◌};
 ghost use Rattle.report_core.specs.Pieces.{piece_text, pieces_text, sentence_text};
 ghost use Rattle.report_core.specs.Texts.{cause_text, field_text, word_text, refusal_text, script_name};
@@ -15,28 +16,28 @@ pub(crate) struct Sentence<'a> {
     pub(crate) cause: Option<Cause>,
 }
 
-// A sentence of one piece; the places that are left say nothing.
+// Pieces, of which one says something.
 fn one<'a>(a: Piece<'a>) -> Pieces<'a>
     ensures { pieces_text result ≡ piece_text a.entry }
 {
     [a, Nothing, Nothing, Nothing, Nothing, Nothing, Nothing]
 }
 
-// Of two.
+// Pieces, of which the first two say something.
 fn two<'a>(a: Piece<'a>, b: Piece<'a>) -> Pieces<'a>
     ensures { pieces_text result ≡ piece_text a.entry ++ piece_text b.entry }
 {
     [a, b, Nothing, Nothing, Nothing, Nothing, Nothing]
 }
 
-// Of three.
+// Pieces, of which the first three say something.
 fn three<'a>(a: Piece<'a>, b: Piece<'a>, c: Piece<'a>) -> Pieces<'a>
     ensures { pieces_text result ≡ piece_text a.entry ++ piece_text b.entry ++ piece_text c.entry }
 {
     [a, b, c, Nothing, Nothing, Nothing, Nothing]
 }
 
-// Of four.
+// Pieces, of which the first four say something.
 fn four<'a>(a: Piece<'a>, b: Piece<'a>, c: Piece<'a>, d: Piece<'a>) -> Pieces<'a>
     ensures { pieces_text result ≡ piece_text a.entry ++ piece_text b.entry
         ++ piece_text c.entry ++ piece_text d.entry }
@@ -44,7 +45,7 @@ fn four<'a>(a: Piece<'a>, b: Piece<'a>, c: Piece<'a>, d: Piece<'a>) -> Pieces<'a
     [a, b, c, d, Nothing, Nothing, Nothing]
 }
 
-// Of five.
+// Pieces, of which the first five say something.
 fn five<'a>(a: Piece<'a>, b: Piece<'a>, c: Piece<'a>, d: Piece<'a>, e: Piece<'a>) -> Pieces<'a>
     ensures { pieces_text result ≡ piece_text a.entry ++ piece_text b.entry
         ++ piece_text c.entry ++ piece_text d.entry ++ piece_text e.entry }
@@ -52,7 +53,7 @@ fn five<'a>(a: Piece<'a>, b: Piece<'a>, c: Piece<'a>, d: Piece<'a>, e: Piece<'a>
     [a, b, c, d, e, Nothing, Nothing]
 }
 
-// Of six.
+// Pieces, of which the first six say something.
 fn six<'a>(
     a: Piece<'a>,
     b: Piece<'a>,
@@ -67,7 +68,7 @@ fn six<'a>(
     [a, b, c, d, e, f, Nothing]
 }
 
-// Of seven, the most that a refusal has.
+// Seven pieces, the most that a refusal has.
 fn seven<'a>(
     a: Piece<'a>,
     b: Piece<'a>,
@@ -104,7 +105,7 @@ fn caused<'a>(pieces: Pieces<'a>, cause: Cause) -> Sentence<'a>
     }
 }
 
-// What is said of the word at a place.
+// The refusal of the word at a place, with why.
 fn at_word(place: u32, text: &'static [u8]) -> Sentence<'static>
     ensures { sentence_text result ≡ word_text place text.now }
 {
@@ -116,10 +117,11 @@ fn at_word(place: u32, text: &'static [u8]) -> Sentence<'static>
     ))
 }
 
-// The text of a refusal.
+// The text of a refusal, as a sentence.
 pub(crate) fn sentence_of<'a>(refusal: &'a Refusal) -> Sentence<'a>
     ensures { sentence_text result ≡ refusal_text refusal.now }
 {
+    // Each text is a row of the table of refusals; `caused` has the text of a cause behind it.
     match refusal {
         Refusal::Usage { place } => plain(two(
             Bytes(b"usage error at word "),
@@ -228,10 +230,11 @@ pub(crate) fn sentence_of<'a>(refusal: &'a Refusal) -> Sentence<'a>
     }
 }
 
-// The text of a cause.
+// The text of a cause, as pieces.
 pub(crate) fn cause_pieces(cause: Cause) -> Pieces<'static>
     ensures { pieces_text result ≡ cause_text cause }
 {
+    // Each text is a row of the table of causes.
     match cause {
         Cause::NotAdb => one(Bytes(b"not an ADB file")),
         Cause::Compressed => one(Bytes(b"compressed ADB file")),
@@ -284,14 +287,15 @@ pub(crate) fn cause_pieces(cause: Cause) -> Pieces<'static>
     }
 }
 
-// What a package says of itself in a field: an id, or a name or a version.
+// What a package says of itself in a field: its id in hexadecimal digits, and its name or its
+// version as text. 3 is the number of `hashes` in table 3 of `docs/formats.md`, "Schemas".
 fn field_piece(field: u16, bytes: &[u8]) -> Piece<'_>
     ensures { piece_text result ≡ field_text field bytes.now }
 {
     if field == 3 { Hex(bytes) } else { Bytes(bytes) }
 }
 
-// The name of a script.
+// The name of a script by its number in table 6 of `docs/formats.md`, "Schemas".
 fn script_piece(script: u16) -> Piece<'static>
     ensures { piece_text result ≡ script_name script }
 {

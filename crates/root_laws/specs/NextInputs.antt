@@ -1,4 +1,5 @@
--- With what a command begins that reads the root which a change has left.
+-- With what a command begins that reads the root which a change has left. The rules stand in
+-- `docs/commands.md`, "`add` and `del`", what is read.
 use Rattle.std.specs.Prelude.{◌≡◌, ℕ, List, Option}
 use Rattle.change_inputs.specs.Inputs.{Inputs}
 use Rattle.change_outcome.specs.ChangeOutcome.{ChangeDone}
@@ -9,13 +10,14 @@ use Rattle.report_core.specs.declared.refusal.Refusal.{Refusal}
 use Rattle.report_core.specs.declared.refusal.Refusal.TheVariants.{IndexBad, IndexMissing, RepositoriesBad, Untrusted}
 use Rattle.root_laws.specs.RootLeft.{IsRootLeft, database_of_members}
 
--- the packages before are those after the change, and world is the one that it was made for
+-- inputs are what a change has left: the packages before are those after the change, and world is
+-- the one that it was made for
 pub record AreInputsFrom {command : CommandLine} {read : Reads} {chosen : Option (List ℕ)}
     {done : ChangeDone} (left : IsRootLeft command read chosen done) (inputs : Inputs) : Type 0 where
   pub database : inputs.root.database ≡ database_of_members (members_found left.found) left.bytes
   pub world : inputs.root.world ≡ left.selected.inputs.root.new_world
 
--- it tells of the repositories, or of an index of one
+-- a refusal tells of the repositories, or of an index of one
 abbrev pub IsOfRepositories : Refusal → Type 0
 IsOfRepositories (RepositoriesBad line) = Unit {0}
 IsOfRepositories Untrusted = Unit {0}

@@ -1,4 +1,5 @@
--- The root that a change leaves, as a later command reads it.
+-- The root that a change leaves, as a later command reads it. The rules stand in `docs/formats.md`,
+-- "The database after a change" and "World".
 use Rattle.std.specs.Prelude.{◌≡◌, ℕ, ◌<◌, false, List, All, Option, Some, Ok}
 use Rattle.adb_fields.specs.Repeated.{list_of}
 use Rattle.base_core.specs.Files.{Files}
@@ -17,17 +18,17 @@ use Rattle.file_owners.specs.Owners.{owned_of}
 use Rattle.make_info.specs.Reads.{Reads}
 use Rattle.root_names.specs.RootNames.{database_name, world_name}
 
--- each file that reads find has bytes
+-- each file that reads find has bytes: numbers below 256
 abbrev pub FindBytes : Reads → Type 0
 FindBytes read =
     (n : ℕ) (name bytes : List ℕ) → read n name ≡ Some bytes → All (λ b. b < 256) bytes
 
--- the database and world are read of these files
+-- reads find the database and world of these files
 pub record ReadsRoot (files : Files) (read : Reads) : Type 0 where
   pub database : read database_read database_name ≡ files database_name
   pub world : read world_read world_name ≡ files world_name
 
--- packages, each with the files that it owns, in a container of these bytes
+-- the database of packages, each with the files that it owns, in a container of these bytes
 abbrev pub database_of_members : List Member → List ℕ → Database
 database_of_members members bytes =
     database_by (list_of (packages_after members (owned_of members))) (Some bytes) false

@@ -1,5 +1,6 @@
 //! What follows from the definition of a command that changes the installed packages, for the
-//! command that reads the root after it.
+//! command that reads the root after it. The rules stand in `docs/formats.md`,
+//! "The database after a change" and "World".
 
 ghost use Rattle.std.specs.Prelude.{◌≡◌, ℕ, false, Err, List, Ok, Option};
 ghost use Rattle.base_core.specs.Files.{AreNamedFiles, Files};
@@ -54,9 +55,11 @@ pub fn what_a_change_leaves_is_read_by_the_next_run()
 /// change has left; and one that does not is refused for its repositories or their indexes alone,
 /// neither for the database nor for the world.
 pub fn a_command_begins_with_what_the_last_change_left()
+    // A command that comes to its inputs.
     ensures inputs { (command later : CommandLine) (read next : Reads) (chosen : Option (List ℕ))
         (done : ChangeDone) (inputs : Inputs) (left : IsRootLeft command read chosen done)
         → ReadsRoot done.files next → inputs_of later next ≡ Ok inputs → AreInputsFrom left inputs }
+    // A command that does not.
     ensures refused { (command later : CommandLine) (read next : Reads) (chosen : Option (List ℕ))
         (done : ChangeDone) (refusal : Refusal) → IsRootLeft command read chosen done
         → ReadsRoot done.files next → inputs_of later next ≡ Err refusal

@@ -1,18 +1,20 @@
 -- The names of the files of a root that the package keeper reads and writes (apk(8), apk-world(5)).
+-- The rule stands in `docs/apk.8.md`, "FILES".
 use Rattle.std.specs.Prelude.{ℕ, List, codes}
 
--- the installed database
+-- the name of the installed database
 abbrev pub database_name : List ℕ
 database_name = codes "lib/apk/db/installed.adb"
 
--- the database as version 2 of apk-tools keeps it, which is taken over where the other is absent
+-- the name of the text database of version 2 of apk-tools, which is taken over where there is no
+-- other database
 abbrev pub text_database_name : List ℕ
 text_database_name = codes "lib/apk/db/installed"
 
--- what is asked of the installed packages
+-- the name of world: the dependencies that the user asks for
 abbrev pub world_name : List ℕ
 world_name = codes "etc/apk/world"
 
--- where the indexes lie
+-- the name of the list of repositories, which says where the indexes lie
 abbrev pub repositories_name : List ℕ
 repositories_name = codes "etc/apk/repositories"

@@ -1,6 +1,8 @@
 //! The names of the files of a root that the package keeper reads and writes: its database, the
 //! text database of version 2, world and the list of repositories. `RootNames` of `specs/` has
 //! them.
+//!
+//! The rule stands in `docs/apk.8.md`, "FILES".
 #![tactic(auto)]
 
 ghost use Rattle.root_names.specs.RootNames.{database_name, repositories_name, text_database_name, world_name};
@@ -12,31 +14,31 @@ use std::alloc::{AllocError, Global};
 /// The bytes of the name of the installed database.
 pub const DATABASE_NAME: &[u8] = b"lib/apk/db/installed.adb";
 
-/// The bytes of the name of what is asked of the installed packages.
+/// The bytes of the name of world: the dependencies that the user asks for.
 pub const WORLD_NAME: &[u8] = b"etc/apk/world";
 
-/// The installed database, `lib/apk/db/installed.adb`.
+/// The name of the installed database, `lib/apk/db/installed.adb`.
 pub fn database_name(alloc: Global) -> Result<Name, AllocError>
     ensures { IfOk result (λ name. name ≡ database_name) }
 {
     Name::of(alloc, DATABASE_NAME)
 }
 
-/// The database as version 2 of apk-tools keeps it, `lib/apk/db/installed`.
+/// The name of the text database of version 2 of apk-tools, `lib/apk/db/installed`.
 pub fn text_database_name(alloc: Global) -> Result<Name, AllocError>
     ensures { IfOk result (λ name. name ≡ text_database_name) }
 {
     Name::of(alloc, b"lib/apk/db/installed")
 }
 
-/// What is asked of the installed packages, `etc/apk/world`.
+/// The name of world, `etc/apk/world`: the dependencies that the user asks for.
 pub fn world_name(alloc: Global) -> Result<Name, AllocError>
     ensures { IfOk result (λ name. name ≡ world_name) }
 {
     Name::of(alloc, WORLD_NAME)
 }
 
-/// Where the indexes lie, `etc/apk/repositories`.
+/// The name of the list of repositories, `etc/apk/repositories`: where the indexes lie.
 pub fn repositories_name(alloc: Global) -> Result<Name, AllocError>
     ensures { IfOk result (λ name. name ≡ repositories_name) }
 {

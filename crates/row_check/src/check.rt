@@ -1,4 +1,5 @@
-//! What rows run, and what is seen of a run, beside what is wanted.
+//! What rows run, and what is seen of a run, beside what is wanted. What is wanted stands in
+//! `tests/rows.md`, "Lines".
 
 use crate::differences::{RowFault, compare, compare_numbers, differs};
 use crate::recovery::images_of;
@@ -8,7 +9,7 @@ use row_text::{NamedFile, Step};
 use std::alloc::{AllocError, Global};
 use tree_memory::{MemorySink, MemoryTree};
 
-/// All that is wanted of a run is seen.
+/// Compares all that a row wants of a command line with what its run left and printed.
 pub fn check_run<P: Program>(
     alloc: Global,
     program: &P,
@@ -22,7 +23,7 @@ pub fn check_run<P: Program>(
     check_names(alloc, step, &run.tree)
 }
 
-/// The streams and the status are those that are wanted.
+/// Compares the streams and the status with those that are wanted.
 pub fn check_streams(alloc: Global, step: &Step, run: &Run) -> Result<(), RowFault> {
     let line = step.line;
     compare(alloc, line, b"standard output", run.out.bytes(), &step.out)?;
@@ -31,7 +32,7 @@ pub fn check_streams(alloc: Global, step: &Step, run: &Run) -> Result<(), RowFau
     compare_numbers(alloc, line, b"status", u64::from(run.status), status)
 }
 
-/// So are the counts that are said, and no memory was lacking.
+/// Compares the counts that the row says; and no memory may be lacking.
 fn check_counts(alloc: Global, step: &Step, run: &Run) -> Result<(), RowFault> {
     let line = step.line;
     if let Some(calls) = step.calls {
@@ -104,7 +105,7 @@ fn tell(alloc: Global, line: u64, name: &Name, what: &[u8]) -> Result<(), RowFau
     Err(differs(alloc, line, &pieces))
 }
 
-/// What is wanted of a file, where something is said of it.
+/// What is wanted of a file, where the row says something of it.
 fn wanted_file<'a>(step: &'a Step, name: &Name) -> Option<&'a NamedFile> {
     for file in &step.files {
         if file.name.as_bytes() == name.as_bytes() {
@@ -114,7 +115,7 @@ fn wanted_file<'a>(step: &'a Step, name: &Name) -> Option<&'a NamedFile> {
     None
 }
 
-/// The names are those that are said.
+/// Compares all names with those that the row says, if it does.
 fn check_names(alloc: Global, step: &Step, tree: &MemoryTree) -> Result<(), RowFault> {
     let Some(wanted) = &step.names else {
         return Ok(());
@@ -137,7 +138,7 @@ fn check_names(alloc: Global, step: &Step, tree: &MemoryTree) -> Result<(), RowF
     Ok(())
 }
 
-/// Each image that a crash may leave of a tree has its files.
+/// Looks at each image that a crash may leave of a tree: it is to have the tree's files.
 pub fn check_images(alloc: Global, step: &Step, tree: &MemoryTree) -> Result<(), RowFault> {
     for choice in 0..images_of(tree) {
         let image = tree.pick_image(alloc, choice)?;
@@ -171,8 +172,12 @@ pub trait Program {
 /// A run that ended: what it left and what it printed.
 #[derive(Drop)]
 pub struct Run {
+    /// The tree that it left, with its counts of calls.
     pub tree: MemoryTree,
+    /// Its exit status.
     pub status: u8,
+    /// What it printed on standard output.
     pub out: MemorySink,
+    /// What it printed on standard error.
     pub err: MemorySink,
 }

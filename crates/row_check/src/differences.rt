@@ -1,9 +1,11 @@
-//! Why a row fails, and two texts or numbers beside each other.
+//! Why a row fails, and two texts or numbers beside each other. Such a line stands behind
+//! `FAILED NAME: `, as `tests/rows.md` says in "What runs them".
 use std::alloc::{AllocError, AllocFailed, Global};
 
-/// How many bytes are shown of a text, and how many of them stand before the first that differs.
+/// How many bytes are shown of a text that differs.
 const SHOWN: usize = 60;
 
+// How many of them stand before the first one that differs.
 const BEFORE: usize = 20;
 
 /// Why a row fails.
@@ -16,12 +18,14 @@ pub enum RowFault {
 }
 
 impl From<AllocError> for RowFault {
+    // Want of memory, as the reason why a row fails.
     fn from(_: AllocError) -> RowFault {
         RowFault::Memory
     }
 }
 
 impl<T: Drop> From<AllocFailed<T>> for RowFault {
+    // Want of memory, where what was to be kept comes back.
     fn from(_: AllocFailed<T>) -> RowFault {
         RowFault::Memory
     }
@@ -59,7 +63,7 @@ pub fn digits(alloc: Global, number: u64) -> Result<Vec<u8>, AllocError> {
     Ok(text)
 }
 
-/// Two texts are alike, or the first place at which they differ is reported.
+/// Compares two texts; where they differ, the first place is reported, counted from 0.
 pub fn compare(
     alloc: Global,
     line: u64,
@@ -98,7 +102,7 @@ fn first_difference(found: &[u8], wanted: &[u8]) -> usize {
     at
 }
 
-/// Two numbers are alike, or both are reported.
+/// Compares two numbers; where they differ, both are reported.
 pub fn compare_numbers(
     alloc: Global,
     line: u64,

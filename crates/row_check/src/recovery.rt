@@ -1,5 +1,6 @@
 //! What is left behind a crash: each image of a tree is recovered, twice, and then has the files
-//! that are wanted.
+//! that are wanted. The rules stand in `tests/rows.md`, "What goes wrong": the paragraphs on images
+//! and on the two sides.
 use crate::check::Program;
 use crate::differences::{RowFault, differs, digits};
 use crate::start::{are_alike, copy_of};
@@ -7,17 +8,22 @@ use row_text::Step;
 use std::alloc::Global;
 use tree_memory::MemoryTree;
 
-/// The files that a command line finds and those that it leaves, both recovered.
+/// The two sides of a command line: the files that it finds and those that it leaves, both
+/// recovered.
 #[derive(Drop)]
 pub struct Sides {
+    /// The files that it finds.
     pub before: MemoryTree,
+    /// The files that it leaves.
     pub after: MemoryTree,
 }
 
 /// Which of the two sides some recovered files are.
 #[derive(Clone, Copy)]
 pub struct Found {
+    /// They are the files that the command line finds.
     pub before: bool,
+    /// They are the files that it leaves.
     pub after: bool,
 }
 
@@ -38,7 +44,7 @@ impl Sides {
         })
     }
 
-    /// Whether the command line changes nothing.
+    /// Whether the command line changes nothing, so that the two sides are the same files.
     pub fn are_alike(&self, alloc: Global) -> Result<bool, RowFault> {
         Ok(are_alike(alloc, &self.before, &self.after)?)
     }
@@ -86,8 +92,9 @@ impl Sides {
     }
 }
 
-/// How many images are looked at of a tree: for each map of names one for each filling of the files
-/// that were not synced.
+/// How many images are looked at of a tree: for each map of names one for each of the three
+/// fillings of the files that were not synced (`docs/crash-safety.md`,
+/// "Misuses, faults and counts": as read, nothing, or bytes of value 255).
 pub fn images_of(tree: &MemoryTree) -> u64 {
     tree.maps().saturating_mul(3)
 }

@@ -1,4 +1,5 @@
-//! Trees in memory: what a row begins with, and copies.
+//! Trees in memory: what a row begins with, and copies. The rules stand in `tests/rows.md`,
+//! "Lines": `from`, `file`, and what a command line begins on.
 use crate::check::Program;
 use crate::differences::{RowFault, differs};
 use base_core::Name;
@@ -70,12 +71,14 @@ pub(crate) fn bytes_of<P: Program>(
     }
 }
 
-/// A tree with the same files, whose counts are 0 and in which all is synced.
+/// A tree with the same files, whose counts are 0 and in which all is synced: its image by the
+/// newest map of names.
 pub fn copy_of(alloc: Global, tree: &MemoryTree) -> Result<MemoryTree, AllocError> {
     tree.pick_image(alloc, tree.maps().saturating_sub(1))
 }
 
-/// Whether a name is one under which an output is made before it is moved to its place.
+/// Whether a name is one under which an output is made before it is moved to its place: the sides
+/// leave it out.
 fn is_scratch(name: &Name) -> bool {
     name.as_bytes().ends_with(b".apk-tmp")
 }

@@ -1,13 +1,18 @@
-//! Values that stand on one line: numbers, hashes, and texts with and without quotes.
+//! Values that stand on one line: numbers, hashes, and texts with and without quotes. The forms
+//! stand in `docs/formats.md`, "Dump text".
 use crate::values::DumpFault;
 use std::alloc::Global;
 
 /// Where a byte between quotes stands.
 #[derive(Clone, Copy)]
 enum Place {
+    /// It stands for itself, or begins an escape.
     Plain,
+    /// Behind a backslash.
     Escape,
+    /// Behind `\x`.
     FirstDigit,
+    /// Behind `\x` and the digit of this value.
     SecondDigit(u8),
 }
 

@@ -1,30 +1,33 @@
 //! Reads the lines of a dump text into a writer. Each value is written as soon as its last line is
-//! read.
+//! read. The form of the lines stands in `docs/formats.md`, "Dump text", and the layout of the
+//! values in "Canonical layout".
 use crate::text::{hash, number, text_bytes};
 use adb_tables::{Field, Kind, Which, fields_of};
 use adb_view::Val;
 use adb_write::{WriteFault, Writer, file_of};
 use std::alloc::{AllocError, AllocFailed, Global};
 
-/// The longest payload of a container.
+/// The longest payload of a container (`docs/formats.md`, "Canonical layout").
 const MOST_BYTES: usize = 268_435_455;
 
 /// Why a text gives no container.
 #[derive(Clone, Copy)]
 pub enum DumpFault {
-    /// It is no dump text.
+    /// The text is no dump text.
     NoDump,
     /// There is no memory.
     Memory,
 }
 
 impl From<AllocError> for DumpFault {
+    // Want of memory, as the reason why there is no container.
     fn from(_: AllocError) -> DumpFault {
         DumpFault::Memory
     }
 }
 
 impl<T: Drop> From<AllocFailed<T>> for DumpFault {
+    // Want of memory, where what was to be kept comes back.
     fn from(_: AllocFailed<T>) -> DumpFault {
         DumpFault::Memory
     }
@@ -33,14 +36,18 @@ impl<T: Drop> From<AllocFailed<T>> for DumpFault {
 /// What a frame's lines make.
 #[derive(Clone, Copy)]
 enum Shape {
+    /// An object with the fields of this table.
     Object(Which),
+    /// A list of texts.
     Texts,
+    /// A list of objects with the fields of this table.
     Objects(Which),
 }
 
 /// A list or an object whose lines are not all read.
 #[derive(Drop)]
 struct Frame {
+    /// What its lines make.
     shape: Shape,
     /// How many blanks stand before its lines.
     column: usize,
@@ -52,12 +59,13 @@ struct Frame {
 #[derive(Drop)]
 struct Reader {
     alloc: Global,
+    /// What writes the values that are whole.
     writer: Writer,
     /// The values that are not whole, the root first.
     frames: Vec<Frame>,
 }
 
-/// The container of a dump text.
+/// The container of a dump text, or that the text is none.
 pub fn container_of(alloc: Global, text: &[u8]) -> Result<Vec<u8>, DumpFault> {
     let Some(lines) = text.strip_suffix(b"\n") else {
         return Err(DumpFault::NoDump);
@@ -81,7 +89,7 @@ fn first_line(text: &[u8]) -> (&[u8], Option<&[u8]>) {
     }
 }
 
-/// The table of the root by a schema's line, and the schema.
+/// The table of the root by a schema's line, and the schema (`docs/formats.md`, "Schemas").
 fn root_of(line: &[u8]) -> Result<(Which, u32), DumpFault> {
     let Some(digits) = line.strip_prefix(b"#%SCHEMA: ") else {
         return Err(DumpFault::NoDump);
@@ -112,7 +120,7 @@ impl Reader {
         Ok(reader)
     }
 
-    /// Begins a list or an object.
+    /// Begins a list or an object, whose lines stand at a column.
     fn open(&mut self, shape: Shape, column: usize) -> Result<(), DumpFault> {
         self.frames.push(Frame {
             shape,
@@ -142,7 +150,7 @@ impl Reader {
         }
     }
 
-    /// Writes the values whose lines stand further to the right.
+    /// Writes the values whose lines stand further to the right: this line ends them.
     fn close_down_to(&mut self, column: usize) -> Result<(), DumpFault> {
         for _ in 0..self.frames.len() {
             let Some(frame) = self.frames.last() else {
@@ -157,7 +165,7 @@ impl Reader {
         Ok(())
     }
 
-    /// Writes the last value whose lines are read.
+    /// Writes the innermost value, whose lines are all read.
     fn close(&mut self) -> Result<Val, DumpFault> {
         let Some(frame) = self.frames.pop() else {
             return Err(DumpFault::NoDump);
@@ -169,7 +177,7 @@ impl Reader {
         Ok(word)
     }
 
-    /// Adds an entry or a field to the last value.
+    /// Adds an entry or a field to the innermost value.
     fn add(&mut self, word: Val) -> Result<(), DumpFault> {
         let Some(frame) = self.frames.last_mut() else {
             return Err(DumpFault::NoDump);
@@ -283,7 +291,7 @@ fn entry(item: &[u8]) -> Result<&[u8], DumpFault> {
     }
 }
 
-/// The column of what stands one level deeper.
+/// The column of what stands one level deeper: two blanks further.
 fn deeper(column: usize) -> Result<usize, DumpFault> {
     match column.checked_add(2) {
         Some(column) => Ok(column),
@@ -291,7 +299,7 @@ fn deeper(column: usize) -> Result<usize, DumpFault> {
     }
 }
 
-/// The index of the field of a name.
+/// The index, counted from 0, of the field of a name.
 fn index_of(fields: &[Field], name: &[u8]) -> Option<usize> {
     fields
         .iter()

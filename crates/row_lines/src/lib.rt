@@ -97,7 +97,8 @@ fn add_failure(report: &mut Vec<u8>, line: &[u8], found: &[u8]) -> Result<(), Al
     report.extend_from_slice(b"\n")
 }
 
-/// The question of a line, and the answer that is wanted.
+/// The question of a line, and the answer that is wanted: what stands before the first ` ->`, and
+/// behind it.
 fn parts_of(line: &[u8]) -> Option<(&[u8], &[u8])> {
     for i in 0..line.len() {
         if let Some(rest) = line[i..].strip_prefix(b" ->") {

@@ -1,11 +1,12 @@
-//! The words of a question, and the bytes that they stand for.
+//! The words of a question, and the bytes that they stand for. The forms stand in `tests/lines.md`:
+//! the table of what stands for which byte, and numbers.
 use base_core::Words;
 use std::alloc::{AllocError, Global};
 
-/// The most words that a question may have; further ones are passed over.
+/// The most words that a question may have; further ones are passed over. No row has as many.
 const MOST_WORDS: usize = 100_000;
 
-/// The most times that a byte is repeated.
+/// The most times that a byte is repeated, so that a row cannot ask for all memory.
 const MOST_TIMES: usize = 2_000_000;
 
 /// The words of a question, which stand between spaces.
@@ -57,7 +58,8 @@ pub fn number_of(word: &[u8]) -> Option<u128> {
     }
 }
 
-/// The number that digits are in a base.
+/// The number that digits are in a base; none where one is no digit of the base, or the number has
+/// more than 128 bits.
 fn number_in(digits: &[u8], base: u8) -> Option<u128> {
     if digits.is_empty() {
         return None;
@@ -78,17 +80,24 @@ fn number_in(digits: &[u8], base: u8) -> Option<u128> {
 /// Where a byte of a text stands: alone, behind a backslash, or in what such a one begins.
 #[derive(Clone, Copy)]
 enum Place {
+    /// It stands alone.
     Plain,
+    /// It stands behind a backslash.
     Backslash,
+    /// It stands behind `\x`.
     HighDigit,
+    /// It stands behind `\x` and the digit of this value.
     LowDigit(u8),
+    /// It stands behind `\{` and digits of this number.
     Count(usize),
 }
 
 /// The bytes of a text so far.
 #[derive(Drop)]
 struct Unescaped {
+    /// The bytes that it stands for so far.
     bytes: Vec<u8>,
+    /// Where the next byte stands.
     place: Place,
 }
 
@@ -151,14 +160,14 @@ impl Unescaped {
     }
 }
 
-/// A count with one more digit.
+/// A count with one more digit, up to the most times that a byte is repeated.
 fn next_count(count: usize, digit: u8) -> usize {
     let tens = count.saturating_mul(10);
     tens.saturating_add(digit_value(digit) as usize)
         .min(MOST_TIMES)
 }
 
-/// The value of a hexadecimal digit; 0 of another byte.
+/// The value of a hexadecimal digit; 0 of another byte, since a bad escape makes a row that fails.
 fn digit_value(digit: u8) -> u8 {
     digit_of(digit).unwrap_or(0)
 }

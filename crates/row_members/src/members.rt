@@ -1,4 +1,5 @@
-//! Packages are added to the members of a change, where they are in order.
+//! Packages are added to the members of a change, where they are in order. The order is that of
+//! names, as `docs/formats.md`, "The database after a change", has it.
 
 ghost use Rattle.adb_fields.specs.Repeated.{package_name};
 ghost use Rattle.adb_view.specs.Plain.{Plain};
@@ -15,7 +16,8 @@ use std::alloc::{AllocError, Global};
 use std::marker::PhantomData;
 use tree_memory::MemoryTree;
 
-/// The front of the package in a file, unless it is bad.
+/// The front of the package in a file, which is read as that of a file in a tree of its own; none
+/// where the package is bad.
 pub fn front_of(alloc: Global, file: &[u8]) -> Result<Option<Front>, AllocError> {
     let Some(name) = Name::read(alloc, b"p")? else {
         return Ok(None);
@@ -31,7 +33,9 @@ pub fn front_of(alloc: Global, file: &[u8]) -> Result<Option<Front>, AllocError>
     }
 }
 
-/// The name of the package at a place of a database, counted from 0.
+/// The name of the package at a place of a database, counted from 0. The mark serves the borrow
+/// checker alone, which does not know the parts of a view that is made and lent here unless the
+/// signature names the view.
 pub fn name_at<'a>(db: &Db<'a>, i: usize, _mark: PhantomData<PackageView<'a>>) -> &'a [u8]
     requires { i < length (packages_of db.now) }
     ensures { (pkg : Plain) → slice_get (packages_of db.now) i ≡ Some pkg
@@ -87,7 +91,7 @@ fn add_contents<'a>(
     Ok(true)
 }
 
-/// The name of a package.
+/// The name of a package that is read in pieces; the mark serves as in `name_at`.
 fn name_of<'a>(contents: &Contents<'a>, _mark: PhantomData<PackageView<'a>>) -> &'a [u8]
     ensures { result.now ≡ package_name (value_of_contents contents.now) }
 {

@@ -1,4 +1,5 @@
 //! A whole text of rows, and what is printed of each: that it passed, or what differs and where.
+//! The lines stand in `tests/rows.md`, "What runs them" and "A text that is none".
 use crate::run::run_row;
 use row_check::{Program, RowFault, add_number};
 use row_text::{Fault, Row, read_rows};
@@ -23,7 +24,7 @@ pub fn run_text<P: Program>(
     run_rows(alloc, program, &rows, report)
 }
 
-/// The same of rows that were read.
+/// Runs rows that were read, in their order, and adds a line for each and the count.
 fn run_rows<P: Program>(
     alloc: Global,
     program: &P,
@@ -43,7 +44,8 @@ fn run_rows<P: Program>(
     Ok(failed == 0)
 }
 
-/// Runs a row, and adds its line. Answers what it leaves; none where it fails.
+/// Runs a row, and adds its line. Answers what it leaves, with which later rows may begin; none
+/// where it fails.
 fn run_and_report<P: Program>(
     alloc: Global,
     program: &P,
@@ -63,7 +65,7 @@ fn run_and_report<P: Program>(
     }
 }
 
-// Adds the line that is no row, and why.
+// Adds the line of the first fault of a text, and what is wrong there.
 fn add_fault(alloc: Global, report: &mut Vec<u8>, fault: Fault) -> Result<(), AllocError> {
     report.extend_from_slice(b"line ")?;
     add_number(alloc, report, fault.line)?;
@@ -79,7 +81,7 @@ fn add_failure(report: &mut Vec<u8>, name: &[u8], fault: &RowFault) -> Result<()
     }
 }
 
-// Adds a line of three parts.
+// Adds three texts and a line end.
 fn add_line(report: &mut Vec<u8>, one: &[u8], two: &[u8], three: &[u8]) -> Result<(), AllocError> {
     report.extend_from_slice(one)?;
     report.extend_from_slice(two)?;

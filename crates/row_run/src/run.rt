@@ -1,26 +1,30 @@
-//! A row, and one command line over a tree and two sinks.
+//! A row, and one command line over a tree and two sinks. What a row wants stands in
+//! `tests/rows.md`, "Lines", and of further runs in "What goes wrong".
 use crate::sweep::Swept;
 use row_check::{Program, RowFault, Run, Sides, check_images, check_run, copy_of, tree_of};
 use row_text::{Row, SinkPlan, Step, TreePlan};
 use std::alloc::Global;
 use tree_memory::{MemorySink, MemoryTree};
 
-/// After how many bytes the two streams fail, besides what the row plans.
+/// After how many bytes the two streams fail, in place of what the row plans.
 #[derive(Clone, Copy)]
 pub(crate) struct StreamEnds {
+    /// After how many bytes standard output fails.
     pub(crate) out: Option<usize>,
+    /// After how many bytes standard error fails.
     pub(crate) err: Option<usize>,
 }
 
 impl StreamEnds {
-    /// Nothing besides.
+    /// As the row plans.
     pub(crate) const NONE: StreamEnds = StreamEnds {
         out: None,
         err: None,
     };
 }
 
-/// Runs a row, and answers what it leaves.
+/// Runs the command lines of a row, each on what the one before it left, and answers what the last
+/// one leaves.
 pub(crate) fn run_row<P: Program>(
     alloc: Global,
     program: &P,
@@ -101,7 +105,7 @@ fn sweep<P: Program>(
     swept.run_all(alloc)
 }
 
-/// Runs the words of a command line.
+/// Runs the words of a command line once, over this tree and two new sinks.
 pub(crate) fn run_once<P: Program>(
     alloc: Global,
     program: &P,

@@ -1,5 +1,6 @@
 //! A command line with each of its calls failing in turn, cut off behind each of them, and with a
-//! stream that ends behind each number of bytes.
+//! stream that ends behind each number of bytes. The rules stand in `tests/rows.md`,
+//! "What goes wrong", its table and what follows.
 use crate::run::{StreamEnds, run_once};
 use row_check::{
     Found, Program, RowFault, Run, Sides, add_number, check_run, check_streams, compare,
@@ -9,23 +10,29 @@ use row_text::{Step, TreePlan};
 use std::alloc::{AllocError, Global};
 use tree_memory::MemoryTree;
 
-/// The most calls that a run may make of which each fails in turn.
+/// The most calls that a run may make of which each fails in turn: a run of a row makes far fewer,
+/// and the loop has to end.
 const MOST_CALLS: u64 = 10_000;
 
-/// The status of a run whose tree failed, and what it prints.
+/// The status of a run whose tree failed (`docs/commands.md`, "Answers and statuses").
 const TREE_FAULT: u64 = 2;
 
+// What such a run prints on standard error.
 const TREE_FAULT_TEXT: &[u8] = b"ERROR: the tree failed\n";
 
-/// The status of a run of which a stream failed.
+/// The status of a run of which a stream failed (the same table).
 const STREAM_FAULT: u64 = 3;
 
 /// A command line, the files that it finds, and what its run leaves in which nothing fails.
 #[derive(Drop)]
 pub(crate) struct Swept<'a, P: Program> {
+    /// The program that is run.
     pub(crate) program: &'a P,
+    /// The command line, and what is wanted of it.
     pub(crate) step: &'a Step,
+    /// The files that it finds.
     pub(crate) before: &'a MemoryTree,
+    /// The two sides: these files and those that it leaves, both recovered.
     pub(crate) sides: &'a Sides,
     /// The same command line once more, on what it left.
     pub(crate) again: &'a Run,
@@ -34,8 +41,11 @@ pub(crate) struct Swept<'a, P: Program> {
 /// What is seen of a run: its status and its two streams.
 #[derive(Clone, Copy)]
 struct Seen<'s> {
+    /// The exit status.
     status: u64,
+    /// What standard output got.
     out: &'s [u8],
+    /// What standard error got.
     err: &'s [u8],
 }
 
@@ -59,8 +69,8 @@ impl<'a, P: Program> Swept<'a, P> {
         Ok(())
     }
 
-    /// Lets each call fail in turn. What is left, and what a crash leaves of it, has the files of
-    /// before or of behind, and the same command line goes on from there.
+    /// Lets each call fail in turn (`fail each`). What is left, and what a crash leaves of it, has
+    /// the files of before or of behind, and the same command line goes on from there.
     fn fail_each(&self, alloc: Global) -> Result<(), RowFault> {
         for call in 1..MOST_CALLS {
             let failed = self.run_failing(alloc, call)?;
@@ -81,8 +91,8 @@ impl<'a, P: Program> Swept<'a, P> {
         Ok(self.run_over(alloc, tree))
     }
 
-    /// Stops behind each call in turn. A crash then leaves the files of before or of behind, the
-    /// latter are seen, and the same command line goes on from what is left.
+    /// Stops behind each call in turn (`stop each`). A crash then leaves the files of before or of
+    /// behind, the latter are seen, and the same command line goes on from what is left.
     fn stop_each(&self, alloc: Global) -> Result<(), RowFault> {
         let mut new_seen = false;
         for calls in 0..MOST_CALLS {
@@ -118,7 +128,7 @@ impl<'a, P: Program> Swept<'a, P> {
         run_once(alloc, self.program, self.step, tree, StreamEnds::NONE)
     }
 
-    /// All that is wanted of a run is seen.
+    /// All that is wanted of the command line is seen of a run in which nothing failed.
     fn check_whole(&self, alloc: Global, run: &Run) -> Result<(), RowFault> {
         check_run(alloc, self.program, self.step, self.before, run)
     }
@@ -223,8 +233,8 @@ impl<'a, P: Program> Swept<'a, P> {
         self.check_seen(alloc, &what, second, wanted)
     }
 
-    /// Lets a stream end behind each number of bytes in turn. It has these bytes then, and the
-    /// files are those of behind.
+    /// Lets a stream end behind each number of bytes in turn (`ends after each`). It has these
+    /// bytes then, and the files are those of behind.
     fn end_each(&self, alloc: Global, is_out: bool) -> Result<(), RowFault> {
         let whole = wanted_text(self.step, is_out);
         for count in 0..whole.len() {
@@ -267,7 +277,7 @@ fn wanted_text(step: &Step, is_out: bool) -> &[u8] {
     if is_out { &step.out } else { &step.err }
 }
 
-/// What is seen there.
+/// What a run printed on standard output, or else on standard error.
 fn seen_text(run: &Run, is_out: bool) -> &[u8] {
     if is_out {
         run.out.bytes()
@@ -276,7 +286,7 @@ fn seen_text(run: &Run, is_out: bool) -> &[u8] {
     }
 }
 
-/// Where a fault was: at a call.
+/// Says where a difference is seen: with a fault at a call.
 fn at_call(alloc: Global, call: u64, rest: &[u8]) -> Result<Vec<u8>, AllocError> {
     let mut text = Vec::from_slice(alloc, b"with a fault at call ")?;
     add_number(alloc, &mut text, call)?;
@@ -284,14 +294,14 @@ fn at_call(alloc: Global, call: u64, rest: &[u8]) -> Result<Vec<u8>, AllocError>
     Ok(text)
 }
 
-/// In an image behind it.
+/// Says where a difference is seen: in an image behind such a fault.
 fn at_image(alloc: Global, call: u64, choice: u64) -> Result<Vec<u8>, AllocError> {
     let mut text = at_call(alloc, call, b", image ")?;
     add_number(alloc, &mut text, choice)?;
     Ok(text)
 }
 
-/// At the end of a stream.
+/// Says where a difference is seen: with a stream that ends.
 fn at_end(alloc: Global, count: u64) -> Result<Vec<u8>, AllocError> {
     let mut text = Vec::from_slice(alloc, b"with a stream that ends after ")?;
     add_number(alloc, &mut text, count)?;

@@ -1,5 +1,6 @@
 //! Rows as text: which files are there, which command lines are run, what goes wrong, and what is
-//! to be seen. `tests/rows.md` describes the form.
+//! to be seen. `tests/rows.md` describes the form, in "Lines", "What goes wrong" and
+//! "A text that is none".
 //!
 //! The bytes of a text come in, and its rows go out, or the line of its first fault and what is
 //! wrong there. No row is run here.

@@ -1,5 +1,6 @@
 //! Parts of a row: the files that stand there before and behind a command line, and what goes wrong
-//! while it runs.
+//! while it runs. The lines stand in `tests/rows.md`, "Lines" (`in memory`, `file`, `then`, `\`)
+//! and "What goes wrong".
 use crate::reader::{Form, Reader, Target, first_word};
 use crate::row::{Content, NamedFile, SinkPlan, Sweeps, TreePlan, Trouble};
 use crate::words::{add_hex, number};
@@ -7,6 +8,7 @@ use base_core::Name;
 use row_lines::value_named;
 use std::alloc::Global;
 
+// How a file's lines are written, by the last word of its line.
 #[rattlefmt::skip]
 const FORMS: [(&[u8], Form); 3] = [
     (b"text", Form::Text),
@@ -16,8 +18,8 @@ const FORMS: [(&[u8], Form); 3] = [
 
 /// Files.
 impl Reader {
-    /// A row that a host's folder may not carry. Here all rows run in memory, so nothing else is to
-    /// be kept of it.
+    /// Takes `in memory`: a host's folder may not carry the row. Here all rows run in memory, so
+    /// nothing else is to be kept of it.
     pub(crate) fn keep_in_memory(&mut self, rest: &[u8]) -> Result<(), Trouble> {
         if rest != b"memory".as_slice() {
             return Err(Trouble::BadShape);
@@ -28,7 +30,7 @@ impl Reader {
         }
     }
 
-    /// A file that stands there before the first command line.
+    /// Takes `file PATH ..`: a file that stands there before the first command line.
     pub(crate) fn add_given(&mut self, rest: &[u8]) -> Result<(), Trouble> {
         if self.step.is_some() {
             return Err(Trouble::OutOfPlace);
@@ -47,7 +49,7 @@ impl Reader {
         Ok(())
     }
 
-    /// What stands at a path behind the command line.
+    /// Takes `then PATH ..`: what stands at a path behind the command line.
     pub(crate) fn add_wanted(&mut self, rest: &[u8]) -> Result<(), Trouble> {
         let (path, kind) = first_word(rest);
         let name = name_of(self.alloc, path)?;
@@ -71,7 +73,7 @@ impl Reader {
         Ok(())
     }
 
-    /// A line of the file that was named last.
+    /// Takes a line of the file that was named last, which stands behind `|`.
     pub(crate) fn add_piece(&mut self, piece: &[u8]) -> Result<(), Trouble> {
         match self.target {
             Target::Given(form) => {
@@ -90,7 +92,7 @@ impl Reader {
         }
     }
 
-    /// The last line of a text has no end.
+    /// Takes `\`: the last line of a text or of a stream has no end.
     pub(crate) fn cut_line_end(&mut self, rest: &[u8]) -> Result<(), Trouble> {
         if !rest.is_empty() {
             return Err(Trouble::BadShape);
@@ -127,7 +129,7 @@ pub(crate) fn name_of(alloc: Global, path: &[u8]) -> Result<Name, Trouble> {
     }
 }
 
-/// How a file's lines are read: as text, as hexadecimal digits, or as a dump text.
+/// How a file's lines are read, by the word behind its path.
 fn form_of(word: &[u8]) -> Result<Form, Trouble> {
     match value_named(&FORMS, word) {
         Some(form) => Ok(form),
@@ -135,7 +137,7 @@ fn form_of(word: &[u8]) -> Result<Form, Trouble> {
     }
 }
 
-/// A file of a form before its first line.
+/// A file of a form before its first line. A dump keeps the line at which it begins, for a fault.
 fn content(alloc: Global, form: Form, line: u64) -> Content {
     match form {
         Form::Text | Form::Hex => Content::Bytes(Vec::new(alloc)),
@@ -177,7 +179,7 @@ fn cut_last(files: &mut Vec<NamedFile>) -> Result<(), Trouble> {
     }
 }
 
-/// Takes the last line end away.
+/// Takes the last line end off a text, which has one as each line that was added.
 fn cut(text: &mut Vec<u8>) -> Result<(), Trouble> {
     match text.pop() {
         Some(_) => Ok(()),
@@ -187,7 +189,7 @@ fn cut(text: &mut Vec<u8>) -> Result<(), Trouble> {
 
 /// What goes wrong in the next command line.
 impl Reader {
-    /// The calls of the tree that fail: their numbers, or `each`.
+    /// Takes `fail N ..` or `fail each`: the calls of the tree that fail.
     pub(crate) fn plan_failures(&mut self, rest: &[u8]) -> Result<(), Trouble> {
         if rest == b"each".as_slice() {
             let (fail, stop) = (true, false);
@@ -200,7 +202,7 @@ impl Reader {
         self.plan_tree(TreePlan::Fail(calls))
     }
 
-    /// Behind which calls the tree stops.
+    /// Takes `stop each`: behind which calls the tree stops.
     pub(crate) fn plan_stops(&mut self, rest: &[u8]) -> Result<(), Trouble> {
         if rest != b"each".as_slice() {
             return Err(Trouble::BadShape);
@@ -209,7 +211,7 @@ impl Reader {
         self.plan_sweeps(Sweeps { fail, stop })
     }
 
-    /// Besides those that are planned.
+    /// Plans further runs of the next command line, besides those that are planned.
     fn plan_sweeps(&mut self, more: Sweeps) -> Result<(), Trouble> {
         if let TreePlan::Each(sweeps) = &mut self.plan.tree {
             if (sweeps.fail && more.fail) || (sweeps.stop && more.stop) {
@@ -236,13 +238,13 @@ impl Reader {
         }
     }
 
-    /// Plans failures of standard output, for the next command line alone.
+    /// Takes `out ..`: what standard output takes of the next command line.
     pub(crate) fn plan_out(&mut self, rest: &[u8]) -> Result<(), Trouble> {
         self.plan.out = sink_plan(self.plan.out, rest)?;
         Ok(())
     }
 
-    /// Plans failures of standard error, for the next command line alone.
+    /// Takes `err ..`: what standard error takes of the next command line.
     pub(crate) fn plan_err(&mut self, rest: &[u8]) -> Result<(), Trouble> {
         self.plan.err = sink_plan(self.plan.err, rest)?;
         Ok(())

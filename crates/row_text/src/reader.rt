@@ -1,5 +1,6 @@
 //! Reads a text line by line: rows, command lines, and what is to be seen of them. Each line
-//! belongs to the row, the command line or the file that stands last before it.
+//! belongs to the row, the command line or the file that stands last before it. The lines stand in
+//! `tests/rows.md`, "Lines", and the faults in "A text that is none".
 use crate::parts::{add_line, name_of, number_at_most};
 use crate::row::{Fault, Row, SinkPlan, Step, TreePlan, Trouble};
 use crate::words::{number, words_of};
@@ -9,24 +10,30 @@ use std::alloc::{AllocError, Global};
 /// What the next line of text belongs to.
 #[derive(Clone, Copy)]
 pub(crate) enum Target {
+    /// A line of a file, or one without an end, has no place here.
     Nothing,
     /// A file that stands there before, by its form.
     Given(Form),
     /// A file that stands there afterwards.
     Wanted(Form),
+    /// Standard output of the command line.
     Out,
+    /// Standard error of the command line.
     Err,
 }
 
 /// How the bytes of a file are written.
 #[derive(Clone, Copy)]
 pub(crate) enum Form {
+    /// As they are, line by line.
     Text,
+    /// In hexadecimal digits.
     Hex,
+    /// As the dump text of a container.
     Dump,
 }
 
-/// What a line says that begins with a word.
+/// What a line says that begins with a word; `tests/rows.md` has a row for each.
 #[derive(Clone, Copy)]
 enum Word {
     Row,
@@ -45,6 +52,7 @@ enum Word {
     Err,
 }
 
+// The words that lines begin with.
 #[rattlefmt::skip]
 const WORDS: [(&[u8], Word); 14] = [
     (b"row", Word::Row),
@@ -63,26 +71,33 @@ const WORDS: [(&[u8], Word); 14] = [
     (b"err", Word::Err),
 ];
 
-/// A text that is read.
+/// A text that is being read: the rows that are whole, and what has begun.
 #[derive(Drop)]
 pub(crate) struct Reader {
+    /// Where memory is taken.
     pub(crate) alloc: Global,
     /// The number of the last line that was begun, counted from 1.
     pub(crate) line: u64,
     /// The rows that are whole.
     rows: Vec<Row>,
+    /// The row that has begun, and is not whole.
     pub(crate) row: Option<Row>,
+    /// The command line of that row that has begun, and is not whole.
     pub(crate) step: Option<Step>,
     /// What goes wrong in the next command line.
     pub(crate) plan: Plans,
+    /// What the next line of a file or of a stream belongs to.
     pub(crate) target: Target,
 }
 
-/// What goes wrong in a command line.
+/// What goes wrong in a command line: in its tree and its two streams.
 #[derive(Drop)]
 pub(crate) struct Plans {
+    /// Which calls of the tree fail.
     pub(crate) tree: TreePlan,
+    /// What standard output takes.
     pub(crate) out: SinkPlan,
+    /// What standard error takes.
     pub(crate) err: SinkPlan,
 }
 
@@ -110,7 +125,7 @@ impl Plans {
 }
 
 impl Reader {
-    /// Before the first line.
+    /// A reader before the first line.
     fn new(alloc: Global) -> Reader {
         Reader {
             alloc,
@@ -231,7 +246,7 @@ impl Reader {
         Ok(())
     }
 
-    /// The number of an earlier row.
+    /// The number of an earlier row, counted from 0, by its name.
     fn number_of(&self, name: &[u8]) -> Option<usize> {
         self.rows.iter().position(|row| row.name.as_slice() == name)
     }
@@ -249,8 +264,8 @@ impl Reader {
         Ok(())
     }
 
-    /// Begins the row with the files that an earlier row leaves. They stand in place of files of
-    /// its own.
+    /// Takes `from NAME`: the row begins with the files that an earlier row leaves. They stand in
+    /// place of files of its own.
     fn begin_with(&mut self, rest: &[u8]) -> Result<(), Trouble> {
         let Some(number) = self.number_of(rest) else {
             return Err(Trouble::NoSuchRow);
@@ -342,7 +357,7 @@ impl Reader {
         }
     }
 
-    /// All names that there are, in byte order.
+    /// Takes `names PATH ..`: all names that there are, in byte order.
     fn add_names(&mut self, rest: &[u8]) -> Result<(), Trouble> {
         let mut names = Vec::new(self.alloc);
         if !rest.is_empty() {

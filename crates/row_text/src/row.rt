@@ -1,5 +1,5 @@
 //! What comes out of a text: rows, each with its files, its command lines and what is wanted of
-//! them; or the first fault, with its line.
+//! them; or the first fault, with its line. The lines that say them stand in `tests/rows.md`.
 use base_core::{Name, Words};
 use std::alloc::{AllocError, AllocFailed};
 
@@ -18,17 +18,19 @@ pub struct Row {
     pub steps: Vec<Step>,
 }
 
-/// A path, and what stands there.
+/// A path, and what stands there before a row or behind a command line.
 #[derive(Drop)]
 pub struct NamedFile {
+    /// The path.
     pub name: Name,
+    /// What stands there.
     pub content: Content,
 }
 
 /// What stands at a path.
 #[derive(Drop)]
 pub enum Content {
-    /// Nothing.
+    /// Nothing stands there.
     Absent,
     /// A file of these bytes.
     Bytes(Vec<u8>),
@@ -43,12 +45,15 @@ pub struct Step {
     pub line: u64,
     /// Its words, without the program's name.
     pub command: Words,
-    /// What goes wrong.
+    /// Which calls of the tree fail.
     pub tree: TreePlan,
+    /// What standard output takes.
     pub out_plan: SinkPlan,
+    /// What standard error takes.
     pub err_plan: SinkPlan,
-    /// The bytes of the two streams.
+    /// The bytes of standard output.
     pub out: Vec<u8>,
+    /// The bytes of standard error.
     pub err: Vec<u8>,
     /// The exit status: 0 where none is said.
     pub status: Option<u64>,
@@ -56,17 +61,18 @@ pub struct Step {
     pub files: Vec<NamedFile>,
     /// All names that there are afterwards, where that is said.
     pub names: Option<Vec<Name>>,
-    /// How many calls the run makes of the tree, how many of these write, and how many bytes a
-    /// call asks for at most, where that is said.
+    /// How many calls the run makes of the tree, where that is said.
     pub calls: Option<u64>,
+    /// How many of these calls write, where that is said.
     pub writes: Option<u64>,
+    /// How many bytes a call asks for at most, where that is said.
     pub reads: Option<u64>,
 }
 
 /// Which calls of the tree fail while a command line runs.
 #[derive(Drop)]
 pub enum TreePlan {
-    /// None.
+    /// None of them fails.
     Whole,
     /// Those with these numbers, counted from 1.
     Fail(Vec<u64>),
@@ -108,10 +114,11 @@ impl SinkPlan {
 pub struct Fault {
     /// The line, counted from 1.
     pub line: u64,
+    /// What is wrong with the line.
     pub trouble: Trouble,
 }
 
-/// What is wrong with a line.
+/// What is wrong with a line: a row of `tests/rows.md`, "A text that is none".
 #[derive(Clone, Copy)]
 pub enum Trouble {
     /// It begins with no word of the form.
@@ -153,7 +160,7 @@ pub enum Trouble {
 }
 
 impl Trouble {
-    /// What is wrong, in a few words.
+    /// What is wrong, in the words that are reported.
     pub fn text(self) -> &'static str {
         match self {
             Trouble::UnknownWord => "unknown word",
@@ -179,12 +186,14 @@ impl Trouble {
 }
 
 impl From<AllocError> for Trouble {
+    // Want of memory, as a fault of the text.
     fn from(_: AllocError) -> Trouble {
         Trouble::Memory
     }
 }
 
 impl<T: Drop> From<AllocFailed<T>> for Trouble {
+    // Want of memory, where what was to be kept comes back.
     fn from(_: AllocFailed<T>) -> Trouble {
         Trouble::Memory
     }

@@ -1,5 +1,6 @@
 //! The words of a command line, as a shell reads them; bytes in hexadecimal digits, in groups that
-//! may be repeated, as `4144422e 2049*00000000`; and numbers.
+//! may be repeated, as `4144422e 2049*00000000`; and numbers. The forms stand in `tests/rows.md`,
+//! "Lines".
 use crate::row::Trouble;
 use base_core::Words;
 use std::alloc::Global;
@@ -21,8 +22,11 @@ enum Place {
 /// The words of a command line so far.
 #[derive(Drop)]
 struct Line {
+    /// The words that are whole.
     words: Words,
+    /// The bytes of the word that has begun.
     word: Vec<u8>,
+    /// Where the next byte stands.
     place: Place,
 }
 
@@ -47,7 +51,7 @@ pub(crate) fn words_of(alloc: Global, text: &[u8]) -> Result<Words, Trouble> {
 }
 
 impl Line {
-    /// Takes a byte.
+    /// Takes the next byte of the line.
     fn add(&mut self, byte: u8) -> Result<(), Trouble> {
         match (self.place, byte) {
             (Place::Quotation, b'\'') => self.place = Place::Word,
@@ -86,7 +90,7 @@ impl Line {
     }
 }
 
-/// Adds the bytes of a line.
+/// Adds the bytes of a line of hexadecimal digits, in groups with blanks between them.
 pub(crate) fn add_hex(out: &mut Vec<u8>, line: &[u8]) -> Result<(), Trouble> {
     for group in line.split(|byte| *byte == b' ') {
         add_group(out, group)?;
@@ -109,7 +113,7 @@ fn add_group(out: &mut Vec<u8>, group: &[u8]) -> Result<(), Trouble> {
     }
 }
 
-/// Adds a byte for each two digits.
+/// Adds a byte for each two digits; an odd number of them is bad.
 fn add_digits(out: &mut Vec<u8>, digits: &[u8]) -> Result<(), Trouble> {
     let mut high = None;
     for digit in digits {
@@ -128,12 +132,12 @@ fn add_digits(out: &mut Vec<u8>, digits: &[u8]) -> Result<(), Trouble> {
     }
 }
 
-/// The byte that two hexadecimal digits are.
+/// The byte that two hexadecimal digits are, the high one first.
 fn byte_of(high: u8, low: u8) -> u8 {
     (high << 4) | low
 }
 
-/// The value of a hexadecimal digit.
+/// The value of a hexadecimal digit, which is lower-case.
 fn digit_value(digit: u8) -> Result<u8, Trouble> {
     match digit {
         b'0'..=b'9' => Ok(digit - b'0'),

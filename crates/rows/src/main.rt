@@ -14,8 +14,8 @@ use std::io::{Read, Write};
 use std::process::ExitCode;
 use tree_memory::{MemorySink, MemoryTree};
 
-/// The status of a run that was refused: `info` is where a root has no database, or a bad one or a
-/// bad intent.
+/// The status of a run that was refused (`docs/commands.md`, "Answers and statuses"): `info` is
+/// where a root has no database, or a bad one or a bad intent.
 const REFUSED: u8 = 1;
 
 /// The package keeper.
@@ -34,7 +34,8 @@ impl Program for Apk {
         status(&apk(alloc, words, tree, out, err))
     }
 
-    /// By `apk info`, which recovers and then only reads.
+    /// Recovers a tree by `apk info`, which recovers and then only reads. A refusal is no failure
+    /// of that: there may be no database.
     fn recover(&self, alloc: Global, tree: &mut MemoryTree) -> bool {
         let mut words = Words::new(alloc);
         if words.push(b"info").is_err() {
@@ -55,7 +56,7 @@ impl Program for Apk {
     }
 }
 
-/// The status is 1 where a row fails.
+/// Runs the rows of standard input; the status is 1 where one fails.
 fn main(rt: HostRuntime) -> io::Result<ExitCode> {
     let alloc = rt.alloc();
     let mut text = Vec::new(alloc);

@@ -1,4 +1,5 @@
-//! Shows what is reported of texts that are no rows, and of rows that fail.
+//! Shows what is reported of texts that are no rows, and of rows that fail. The faults stand in
+//! `tests/rows.md`, "A text that is none", and what is compared in "Lines" and "What goes wrong".
 //!
 //! Standard input has texts of rows, each behind a line `==== NAME`. Each is run with a program
 //! that mostly echoes: it prints each word on a line, and is refused where there is none. Some
@@ -13,7 +14,7 @@ use std::io;
 use std::io::{Read, Write};
 use tree_memory::{MemorySink, MemoryTree};
 
-/// A program that prints its words.
+/// A program that prints its words, and does what some of them say.
 struct Echo;
 
 impl Program for Echo {
@@ -47,7 +48,7 @@ impl Program for Echo {
         if words.is_empty() { 1 } else { 0 }
     }
 
-    /// Removes what waits, and is at odds with a file of its own.
+    /// Recovers by removing what waits, and fails or never ends its work on files of two names.
     fn recover(&self, alloc: Global, tree: &mut MemoryTree) -> bool {
         match recover(alloc, tree) {
             Ok(()) => true,
@@ -102,7 +103,7 @@ fn named(alloc: Global, bytes: &[u8]) -> Result<Name, Disk> {
     }
 }
 
-/// Puts a file with one byte.
+/// Puts a file with one byte, by no call of the tree.
 fn put(alloc: Global, tree: &mut MemoryTree, name: &[u8]) -> Result<(), Disk> {
     let name = named(alloc, name)?;
     if tree.can_put(&name) && tree.put(&name, b"x").is_ok() {
@@ -120,14 +121,14 @@ fn make(alloc: Global, tree: &mut MemoryTree, name: &[u8]) -> Result<(), Disk> {
     tree.append(&name, b"x")
 }
 
-/// Syncs the file and the names.
+/// Syncs a file and then the names.
 fn settle(alloc: Global, tree: &mut MemoryTree, name: &[u8]) -> Result<(), Disk> {
     tree.sync(&named(alloc, name)?)?;
     tree.sync_names()
 }
 
-/// Removes a file that waits. A file `stuck` makes it fail, and it cannot leave a file `growing`
-/// alone.
+/// Removes a file that waits. A file `stuck` makes this fail, and a file `growing` is longer behind
+/// each call.
 fn recover(alloc: Global, tree: &mut MemoryTree) -> Result<(), Disk> {
     tree.remove(&named(alloc, b"waiting")?)?;
     if tree.size(&named(alloc, b"stuck")?)?.is_some() {
@@ -144,7 +145,9 @@ fn recover(alloc: Global, tree: &mut MemoryTree) -> Result<(), Disk> {
 #[derive(Drop)]
 struct Cases {
     alloc: Global,
+    /// The text of the case that is read.
     text: Vec<u8>,
+    /// What is reported of all cases.
     report: Vec<u8>,
 }
 

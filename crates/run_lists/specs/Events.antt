@@ -1,4 +1,6 @@
--- What a root may see: runs, stops, crashes and changes by others, and lists of them.
+-- What a root may see: runs, stops, crashes and changes by others, and lists of them. The rules
+-- stand in `docs/crash-safety.md`, "Recovery", its last part, and the words in `docs/names.md`,
+-- under *event*.
 use Rattle.std.specs.Prelude.{◌≡◌, ◌≢◌, ◌⊎◌, ◌++◌, ◌||◌, ℕ, Bool, true, false, List, [], ◌∷◌, Option, Some, None, Contains, IsSome, IsTrue, is_some}
 use Rattle.std.specs.Str.{bytes_eq}
 use Rattle.apk_front.specs.Answers.{IsAnswerTo, LeavesFiles}
@@ -36,11 +38,11 @@ pub record Run : Type 0 where
   pub err : SinkChange
   pub answer : Answer
 
--- what the words come to over the files as read
+-- what the words of a run come to over the files as read when it begins
 abbrev pub IsOutcomeFrom : TreeState → Run → Outcome → Type 0
 IsOutcomeFrom v run = IsOutcome run.words (files_of v)
 
--- it has an outcome that commits
+-- a run has an outcome that commits
 abbrev pub HasCommit : TreeState → Run → Type 0
 HasCommit v run =
     (outcome : Outcome) × IsOutcomeFrom v run outcome × (outcome.commits ≡ true)
@@ -84,15 +86,16 @@ IsMomentOf run m =
 
 -- ---- what a root sees
 
--- a run that ends, a run that is stopped at one of its moments, and a crash; where a crash cuts off
--- a run, that is stopped and then the crash comes; and others change files while nothing runs
+-- what a root sees: a run that ends, a run that is stopped at one of its moments, and a crash;
+-- where a crash cuts off a run, that is stopped and then the crash comes; and others change files
+-- while nothing runs
 pub data Event : Type 0 where
   Ends : Run → Event
   Stops : Run → Event
   Crashes : Event
   Edits : Event
 
--- a crash leaves just the files as read
+-- all of a tree is synced: a crash leaves just the files as read
 pub record IsAllSynced (v : TreeState) : Type 0 where
   pub one_map : v.older ≡ []
   pub files : (q : List ℕ) (n : ℕ) → v.names q ≡ Some n → (v.files n).synced ≡ true
@@ -102,7 +105,7 @@ abbrev pub LeadsOn : TreeState → Event → TreeState → Type 0
 LeadsOn v (Ends run) w = IsRunFrom v run × HasNow run.now (λ u. u ≡ w)
 LeadsOn v (Stops run) w = IsRunFrom v run × IsMomentOf run w
 LeadsOn v Crashes w = IsCrashOf v w
--- to whatever they made of it, once it is synced
+-- others lead on to whatever they made of the tree, once it is synced
 LeadsOn v Edits w = IsAllSynced w
 
 -- a root that was in the state `first` has seen these events, the newest first, and is in state w
@@ -120,7 +123,7 @@ IsIdleRun v run =
     CommitsNothing (IsOutcomeFrom v run) run.answer
     ⊎ ((output run.words ≡ None) × (HasCommit v run → ⊥))
 
--- a crash, or a run that commits nothing
+-- an event is a crash, or a run that commits nothing
 abbrev pub IsIdle : TreeState → Event → Type 0
 IsIdle v (Ends run) = IsIdleRun v run
 IsIdle v (Stops run) = IsIdleRun v run
@@ -146,7 +149,8 @@ MakesOneState v (Stops run) = ⊥
 MakesOneState v Crashes = Unit {0}
 MakesOneState v Edits = Unit {0}
 
--- it does so where it did before: the run commits nothing, or ends, and not by a fault of the tree
+-- behind the event each crash leaves one state where it did before: it is no run; or a run that
+-- commits nothing, or that ends, and not by a fault of the tree
 abbrev pub KeepsOneState : TreeState → Event → Type 0
 KeepsOneState v (Ends run) = (run.answer ≢ TreeFault) ⊎ IsIdleRun v run
 KeepsOneState v (Stops run) = IsIdleRun v run
@@ -165,20 +169,20 @@ HasSeenToOneState first (event ∷ earlier) w =
 
 -- ---- the names that are ignored
 
--- none
+-- the set of ignored names on an ordinary root, which is empty
 abbrev pub nothing_ignored : List ℕ → Bool
 nothing_ignored q = false
 
--- these names and the scratch name of an output
+-- ignored names and the scratch name of an output
 abbrev pub with_scratch : Option (List ℕ) → (List ℕ → Bool) → List ℕ → Bool
 with_scratch None ignored q = ignored q
 with_scratch (Some name) ignored q = bytes_eq q (scratch_of name) || ignored q
 
--- those that are ignored during a run
+-- the names that are ignored during a run, by those that are ignored when it begins
 abbrev pub ignored_in : Run → (List ℕ → Bool) → List ℕ → Bool
 ignored_in run ignored = with_scratch (output run.words) ignored
 
--- and behind it, where it ends with this answer
+-- the names that are ignored behind a run that ends with this answer
 abbrev pub ignored_by : Answer → Run → (List ℕ → Bool) → List ℕ → Bool
 ignored_by Ok run ignored = ignored_but (output run.words) ignored
 ignored_by TreeFault run ignored = ignored_in run ignored

@@ -1,4 +1,5 @@
--- What keeps a root recoverable, and what a run that was stopped comes to.
+-- What keeps a root recoverable, and what a run that was stopped comes to. The rules stand in
+-- `docs/crash-safety.md`, "Recovery", its table of what is found and its last part.
 use Rattle.std.specs.Prelude.{◌≡◌, ◌≢◌, ◌⊎◌, ℕ, Bool, true, List, [], ◌∷◌, None}
 use Rattle.apk_front.specs.Moments.{AnswersOutcome, HasIdleOutcome}
 use Rattle.apk_front.specs.declared.answer.Answer.TheVariants.{Refused}
@@ -45,8 +46,8 @@ IsUnrefused run = (cause : Cause) → run.answer ≢ Refused (IntentBad cause)
 
 -- ---- behind a run that was stopped
 
--- the files have a state that a crash might have left when the run began, or that of an outcome of
--- the run, which commits
+-- files have a state that a crash might have left when the run began, or that of an outcome of the
+-- run, which commits
 abbrev pub HasStateBeforeOrOutcome : (List ℕ → Bool) → TreeState → Run → Files → Type 0
 HasStateBeforeOrOutcome ignored v run files =
     ((was : Files) × IsImage v was × (state_of ignored files ≡ state_of ignored was))
@@ -55,8 +56,7 @@ HasStateBeforeOrOutcome ignored v run files =
     × (outcome.commits ≡ true)
     × (state_of ignored files ≡ state_of ignored outcome.files))
 
--- nothing is left to do in these files, and they have a state from before the run, or that of its
--- outcome
+-- nothing is left to do in files, and they have a state from before the run, or that of its outcome
 pub record AreRecovered (ignored : List ℕ → Bool) (v : TreeState) (run : Run)
     (files : Files) : Type 0 where
   pub intent : files intent_name ≡ None

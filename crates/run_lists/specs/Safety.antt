@@ -1,4 +1,5 @@
--- What holds of a run behind a list of runs, stops and crashes.
+-- What holds of a run behind a list of runs, stops and crashes. The rules stand in
+-- `docs/crash-safety.md`, "Recovery": the table of what a run may leave, and its last part.
 use Rattle.std.specs.Prelude.{◌≡◌, ◌⊎◌, ℕ, Bool, true, false, List}
 use Rattle.apk_front.specs.Answers.{answer_of}
 use Rattle.apk_front.specs.Moments.{AnswersOutcome, IsAtRest, Settles, ignored_but}
@@ -16,8 +17,8 @@ use Rattle.run_lists.specs.Events.{Event, HasSeen, HasSeenToOneState, IsIdleRun,
 
 -- ---- whichever states a crash might have left before the run
 
--- a crash leaves a state from before; or the run has an outcome that commits, and a crash leaves a
--- state from before or that of its files
+-- at a moment of a run a crash leaves a state from before; or the run has an outcome that commits,
+-- and a crash leaves a state from before or that of its files
 abbrev pub IsOldOrOutcome : (List ℕ → Bool) → TreeState → Run → TreeState → Type 0
 IsOldOrOutcome ignored v run m =
     IsQuiet ignored v m
@@ -26,7 +27,7 @@ IsOldOrOutcome ignored v run m =
     × (outcome.commits ≡ true)
     × IsOldOrNew ignored v outcome.files m)
 
--- a crash leaves a state from before, and the files as read have the old one
+-- at a moment of a run a crash leaves a state from before, and the files as read have the old one
 pub record KeepsState (ignored : List ℕ → Bool) (v m : TreeState) : Type 0 where
   pub quiet : IsQuiet ignored v m
   pub reads : state_of ignored (files_of m) ≡ state_of ignored (files_of v)
@@ -46,8 +47,8 @@ pub record LeavesOutcome (ignored : List ℕ → Bool) (v : TreeState) (run : Ru
   pub at_rest : outcome.commits ≡ true
       → IsAtRest (ignored_but (output run.words) ignored) outcome.files w
 
--- At each moment a crash leaves a state from before or that of the outcome; once the outcome is
--- answered its files are read, and last; and a run that commits nothing keeps the state.
+-- A run is safe: at each moment a crash leaves a state from before or that of the outcome; once the
+-- outcome is answered its files are read, and last; and a run that commits nothing keeps the state.
 pub record IsSafe (ignored : List ℕ → Bool) (v : TreeState) (run : Run) : Type 0 where
   pub moments : (m : TreeState) → IsMomentOf run m
       → IsOldOrOutcome (ignored_in run ignored) v run m
@@ -85,7 +86,8 @@ IsSafeBehindAll v run =
     → ignored intent_name ≡ false → IsOrderly (RestsOn ignored) first → HasSeen first events v
     → IsSafe (ignored_behind ignored events) v run
 
--- and all or nothing, where a crash leaves one state
+-- whatever list a root has seen behind which each crash leaves one state, a run that begins in the
+-- state v is all or nothing
 abbrev pub IsAtomicBehindAll : TreeState → Run → Type 0
 IsAtomicBehindAll v run =
     (ignored : List ℕ → Bool) (first : TreeState) (events : List Event)

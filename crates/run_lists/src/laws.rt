@@ -1,4 +1,5 @@
-//! Laws on lists of runs, stops and crashes.
+//! Laws on lists of runs, stops and crashes. The rules that they state stand in
+//! `docs/crash-safety.md`, "Recovery", its last part; the sentence in the README of this crate.
 ghost use Rattle.std.specs.Prelude.{◌≡◌, ℕ, Bool, false, true, List, None, Option, IsSome, IsTrue};
 ghost use Rattle.apk_front.specs.Moments.{AnswersOutcome, HasIdleOutcome, HidesScratchOf, IsAtRest};
 ghost use Rattle.base_core.specs.Calls.{HasNow};
@@ -183,8 +184,10 @@ pub fn no_list_leaves_a_bad_intent()
         → ignored intent_name ≡ false → IsOrderly (RestsOn ignored) first
         → LeavesNoBadIntent first → HasSeenNoBadIntent first events v → LeavesNoBadIntent v }
 
+    // Then a run has nothing to refuse the recovery for.
     ensures recovers { (v : TreeState) (words : List (List ℕ)) → LeavesNoBadIntent v
         → recovery_fault (effect_by (command_of words)) (files_of v) ≡ None }
+    // Nor does it answer that an intent is bad.
     ensures unrefused { (v : TreeState) (run : Run) → IsRunFrom v run
         → does_recover (effect_by (command_of run.words)) ≡ true → LeavesNoBadIntent v
         → IsUnrefused run }
@@ -205,6 +208,7 @@ pub fn no_list_leaves_a_bad_intent()
 /// recovers is not refused for an intent. It works on files in which nothing is left to do, and
 /// which have a state from before the stopped run, or that of its outcome.
 pub fn a_stopped_run_is_recovered()
+    // The next run that recovers works on recovered files.
     ensures recovered { (ignored : List ℕ → Bool) (first v m w : TreeState)
         (events later : List Event) (run next : Run) → ignored intent_name ≡ false
         → IsOrderly (RestsOn ignored) first

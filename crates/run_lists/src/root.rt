@@ -1,4 +1,5 @@
-//! A run of `apk` on a root that has seen any list of runs, stops and crashes.
+//! A run of `apk` on a root that has seen any list of runs, stops and crashes. The contract is that
+//! of `apk`, as the README of this crate says in "The sentence".
 ghost use Rattle.base_core.specs.Calls.{IfObservable};
 ghost use Rattle.base_core.specs.Sink.{sink_change};
 ghost use Rattle.run_lists.specs.Events.{IsRunFrom, Run};

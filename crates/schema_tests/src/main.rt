@@ -1,7 +1,7 @@
 //! Answers questions to `adb_view`, `adb_tables`, `adb_fields`, `adb_rules` and `adb_schema`: words
 //! of a payload, the shape of payloads, the rules of texts, views, and whole containers. Its stored
-//! run has all rows; `tests/lines.md` describes their form. A payload stays from one row to the
-//! next.
+//! run has all rows; `tests/lines.md` describes their form, and the README of this crate has a row
+//! for each question. A payload stays from one row to the next.
 #![tactic(auto)]
 
 mod payloads;
@@ -18,21 +18,32 @@ use std::process::ExitCode;
 use views::add_view;
 use words::{add_head, add_reads};
 
-/// What is asked.
+/// What is asked; the README of this crate says what each question answers.
 #[derive(Clone, Copy)]
 enum Question {
+    /// `payload BYTES`.
     Payload,
+    /// `head`.
     Head,
+    /// `word W`.
     Word,
+    /// `shape TABLE MORE WORD ..`.
     Shape,
+    /// `faults TABLE`.
     Faults,
+    /// `visits TABLE BEFORE WORD ..`.
     Visits,
+    /// `many_files N`.
     ManyFiles,
+    /// `rules TABLE VALUE`.
     Rules,
+    /// `view TABLE VALUE`.
     View,
+    /// `container BYTES TABLE`.
     Container,
 }
 
+// The words that questions begin with.
 #[rattlefmt::skip]
 const QUESTIONS: [(&[u8], Question); 10] = [
     (b"payload", Question::Payload),
@@ -50,6 +61,7 @@ const QUESTIONS: [(&[u8], Question); 10] = [
 /// The payload that rows speak of.
 #[derive(Drop)]
 struct CurrentPayload {
+    /// Its bytes; none before the first `payload`.
     bytes: Vec<u8>,
 }
 

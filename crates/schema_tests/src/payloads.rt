@@ -1,22 +1,27 @@
-//! Payloads, from the words of a row.
+//! Payloads, from the words of a row, in no layout of the writer's. The words of values stand in
+//! `docs/formats.md`, "Values", and how a row writes a value in `tests/lines.md`.
 use crate::words::int_of;
 use adb_schema::Which;
 use base_core::Words;
 use row_lines::value_named;
 use std::alloc::{AllocError, Global};
 
+// The kind, in the top four bits of a word, of a blob whose length stands in two bytes.
 const TEXT: u32 = 0x9000_0000;
 
+// The kind of an array.
 const ARRAY: u32 = 0xd000_0000;
 
+// The kind of an object.
 const OBJECT: u32 = 0xe000_0000;
 
-/// A word that stands for an integer, and the integers that it may stand for.
+/// The kind of an integer that stands in its word; so many numbers are small enough for that.
 const INT: u32 = 0x1000_0000;
 
-/// How many bytes stand before the first value.
+/// How many bytes stand before the first value: the head of a payload.
 const HEAD: usize = 8;
 
+// The names of tables in rows; `rights` is an access list.
 #[rattlefmt::skip]
 const TABLES: [(&[u8], Which); 10] = [
     (b"dependency", Which::Dep),
@@ -32,7 +37,7 @@ const TABLES: [(&[u8], Which); 10] = [
 ];
 
 /// The table of a name; that of packages where it is none.
-pub fn table_of(name: &[u8]) -> Which {
+pub(crate) fn table_of(name: &[u8]) -> Which {
     value_named(&TABLES, name).unwrap_or(Which::Package)
 }
 
@@ -40,14 +45,21 @@ pub fn table_of(name: &[u8]) -> Which {
 /// open, and the root's word.
 #[derive(Drop)]
 struct Payload {
+    /// The bytes behind the head.
     values: Vec<u8>,
+    /// The entries of the runs that are open, the innermost last.
     open: Vec<Vec<u32>>,
+    /// The word of the root.
     root: u32,
 }
 
 /// The payload of a value: `.` is null, `#` and a number an integer, `'` and bytes a text, what
 /// stands between `[` and `]` an array, and what stands between `{` and `}` an object.
-pub fn payload_of(alloc: Global, words: &Words, first: usize) -> Result<Vec<u8>, AllocError> {
+pub(crate) fn payload_of(
+    alloc: Global,
+    words: &Words,
+    first: usize,
+) -> Result<Vec<u8>, AllocError> {
     let mut payload = Payload {
         values: Vec::new(alloc),
         open: Vec::new(alloc),
@@ -118,7 +130,7 @@ impl Payload {
 }
 
 /// Writes a run: its count of words, which counts itself, and its entries.
-pub fn add_run(bytes: &mut Vec<u8>, entries: &[u32]) -> Result<(), AllocError> {
+pub(crate) fn add_run(bytes: &mut Vec<u8>, entries: &[u32]) -> Result<(), AllocError> {
     let count = (entries.len() % 65_536) as u32 + 1;
     bytes.extend_from_slice(&count.to_le_bytes())?;
     for entry in entries {
@@ -128,7 +140,11 @@ pub fn add_run(bytes: &mut Vec<u8>, entries: &[u32]) -> Result<(), AllocError> {
 }
 
 /// A payload whose root is an object with these words, and behind it more bytes.
-pub fn object_payload(alloc: Global, entries: &[u32], more: &[u8]) -> Result<Vec<u8>, AllocError> {
+pub(crate) fn object_payload(
+    alloc: Global,
+    entries: &[u32],
+    more: &[u8],
+) -> Result<Vec<u8>, AllocError> {
     let mut payload = Vec::new(alloc);
     payload.extend_from_slice(b"\0\0\0\0\x08\0\0\xe0")?;
     add_run(&mut payload, entries)?;
@@ -137,7 +153,7 @@ pub fn object_payload(alloc: Global, entries: &[u32], more: &[u8]) -> Result<Vec
 }
 
 /// The words of a row that are numbers, from a place on.
-pub fn ints_of(alloc: Global, words: &Words, first: usize) -> Result<Vec<u32>, AllocError> {
+pub(crate) fn ints_of(alloc: Global, words: &Words, first: usize) -> Result<Vec<u32>, AllocError> {
     let mut ints = Vec::new(alloc);
     for i in first..words.len() {
         ints.push(int_of(words.word(i)))?;

@@ -1,5 +1,6 @@
 //! The tests of payloads and containers: which fault the shape walk reports and how many values it
-//! visits, the rules of texts and numbers, the first failed test, and names that stand twice.
+//! visits, the rules of texts and numbers, the first failed test, and names that stand twice. The
+//! rules stand in `docs/formats.md`, "Tests of a container", and the words of values in "Values".
 
 use crate::payloads::{add_run, ints_of, object_payload, payload_of, table_of};
 use crate::words::{add_cause, add_outcome, int_of};
@@ -13,7 +14,7 @@ use std::alloc::{AllocError, Global};
 /// The root's word of the payloads below: an object that stands behind the head.
 const ROOT: u32 = 0xe000_0008;
 
-/// The most values that a payload may have.
+/// The most values that a payload may have (`docs/formats.md`, "The shape").
 const MOST_VISITS: u32 = 4_194_304;
 
 /// The fault of a payload that is walked as this table.
@@ -24,14 +25,18 @@ fn fault_of(payload: &[u8], which: Which) -> Result<(), Cause> {
 
 /// Adds the fault of the payload of `shape TABLE MORE WORD ..`: an object with these words, and
 /// more bytes behind it.
-pub fn add_shape(alloc: Global, words: &Words, answer: &mut Vec<u8>) -> Result<(), AllocError> {
+pub(crate) fn add_shape(
+    alloc: Global,
+    words: &Words,
+    answer: &mut Vec<u8>,
+) -> Result<(), AllocError> {
     let entries = ints_of(alloc, words, 3)?;
     let payload = object_payload(alloc, &entries, word_at(words, 2))?;
     let found = fault_of(&payload, table_of(word_at(words, 1)));
     add_outcome(alloc, found, answer)
 }
 
-/// A word of another kind than the field's.
+/// A word of another kind than the field's: a blob where an integer is due, else the integer 1.
 fn of_another_kind(kind: Kind) -> u32 {
     match kind {
         Kind::Int => 0x8000_0008,
@@ -51,7 +56,11 @@ fn outside(kind: Kind) -> u32 {
 
 /// Adds for how many fields of a table both faults of a value are reported, where the fields before
 /// are null, and then the fault of words behind the last field, at which nothing looks.
-pub fn add_faults(alloc: Global, table: &[u8], answer: &mut Vec<u8>) -> Result<(), AllocError> {
+pub(crate) fn add_faults(
+    alloc: Global,
+    table: &[u8],
+    answer: &mut Vec<u8>,
+) -> Result<(), AllocError> {
     let which = table_of(table);
     let mut before = Vec::new(alloc);
     let mut told = 0u64;
@@ -62,6 +71,7 @@ pub fn add_faults(alloc: Global, table: &[u8], answer: &mut Vec<u8>) -> Result<(
         before.push(0)?;
     }
     add_number(alloc, answer, u128::from(told))?;
+    // The integer 1 behind the last field, and behind that a word that has no meaning.
     before.push(0x1000_0001)?;
     add_outcome(
         alloc,
@@ -102,7 +112,11 @@ fn fault_behind(
 
 /// Adds how many values are visited once the words of `visits TABLE BEFORE WORD ..` are walked as
 /// fields of the table, behind so many visits, or the fault.
-pub fn add_visits(alloc: Global, words: &Words, answer: &mut Vec<u8>) -> Result<(), AllocError> {
+pub(crate) fn add_visits(
+    alloc: Global,
+    words: &Words,
+    answer: &mut Vec<u8>,
+) -> Result<(), AllocError> {
     let entries = ints_of(alloc, words, 3)?;
     let payload = object_payload(alloc, &entries, b"")?;
     let before = int_of(word_at(words, 2));
@@ -123,7 +137,11 @@ fn visits_of(payload: &[u8], which: Which, before: u32) -> Result<u32, Cause> {
 }
 
 /// Adds the fault of a package of one folder of so many files, which stands at as many places.
-pub fn add_many_files(alloc: Global, count: &[u8], answer: &mut Vec<u8>) -> Result<(), AllocError> {
+pub(crate) fn add_many_files(
+    alloc: Global,
+    count: &[u8],
+    answer: &mut Vec<u8>,
+) -> Result<(), AllocError> {
     let count = int_of(count) % 65_536;
     // At 20 a folder, at 36 its files, and behind them the folders.
     let mut more = Vec::new(alloc);
@@ -139,7 +157,11 @@ pub fn add_many_files(alloc: Global, count: &[u8], answer: &mut Vec<u8>) -> Resu
 }
 
 /// Adds the fault of the value of `rules TABLE VALUE`.
-pub fn add_rule(alloc: Global, words: &Words, answer: &mut Vec<u8>) -> Result<(), AllocError> {
+pub(crate) fn add_rule(
+    alloc: Global,
+    words: &Words,
+    answer: &mut Vec<u8>,
+) -> Result<(), AllocError> {
     let payload = payload_of(alloc, words, 2)?;
     let checked = check(alloc, &payload, table_of(word_at(words, 1)));
     add_outcome(alloc, cause_in(checked)?, answer)
@@ -153,7 +175,11 @@ fn check(alloc: Global, payload: &[u8], which: Which) -> Result<(), ReadFault> {
 }
 
 /// Adds the first failed test of the file of `container BYTES TABLE`.
-pub fn add_container(alloc: Global, words: &Words, answer: &mut Vec<u8>) -> Result<(), AllocError> {
+pub(crate) fn add_container(
+    alloc: Global,
+    words: &Words,
+    answer: &mut Vec<u8>,
+) -> Result<(), AllocError> {
     let read = read_adb(alloc, word_at(words, 1), table_of(word_at(words, 2)));
     add_outcome(alloc, cause_in(read)?, answer)
 }

@@ -1,4 +1,5 @@
-//! Views: each field of each table.
+//! Views: each field of each table, as `docs/formats.md` lists them in "Schemas". How the answers
+//! are written stands in `tests/lines.md`, `view`. Entries of lists count from 1.
 use crate::payloads::{payload_of, table_of};
 use crate::words::add_cause;
 use adb_schema::{
@@ -12,7 +13,11 @@ use std::alloc::{AllocError, Global};
 
 /// Adds each field of the value of `view TABLE VALUE`: of a list what of each entry tells it from
 /// others, between brackets; of an object inside another one its first field.
-pub fn add_view(alloc: Global, words: &Words, answer: &mut Vec<u8>) -> Result<(), AllocError> {
+pub(crate) fn add_view(
+    alloc: Global,
+    words: &Words,
+    answer: &mut Vec<u8>,
+) -> Result<(), AllocError> {
     let payload = payload_of(alloc, words, 2)?;
     let adb = match Adb::new(&payload) {
         Ok(adb) => adb,

@@ -1,17 +1,22 @@
-//! Words of a payload: what each of the four readers answers.
+//! Words of a payload: what each of the four readers answers. The rules stand in `docs/formats.md`,
+//! "Values": what each asks for, and which faults there are.
 use adb_view::{Adb, Arr, Val};
 use base_core::Cause;
 use row_lines::{add_number, add_word, number_of};
 use std::alloc::{AllocError, Global};
 
 /// Adds a cause, as its variant and its fields.
-pub fn add_cause(alloc: Global, cause: Cause, answer: &mut Vec<u8>) -> Result<(), AllocError> {
+pub(crate) fn add_cause(
+    alloc: Global,
+    cause: Cause,
+    answer: &mut Vec<u8>,
+) -> Result<(), AllocError> {
     let text = format!(in alloc; "{cause:?}")?;
     add_word(answer, text.as_bytes())
 }
 
 /// Adds `ok`, or the cause of a refusal.
-pub fn add_outcome(
+pub(crate) fn add_outcome(
     alloc: Global,
     found: Result<(), Cause>,
     answer: &mut Vec<u8>,
@@ -23,14 +28,18 @@ pub fn add_outcome(
 }
 
 /// The number that a word is; 0 where it is none.
-pub fn int_of(word: &[u8]) -> u32 {
+pub(crate) fn int_of(word: &[u8]) -> u32 {
     number_of(word)
         .and_then(|number| u32::try_from(number).ok())
         .unwrap_or(0)
 }
 
 /// Adds the word of a payload's root, or the fault of its head.
-pub fn add_head(alloc: Global, payload: &[u8], answer: &mut Vec<u8>) -> Result<(), AllocError> {
+pub(crate) fn add_head(
+    alloc: Global,
+    payload: &[u8],
+    answer: &mut Vec<u8>,
+) -> Result<(), AllocError> {
     match Adb::new(payload) {
         Ok(adb) if adb.payload() == payload => {
             add_value(alloc, adb.root(), answer)?;
@@ -56,7 +65,7 @@ fn add_value(alloc: Global, value: Val, answer: &mut Vec<u8>) -> Result<(), Allo
 }
 
 /// Adds what each of the four readers answers to a word, but that it is of another kind.
-pub fn add_reads(
+pub(crate) fn add_reads(
     alloc: Global,
     payload: &[u8],
     word: &[u8],

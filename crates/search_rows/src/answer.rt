@@ -1,4 +1,5 @@
-//! What is asked of a row, and the answers as texts.
+//! What is asked of a row, and the answers as texts. The questions and answers stand in the README
+//! of this crate; what is right of them in `docs/selection.md`.
 ghost use Rattle.std.specs.Prelude.{◌≡◌, IfOk};
 
 use crate::row::{Row, split_word};
@@ -11,7 +12,7 @@ use row_lines::{add_number, add_word, value_named};
 use solve_core::{Trace, solve};
 use std::alloc::{AllocError, AllocFailed, Global};
 
-/// The most names that a command upgrades in a row.
+/// The most names that a command upgrades in a row; more are answered `no row`.
 const MOST_NAMES: usize = 1000;
 
 /// What is answered where a text of the row is not read, or a question is unknown.
@@ -29,18 +30,21 @@ enum RowFault {
 }
 
 impl From<AllocError> for RowFault {
+    // Want of memory, as the reason why a row has no answer.
     fn from(_: AllocError) -> RowFault {
         RowFault::Memory
     }
 }
 
 impl<T: Drop> From<AllocFailed<T>> for RowFault {
+    // Want of memory, where what was to be kept comes back.
     fn from(_: AllocFailed<T>) -> RowFault {
         RowFault::Memory
     }
 }
 
 impl From<PoolFault> for RowFault {
+    // A fault of the pool, as the reason why a row has no answer.
     fn from(fault: PoolFault) -> RowFault {
         match fault {
             PoolFault::TooMany { count } => RowFault::TooMany(count),
@@ -49,17 +53,26 @@ impl From<PoolFault> for RowFault {
     }
 }
 
-/// What a question asks for.
+/// What a question asks for; the README of this crate has a row for each.
 #[derive(Clone, Copy)]
 enum Question {
+    /// `bytes`.
     Bytes,
+    /// `packages`.
     Packages,
+    /// `candidates`.
     Candidates,
+    /// `twice`.
     Twice,
+    /// `offers NAME`.
     Offers,
+    /// `options DEPENDENCY`.
     Options,
+    /// `named NAME`.
     Named,
+    /// `select`.
     Select,
+    /// `count`.
     Count,
 }
 
@@ -79,19 +92,23 @@ const QUESTIONS: [(&[u8], Question); 9] = [
 /// What a question asks for, and the name or the dependency that stands behind it.
 #[derive(Clone, Copy)]
 struct Query<'q> {
+    /// What is asked for.
     question: Question,
+    /// The name or the dependency that stands behind the question's word.
     rest: &'q [u8],
 }
 
-/// What a command asks for.
+/// What a command asks for: its world, and the names that it upgrades.
 #[derive(Clone, Copy)]
 struct Command<'a> {
+    /// World, as the row gives it.
     world: &'a World,
+    /// The names that it upgrades.
     upgrade: Upgrade<'a>,
 }
 
 /// The answer of a question, as often as the row says, or what stands in its way.
-pub fn answer(alloc: Global, row: &Row<'_>, query: &[u8]) -> Result<Vec<u8>, AllocError> {
+pub(crate) fn answer(alloc: Global, row: &Row<'_>, query: &[u8]) -> Result<Vec<u8>, AllocError> {
     let mut text = Vec::new(alloc);
     add_answer(alloc, row, query, &mut text)?;
     Ok(text)
@@ -180,7 +197,7 @@ fn add_answer_of_row(
     Ok(add_answer_of_pool(alloc, &pool, command.world, query, text)?)
 }
 
-// Adds a number in decimal.
+// Adds a count in decimal digits.
 fn add_count(alloc: Global, count: u64, text: &mut Vec<u8>) -> Result<(), RowFault> {
     Ok(add_number(alloc, text, u128::from(count))?)
 }
@@ -420,8 +437,8 @@ fn add_candidates(
     Ok(())
 }
 
-// Adds the name and the version of a candidate, and the number of its repository behind `/` unless
-// it is 1; it is 0 where it has none.
+// Adds the name and the version of a candidate, and behind `/` the number of its repository unless
+// that is 1; 0 stands for an installed package of none.
 fn add_candidate(
     alloc: Global,
     pool: &Sealed<'_>,

@@ -11,7 +11,7 @@ use std::io;
 use std::io::{Read, Write};
 use std::process::ExitCode;
 
-// The status is 1 where a row fails.
+// Runs the rows of standard input; the status is 1 where one fails.
 fn main(rt: HostRuntime) -> io::Result<ExitCode> {
     let alloc = rt.alloc();
     let mut text = Vec::new(alloc);

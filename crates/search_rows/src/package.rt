@@ -2,7 +2,8 @@
 //! spaces: `NAME=VERSION`, and `N*` before it for N such packages; `d:` and depends, `p:` and
 //! provides, `i:` and install-if, each list with `,` between dependencies; `k:` and the
 //! provider-priority; `h:` and the id, which is none behind a bare `h:`, and the same for all where
-//! no `h:` stands.
+//! no `h:` stands. The README of this crate has the same form; the fields are those of
+//! `docs/formats.md`, "Schemas", table 3, where the numbers here count from 0.
 use crate::row::number_of;
 use adb_view::Val;
 use adb_write::Writer;
@@ -13,12 +14,16 @@ use std::alloc::{AllocError, Global};
 /// How the value of a field is written.
 #[derive(Clone, Copy)]
 enum Form {
+    /// A list of dependencies, with `,` between them.
     Dependencies,
+    /// A decimal number.
     Number,
+    /// The bytes as they are.
     Bytes,
 }
 
-/// What a part begins with: the place of the field, counted from 0, and its form.
+/// What a part begins with: the place of the field in the table of package information, counted
+/// from 0, and its form.
 const FIELDS: [(&[u8], (usize, Form)); 5] = [
     (b"d:", (14, Form::Dependencies)),
     (b"p:", (15, Form::Dependencies)),
@@ -29,7 +34,7 @@ const FIELDS: [(&[u8], (usize, Form)); 5] = [
 
 /// The payload of an index with these packages. What is no part of a package is passed over, and
 /// an index that passes a limit has none.
-pub fn index_payload(alloc: Global, text: &[u8]) -> Result<Vec<u8>, AllocError> {
+pub(crate) fn index_payload(alloc: Global, text: &[u8]) -> Result<Vec<u8>, AllocError> {
     let mut writer = Writer::new(alloc);
     let mut packages = Vec::new(alloc);
     for part in text.split(|byte| *byte == b';') {
@@ -64,7 +69,8 @@ fn add_packages(
     Ok(())
 }
 
-// The value of a package.
+// The value of a package, of whose information the first 18 fields may be given, counted from 0: 0
+// is the name, 1 the version, 2 the id, which is the same 20 bytes where none is given.
 fn package_value(alloc: Global, writer: &mut Writer, part: &[u8]) -> Result<Val, AllocError> {
     let mut fields = [Val::of(0); 18];
     if part.is_empty() {
@@ -112,7 +118,8 @@ fn value_of(
     }
 }
 
-// Adds the name and the version of a package.
+// Adds the name (place 0) and the version (place 1) of a package, which are written as a
+// dependency.
 fn add_name(writer: &mut Writer, fields: &mut [Val; 18], word: &[u8]) -> Result<(), AllocError> {
     if let Some(dep) = read_dep(word) {
         fields[0] = writer.blob(dep.name)?;
@@ -148,7 +155,9 @@ fn version_value(writer: &mut Writer, dep: &Dep<'_>) -> Result<Val, AllocError> 
     }
 }
 
-// The bits of the operator and of a conflict; none where a name alone is asked for.
+// The match number of a dependency: its operator's bits, and 16 more for a conflict; 23 for a
+// conflict without version, and none where a name alone is asked for (`docs/formats.md`,
+// "Dependencies").
 fn matching_value(writer: &mut Writer, dep: &Dep<'_>) -> Result<Val, AllocError> {
     let bits = u64::from(dep.op.bits());
     let number = match (dep.conflict, dep.version.is_some()) {

@@ -1,23 +1,24 @@
-//! A row: the packages to choose from, world, and what a command upgrades. It borrows its text.
+//! A row: the packages to choose from, world, and what a command upgrades. It borrows its text. The
+//! lines stand in the README of this crate.
 use crate::package::index_payload;
 use std::alloc::{AllocError, Global};
 
-/// A repository.
+/// A repository of a row.
 #[derive(Drop)]
 pub struct Repository<'t> {
     /// Its number; where the row says none, its position among the row's repositories, counted
     /// from 1.
     pub number: u64,
-    /// Its tag, if it has one.
+    /// The tag of the repository, if it has one.
     pub tag: Option<&'t [u8]>,
-    /// The payload of its index.
+    /// The payload of the repository's index.
     pub payload: Vec<u8>,
 }
 
 /// What stands between two lines that begin a row.
 #[derive(Drop)]
 pub struct Row<'t> {
-    /// Its name.
+    /// The name of the row.
     pub name: &'t [u8],
     /// The repositories, in their order.
     pub repositories: Vec<Repository<'t>>,
@@ -33,7 +34,7 @@ pub struct Row<'t> {
 
 impl<'t> Row<'t> {
     /// A row without packages.
-    pub fn new(alloc: Global, name: &'t [u8]) -> Row<'t> {
+    pub(crate) fn new(alloc: Global, name: &'t [u8]) -> Row<'t> {
         Row {
             name,
             repositories: Vec::new(alloc),
@@ -46,7 +47,11 @@ impl<'t> Row<'t> {
 
     /// Adds a repository: its packages, before which its tag may stand behind `@`, or its number
     /// behind `/`.
-    pub fn add_repository(&mut self, alloc: Global, text: &'t [u8]) -> Result<(), AllocError> {
+    pub(crate) fn add_repository(
+        &mut self,
+        alloc: Global,
+        text: &'t [u8],
+    ) -> Result<(), AllocError> {
         let next = (self.repositories.len() as u64).saturating_add(1);
         let (word, rest) = split_word(text);
         let (number, tag, packages) = match word {
@@ -64,14 +69,18 @@ impl<'t> Row<'t> {
     }
 
     /// Sets the installed packages.
-    pub fn set_installed(&mut self, alloc: Global, packages: &[u8]) -> Result<(), AllocError> {
+    pub(crate) fn set_installed(
+        &mut self,
+        alloc: Global,
+        packages: &[u8],
+    ) -> Result<(), AllocError> {
         self.installed = Some(index_payload(alloc, packages)?);
         Ok(())
     }
 }
 
 /// The first word of a line, and what stands behind the blank that ends it.
-pub fn split_word<'t>(line: &'t [u8]) -> (&'t [u8], &'t [u8]) {
+pub(crate) fn split_word<'t>(line: &'t [u8]) -> (&'t [u8], &'t [u8]) {
     match line.iter().position(|byte| *byte == b' ') {
         Some(at) => (&line[..at], &line[at + 1..]),
         None => (line, b""),
@@ -80,7 +89,7 @@ pub fn split_word<'t>(line: &'t [u8]) -> (&'t [u8], &'t [u8]) {
 
 /// The number that decimal digits spell; other bytes are passed over, and it stops to grow before
 /// it passes 64 bits.
-pub fn number_of(text: &[u8]) -> u64 {
+pub(crate) fn number_of(text: &[u8]) -> u64 {
     let mut number = 0u64;
     for byte in text {
         if byte.is_ascii_digit() {

@@ -1,4 +1,4 @@
-//! All rows of a text, and what is printed of them.
+//! All rows of a text, and what is printed of them. The lines stand in the README of this crate.
 use crate::answer::answer;
 use crate::row::{Row, number_of, split_word};
 use row_lines::value_named;
@@ -6,7 +6,11 @@ use std::alloc::{AllocError, Global};
 
 /// Runs all rows of a text, adds a line for each answer that is not the wanted one, and one with
 /// counts. Answers whether none failed.
-pub fn run_rows(alloc: Global, text: &[u8], report: &mut Vec<u8>) -> Result<bool, AllocError> {
+pub(crate) fn run_rows(
+    alloc: Global,
+    text: &[u8],
+    report: &mut Vec<u8>,
+) -> Result<bool, AllocError> {
     let mut run = Run {
         alloc,
         row: Row::new(alloc, b""),
@@ -19,18 +23,28 @@ pub fn run_rows(alloc: Global, text: &[u8], report: &mut Vec<u8>) -> Result<bool
     Ok(run.failed == 0)
 }
 
-/// What a line is, by the word that it begins with.
+/// What a line is, by the word that it begins with; the README of this crate has a row for each.
 #[derive(Clone, Copy)]
 enum Line {
+    /// a blank line, `#`.
     Comment,
+    /// `row NAME: SENTENCE`.
     Row,
+    /// `repository PACKAGES`, `repository @TAG PACKAGES`.
     Repository,
+    /// `installed PACKAGES`.
     Installed,
+    /// `world ENTRIES`.
     World,
+    /// `upgrade all`, `upgrade NAMES`.
     Upgrade,
+    /// `times N`.
     Times,
+    /// `$ QUESTION`.
     Question,
+    /// `> ANSWER`.
     Wanted,
+    /// `?`.
     Printed,
 }
 
@@ -53,10 +67,15 @@ const LINES: [(&[u8], Line); 11] = [
 #[derive(Drop)]
 struct Run<'t> {
     alloc: Global,
+    /// The row that has begun.
     row: Row<'t>,
+    /// The question that waits for its answer.
     query: Option<&'t [u8]>,
+    /// How many rows have begun.
     rows: u64,
+    /// How many answers were computed.
     answers: u64,
+    /// How many of them differ from the wanted ones, or are out of place.
     failed: u64,
 }
 

@@ -1,4 +1,6 @@
--- What a search keeps.
+-- What a search keeps true of its choices, of the queue and the cursors, and of its turns.
+-- No rule of a document: serves the contracts of `src/choices.rt` and `src/search.rt`; how the
+-- search works says `docs/selection.md`, "How the search works".
 use Rattle.std.specs.Prelude.{◌≡◌, ◌<◌, length, ℕ, true, List, [], ◌∷◌, ◌++◌}
 use Rattle.pool_core.specs.Candidates.{Need}
 use Rattle.pool_core.specs.Rank.{SealedPool, is_eligible_at, is_better, meets_at}
@@ -10,19 +12,20 @@ use Rattle.solve_core.specs.declared.queue.Checkpoint.{Checkpoint}
 use Rattle.solve_core.specs.Reasons.{FrameValue, AreCompatible, AreTurnsFrom, choices_in}
 use Rattle.solve_core.specs.declared.choices.Choices.{Choices}
 
--- the pool that is searched
+-- the pool in which some choices are made
 abbrev pub pool_of : Choices → SealedPool
 pool_of chosen = chosen.pool.now
 
--- in the order chosen
+-- the choices, in the order chosen
 abbrev pub choices_of : Choices → List ℕ
 choices_of chosen = chosen.choices
 
--- the candidates whose install-if can come to apply, in byte order of their names
+-- the candidates of the pool whose install-if can come to apply, in byte order of their names
 abbrev pub install_ifs_of : Choices → List ℕ
 install_ifs_of chosen = chosen.install_ifs.by_name.items
 
--- behind some choices: where the queue and the cursors stood before each further choice
+-- behind the choices `u`: the checkpoints tell where the queue and the cursors stood before each
+-- further choice
 abbrev pub AreCheckpoints : SealedPool → List ℕ → List ℕ → List ℕ → List Checkpoint → Type 0
 AreCheckpoints pool install_ifs u [] [] = Unit {0}
 AreCheckpoints pool install_ifs u [] (b ∷ bs) = ⊥
@@ -32,8 +35,9 @@ AreCheckpoints pool install_ifs u (c ∷ cs) (b ∷ bs) =
     × AreUnasked pool u install_ifs b.asking_cursor
     × AreCheckpoints pool install_ifs (u ++ c ∷ []) cs bs
 
--- the queue is of the choices, those in front of the cursors are met and do not ask, the conflicts
--- of the choices are listed, and each choice can be taken back
+-- the queue is that of the choices, what stands in front of its cursor is met, what stands in front
+-- of the cursor of the install-ifs does not ask, the conflicts of the choices are listed, and each
+-- choice can be taken back to its checkpoint
 pub record IsConsistent (chosen : Choices) : Type 0 where
   pub within : (c : ℕ) → IsIn c (choices_of chosen) → c < length (pool_of chosen).candidates
   pub queue : chosen.queue.items ≡ queue_of (pool_of chosen) (choices_of chosen)
@@ -47,14 +51,15 @@ pub record IsConsistent (chosen : Choices) : Type 0 where
       AreCheckpoints (pool_of chosen) (install_ifs_of chosen) [] (choices_of chosen)
       chosen.checkpoints.items
 
--- the turns are those of the choices, each of which was taken from its frame
+-- the choices are compatible, and the turns are theirs: each was taken from the frame of its need
 pub record IsSearch (chosen : Choices) (turns : List (FrameValue × ℕ)) : Type 0 where
   pub consistent : IsConsistent chosen
   pub choices : choices_of chosen ≡ choices_in turns
   pub clean : AreCompatible (pool_of chosen) (choices_of chosen)
   pub taken : AreTurnsFrom (pool_of chosen) [] turns
 
--- what a pool promises of the options of a need
+-- what a pool promises of the options of a need: they are exactly the candidates that may be
+-- selected and meet it, each better than those behind it
 pub record HasOptions (pool : SealedPool) (need : Need) : Type 0 where
   pub those : (c : ℕ) → IsIn c (options_for pool need) → (is_eligible_at pool c ≡ true)
       × (meets_at pool c need ≡ true)

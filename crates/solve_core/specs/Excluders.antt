@@ -1,4 +1,6 @@
 -- What excludes a further candidate.
+-- The rules stand in `docs/selection.md`, "What satisfies world", 2 and 3, and are said of pairs by
+-- *exclude_each_other* of `Selection`. Serves the contracts of `src/choices/excluders.rt`.
 use Rattle.std.specs.Prelude.{◌≡◌, ℕ, Bool, true, false, List}
 use Rattle.dep_core.specs.Dependency.{Dependency}
 use Rattle.pool_core.specs.Candidates.{Candidate, meets_dependency, occupies_name}
@@ -9,17 +11,17 @@ use Rattle.solve_core.specs.NameTable.{items_of}
 use Rattle.solve_core.specs.Selection.{depends_at, exclude_each_other}
 use Rattle.solve_core.specs.declared.conflicts.Conflicts.{Conflicts}
 
--- the table has just the conflicts of the choices
+-- the table has for each name just the conflicts of the choices
 abbrev pub AreListed : SealedPool → List ℕ → Conflicts → Type 0
 AreListed pool chosen conflicts =
     (name : List ℕ) → items_of conflicts.by_name name ≡ conflicts_among pool chosen name
 
--- a choice that excludes the candidate
+-- the candidate at place `k` is a choice, and it and the candidate at place `id` exclude each other
 abbrev pub IsExcluder : SealedPool → List ℕ → ℕ → ℕ → Type 0
 IsExcluder pool chosen id k = IsIn k chosen × (exclude_each_other pool k id ≡ true)
 
--- at a name of the candidate: it meets no conflict of the choices, and, where it occupies the name,
--- no choice does
+-- the choices leave a candidate alone at a name: it meets no conflict of that name that a choice
+-- has, and, where `is_occupied`, no choice occupies the name
 abbrev pub IsFreeAt : SealedPool → List ℕ → Candidate → List ℕ → Bool → Type 0
 IsFreeAt pool chosen details name is_occupied =
     ((k : ℕ) (d : Dependency) → IsIn k chosen → IsIn d (depends_at pool k) →

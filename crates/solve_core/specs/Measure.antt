@@ -1,22 +1,26 @@
 -- What falls at each step of a search: a number with a digit for each frame, the lowest frame's
 -- first.
+-- No rule of a document: serves the proof that `solve` ends ("and it ends": `docs/selection.md`,
+-- "How the search works"). An option that is taken or ruled out makes its frame's digit smaller,
+-- and what is put behind it counts less.
 use Rattle.std.specs.Prelude.{ℕ, zero, suc, ◌+◌, ◌*◌, ◌^◌, List, [], ◌∷◌, ◌++◌, length}
 use Rattle.solve_core.specs.Reasons.{FrameValue}
 
--- b times itself, n times
+-- the number b to the power n
 unfoldable pub power : ℕ → ℕ → ℕ
 power b zero = 1
 power b (suc n) = b * power b n
 
--- more options than a list can have, and more frames
+-- the base of the numbers, which no digit reaches: a list has less than 2^64 options, and a digit
+-- counts one more
 unfoldable pub base : ℕ
 base = 2 ^ 64 + 2
 
--- how many digits a number has at most
+-- how many digits a number has at most: a list has less than 2^64 frames
 unfoldable pub rooms : ℕ
 rooms = 2 ^ 64
 
--- a frame counts one more than its options that are left
+-- the digit of a frame: one more than its options that are left
 abbrev pub digit : FrameValue → ℕ
 digit f = suc (length f.1)
 
@@ -26,11 +30,11 @@ weight b room [] = 0
 weight b zero (d ∷ ds) = 0
 weight b (suc room) (d ∷ ds) = d * power b room + weight b room ds
 
--- those of the frames under way
+-- the digits of the frames of some turns, the lowest frame's first
 abbrev pub digits : List (FrameValue × ℕ) → List ℕ
 digits [] = []
 digits (turn ∷ turns) = digit turn.0 ∷ digits turns
 
--- of all frames, with the topmost last
+-- the measure of a search: the number whose digits are those of all frames, with the topmost last
 unfoldable pub weight_of : List (FrameValue × ℕ) → FrameValue → ℕ
 weight_of turns top = weight base rooms (digits turns ++ digit top ∷ [])

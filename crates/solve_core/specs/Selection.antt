@@ -1,4 +1,5 @@
 -- Selections that satisfy a world, the walk of one, and the first of them.
+-- The rules stand in `docs/selection.md`, "What satisfies world", and "Which selection is taken".
 use Rattle.std.specs.Prelude.{◌≡◌, ◌≢◌, ℕ, ◌==◌, Bool, true, false, not, ◌&&◌, ◌||◌, if◌then◌else◌, List, [], ◌∷◌, ◌++◌, map, Option, Some, None, is_some, ◌⊎◌}
 use Rattle.std.specs.Option.{option_map, option_map_or, option_or}
 use Rattle.std.specs.List.{filter, find, flat_map, list_all, list_any}
@@ -11,19 +12,19 @@ pub use Rattle.pool_core.specs.Options.{AreMembers, AreDistinct}
 
 -- ---- needs
 
--- one of the choices meets the need, by its own name or by what it provides
+-- whether one of the choices meets the need, by its own name or by what it provides
 abbrev pub is_met : SealedPool → List ℕ → Need → Bool
 is_met pool chosen need = list_any (λ c. meets_at pool c need) chosen
 
--- no choice meets the need
+-- whether no choice meets the need
 abbrev pub is_unmet : SealedPool → List ℕ → Need → Bool
 is_unmet pool chosen need = not (is_met pool chosen need)
 
--- the dependencies that are no conflicts, as needs
+-- the dependencies of a list that are no conflicts, as needs
 abbrev pub positive_needs : List Dependency → List Need
 positive_needs deps = map entry (filter (λ (d : Dependency). not d.conflict) deps)
 
--- of the candidate at a place, conflicts too
+-- the dependencies of the candidate at a place, conflicts too; none where no candidate is there
 abbrev pub depends_at : SealedPool → ℕ → List Dependency
 depends_at pool c = option_map_or (λ (k : Candidate). k.depends) (candidate_at pool c) []
 
@@ -44,7 +45,7 @@ abbrev pub names_by_install_if : SealedPool → List ℕ → List (List ℕ)
 names_by_install_if pool chosen =
     map (λ (c : Candidate). c.name) (filter (install_if_applies pool chosen) pool.candidates)
 
--- what choices raise in all, met or not
+-- what world and the choices raise in all, met or not
 abbrev pub needs : SealedPool → List ℕ → List Need
 needs pool chosen = raised_needs pool chosen ++ map named (names_by_install_if pool chosen)
 
@@ -69,7 +70,7 @@ next_need pool chosen =
 
 -- ---- candidates that exclude each other
 
--- whether a conflict of one is met by the other
+-- whether a conflict of the first candidate is met by the second
 abbrev pub conflicts_with : SealedPool → ℕ → ℕ → Bool
 conflicts_with pool a b =
     list_any (λ (d : Dependency). d.conflict && is_at pool (meets_dependency d) b)
@@ -81,20 +82,22 @@ occupied_names c =
     c.name ∷ map (λ (p : Dependency). p.name)
     (filter (λ (p : Dependency). not p.conflict && is_some p.version) c.provides)
 
--- of the candidate at a place
+-- the names that the candidate at a place occupies; none where no candidate is there
 abbrev pub occupied_names_at : SealedPool → ℕ → List (List ℕ)
 occupied_names_at pool c = option_map_or occupied_names (candidate_at pool c) []
 
--- one selection cannot have both, since a name has one place in it
+-- whether both candidates occupy a name: one selection cannot have both, since a name has one place
+-- in it
 abbrev pub share_a_name : SealedPool → ℕ → ℕ → Bool
 share_a_name pool a b =
     list_any (λ name. is_at pool (occupies_name name) b) (occupied_names_at pool a)
 
--- whether one keeps the other out: by a conflict, or by a name that both occupy
+-- whether one candidate keeps the other out: by a conflict that it has, or by a name that both
+-- occupy
 abbrev pub keeps_out : SealedPool → ℕ → ℕ → Bool
 keeps_out pool a b = conflicts_with pool a b || share_a_name pool a b
 
--- whether no satisfying selection has both
+-- whether two candidates exclude each other: no satisfying selection has both
 abbrev pub exclude_each_other : SealedPool → ℕ → ℕ → Bool
 exclude_each_other pool a b = not (a == b) && (keeps_out pool a b || keeps_out pool b a)
 
@@ -123,25 +126,27 @@ pub record IsSatisfying (pool : SealedPool) (selection : List ℕ) : Type 0 wher
 
 -- ---- the walk of a selection
 
--- the best ranked member that meets the need
+-- the member of a selection is the best ranked that meets the need
 abbrev pub IsBestMember : SealedPool → List ℕ → Need → ℕ → Type 0
 IsBestMember pool selection need c =
     IsIn c selection × (meets_at pool c need ≡ true)
     × ((o : ℕ) → IsIn o selection → meets_at pool o need ≡ true →
     (o ≡ c) ⊎ (is_better pool need c o ≡ true))
 
--- behind some choices: the best ranked member for each next need, until there is none
+-- behind some choices: the rest of the walk of a selection, which has the best ranked member for
+-- each next need, until there is none
 abbrev pub IsWalkFrom : SealedPool → List ℕ → List ℕ → List ℕ → Type 0
 IsWalkFrom pool selection chosen [] = next_need pool chosen ≡ None
 IsWalkFrom pool selection chosen (c ∷ rest) =
     (need : Need) × (next_need pool chosen ≡ Some need) × IsBestMember pool selection need c
     × IsWalkFrom pool selection (chosen ++ c ∷ []) rest
 
--- from the first need on
+-- the walk of a selection, from the first need on
 abbrev pub IsWalk : SealedPool → List ℕ → List ℕ → Type 0
 IsWalk pool selection walk = IsWalkFrom pool selection [] walk
 
--- behind some choices: at the first place where the two differ, the first has the better rank
+-- behind some choices: of the rests of two walks the first has the better rank at the first place
+-- where they differ, for the need there
 abbrev pub ComesBeforeFrom : SealedPool → List ℕ → List ℕ → List ℕ → Type 0
 ComesBeforeFrom pool chosen [] other = ⊥
 ComesBeforeFrom pool chosen (c ∷ rest) [] = ⊥
@@ -149,12 +154,12 @@ ComesBeforeFrom pool chosen (c ∷ rest) (d ∷ other) =
     ((need : Need) × (next_need pool chosen ≡ Some need) × (is_better pool need c d ≡ true))
     ⊎ ((c ≡ d) × ComesBeforeFrom pool (chosen ++ c ∷ []) rest other)
 
--- from the first need on
+-- of two walks the first comes before the other, from the first need on
 abbrev pub ComesBefore : SealedPool → List ℕ → List ℕ → Type 0
 ComesBefore pool walk other = ComesBeforeFrom pool [] walk other
 
--- it satisfies the world, is its own walk, and comes before the walk of each other satisfying
--- selection
+-- the first selection: it satisfies the world, is its own walk, and comes before the walk of each
+-- other satisfying selection
 pub record IsFirstSelection (pool : SealedPool) (trace : List ℕ) : Type 0 where
   pub satisfies : IsSatisfying pool trace
   pub walked : IsWalk pool trace trace

@@ -1,4 +1,7 @@
 //! A list of candidates, each once, that answers at once whether it has one.
+//! No rule of a document: the choices and the reason of a dead end are such lists
+//! (`docs/selection.md`, "How the search works"), and are asked again and again whether they have a
+//! candidate.
 ghost use Rattle.std.specs.Prelude.{◌≡◌, ◌<◌, ◌^◌, ℕ, List, [], ◌∷◌, ◌++◌, false, length, MatchBool, OnOk, Some, vec_len, slice_index_or};
 ghost use Rattle.pool_core.specs.Options.{IsIn};
 ghost use Rattle.solve_core.specs.Reasons.{HasSameMembers};
@@ -11,7 +14,10 @@ use std::marker::Model;
 /// all candidates, which is set where it is one of them.
 #[derive(Drop)]
 pub(crate) struct CandidateSet {
+    /// The places of the candidates, in the order in which they came.
     ids: Vec<CandId>,
+    /// For each place in the list of all candidates, up to the greatest that was ever in the set,
+    /// whether the set has it.
     marks: Vec<bool>,
 }
 
@@ -27,7 +33,7 @@ impl Model for CandidateSet {
 }
 
 impl CandidateSet {
-    /// No candidates.
+    /// A set without candidates.
     pub(crate) fn new(alloc: Global) -> CandidateSet
         ensures { result ≡ [] }
     {
@@ -37,7 +43,7 @@ impl CandidateSet {
         }
     }
 
-    /// Whether a candidate is one of them.
+    /// Whether the set has a candidate.
     pub(crate) fn has(&self, id: CandId) -> bool
         ensures { MatchBool result (IsIn id self.now) (IsIn id self.now → ⊥) }
     {
@@ -49,7 +55,7 @@ impl CandidateSet {
         }
     }
 
-    /// Puts a candidate behind the others, unless it is one of them.
+    /// Puts a candidate behind the others of the set, unless the set has it.
     pub(crate) fn add(&mut self, id: CandId) -> Result<(), AllocError>
         ensures { OnOk result (HasSameMembers self.new (self.old ++ id ∷ [])) }
     {
@@ -60,7 +66,7 @@ impl CandidateSet {
         Ok(())
     }
 
-    /// Puts candidates behind the others, each that is none of them.
+    /// Puts those of some candidates behind the others that the set has not.
     pub(crate) fn add_all(&mut self, ids: &[CandId]) -> Result<(), AllocError>
         ensures { OnOk result (HasSameMembers self.new (self.old ++ ids.now)) }
     {
@@ -70,7 +76,8 @@ impl CandidateSet {
         Ok(())
     }
 
-    /// Puts a candidate behind the others, none of which it is. A refused call changes nothing.
+    /// Puts a candidate behind the others, which the set does not have. A refused call changes
+    /// nothing.
     pub(crate) fn push(&mut self, id: CandId) -> Result<(), AllocError>
         requires { IsIn id self.old → ⊥ }
         ensures { OnOk result (self.new ≡ self.old ++ id ∷ []) }
@@ -82,7 +89,8 @@ impl CandidateSet {
         Ok(())
     }
 
-    /// Takes all away.
+    /// Takes all candidates out of the set. The marks stay long, so that a set which is used again
+    /// makes none anew.
     pub(crate) fn clear(&mut self)
         ensures { self.new ≡ [] }
     {
@@ -91,7 +99,7 @@ impl CandidateSet {
         }
     }
 
-    /// Takes the last one away.
+    /// Takes the last candidate out of the set; an empty set stays empty.
     pub(crate) fn pop(&mut self)
         ensures last { (rest : List ℕ) (last : ℕ) → self.old ≡ rest ++ last ∷ [] →
             self.new ≡ rest }
@@ -99,13 +107,14 @@ impl CandidateSet {
     {
         if let Some(id) = self.ids.pop() {
             let place = id.place as usize;
+            // Each candidate of the set has a mark.
             if place < self.marks.len() {
                 self.marks[place] = false;
             }
         }
     }
 
-    /// The last one.
+    /// The last candidate of the set; none of an empty set.
     pub(crate) fn last(&self) -> Option<CandId>
         ensures { (rest : List ℕ) (last : ℕ) → self.now ≡ rest ++ last ∷ [] →
             result ≡ Some last }
@@ -113,7 +122,7 @@ impl CandidateSet {
         self.ids.last().copied()
     }
 
-    /// The candidates, in the order in which they came.
+    /// The candidates of the set, in the order in which they came.
     pub(crate) fn as_slice(&self) -> &[CandId]
         ensures { result.now ≡ self.now }
     {

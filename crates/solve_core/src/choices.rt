@@ -1,4 +1,6 @@
 //! The choices so far: what they raise, and the first need that none of them meets.
+//! The rules stand in `docs/selection.md`: "Which selection is taken" (the order in which needs are
+//! met), and "What satisfies world", 4 (install-if).
 ghost use Rattle.std.specs.Prelude.{◌≡◌, ◌≤◌, ℕ, List, [], ◌∷◌, ◌++◌, ◌<◌, ◌^◌, length, IfSome, false, true, IfOk, OnOk, MatchOption, MatchBool, None, Some, ◌+◌, option_copied, slice_get, option_to_list};
 ghost use Rattle.std.specs.List.{find};
 ghost use Rattle.dep_core.specs.Dependency.{Dependency};
@@ -34,14 +36,23 @@ use std::marker::Model;
 /// cursors stood before it.
 #[derive(Drop)]
 pub(crate) struct Choices<'p> {
+    /// What memory comes from.
     alloc: Global,
+    /// The candidates, under their world.
     pool: &'p Sealed<'p>,
+    /// The choices, in the order chosen.
     choices: CandidateSet,
+    /// The dependencies that world and the choices raise, in the order in which they are to be met.
     queue: Vec<RaisedDep<'p>>,
+    /// How many of the queue are known to be met, from the front.
     cursor: usize,
+    /// The candidates whose install-if can come to apply, in byte order of their names.
     install_ifs: InstallIfs<'p>,
+    /// How many of the install-ifs are known not to ask, from the front: a rank.
     asking_cursor: usize,
+    /// The conflicts of the choices, by their names.
     conflicts: Conflicts<'p>,
+    /// Where the queue and the cursors stood before each choice.
     checkpoints: Vec<Checkpoint>,
 }
 
@@ -93,6 +104,7 @@ impl<'p> Choices<'p> {
         self.conflicts.add(&depends, id)?;
         self.checkpoints.push(before)?;
         self.choices.push(id)?;
+        // Only what waits for a name of the new choice can ask now that did not before.
         self.asking_cursor = self.least_rank_asking(&details);
         Ok(())
     }
@@ -106,6 +118,7 @@ impl<'p> Choices<'p> {
             choices_of self.new ≡ rest }
     {
         if let Some(before) = self.checkpoints.pop() {
+            // The conflicts go first, while the set still has the choice that they are of.
             self.take_conflicts_away();
             self.choices.pop();
             self.queue.truncate(before.queue_len);
@@ -114,7 +127,7 @@ impl<'p> Choices<'p> {
         }
     }
 
-    // Takes the conflicts of the latest choice away.
+    // Takes the conflicts of the latest choice out of the list of conflicts.
     fn take_conflicts_away(&mut self)
         requires { AreListed (pool_of self.old) (choices_of self.old) self.old.conflicts }
         ensures others { self.new ≡ record self.old { conflicts = self.new.conflicts } }
@@ -128,12 +141,15 @@ impl<'p> Choices<'p> {
         }
     }
 
-    /// The frame of the first need that no choice meets.
+    /// The frame of the first need that no choice meets; none where each need is met. The call
+    /// moves the cursors alone.
     pub(crate) fn next_frame(&mut self) -> Result<Option<Frame>, AllocError>
         requires { IsConsistent self.old }
         ensures consistent { IsConsistent self.new }
         ensures pool { pool_of self.new ≡ pool_of self.old }
         ensures choices { choices_of self.new ≡ choices_of self.old }
+        // The options that are left are fewer than a digit of the measure counts (*base* of
+        // `Measure`).
         ensures few { IfOk result (λ found. IfSome found (λ frame. length frame.1 < 2 ^ 64)) }
         ensures frame { IfOk result (λ found. MatchOption found (next_need (pool_of self.old)
             (choices_of self.old) ≡ None) (λ frame. IsFrameOf (pool_of self.old)
@@ -152,7 +168,8 @@ impl<'p> Choices<'p> {
         }
     }
 
-    // Moves the cursor to the first raised dependency that no choice meets.
+    // Moves the cursor of the queue to the first raised dependency that no choice meets, or to the
+    // end.
     fn skip_met(&mut self)
         requires { IsConsistent self.old }
         ensures consistent { IsConsistent self.new }
@@ -167,7 +184,7 @@ impl<'p> Choices<'p> {
         }
     }
 
-    // Whether the queue has a dependency at the cursor that a choice meets.
+    // Whether the queue has a dependency at the cursor, and a choice meets that.
     fn is_front_met(&self) -> bool
         requires { IsConsistent self.now }
         ensures { MatchBool result (AreMet (pool_of self.now) (choices_of self.now)
@@ -184,7 +201,7 @@ impl<'p> Choices<'p> {
         }
     }
 
-    // The raised dependency at the cursor, if the queue has one there.
+    // The raised dependency at the cursor of the queue, if the queue has one there.
     fn front(&self) -> Option<&RaisedDep<'p>>
         ensures { option_copied result ≡ slice_get self.now.queue.items self.now.cursor }
     {
@@ -200,6 +217,7 @@ impl<'p> Choices<'p> {
         ensures consistent { IsConsistent self.new }
         ensures pool { pool_of self.new ≡ pool_of self.old }
         ensures choices { choices_of self.new ≡ choices_of self.old }
+        // As above: fewer than a digit of the measure counts.
         ensures few { IfOk result (λ found. IfSome found (λ frame. length frame.1 < 2 ^ 64)) }
         ensures frame { IfOk result (λ found. MatchOption found (next_need (pool_of self.old)
             (choices_of self.old) ≡ None) (λ frame. IsFrameOf (pool_of self.old)
@@ -215,7 +233,7 @@ impl<'p> Choices<'p> {
         }
     }
 
-    // Moves the cursor of the install-ifs to the first that asks.
+    // Moves the cursor of the install-ifs to the first candidate that asks, or to the end.
     fn skip_unasked(&mut self)
         requires { IsConsistent self.old }
         ensures consistent { IsConsistent self.new }
@@ -246,12 +264,14 @@ impl<'p> Choices<'p> {
         }
     }
 
-    // The frame of the name of the candidate that asks for the byte-least one. It is asked for only
-    // where each raised dependency is met.
+    // The frame of the name of a candidate that asks, of which the name is the byte-least one. It
+    // is asked for only where each raised dependency is met. The need is raised by the choices that
+    // meet the entries of the install-if.
     fn frame_named(&self, id: CandId) -> Result<Frame, AllocError>
         requires met { find (is_unmet_dep (pool_of self.now) (choices_of self.now)) (queue_of
             (pool_of self.now) (choices_of self.now)) ≡ None }
         requires least { IsLeastAsking (pool_of self.now) (choices_of self.now) id }
+        // As above: fewer than a digit of the measure counts.
         ensures few { IfOk result (λ frame. length frame.1 < 2 ^ 64) }
         ensures frame { IfOk result (λ frame. IsFrameOf (pool_of self.now)
             (choices_of self.now) frame) }
@@ -264,7 +284,7 @@ impl<'p> Choices<'p> {
         Ok(Frame::new(self.alloc, options.into_ids(), by))
     }
 
-    // Whether the candidate of a rank asks.
+    // Whether the candidate of a rank asks; there is none where no candidate has the rank.
     fn rank_asks(&self, rank: usize) -> bool
         ensures { result ≡ rank_asks (pool_of self.now) (choices_of self.now)
             (install_ifs_of self.now) rank }
@@ -275,8 +295,9 @@ impl<'p> Choices<'p> {
         }
     }
 
-    // The cursor of the install-ifs, or the least rank in front of it that asks and waits for a
-    // name that the candidate offers.
+    // Where the cursor of the install-ifs is to stand once the candidate is chosen: where it
+    // stands, or at the least rank in front of it that asks now and waits for a name which the
+    // candidate offers. A new choice can let only those ask that wait for one of its names.
     fn least_rank_asking(&self, details: &Details<'_>) -> usize
         ensures less { result ≤ self.now.asking_cursor }
         ensures unasked { (name : List ℕ) (rank : ℕ) → offers_name name details.now ≡ true →
@@ -288,7 +309,8 @@ impl<'p> Choices<'p> {
         self.least_rank_provided(&details.provides(), own)
     }
 
-    // A rank, or the least one in front of it that asks and waits for a name of these entries.
+    // The cursor, or the least rank in front of it that asks and waits for the name of one of these
+    // entries of provides.
     fn least_rank_provided(&self, provides: &Deps<'_>, cursor: usize) -> usize
         ensures less { result ≤ cursor }
         ensures unasked { (d : Dependency) (rank : ℕ) → IsIn d provides.now →
@@ -303,7 +325,7 @@ impl<'p> Choices<'p> {
         least
     }
 
-    // A rank, or the least one in front of it that asks and waits for a name.
+    // The cursor, or the least rank in front of it that asks and waits for a name.
     fn least_rank_waiting(&self, name: &[u8], cursor: usize) -> usize
         ensures less { result ≤ cursor }
         ensures unasked { (rank : ℕ) →
@@ -318,7 +340,7 @@ impl<'p> Choices<'p> {
         least
     }
 
-    // The lesser of two ranks, of which the first counts only where it asks.
+    // The lesser of two ranks, of which the first counts only where its candidate asks.
     fn lesser_rank(&self, rank: usize, least: usize) -> usize
         ensures less { result ≤ least }
         ensures unasked { rank < result → rank_asks (pool_of self.now) (choices_of self.now)
@@ -330,7 +352,7 @@ impl<'p> Choices<'p> {
         least
     }
 
-    /// The choices, in their order.
+    /// The choices, in the order chosen, as the answer of the search.
     pub(crate) fn trace(&self, alloc: Global) -> Result<Trace, AllocError>
         ensures { IfOk result (λ trace. trace ≡ choices_of self.now) }
     {
@@ -338,7 +360,8 @@ impl<'p> Choices<'p> {
     }
 }
 
-// The frame of a raised dependency.
+// The frame of a raised dependency: all its options are left, and the choice that has the
+// dependency raised it; an entry of world is raised by none.
 fn frame_of(alloc: Global, pool: &Sealed<'_>, raised: &RaisedDep<'_>) -> Result<Frame, AllocError>
     ensures few { IfOk result (λ frame. length frame.1 < 2 ^ 64) }
     ensures value { IfOk result (λ frame. frame ≡ (

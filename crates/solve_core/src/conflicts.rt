@@ -1,5 +1,7 @@
-//! The conflicts of the choices by their names, and what excludes a further candidate: a choice
-//! that has a conflict which it meets, that meets one of its own, or that occupies a name of its.
+//! The conflicts of the choices by their names, and the choice among those that have a conflict
+//! which a further candidate meets.
+//! The rule stands in `docs/selection.md`, "What satisfies world", 2: no conflict of a selected
+//! package is met by another one.
 ghost use Rattle.std.specs.Prelude.{◌≡◌, ◌∷◌, ◌++◌, ℕ, List, [], OnOk, find};
 ghost use Rattle.std.specs.Option.{option_map};
 ghost use Rattle.dep_core.specs.Dependency.{Dependency};
@@ -17,7 +19,9 @@ use std::marker::Model;
 /// A conflict, and the choice that has it.
 #[derive(Drop)]
 pub(crate) struct ListedConflict<'p> {
+    /// The choice that has the conflict.
     by: CandId,
+    /// The conflict.
     dep: Dep<'p>,
 }
 
@@ -32,14 +36,14 @@ impl<'p> Model for ListedConflict<'p> {
 }
 
 impl<'p> ListedConflict<'p> {
-    // The choice that has it.
+    // The choice that has the conflict.
     fn by(&self) -> CandId
         ensures { result ≡ self.now.0 }
     {
         self.by
     }
 
-    // Whether a candidate meets it.
+    // Whether a candidate meets the conflict.
     fn is_met_by(&self, details: &Details<'_>) -> bool
         ensures { result ≡ meets_dependency self.now.1 details.now }
     {
@@ -50,11 +54,12 @@ impl<'p> ListedConflict<'p> {
 /// The conflicts of the choices, by their names, in the order of the choices.
 #[derive(Drop)]
 pub(crate) struct Conflicts<'p> {
+    /// The conflicts of each name.
     by_name: NameTable<'p, ListedConflict<'p>>,
 }
 
 impl<'p> Conflicts<'p> {
-    /// No conflicts.
+    /// A list without conflicts.
     pub(crate) fn new(alloc: Global) -> Conflicts<'p>
         ensures { result.by_name ≡ [] }
     {
@@ -63,7 +68,8 @@ impl<'p> Conflicts<'p> {
         }
     }
 
-    /// Adds the conflicts of a candidate.
+    /// Adds the conflicts that are among a candidate's dependencies, behind the others of their
+    /// names.
     pub(crate) fn add(&mut self, depends: &Deps<'p>, by: CandId) -> Result<(), AllocError>
         ensures { OnOk result ((name : List ℕ) → items_of self.new.by_name name
             ≡ items_of self.old.by_name name ++ conflicts_named name by depends.now) }
@@ -74,7 +80,7 @@ impl<'p> Conflicts<'p> {
         Ok(())
     }
 
-    // Adds a dependency of a candidate, if it is a conflict.
+    // Adds a dependency of a candidate to the list, if it is a conflict.
     fn add_one(&mut self, dep: Dep<'p>, by: CandId) -> Result<(), AllocError>
         ensures { OnOk result ((name : List ℕ) → items_of self.new.by_name name
             ≡ items_of self.old.by_name name
@@ -87,7 +93,8 @@ impl<'p> Conflicts<'p> {
         Ok(())
     }
 
-    /// Takes the conflicts of the candidate away that was added last.
+    /// Takes the conflicts of the candidate out that was added last. In the clause, `front` is what
+    /// the list had for each name before that candidate was added.
     pub(crate) fn take_away(&mut self, depends: &Deps<'_>)
         ensures { (by : ℕ) (front : List ℕ → List (ℕ × Dependency)) →
             ((name : List ℕ) → items_of self.old.by_name name
@@ -95,13 +102,14 @@ impl<'p> Conflicts<'p> {
             (name : List ℕ) → items_of self.new.by_name name ≡ front name }
     {
         let mut left = depends.len();
+        // From the last on, so that each is then the last one of its name.
         while left > 0 {
             left -= 1;
             self.take_one_away(&depends.get(left));
         }
     }
 
-    // Takes the last conflict of a name away, if the dependency is a conflict.
+    // Takes the last conflict of the dependency's name out, if the dependency is a conflict.
     fn take_one_away(&mut self, dep: &Dep<'_>)
         ensures { (by : ℕ) (front : List ℕ → List (ℕ × Dependency)) →
             ((name : List ℕ) → items_of self.old.by_name name
@@ -113,7 +121,7 @@ impl<'p> Conflicts<'p> {
         }
     }
 
-    /// A choice that has a conflict of a name which a candidate meets.
+    /// The first choice that has a conflict of a name which a candidate meets.
     pub(crate) fn choice_against(&self, name: &[u8], details: &Details<'_>) -> Option<CandId>
         ensures { result ≡ option_map (λ (c : ℕ × Dependency). c.0)
             (find (λ (c : ℕ × Dependency). meets_dependency c.1 details.now)

@@ -1,4 +1,6 @@
 //! A need under way: the options that are ruled out, each with its reason, and those that are left.
+//! What a reason is, and when an option is ruled out, stands in `docs/selection.md`, "How the
+//! search works"; the words *frame* and *turn* in `docs/names.md`, "Choosing packages".
 ghost use Rattle.std.specs.Prelude.{◌≡◌, [], ◌∷◌, ◌++◌, map, length, ◌<◌, ◌^◌, MatchOption, OnOk, IfSome, Some, slice_get};
 
 use pool_core::CandId;
@@ -8,7 +10,9 @@ use std::marker::Model;
 /// An option that is ruled out, and why: no satisfying selection holds it and all of the others.
 #[derive(Drop)]
 pub(crate) struct RuledOutOption {
+    /// The option.
     option: CandId,
+    /// The other members of the reason.
     others: Vec<CandId>,
 }
 
@@ -21,14 +25,14 @@ impl Model for RuledOutOption {
 }
 
 impl RuledOutOption {
-    /// The option.
+    /// The option that is ruled out.
     pub(crate) fn option(&self) -> CandId
         ensures { result ≡ self.now.0 }
     {
         self.option
     }
 
-    /// The other members of the reason.
+    /// The other members of the reason against the option.
     pub(crate) fn others(&self) -> &[CandId]
         ensures { result.now ≡ self.now.1 }
     {
@@ -40,9 +44,15 @@ impl RuledOutOption {
 /// is ruled out with its reason; and the choices that raised the need.
 #[derive(Drop)]
 pub(crate) struct Frame {
+    /// The options that are ruled out, in the order in which they were, each with the other members
+    /// of its reason.
     ruled_out: Vec<RuledOutOption>,
+    /// All options of the need, best first.
     options: Vec<CandId>,
+    /// The index, counted from 0, of the first option that is left; the one before it may be taken.
     next: usize,
+    /// The choices that raised the need: that have the dependency, or that meet the entries of the
+    /// install-if.
     by: Vec<CandId>,
 }
 
@@ -51,6 +61,7 @@ impl Model for Frame {
 
     ghost Value = { List (ℕ × List ℕ) × List ℕ × List ℕ };
 
+    // In this order: what is ruled out, what is left, what raised the need.
     ghost view = { λ f. (f.ruled_out.items, drop f.next f.options.items, f.by.items) };
 }
 
@@ -68,7 +79,7 @@ impl Frame {
         }
     }
 
-    /// The next option that is left.
+    /// Takes the best option that is left, if one is.
     pub(crate) fn take_next(&mut self) -> Option<CandId>
         ensures ruled_out { self.new.0 ≡ self.old.0 }
         ensures left { MatchOption result ((self.old.1 ≡ []) × (self.new.1
@@ -83,7 +94,7 @@ impl Frame {
         Some(id)
     }
 
-    /// Rules an option out.
+    /// Rules the option out that was taken last, with the other members of the reason against it.
     pub(crate) fn rule_out(&mut self, option: CandId, others: Vec<CandId>) -> Result<(), AllocError>
         ensures { OnOk result (self.new ≡ (
           self.old.0 ++
@@ -103,14 +114,14 @@ impl Frame {
         self.by.as_slice()
     }
 
-    /// The options that are ruled out, with their reasons.
+    /// The options that are ruled out, each with the other members of its reason.
     pub(crate) fn ruled_out(&self) -> &[RuledOutOption]
         ensures { result.now ≡ self.now.0 }
     {
         self.ruled_out.as_slice()
     }
 
-    /// One of them, if there are so many.
+    /// The option that was ruled out at an index, counted from 0, if there are so many.
     pub(crate) fn ruled_out_at(&self, i: usize) -> Option<&RuledOutOption>
         ensures { IfSome result (λ ruled_out. slice_get self.now.0 i ≡ Some ruled_out.now) }
     {

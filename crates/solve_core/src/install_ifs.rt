@@ -1,4 +1,6 @@
 //! The candidates whose install-if can come to apply, and which of them wait for a name.
+//! The rules stand in `docs/selection.md`: "What satisfies world", 4 (when an install-if applies),
+//! and "Which selection is taken" (names are asked for in byte order).
 ghost use Rattle.std.specs.Prelude.{◌≡◌, ◌≤◌, ◌<◌, ℕ, List, length, get_or, true, false, IfOk, OnOk, slice_get};
 ghost use Rattle.dep_core.specs.Dependency.{Dependency};
 ghost use Rattle.pool_core.specs.Options.{AreMembers, IsIn};
@@ -15,12 +17,15 @@ use std::cmp::Ordering;
 /// name, the ranks in this order of those that have an entry of it.
 #[derive(Drop)]
 pub(crate) struct InstallIfs<'p> {
+    /// The candidates, in byte order of their names; the place here, counted from 0, is the rank of
+    /// a candidate.
     by_name: Vec<CandId>,
+    /// For each name, the ranks of the candidates whose install-if has an entry of the name.
     waiting: NameTable<'p, usize>,
 }
 
 impl<'p> InstallIfs<'p> {
-    /// Those of a pool.
+    /// The candidates of a pool whose install-if can come to apply.
     pub(crate) fn new(alloc: Global, pool: &'p Sealed<'p>) -> Result<InstallIfs<'p>, AllocError>
         ensures { IfOk result (λ found. AreInstallIfs pool.entry.now found.by_name.items
             found.waiting) }
@@ -33,14 +38,14 @@ impl<'p> InstallIfs<'p> {
         Ok(InstallIfs { by_name, waiting })
     }
 
-    /// The candidate of a rank, if there are so many.
+    /// The candidate of a rank, counted from 0, if there are so many.
     pub(crate) fn at(&self, rank: usize) -> Option<CandId>
         ensures { result ≡ slice_get self.now.by_name.items rank }
     {
         self.by_name.get(rank).copied()
     }
 
-    /// The ranks of those that have an entry of a name.
+    /// The ranks of the candidates whose install-if has an entry of a name.
     pub(crate) fn waiting_for(&self, name: &[u8]) -> &[usize]
         ensures { result.now ≡ items_of self.now.waiting name.now }
     {
@@ -62,14 +67,14 @@ fn in_byte_order(alloc: Global, pool: &Sealed<'_>) -> Result<Vec<CandId>, AllocE
     Ok(ids)
 }
 
-// The order of two candidates' names.
+// The byte order of the names of two candidates.
 fn by_names(pool: &Sealed<'_>, a: CandId, b: CandId) -> Ordering
     ensures { result ≡ bytes_cmp (name_at pool.now a) (name_at pool.now b) }
 {
     name_at(pool, a).cmp(&name_at(pool, b))
 }
 
-// The name of a candidate.
+// The name of the candidate at a place; empty where there is none.
 fn name_at<'a>(pool: &'a Sealed<'_>, id: CandId) -> &'a [u8]
     ensures { result.now ≡ name_at pool.entry.now id }
 {
@@ -79,7 +84,7 @@ fn name_at<'a>(pool: &'a Sealed<'_>, id: CandId) -> &'a [u8]
     }
 }
 
-// Lets the name of each entry of a candidate's install-if lead to its rank.
+// Puts the rank of a candidate behind those of the name of each entry of its install-if.
 fn add_install_if<'p>(
     waiting: &mut NameTable<'p, usize>,
     pool: &'p Sealed<'p>,

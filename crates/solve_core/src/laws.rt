@@ -1,5 +1,7 @@
 //! What the definitions of selections and walks keep, each as the contract of a function that does
 //! nothing.
+//! The rules stand in `docs/selection.md`, "Which selection is taken": "the selection that is taken
+//! is the *first* one" and what follows there.
 ghost use Rattle.std.specs.Prelude.{◌≡◌, ◌⊎◌, ℕ, true, List, [], ◌∷◌, ◌++◌, Some};
 ghost use Rattle.pool_core.specs.Candidates.{Need};
 ghost use Rattle.pool_core.specs.Rank.{SealedPool, is_better, meets_at};
@@ -46,7 +48,7 @@ pub fn walks_stand_in_one_order()
     rank_is_total();
 }
 
-/// There is at most one first selection.
+/// There is at most one first selection: the rule of the document picks one.
 pub fn the_first_selection_is_unique()
     ensures { (pool : SealedPool) (trace other : List ℕ) →
         IsFirstSelection pool trace → IsFirstSelection pool other → trace ≡ other }
@@ -55,7 +57,8 @@ pub fn the_first_selection_is_unique()
     rank_is_total();
 }
 
-/// Where any selection satisfies the world, there is a first one.
+/// Where any selection satisfies the world, there is a first one: the search may answer that there
+/// is none only where none satisfies.
 pub fn a_first_selection_exists()
     ensures { (pool : SealedPool) (selection : List ℕ) →
         IsSatisfying pool selection → (trace : List ℕ) × IsFirstSelection pool trace }

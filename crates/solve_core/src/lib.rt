@@ -1,7 +1,9 @@
 //! The first preferred selection of a world: `solve` answers it in the order of its walk, or that
 //! no selection satisfies the world. A sealed pool comes in, places of candidates go out. The
 //! contract cites `specs/Selection.antt`: what satisfies, the walk of a selection, which of two
-//! walks comes before, and the first selection. `docs/selection.md` tells it in plain words.
+//! walks comes before, and the first selection.
+//! The rules stand in `docs/selection.md`, "What satisfies world", and "Which selection is taken";
+//! "How the search works" there says how the first selection is found.
 #![tactic(auto)]
 
 mod candidate_set;

@@ -1,4 +1,6 @@
 //! Items by name, each name's in the order in which they were added. It borrows the names.
+//! No rule of a document: `conflicts` keeps the conflicts of the choices in such a table, and
+//! `install_ifs` the ranks that wait for a name.
 ghost use Rattle.std.specs.Prelude.{◌≡◌, ℕ, List, [], ◌∷◌, ◌++◌, OnOk, if◌then◌else◌};
 ghost use Rattle.std.specs.Str.{bytes_eq};
 ghost use Rattle.solve_core.specs.NameTable.{items_of, without_last};
@@ -10,7 +12,9 @@ use std::marker::Model;
 /// The items of each name.
 #[derive(Drop)]
 pub(crate) struct NameTable<'p, T> {
+    /// What memory comes from.
     alloc: Global,
+    /// The items of each name, the earliest first.
     by_name: IndexMap<&'p [u8], Vec<T>>,
 }
 
@@ -24,7 +28,7 @@ impl<'p, T> Model for NameTable<'p, T> {
 }
 
 impl<'p, T: Drop> NameTable<'p, T> {
-    /// No items.
+    /// A table without items.
     pub(crate) fn new(alloc: Global) -> NameTable<'p, T>
         ensures { result ≡ [] }
     {
@@ -34,7 +38,7 @@ impl<'p, T: Drop> NameTable<'p, T> {
         }
     }
 
-    /// The items of a name.
+    /// The items of a name; none where no item of the name was added.
     pub(crate) fn get(&self, name: &[u8]) -> &[T]
         ensures { result.now ≡ items_of self.now name.now }
     {
@@ -44,7 +48,7 @@ impl<'p, T: Drop> NameTable<'p, T> {
         }
     }
 
-    /// Adds an item behind those of a name.
+    /// Adds an item behind those of a name; other names keep theirs.
     pub(crate) fn add(&mut self, name: &'p [u8], item: T) -> Result<(), AllocError>
         ensures { OnOk result ((other : List ℕ) → items_of self.new other
             ≡ items_of self.old other
@@ -64,7 +68,7 @@ impl<'p, T: Drop> NameTable<'p, T> {
         }
     }
 
-    /// Takes the last item of a name away.
+    /// Takes the last item of a name out, if there is one; other names keep theirs.
     pub(crate) fn pop(&mut self, name: &[u8])
         ensures { (other : List ℕ) → items_of self.new other
             ≡ (if bytes_eq other name.now then without_last (items_of self.old other)

@@ -1,4 +1,6 @@
-//! Which choices meet a need, and which install-if applies.
+//! Which choices meet a need, which install-if applies, and which choice occupies a name.
+//! The rules stand in `docs/selection.md`: "What there is to choose from" (what meets a
+//! dependency), and "What satisfies world", 3 (occupied names) and 4 (install-if).
 ghost use Rattle.std.specs.Prelude.{◌≡◌, ℕ, false, true, MatchBool, MatchOption, IfOk, OnOk};
 ghost use Rattle.dep_core.specs.Meets.{dependency};
 ghost use Rattle.pool_core.specs.Candidates.{entry, meets_need, need_name, occupies_name};
@@ -31,7 +33,7 @@ pub(crate) fn choice_meeting(
     choice_among(pool, choices, offers, need)
 }
 
-// The candidates that offer the name of a need.
+// The offers of the need's name: only these candidates can meet the need.
 fn offers_for<'a>(pool: &'a Sealed<'_>, need: &NeedRef<'_>) -> &'a [CandId]
     ensures { result.now ≡ places_offering (need_name (need_by need.now))
         pool.entry.now.candidates }
@@ -61,7 +63,7 @@ fn choice_among(
     None
 }
 
-// Whether the candidate is a choice that meets the need.
+// Whether the candidate is a choice, and meets the need.
 fn is_choice_meeting(
     pool: &Sealed<'_>,
     choices: &CandidateSet,
@@ -78,7 +80,7 @@ fn is_choice_meeting(
     false
 }
 
-// Whether a candidate meets a need.
+// Whether the candidate at a place meets a need.
 fn meets(pool: &Sealed<'_>, id: CandId, need: &NeedRef<'_>) -> bool
     ensures { result ≡ meets_at pool.now id (need_by need.now) }
 {
@@ -88,8 +90,8 @@ fn meets(pool: &Sealed<'_>, id: CandId, need: &NeedRef<'_>) -> bool
     }
 }
 
-// The same by what is known of the candidate: a name that an install-if asks for is met by its own
-// name alone.
+// Whether a candidate meets a need, by what is known of it: a name that an install-if asks for is
+// met by the candidate's own name alone.
 fn meets_need(details: &Details<'_>, need: &NeedRef<'_>) -> bool
     ensures { result ≡ meets_need (need_by need.now) details.now }
 {
@@ -99,7 +101,7 @@ fn meets_need(details: &Details<'_>, need: &NeedRef<'_>) -> bool
     }
 }
 
-// Whether a choice meets a need.
+// Whether a choice meets a need; `is_met_by_latest_or_other` answers the same.
 fn is_met(pool: &Sealed<'_>, choices: &CandidateSet, need: &NeedRef<'_>) -> bool
     ensures { result ≡ is_met pool.now choices.now (need_by need.now) }
 {
@@ -130,7 +132,8 @@ fn latest_meets(pool: &Sealed<'_>, choices: &[CandId], need: &NeedRef<'_>) -> bo
     }
 }
 
-/// Whether each entry of a candidate's install-if is met, and no choice has its name.
+/// Whether the candidate at a place asks: each entry of its install-if is met, and no choice has
+/// its name.
 pub(crate) fn asks_for_name(pool: &Sealed<'_>, choices: &CandidateSet, id: CandId) -> bool
     ensures { result ≡ asks_at pool.now choices.now id }
 {
@@ -140,7 +143,8 @@ pub(crate) fn asks_for_name(pool: &Sealed<'_>, choices: &CandidateSet, id: CandI
     }
 }
 
-// Whether the install-if of a candidate is met, and no choice has its name.
+// Whether a candidate asks, by what is known of it: each entry of its install-if is met, and no
+// choice has its name.
 fn wants(pool: &Sealed<'_>, choices: &CandidateSet, details: &Details<'_>) -> bool
     ensures { result ≡ asks_for_name pool.now choices.now details.now }
 {
@@ -150,7 +154,7 @@ fn wants(pool: &Sealed<'_>, choices: &CandidateSet, details: &Details<'_>) -> bo
     !is_met(pool, choices, &NeedRef::Named(details.name()))
 }
 
-// Whether each of some dependencies is met.
+// Whether a choice meets each of some dependencies.
 fn all_met(pool: &Sealed<'_>, choices: &CandidateSet, deps: &Deps<'_>) -> bool
     ensures { result ≡ all_met pool.now choices.now deps.now }
 {
@@ -162,14 +166,15 @@ fn all_met(pool: &Sealed<'_>, choices: &CandidateSet, deps: &Deps<'_>) -> bool
     true
 }
 
-// Whether a choice meets a dependency.
+// Whether a choice meets one dependency.
 fn is_dep_met(pool: &Sealed<'_>, choices: &CandidateSet, dep: &Dep<'_>) -> bool
     ensures { result ≡ is_met pool.now choices.now (entry (dependency dep.now)) }
 {
     is_met(pool, choices, &NeedRef::Entry(dep))
 }
 
-/// Choices that meet each of some dependencies which the choices meet.
+/// Of each of some dependencies that a choice meets, one choice that does. Where they all are met,
+/// they are met by these choices alone: so these raised the need of an install-if.
 pub(crate) fn raisers(
     alloc: Global,
     pool: &Sealed<'_>,
@@ -187,7 +192,7 @@ pub(crate) fn raisers(
     Ok(by)
 }
 
-// Adds a choice that meets the dependency, if one does.
+// Adds a choice that meets the dependency to the list `by`, if one does.
 fn push_met(
     by: &mut Vec<CandId>,
     pool: &Sealed<'_>,
@@ -242,7 +247,7 @@ fn occupant_among(
     None
 }
 
-// Whether the candidate is a choice that occupies the name.
+// Whether the candidate is a choice, and occupies the name.
 fn is_choice_occupying(pool: &Sealed<'_>, choices: &CandidateSet, id: CandId, name: &[u8]) -> bool
     ensures { MatchBool result (IsIn id choices.now
         × (is_at pool.now (occupies_name name.now) id ≡ true)) (IsIn id choices.now →
@@ -254,7 +259,7 @@ fn is_choice_occupying(pool: &Sealed<'_>, choices: &CandidateSet, id: CandId, na
     false
 }
 
-// Whether a candidate occupies a name.
+// Whether the candidate at a place occupies a name.
 fn occupies(pool: &Sealed<'_>, id: CandId, name: &[u8]) -> bool
     ensures { result ≡ is_at pool.now (occupies_name name.now) id }
 {

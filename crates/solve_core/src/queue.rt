@@ -1,4 +1,6 @@
 //! The dependencies that world and the choices raise, in the order in which they are to be met.
+//! The rule stands in `docs/selection.md`, "Which selection is taken": first the entries of world,
+//! then the dependencies of each choice in the order chosen; conflicts are no needs.
 ghost use Rattle.std.specs.Prelude.{◌≡◌, ◌∷◌, ◌++◌, [], OnOk, None, Some};
 ghost use Rattle.dep_core.specs.Meets.{dependency};
 ghost use Rattle.solve_core.specs.Queue.{raised_deps};
@@ -11,7 +13,9 @@ use std::marker::Model;
 /// A dependency that has to be met, and the choice that has it, if it is none of world's.
 #[derive(Drop)]
 pub(crate) struct RaisedDep<'p> {
+    /// The dependency, which is no conflict.
     dep: Dep<'p>,
+    /// The choice that has the dependency; none for an entry of world.
     by: Option<CandId>,
 }
 
@@ -25,14 +29,14 @@ impl<'p> Model for RaisedDep<'p> {
 }
 
 impl<'p> RaisedDep<'p> {
-    /// The dependency.
+    /// The dependency that is raised.
     pub(crate) fn dep(&self) -> &Dep<'p>
         ensures { dependency result.now ≡ self.now.0 }
     {
         &self.dep
     }
 
-    /// The choice that has it; of an entry of world there is none.
+    /// The choice that has the dependency; none for an entry of world.
     pub(crate) fn by(&self) -> Option<CandId>
         ensures { result ≡ self.now.1 }
     {
@@ -43,12 +47,15 @@ impl<'p> RaisedDep<'p> {
 /// Where the queue and the cursors stood before a choice.
 #[derive(Clone, Copy)]
 pub(crate) struct Checkpoint {
+    /// How many dependencies the queue had.
     pub(crate) queue_len: usize,
+    /// Where the cursor of the queue stood.
     pub(crate) cursor: usize,
+    /// Where the cursor of the install-ifs stood.
     pub(crate) asking_cursor: usize,
 }
 
-/// Queues what world asks for.
+/// Queues what world asks for: its entries that are no conflicts.
 pub(crate) fn queue_world<'p>(
     queue: &mut Vec<RaisedDep<'p>>,
     world: &'p World,
@@ -77,7 +84,8 @@ pub(crate) fn queue_all<'p>(
     Ok(())
 }
 
-// Puts a dependency behind the others, unless it is a conflict.
+// Puts a dependency behind the others of the queue, unless it is a conflict; `by` is the choice
+// that has it.
 fn queue_one<'p>(
     queue: &mut Vec<RaisedDep<'p>>,
     dep: Dep<'p>,

@@ -1,4 +1,5 @@
 //! The search: it takes options, rules options out, and steps back at a dead end.
+//! The rule stands in `docs/selection.md`, "How the search works".
 ghost use Rattle.std.specs.Prelude.{◌≡◌, ◌<◌, ◌^◌, ◌≤◌, ◌==◌, not, filter, ℕ, [], ◌∷◌, ◌++◌, false, true, length, IfOk, OnOk, IfSome, MatchOption, None, Some, slice_get};
 ghost use Rattle.pool_core.specs.Options.{IsIn};
 ghost use Rattle.solve_core.specs.Selection.{AreMembers, exclude_each_other, next_need};
@@ -15,10 +16,12 @@ use pool_core::{CandId, Sealed};
 use std::alloc::{AllocError, Global};
 use std::marker::Model;
 
-/// A need that was met, and the choice that meets it.
+/// A need that was met: its frame, and the choice that was taken from it.
 #[derive(Drop)]
 pub(crate) struct Turn {
+    /// The frame of the need.
     frame: Frame,
+    /// The choice that was taken from the frame, the latest of its options that were taken.
     choice: CandId,
 }
 
@@ -27,11 +30,13 @@ impl Model for Turn {
 
     ghost Value = { (List (ℕ × List ℕ) × List ℕ × List ℕ) × ℕ };
 
+    // In this order: the frame, and the choice.
     ghost view = { λ turn. (turn.frame, turn.choice) };
 }
 
 impl Turn {
-    // One of the options ruled out there, if there are so many.
+    // The option that was ruled out at an index of this turn's frame, counted from 0, if there are
+    // so many.
     fn ruled_out_at(&self, i: usize) -> Option<&RuledOutOption>
         ensures { IfSome result (λ ruled_out. slice_get self.now.0.0 i ≡ Some ruled_out.now) }
     {
@@ -43,17 +48,25 @@ impl Turn {
 /// It is looked at again before it is used, so it may be stale.
 #[derive(Clone, Copy)]
 struct Hint {
+    /// The number of the turn, counted from 0; the latest one's frame may still be under way.
     turn: usize,
+    /// The index of the option among those that are ruled out there, counted from 0.
     place: usize,
 }
 
 /// A search under way, with the set in which the reason of each dead end is made.
 #[derive(Drop)]
 pub(crate) struct Search<'p> {
+    /// What memory comes from.
     alloc: Global,
+    /// The choices so far, and what they raise.
     chosen: Choices<'p>,
+    /// The turns so far, one for each choice.
     turns: Vec<Turn>,
+    /// For each place in the list of candidates, up to the greatest that was ruled out, where that
+    /// candidate was ruled out last.
     hints: Vec<Option<Hint>>,
+    /// The members of the reason of the latest dead end; the set is used again for the next one.
     reason: CandidateSet,
 }
 
@@ -79,12 +92,14 @@ impl<'p> Search<'p> {
         })
     }
 
-    /// The frame of the first need that no choice meets.
+    /// The frame of the first need that no choice meets; none where each need is met.
     pub(crate) fn next_frame(&mut self) -> Result<Option<Frame>, AllocError>
         requires { IsSearch self.old.chosen self.old.turns.items }
         ensures search { IsSearch self.new.chosen self.new.turns.items }
         ensures pool { pool_of self.new.chosen ≡ pool_of self.old.chosen }
         ensures turns { self.new.turns.items ≡ self.old.turns.items }
+        // The options that are left are fewer than a digit of the measure counts (*base* of
+        // `Measure`).
         ensures few { IfOk result (λ found. IfSome found (λ frame. length frame.1 < 2 ^ 64)) }
         ensures frame { IfOk result (λ found. MatchOption found (next_need
             (pool_of self.new.chosen) (choices_of self.new.chosen)
@@ -95,7 +110,7 @@ impl<'p> Search<'p> {
         Ok(found)
     }
 
-    /// The choices.
+    /// The choices, in the order chosen, as the answer of the search.
     pub(crate) fn trace(&self, alloc: Global) -> Result<Trace, AllocError>
         ensures { IfOk result (λ trace. trace ≡ choices_of self.now.chosen) }
     {
@@ -129,7 +144,7 @@ impl<'p> Search<'p> {
         }
     }
 
-    // A turn, if there are so many.
+    // The turn of a number, counted from 0, if there are so many.
     fn turn_at(&self, i: usize) -> Option<&Turn>
         ensures { IfSome result (λ turn. slice_get self.now.turns.items i ≡ Some turn.now) }
     {
@@ -140,7 +155,9 @@ impl<'p> Search<'p> {
         }
     }
 
-    // The reason with which an option is ruled out at an earlier turn.
+    // The other members of the reason with which an option is ruled out at an earlier turn: what
+    // ruled it out there rules it out here, as long as that turn stands. The hint may be stale, so
+    // what it leads to is compared with the option.
     fn ruled_out_with(&self, id: CandId) -> Option<&[CandId]>
         requires { IsSearch self.now.chosen self.now.turns.items }
         ensures { IfSome result (λ others. RulesOut (pool_of self.now.chosen)
@@ -155,7 +172,8 @@ impl<'p> Search<'p> {
         Some(ruled_out.others())
     }
 
-    /// Rules options out until one goes with all choices.
+    /// Takes options of a frame and rules them out, until one goes with all choices, which is
+    /// answered; none where no option is left.
     pub(crate) fn next_option(&mut self, top: &mut Frame) -> Result<Option<CandId>, AllocError>
         requires search { IsSearch self.old.chosen self.old.turns.items }
         requires open_now { IsFrameOf (pool_of self.old.chosen)
@@ -187,7 +205,8 @@ impl<'p> Search<'p> {
         Ok(None)
     }
 
-    /// Takes an option. After a refusal the search may only be dropped.
+    /// Makes an option the next choice, and keeps its frame as a turn. After a refusal the search
+    /// may only be dropped.
     pub(crate) fn choose(&mut self, frame: Frame, choice: CandId) -> Result<(), AllocError>
         requires search { IsSearch self.old.chosen self.old.turns.items }
         requires taken { IsFrameTaking (pool_of self.old.chosen)
@@ -204,7 +223,9 @@ impl<'p> Search<'p> {
         Ok(())
     }
 
-    /// Steps back from a dead end to the latest choice in its reason, and rules that out.
+    /// Steps back from a dead end to the latest choice in its reason, and rules that choice out
+    /// with the rest of the reason. The answer is its frame; none where the reason has no choice,
+    /// so that no selection satisfies world.
     pub(crate) fn step_back(&mut self, spent: Frame) -> Result<Option<Frame>, AllocError>
         requires search { IsSearch self.old.chosen self.old.turns.items }
         requires spent { IsSpentFrame (pool_of self.old.chosen) (choices_of self.old.chosen) spent }
@@ -213,6 +234,7 @@ impl<'p> Search<'p> {
             (pool_of self.old.chosen) [])
             (λ frame. IsSearch self.new.chosen self.new.turns.items
             × IsFrameOf (pool_of self.new.chosen) (choices_of self.new.chosen) frame)) }
+        // The measure falls with each step back, as with each choice: so the search ends.
         ensures lighter { IfOk result (λ found. IfSome found
             (λ frame. weight_of self.new.turns.items frame < weight_of self.old.turns.items
             spent)) }
@@ -223,7 +245,8 @@ impl<'p> Search<'p> {
         self.step_back_for_reason()
     }
 
-    // Steps back to the latest choice in the reason, and rules that out.
+    // Steps back to the latest choice in the reason that the search has kept, and rules that choice
+    // out. The turns above it go.
     fn step_back_for_reason(&mut self) -> Result<Option<Frame>, AllocError>
         requires search { IsSearch self.old.chosen self.old.turns.items }
         requires within { AreMembers self.old.reason (choices_of self.old.chosen) }
@@ -238,8 +261,10 @@ impl<'p> Search<'p> {
             spent)) }
     {
         while let Some(turn) = self.turns.pop() {
+            // Each turn has its choice: both go.
             self.chosen.pop();
             let Turn { mut frame, choice } = turn;
+            // This is the latest choice of the reason: the others rule it out.
             if self.reason.has(choice) {
                 let others = without(self.alloc, &self.reason, choice)?;
                 let hint = Hint {
@@ -255,7 +280,8 @@ impl<'p> Search<'p> {
     }
 }
 
-// Remembers where an option is ruled out.
+// Remembers where an option is ruled out, in place of what was remembered of it. No contract speaks
+// of hints: a wrong one costs time alone.
 fn remember(hints: &mut Vec<Option<Hint>>, id: CandId, hint: Hint) -> Result<(), AllocError> {
     let place = id.place as usize;
     while hints.len() <= place {
@@ -279,7 +305,7 @@ fn reason_of(used: CandidateSet, spent: &Frame) -> Result<CandidateSet, AllocErr
     Ok(members)
 }
 
-// All members of a reason but one.
+// All members of a reason but one, which the others rule out.
 fn without(alloc: Global, members: &CandidateSet, choice: CandId) -> Result<Vec<CandId>, AllocError>
     ensures { IfOk result (λ others. others.items ≡ filter (λ id. not (id == choice)) members.now) }
 {

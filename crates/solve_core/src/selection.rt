@@ -1,4 +1,6 @@
 //! The first selection of a world, as a list of choices, or that no selection satisfies it.
+//! The rules stand in `docs/selection.md`: "What satisfies world", "Which selection is taken", and
+//! "How the search works" for the loop.
 ghost use Rattle.std.specs.Prelude.{◌≡◌, ◌<◌, Some, IfOk, length, slice_get, [], List, ℕ, MatchOption};
 ghost use Rattle.pool_core.specs.Candidates.{Need};
 ghost use Rattle.pool_core.specs.Rank.{SealedPool};
@@ -14,6 +16,7 @@ use std::marker::Model;
 /// The chosen candidates, in the order chosen.
 #[derive(Drop)]
 pub struct Trace {
+    /// The places of the chosen candidates, in the order chosen.
     ids: Vec<CandId>,
 }
 
@@ -26,7 +29,7 @@ impl Model for Trace {
 }
 
 impl Trace {
-    /// A copy of the choices.
+    /// A trace with a copy of the choices.
     pub(crate) fn of(alloc: Global, ids: &[CandId]) -> Result<Trace, AllocError>
         ensures { IfOk result (λ trace. trace ≡ ids.now) }
     {
@@ -34,14 +37,14 @@ impl Trace {
         Ok(Trace { ids })
     }
 
-    /// How many there are.
+    /// How many candidates were chosen.
     pub fn len(&self) -> usize
         ensures { result ≡ length self.now }
     {
         self.ids.len()
     }
 
-    /// The one at a place, counted from 0.
+    /// The candidate that was chosen at a place of the trace, counted from 0.
     pub fn get(&self, i: usize) -> CandId
         requires { i < length self.now }
         ensures { slice_get self.now i ≡ Some result }
@@ -50,7 +53,8 @@ impl Trace {
     }
 }
 
-/// What a pool promises of the options of each need.
+/// What a pool promises of the options of each need: they are those that may be selected and meet
+/// it, best first. A law, which proofs of this crate call.
 pub(crate) fn options_are_as_promised()
     ensures { (pool : SealedPool) (need : Need) → HasOptions pool need }
 {
@@ -70,8 +74,9 @@ pub fn solve(alloc: Global, pool: &Sealed<'_>, world: &World) -> Result<Option<T
     first_selection(alloc, &mut search)
 }
 
-// The first selection, by a search without choices. It borrows the search, so that it has nothing
-// of it to give back where it ends early.
+// The first selection, by a search without choices: it takes an option of the topmost frame, or
+// steps back where none is left. The search is borrowed, so that nothing of it has to be given back
+// where the loop ends early.
 fn first_selection(alloc: Global, search: &mut Search<'_>) -> Result<Option<Trace>, AllocError>
     requires { IsSearch search.old.chosen search.old.turns.items }
     ensures { IfOk result (λ found. MatchOption found ((selection : List ℕ) →

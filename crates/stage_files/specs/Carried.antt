@@ -1,4 +1,5 @@
--- A change is carried through.
+-- A change is carried through. Serves the contract of `carry_out`; the rules stand in
+-- `docs/crash-safety.md`, "A change of several files", what is proved of the whole.
 use Rattle.std.specs.Prelude.{◌≡◌, List, Result, OnOk, IfErr}
 use Rattle.base_core.specs.Files.{Files}
 use Rattle.base_core.specs.Tree.{TreeState}
@@ -6,7 +7,7 @@ use Rattle.stage_files.specs.declared.writes.StageFault.{StageFault}
 use Rattle.stage_files.specs.declared.writes.StageFault.TheVariants.{Disk}
 use Rattle.stage_run.specs.StageRun.{IsStageRun, IsStageRunDone}
 
--- to these files, or the tree failed on the way
+-- a change is carried through to these files, or the tree failed on the way
 pub record IsCarriedTo {A : Type 0} (files : Files) (v : TreeState) (old now : List TreeState)
     (result : Result A StageFault) : Type 0 where
   pub run : IsStageRun files v old now

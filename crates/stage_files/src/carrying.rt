@@ -1,4 +1,5 @@
-//! A change is carried through: its files are staged, and one step lets all of them count.
+//! A change is carried through: its files are staged, and one step lets all of them count. The
+//! rules stand in `docs/crash-safety.md`, "A change of several files".
 ghost use Rattle.std.specs.Prelude.{◌≡◌, ◌<◌, ◌+◌, ◌++◌, ◌∷◌, ◌⊎◌, [], ℕ, false, List, None, length, take, IfErr, IsErrOf, OnErr, OnOk};
 ghost use Rattle.base_core.specs.Calls.{IfObservable};
 ghost use Rattle.base_core.specs.Faults.{GoesOn, HasCause, IsNoFault};
@@ -19,7 +20,8 @@ use journal_core::Stage;
 use piece_reader::Piece;
 use stage_run::{a_new_stage_is_staging, a_staging_run_is_a_stage_run, carry_through};
 
-/// Looks at what stands under a name.
+/// Looks at what stands under a name. What it is does not count here: that a host's tree can look
+/// at it does.
 fn look_at<T: Tree>(tree: &mut T, name: &Name) -> Result<(), Disk>
     ensures { OnlyReads (record {}) (T.history tree.old) (T.history tree.new)
         (T.counts tree.old) (T.counts tree.new) result }
@@ -41,7 +43,8 @@ fn look_at_each<T: Tree>(tree: &mut T, writes: &[StagedWrite<'_>]) -> Result<(),
     Ok(())
 }
 
-/// Stages the files of all writes, in their order.
+/// Stages the files of all writes, in their order. The clauses are those of `stage_write`, over all
+/// of them.
 fn stage_each<T: Tree>(
     stage: &mut Stage,
     tree: &mut T,
@@ -115,12 +118,13 @@ pub fn carry_out<T: Tree>(
         → OnOk result ((contents : List (List ℕ)) × MayStandForEach writes.now contents
         × IsStageRunDone (after_actions stage.old.intent (with_staged 1 contents (files_of v)))
         v (T.history tree.new))) }
-    // Nor is it half done behind an error: only what waits has changed where a package is bad; and
-    // where the tree failed either that, or the change has begun that leads to such files.
+    // Nor is it half done behind an error: where a package is bad only what waits has changed.
     ensures unpublished { IfObservable (T.history tree.old) (λ v.
         v.names intent_name ≡ None → IsEmptyStage (files_of v)
         → (member : ℕ) (cause : Cause) → IsErrOf result (Bad member cause)
         → IsStagingRun v (T.history tree.old) (T.history tree.new)) }
+    // Where the tree failed either only what waits has changed, or the change has begun that leads
+    // to such files.
     ensures cut_off { IfObservable (T.history tree.old) (λ v.
         v.names intent_name ≡ None → IsEmptyStage (files_of v)
         → OnErr result (IsStagingRun v (T.history tree.old) (T.history tree.new)
@@ -131,11 +135,14 @@ pub fn carry_out<T: Tree>(
     // was tested, and other contents.
     ensures bad { (member : ℕ) (cause : Cause) → IsErrOf result (Bad member cause)
         → HasSpoiledFile member cause writes.now }
+    // How the tree's counts explain the answer: no count falls, a fault has its cause, and any
+    // other answer hides none.
     ensures goes_on { GoesOn (T.counts tree.old) (T.counts tree.new) }
     ensures disk { IsErrOf result DiskFault → HasCause (T.counts tree.old) (T.counts tree.new) }
     ensures kept { OnOk result (IsNoFault (T.counts tree.old) (T.counts tree.new)) }
     ensures others { IfErr result (λ fault. (fault ≡ DiskFault → ⊥)
         → IsNoFault (T.counts tree.old) (T.counts tree.new)) }
+    // No call is a misuse where there is room for the stage, before and behind the change.
     ensures proper { IfObservable (T.history tree.old) (λ v. (contents : List (List ℕ))
         → v.names intent_name ≡ None → IsEmptyStage (files_of v)
         → StandForEach (files_of v) writes.now contents → HasRoomBeside (files_of v)

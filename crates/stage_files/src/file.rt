@@ -1,4 +1,5 @@
-//! A file of a package is staged, piece by piece.
+//! A file of a package is staged, piece by piece. The rules stand in `docs/crash-safety.md`,
+//! "A change of several files", and of the pieces in `docs/formats.md`, "The other blocks".
 ghost use Rattle.std.specs.Prelude.{◌≡◌, ◌<◌, ◌+◌, ◌++◌, ◌∷◌, [], ℕ, false, List, None, length, IfErr, IsErrOf, OnOk};
 ghost use Rattle.base_core.specs.Faults.{GoesOn, HasCause, IsNoFault};
 ghost use Rattle.base_core.specs.Tree.{TreeState, files_of};
@@ -54,7 +55,10 @@ pub(crate) fn stage_file<T: Tree>(
     ensures bad { HaveCome file.entry [] → kept_fault file.entry ≡ None → (cause : Cause)
         → IsErrOf result (Bad cause)
         → (bytes : List ℕ) × HaveOtherDigest (file_due file.entry) bytes cause }
+    // The next write of the stage has its file then.
     ensures view { OnOk result (stage.new ≡ record stage.old { staged = stage.old.staged + 1 }) }
+    // How the tree's counts explain the answer: no count falls, a fault has its cause, and any
+    // other answer hides none.
     ensures goes_on { GoesOn (T.counts tree.old) (T.counts tree.new) }
     ensures disk { IsErrOf result DiskFault → HasCause (T.counts tree.old) (T.counts tree.new) }
     ensures kept { OnOk result (IsNoFault (T.counts tree.old) (T.counts tree.new)) }

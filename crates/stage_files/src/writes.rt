@@ -1,5 +1,6 @@
 //! The writes of a change are staged, one after another: where their bytes come from, and why a
-//! change is not carried through.
+//! change is not carried through. The rules stand in `docs/commands.md`,
+//! "What a change does with files", and in `docs/crash-safety.md`, "A change of several files".
 
 ghost use Rattle.std.specs.Prelude.{◌≡◌, ◌<◌, ◌+◌, ◌++◌, ◌∷◌, [], ℕ, false, List, None, drop, length, IfErr, IsErrOf, OnOk, OnErr};
 ghost use Rattle.base_core.specs.Faults.{GoesOn, HasCause, IsNoFault};
@@ -19,10 +20,12 @@ use package_test::TestedPackage;
 use piece_reader::{Piece, PieceFault};
 use stage_run::{stage_bytes, stage_pieces};
 
-/// What stands in front of a link's text.
+/// What stands in front of a link's text in the file that is written for the link
+/// (`docs/commands.md`, "What a change does with files").
 const LINK_MARK: &[u8] = b"!<symlink>";
 
-/// The text of a link, behind a number of two bytes.
+/// The text of a link, without the two bytes `00 a0` in front of it (`docs/formats.md`,
+/// "The texts", field 406).
 fn link_text(target: &[u8]) -> &[u8]
     ensures { result.now ≡ drop 2 target.now }
 {
@@ -32,7 +35,8 @@ fn link_text(target: &[u8]) -> &[u8]
     &target[2..]
 }
 
-/// Stages a file of a package.
+/// Stages a file of a package, whose bytes are read once more. The clauses are those of
+/// `stage_write`.
 ///
 /// # Errors
 ///
@@ -85,7 +89,12 @@ fn stage_packaged<T: Tree>(
     }
 }
 
-/// Stages the file of one write.
+/// Stages the file of one write, whatever its source.
+///
+/// # Errors
+///
+/// `Bad` where a file of a package does not have its digest any more, or `Disk` where the tree
+/// failed.
 pub(crate) fn stage_write<T: Tree>(
     stage: &mut Stage,
     tree: &mut T,
@@ -94,24 +103,32 @@ pub(crate) fn stage_write<T: Tree>(
 ) -> Result<(), StageFault>
     requires closed { stage.old.is_open ≡ false }
     requires more { stage.old.staged < length stage.old.intent.writes }
+    // Whatever is answered, only what waits has changed at each moment.
     ensures run { (contents : List (List ℕ)) (v : TreeState) (first : List TreeState)
         → IsStaging stage.old contents None v first (T.history tree.old)
         → IsStagingRun v first (T.history tree.new) }
+    // Where the source stands for bytes, these wait then, behind those that waited before.
     ensures staging { (contents : List (List ℕ)) (v : TreeState) (first : List TreeState)
         (bytes : List ℕ) → IsStaging stage.old contents None v first (T.history tree.old)
         → StandsForBytes (files_of v) source.now bytes
         → OnOk result (IsStaging stage.new (contents ++ bytes ∷ []) None v first
         (T.history tree.new)) }
+    // And only the tree may fail.
     ensures good { (contents : List (List ℕ)) (v : TreeState) (first : List TreeState)
         (bytes : List ℕ) → IsStaging stage.old contents None v first (T.history tree.old)
         → StandsForBytes (files_of v) source.now bytes → IfErr result (λ fault. fault ≡ DiskFault) }
+    // Whatever the tree shows: bytes wait that the source may stand for.
     ensures listed { (contents : List (List ℕ)) (v : TreeState) (first : List TreeState)
         → IsStaging stage.old contents None v first (T.history tree.old)
         → OnOk result ((bytes : List ℕ) × MayStandFor source.now bytes
         × IsStaging stage.new (contents ++ bytes ∷ []) None v first (T.history tree.new)) }
+    // A package is told as bad only where the source is a file of it that is spoiled so.
     ensures bad { (member : ℕ) (cause : Cause) → IsErrOf result (Bad member cause)
         → IsSpoiledAt member cause source.now }
+    // The next write of the stage has its file then.
     ensures view { OnOk result (stage.new ≡ record stage.old { staged = stage.old.staged + 1 }) }
+    // How the tree's counts explain the answer: no count falls, a fault has its cause, and any
+    // other answer hides none.
     ensures goes_on { GoesOn (T.counts tree.old) (T.counts tree.new) }
     ensures disk { IsErrOf result DiskFault → HasCause (T.counts tree.old) (T.counts tree.new) }
     ensures kept { OnOk result (IsNoFault (T.counts tree.old) (T.counts tree.new)) }
@@ -129,31 +146,36 @@ pub(crate) fn stage_write<T: Tree>(
     }
 }
 
-/// A file of a package that was tested. `member` is the place of the package among those after the
-/// change, counted from 0; the folder and the file in it count from 1.
+/// A file of a package that was tested.
 #[derive(Clone, Copy)]
 pub struct PackagedFile<'a> {
+    /// The package, as it was tested.
     pub package: &'a TestedPackage,
+    /// The place of its member among those after the change, counted from 0.
     pub member: u32,
+    /// The position of the folder in the package, counted from 1.
     pub folder: u32,
+    /// The position of the file in the folder, counted from 1.
     pub file: u32,
 }
 
 /// Where the bytes of a write come from.
 #[derive(Clone, Copy)]
 pub enum Source<'a> {
-    /// They are given.
+    /// The bytes are given: those of the database or of world.
     Bytes(&'a [u8]),
-    /// They stand for a link to this target, which is behind a number of two bytes.
+    /// The bytes stand for a link to this target, whose text is behind two bytes.
     Link(&'a [u8]),
-    /// They are read from a package.
+    /// The bytes are read from a package.
     File(PackagedFile<'a>),
 }
 
-/// A name, and where the bytes come from that it gets.
+/// A write of a change: a name, and where the bytes come from that it gets.
 #[derive(Clone, Copy)]
 pub struct StagedWrite<'a> {
+    /// The name of the file after the change.
     pub name: &'a Name,
+    /// Where its bytes come from.
     pub source: Source<'a>,
 }
 
@@ -171,8 +193,10 @@ impl From<Disk> for StageFault {
     ghost use Rattle.std.specs.Prelude.{◌≡◌};
     ghost use Rattle.stage_files.specs.declared.writes.StageFault.TheVariants.{Disk as DiskFault};
 
+    // What becomes of it, as a caller that uses `?` sees it.
     ghost from_gives = { λ _ fault. fault ≡ DiskFault };
 
+    // A fault of the tree, as a change tells it.
     fn from(_: Disk) -> StageFault {
         StageFault::Disk
     }

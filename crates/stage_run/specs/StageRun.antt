@@ -1,5 +1,6 @@
--- What a change makes of a tree in which no intent is read: its files wait, the intent is published,
--- and all its actions are done.
+-- What a change makes of a tree in which no intent is read: its files wait, the intent is
+-- published, and all its actions are done. The rules stand in `docs/crash-safety.md`,
+-- "A change of several files": what is proved of the whole.
 use Rattle.std.specs.Prelude.{◌≡◌, ◌⊎◌, ℕ, Bool, false, List, Option, None, IsSome}
 use Rattle.base_core.specs.Calls.{HasNow}
 use Rattle.base_core.specs.Crash.{IsOrderly, Since}
@@ -45,8 +46,8 @@ pub record IsStageRun (files : Files) (v : TreeState) (old now : List TreeState)
   pub reads : Since (IsReadInChange files (files_of v)) old now
   pub last : ShownNamesLast v → Since LastsUnread old now
 
--- and it has come to its end: no intent is read, and no crash brings one back, or undoes a change of
--- a name
+-- a change that leads to these files has come to its end: no intent is read, and no crash brings
+-- one back, or undoes a change of a name
 pub record IsStageRunDone (files : Files) (v : TreeState) (now : List TreeState) : Type 0 where
   pub reads : HasNow now (λ w. (files_of w ≡ files) × (w.names intent_name ≡ None))
   pub settled : (ignored : List ℕ → Bool) → IsOrderly (RestsOn ignored) v
@@ -64,8 +65,8 @@ pub record IsStagingRun (v : TreeState) (old now : List TreeState) : Type 0 wher
   pub reads : Since (IsReadButWaiting (files_of v)) old now
   pub last : ShownNamesLast v → Since ShownNamesLast old now
 
--- and nothing waited before, and now files with these bytes, and one with those of the file that is
--- begun
+-- a staging run before which nothing waited; now files with these bytes wait, and one with those of
+-- the file that is begun
 pub record IsStaging (stage : Staging) (contents : List (List ℕ)) (begun : Option (List ℕ))
     (v : TreeState) (old now : List TreeState) : Type 0 where
   pub start : HasNow old (λ w. w ≡ v)

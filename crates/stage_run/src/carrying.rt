@@ -1,4 +1,5 @@
-//! From the publishing on.
+//! The second part of a change, from the publishing of its intent on. The rules stand in
+//! `docs/crash-safety.md`, "A change of several files", in the table of steps from 2 on.
 ghost use Rattle.std.specs.Prelude.{◌≡◌, ◌≤◌, ℕ, Bool, true, false, List, None, length, IsSome, OnOk, OnErr};
 ghost use Rattle.base_core.specs.Calls.{HasNow, IfObservable};
 ghost use Rattle.base_core.specs.Crash.{IsOrderly, Since};
@@ -30,6 +31,8 @@ pub fn carry_through<T: Tree>(stage: &mut Stage, tree: &mut T) -> Result<(), Dis
         → OnOk result (IsStageRunDone
         (after_actions stage.old.intent (with_staged 1 contents (files_of v)))
         v (T.history tree.new)) }
+    // How the tree's counts explain the answer: no count falls, and a fault is answered just where
+    // a count of faults rose.
     ensures goes_on { GoesOn (T.counts tree.old) (T.counts tree.new) }
     ensures cause { OnErr result (HasCause (T.counts tree.old) (T.counts tree.new)) }
     ensures kept { OnOk result (IsNoFault (T.counts tree.old) (T.counts tree.new)) }
@@ -47,27 +50,35 @@ pub fn carry_through<T: Tree>(stage: &mut Stage, tree: &mut T) -> Result<(), Dis
     enact(stage, tree)
 }
 
-/// Does all actions of an intent that is published, and finishes.
+/// Does all actions of an intent that is published, and finishes. The clauses say of this part
+/// alone what those of `carry_through` say of the whole.
 fn enact<T: Tree>(stage: &mut Stage, tree: &mut T) -> Result<(), Disk>
     requires published { stage.old.published ≡ true }
     requires within { stage.old.acted ≤ action_count stage.old.intent }
+    // A crash leaves the state of the actions done all the time.
     ensures moments { IfObservable (T.history tree.old) (λ v. (ignored : List ℕ → Bool)
         (files : Files) → IsOrderly (RestsOn ignored) v → IsActing stage.old files v
         → Since (IsStill ignored v) (T.history tree.old) (T.history tree.new)) }
+    // At each moment a recovery leaves the files of the actions done.
     ensures reads { IfObservable (T.history tree.old) (λ v. (files : Files)
         → IsActing stage.old files v
         → Since (RecoversTo files) (T.history tree.old) (T.history tree.new)) }
+    // Each name that does not wait has its old bytes or its new ones.
     ensures bytes { IfObservable (T.history tree.old) (λ v. (files : Files)
         → IsActing stage.old files v
         → KeepsOldOrNewBytes files v (T.history tree.old) (T.history tree.new)) }
+    // Where no intent is read any more, a crash undoes no other change of a name.
     ensures last { IfObservable (T.history tree.old) (λ v. IsSome (v.names intent_name)
         → Since LastsUnread (T.history tree.old) (T.history tree.new)) }
+    // At the end each crash leaves the state of the actions done.
     ensures settled { IfObservable (T.history tree.old) (λ v. (ignored : List ℕ → Bool)
         (files : Files) → IsOrderly (RestsOn ignored) v → IsActing stage.old files v
         → OnOk result (HasNow (T.history tree.new) (IsSettled ignored files))) }
+    // And these files are read, without an intent.
     ensures files { IfObservable (T.history tree.old) (λ v. (files : Files)
         → IsActing stage.old files v → OnOk result (HasNow (T.history tree.new)
         (λ w. (files_of w ≡ files) × (w.names intent_name ≡ None)))) }
+    // No crash brings the intent back.
     ensures gone { OnOk result (IfObservable (T.history tree.new) (IsInNoMap intent_name)) }
     ensures goes_on { GoesOn (T.counts tree.old) (T.counts tree.new) }
     ensures cause { OnErr result (HasCause (T.counts tree.old) (T.counts tree.new)) }

@@ -1,5 +1,6 @@
 //! Files come to wait, one after another. Laws say where the run of a change begins, and what it
-//! leaves.
+//! leaves. The rules stand in `docs/crash-safety.md`, "A change of several files": step 1 of its
+//! table.
 
 ghost use Rattle.std.specs.Prelude.{◌≡◌, ◌<◌, ◌+◌, ◌++◌, ◌∷◌, [], ℕ, true, false, List, Some, None, length, OnOk, OnErr};
 ghost use Rattle.base_core.specs.Faults.{GoesOn, HasCause, IsNoFault};
@@ -23,14 +24,19 @@ pub fn begin_file<T: Tree>(stage: &mut Stage, tree: &mut T) -> Result<(), Disk>
     ensures run { (contents : List (List ℕ)) (v : TreeState) (first : List TreeState)
         → IsStaging stage.old contents None v first (T.history tree.old)
         → IsStagingRun v first (T.history tree.new) }
+    // Once it has answered Ok an empty file waits, which is begun.
     ensures staging { (contents : List (List ℕ)) (v : TreeState) (first : List TreeState)
         → IsStaging stage.old contents None v first (T.history tree.old)
         → OnOk result (IsStaging stage.new contents (Some []) v first (T.history tree.new)) }
+    // The stage then has an open file; behind an error it is as before.
     ensures view { OnOk result (stage.new ≡ record stage.old { is_open = true }) }
     ensures err { OnErr result (stage.new ≡ stage.old) }
+    // How the tree's counts explain the answer: no count falls, and a fault is answered just where
+    // a count of faults rose.
     ensures goes_on { GoesOn (T.counts tree.old) (T.counts tree.new) }
     ensures cause { OnErr result (HasCause (T.counts tree.old) (T.counts tree.new)) }
     ensures kept { OnOk result (IsNoFault (T.counts tree.old) (T.counts tree.new)) }
+    // No call is a misuse where there is room for the stage.
     ensures proper { (contents : List (List ℕ)) (v : TreeState) (first : List TreeState)
         → IsStaging stage.old contents None v first (T.history tree.old)
         → HasRoomBeside (files_of v)
@@ -39,7 +45,8 @@ pub fn begin_file<T: Tree>(stage: &mut Stage, tree: &mut T) -> Result<(), Disk>
     stage.file_begin(tree)
 }
 
-/// Adds bytes to the file that is begun.
+/// Adds bytes to the file that is begun. The clauses are those of `begin_file`; there need be no
+/// more room.
 pub fn append_piece<T: Tree>(stage: &mut Stage, tree: &mut T, piece: &[u8]) -> Result<(), Disk>
     requires { stage.old.is_open ≡ true }
     ensures run { (contents : List (List ℕ)) (so_far : List ℕ) (v : TreeState)
@@ -63,7 +70,8 @@ pub fn append_piece<T: Tree>(stage: &mut Stage, tree: &mut T, piece: &[u8]) -> R
     stage.file_append(tree, piece)
 }
 
-/// The file that is begun is whole: its bytes are made to last.
+/// The file that is begun is whole: its bytes are made to last. The clauses are those of
+/// `begin_file`; there need be no more room.
 pub fn end_file<T: Tree>(stage: &mut Stage, tree: &mut T) -> Result<(), Disk>
     requires { stage.old.is_open ≡ true }
     ensures run { (contents : List (List ℕ)) (so_far : List ℕ) (v : TreeState)
@@ -89,7 +97,8 @@ pub fn end_file<T: Tree>(stage: &mut Stage, tree: &mut T) -> Result<(), Disk>
     stage.file_end(tree)
 }
 
-/// Stages one whole file with these bytes.
+/// Stages one whole file with these bytes. The clauses are those of `begin_file`, for the three
+/// calls.
 pub fn stage_bytes<T: Tree>(stage: &mut Stage, tree: &mut T, bytes: &[u8]) -> Result<(), Disk>
     requires closed { stage.old.is_open ≡ false }
     requires more { stage.old.staged < length stage.old.intent.writes }
@@ -114,7 +123,8 @@ pub fn stage_bytes<T: Tree>(stage: &mut Stage, tree: &mut T, bytes: &[u8]) -> Re
     end_file(stage, tree)
 }
 
-/// Stages one whole file of two pieces, one behind the other.
+/// Stages one whole file of two pieces, one behind the other. The clauses are those of
+/// `begin_file`, for the four calls.
 pub fn stage_pieces<T: Tree>(
     stage: &mut Stage,
     tree: &mut T,

@@ -1,5 +1,6 @@
 //! The two changes that the rows make by a stage. Each removes `x` and writes `y` with the one byte
-//! `2`; the second writes `z` too, with the one byte `3`.
+//! `2`; the second writes `z` too, with the one byte `3`. The calls of a stage stand in
+//! `docs/crash-safety.md`, "A change of several files", in the table of its steps.
 ghost use Rattle.std.specs.Prelude.{◌≡◌, [], ◌∷◌, ◌++◌, true, codes, IfOk, IfSome, OnOk};
 ghost use Rattle.journal_core.specs.Staged.{new_stage};
 
@@ -10,23 +11,28 @@ use row_lines::{add_word, value_named};
 use std::alloc::{AllocError, Global};
 use tree_memory::MemoryTree;
 
-/// One of the changes.
+/// One of the two changes.
 #[derive(Clone, Copy)]
 pub enum StagedChange {
+    /// It removes `x` and writes `y`.
     OneWrite,
+    /// It removes `x` and writes `y` and `z`.
     TwoWrites,
 }
 
-/// How far a change came.
+/// How far a change came, as the answers say it.
 #[derive(Clone, Copy, PartialEq)]
 pub enum Reached {
+    /// Its intent is not published, as far as the calls answered Ok.
     Nothing,
+    /// Its intent is published.
     Published,
+    /// All its actions are done, and the intent is gone.
     Finished,
 }
 
 /// The change that a word names.
-pub fn change_named(word: &[u8]) -> Option<StagedChange> {
+pub(crate) fn change_named(word: &[u8]) -> Option<StagedChange> {
     value_named(
         &[
             (b"one", StagedChange::OneWrite),
@@ -37,7 +43,7 @@ pub fn change_named(word: &[u8]) -> Option<StagedChange> {
 }
 
 /// Adds the word for how far a change came.
-pub fn add_reached(answer: &mut Vec<u8>, reached: Reached) -> Result<(), AllocError> {
+pub(crate) fn add_reached(answer: &mut Vec<u8>, reached: Reached) -> Result<(), AllocError> {
     match reached {
         Reached::Nothing => add_word(answer, b"nothing"),
         Reached::Published => add_word(answer, b"published"),
@@ -46,7 +52,7 @@ pub fn add_reached(answer: &mut Vec<u8>, reached: Reached) -> Result<(), AllocEr
 }
 
 /// Recovers the tree, and makes the change.
-pub fn run_change(
+pub(crate) fn run_change(
     alloc: Global,
     change: StagedChange,
     tree: &mut MemoryTree,
@@ -60,7 +66,7 @@ pub fn run_change(
     }
 }
 
-/// A list of one name.
+/// A list of one name; none where the bytes are no name.
 fn one_name(alloc: Global, bytes: &[u8]) -> Result<Option<Names>, AllocError>
     ensures { IfOk result (λ found. IfSome found (λ names. names ≡ bytes.now ∷ [])) }
 {
@@ -72,7 +78,7 @@ fn one_name(alloc: Global, bytes: &[u8]) -> Result<Option<Names>, AllocError>
     Ok(Some(names))
 }
 
-/// A list of one name more.
+/// A list with one name more; none where the bytes are no name.
 fn one_more_name(alloc: Global, names: Names, bytes: &[u8]) -> Result<Option<Names>, AllocError>
     ensures { IfOk result (λ found. IfSome found (λ more. more ≡ names ++ bytes.now ∷ [])) }
 {

@@ -1,4 +1,5 @@
 //! Recoveries of trees that no change of this program leaves, and of changes that are partly done.
+//! The rules stand in `docs/crash-safety.md`, "Recovery", the table of what it finds.
 use crate::changing::{StagedChange, add_reached, change_named, run_change};
 use crate::trees::{add_count, add_tree, long_at, put, text_of, tree_of};
 use base_core::Words;
@@ -12,7 +13,11 @@ const INTENT: &[u8] = b"lib/apk/intent";
 
 /// Answers `recover (NAME BYTES)..`: what a recovery of these files answers, how many calls of it
 /// write, what it leaves, and how many have written once it is recovered again, which is no more.
-pub fn add_recovery(alloc: Global, words: &Words, answer: &mut Vec<u8>) -> Result<(), AllocError> {
+pub(crate) fn add_recovery(
+    alloc: Global,
+    words: &Words,
+    answer: &mut Vec<u8>,
+) -> Result<(), AllocError> {
     let mut tree = tree_of(alloc, words, 1)?;
     add_both_recoveries(alloc, &mut tree, answer)
 }
@@ -44,7 +49,11 @@ fn add_answer(answer: &mut Vec<u8>, found: Result<(), RecoverFault>) -> Result<(
 
 /// Answers `cuts INTENT (NAME BYTES)..`: at how many lengths the intent is cut off, and at how many
 /// of them it is refused and nothing is written.
-pub fn add_cuts(alloc: Global, words: &Words, answer: &mut Vec<u8>) -> Result<(), AllocError> {
+pub(crate) fn add_cuts(
+    alloc: Global,
+    words: &Words,
+    answer: &mut Vec<u8>,
+) -> Result<(), AllocError> {
     let intent = word_at(words, 1);
     let mut refused: u64 = 0;
     for len in 0..intent.len() {
@@ -74,7 +83,11 @@ fn is_refused(alloc: Global, tree: &mut MemoryTree, intent: &[u8]) -> Result<boo
 /// Answers `change CHANGE CALLS (NAME BYTES)..`: how far a change of these files comes that is cut
 /// off behind so many calls, how many of them write, how many maps of names a crash may leave, and
 /// what then stands in the tree.
-pub fn add_change(alloc: Global, words: &Words, answer: &mut Vec<u8>) -> Result<(), AllocError> {
+pub(crate) fn add_change(
+    alloc: Global,
+    words: &Words,
+    answer: &mut Vec<u8>,
+) -> Result<(), AllocError> {
     let Some(change) = change_named(word_at(words, 1)) else {
         return answer.extend_from_slice(b"no change");
     };

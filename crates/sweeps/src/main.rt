@@ -1,7 +1,8 @@
 //! Answers questions to `journal_core`, `journal_recovery` and `file_replacement`: what a change by
 //! a stage leaves where it is cut off or a call fails, and what a recovery makes of it; which
 //! intents are refused; and a file that is replaced again and again while the names are never
-//! synced. Its stored run has all rows; `tests/lines.md` describes their form.
+//! synced. Its stored run has all rows; `tests/lines.md` describes their form. The README of this
+//! crate has a row for each question.
 #![tactic(auto)]
 
 mod changing;
@@ -21,18 +22,26 @@ use std::io;
 use std::process::ExitCode;
 use sweeping::{add_fault, add_stop};
 
-/// What is asked.
+/// What is asked; the README of this crate says what each question shows.
 #[derive(Clone, Copy)]
 enum Question {
+    /// `change CHANGE CALLS NAME BYTES ..`.
     Change,
+    /// `stop CHANGE CALLS NAME BYTES ..`.
     Stop,
+    /// `fault CHANGE CALL NAME BYTES ..`.
     Fault,
+    /// `recover NAME BYTES ..`.
     Recover,
+    /// `cuts INTENT NAME BYTES ..`.
     Cuts,
+    /// `many WRITES WAITING`.
     Many,
+    /// `replace NAME CALLS`.
     Replace,
 }
 
+// The words that questions begin with.
 #[rattlefmt::skip]
 const QUESTIONS: [(&[u8], Question); 7] = [
     (b"change", Question::Change),

@@ -1,4 +1,6 @@
-//! An intent of so many writes that a walk over their pairs would not end in time.
+//! An intent of so many writes that a walk over their pairs would not end in time. Such an intent
+//! passes the tests of `docs/formats.md`, "Tests of a container", among them that no name stands
+//! twice.
 use crate::trees::{add_count, long_at, put};
 use adb_schema::INTENT_WORD;
 use adb_view::Val;
@@ -10,20 +12,24 @@ use row_lines::add_word;
 use std::alloc::{AllocError, Global};
 use tree_memory::MemoryTree;
 
-/// The number of the first name. All numbers have as many digits, so that the names rise in byte
+/// The number in the first name. All numbers have as many digits, so that the names rise in byte
 /// order and a tree in memory adds each at its end.
 const FIRST: usize = 100_000;
 
-/// The most bytes of a payload.
+/// The most bytes of a payload (`docs/formats.md`, "Canonical layout").
 const MOST_BYTES: usize = 268_435_455;
 
-/// The most writes of a row.
+/// The most writes of a row, and the most that wait.
 const MOST: u64 = 65_536;
 
 /// Answers `many WRITES WAITING`: whether an intent of so many writes is read back, name by name,
 /// and what a recovery makes of it, where the last so many files wait and the others were moved
 /// before: how many calls of it write, and how many of the files then stand under their names.
-pub fn add_many(alloc: Global, words: &Words, answer: &mut Vec<u8>) -> Result<(), AllocError> {
+pub(crate) fn add_many(
+    alloc: Global,
+    words: &Words,
+    answer: &mut Vec<u8>,
+) -> Result<(), AllocError> {
     let count = long_at(words, 1).min(MOST) as usize;
     let waiting = long_at(words, 2).min(MOST) as usize;
     let Some(file) = intent_file(alloc, count)? else {
@@ -61,7 +67,7 @@ fn add_recovered_tree(
     add_count(alloc, answer, b"names", names_in_place(alloc, tree)?)
 }
 
-/// The name with this index.
+/// The name with this index, counted from 0: `f` and a number.
 fn name_text(alloc: Global, i: usize) -> Result<Vec<u8>, AllocError> {
     let number = FIRST.saturating_add(i);
     let text = format!(in alloc; "f{number}")?;
@@ -82,13 +88,13 @@ fn intent_file(alloc: Global, count: usize) -> Result<Option<Vec<u8>>, AllocErro
     }
 }
 
-/// Writes the name with this index.
+/// Writes the name with this index into a payload.
 fn write_name(alloc: Global, writer: &mut Writer, i: usize) -> Result<Val, AllocError> {
     let name = name_text(alloc, i)?;
     writer.blob(&name)
 }
 
-/// No removals, and these writes.
+/// Writes the root of an intent: no removals, and these writes.
 fn write_root(writer: &mut Writer, writes: &[Val]) -> Result<Val, AllocError> {
     let writes = writer.arr(writes)?;
     writer.obj(&[Val::of(0), writes])

@@ -1,4 +1,5 @@
-//! A change that is cut off behind a call, or whose call fails, and the recovery of each image.
+//! A change that is cut off behind a call, or whose call fails, and the recovery of each image. The
+//! rules stand in `docs/crash-safety.md`, "A change of several files" and "Recovery".
 use crate::changing::{Reached, StagedChange, add_reached, change_named, run_change};
 use crate::trees::{add_count, long_at, text_of, tree_of};
 use base_core::Words;
@@ -7,24 +8,30 @@ use row_lines::word_at;
 use std::alloc::{AllocError, Global};
 use tree_memory::MemoryTree;
 
-/// More runs than there are pairs of a call of a recovery and one of a second recovery.
+/// A bound of the loop over pairs of a call of a recovery and one of a second recovery: there are
+/// fewer.
 const RUNS: u64 = 6400;
 
-/// The place of the first file in a row.
+/// The index of the first word of a row that names a file.
 const FILES: usize = 3;
 
 /// The files before and behind the change of a row, as text.
 #[derive(Drop)]
 struct Wanted {
+    /// The files before the change.
     old: Vec<u8>,
+    /// The files behind the change.
     new: Vec<u8>,
 }
 
 /// What a recovered tree holds.
 #[derive(Clone, Copy, PartialEq)]
 enum Recovered {
+    /// The files before the change.
     Old,
+    /// The files behind the change.
     New,
+    /// Other files; or a recovery failed, or a second one leaves other files.
     Other,
 }
 
@@ -32,8 +39,11 @@ enum Recovered {
 /// other ones behind a second recovery.
 #[derive(Clone, Copy)]
 struct Tally {
+    /// How many have the old files.
     old: u64,
+    /// How many have the new files.
     new: u64,
+    /// How many have others.
     other: u64,
 }
 
@@ -92,7 +102,7 @@ fn texts_of_change(
     Ok(Some(Wanted { old, new }))
 }
 
-/// Which of the two states a tree is in.
+/// Which of the two states of a row a text of files is.
 fn found_of(wanted: &Wanted, text: &[u8]) -> Recovered {
     if text == wanted.old.as_slice() {
         return Recovered::Old;
@@ -145,7 +155,11 @@ fn recovers_to(alloc: Global, tree: &mut MemoryTree, text: &[u8]) -> Result<bool
 
 /// Answers `stop CHANGE CALLS (NAME BYTES)..`: how far a change comes that is cut off behind so
 /// many calls, how many maps of names a crash may then leave, and what the images recover to.
-pub fn add_stop(alloc: Global, words: &Words, answer: &mut Vec<u8>) -> Result<(), AllocError> {
+pub(crate) fn add_stop(
+    alloc: Global,
+    words: &Words,
+    answer: &mut Vec<u8>,
+) -> Result<(), AllocError> {
     let Some(change) = change_named(word_at(words, 1)) else {
         return answer.extend_from_slice(b"no change");
     };
@@ -207,8 +221,11 @@ fn found_in_image(
 /// recovery.
 #[derive(Clone, Copy)]
 struct Failing {
+    /// The call of the change that fails.
     call: u64,
+    /// The call of its recovery that fails.
     first: u64,
+    /// The call of the second recovery that fails.
     second: u64,
 }
 
@@ -230,15 +247,22 @@ impl Failing {
 /// Whether two recoveries of a change failed, and what a third one left.
 #[derive(Clone, Copy)]
 struct Recoveries {
+    /// The first recovery failed: it makes that call.
     first_failed: bool,
+    /// The second recovery failed: it makes that call.
     second_failed: bool,
+    /// What the third recovery left.
     found: Recovered,
 }
 
 /// Answers `fault CHANGE CALL (NAME BYTES)..`: how far a change comes whose call with this number
 /// fails, and what a third recovery leaves, behind one and a second that fail, each at each of its
 /// calls.
-pub fn add_fault(alloc: Global, words: &Words, answer: &mut Vec<u8>) -> Result<(), AllocError> {
+pub(crate) fn add_fault(
+    alloc: Global,
+    words: &Words,
+    answer: &mut Vec<u8>,
+) -> Result<(), AllocError> {
     let Some(change) = change_named(word_at(words, 1)) else {
         return answer.extend_from_slice(b"no change");
     };

@@ -1,11 +1,12 @@
-//! The trees of the rows, and what they hold.
+//! The trees of the rows, and what they hold: how a row writes files, and how an answer does, as
+//! the README of this crate says.
 use base_core::{Name, Words};
 use row_lines::{add_number, add_word, number_of, word_at};
 use std::alloc::{AllocError, Global};
 use tree_memory::MemoryTree;
 
-/// The number that a word is; 0 where it is none.
-pub fn long_at(words: &Words, i: usize) -> u64 {
+/// The number that the word at a place is; 0 where it is none.
+pub(crate) fn long_at(words: &Words, i: usize) -> u64 {
     number_of(word_at(words, i))
         .and_then(|number| u64::try_from(number).ok())
         .unwrap_or(0)
@@ -13,7 +14,11 @@ pub fn long_at(words: &Words, i: usize) -> u64 {
 
 /// A tree of the files that words name from a place on: a name, its bytes, and so on. A name that
 /// may not be put is left out.
-pub fn tree_of(alloc: Global, words: &Words, first: usize) -> Result<MemoryTree, AllocError> {
+pub(crate) fn tree_of(
+    alloc: Global,
+    words: &Words,
+    first: usize,
+) -> Result<MemoryTree, AllocError> {
     let mut tree = MemoryTree::new(alloc);
     for i in first..words.len() {
         if (i - first) % 2 == 1 {
@@ -24,7 +29,7 @@ pub fn tree_of(alloc: Global, words: &Words, first: usize) -> Result<MemoryTree,
 }
 
 /// Puts a file where it may be put.
-pub fn put(
+pub(crate) fn put(
     alloc: Global,
     tree: &mut MemoryTree,
     name: &[u8],
@@ -39,8 +44,12 @@ pub fn put(
     Ok(())
 }
 
-/// Adds each name with the bytes of its file.
-pub fn add_tree(alloc: Global, tree: &MemoryTree, answer: &mut Vec<u8>) -> Result<(), AllocError> {
+/// Adds each name with the bytes of its file, as `NAME=BYTES`.
+pub(crate) fn add_tree(
+    alloc: Global,
+    tree: &MemoryTree,
+    answer: &mut Vec<u8>,
+) -> Result<(), AllocError> {
     let names = tree.names(alloc)?;
     for i in 0..names.len() {
         let name = names.get(i);
@@ -52,14 +61,14 @@ pub fn add_tree(alloc: Global, tree: &MemoryTree, answer: &mut Vec<u8>) -> Resul
 }
 
 /// Each name with the bytes of its file.
-pub fn text_of(alloc: Global, tree: &MemoryTree) -> Result<Vec<u8>, AllocError> {
+pub(crate) fn text_of(alloc: Global, tree: &MemoryTree) -> Result<Vec<u8>, AllocError> {
     let mut text = Vec::new(alloc);
     add_tree(alloc, tree, &mut text)?;
     Ok(text)
 }
 
 /// Adds a count, and what is counted before it.
-pub fn add_count(
+pub(crate) fn add_count(
     alloc: Global,
     answer: &mut Vec<u8>,
     what: &[u8],

@@ -3,7 +3,8 @@ use Rattle.std.proofs.Common.{◌≡◌, ◌⊎◌, inl, inr, ⊎_elim, ℕ, zer
 use Rattle.std.proofs.lemmas.List.{drop_more, take_more, take_all}
 use Rattle.std.specs.Str.{bytes_eq}
 use Rattle.base_core.specs.Files.{NameMap, no_names, put_name, drop_name}
-use Rattle.base_core.specs.Tree.{TreeState, IsAmong, move_at, remove_at, after_rename, after_remove}
+use Rattle.base_core.specs.Lists.{IsIn}
+use Rattle.base_core.specs.Tree.{TreeState, move_at, remove_at, after_rename, after_remove}
 use Rattle.tree_memory.specs.Changes.{empty_state, step, state_on, can_step, is_record}
 use Rattle.tree_memory.specs.Images.{newest_first, adds_map, maps_on, HasNames}
 use Rattle.tree_memory.specs.Table.{lookup}
@@ -198,7 +199,7 @@ names_removed name v es fs made was gone = by (v.names name) refl
 
 -- ---- the picked map is one of them
 
-pub among_at : (maps : List NameMap) (k : ℕ) → k < length maps → IsAmong (get_or maps k no_names) maps
+pub among_at : (maps : List NameMap) (k : ℕ) → k < length maps → IsIn (get_or maps k no_names) maps
 among_at [] k within = absurd (omega (arith, within))
 among_at (m ∷ maps) zero within = inl refl
 among_at (m ∷ maps) (suc k) within = inr (among_at maps k (omega (arith, within)))

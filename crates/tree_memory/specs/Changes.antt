@@ -1,4 +1,6 @@
 -- The record of what was made of a tree, and the states that it gives.
+-- What each call makes of a state stands in `docs/crash-safety.md`, "What each call does". Serves the
+-- proofs of `store`, and *after_put* the contract of `put`.
 use Rattle.std.specs.Prelude.{ℕ, ◌+◌, Bool, true, false, ◌&&◌, is_some, nat_lt, nat_le, List, [], ◌∷◌, map, length, slice_index_or, take, Some}
 use Rattle.base_core.specs.Files.{no_names, put_name}
 use Rattle.base_core.specs.Tree.{TreeState, File, set_file, change_at, after_create, after_rename, after_remove, after_sync_names}
@@ -10,11 +12,12 @@ use Rattle.tree_memory.specs.declared.store.Stored.{Stored}
 abbrev pub no_file : File
 no_file = record { bytes = []; synced = false }
 
--- an empty tree
+-- the state of an empty tree
 abbrev pub empty_state : TreeState
 empty_state = record { files = λ n. no_file; made = 0; names = no_names; older = [] }
 
--- a new synced file, also where the name led to another; the names are synced
+-- the state behind a put: a new synced file under the name, also where the name led to another, and the
+-- names synced
 abbrev pub after_put : List ℕ → List ℕ → TreeState → TreeState
 after_put name bytes v = record {
   files = set_file v.files v.made (record { bytes = bytes; synced = true });
@@ -23,15 +26,16 @@ after_put name bytes v = record {
   older = [];
 }
 
--- the bytes of the files by number, as they stand now
+-- the bytes of the files by their numbers, as they stand now
 abbrev pub contents_of : List Stored → List (List ℕ)
 contents_of files = map (λ file. file.bytes.items) files
 
--- whether each is synced
+-- for each file, by its number, whether it is synced
 abbrev pub synced_flags : List Stored → List Bool
 synced_flags files = map (λ file. file.synced) files
 
--- A file only grows at its end, so that what it held behind a change is a front of its bytes now.
+-- The first bytes of a file, so many of them. A file only grows at its end, so that what it held behind
+-- a change is such a front of its bytes now.
 abbrev pub front_of : List (List ℕ) → ℕ → ℕ → List ℕ
 front_of contents file len = take len (slice_index_or contents file [])
 
@@ -53,14 +57,16 @@ abbrev pub state_on : List (List ℕ) → TreeState → List Change → TreeStat
 state_on contents v [] = v
 state_on contents v (c ∷ cs) = state_on contents (step contents c v) cs
 
--- the states before it, the newest first, behind those of before
+-- the states before the one that a record leads to, the newest first, and behind them those from before
+-- the record
 abbrev pub earlier_on : List (List ℕ) → TreeState → List TreeState → List Change → List TreeState
 earlier_on contents v earlier [] = earlier
 earlier_on contents v earlier (c ∷ cs) = earlier_on contents (step contents c v) (v ∷ earlier) cs
 
 -- ---- what a record is
 
--- the file was made, and holds at least so many bytes; a record keeps a length, and the bytes once
+-- whether a file was made, and holds at least so many bytes: a record keeps a length for each change,
+-- and the bytes once
 abbrev pub is_front : List (List ℕ) → ℕ → ℕ → Bool
 is_front contents file len =
     nat_lt file (length contents) && nat_le len (length (slice_index_or contents file []))

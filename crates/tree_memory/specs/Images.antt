@@ -1,4 +1,5 @@
--- What a crash leaves, as it is image_of by a number.
+-- What a crash leaves, by a number. The rule stands in `docs/crash-safety.md`, "Misuses, faults and
+-- counts", the last paragraph; what a crash may leave at all, in "What a crash leaves".
 use Rattle.std.specs.Prelude.{◌≡◌, ℕ, ◌+◌, ◌/◌, ◌%◌, Bool, true, false, if◌then◌else◌, ◌||◌, ◌==◌, List, [], ◌∷◌, reverse, length, replicate, slice_index_or}
 use Rattle.std.specs.Option.{option_map}
 use Rattle.base_core.specs.Files.{Files, NameMap, no_names}
@@ -15,16 +16,18 @@ use Rattle.tree_memory.specs.declared.table.NameAndFile.{NameAndFile}
 abbrev pub maps_of : TreeState → List NameMap
 maps_of v = reverse (v.names ∷ v.older)
 
--- which of them
+-- the map of names that a number picks, counted from the oldest as 0
 abbrev pub picked_map : ℕ → TreeState → NameMap
 picked_map choice v = slice_index_or (maps_of v) (choice % length (maps_of v)) no_names
 
--- what an unsynced file holds: its bytes as read, nothing, or as many bytes of value 255
+-- what a file holds after a crash: a synced one its bytes; an unsynced one, by the way that is chosen,
+-- its bytes as read (0), nothing (1), or as many bytes of value 255 (2)
 abbrev pub crash_bytes : ℕ → File → List ℕ
 crash_bytes way file = if file.synced || way == 0 then file.bytes else
     (if way == 1 then [] else replicate (length file.bytes) 255)
 
--- the files after the crash
+-- the files after the crash that a number chooses: its remainder by the count of maps picks the map,
+-- and the quotient modulo 3 what unsynced files hold
 abbrev pub image_of : ℕ → TreeState → Files
 image_of choice v q = option_map (λ n. crash_bytes ((choice / length (maps_of v)) % 3) (v.files n))
     (picked_map choice v q)
@@ -46,7 +49,7 @@ adds_map (Remove name) = true
 adds_map SyncNames = false
 adds_map Stay = false
 
--- how many maps there are behind it
+-- how many maps of names there are behind a change, by how many there were before
 abbrev pub maps_on : Change → ℕ → ℕ
 maps_on (Put name file len) maps = 1
 maps_on (Create name) maps = maps + 1
@@ -62,6 +65,6 @@ pub record HasNames (v : TreeState) (entries : List NameAndFile) (count : ℕ) :
   pub names : (q : List ℕ) → v.names q ≡ lookup entries q
   pub made : v.made ≡ count
 
--- a file as it is stored
+-- the file that is stored so
 abbrev pub stored_file : Stored → File
 stored_file stored = record { bytes = stored.bytes.items; synced = stored.synced }

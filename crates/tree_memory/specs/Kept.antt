@@ -1,5 +1,7 @@
 -- What is kept beside a record, so that it need not be read: the names and the files of its newest
 -- state.
+-- Serves the invariant of `Store`; *CanPut* the contract of `put`. When a state is sound stands in
+-- `docs/crash-safety.md`, "A tree at one moment".
 use Rattle.std.specs.Prelude.{◌≡◌, ℕ, true, false, List, [], ◌∷◌, length, slice_index_or, All}
 use Rattle.base_core.specs.Files.{NameMap, put_name, AreNames, IsFile, IsFolderLike}
 use Rattle.base_core.specs.Tree.{TreeState, IsMapOf}
@@ -9,22 +11,22 @@ use Rattle.tree_memory.specs.declared.store.Change.{Change}
 use Rattle.tree_memory.specs.declared.store.Stored.{Stored}
 use Rattle.tree_memory.specs.declared.table.NameAndFile.{NameAndFile}
 
--- a table and the files by number are those of a state
+-- a table of names and the files by number are those of this state
 pub record IsKept (v : TreeState) (entries : List NameAndFile) (files : List Stored) : Type 0 where
   pub names : (q : List ℕ) → v.names q ≡ lookup entries q
   pub made : v.made ≡ length files
   pub bytes : (n : ℕ) → (v.files n).bytes ≡ slice_index_or (contents_of files) n []
   pub synced : (n : ℕ) → (v.files n).synced ≡ slice_index_or (synced_flags files) n false
 
--- in each map that a crash may leave no name is a folder of another and each is a name, and each
--- file has the content of one
+-- a state is sound: in each map that a crash may leave no name is a folder of another and each is a
+-- name, and each file has the content of one
 pub record IsSoundState (v : TreeState) : Type 0 where
   pub folders : (map : NameMap) → IsMapOf v map → IsFolderLike map
   pub named : (map : NameMap) → IsMapOf v map → AreNames map
   pub bytes : (n : ℕ) → IsFile (v.files n).bytes
 
--- changes are a record, a table and the files are those of its newest state, and each state so far
--- is sound
+-- what a store keeps: its changes are a record, its table and its files are those of the newest state,
+-- and each state so far is sound
 pub record IsStore (changes : List Change) (entries : List NameAndFile)
     (files : List Stored) : Type 0 where
   pub recorded : is_record (contents_of files) empty_state changes ≡ true
@@ -32,6 +34,6 @@ pub record IsStore (changes : List Change) (entries : List NameAndFile)
   pub sound : All IsSoundState (state_on (contents_of files) empty_state changes ∷ earlier_on
       (contents_of files) empty_state [] changes)
 
--- a file may be put there: no present name becomes a folder of another
+-- a file may be put under this name: no present name becomes a folder of another
 pub record CanPut (name : List ℕ) (v : TreeState) : Type 0 where
   pub folders : IsFolderLike (put_name v.names name v.made)

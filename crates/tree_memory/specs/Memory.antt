@@ -1,4 +1,5 @@
 -- What a tree in memory shows, and what each of its calls says beyond what every tree says.
+-- The rules stand in `docs/crash-safety.md`, "Misuses, faults and counts".
 use Rattle.std.specs.Prelude.{◌≡◌, ◌⊎◌, ℕ, true, false, if◌then◌else◌, List, Result, OnOk, OnErr, is_ok}
 use Rattle.base_core.specs.Faults.{Counts, next_count}
 use Rattle.base_core.specs.Tree.{TreeState}
@@ -7,15 +8,15 @@ use Rattle.tree_memory.specs.Stores.{store_state, store_history}
 use Rattle.tree_memory.specs.declared.calls.Calls.{Calls}
 use Rattle.tree_memory.specs.declared.tree.MemoryTree.{MemoryTree}
 
--- the newest state
+-- the newest state of a tree in memory
 abbrev pub tree_state : MemoryTree → TreeState
 tree_state tree = store_state tree.store
 
--- the states so far, the newest first
+-- the states of a tree in memory so far, the newest first
 abbrev pub history_of : MemoryTree → List TreeState
 history_of tree = store_history tree.store
 
--- which calls are to fail
+-- which calls of a tree in memory are to fail
 abbrev pub plan_of : MemoryTree → PlanState
 plan_of tree = tree.calls.plan
 
@@ -23,7 +24,8 @@ plan_of tree = tree.calls.plan
 abbrev pub no_faults : Counts
 no_faults = record { faults = 0; misuses = 0; wants = 0; fallible = false }
 
--- only a planned failure can fail a call, beside a misuse and want of memory
+-- the counts that a tree shows by its calls; it may fail for a reason of the world's (`fallible`) only
+-- while a failure is planned
 abbrev pub counts_by : Calls → Counts
 counts_by calls = record {
   faults = calls.tally.faults;
@@ -36,21 +38,22 @@ counts_by calls = record {
 abbrev pub counts_of : MemoryTree → Counts
 counts_of tree = counts_by tree.calls
 
--- how many calls were made
+-- how many calls of a tree in memory were made
 abbrev pub calls_of : MemoryTree → ℕ
 calls_of tree = tree.calls.tally.calls
 
--- how many of them were others than `size`, `read_at` and `list`
+-- how many of its calls were others than `size`, `read_at` and `list`
 abbrev pub writes_of : MemoryTree → ℕ
 writes_of tree = tree.calls.tally.writes
 
--- the greatest length that a `read_at` asked for
+-- the greatest length that a `read_at` of the tree asked for
 abbrev pub longest_of : MemoryTree → ℕ
 longest_of tree = tree.longest
 
 -- ---- a call that reads
 
--- it is counted, the plan is one call nearer, and an error is a fault, never for want of memory
+-- a call that reads: it is counted, the plan is one call nearer, and an error is a fault, never for
+-- want of memory
 pub record IsRead {T E : Type 0} (old new : MemoryTree) (result : Result T E) : Type 0 where
   pub calls : calls_of new ≡ next_count (calls_of old)
   pub writes : writes_of new ≡ writes_of old
@@ -61,23 +64,23 @@ pub record IsRead {T E : Type 0} (old new : MemoryTree) (result : Result T E) : 
 
 -- ---- a call that writes
 
--- no failure is planned for it, and it is no misuse
+-- a call that has no reason to fail: no failure is planned for it, and it is no misuse
 pub record IsFree (can : TreeState → Type 0) (old : MemoryTree) : Type 0 where
   pub unplanned : is_next (plan_of old) ≡ false
   pub proper : can (tree_state old)
 
--- it failed since that was planned, or since it is a misuse
+-- a call failed since that was planned, or since it is a misuse
 pub record HadToFail (can : TreeState → Type 0) (old new : MemoryTree) : Type 0 where
   pub reason : (is_next (plan_of old) ≡ true) ⊎ (can (tree_state old) → ⊥)
   pub wants : (counts_of new).wants ≡ (counts_of old).wants
 
--- it failed for want of memory alone
+-- a call failed for want of memory alone
 pub record FailedForWant (can : TreeState → Type 0) (old new : MemoryTree) : Type 0 where
   pub free : IsFree can old
   pub wants : (counts_of new).wants ≡ next_count (counts_of old).wants
 
--- it is counted, the plan is one call nearer, and an error is a fault, has one of these reasons,
--- and changes nothing else
+-- a call that writes: it is counted, the plan is one call nearer, and an error is a fault, has one of
+-- these reasons, and changes nothing else
 pub record IsWrite {T E : Type 0} (can : TreeState → Type 0) (old new : MemoryTree)
     (result : Result T E) : Type 0 where
   pub calls : calls_of new ≡ next_count (calls_of old)

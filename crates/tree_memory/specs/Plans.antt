@@ -1,14 +1,17 @@
 -- A plan of failures: which calls are to fail, counted from 1 from now on.
+-- The rule is that of `fail_at` and `stop_after`, as the README of this crate says; that a failure is
+-- planned counts as a reason of the world's in `docs/crash-safety.md`, "Misuses, faults and counts".
 use Rattle.std.specs.Prelude.{ℕ, zero, suc, ◌-◌, ◌==◌, nat_lt, Bool, false, ◌||◌, List, [], map, Option, Some, None, is_some}
 use Rattle.std.specs.List.{list_any, filter}
 use Rattle.std.specs.Option.{option_map}
 
--- the calls with the numbers of a list, and all behind the next so many, where that is planned
+-- a plan: the calls with the numbers of a list are to fail, and all behind the next so many, where that
+-- is planned
 pub record PlanState : Type 0 where
   pub listed : List ℕ
   pub stop : Option ℕ
 
--- no call is to fail
+-- the plan by which no call is to fail
 abbrev pub no_plan : PlanState
 no_plan = record { listed = []; stop = None }
 
@@ -33,7 +36,7 @@ has_more plan = list_any (λ n. nat_lt 0 n) plan.listed || is_some plan.stop
 
 -- ---- the plan behind the next call
 
--- each number is one less, and what reaches 0 is past
+-- the listed numbers behind one call: each is one less, and what reaches 0 is past
 abbrev pub listed_on : List ℕ → List ℕ
 listed_on listed = filter (λ n. nat_lt 0 n) (map (λ n. n - 1) listed)
 

@@ -1,10 +1,12 @@
 -- A sink in memory, and what a write makes of it.
+-- The rules stand in `docs/crash-safety.md`, "Misuses, faults and counts", for the counts of a sink,
+-- and are else those of `fail_after` and `take_at_most`, as the README of this crate says.
 use Rattle.std.specs.Prelude.{◌≡◌, ◌⊎◌, ℕ, ◌-◌, ◌<◌, min, max, List, [], ◌++◌, length, take, Option, Some, None, is_some}
 use Rattle.std.specs.Option.{option_map}
 use Rattle.base_core.specs.Faults.{Counts, next_count}
 
--- its bytes, how many more it takes and how many a write takes at most, where these are planned,
--- and how often it failed, also for want of its own memory
+-- a sink in memory: its bytes, how many more it takes and how many a write takes at most, where these
+-- are planned, and how often it failed, also for want of its own memory
 pub record SinkState : Type 0 where
   pub bytes : List ℕ
   pub room : Option ℕ
@@ -16,7 +18,8 @@ pub record SinkState : Type 0 where
 abbrev pub new_sink : SinkState
 new_sink = record { bytes = []; room = None; most = None; faults = 0; wants = 0 }
 
--- only a planned end can fail it, beside want of memory
+-- the counts of a sink: it may fail for a reason of the world's (`fallible`) only where an end is
+-- planned
 abbrev pub sink_counts : SinkState → Counts
 sink_counts sink = record {
   faults = sink.faults;
@@ -26,12 +29,12 @@ sink_counts sink = record {
       is_some sink.room;
 }
 
--- how much of so many bytes fits
+-- how many of so many bytes fit into the room that is left; all where no end is planned
 abbrev pub len_that_fits : Option ℕ → ℕ → ℕ
 len_that_fits None len = len
 len_that_fits (Some room) len = min len room
 
--- how many of so many bytes a write takes: at least one, where there is one
+-- how many of so many bytes a write takes, by the most that was said: at least one, where there is one
 abbrev pub part : Option ℕ → ℕ → ℕ
 part None len = len
 part (Some n) len = min len (max n 1)
@@ -40,7 +43,7 @@ part (Some n) len = min len (max n 1)
 abbrev pub share_of : SinkState → List ℕ → ℕ
 share_of sink piece = part sink.most (len_that_fits sink.room (length piece))
 
--- so many bytes of the piece are taken
+-- a write takes so many bytes of the piece: as many as it can
 pub record Takes (old : SinkState) (piece : List ℕ) (n : ℕ) (new : SinkState) : Type 0 where
   pub taken : n ≡ share_of old piece
   pub left : new ≡ record old {

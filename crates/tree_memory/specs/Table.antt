@@ -1,5 +1,7 @@
 -- A table of names: entries, each a name and the number of its file, in the byte order of the
 -- names.
+-- Serves the contracts of `table`; names and folders are those of `docs/crash-safety.md`, "A tree at
+-- one moment".
 use Rattle.std.specs.Prelude.{◌≡◌, ◌≢◌, ◌↔◌, ℕ, ◌<◌, ◌≤◌, if◌then◌else◌, false, List, [], ◌∷◌, ◌++◌, map, Option, Some, None, IsSome, AllPairs, Contains, length}
 use Rattle.std.specs.List.{HoldsAt, AllWithin}
 use Rattle.std.specs.Ordering.{nat_cmp}
@@ -9,7 +11,7 @@ use Rattle.std.specs.declared.cmp.Ordering.TheVariants.{Less, Greater}
 use Rattle.base_core.specs.Files.{IsFolderOf}
 use Rattle.tree_memory.specs.declared.table.NameAndFile.{NameAndFile}
 
--- each name is before the next ones
+-- entries are a table: each name comes before the next ones, so that none stands twice
 abbrev pub IsTable : List NameAndFile → Type 0
 IsTable entries = AllPairs (λ a b. slice_cmp nat_cmp a.name b.name ≡ Less) entries
 
@@ -17,43 +19,44 @@ IsTable entries = AllPairs (λ a b. slice_cmp nat_cmp a.name b.name ≡ Less) en
 abbrev pub names_of : List NameAndFile → List (List ℕ)
 names_of entries = map (λ e. e.name) entries
 
--- the number that a name leads to
+-- the number that a name leads to, if it is in the table
 abbrev pub lookup : List NameAndFile → List ℕ → Option ℕ
 lookup [] q = None
 lookup (e ∷ es) q = if bytes_eq q e.name then Some e.file else lookup es q
 
--- the name stands at this place
+-- this name stands at this place of a table, counted from 0
 pub record IsNamed (entries : List NameAndFile) (i : ℕ) (name : List ℕ) : Type 0 where
   pub within : i < length entries
   pub here : HoldsAt (λ e. e.name ≡ name) entries i
 
--- a name that is absent would stand at this place
+-- this name is absent from a table, and would stand at this place, counted from 0
 pub record IsPlace (entries : List NameAndFile) (i : ℕ) (name : List ℕ) : Type 0 where
   pub within : i ≤ length entries
   pub before : AllWithin (λ e. slice_cmp nat_cmp e.name name ≡ Less) entries 0 i
   pub behind : AllWithin (λ e. slice_cmp nat_cmp e.name name ≡ Greater) entries i (length entries)
 
--- the names below a folder would begin at this place
+-- the names below this folder begin at this place of a table, counted from 0, or would; 47 is the `/`
+-- behind the folder
 pub record IsStart (entries : List NameAndFile) (i : ℕ) (folder : List ℕ) : Type 0 where
   pub within : i ≤ length entries
   pub before : AllWithin (λ e. slice_cmp nat_cmp e.name (folder ++ 47 ∷ []) ≡ Less) entries 0 i
   pub behind : AllWithin (λ e. slice_cmp nat_cmp e.name (folder ++ 47 ∷ []) ≢ Less) entries i
       (length entries)
 
--- just the names below a folder, in byte order
+-- these are just the names of a table below this folder, in byte order
 pub record IsBelow (entries : List NameAndFile) (folder : List ℕ) (names : List (List ℕ)) : Type 0 where
   pub rising : AllPairs (λ a b. slice_cmp nat_cmp a b ≡ Less) names
   pub each : (q : List ℕ) → Contains names q ↔ (IsSome (lookup entries q) × IsFolderOf folder q)
 
 -- ---- where a name fits, if one name is left out
 
--- a folder of the name is a name of the table, and not the one left out
+-- a folder of this name is a name of the table, and not the one left out
 abbrev pub HasFolderBut : List NameAndFile → List ℕ → List ℕ → Type 0
 HasFolderBut entries name but =
     (folder : List ℕ) × IsFolderOf folder name
     × (IsSome (lookup entries folder) × (bytes_eq folder but ≡ false))
 
--- the folder has a name of the table below it, and not just the one left out
+-- this folder has a name of the table below it, and not just the one left out
 abbrev pub HasBelowBut : List NameAndFile → List ℕ → List ℕ → Type 0
 HasBelowBut entries folder but =
     (name : List ℕ) × IsFolderOf folder name

@@ -1,4 +1,5 @@
 //! The calls of a tree in memory: which are to fail, and how many there were.
+//! The rules stand in `docs/crash-safety.md`, "Misuses, faults and counts".
 
 ghost use Rattle.std.specs.Prelude.{◌≡◌, [], None, Some, OnOk, OnErr, is_ok, if◌then◌else◌, ◌⊎◌, ◌+◌, ℕ, false};
 ghost use Rattle.base_core.specs.Faults.{next_count, HasCause, Rose};
@@ -12,12 +13,12 @@ use base_core::Disk;
 use std::alloc::{AllocError, Global};
 use std::marker::Model;
 
-/// Which calls are to fail, counted from 1 from now on.
+/// A plan of failures: which calls are to fail, counted from 1 from now on.
 #[derive(Drop)]
 pub struct Plan {
-    // Those with these numbers.
+    // The calls with these numbers are to fail.
     listed: Vec<u64>,
-    // All behind the next so many.
+    // All calls behind the next so many are to fail, where that is planned.
     stop: Option<u64>,
 }
 
@@ -30,7 +31,7 @@ impl Model for Plan {
 }
 
 impl Plan {
-    /// No call is to fail.
+    /// The plan by which no call is to fail.
     pub fn none(alloc: Global) -> Plan
         ensures { result ≡ no_plan }
     {
@@ -40,7 +41,7 @@ impl Plan {
         }
     }
 
-    /// The calls with these numbers are to fail.
+    /// The plan by which the calls with these numbers are to fail.
     pub fn at(alloc: Global, calls: &[u64]) -> Result<Plan, AllocError>
         ensures { OnOk result (result ≡ Ok (record { listed = calls.now; stop = None })) }
     {
@@ -48,7 +49,7 @@ impl Plan {
         Ok(Plan { listed, stop: None })
     }
 
-    /// All calls behind the next n are to fail.
+    /// The plan by which all calls behind the next n are to fail.
     pub fn after(alloc: Global, n: u64) -> Plan
         ensures { result ≡ record { listed = []; stop = Some n } }
     {
@@ -58,7 +59,7 @@ impl Plan {
         }
     }
 
-    /// Whether the next call is to fail. The plan is one call nearer.
+    /// Whether the next call is to fail. The plan is one call nearer then.
     pub fn pass(&mut self) -> bool
         ensures planned { result ≡ is_next self.old }
         ensures nearer { self.new ≡ one_on self.old }
@@ -104,7 +105,7 @@ pub struct Tally {
 }
 
 impl Tally {
-    /// Counts of no calls.
+    /// The counts before the first call.
     pub fn new() -> Tally
         ensures { result ≡ no_calls }
     {
@@ -117,21 +118,21 @@ impl Tally {
         }
     }
 
-    /// One more call.
+    /// Counts one more call.
     pub fn call(&mut self)
         ensures { self.new ≡ with_call self.old }
     {
         self.calls = self.calls.saturating_add(1);
     }
 
-    /// The call is one that writes.
+    /// Counts the call as one that writes.
     pub fn write(&mut self)
         ensures { self.new ≡ record self.old { writes = next_count self.old.writes } }
     {
         self.writes = self.writes.saturating_add(1);
     }
 
-    /// The call failed.
+    /// Counts the call as one that failed.
     pub fn fault(&mut self)
         ensures is { self.new ≡ with_fault self.old }
         ensures grown { HasGrown self.old self.new }
@@ -139,7 +140,7 @@ impl Tally {
         self.faults = self.faults.saturating_add(1);
     }
 
-    /// The call was a misuse.
+    /// Counts the call as a misuse, which is a fault too.
     pub fn misuse(&mut self)
         ensures is { self.new ≡ with_misuse self.old }
         ensures grown { HasGrown self.old self.new }
@@ -148,7 +149,7 @@ impl Tally {
         self.misuses = self.misuses.saturating_add(1);
     }
 
-    /// The call failed for want of memory.
+    /// Counts the call as one that found no memory, which is a fault too.
     pub fn want(&mut self)
         ensures is { self.new ≡ with_want self.old }
         ensures grown { HasGrown self.old self.new }
@@ -161,7 +162,9 @@ impl Tally {
 /// The calls of a tree: which are to fail, and how many there were.
 #[derive(Drop)]
 pub struct Calls {
+    /// Which calls are to fail.
     pub plan: Plan,
+    /// How many there were.
     pub tally: Tally,
 }
 
@@ -179,6 +182,7 @@ impl Calls {
 
     /// Counts a call. It fails where it is a misuse, or where that is planned.
     pub fn begin(&mut self, can: bool) -> Result<(), Disk>
+        // The plan is one call nearer, and the call is counted, with its failure if it has one.
         ensures plan { self.new.plan ≡ one_on self.old.plan }
         ensures tally { self.new.tally ≡ with_begun_call can
             (is_next self.old.plan) self.old.tally }
@@ -198,7 +202,7 @@ impl Calls {
         Ok(())
     }
 
-    /// The same of a call that writes.
+    /// Counts a call that writes. It fails where it is a misuse, or where that is planned.
     pub fn begin_write(&mut self, can: bool) -> Result<(), Disk>
         ensures plan { self.new.plan ≡ one_on self.old.plan }
         ensures tally { self.new.tally ≡ with_begun_call can (is_next self.old.plan)
@@ -210,7 +214,7 @@ impl Calls {
         self.begin(can)
     }
 
-    /// Counts the want of memory as the call's fault.
+    /// Ends a call that went on: where it found no memory, that is counted as the call's fault.
     pub fn finish(&mut self, done: Result<(), AllocError>) -> Result<(), Disk>
         ensures plan { self.new.plan ≡ self.old.plan }
         ensures tally { self.new.tally

@@ -1,4 +1,5 @@
 //! What a crash leaves of a store.
+//! The rule stands in `docs/crash-safety.md`, "Misuses, faults and counts", the last paragraph.
 ghost use Rattle.std.specs.Prelude.{◌≡◌, ◌+◌, ◌-◌, ◌<◌, ◌≤◌, ◌^◌, ℕ, List, true, IfOk, length, take, slice_index_or};
 ghost use Rattle.base_core.specs.Files.{no_names};
 ghost use Rattle.base_core.specs.Restart.{IsCrashOf};
@@ -25,8 +26,8 @@ impl Store {
         maps
     }
 
-    /// What a crash may leave, by a number: which map of names, and what an unsynced file then
-    /// holds.
+    /// The store after the crash that a number chooses: which map of names, and what an unsynced
+    /// file then holds.
     pub fn image(&self, alloc: Global, choice: u64) -> Result<Store, AllocError>
         ensures files { IfOk result (λ image.
             files_of (store_state image) ≡ image_of choice (store_state self.now)) }
@@ -49,6 +50,7 @@ impl Store {
 
 // How many maps of names there are behind one change more.
 fn maps_after(maps: u64, change: &Change) -> u64
+    // Counts have 64 bits, and the change may add one.
     requires { maps < 2 ^ 64 - 1 }
     ensures { result ≡ maps_on change.now maps }
 {
@@ -104,7 +106,7 @@ fn moment(changes: &[Change], back: u64) -> usize
     n
 }
 
-// The names behind some changes, the first ones of a record.
+// The names behind the first changes of a record.
 fn names_after(alloc: Global, changes: &[Change]) -> Result<NameTable, AllocError>
     ensures { IfOk result (λ names. (contents : List (List ℕ)) (q : List ℕ)
         → (state_on contents empty_state changes.now).names q ≡ lookup names.entries.items q) }
@@ -117,19 +119,21 @@ fn names_after(alloc: Global, changes: &[Change]) -> Result<NameTable, AllocErro
     Ok(names)
 }
 
-// The names behind one change more, and how many files were made.
+// Goes on to the names behind one change more, and answers how many files were made then.
 fn replay(
     alloc: Global,
     names: &mut NameTable,
     made: usize,
     change: &Change,
 ) -> Result<usize, AllocError>
+    // Counts have 64 bits, and the change may add one.
     requires { made < 2 ^ 64 - 1 }
     ensures bound { IfOk result (λ n. n ≤ made + 1) }
     ensures names { IfOk result (λ n. (contents : List (List ℕ)) (v : TreeState)
         → HasNames v names.old.entries.items made
         → HasNames (step contents change.now v) names.new.entries.items n) }
 {
+    // A change of bytes alone leaves the names, and so do syncs.
     match change {
         Change::Put { name, .. } => {
             names.set(name.copy(alloc)?, made)?;

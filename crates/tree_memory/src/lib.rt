@@ -5,6 +5,8 @@
 //! counts and its plan, and why a call fails), `Changes` (what a put makes of a state), `Kept`
 //! (where a file may be put), `Images` (what is left after a crash, by a number), `Plans` (which
 //! calls are to fail) and `Sink` (the sink) of `specs/`.
+//! The rules stand in `docs/crash-safety.md`, "What each call does" and "Misuses, faults and
+//! counts".
 #![tactic(auto)]
 
 mod calls;

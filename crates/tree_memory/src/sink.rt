@@ -1,4 +1,6 @@
 //! A sink in memory.
+//! The contract is that of `Sink` of `base_core`; the counts stand in `docs/crash-safety.md`,
+//! "Misuses, faults and counts".
 ghost use Rattle.std.specs.Prelude.{◌≡◌, ◌≤◌, List, Option, Some, take, IfOk, OnErr, [], IsOk};
 ghost use Rattle.base_core.specs.Faults.{FailsWithCause, next_count};
 ghost use Rattle.base_core.specs.Sink.{Adds, IsWriteCount};
@@ -16,7 +18,9 @@ pub struct MemorySink {
     room: Option<usize>,
     // How many bytes a write takes at most, where that is planned.
     most: Option<usize>,
+    // How many writes failed.
     faults: u64,
+    // How many of these failed for want of memory.
     wants: u64,
 }
 
@@ -78,7 +82,7 @@ impl MemorySink {
         self.wants
     }
 
-    /// Counts a failure.
+    /// Counts a write that failed.
     fn fault(&mut self) -> SinkFault
         ensures is { self.new ≡ record self.old { faults = next_count self.old.faults } }
         ensures later { self.old.faults ≤ self.new.faults }
@@ -87,7 +91,7 @@ impl MemorySink {
         SinkFault
     }
 
-    /// Counts a failure for want of memory, which is a fault too.
+    /// Counts a write that failed for want of memory, which is a fault too.
     fn want(&mut self) -> SinkFault
         ensures is { self.new ≡ record self.old {
           faults = next_count self.old.faults;
@@ -102,7 +106,7 @@ impl MemorySink {
     }
 }
 
-// How many of so many bytes fit.
+// How many of so many bytes fit into the room that is left; all where no end is planned.
 fn len_that_fits(room: Option<usize>, len: usize) -> usize
     ensures { result ≡ len_that_fits room len }
 {
@@ -112,7 +116,8 @@ fn len_that_fits(room: Option<usize>, len: usize) -> usize
     }
 }
 
-// How many of so many bytes a write takes. At least one byte is taken where there is one.
+// How many of so many bytes a write takes, by the most that was said. At least one byte is taken
+// where there is one.
 fn part(most: Option<usize>, len: usize) -> usize
     ensures { result ≡ part most len }
 {
@@ -127,6 +132,7 @@ impl Sink for MemorySink {
 
     ghost counts = { λ sink. sink_counts sink };
 
+    /// Takes the front of a piece, as much as it can, and answers how many bytes that is.
     fn write(&mut self, piece: &[u8]) -> Result<usize, SinkFault>
         ensures taken { IfOk result (λ n. IsWriteCount n piece.now) }
         ensures empty { piece.now ≡ [] → IsOk result }

@@ -1,4 +1,6 @@
 //! The store of a tree in memory: its record of changes, and what stands now.
+//! The rules stand in `docs/crash-safety.md`, "What each call does", for what a change makes, and
+//! "Misuses, faults and counts", for what is a misuse.
 
 ghost use Rattle.std.specs.Prelude.{◌≡◌, ◌↔◌, ℕ, ◌<◌, ◌≤◌, ◌+◌, [], ◌∷◌, ◌++◌, List, IsTrue, IfOk, IfSome, OnOk, OnErr, length, take, drop, false, All};
 ghost use Rattle.std.specs.Option.{option_copied};
@@ -16,8 +18,11 @@ use std::alloc::{AllocError, Global};
 #[derive(Drop)]
 pub struct Store {
     pub alloc: Global,
+    /// The record: all changes since the tree was empty, the oldest first.
     pub changes: Vec<Change>,
+    /// The names as read now.
     pub names: NameTable,
+    /// All files that were made, by their numbers, also those that no name leads to any more.
     pub files: Vec<Stored>,
     // The names and the files are those of the record's newest state.
     pub ghost in_step: { IsStore changes.items names.entries.items files.items },
@@ -26,7 +31,7 @@ pub struct Store {
 impl Store {
     ghost use Rattle.tree_memory.specs.Stores.{store_state, store_history};
 
-    /// The record of an empty tree.
+    /// The store of an empty tree.
     pub fn new(alloc: Global) -> Store
         ensures { store_history result ≡ empty_state ∷ [] }
     {
@@ -50,7 +55,7 @@ impl Store {
         }
     }
 
-    /// Fills a buffer with the file's bytes from a place on.
+    /// Fills a buffer with the file's bytes from an offset on.
     pub fn read_at(&self, name: &Name, at: u64, into: &mut [u8])
         requires { CanRead name.now at (length into.old) (store_state self.now) }
         ensures { IfSome (files_of (store_state self.now) name.now)
@@ -77,7 +82,7 @@ impl Store {
 
     // ---- where a call is no misuse
 
-    /// Whether the file is there, and has so many bytes from this place on.
+    /// Whether the file is there, and has so many bytes from this offset on.
     pub fn can_read(&self, name: &Name, at: u64, len: usize) -> bool
         ensures { IsTrue result ↔ CanRead name.now at len (store_state self.now) }
     {
@@ -111,7 +116,7 @@ impl Store {
         self.can_put(name)
     }
 
-    /// Whether the file of one name may get another.
+    /// Whether the file of one name may get another name.
     pub fn can_rename(&self, from: &Name, to: &Name) -> bool
         ensures { IsTrue result ↔ CanRename from.now to.now (store_state self.now) }
     {
@@ -126,13 +131,14 @@ impl Store {
 
     // ---- what is made of it, where a refused change changes nothing
 
-    /// A new synced file under the name, and the names synced.
+    /// Puts a new synced file under the name, and syncs the names.
     pub fn put(&mut self, name: &Name, bytes: Vec<u8>) -> Result<(), AllocError>
         requires { CanPut name.now (store_state self.old) }
         ensures ok { OnOk result (store_history self.new
             ≡ after_put name.now bytes.items (store_state self.old) ∷ store_history self.old) }
         ensures err { OnErr result (store_history self.new ≡ store_history self.old) }
     {
+        // All memory is taken before the first change, so that a refused put changes nothing.
         self.changes.reserve(1)?;
         self.files.reserve(1)?;
         let file = self.files.len();
@@ -158,7 +164,7 @@ impl Store {
         Ok(())
     }
 
-    /// A new empty file under the name.
+    /// Makes a new empty file under the name.
     pub fn create(&mut self, name: &Name) -> Result<(), AllocError>
         requires { CanCreate name.now (store_state self.old) }
         ensures ok { OnOk result (store_history self.new
@@ -182,7 +188,7 @@ impl Store {
         Ok(())
     }
 
-    /// A piece at the file's end.
+    /// Adds a piece at the file's end.
     pub fn append(&mut self, name: &Name, piece: &[u8]) -> Result<(), AllocError>
         requires { HasName name.now (store_state self.old) }
         ensures ok { OnOk result (store_history self.new
@@ -198,7 +204,7 @@ impl Store {
         Ok(())
     }
 
-    /// The file is synced.
+    /// Syncs the file.
     pub fn sync(&mut self, name: &Name) -> Result<(), AllocError>
         requires { HasName name.now (store_state self.old) }
         ensures ok { OnOk result (store_history self.new
@@ -213,7 +219,7 @@ impl Store {
         Ok(())
     }
 
-    /// The file of one name gets another.
+    /// Moves the file of one name to another.
     pub fn rename(&mut self, from: &Name, to: &Name) -> Result<(), AllocError>
         requires { CanRename from.now to.now (store_state self.old) }
         ensures ok { OnOk result (store_history self.new
@@ -238,7 +244,7 @@ impl Store {
         Ok(())
     }
 
-    /// The name leads to no file.
+    /// Takes the name away; an absent one makes one more state that is the same.
     pub fn remove(&mut self, name: &Name) -> Result<(), AllocError>
         ensures ok { OnOk result (store_history self.new
             ≡ after_remove name.now (store_state self.old) ∷ store_history self.old) }
@@ -256,7 +262,7 @@ impl Store {
         Ok(())
     }
 
-    /// The names are synced.
+    /// Syncs the names.
     pub fn sync_names(&mut self) -> Result<(), AllocError>
         ensures ok { OnOk result (store_history self.new
             ≡ after_sync_names (store_state self.old) ∷ store_history self.old) }
@@ -273,10 +279,11 @@ fn add<X: Drop>(list: &mut Vec<X>, x: X)
     requires { vec_len list.old < vec_capacity list.old }
     ensures { list.new.items ≡ list.old.items ++ x ∷ [] }
 {
+    // There is room, so that it cannot fail.
     let _ = list.push(x);
 }
 
-/// Whether so many bytes stand from this place on.
+/// Whether so many bytes stand from this offset on.
 fn has_range(bytes: &[u8], at: u64, len: usize) -> bool
     ensures { IsTrue result ↔ (at + len ≤ length bytes.now) }
 {
@@ -321,12 +328,15 @@ pub enum Change {
 /// The bytes of a file, and whether a crash leaves just these.
 #[derive(Drop)]
 pub struct Stored {
+    /// The bytes as read.
     pub bytes: Vec<u8>,
+    /// Whether a crash leaves just these.
     pub synced: bool,
 }
 
 impl Stored {
-    /// Adds a piece at the end, which is not synced. A refused one changes nothing.
+    /// Adds a piece at the end of the file, which is not synced then. Where there is no memory
+    /// nothing changes.
     pub fn append(&mut self, piece: &[u8]) -> Result<(), AllocError>
         ensures bytes { OnOk result (self.new.bytes.items ≡ self.old.bytes.items ++ piece.now) }
         ensures synced { OnOk result (self.new.synced ≡ false) }

@@ -1,4 +1,5 @@
 //! A table of names in byte order, each with the number of its file.
+//! Names and folders are those of `docs/crash-safety.md`, "A tree at one moment".
 ghost use Rattle.std.specs.Prelude.{◌≡◌, ◌↔◌, ℕ, [], ◌∷◌, ◌++◌, false, List, IsTrue, IsSome, IfOk, IfErr, OnOk, OnErr};
 ghost use Rattle.std.specs.Ordering.{nat_cmp, is_lt};
 ghost use Rattle.std.specs.Str.{bytes_eq};
@@ -13,19 +14,22 @@ use std::cmp::Ordering;
 /// A name, and the number of the file that it leads to.
 #[derive(Drop)]
 pub struct NameAndFile {
+    /// The name.
     pub name: Name,
+    /// The number of its file.
     pub file: usize,
 }
 
 /// The names, each with its number, in byte order.
 #[derive(Drop)]
 pub struct NameTable {
+    /// In the byte order of their names, each name once.
     pub entries: Vec<NameAndFile>,
     pub ghost rising: { IsTable entries.items },
 }
 
 impl NameTable {
-    /// No names.
+    /// The table without names.
     pub fn new(alloc: Global) -> NameTable
         ensures { result.entries.items ≡ [] }
     {
@@ -34,7 +38,7 @@ impl NameTable {
         }
     }
 
-    /// The number that a name leads to.
+    /// The number that a name leads to, if it is in the table.
     pub fn find(&self, name: &[u8]) -> Option<usize>
         ensures { result ≡ lookup self.now.entries.items name.now }
     {
@@ -44,7 +48,7 @@ impl NameTable {
         }
     }
 
-    // Where the name stands, or else where it would have to stand.
+    // The place of the name, or else the one where it would have to stand.
     fn place(&self, name: &[u8]) -> Result<usize, usize>
         ensures found { IfOk result (λ i. IsNamed self.now.entries.items i name.now) }
         ensures absent { IfErr result (λ i. IsPlace self.now.entries.items i name.now) }
@@ -53,7 +57,7 @@ impl NameTable {
             .binary_search_by(|entry| entry.name.as_bytes().cmp(name))
     }
 
-    /// Lets a name lead to a number. A refused one changes nothing.
+    /// Lets a name lead to a number. Where there is no memory nothing changes.
     pub fn set(&mut self, name: Name, file: usize) -> Result<(), AllocError>
         ensures ok { OnOk result ((q : List ℕ)
             → lookup self.new.entries.items q
@@ -128,7 +132,7 @@ impl NameTable {
         false
     }
 
-    // Where the names below a folder begin.
+    // The place where the names below a folder begin, or would.
     fn start(&self, folder: &[u8]) -> usize
         ensures { IsStart self.now.entries.items result folder.now }
     {
@@ -136,7 +140,7 @@ impl NameTable {
             .partition_point(|entry| is_before(entry.name.as_bytes(), folder))
     }
 
-    /// The names in byte order.
+    /// All names, in byte order.
     pub fn list(&self, alloc: Global) -> Result<Names, AllocError>
         ensures { IfOk result (λ names. names ≡ names_of self.now.entries.items) }
     {

@@ -1,4 +1,6 @@
 //! A tree of files in memory: its own calls, and those of the trait `Tree`.
+//! The contracts are those of `Tree` of `base_core`; the rules stand in `docs/crash-safety.md`,
+//! "What each call does" and "Misuses, faults and counts".
 ghost use Rattle.std.specs.Prelude.{◌≡◌, ◌↔◌, [], ◌∷◌, List, Some, None, IsTrue, IsOk, IfOk, IfSome, IsErrOf, OnOk, OnErr, false, true, length, max, take, drop, if◌then◌else◌};
 ghost use Rattle.std.specs.Option.{option_map, option_copied};
 ghost use Rattle.base_core.specs.Calls.{IsCounted, Moves, IfObservable};
@@ -21,7 +23,9 @@ use std::alloc::{AllocError, Global};
 /// A tree of files in memory. It shows all: its states, its counts, and which calls are to fail.
 #[derive(Drop)]
 pub struct MemoryTree {
+    // The states, as a record of changes, and what stands now.
     store: Store,
+    // Which calls are to fail, and how many there were.
     calls: Calls,
     // The greatest length that a `read_at` asked for.
     longest: u64,
@@ -144,21 +148,21 @@ impl MemoryTree {
         self.calls.tally.calls
     }
 
-    /// How many of them were others than `size`, `read_at` and `list`.
+    /// How many of its calls were others than `size`, `read_at` and `list`.
     pub fn writes(&self) -> u64
         ensures { result ≡ writes_of self.now }
     {
         self.calls.tally.writes
     }
 
-    /// How many of them failed.
+    /// How many of its calls failed.
     pub fn faults(&self) -> u64
         ensures { result ≡ (counts_of self.now).faults }
     {
         self.calls.tally.faults
     }
 
-    /// How many of them failed for want of the tree's own memory.
+    /// How many of its calls failed for want of the tree's own memory.
     pub fn wants(&self) -> u64
         ensures { result ≡ (counts_of self.now).wants }
     {
@@ -191,6 +195,7 @@ impl Tree for MemoryTree {
 
     ghost whole = { λ tree. whole_history tree };
 
+    /// The length of a file in bytes, or None where the name is absent.
     fn size(&mut self, name: &Name) -> Result<Option<u64>, Disk>
         ensures same { history_of self.new ≡ history_of self.old }
         ensures counts { IsCounted Anywhere (history_of self.old) (counts_of self.old)
@@ -211,6 +216,7 @@ impl Tree for MemoryTree {
         }
     }
 
+    /// Fills a buffer with the file's bytes from an offset on.
     fn read_at(&mut self, name: &Name, at: u64, into: &mut [u8]) -> Result<(), Disk>
         ensures same { history_of self.new ≡ history_of self.old }
         ensures counts { IsCounted (CanRead name.now at (length into.old)) (history_of self.old)
@@ -233,6 +239,7 @@ impl Tree for MemoryTree {
         Ok(())
     }
 
+    /// Makes an empty file under an absent name.
     fn create(&mut self, name: &Name) -> Result<(), Disk>
         ensures moves { Moves (CanCreate name.now) (after_create name.now) (after_create name.now)
             (history_of self.old) (history_of self.new) result }
@@ -249,6 +256,7 @@ impl Tree for MemoryTree {
         self.calls.finish(done)
     }
 
+    /// Adds a piece at the end of a file.
     fn append(&mut self, name: &Name, piece: &[u8]) -> Result<(), Disk>
         ensures moves { Moves (HasName name.now) (after_append name.now piece.now)
             (after_failed_append name.now) (history_of self.old) (history_of self.new) result }
@@ -262,6 +270,7 @@ impl Tree for MemoryTree {
         self.calls.finish(done)
     }
 
+    /// Makes the bytes of a file last.
     fn sync(&mut self, name: &Name) -> Result<(), Disk>
         ensures moves { Moves (HasName name.now) (after_sync name.now) same_state
             (history_of self.old) (history_of self.new) result }
@@ -275,6 +284,7 @@ impl Tree for MemoryTree {
         self.calls.finish(done)
     }
 
+    /// Moves the file of one name to another.
     fn rename(&mut self, from: &Name, to: &Name) -> Result<(), Disk>
         ensures moves { Moves (CanRename from.now to.now) (after_rename from.now to.now)
             (after_rename from.now to.now) (history_of self.old) (history_of self.new) result }
@@ -288,6 +298,7 @@ impl Tree for MemoryTree {
         self.calls.finish(done)
     }
 
+    /// Takes a name away; an absent one is no fault.
     fn remove(&mut self, name: &Name) -> Result<(), Disk>
         ensures moves { Moves Anywhere (after_remove name.now) (after_remove name.now)
             (history_of self.old) (history_of self.new) result }
@@ -300,6 +311,7 @@ impl Tree for MemoryTree {
         self.calls.finish(done)
     }
 
+    /// Makes all names last.
     fn sync_names(&mut self) -> Result<(), Disk>
         ensures moves { Moves Anywhere after_sync_names same_state (history_of self.old)
             (history_of self.new) result }
@@ -312,6 +324,8 @@ impl Tree for MemoryTree {
         self.calls.finish(done)
     }
 
+    /// The present names below a folder, in byte order. Want of memory for the answer is no fault
+    /// of the tree.
     fn list(&mut self, alloc: Global, folder: &Name) -> Result<Names, TreeFault>
         ensures same { history_of self.new ≡ history_of self.old }
         ensures goes_on { GoesOn (counts_of self.old) (counts_of self.new) }
@@ -338,6 +352,7 @@ impl Tree for MemoryTree {
     {
         self.calls.begin(true)?;
         let names = self.store.list(alloc, folder)?;
+        // A law that the proof needs; it computes nothing.
         names.are_names();
         Ok(names)
     }

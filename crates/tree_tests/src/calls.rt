@@ -1,17 +1,18 @@
-//! Calls of a tree in memory that read a part or write: which are a misuse, and what then stands
-//! in the tree.
+//! Calls of a tree in memory that read a part or write: which are a misuse, and what then stands in
+//! the tree. The rules stand in `docs/crash-safety.md`, "What each call does" and
+//! "Misuses, faults and counts".
 use crate::trees::{add_tree, long_at, name_at};
 use base_core::{Name, Tree, Words};
 use row_lines::{add_number, add_word, value_named, word_at};
 use std::alloc::{AllocError, Global};
 use tree_memory::MemoryTree;
 
-/// The longest read.
+/// The most bytes that a row reads at once.
 const LONGEST: usize = 4096;
 
 /// Reads `read NAME AT LEN` into a buffer of sevens, and adds whether that succeeded, what is
 /// then in the buffer, and the longest read so far.
-pub fn add_read(
+pub(crate) fn add_read(
     alloc: Global,
     tree: &mut MemoryTree,
     words: &Words,
@@ -34,7 +35,7 @@ fn add_made(is_made: bool, answer: &mut Vec<u8>) -> Result<(), AllocError> {
     answer.extend_from_slice(if is_made { b"ok" } else { b"failed" })
 }
 
-/// A call that writes to a name.
+/// A call that writes to a name, or syncs it.
 #[derive(Clone, Copy)]
 enum Call {
     Create,
@@ -44,6 +45,7 @@ enum Call {
     Rename,
 }
 
+// The words for these calls.
 #[rattlefmt::skip]
 const CALLS: [(&[u8], Call); 5] = [
     (b"create", Call::Create),
@@ -55,7 +57,7 @@ const CALLS: [(&[u8], Call); 5] = [
 
 /// Makes a call that writes, and adds whether it succeeded, how many maps of names there are, and
 /// what then stands in the tree.
-pub fn add_call(
+pub(crate) fn add_call(
     alloc: Global,
     tree: &mut MemoryTree,
     words: &Words,
@@ -77,7 +79,7 @@ pub fn add_call(
     add_written(alloc, tree, made, answer)
 }
 
-/// Whether a file gets the name of the last word.
+/// Whether a rename to the name of the row's third word succeeds.
 fn moves(
     alloc: Global,
     tree: &mut MemoryTree,
@@ -92,7 +94,7 @@ fn moves(
 
 /// Syncs the names, and adds what `add_call` adds: whether it succeeded, how many maps of names
 /// there are, and what then stands in the tree.
-pub fn add_sync_names(
+pub(crate) fn add_sync_names(
     alloc: Global,
     tree: &mut MemoryTree,
     answer: &mut Vec<u8>,
@@ -115,7 +117,11 @@ fn add_written(
 }
 
 /// Moves a file to and fro as often as `turns TIMES HERE THERE` says.
-pub fn make_turns(alloc: Global, tree: &mut MemoryTree, words: &Words) -> Result<(), AllocError> {
+pub(crate) fn make_turns(
+    alloc: Global,
+    tree: &mut MemoryTree,
+    words: &Words,
+) -> Result<(), AllocError> {
     let Some(here) = name_at(alloc, words, 2)? else {
         return Ok(());
     };

@@ -1,7 +1,7 @@
 //! Answers questions to `base_core` and `tree_memory`: names and lists of them, a sink in memory,
 //! and a tree in memory with its misuses, its planned failures and what a crash leaves of it. Its
 //! stored run has all rows; `tests/lines.md` describes their form. The tree and the sink stay from
-//! one row to the next.
+//! one row to the next. The README of this crate has a row for each question.
 #![tactic(auto)]
 
 mod calls;
@@ -19,29 +19,48 @@ use trees::{
     add_size, add_write, plan_failures, set_sink,
 };
 
-/// What is asked.
+/// What is asked; the README of this crate says what each question answers.
 #[derive(Clone, Copy)]
 enum Question {
+    /// `name TEXT`.
     Name,
+    /// `names WORD ..`.
     Names,
+    /// `new_sink`.
     NewSink,
+    /// `fail_after N`, `take_at_most N`.
     SetSink,
+    /// `write BYTES`, `write_all BYTES`.
     Write,
+    /// `sink_bytes`.
     SinkBytes,
+    /// `new_tree`.
     NewTree,
+    /// `put NAME BYTES`, `can_put NAME`.
     Put,
+    /// `file NAME`.
     File,
+    /// `size NAME`.
     Size,
+    /// `read NAME AT LEN`.
     Read,
+    /// `list NAME`.
     List,
+    /// `fail_at N ..`, `stop_after N`.
     Plan,
+    /// `counts`.
     Counts,
+    /// `image N`.
     Image,
+    /// `turns N HERE THERE`.
     Turns,
+    /// `sync_names`.
     SyncNames,
+    /// `create NAME`, `append NAME BYTES`, `sync NAME`, `remove NAME`, `rename NAME NAME`.
     Call,
 }
 
+// The words that questions begin with.
 #[rattlefmt::skip]
 const QUESTIONS: [(&[u8], Question); 26] = [
     (b"name", Question::Name),
@@ -75,7 +94,9 @@ const QUESTIONS: [(&[u8], Question); 26] = [
 /// The tree and the sink that rows speak of.
 #[derive(Drop)]
 struct InMemory {
+    /// The tree, as the rows before have left it.
     tree: MemoryTree,
+    /// The sink, as the rows before have left it.
     sink: MemorySink,
 }
 

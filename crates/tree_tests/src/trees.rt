@@ -1,5 +1,6 @@
 //! Names, a sink in memory, and a tree in memory: what is put and read, which calls are to fail,
-//! and what a crash leaves.
+//! and what a crash leaves. The rules stand in `docs/crash-safety.md`, "A tree at one moment",
+//! "What a crash leaves" and "Misuses, faults and counts".
 
 use base_core::{Name, Names, Sink, Tree, Words, read_all, write_all};
 use row_lines::{add_number, add_word, add_yes_or_no, number_of, word_at};
@@ -7,7 +8,7 @@ use std::alloc::{AllocError, Global};
 use tree_memory::{MemorySink, MemoryTree};
 
 /// Adds whether a file may be put under a name, and puts it there.
-pub fn add_put(
+pub(crate) fn add_put(
     alloc: Global,
     tree: &mut MemoryTree,
     words: &Words,
@@ -24,7 +25,7 @@ pub fn add_put(
 }
 
 /// Adds the bytes of a file, as it stands and as it is read whole.
-pub fn add_file(
+pub(crate) fn add_file(
     alloc: Global,
     tree: &mut MemoryTree,
     words: &Words,
@@ -42,8 +43,8 @@ pub fn add_file(
     answer.extend_from_slice(tree.file(&name).unwrap_or(b"absent"))
 }
 
-/// Adds the size of a file.
-pub fn add_size(
+/// Adds how many bytes a file has, or that it is absent.
+pub(crate) fn add_size(
     alloc: Global,
     tree: &mut MemoryTree,
     words: &Words,
@@ -59,8 +60,8 @@ pub fn add_size(
     }
 }
 
-/// Adds the names below a folder.
-pub fn add_list(
+/// Adds the names below a folder, in byte order.
+pub(crate) fn add_list(
     alloc: Global,
     tree: &mut MemoryTree,
     words: &Words,
@@ -75,8 +76,8 @@ pub fn add_list(
     }
 }
 
-/// Makes the calls of these numbers fail, or all behind so many.
-pub fn plan_failures(
+/// Makes the calls of these numbers fail (`fail_at`), or all behind so many (`stop_after`).
+pub(crate) fn plan_failures(
     alloc: Global,
     tree: &mut MemoryTree,
     words: &Words,
@@ -94,7 +95,7 @@ pub fn plan_failures(
 
 /// Adds how many calls were made, which of them wrote, failed, and failed for want of memory, the
 /// longest read, and how many maps of names there are.
-pub fn add_counts(
+pub(crate) fn add_counts(
     alloc: Global,
     tree: &MemoryTree,
     answer: &mut Vec<u8>,
@@ -119,7 +120,11 @@ fn add_count(
 }
 
 /// Adds each name with the bytes of its file.
-pub fn add_tree(alloc: Global, tree: &MemoryTree, answer: &mut Vec<u8>) -> Result<(), AllocError> {
+pub(crate) fn add_tree(
+    alloc: Global,
+    tree: &MemoryTree,
+    answer: &mut Vec<u8>,
+) -> Result<(), AllocError> {
     let names = tree.names(alloc)?;
     for i in 0..names.len() {
         let name = names.get(i);
@@ -131,7 +136,7 @@ pub fn add_tree(alloc: Global, tree: &MemoryTree, answer: &mut Vec<u8>) -> Resul
 }
 
 /// Adds what a crash may leave, by the number of this choice, and its counts.
-pub fn add_image(
+pub(crate) fn add_image(
     alloc: Global,
     tree: &MemoryTree,
     words: &Words,
@@ -143,7 +148,7 @@ pub fn add_image(
 }
 
 /// Lets the sink end after so many bytes, or take at most so many in a write.
-pub fn set_sink(sink: &mut MemorySink, words: &Words) {
+pub(crate) fn set_sink(sink: &mut MemorySink, words: &Words) {
     let count = usize::try_from(long_at(words, 1)).unwrap_or(0);
     if word_at(words, 0) == b"fail_after".as_slice() {
         sink.fail_after(count);
@@ -153,7 +158,7 @@ pub fn set_sink(sink: &mut MemorySink, words: &Words) {
 }
 
 /// Adds how many bytes of a piece the sink takes, or of `write_all` whether it takes all.
-pub fn add_write(
+pub(crate) fn add_write(
     alloc: Global,
     sink: &mut MemorySink,
     words: &Words,
@@ -171,7 +176,7 @@ pub fn add_write(
 }
 
 /// Adds what the sink took, and how often it had no memory.
-pub fn add_sink_bytes(
+pub(crate) fn add_sink_bytes(
     alloc: Global,
     sink: &MemorySink,
     answer: &mut Vec<u8>,
@@ -182,7 +187,11 @@ pub fn add_sink_bytes(
 }
 
 /// Adds whether bytes are a name, which lends them, and so does its copy.
-pub fn add_is_name(alloc: Global, words: &Words, answer: &mut Vec<u8>) -> Result<(), AllocError> {
+pub(crate) fn add_is_name(
+    alloc: Global,
+    words: &Words,
+    answer: &mut Vec<u8>,
+) -> Result<(), AllocError> {
     let bytes = word_at(words, 1);
     match Name::read(alloc, bytes)? {
         Some(name) => {
@@ -196,20 +205,24 @@ pub fn add_is_name(alloc: Global, words: &Words, answer: &mut Vec<u8>) -> Result
     }
 }
 
-/// The name that a word is; none where it is no name.
-pub fn name_at(alloc: Global, words: &Words, i: usize) -> Result<Option<Name>, AllocError> {
+/// The name that the word at a place is; none where it is no name.
+pub(crate) fn name_at(alloc: Global, words: &Words, i: usize) -> Result<Option<Name>, AllocError> {
     Name::read(alloc, word_at(words, i))
 }
 
-/// The number that a word is; 0 where it is none.
-pub fn long_at(words: &Words, i: usize) -> u64 {
+/// The number that the word at a place is; 0 where it is none.
+pub(crate) fn long_at(words: &Words, i: usize) -> u64 {
     number_of(word_at(words, i))
         .and_then(|number| u64::try_from(number).ok())
         .unwrap_or(0)
 }
 
 /// Lists the words that are names, and adds how many there are, and each.
-pub fn add_names(alloc: Global, words: &Words, answer: &mut Vec<u8>) -> Result<(), AllocError> {
+pub(crate) fn add_names(
+    alloc: Global,
+    words: &Words,
+    answer: &mut Vec<u8>,
+) -> Result<(), AllocError> {
     let mut names = Names::new(alloc);
     for i in 1..words.len() {
         if let Some(name) = name_at(alloc, words, i)? {
@@ -221,7 +234,7 @@ pub fn add_names(alloc: Global, words: &Words, answer: &mut Vec<u8>) -> Result<(
 }
 
 /// Adds each name of a list.
-pub fn add_each(names: &Names, answer: &mut Vec<u8>) -> Result<(), AllocError> {
+pub(crate) fn add_each(names: &Names, answer: &mut Vec<u8>) -> Result<(), AllocError> {
     for i in 0..names.len() {
         add_word(answer, names.get(i).as_bytes())?;
     }

@@ -1,4 +1,5 @@
--- The fields of a package's information by the columns of the program.
+-- The fields of a package's information by the columns of the program. Serves the proof of `writing`;
+-- the rule is that of *record_info_value*.
 use Rattle.std.specs.Prelude.{List}
 use Rattle.adb_view.specs.Plain.{Plain, null}
 use Rattle.v2_core.specs.declared.writing.Column.{Column}
@@ -6,7 +7,7 @@ use Rattle.v2_core.specs.declared.writing.Column.TheVariants.{Once, List as List
 use Rattle.v2_core.specs.Database.{joined_value, single_value}
 use Rattle.v2_core.specs.Records.{InfoLine}
 
--- of one field of the information, by how it takes its lines
+-- the plain value of a field of the information, by how the column takes its lines
 abbrev pub value_of_column : List InfoLine → Column → Plain
 value_of_column info (Once f) = single_value f info
 value_of_column info (ListOf f) = joined_value f info

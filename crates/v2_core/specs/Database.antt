@@ -1,4 +1,6 @@
 -- The installed database that records say (apk-v3(5)).
+-- The rules stand in `docs/formats.md`, "Text database of version 2", the column "Goes to" and the
+-- paragraph of what the records say; the order of fields in "Schemas", tables 2 to 5, 7 and 9.
 use Rattle.std.specs.Prelude.{ℕ, List, [], ◌∷◌, map, Option, Some, None, if◌then◌else◌}
 use Rattle.std.specs.List.{find, flat_map}
 use Rattle.adb_view.specs.Plain.{Plain, null, int, blob_value, arr_value, obj_value}
@@ -10,22 +12,22 @@ use Rattle.v2_lines.specs.declared.field.InfoField.{InfoField}
 use Rattle.v2_lines.specs.declared.field.InfoField.TheVariants as Fields
 use Rattle.v2_core.specs.Records.{InfoLine, ListedFile, ListedFolder, Record, is_line_of}
 
--- Null, where there are none
+-- the array of some values; Null where there are none
 abbrev pub array_of : List Plain → Plain
 array_of vs = arr_value (plains_of_list vs)
 
--- without the Nulls that stand last
+-- the object of some values, without the Nulls that stand last
 abbrev pub object_of : List Plain → Plain
 object_of vs = obj_value (plains_of_list vs)
 
 -- ---- the package's information
 
--- of a field that takes one value; Null, where its line gives none
+-- the plain value of a field that takes one value; Null where its line gives none
 abbrev pub value_of_first : List FieldValue → Plain
 value_of_first [] = null
 value_of_first (v ∷ vs) = plain_value v
 
--- Null, where there is no line of the field
+-- the plain value that the line of a field gives; Null where there is no line
 abbrev pub value_of_line : Option InfoLine → Plain
 value_of_line None = null
 value_of_line (Some line) = value_of_first line.values
@@ -38,12 +40,12 @@ single_value f info = value_of_line (find (is_line_of f) info)
 abbrev pub values_for : InfoField → InfoLine → List FieldValue
 values_for f line = if is_line_of f line then line.values else []
 
--- all values of the lines of a field
+-- the array of all values that the lines of a field give
 abbrev pub joined_value : InfoField → List InfoLine → Plain
 joined_value f info = array_of (map plain_value (flat_map (values_for f) info))
 
--- the first 18 fields of a package's information in order; the others are Null, as is the file's
--- size
+-- the object of a package's information: the first 18 fields of table 3 in order. The 13th, file-size,
+-- is Null, since the text does not tell it, and so are the fields behind these
 unfoldable pub record_info_value : List InfoLine → Plain
 record_info_value info =
     object_of
@@ -59,24 +61,25 @@ record_info_value info =
 
 -- ---- folders and files
 
--- mode, user, group
+-- the object of an access (table 2): mode, user, group; Null where no line gives one
 abbrev pub listed_access_value : Option Access → Plain
 listed_access_value None = null
 listed_access_value (Some a) = object_of (int a.mode ∷ blob_value a.user ∷ blob_value a.group ∷ [])
 
--- Null, where no line gives it
+-- the blob of a file's hash; Null where no line gives it
 abbrev pub listed_hash_value : Option (List ℕ) → Plain
 listed_hash_value None = null
 listed_hash_value (Some hash) = blob_value hash
 
--- name, acl, size, mtime, hashes
+-- the object of a file (table 4): name, acl, size, mtime, hashes; size and mtime are Null, since the
+-- text does not tell them
 abbrev pub listed_file_value : ListedFile → Plain
 listed_file_value file =
     object_of
     (blob_value file.name ∷ listed_access_value file.access ∷ null ∷ null
     ∷ listed_hash_value file.hash ∷ [])
 
--- name, acl, files
+-- the object of a folder (table 5): name, acl, files
 abbrev pub listed_folder_value : ListedFolder → Plain
 listed_folder_value folder =
     object_of
@@ -85,13 +88,14 @@ listed_folder_value folder =
 
 -- ---- packages
 
--- info, paths, scripts, triggers, replaces-priority; the text has no scripts and no triggers
+-- the object of a package (table 7): info, paths, scripts, triggers, replaces-priority; scripts and
+-- triggers are Null, since the text has none
 abbrev pub record_value : Record → Plain
 record_value r =
     object_of
     (record_info_value r.info ∷ array_of (map listed_folder_value r.folders) ∷ null ∷ null
     ∷ single_value Fields.ReplacesPriority r.info ∷ [])
 
--- a package a record, in the order of the text
+-- the object of an installed database (table 9): a package for each record, in the order of the text
 abbrev pub value_of_records : List Record → Plain
 value_of_records records = object_of (array_of (map record_value records) ∷ [])

@@ -1,4 +1,6 @@
 -- Which line of a text is reported.
+-- The rule stands in `docs/formats.md`, "Text database of version 2": the first bad line of the whole
+-- text is reported.
 use Rattle.std.specs.Prelude.{◌≡◌, ℕ, ◌<◌, List, [], ◌∷◌, ◌++◌, length, take, Result, Ok, Err}
 use Rattle.v2_core.specs.Reading.{records_from}
 use Rattle.v2_core.specs.Records.{Record, empty_record}
@@ -7,7 +9,7 @@ use Rattle.v2_core.specs.Records.{Record, empty_record}
 abbrev pub read_lines : List (List ℕ) → Result (List Record) ℕ
 read_lines lines = records_from 0 empty_record lines
 
--- some lines are the first ones of a text that is read
+-- these lines are the first ones of a text that is read
 pub record BeginsText (front : List (List ℕ)) : Type 0 where
   pub more : List (List ℕ)
   pub records : List Record

@@ -1,5 +1,7 @@
 -- What `read_v2` makes of a text: the payload of the installed database that it says, or why there
 -- is none.
+-- The rules stand in `docs/formats.md`, "Text database of version 2", the last paragraphs: the order of
+-- bad lines, limits and tests.
 use Rattle.std.specs.Prelude.{◌≡◌, ℕ, ⊤, List, Option, Some, None, Result, Ok, Err}
 use Rattle.base_core.specs.declared.cause.Cause.{Cause}
 use Rattle.base_core.specs.declared.cause.Cause.TheVariants.{TextLine}
@@ -12,7 +14,7 @@ use Rattle.v2_core.specs.Database.{value_of_records}
 use Rattle.v2_core.specs.Reading.{records_of}
 use Rattle.v2_core.specs.Records.{Record}
 
--- a test that fails, or a limit that is passed, refuses the text
+-- a payload, unless a test of it failed, whose fault then refuses the text
 abbrev pub unless_bad : List ℕ → Option Cause → Result (List ℕ) V2Fault
 unless_bad payload None = Ok payload
 unless_bad payload (Some cause) = Err (Bad cause)
@@ -32,12 +34,13 @@ abbrev pub payload_if_sound : Result (List ℕ) V2Fault → Result (List ℕ) V2
 payload_if_sound (Ok payload) = unless_bad payload (payload_fault Idb payload)
 payload_if_sound (Err fault) = Err fault
 
--- the first bad line, then a limit of the writer that is passed, then the first test of an
--- installed database that fails
+-- the payload of the installed database that a text says; or what is reported: the first bad line, else
+-- the counts of a limit of the writer that is passed, else the first test of an installed database that
+-- fails
 unfoldable pub payload_of_text : List ℕ → Result (List ℕ) V2Fault
 payload_of_text text = payload_if_sound (written_payload (records_of text))
 
--- a refusal is the one that stands; want of memory may come at any text
+-- a fault is the one that this answer has; want of memory may come at any text
 abbrev pub IsV2Fault : V2Fault → Result (List ℕ) V2Fault → Type 0
 IsV2Fault Memory answer = ⊤
 IsV2Fault (Bad cause) answer = answer ≡ Err (Bad cause)

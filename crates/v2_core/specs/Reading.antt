@@ -1,4 +1,6 @@
 -- The records of a text, or its first bad line.
+-- The rules stand in `docs/formats.md`, "Text database of version 2", the first paragraph and the one
+-- of bad lines.
 use Rattle.std.specs.Prelude.{ℕ, ◌+◌, ◌==◌, if◌then◌else◌, List, [], ◌∷◌, ◌++◌, length, Option, option_and_then, Result, Ok, Err}
 use Rattle.std.specs.Option.{option_map_or}
 use Rattle.dep_core.specs.World.{lines_of}
@@ -14,15 +16,16 @@ abbrev pub with_records : List Record → Result (List Record) ℕ → Result (L
 with_records records (Ok others) = Ok (records ++ others)
 with_records records (Err line) = Err line
 
--- A record and those behind it, where so many lines stand up to its end; a record without a line is
--- none, and one without a name or a version is bad at its last line.
+-- The records from one on that has ended, where so many lines stand up to its end; a record without a
+-- line is none, and one without a name or a version is bad at its last line.
 abbrev pub at_record_end : ℕ → Record → Result (List Record) ℕ → Result (List Record) ℕ
 at_record_end lines r others =
     if r.has_line
     then (if lacks_needed_line r.info then Err lines else with_records (r ∷ []) others)
     else others
 
--- what some lines say behind so many lines, the last of which began a record
+-- the records of some lines, behind so many lines and a record that these began; or the number of the
+-- first bad line
 abbrev pub records_from : ℕ → Record → List (List ℕ) → Result (List Record) ℕ
 records_from before r [] = at_record_end before r (Ok [])
 records_from before r (line ∷ lines) =

@@ -1,5 +1,7 @@
 -- A record of a text database: what its lines say of one package, of its folders and of their
 -- files.
+-- The rules stand in `docs/formats.md`, "Text database of version 2", the table and the two paragraphs
+-- behind it.
 use Rattle.std.specs.Prelude.{ℕ, Bool, true, false, not, ◌&&◌, ◌||◌, ◌==◌, if◌then◌else◌, List, [], ◌∷◌, ◌++◌, Option, Some, None, option_map, is_some}
 use Rattle.std.specs.List.{list_any}
 use Rattle.make_info.specs.Fields.{FieldValue}
@@ -9,7 +11,7 @@ use Rattle.v2_lines.specs.Lines.{RecordLine, info_line, folder_line, folder_acce
 use Rattle.v2_lines.specs.declared.field.InfoField.{InfoField}
 use Rattle.v2_lines.specs.declared.field.InfoField.TheVariants as Fields
 
--- what a line says of a field
+-- what one line says of a field of the package
 pub record InfoLine : Type 0 where
   pub field : InfoField
   pub values : List FieldValue
@@ -26,14 +28,14 @@ pub record ListedFolder : Type 0 where
   pub access : Option Access
   pub files : List ListedFile
 
--- whether it has a line, and what its lines say; the last folder and its last file are those that
--- further lines belong to
+-- a record: whether it has a line, and what its lines say; the last folder and its last file are those
+-- that further lines belong to
 pub record Record : Type 0 where
   pub has_line : Bool
   pub info : List InfoLine
   pub folders : List ListedFolder
 
--- by its parts
+-- a record by its parts
 abbrev pub record_by : Bool → List InfoLine → List ListedFolder → Record
 record_by has_line info folders =
     record { has_line = has_line; info = info; folders = folders }
@@ -42,15 +44,15 @@ record_by has_line info folders =
 abbrev pub empty_record : Record
 empty_record = record_by false [] []
 
--- by its parts
+-- what a line says of a field, by its parts
 abbrev pub info_by : InfoField → List FieldValue → InfoLine
 info_by f values = record { field = f; values = values }
 
--- by its parts
+-- a file by its parts
 abbrev pub file_by : List ℕ → Option Access → Option (List ℕ) → ListedFile
 file_by name access hash = record { name = name; access = access; hash = hash }
 
--- by its parts
+-- a folder by its parts
 abbrev pub folder_by : List ℕ → Option Access → List ListedFile → ListedFolder
 folder_by name access files = record { name = name; access = access; files = files }
 
@@ -64,49 +66,50 @@ is_line_of f line = letter_of line.field == letter_of f
 abbrev pub has_line_of : InfoField → List InfoLine → Bool
 has_line_of f info = list_any (is_line_of f) info
 
--- a second line is taken of a list alone
+-- the information with one more line of a field, which has to be the first one unless the field is a
+-- list
 abbrev pub with_info : InfoField → List FieldValue → List InfoLine → Option (List InfoLine)
 with_info f values info =
     if not (adds_to_list f) && has_line_of f info then None
     else Some (info ++ info_by f values ∷ [])
 
--- a list with another last element
+-- a list with its last element changed; None where there is none, or the change is not possible
 abbrev pub with_last_changed : {A : Type 0} → (A → Option A) → List A → Option (List A)
 with_last_changed change [] = None
 with_last_changed change (x ∷ []) = option_map (λ y. y ∷ []) (change x)
 with_last_changed change (x ∷ y ∷ rest) =
     option_map (λ rest. x ∷ rest) (with_last_changed change (y ∷ rest))
 
--- a second line of access is bad
+-- a file with its access, which may be told once
 abbrev pub file_with_access : Access → ListedFile → Option ListedFile
 file_with_access a file =
     if is_some file.access then None else Some (file_by file.name (Some a) file.hash)
 
--- a second line of a hash is bad
+-- a file with its hash, which may be told once
 abbrev pub file_with_hash : List ℕ → ListedFile → Option ListedFile
 file_with_hash hash file =
     if is_some file.hash then None else Some (file_by file.name file.access (Some hash))
 
--- a second line of access is bad
+-- a folder with its access, which may be told once
 abbrev pub folder_with_access : Access → ListedFolder → Option ListedFolder
 folder_with_access a folder =
     if is_some folder.access then None else Some (folder_by folder.name (Some a) folder.files)
 
--- these in place of its own
+-- a folder with these files in place of its own
 abbrev pub folder_with_files : ListedFolder → List ListedFile → ListedFolder
 folder_with_files folder files = folder_by folder.name folder.access files
 
--- one file more, of which only the name is known
+-- a folder with one file more, of which only the name is known
 abbrev pub folder_with_file : List ℕ → ListedFolder → Option ListedFolder
 folder_with_file name folder =
     Some (folder_with_files folder (folder.files ++ file_by name None None ∷ []))
 
--- a folder with another last file
+-- a folder with its last file changed; None where there is none, or the change is not possible
 abbrev pub folder_with_last : (ListedFile → Option ListedFile) → ListedFolder → Option ListedFolder
 folder_with_last change folder =
     option_map (folder_with_files folder) (with_last_changed change folder.files)
 
--- folders and their files with one more line of them
+-- folders and their files with what one more line says of them; None where it may not stand there
 abbrev pub with_path_line : RecordLine → List ListedFolder → Option (List ListedFolder)
 with_path_line (info_line f values) folders = Some folders
 with_path_line (folder_line name) folders = Some (folders ++ folder_by name None [] ∷ [])
@@ -118,23 +121,24 @@ with_path_line (file_hash_line hash) folders =
     with_last_changed (folder_with_last (file_with_hash hash)) folders
 with_path_line other_line folders = Some folders
 
--- the information with one more line of it
+-- the information with what one more line says of it; None where it may not stand there
 abbrev pub with_info_line : RecordLine → List InfoLine → Option (List InfoLine)
 with_info_line (info_line f values) info = with_info f values info
 with_info_line line info = Some info
 
--- a line that one of both does not take is bad
+-- the record of the information and the folders behind one more line; None where the line may not stand
+-- for one of them
 abbrev pub record_of_parts : Option (List InfoLine) → Option (List ListedFolder) → Option Record
 record_of_parts None folders = None
 record_of_parts (Some info) None = None
 record_of_parts (Some info) (Some folders) = Some (record_by true info folders)
 
--- a record with one more line
+-- a record with what one more line says; None where the line may not stand there
 abbrev pub with_record_line : Record → RecordLine → Option Record
 with_record_line r line =
     record_of_parts (with_info_line line r.info) (with_path_line line r.folders)
 
--- whether the package's name or its version is lacking
+-- whether the line of the package's name or that of its version is lacking
 abbrev pub lacks_needed_line : List InfoLine → Bool
 lacks_needed_line info =
     not (has_line_of Fields.Name info) || not (has_line_of Fields.Version info)

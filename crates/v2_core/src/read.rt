@@ -1,5 +1,6 @@
 //! Reads a text line by line, and writes each package at the end of its record; or tells why a text
 //! database is not taken over.
+//! The rules stand in `docs/formats.md`, "Text database of version 2".
 
 ghost use Rattle.std.specs.Prelude.{◌≡◌, ◌<◌, ◌-◌, ◌∷◌, IfErr, IfOk, List, None, OnOk, Ok, Result, ℕ, Err};
 ghost use Rattle.base_core.specs.declared.cause.Cause.TheVariants.{TextLine};
@@ -46,7 +47,7 @@ pub fn read_v2(alloc: Global, bytes: &[u8]) -> Result<Vec<u8>, V2Fault>
     }
 }
 
-// Tests a payload as an installed database's.
+// Tests a payload as that of an installed database.
 fn check_database(alloc: Global, payload: &[u8]) -> Result<(), ReadFault>
     ensures bad { IfErr result
         (λ fault. IsReadFault fault (payload_fault Tables.Idb payload.now)) }
@@ -90,7 +91,7 @@ fn write_database(alloc: Global, draft: &mut Draft, bytes: &[u8]) -> Result<(), 
     Ok(())
 }
 
-// Writes the packages that a text says.
+// Writes the packages that a text says, each at the end of its record.
 #[tactic(auto, unfolding(crate::specs::Reading::records_of))]
 fn write_packages(alloc: Global, draft: &mut Draft, bytes: &[u8]) -> Result<(), V2Fault>
     ensures ok { OnOk result (draft_with_read (records_of bytes.now) draft.old ≡ Ok draft.new) }
@@ -105,7 +106,9 @@ fn write_packages(alloc: Global, draft: &mut Draft, bytes: &[u8]) -> Result<(), 
     write_record(draft, &record, number)
 }
 
-// Reads the line with this number: an empty one ends the record, another belongs to it.
+// Reads the line with this number, counted from 1: an empty one ends the record, another belongs to
+// it. The clauses say it of whatever lines stand behind this one: what is written with them is what
+// the text from this line on gives.
 fn add_line<'a>(
     draft: &mut Draft,
     text_record: &mut Record<'a>,
@@ -129,7 +132,8 @@ fn add_line<'a>(
     Ok(())
 }
 
-// Ends a record, where so many lines stand up to there, and begins a new one.
+// Ends a record, where so many lines stand up to there, and begins a new one. The clauses say it of
+// whatever records stand behind this one.
 fn end_record(draft: &mut Draft, text_record: &mut Record<'_>, lines: u64) -> Result<(), V2Fault>
     ensures new { OnOk result (text_record.new ≡ empty_record) }
     ensures ok { OnOk result ((others : Result (List RecordModel) ℕ)
@@ -144,7 +148,7 @@ fn end_record(draft: &mut Draft, text_record: &mut Record<'_>, lines: u64) -> Re
 }
 
 // Writes the package of a record, where so many lines stand up to its end; a record without a line
-// is none.
+// is none. The clauses say it of whatever records stand behind this one.
 fn write_record(draft: &mut Draft, text_record: &Record<'_>, lines: u64) -> Result<(), V2Fault>
     ensures ok { OnOk result ((others : Result (List RecordModel) ℕ)
         → draft_with_read others draft.new
@@ -162,7 +166,7 @@ fn write_record(draft: &mut Draft, text_record: &Record<'_>, lines: u64) -> Resu
     Ok(())
 }
 
-// The refusal of a line, which counts from 1.
+// The refusal of a line by its number, counted from 1.
 fn bad_line(line: u64) -> V2Fault
     ensures { result ≡ Bad (TextLine line) }
 {
@@ -190,6 +194,7 @@ impl From<AllocError> for V2Fault {
 
     ghost from_gives = { λ _ fault. fault ≡ Memory };
 
+    /// Where no memory was given the text is not read.
     fn from(_: AllocError) -> V2Fault {
         V2Fault::Memory
     }
@@ -201,6 +206,7 @@ impl From<Cause> for V2Fault {
 
     ghost from_gives = { λ cause fault. fault ≡ Bad cause };
 
+    /// A failed test refuses the text.
     fn from(cause: Cause) -> V2Fault {
         V2Fault::Bad(cause)
     }

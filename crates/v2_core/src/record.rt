@@ -1,5 +1,7 @@
 //! A record of a text database: what its lines say of one package, of its folders and of their
 //! files.
+//! The rules stand in `docs/formats.md`, "Text database of version 2", the table and the two
+//! paragraphs behind it.
 ghost use Rattle.std.specs.List.{find, list_any};
 ghost use Rattle.std.specs.Option.{option_map};
 ghost use Rattle.std.specs.Prelude.{◌≡◌, ◌++◌, ◌∷◌, [], IfOk, None, OnOk, Some, if◌then◌else◌, is_some, option_and_then};
@@ -13,10 +15,12 @@ use std::alloc::{AllocError, Global};
 use std::marker::Model;
 use v2_lines::{Access, InfoField, Line, Value, read_line};
 
-/// What a line says of a field.
+/// What one line says of a field of the package.
 #[derive(Drop)]
 pub(crate) struct InfoLine<'a> {
+    /// The field, by the line's letter.
     pub field: InfoField,
+    /// What the line's value says.
     pub value: Value<'a>,
 }
 
@@ -32,9 +36,11 @@ impl<'a> Model for InfoLine<'a> {
 /// A file that a record lists.
 #[derive(Drop)]
 pub(crate) struct File<'a> {
+    /// Its name: one part of a path.
     pub name: &'a [u8],
+    /// Whose the file is, where a line said it.
     pub access: Option<Access<'a>>,
-    /// The SHA-1 of its bytes.
+    /// The SHA-1 of its bytes, where a line said it.
     pub hash: Option<Vec<u8>>,
 }
 
@@ -60,7 +66,7 @@ impl<'a> File<'a> {
         true
     }
 
-    /// Says what its hash is. False: that was said before.
+    /// Says what the hash of the file is. False: that was said before.
     fn add_hash(&mut self, hash: Vec<u8>) -> bool
         ensures { (if result then Some self.new else None)
             ≡ file_with_hash hash.items self.old }
@@ -76,8 +82,11 @@ impl<'a> File<'a> {
 /// A folder that a record lists, with its files.
 #[derive(Drop)]
 pub(crate) struct Folder<'a> {
+    /// Its path; empty for the root.
     pub name: &'a [u8],
+    /// Whose the folder is, where a line said it.
     pub access: Option<Access<'a>>,
+    /// In the order of their lines.
     pub files: Vec<File<'a>>,
 }
 
@@ -104,7 +113,7 @@ impl<'a> Folder<'a> {
         true
     }
 
-    /// Adds a file.
+    /// Begins a file, behind those of the folder.
     fn add_file(&mut self, name: &'a [u8]) -> Result<(), AllocError>
         ensures { OnOk result (Some self.new ≡ folder_with_file name.entry.now self.old) }
     {
@@ -159,8 +168,11 @@ fn add_hash_to_last(files: &mut Vec<File<'_>>, hash: Vec<u8>) -> bool
 #[derive(Drop)]
 pub(crate) struct Record<'a> {
     alloc: Global,
+    // Whether a line was read; a record without one is none.
     has_line: bool,
+    /// What lines said of the package, in their order.
     pub info: Vec<InfoLine<'a>>,
+    /// The folders, in the order of their lines.
     pub folders: Vec<Folder<'a>>,
 }
 
@@ -185,7 +197,7 @@ impl<'a> Record<'a> {
         }
     }
 
-    /// Drops all that its lines say, so that another record can begin.
+    /// Drops all that the record's lines said, so that another record can begin.
     pub(crate) fn clear(&mut self)
         ensures { self.new ≡ empty_record }
     {
@@ -194,21 +206,21 @@ impl<'a> Record<'a> {
         self.folders.clear();
     }
 
-    /// Whether it has a line.
+    /// Whether a line of the record was read.
     pub(crate) fn has_line(&self) -> bool
         ensures { result ≡ self.now.has_line }
     {
         self.has_line
     }
 
-    /// Whether nothing is said of the package's name, or of its version.
+    /// Whether the line of the package's name or that of its version is lacking.
     pub(crate) fn lacks_needed_line(&self) -> bool
         ensures { result ≡ lacks_needed_line self.now.info }
     {
         !has_line_of(&self.info, InfoField::Name) || !has_line_of(&self.info, InfoField::Version)
     }
 
-    /// Adds a line of a text. False: it is bad.
+    /// Adds a line of a text. False: the line is bad.
     pub(crate) fn add_text(&mut self, text: &'a [u8]) -> Result<bool, AllocError>
         ensures { IfOk result (λ good. (if good then Some self.new else None)
             ≡ with_text self.old text.entry.now) }
@@ -219,7 +231,7 @@ impl<'a> Record<'a> {
         }
     }
 
-    /// Adds what a line says. False: it may not stand behind the lines before it.
+    /// Adds what a line says. False: the line may not stand behind those before it.
     fn add(&mut self, line: Line<'a>) -> Result<bool, AllocError>
         ensures { IfOk result (λ good. (if good then Some self.new else None)
             ≡ with_record_line self.old (line_view line.entry)) }
@@ -244,7 +256,7 @@ fn has_line_of(info: &[InfoLine<'_>], field: InfoField) -> bool
     info.iter().any(|line| line.field == field)
 }
 
-/// Adds a line of a field. False: a second one of a field that is no list.
+/// Adds what a line says of a field. False: the line is a second one of a field that is no list.
 fn add_info<'a>(
     info: &mut Vec<InfoLine<'a>>,
     field: InfoField,
@@ -312,7 +324,8 @@ fn add_file_access<'a>(folders: &mut Vec<Folder<'a>>, access: Access<'a>) -> boo
     }
 }
 
-/// Says what its hash is. False: there is none, or that was said before.
+/// Says what the hash of the last file of the last folder is. False: there is none, or that was
+/// said before.
 fn add_file_hash<'a>(folders: &mut Vec<Folder<'a>>, hash: Vec<u8>) -> bool
     ensures { (if result then Some folders.new.items else None)
         ≡ with_last_changed (folder_with_last (file_with_hash hash.items)) folders.old.items }

@@ -1,4 +1,6 @@
 //! Writes the package that a record says, as an installed database has it (apk-v3(5)).
+//! The rules stand in `docs/formats.md`, "Text database of version 2", the column "Goes to"; the
+//! order of fields in "Schemas", tables 2 to 5 and 7.
 ghost use Rattle.adb_values.specs.Drafts.{draft_with, draft_with_all};
 ghost use Rattle.dep_core.specs.Meets.{dependency};
 ghost use Rattle.make_info.specs.Fields.{need};
@@ -28,11 +30,12 @@ enum Column {
     Once(InfoField),
     /// All lines of a field.
     List(InfoField),
-    /// Nothing.
+    /// Nothing: no line gives the field.
     Null,
 }
 
-/// The fields of a package's information in order, up to the last that a line gives.
+/// The fields of a package's information in the order of table 3, up to the last that a line gives,
+/// which is the 18th. The 13th is the file's size, which the text does not tell.
 const COLUMNS: [Column; 18] = [
     Column::Once(InfoField::Name),
     Column::Once(InfoField::Version),
@@ -54,7 +57,8 @@ const COLUMNS: [Column; 18] = [
     Column::List(InfoField::InstallIf),
 ];
 
-/// Writes the package of a record.
+/// Writes the package of a record: information, folders, no scripts, no triggers, and the priority
+/// in replacing, in the order of table 7.
 pub(crate) fn write_package(draft: &mut Draft, text_record: &Record<'_>) -> Result<(), AllocError>
     ensures { OnOk result (draft.new ≡ draft_with (record_value text_record.now) draft.old) }
 {
@@ -95,7 +99,7 @@ fn write_columns(
     Ok(())
 }
 
-// Writes one field of it.
+// Writes one field of the information.
 fn write_column(draft: &mut Draft, info: &[InfoLine<'_>], column: Column) -> Result<(), AllocError>
     ensures { OnOk result (draft.new ≡ draft_with (value_of_column info.now column) draft.old) }
 {
@@ -106,7 +110,7 @@ fn write_column(draft: &mut Draft, info: &[InfoLine<'_>], column: Column) -> Res
     }
 }
 
-// Writes what the line of a field says.
+// Writes what the line of a field says, or NULL where there is none.
 fn write_once(draft: &mut Draft, info: &[InfoLine<'_>], field: InfoField) -> Result<(), AllocError>
     ensures { OnOk result (draft.new ≡ draft_with (single_value field info.now) draft.old) }
 {
@@ -116,7 +120,7 @@ fn write_once(draft: &mut Draft, info: &[InfoLine<'_>], field: InfoField) -> Res
     }
 }
 
-// The line of a field of which there is one at most.
+// The line of a field of which a record has one at most.
 fn find_line<'a, 'b>(info: &'a [InfoLine<'b>], field: InfoField) -> Option<&'a InfoLine<'b>>
     ensures { option_map (λ line. line.now) result ≡ find (is_line_of field) info.entry.now }
 {
@@ -140,7 +144,7 @@ fn write_first(draft: &mut Draft, value: &Value<'_>) -> Result<(), AllocError>
     }
 }
 
-// Writes what all lines of a field say.
+// Writes what all lines of a field say, as an array.
 fn write_list(draft: &mut Draft, info: &[InfoLine<'_>], field: InfoField) -> Result<(), AllocError>
     ensures { OnOk result (draft.new ≡ draft_with (joined_value field info.now) draft.old) }
 {
@@ -192,7 +196,7 @@ fn write_folders(draft: &mut Draft, folders: &[Folder<'_>]) -> Result<(), AllocE
     draft.close_array()
 }
 
-// Writes a folder: its name, its access and its files.
+// Writes a folder, in the order of table 5: its name, its access and its files.
 fn write_folder(draft: &mut Draft, folder: &Folder<'_>) -> Result<(), AllocError>
     ensures { OnOk result (draft.new ≡ draft_with (listed_folder_value folder.now) draft.old) }
 {
@@ -215,7 +219,8 @@ fn write_files(draft: &mut Draft, files: &[File<'_>]) -> Result<(), AllocError>
     draft.close_array()
 }
 
-// Writes a file. Size and mtime are Null, since the text does not tell them.
+// Writes a file, in the order of table 4. Size and mtime are NULL, since the text does not tell
+// them.
 fn write_file(draft: &mut Draft, file: &File<'_>) -> Result<(), AllocError>
     ensures { OnOk result (draft.new ≡ draft_with (listed_file_value file.now) draft.old) }
 {
@@ -239,7 +244,7 @@ fn write_access(draft: &mut Draft, access: &Option<Access<'_>>) -> Result<(), Al
     write_known_access(draft, access)
 }
 
-// Writes an access that a line gives: mode, user and group, in the order of the table.
+// Writes an access that a line gives, in the order of table 2: mode, user and group.
 fn write_known_access(draft: &mut Draft, access: &Access<'_>) -> Result<(), AllocError>
     ensures { OnOk result (draft.new
         ≡ draft_with (listed_access_value (Some (access_view access.now))) draft.old) }

@@ -1,4 +1,6 @@
 -- Whose a file or a folder is, and its mode: `uid:gid:mode`.
+-- The rules stand in `docs/formats.md`, "Text database of version 2", the rows M and a and the
+-- paragraph behind the table.
 use Rattle.std.specs.Prelude.{ℕ, ◌^◌, ◌==◌, nat_lt, nat_le, Bool, not, ◌&&◌, if◌then◌else◌, List, length, Option, Some, None, option_map}
 use Rattle.std.specs.Char.{is_ascii_digit}
 use Rattle.std.specs.List.{after_first, before_first, list_all}
@@ -6,17 +8,18 @@ use Rattle.std.specs.Str.Parse.{digits_value}
 use Rattle.v2_lines.specs.declared.access.Access.{Access as AccessSlices}
 use Rattle.v2_lines.specs.declared.access.TheConstants.{COLON}
 
--- the numbers of the user and of the group are texts
+-- an access: whose a file or a folder is, and its mode; the numbers of the user and of the group are
+-- kept as the texts that they are
 pub record Access : Type 0 where
   pub user : List ℕ
   pub group : List ℕ
   pub mode : ℕ
 
--- by its parts
+-- an access by its parts
 abbrev pub access_by : List ℕ → List ℕ → ℕ → Access
 access_by user group mode = record { user = user; group = group; mode = mode }
 
--- texts in place of slices
+-- the access that a value of the program is, with texts in place of slices
 abbrev pub access_view : AccessSlices → Access
 access_view a = access_by a.user.now a.group.now a.mode
 
@@ -28,15 +31,15 @@ before_colon text = before_first (λ b. b == COLON) text
 abbrev pub behind_colon : List ℕ → List ℕ
 behind_colon text = after_first (λ b. b == COLON) text
 
--- one or more decimal digits
+-- whether a text is the number of a user or a group: one or more decimal digits
 abbrev pub is_id : List ℕ → Bool
 is_id text = not (length text == 0) && list_all is_ascii_digit text
 
--- `0` to `7`
+-- whether a byte is an octal digit: `0` (48) to `7` (55)
 abbrev pub is_octal_digit : ℕ → Bool
 is_octal_digit b = nat_le 48 b && nat_le b 55
 
--- one or more octal digits
+-- whether a text is one or more octal digits
 abbrev pub is_octal : List ℕ → Bool
 is_octal text = not (length text == 0) && list_all is_octal_digit text
 
@@ -46,7 +49,7 @@ octal_number digits =
     if is_octal digits && nat_lt (digits_value 8 digits) (2 ^ 64) then Some (digits_value 8 digits)
     else None
 
--- `uid:gid:mode`; parts behind the third are passed over
+-- the access that a text `uid:gid:mode` is, if it is one; parts behind the third are passed over
 abbrev pub access_in : List ℕ → Option Access
 access_in text =
     let user = before_colon text in

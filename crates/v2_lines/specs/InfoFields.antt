@@ -1,4 +1,6 @@
 -- The fields of a package that lines of a text database give, and what a value of each has to be.
+-- The rules stand in `docs/formats.md`, "Text database of version 2", the table, from C to the row D,
+-- p, r, i.
 use Rattle.std.specs.Prelude.{ℕ, ◌==◌, Bool, true, false, List, [], ◌∷◌, Option}
 use Rattle.std.specs.List.{find}
 use Rattle.v2_lines.specs.declared.field.InfoField.{InfoField}
@@ -6,8 +8,8 @@ use Rattle.v2_lines.specs.declared.field.InfoField.TheVariants as Fields
 use Rattle.v2_lines.specs.declared.field.Grammar.{Grammar}
 use Rattle.v2_lines.specs.declared.field.Grammar.TheVariants as Grammars
 
--- the letter with which the lines of a field begin: C, P, V, A, T, U, L, o, m, I, t, k, q, c, D, p,
--- r, i
+-- the letter with which the lines of a field begin, as the byte of C, P, V, A, T, U, L, o, m, I, t, k,
+-- q, c, D, p, r or i
 abbrev pub letter_of : InfoField → ℕ
 letter_of Fields.Hashes = 67
 letter_of Fields.Name = 80

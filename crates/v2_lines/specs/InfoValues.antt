@@ -1,4 +1,5 @@
 -- What the value of a line says of its field.
+-- The rules stand in `docs/formats.md`, "Text database of version 2", the column of values.
 use Rattle.std.specs.Prelude.{ℕ, ◌==◌, Bool, true, ◌&&◌, if◌then◌else◌, List, [], ◌∷◌, ◌++◌, length, Option, Some, None, option_map, Result, Ok, Err}
 use Rattle.base64.specs.Engines.{standard}
 use Rattle.base64.specs.GeneralPurpose.{decode_of as base64_bytes}
@@ -11,27 +12,28 @@ use Rattle.make_info.specs.Fields.{FieldValue, text, number, decimal_number, nee
 use Rattle.v2_lines.specs.declared.field.Grammar.{Grammar}
 use Rattle.v2_lines.specs.declared.field.Grammar.TheVariants as Grammars
 
--- so many bytes as a SHA-1 has
+-- bytes that were decoded, where they are 20, as many as a SHA-1 has
 abbrev pub twenty_bytes : Result (List ℕ) DecodeError → Option (List ℕ)
 twenty_bytes (Ok bytes) = if length bytes == 20 then Some bytes else None
 twenty_bytes (Err e) = None
 
--- the SHA-1 that a text is: `Q1` and its base64 (RFC 4648)
+-- the SHA-1 that a text is, if it is one: `Q1` (81, 49) and the base64 (RFC 4648) of 20 bytes
 abbrev pub sha1_of : List ℕ → Option (List ℕ)
 sha1_of [] = None
 sha1_of (q ∷ []) = None
 sha1_of (q ∷ one ∷ encoded) =
     if (q == 81) && (one == 49) then twenty_bytes (base64_bytes standard encoded) else None
 
--- a text is the field's one value
+-- the values of a field that has one text
 abbrev pub one_text : List ℕ → List FieldValue
 one_text bytes = text bytes ∷ []
 
--- a number is the field's one value
+-- the values of a field that has one number
 abbrev pub one_number : ℕ → List FieldValue
 one_number n = number n ∷ []
 
--- the bytes of pairs of hexadecimal digits; another text says nothing
+-- the values of a commit: the bytes of pairs of hexadecimal digits; another text is dropped, and gives
+-- none
 abbrev pub commit_values : Result (List ℕ) FromHexError → List FieldValue
 commit_values (Ok bytes) = one_text bytes
 commit_values (Err e) = []

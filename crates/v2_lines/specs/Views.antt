@@ -1,4 +1,5 @@
 -- What the program's values stand for.
+-- Serves the contracts of `value` and `line`.
 use Rattle.std.specs.Prelude.{ℕ, List, [], ◌∷◌, map, Vec}
 use Rattle.std.specs.declared.alloc.Global.{Global}
 use Rattle.dep_core.specs.Meets.{dependency}
@@ -15,11 +16,11 @@ use Rattle.v2_lines.specs.declared.value.Value.TheVariants.{Text, Bytes, Number,
 abbrev pub bytes_view : Vec ℕ Global → List ℕ
 bytes_view v = v.items
 
--- each dependency is a value of its own
+-- the values of a list of dependencies: each is a value of its own
 abbrev pub needs_view : Vec Dep Global → List FieldValue
 needs_view v = map (λ d. need (dependency d)) v.items
 
--- what a line says of its field; a commit that is no hexadecimal text says nothing
+-- the values that the value of a line stands for; a commit that is no hexadecimal text stands for none
 abbrev pub line_value_view : Value → List FieldValue
 line_value_view (Text t) = text t.now ∷ []
 line_value_view (Bytes b) = text b.items ∷ []
@@ -27,7 +28,7 @@ line_value_view (Number n) = number n ∷ []
 line_value_view (Needs ds) = needs_view ds
 line_value_view Nothing = []
 
--- what one line says
+-- what a line of the program says
 abbrev pub line_view : Line → RecordLine
 line_view (Lines.Info f v) = info_line f (line_value_view v)
 line_view (Lines.Folder name) = folder_line name.now

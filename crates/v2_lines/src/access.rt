@@ -1,4 +1,6 @@
 //! Who may do what with a file or a folder: `uid:gid:mode`.
+//! The rules stand in `docs/formats.md`, "Text database of version 2", the rows M and a and the
+//! paragraph behind the table.
 ghost use Rattle.std.specs.List.{list_all};
 ghost use Rattle.std.specs.Option.{option_map};
 ghost use Rattle.std.specs.Prelude.{◌≡◌, ◌==◌, ◌<◌, IfSome, length, position, true};
@@ -17,10 +19,12 @@ pub struct Access<'a> {
     pub user: &'a [u8],
     /// The group's number, in decimal digits.
     pub group: &'a [u8],
+    /// The mode: a number that the text gives in octal digits.
     pub mode: u64,
 }
 
-/// Reads `uid:gid:mode`. Parts behind the third are passed over.
+/// Reads `uid:gid:mode`. Parts behind the third are passed over. None comes exactly where the text
+/// is no access.
 pub(crate) fn read_access(text: &[u8]) -> Option<Access<'_>>
     ensures { option_map access_view result ≡ access_in text.now }
 {
@@ -62,14 +66,14 @@ fn behind_colon(text: &[u8]) -> &[u8]
     }
 }
 
-// Whether a text is one or more decimal digits.
+// Whether a text is the number of a user or a group: one or more decimal digits.
 fn is_id(text: &[u8]) -> bool
     ensures { result ≡ is_id text.now }
 {
     !text.is_empty() && are_digits(text)
 }
 
-// Whether all bytes are decimal digits; no byte is one too few for a number.
+// Whether all bytes are decimal digits, as of no bytes all are.
 fn are_digits(text: &[u8]) -> bool
     ensures { result ≡ list_all is_ascii_digit text.now }
 {

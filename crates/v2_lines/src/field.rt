@@ -1,31 +1,51 @@
 //! The fields of a package that lines of a text database give, by the letters of the lines.
+//! The rules stand in `docs/formats.md`, "Text database of version 2", the table, from C to the row
+//! D, p, r, i.
 ghost use Rattle.std.specs.Prelude.{◌≡◌, ◌==◌};
 ghost use Rattle.v2_lines.specs.InfoFields.{info_field_among, field_of_letter, grammar_of, adds_to_list, letter_of};
 
 /// A field of a package that a line gives (the installed database of apk-tools 2).
 #[derive(Clone, Copy, Debug, PartialEq, Eq)]
 pub enum InfoField {
+    /// The field of lines `C:value`.
     Hashes,
+    /// The field of lines `P:value`.
     Name,
+    /// The field of lines `V:value`.
     Version,
+    /// The field of lines `A:value`.
     Arch,
+    /// The field of lines `T:value`.
     Description,
+    /// The field of lines `U:value`.
     Url,
+    /// The field of lines `L:value`.
     License,
+    /// The field of lines `o:value`.
     Origin,
+    /// The field of lines `m:value`.
     Maintainer,
+    /// The field of lines `I:value`.
     InstalledSize,
+    /// The field of lines `t:value`.
     BuildTime,
+    /// The field of lines `k:value`.
     ProviderPriority,
+    /// The field of lines `q:value`.
     ReplacesPriority,
+    /// The field of lines `c:value`.
     RepoCommit,
+    /// The field of lines `D:value`.
     Depends,
+    /// The field of lines `p:value`.
     Provides,
+    /// The field of lines `r:value`.
     Replaces,
+    /// The field of lines `i:value`.
     InstallIf,
 }
 
-/// What a value has to be.
+/// What a value of a field has to be.
 #[derive(Clone, Copy)]
 pub enum Grammar {
     /// `Q1` and the base64 of the 20 bytes of a SHA-1.
@@ -44,7 +64,7 @@ pub enum Grammar {
     Dependencies,
 }
 
-// All fields.
+// All fields, in the order of the table of letters.
 static FIELDS: [InfoField; 18] = [
     InfoField::Hashes,
     InfoField::Name,
@@ -75,7 +95,7 @@ impl InfoField {
         find_by_letter(&FIELDS, letter)
     }
 
-    /// The letter with which its lines begin.
+    /// The letter with which the lines of the field begin.
     fn letter(self) -> u8
         ensures { result ≡ letter_of self }
     {
@@ -101,7 +121,7 @@ impl InfoField {
         }
     }
 
-    /// What a value of it has to be.
+    /// What a value of the field has to be.
     pub(crate) fn grammar(self) -> Grammar
         ensures { result ≡ grammar_of self }
     {
@@ -125,7 +145,7 @@ impl InfoField {
         }
     }
 
-    /// Whether a record may have several lines of it, each of which adds to a list.
+    /// Whether a record may have several lines of the field, each of which adds to a list.
     pub fn adds_to_list(self) -> bool
         ensures { result ≡ adds_to_list self }
     {

@@ -1,4 +1,6 @@
 //! A line of a text database: a letter, a colon and a value.
+//! The rules stand in `docs/formats.md`, "Text database of version 2", the table and the paragraph
+//! above it.
 ghost use Rattle.adb_rules.specs.Rules.{is_folder_name, is_one_part};
 ghost use Rattle.std.specs.List.{list_any};
 ghost use Rattle.std.specs.Option.{option_map};
@@ -14,7 +16,7 @@ use crate::value::{Value, read_sha1, read_value};
 use base_core::is_name;
 use std::alloc::{AllocError, Global};
 
-/// What stands behind the letter.
+/// What stands between the letter and the value.
 const MARK: u8 = b':';
 
 /// The letter of a line that starts a folder.
@@ -83,7 +85,7 @@ fn read_by_letter<'a>(
     }
 }
 
-// A folder's name is a path, or empty.
+// The line that begins a folder of this name, which has to be a path, or empty.
 fn folder_line(name: &[u8]) -> Option<Line<'_>>
     ensures { option_map line_view result ≡ folder_line_of name.now }
 {
@@ -93,14 +95,14 @@ fn folder_line(name: &[u8]) -> Option<Line<'_>>
     Some(Line::Folder(name))
 }
 
-// Whether it is a path, or empty for the root.
+// Whether a text is the name of a folder: a path, or empty for the root.
 fn is_folder_name(name: &[u8]) -> bool
     ensures { result ≡ is_folder_name name.now }
 {
     name.is_empty() || is_name(name)
 }
 
-// A file's name is one part of a path.
+// The line that begins a file of this name, which has to be one part of a path.
 fn file_line(name: &[u8]) -> Option<Line<'_>>
     ensures { option_map line_view result ≡ file_line_of name.now }
 {
@@ -110,21 +112,21 @@ fn file_line(name: &[u8]) -> Option<Line<'_>>
     Some(Line::File(name))
 }
 
-// Whether it is one part of a path.
+// Whether a text is one part of a path.
 fn is_one_part(name: &[u8]) -> bool
     ensures { result ≡ is_one_part name.now }
 {
     is_name(name) && !has_slash(name)
 }
 
-// Whether a `/` stands in it.
+// Whether a text has a `/`.
 fn has_slash(name: &[u8]) -> bool
     ensures { result ≡ list_any (λ b. b == 47) name.now }
 {
     name.contains(&b'/')
 }
 
-// Reads the hash of a file.
+// Reads the line of a file's hash. None: the value is no SHA-1.
 fn read_file_hash<'a>(alloc: Global, value: &[u8]) -> Result<Option<Line<'a>>, AllocError>
     ensures { IfOk result (λ found. option_map line_view found
         ≡ option_map file_hash_line (sha1_of value.now)) }
@@ -135,7 +137,8 @@ fn read_file_hash<'a>(alloc: Global, value: &[u8]) -> Result<Option<Line<'a>>, A
     }
 }
 
-// A line of the package itself; one of another letter says nothing.
+// Reads a line that says something of the package itself; one of a letter that is not listed says
+// nothing that is kept.
 fn read_info<'a>(alloc: Global, letter: u8, value: &'a [u8]) -> Result<Option<Line<'a>>, AllocError>
     ensures { IfOk result (λ found. option_map line_view found
         ≡ info_line_by (field_of_letter letter) value.entry.now) }

@@ -1,4 +1,5 @@
 //! The values of lines: hashes, numbers, and lists of dependencies.
+//! The rules stand in `docs/formats.md`, "Text database of version 2", the column of values.
 ghost use Rattle.dep_core.specs.Meets.{dependency};
 ghost use Rattle.hex.specs.Hex.{decode_of};
 ghost use Rattle.base64.specs.Engines.{standard};
@@ -26,9 +27,13 @@ const SHA1_LEN: usize = 20;
 /// What a line says of its field.
 #[derive(Drop)]
 pub enum Value<'a> {
+    /// The text as it stands.
     Text(&'a [u8]),
+    /// The bytes of a hash or of a commit, decoded.
     Bytes(Vec<u8>),
+    /// A number.
     Number(u64),
+    /// Dependencies, in their order.
     Needs(Vec<Dep<'a>>),
     /// Nothing: the text is dropped.
     Nothing,
@@ -54,7 +59,7 @@ pub(crate) fn read_value<'a>(
     }
 }
 
-// A text that is good or not.
+// A text as a value, where its rule allows it.
 fn text_if(text: &[u8], is_good: bool) -> Option<Value<'_>>
     ensures { option_map line_value_view result ≡ text_if is_good text.now }
 {
@@ -64,7 +69,7 @@ fn text_if(text: &[u8], is_good: bool) -> Option<Value<'_>>
     Some(Value::Text(text))
 }
 
-// The value of a number.
+// A number as a value. None: the text is none below 2^64, or has a zero in front.
 fn number_value<'a>(digits: &[u8]) -> Option<Value<'a>>
     ensures { option_map line_value_view result
         ≡ option_map one_number (decimal_number digits.now) }
@@ -73,7 +78,7 @@ fn number_value<'a>(digits: &[u8]) -> Option<Value<'a>>
     Some(Value::Number(n))
 }
 
-// The value of a hash: `Q1` and its base64.
+// A hash as a value: `Q1` and its base64. None: the text is none.
 fn read_bytes<'a>(alloc: Global, text: &[u8]) -> Result<Option<Value<'a>>, AllocError>
     ensures { IfOk result (λ found. option_map line_value_view found
         ≡ option_map one_text (sha1_of text.now)) }
@@ -107,7 +112,7 @@ fn read_twenty_bytes(alloc: Global, encoded: &[u8]) -> Result<Option<Vec<u8>>, A
     }
 }
 
-// The bytes of pairs of digits; another text is dropped.
+// A commit as a value: the bytes of pairs of hexadecimal digits; another text is dropped.
 fn read_commit<'a>(alloc: Global, text: &[u8]) -> Result<Option<Value<'a>>, AllocError>
     ensures { IfOk result (λ found. option_map line_value_view found
         ≡ Some (commit_values (decode_of text.now))) }
@@ -119,7 +124,7 @@ fn read_commit<'a>(alloc: Global, text: &[u8]) -> Result<Option<Value<'a>>, Allo
     }
 }
 
-// Dependencies with spaces between them.
+// Dependencies as a value, with spaces between them. None: one of them is none without tag.
 fn read_needs<'a>(alloc: Global, text: &'a [u8]) -> Result<Option<Value<'a>>, AllocError>
     ensures { IfOk result (λ found. option_map line_value_view found
         ≡ needs_in (nonempty_parts text.entry.now)) }

@@ -1,5 +1,5 @@
 //! Answers questions to `v2_core`: what is read of a text database. Its stored run has all rows;
-//! `tests/lines.md` describes their form.
+//! `tests/lines.md` describes their form. The README of this crate has a row for each question.
 #![tactic(auto)]
 
 mod texts;
@@ -11,14 +11,18 @@ use std::io;
 use std::process::ExitCode;
 use texts::{add_package_count, add_read};
 
-/// What is asked.
+/// What is asked; the README of this crate says what each question answers.
 #[derive(Clone, Copy)]
 enum Question {
+    /// `read TEXT`.
     Read,
+    /// `read_repeated FRONT N PART BACK`.
     ReadRepeated,
+    /// `count_packages N`.
     CountPackages,
 }
 
+// The words that questions begin with.
 #[rattlefmt::skip]
 const QUESTIONS: [(&[u8], Question); 3] = [
     (b"read", Question::Read),

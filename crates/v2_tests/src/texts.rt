@@ -1,4 +1,5 @@
-//! What is read of a text database: the dump of what it says, or why it is refused.
+//! What is read of a text database: the dump of what it says, or why it is refused. The rules stand
+//! in `docs/formats.md`, "Text database of version 2".
 
 ghost use Rattle.std.specs.Prelude.{◌≡◌, IfOk};
 ghost use Rattle.adb_schema.specs.Checked.{which_of};
@@ -13,7 +14,7 @@ use std::alloc::{AllocError, Global};
 use v2_core::{V2Fault, read_v2};
 
 /// Adds the dump of the database that a text says, or why the text is refused.
-pub fn add_read(alloc: Global, text: &[u8], answer: &mut Vec<u8>) -> Result<(), AllocError> {
+pub(crate) fn add_read(alloc: Global, text: &[u8], answer: &mut Vec<u8>) -> Result<(), AllocError> {
     match read_v2(alloc, text) {
         Ok(payload) => add_dump(alloc, &payload, answer),
         Err(fault) => add_fault(alloc, fault, answer),
@@ -52,8 +53,9 @@ fn add_fault(alloc: Global, fault: V2Fault, answer: &mut Vec<u8>) -> Result<(), 
     }
 }
 
-/// Adds how many packages are read of a text that has so many.
-pub fn add_package_count(
+/// Adds how many packages are read of a text that has so many records, each of a name and a
+/// version.
+pub(crate) fn add_package_count(
     alloc: Global,
     packages: u32,
     answer: &mut Vec<u8>,

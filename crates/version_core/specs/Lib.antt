@@ -1,3 +1,5 @@
+-- The definitions of `version_core`. The head of each file says where its rule stands.
+
 -- what the contract of `apk` says
 pub mod Token
 pub mod Order

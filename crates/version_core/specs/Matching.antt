@@ -1,4 +1,5 @@
--- Which versions an operator of a dependency takes (apk-package(5), "depend").
+-- Which versions an operator of a dependency takes (apk-package(5), "depend"). The rule stands in
+-- `docs/formats.md`, "Versions" ("An operator has four bits").
 use Rattle.std.specs.Prelude.{ℕ, ◌==◌, Bool, true, false, ◌&&◌, ◌||◌, not, if◌then◌else◌, List, [], ◌∷◌, length, take, Option, Some, None, bit_and}
 use Rattle.std.specs.Str.{bytes_eq}
 use Rattle.std.specs.Ordering.{is_lt, is_eq, is_gt}
@@ -8,19 +9,19 @@ use Rattle.version_core.specs.Op.{EQUAL, LESS, GREATER, FUZZY, is_op}
 use Rattle.version_core.specs.Order.{is_last, token_cmp, tokens, version_cmp}
 use Rattle.version_core.specs.Token.{Token}
 
--- the operator with these bits, if they are one
+-- the operator with these match bits, if they are those of one
 abbrev pub op_of : ℕ → Option ℕ
 op_of bits = if is_op bits then Some bits else None
 
--- whether an operator asks for the relation of this bit
+-- whether an operator asks for the relation of this match bit
 abbrev pub has_bit : ℕ → ℕ → Bool
 has_bit bits bit = not (bit_and bits bit == 0)
 
--- whether a component that is a text begins with the wanted one
+-- whether a component that is compared as text begins with the wanted one
 abbrev pub begins_with : List ℕ → List ℕ → Bool
 begins_with wanted found = bytes_eq wanted (take (length wanted) found)
 
--- whether it is a later component that begins with 0
+-- whether a token is a later component that begins with 0
 abbrev pub is_zero_component : Class → Bool
 is_zero_component ZeroComponent = true
 is_zero_component _ = false
@@ -33,7 +34,8 @@ fits wanted found =
     then begins_with wanted.text found.text else
     is_eq (token_cmp found wanted)
 
--- whether each token in front of the wanted end fits
+-- whether each wanted token, up to the end of the wanted version, fits the one that stands at its
+-- place
 abbrev pub all_fit : List Token → List Token → Bool
 all_fit [] found = true
 all_fit (w ∷ ws) [] = is_last w.class
@@ -43,7 +45,8 @@ all_fit (w ∷ ws) (f ∷ fs) = is_last w.class || (fits w f && all_fit ws fs)
 unfoldable pub is_fuzzy_match : List ℕ → List ℕ → Bool
 is_fuzzy_match found wanted = all_fit (tokens wanted) (tokens found)
 
--- whether one of the set match bits holds for a version against the wanted one
+-- whether an operator takes a version: one of its match bits holds for the version that is found
+-- against the wanted one
 unfoldable pub matches : ℕ → List ℕ → List ℕ → Bool
 matches bits found wanted =
     (has_bit bits EQUAL && is_eq (version_cmp found wanted))

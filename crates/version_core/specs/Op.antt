@@ -1,9 +1,10 @@
--- The operators of a dependency, as their match bits.
+-- The operators of a dependency, as their match bits. The rule stands in `docs/formats.md`,
+-- "Versions" ("An operator has four bits"); how each operator is spelled, in "Dependencies".
 use Rattle.std.specs.Prelude.{ℕ, ◌==◌, Bool, ◌&&◌, not, nat_lt}
 
--- ---- the match bits
+-- ---- the match bits, by the result of a comparison with the wanted version
 
--- the two versions are equal
+-- the version that is tested is equal to the wanted one
 abbrev pub EQUAL : ℕ
 EQUAL = 1
 
@@ -11,14 +12,15 @@ EQUAL = 1
 abbrev pub LESS : ℕ
 LESS = 2
 
--- it is greater
+-- the version that is tested is greater than the wanted one
 abbrev pub GREATER : ℕ
 GREATER = 4
 
--- the wanted one may also begin the other (`~`)
+-- the version that is tested begins with the tokens of the wanted one (`~`)
 abbrev pub FUZZY : ℕ
 FUZZY = 8
 
--- four bits, but less and greater only together with equal
+-- whether four bits are an operator: less or greater may stand only with equal (so neither 6, which
+-- is 2 and 4, nor 14, which is 2, 4 and 8)
 abbrev pub is_op : ℕ → Bool
 is_op bits = nat_lt bits 16 && not (bits == 6) && not (bits == 14)

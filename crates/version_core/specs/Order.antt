@@ -1,4 +1,5 @@
--- The order of versions, after apk-package(5): by tokens, and the first that differ decide.
+-- The order of versions, after apk-package(5): by tokens, and the first that differ decide. The
+-- rule stands in `docs/formats.md`, "Versions" ("A version is compared by its tokens").
 use Rattle.std.specs.Prelude.{ℕ, suc, zero, ◌-◌, Bool, true, false, not, if◌then◌else◌, List, [], ◌∷◌, Option, Some, None}
 use Rattle.std.specs.List.{list_all}
 use Rattle.std.specs.Ordering.{nat_cmp, on, then_cmp}
@@ -8,18 +9,18 @@ use Rattle.version_core.specs.declared.token.Class.{Class}
 use Rattle.version_core.specs.declared.token.Class.TheVariants.{Stray, PreRelease, End, Revision, Hash, SuffixNumber, Suffix, Letter, ZeroComponent, Component}
 use Rattle.version_core.specs.Token.{Token, lexeme_at}
 
--- whether a token stands for bytes that no token may be
+-- whether a token is the one for bytes that no token may be
 abbrev pub is_stray : Class → Bool
 is_stray Stray = true
 is_stray _ = false
 
--- whether no token comes behind one of this class
+-- whether no token comes behind one of this class: behind the end, and behind what is no token
 abbrev pub is_last : Class → Bool
 is_last End = true
 is_last class = is_stray class
 
--- the tokens of a text behind a token of some class, where `inside` bytes still belong to that
--- token
+-- the tokens of a text behind a token of some class (None: at the front of a version), where
+-- `inside` bytes still belong to that token
 abbrev pub tokens_behind : Option Class → ℕ → List ℕ → List Token
 tokens_behind last inside [] = (lexeme_at last []).token ∷ []
 tokens_behind last (suc inside) (b ∷ rest) = tokens_behind last inside rest
@@ -34,15 +35,15 @@ tokens_behind last zero (b ∷ rest) =
 unfoldable pub tokens : List ℕ → List Token
 tokens text = tokens_behind None 0 text
 
--- whether a text of these tokens is a version: none of them is stray
+-- whether tokens are those of a version: none of them is stray
 abbrev pub are_in_grammar : List Token → Bool
 are_in_grammar found = list_all (λ token. not (is_stray token.class)) found
 
--- whether the text is a version
+-- whether a text is a version
 unfoldable pub is_version : List ℕ → Bool
 is_version text = are_in_grammar (tokens text)
 
--- the classes from least to greatest
+-- the place of a class in the order of classes, from the least, 0, to the greatest
 abbrev pub class_rank : Class → ℕ
 class_rank Stray = 0
 class_rank PreRelease = 1
@@ -55,12 +56,13 @@ class_rank Letter = 7
 class_rank ZeroComponent = 8
 class_rank Component = 9
 
--- the order of two tokens: by class, and by value where the classes are one
+-- the order of two tokens: by the rank of their classes, and by their value where the classes are
+-- one
 abbrev pub token_cmp : Token → Token → Ordering
 token_cmp =
     then_cmp (on (λ token. class_rank token.class) nat_cmp)
     (then_cmp (on (λ token. token.number) nat_cmp) (on (λ token. token.text) (slice_cmp nat_cmp)))
 
--- the order of two texts: the first tokens that differ decide
+-- the order of two versions by their texts: the first tokens that differ decide
 unfoldable pub version_cmp : List ℕ → List ℕ → Ordering
 version_cmp = on tokens (slice_cmp token_cmp)

@@ -1,4 +1,6 @@
--- What the code's tokens stand for.
+-- What the tokens stand for that the code reads one by one, and how much of a text it has passed
+-- over. Serves the contracts of `src/lexeme.rt`, `src/token.rt` and `src/order.rt`; the rules stand
+-- in `docs/formats.md`, "Versions".
 use Rattle.std.specs.Prelude.{◌≡◌, ℕ, ◌+◌, ◌≤◌, ◌==◌, ◌||◌, Bool, true, false, not, if◌then◌else◌, List, [], ◌∷◌, length, take, drop, slice_get, slice_index, EachIndex, IsTrue, Option, Some, None}
 use Rattle.std.specs.Char.{is_ascii_digit}
 use Rattle.std.specs.List.{list_all}
@@ -13,7 +15,8 @@ use Rattle.version_core.specs.declared.lexeme.Lexeme.{Lexeme as LexemeAt}
 use Rattle.version_core.specs.Token.{Token, Lexeme, lexeme, is_hex_digit, leading_hex_digits}
 use Rattle.version_core.specs.Order.{token_cmp, tokens_behind}
 
--- the text of a token ends before the first byte that is no hexadecimal digit
+-- the token that a token of the code stands for: its text ends before the first byte that is no
+-- hexadecimal digit
 abbrev pub token_view : TokenAt → Token
 token_view token =
     record { class = token.class; number = token.number; text = leading_hex_digits token.text.now }
@@ -23,62 +26,64 @@ abbrev pub is_hash : Class → Bool
 is_hash Hash = true
 is_hash _ = false
 
--- how many bytes of the rest still belong to the token before: those of a hash
+-- how many bytes of the rest still belong to the token that was taken last: of a hash its digits,
+-- of any other token none
 abbrev pub unread_len : Option Class → List ℕ → ℕ
 unread_len None rest = 0
 unread_len (Some class) rest = if is_hash class then length (leading_hex_digits rest) else 0
 
--- the tokens that are left
+-- the tokens that a reader has not taken yet
 abbrev pub tokens_left : Tokens → List Token
 tokens_left left = tokens_behind left.last (unread_len left.last left.rest.now) left.rest.now
 
--- a lexeme whose bytes are passed over at once
+-- the lexeme of the code that is no hash: the reader passes over all of its bytes at once
 abbrev pub plain_view : LexemeAt → Lexeme
 plain_view found = lexeme (token_view found.token) found.advance
 
--- a lexeme that a text begins with: of a hash only the mark is passed over
+-- the lexeme of the code that a text begins with; of a hash the reader passes over the mark alone,
+-- and its digits are the rest of its width
 abbrev pub lexeme_view : List ℕ → LexemeAt → Lexeme
 lexeme_view text found =
     lexeme (token_view found.token)
     (found.advance + unread_len (Some found.token.class) (drop found.advance text))
 
--- the bytes are digits
+-- each of the bytes is a decimal digit
 abbrev pub AreDigits : List ℕ → Type 0
 AreDigits digits = EachIndex digits (λ i. IsTrue (is_ascii_digit (slice_index digits i)))
 
--- the byte, if there is one and it is a hexadecimal digit
+-- the byte, if there is one and it is a lower-case hexadecimal digit
 abbrev pub hex_digit_by : Option ℕ → Option ℕ
 hex_digit_by None = None
 hex_digit_by (Some byte) = if is_hex_digit byte then Some byte else None
 
--- the hexadecimal digit at a place
+-- the byte at an index of a text, if there is one and it is a hexadecimal digit
 abbrev pub hex_digit_at : List ℕ → ℕ → Option ℕ
 hex_digit_at text at = hex_digit_by (slice_get text at)
 
--- how many bytes are not read yet
+-- how many bytes a reader has before it, without those of the hash that it has taken
 abbrev pub bytes_left : Tokens → ℕ
 bytes_left left = length (drop (unread_len left.last left.rest.now) left.rest.now)
 
--- the bytes that begin a token wherever they stand in a version
+-- whether a byte begins a token wherever it stands in a version: `.`, `_`, `~` or `-`
 abbrev pub is_token_mark : ℕ → Bool
 is_token_mark b = (b == 46) || (b == 95) || (b == 126) || (b == 45)
 
--- whether the first byte begins a token wherever it stands
+-- whether the first byte of a text begins a token wherever it stands
 abbrev pub begins_with_mark : List ℕ → Bool
 begins_with_mark [] = false
 begins_with_mark (b ∷ rest) = is_token_mark b
 
--- the last of these bytes in a text stands there
+-- the last byte of a text that begins a token wherever it stands has this index
 pub record IsLastMark (text : List ℕ) (at : ℕ) : Type 0 where
   pub mark : begins_with_mark (drop at text) ≡ true
   pub last : list_all (λ b. not (is_token_mark b)) (drop (at + 1) text) ≡ true
 
--- two texts are equal up to a place
+-- the first `len` bytes of two texts are the same
 pub record AreEqualUpTo (left right : List ℕ) (len : ℕ) : Type 0 where
   pub within : (len ≤ length left) × (len ≤ length right)
   pub same : take len left ≡ take len right
 
--- the order of what is left of two versions within the hash of both
+-- the order of two versions by what is left of them from a place within the hash of both on
 abbrev pub hash_cmp : List ℕ → List ℕ → Ordering
 hash_cmp left right =
     ordering_then (slice_cmp nat_cmp (leading_hex_digits left) (leading_hex_digits right))

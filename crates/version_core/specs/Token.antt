@@ -1,4 +1,6 @@
--- The tokens that a version's text is made of, after apk-package(5).
+-- The tokens that a version's text is made of, after apk-package(5). The rule stands in
+-- `docs/formats.md`, "Versions" ("A version is a number"). Byte values: 46 `.`, 48 `0`, 95 `_`, 97
+-- to 102 `a` to `f`, 114 `r`, 126 `~`, 45 `-`.
 use Rattle.std.specs.Prelude.{ℕ, ◌+◌, ◌==◌, Bool, true, false, ◌&&◌, ◌||◌, nat_lt, nat_le, if◌then◌else◌, List, [], ◌∷◌, length, codes, Option, Some, None}
 use Rattle.std.specs.Char.{is_ascii_digit, is_ascii_lowercase}
 use Rattle.std.specs.List.{take_while}
@@ -7,42 +9,48 @@ use Rattle.std.specs.Str.Parse.{digits_value}
 use Rattle.version_core.specs.declared.token.Class.{Class}
 use Rattle.version_core.specs.declared.token.Class.TheVariants.{Stray, PreRelease, End, Revision, Hash, SuffixNumber, Suffix, Letter, ZeroComponent, Component}
 
--- what kind of token it is, and its value: a number or a text
+-- a part of a version as it is compared: of which class it is, and its value, a number or a text
+-- (the other of the two is 0 or empty)
 pub record Token : Type 0 where
+  -- of which class it is
   pub class : Class
+  -- its value as a number, else 0
   pub number : ℕ
+  -- its value as a text, else empty
   pub text : List ℕ
 
--- a token that is its class alone
+-- a token that is its class alone, as the end is
 abbrev pub bare_token : Class → Token
 bare_token class = record { class = class; number = 0; text = [] }
 
--- a token that is compared by a number
+-- a token that is compared by a number, such as a component
 abbrev pub number_token : Class → ℕ → Token
 number_token class number = record { class = class; number = number; text = [] }
 
--- a token that is compared as text
+-- a token that is compared as text, such as a hash
 abbrev pub text_token : Class → List ℕ → Token
 text_token class text = record { class = class; number = 0; text = text }
 
 -- a token, and how many bytes spell it
 pub record Lexeme : Type 0 where
+  -- the token
   pub token : Token
+  -- how many bytes spell it, its mark counted
   pub width : ℕ
 
--- a token, and how many bytes it takes
+-- the lexeme of a token and of how many bytes spell it
 abbrev pub lexeme : Token → ℕ → Lexeme
 lexeme token width = record { token = token; width = width }
 
--- what stands outside the grammar
+-- the lexeme where no token of the grammar stands
 abbrev pub stray_lexeme : Lexeme
 stray_lexeme = lexeme (bare_token Stray) 0
 
--- a lowercase hexadecimal digit
+-- whether a byte is a lower-case hexadecimal digit
 abbrev pub is_hex_digit : ℕ → Bool
 is_hex_digit b = is_ascii_digit b || (nat_le 97 b && nat_le b 102)
 
--- the digits, and the lowercase letters, that a text begins with
+-- the decimal digits that a text begins with
 abbrev pub leading_digits : List ℕ → List ℕ
 leading_digits text = take_while is_ascii_digit text
 
@@ -50,38 +58,39 @@ leading_digits text = take_while is_ascii_digit text
 abbrev pub leading_hex_digits : List ℕ → List ℕ
 leading_hex_digits text = take_while is_hex_digit text
 
--- the lowercase letters that a text begins with
+-- the lower-case letters that a text begins with
 abbrev pub leading_letters : List ℕ → List ℕ
 leading_letters text = take_while is_ascii_lowercase text
 
--- so that each number fits into 64 bits
+-- how many digits a number may have (own), so that each number fits into 64 bits
 abbrev pub MOST_DIGITS : ℕ
 MOST_DIGITS = 18
 
--- a number has 1 to 18 digits
+-- whether digits are the number of a component, a suffix or a revision: 1 to 18 of them
 abbrev pub is_number : List ℕ → Bool
 is_number digits = nat_lt 0 (length digits) && nat_le (length digits) MOST_DIGITS
 
--- the token of a number, and the bytes that it takes; the mark before its digits has so many
+-- the lexeme of a number of this class; `mark` is how many bytes stand before its digits
 unfoldable pub number_lexeme : Class → ℕ → List ℕ → Lexeme
 number_lexeme class mark digits =
     if is_number digits
     then lexeme (number_token class (digits_value 10 digits)) (mark + length digits)
     else stray_lexeme
 
--- whether the first digit is 0
+-- whether the first digit is `0`
 abbrev pub begins_with_zero : List ℕ → Bool
 begins_with_zero [] = false
 begins_with_zero (b ∷ rest) = b == 48
 
--- a component behind the first: a text where it begins with 0, else a number
+-- the lexeme of a component behind the first, compared as text where it begins with 0, else as a
+-- number; its mark is `.`
 unfoldable pub component_lexeme : List ℕ → Lexeme
 component_lexeme digits =
     if is_number digits && begins_with_zero digits
     then lexeme (text_token ZeroComponent digits) (1 + length digits)
     else number_lexeme Component 1 digits
 
--- the rank of a suffix in their order
+-- the rank of a suffix in the order of suffixes, the first with 0
 unfoldable pub suffix_rank : List ℕ → Option ℕ
 suffix_rank word =
     if bytes_eq word (codes "alpha") then Some 0 else
@@ -95,56 +104,56 @@ suffix_rank word =
     if bytes_eq word (codes "p") then Some 8 else
     None
 
--- the first four make pre-releases
+-- the class of the suffix of this rank: the first four suffixes make pre-releases
 abbrev pub suffix_class : ℕ → Class
 suffix_class rank = if nat_lt rank 4 then PreRelease else Suffix
 
--- the token of a suffix with this rank, which is stray where the word has none
+-- the lexeme of a suffix with this rank, which is stray where its word has none
 abbrev pub suffix_lexeme_by : List ℕ → Option ℕ → Lexeme
 suffix_lexeme_by word None = stray_lexeme
 suffix_lexeme_by word (Some rank) =
     lexeme (number_token (suffix_class rank) rank) (1 + length word)
 
--- the token of a suffix; one byte more than its word is its mark
+-- the lexeme of a suffix by its word; one byte more than the word is its mark
 abbrev pub suffix_lexeme : List ℕ → Lexeme
 suffix_lexeme word = suffix_lexeme_by word (suffix_rank word)
 
--- the token of a hash, which has digits behind its mark
+-- the lexeme of a hash by the digits behind its mark; without a digit it is stray
 unfoldable pub hash_lexeme : List ℕ → Lexeme
 hash_lexeme digits =
     if nat_lt 0 (length digits) then lexeme (text_token Hash digits) (1 + length digits)
     else stray_lexeme
 
--- behind the `-` of a revision
+-- the lexeme of a revision by what stands behind its `-`: an `r` and a number
 unfoldable pub revision_lexeme : List ℕ → Lexeme
 revision_lexeme [] = stray_lexeme
 revision_lexeme (b ∷ rest) =
     if b == 114 then number_lexeme Revision 2 (leading_digits rest) else stray_lexeme
 
--- behind which tokens a component or a letter may stand
+-- whether a token is a component, so that another one or a letter may stand behind it
 abbrev pub is_component : Class → Bool
 is_component ZeroComponent = true
 is_component Component = true
 is_component _ = false
 
--- behind which tokens a number without a mark may stand
+-- whether a token is a suffix, so that a number without a mark may stand behind it
 abbrev pub is_suffix : Class → Bool
 is_suffix PreRelease = true
 is_suffix Suffix = true
 is_suffix _ = false
 
--- behind which tokens a suffix or a hash may stand
+-- whether a suffix or a hash may stand behind a token
 abbrev pub is_before_hash : Class → Bool
 is_before_hash Letter = true
 is_before_hash SuffixNumber = true
 is_before_hash class = is_component class || is_suffix class
 
--- behind which tokens a revision may stand
+-- whether a revision may stand behind a token
 abbrev pub is_before_revision : Class → Bool
 is_before_revision Hash = true
 is_before_revision class = is_before_hash class
 
--- the token that begins a text behind a token of some class
+-- the lexeme that a text begins with which stands behind a token of class `last`
 unfoldable pub next_lexeme : Class → List ℕ → Lexeme
 next_lexeme last [] = lexeme (bare_token End) 0
 next_lexeme last (b ∷ rest) =
@@ -157,7 +166,8 @@ next_lexeme last (b ∷ rest) =
     if (b == 45) && is_before_revision last then revision_lexeme rest else
     stray_lexeme
 
--- the token that begins a text: at the front the first component, else by the token before it
+-- the lexeme that a text begins with: at the front of a version (None) its first component, else by
+-- the class of the token before it
 abbrev pub lexeme_at : Option Class → List ℕ → Lexeme
 lexeme_at None text = number_lexeme Component 0 (leading_digits text)
 lexeme_at (Some last) text = next_lexeme last text

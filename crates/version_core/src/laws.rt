@@ -1,5 +1,6 @@
 //! What follows from the definitions, for all texts and versions: the body of a law is empty, and
-//! its contract is proved.
+//! its contract is proved. What a version is and how two compare stands in `docs/formats.md`,
+//! "Versions"; the README of this crate lists the laws.
 
 ghost use Rattle.std.specs.Prelude.{◌≡◌, ◌∷◌, ◌↔◌, [], ℕ, List, count_by, true};
 ghost use Rattle.std.specs.Cmp.{IsTotalOrder};

@@ -1,4 +1,7 @@
-//! The token that begins a text, and how many of its bytes its reader passes over.
+//! The token that begins a text, and how many of its bytes its reader passes over. The grammar that
+//! the tokens follow stands in `docs/formats.md`, "Versions" ("A version is a number"). In the
+//! clauses `plain` says that a token is no hash, so that its reader moves on by all of its bytes at
+//! once. `digits` and `few` say that bytes are digits, and few enough for 64 bits.
 
 ghost use Rattle.std.specs.Prelude.{◌≡◌, ◌≤◌, ◌<◌, false, length, drop, position, not};
 ghost use Rattle.std.specs.Char.{is_ascii_digit, is_ascii_lowercase};
@@ -12,18 +15,20 @@ ghost use Rattle.version_core.specs.Reading.{AreDigits, hex_digit_at, is_hash, l
 use crate::token::{Class, TokenAt};
 use std::cmp::Ordering;
 
-/// How many digits a number may have.
+/// How many digits a number may have, so that it fits into 64 bits (a limit of this project's).
 const MOST_DIGITS: usize = 18;
 
-/// A token, and how many bytes its reader passes over at once: all of them, but of a hash only the
-/// mark.
+/// A token, and by how many bytes its reader moves on: by all of its bytes, but of a hash by the
+/// mark alone, so that a long hash is read where it is compared.
 #[derive(Clone, Copy)]
 pub struct Lexeme<'a> {
+    /// The token that was read.
     pub token: TokenAt<'a>,
+    /// By how many bytes its reader moves on.
     pub advance: usize,
 }
 
-/// A token that is compared by a number, and how many bytes it takes.
+/// The lexeme of a token that is compared by a number; `advance` is how many bytes spell it.
 fn lexeme_of_number<'a>(class: Class, number: u64, advance: usize) -> Lexeme<'a>
     ensures token { plain_view result ≡ lexeme (number_token class number) advance }
     ensures class { result.token.class ≡ class }
@@ -36,7 +41,8 @@ fn lexeme_of_number<'a>(class: Class, number: u64, advance: usize) -> Lexeme<'a>
     Lexeme { token, advance }
 }
 
-/// A token that is compared as text, and how many bytes it takes.
+/// The lexeme of a token that is compared as text; `advance` is by how many bytes its reader moves
+/// on.
 fn lexeme_of_text(class: Class, text: &[u8], advance: usize) -> Lexeme<'_>
     ensures token { plain_view result
         ≡ lexeme (text_token class (leading_hex_digits text.now)) advance }
@@ -51,7 +57,7 @@ fn lexeme_of_text(class: Class, text: &[u8], advance: usize) -> Lexeme<'_>
     Lexeme { token, advance }
 }
 
-/// The token of bytes that no token may be.
+/// The lexeme where no token of the grammar stands.
 fn stray_lexeme<'a>() -> Lexeme<'a>
     ensures token { plain_view result ≡ stray_lexeme }
     ensures class { result.token.class ≡ Class.Stray }
@@ -59,7 +65,8 @@ fn stray_lexeme<'a>() -> Lexeme<'a>
     lexeme_of_number(Class::Stray, 0, 0)
 }
 
-/// The token that begins a text: at the front the first component, else by the token before it.
+/// The lexeme that a text begins with: at the front of a version (None) its first component, else
+/// by the class of the token before it.
 pub fn lexeme_at<'a>(last: Option<Class>, text: &'a [u8]) -> Lexeme<'a>
     ensures { lexeme_view text.entry.now result ≡ lexeme_at last text.entry.now }
 {
@@ -69,8 +76,8 @@ pub fn lexeme_at<'a>(last: Option<Class>, text: &'a [u8]) -> Lexeme<'a>
     }
 }
 
-/// The class of the token that begins a text, and how many of its bytes are passed over at first:
-/// all, but of a hash the mark and a digit.
+/// The class of the token that a text begins with, and how many of its bytes are passed over at
+/// first: all, but of a hash the mark and a digit.
 pub fn first_token(last: Option<Class>, text: &[u8]) -> (Class, usize)
     ensures class { result.0 ≡ (lexeme_at last text.now).token.class }
     ensures len { result.1 ≡ passed_len (lexeme_at last text.now) }
@@ -83,7 +90,7 @@ pub fn first_token(last: Option<Class>, text: &[u8]) -> (Class, usize)
     (class, lexeme.advance)
 }
 
-/// The token that stands behind one of this class, with its mark.
+/// The lexeme that a text begins with which stands behind a token of the class `last`.
 #[tactic(auto, unfolding(crate::specs::Token::next_lexeme))]
 fn next_lexeme<'a>(last: Class, text: &'a [u8]) -> Lexeme<'a>
     ensures { lexeme_view text.entry.now result ≡ next_lexeme last text.entry.now }
@@ -102,7 +109,7 @@ fn next_lexeme<'a>(last: Class, text: &'a [u8]) -> Lexeme<'a>
     }
 }
 
-/// The token of a number; `mark` is how many bytes its mark has.
+/// The lexeme of a number; `mark` is how many bytes its mark has: none, `.` or `-r`.
 #[tactic(auto, unfolding(crate::specs::Token::number_lexeme))]
 fn number(class: Class, mark: usize, digits: &[u8]) -> Lexeme<'_>
     requires digits { AreDigits digits.now }
@@ -117,7 +124,8 @@ fn number(class: Class, mark: usize, digits: &[u8]) -> Lexeme<'_>
     lexeme_of_number(class, value_of(digits), mark + digits.len())
 }
 
-/// A component behind the first: a text where it begins with 0, else a number.
+/// The lexeme of a component behind the first, compared as text where it begins with 0, else as a
+/// number.
 #[tactic(auto, using(crate::proofs::Lexemes::component_lexeme_zero), unfolding(crate::specs::Token::component_lexeme))]
 fn component(digits: &[u8]) -> Lexeme<'_>
     requires { AreDigits digits.now }
@@ -137,7 +145,7 @@ fn begins_with_zero(digits: &[u8]) -> bool
     matches!(digits, [b'0', ..])
 }
 
-/// The token of a suffix, by its word.
+/// The lexeme of a suffix, by its word.
 fn suffix(word: &[u8]) -> Lexeme<'_>
     ensures token { plain_view result ≡ suffix_lexeme word.now }
     ensures plain { is_hash result.token.class ≡ false }
@@ -148,7 +156,7 @@ fn suffix(word: &[u8]) -> Lexeme<'_>
     }
 }
 
-/// The rank of a suffix among all of them.
+/// The rank of a suffix in the order of suffixes, the first with 0.
 #[tactic(auto, unfolding(crate::specs::Token::suffix_rank))]
 fn suffix_rank(word: &[u8]) -> Option<u64>
     ensures { result ≡ suffix_rank word.now }
@@ -178,7 +186,7 @@ fn suffix_class(rank: u64) -> Class
     }
 }
 
-/// The token of a hash; the text begins with its mark.
+/// The lexeme of a hash; the text begins with its mark, `~`.
 #[tactic(auto, unfolding(crate::specs::Token::hash_lexeme))]
 fn hash(text: &[u8]) -> Lexeme<'_>
     requires { 0 < length text.now }
@@ -191,7 +199,7 @@ fn hash(text: &[u8]) -> Lexeme<'_>
     lexeme_of_text(Class::Hash, digits, 1)
 }
 
-/// The token of a revision; the text is what stands behind its `-`.
+/// The lexeme of a revision; the text is what stands behind its `-`.
 #[tactic(auto, unfolding(crate::specs::Token::revision_lexeme))]
 fn revision(text: &[u8]) -> Lexeme<'_>
     ensures token { plain_view result ≡ revision_lexeme text.now }
@@ -203,7 +211,7 @@ fn revision(text: &[u8]) -> Lexeme<'_>
     }
 }
 
-/// The number that the digits represent.
+/// The number that decimal digits represent; 18 of them stay below 2^64.
 fn value_of(digits: &[u8]) -> u64
     requires digits { AreDigits digits.now }
     requires few { length digits.now ≤ MOST_DIGITS }
@@ -271,7 +279,7 @@ fn hex_digits_end(text: &[u8]) -> Option<usize>
     text.iter().position(|byte| !is_hex_digit(*byte))
 }
 
-/// Whether it is a lowercase hexadecimal digit.
+/// Whether a byte is a lower-case hexadecimal digit.
 fn is_hex_digit(byte: u8) -> bool
     ensures { result ≡ is_hex_digit byte }
 {

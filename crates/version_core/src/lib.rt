@@ -1,10 +1,12 @@
 //! The versions of packages, after apk-package(5): which texts are versions, how two of them
 //! compare, and which versions an operator takes. Texts come in as borrowed bytes, and orders and
 //! answers go out; only `OverlappingVersions`, which reads many versions that share bytes, takes
-//! memory. A version is seen as its text. The contracts cite
-//! `is_version` and `version_cmp` of `specs/Order.antt` and `matches` of `specs/Matching.antt`,
-//! which stand on the tokens of `specs/Token.antt`; `specs/Grammar.antt` says the grammar once more
-//! as texts are spelled, and the functions of `laws` say what the definitions keep.
+//! memory. A version is seen as its text. The contracts cite `is_version` and `version_cmp` of
+//! `specs/Order.antt` and `matches` of `specs/Matching.antt`, which stand on the tokens of
+//! `specs/Token.antt`; `specs/Grammar.antt` says the grammar once more as texts are spelled, and
+//! the functions of `laws` say what the definitions keep.
+//!
+//! The rules stand in `docs/formats.md`, "Versions".
 #![tactic(auto)]
 
 mod laws;

@@ -1,5 +1,6 @@
 //! The order of two versions. What both begin with is passed over as plain bytes, whole blocks
-//! first, and the tokens are read from the last mark in it on.
+//! first, and the tokens are read from the last mark in it on. The rule stands in
+//! `docs/formats.md`, "Versions" ("A version is compared by its tokens").
 
 ghost use Rattle.std.specs.Prelude.{◌≡◌, ◌≤◌, ◌<◌, IsTrue, IfSome, Some, length, drop};
 ghost use Rattle.std.specs.Cmp.Lexicographic.{slice_cmp};
@@ -11,7 +12,8 @@ use crate::lexeme::{behind, compare_hex_digits};
 use crate::token::{Class, Tokens};
 use std::cmp::Ordering;
 
-/// How many bytes are compared at once.
+/// How many bytes are compared at once, by one comparison of slices; another number gives the same
+/// order.
 const BLOCK: usize = 128;
 
 /// The order of two versions: the first tokens that differ decide.

@@ -1,5 +1,9 @@
 //! Versions that stand in the same bytes and may overlap. Where one has passed, another goes on in
-//! leaps.
+//! leaps. The contract is that of `OverlappingVersions::is_version`, as the README of this crate
+//! says; what a version is stands in `docs/formats.md`, "Versions". It serves the tests of texts
+//! that overlap in a payload (`adb_rules`), so that these take no quadratic time. In the clauses
+//! `order` and `within` say that offsets rise and lie in the bytes, `bytes` that these stay the
+//! same, `some` and `none` what is known where a place is found and where none is.
 
 ghost use Rattle.std.specs.Prelude.{◌≡◌, ◌<◌, ◌≤◌, false, length, slice_range, IfOk, IfSome, IfNone, Some};
 ghost use Rattle.version_core.specs.Order.{is_version};
@@ -11,21 +15,27 @@ use crate::token::Class;
 use std::alloc::{AllocError, Global};
 use std::marker::Model;
 
-/// How many bytes share one leap.
+/// How many bytes share one leap: with more of them leaps take less memory, and more bytes are read
+/// between two.
 const BLOCK: usize = 256;
 
 /// A place behind a token of a version or between the digits of its hash, and the class of that
 /// token.
 #[derive(Clone, Copy)]
 struct Place {
+    /// Its offset in the bytes.
     at: usize,
+    /// The class of the token before it.
     class: Class,
 }
 
-/// Two places, of which the first leads to the second.
+/// A way over one block that a version has gone: a place in it, and one behind it to which that
+/// leads.
 #[derive(Clone, Copy)]
 struct Leap {
+    /// Where the leap begins.
     from: Place,
+    /// Where the leap leads.
     to: Place,
 }
 
@@ -33,7 +43,9 @@ struct Leap {
 /// passed it.
 #[derive(Drop)]
 pub struct OverlappingVersions<'a> {
+    /// The bytes in which the versions stand.
     bytes: &'a [u8],
+    /// A leap for each block of the bytes; one that leads nowhere where none is known.
     leaps: Vec<Leap>,
 }
 
@@ -50,7 +62,7 @@ impl<'a> Model for OverlappingVersions<'a> {
 }
 
 impl<'a> OverlappingVersions<'a> {
-    /// Bytes of which nothing is known.
+    /// The bytes, in which no version was looked for yet.
     pub fn new(alloc: Global, bytes: &'a [u8]) -> OverlappingVersions<'a>
         ensures { result ≡ bytes.entry.now }
     {
@@ -75,7 +87,7 @@ impl<'a> OverlappingVersions<'a> {
         }
     }
 
-    /// Whether what stands between a place and an end may follow there.
+    /// Whether what stands between a place and an end may be all that follows in a version there.
     fn is_passed(&mut self, first: Place, end: usize) -> bool
         requires order { first.at ≤ end }
         requires within { end ≤ length self.old }
@@ -94,8 +106,8 @@ impl<'a> OverlappingVersions<'a> {
         true
     }
 
-    /// A place behind another, as far as an earlier version leads or else behind one token; none
-    /// where no token follows.
+    /// The place to which a version comes from a place before its end: as far as an earlier version
+    /// leads, or else behind one token. None where no token of a version follows.
     fn next_place(&self, place: Place, end: usize) -> Option<Place>
         requires order { place.at < end }
         requires within { end ≤ length self.now }
@@ -108,15 +120,18 @@ impl<'a> OverlappingVersions<'a> {
         }
     }
 
-    /// Where an earlier version leads.
+    /// The place to which an earlier version leads from this one, if it leads on and not past the
+    /// end.
     fn leap(&self, place: Place, end: usize) -> Option<Place>
         ensures { IfSome result (IsNextPlace self.now end place) }
     {
         let leap = self.leaps.get(place.at / BLOCK)?;
         let Leap { from, to } = *leap;
+        // The leap over this block begins elsewhere, or behind a token of another class.
         if from.at != place.at || from.class != place.class {
             return None;
         }
+        // It leads nowhere, or past the end.
         if to.at <= place.at || to.at > end {
             return None;
         }
@@ -167,7 +182,8 @@ impl<'a> OverlappingVersions<'a> {
     }
 }
 
-/// The place behind the first token of a version.
+/// The place behind the first token of a version between two offsets; None where no version begins
+/// there.
 fn first_place(bytes: &[u8], from: usize, end: usize) -> Option<Place>
     requires order { from ≤ end }
     requires within { end ≤ length bytes.now }
@@ -185,7 +201,7 @@ fn first_place(bytes: &[u8], from: usize, end: usize) -> Option<Place>
     })
 }
 
-/// The place behind the next token, or behind some more digits of a hash.
+/// The place behind the next token, or behind some more digits of a hash, at most a block of them.
 fn place_behind(bytes: &[u8], place: Place, end: usize) -> Option<Place>
     requires order { place.at < end }
     requires within { end ≤ length bytes.now }
@@ -213,7 +229,7 @@ fn unread_digits(class: Class, text: &[u8]) -> usize
     leading_hex_digits(text).len()
 }
 
-/// The place behind the next token.
+/// The place behind the next token, where no digit of a hash is left before it.
 fn place_behind_token(bytes: &[u8], place: Place, end: usize) -> Option<Place>
     requires order { place.at < end }
     requires within { end ≤ length bytes.now }

@@ -1,4 +1,6 @@
-//! The classes of tokens, the order of tokens, and the tokens of a text one after the other.
+//! The classes of tokens, the order of tokens, and the tokens of a text one after the other. The
+//! rules stand in `docs/formats.md`, "Versions": the classes and their order below "A version is
+//! compared by its tokens", what a fuzzy match allows below "An operator has four bits".
 
 ghost use Rattle.std.specs.Prelude.{◌≡◌, ◌<◌, Some, false, [], ◌∷◌, drop, if◌then◌else◌};
 ghost use Rattle.version_core.specs.Token.{is_before_hash, is_before_revision, is_component, is_suffix};
@@ -9,24 +11,33 @@ ghost use Rattle.version_core.specs.Reading.{bytes_left, token_view, tokens_left
 use crate::lexeme::{behind, compare_hex_digits, leading_hex_digits, lexeme_at};
 use std::cmp::Ordering;
 
-/// The kinds of tokens, from the least to the greatest. `Stray` is what stands outside the grammar.
+/// The kinds of tokens, in their order from the least to the greatest.
 #[derive(Clone, Copy, Debug, PartialEq, Eq)]
 pub enum Class {
+    /// What stands outside the grammar.
     Stray,
+    /// One of the first four suffixes, such as `_rc`.
     PreRelease,
+    /// The end of the text.
     End,
+    /// The number behind `-r`.
     Revision,
+    /// The hexadecimal digits behind `~`.
     Hash,
+    /// The number of a suffix.
     SuffixNumber,
+    /// One of the other five suffixes, such as `_p`.
     Suffix,
+    /// The letter behind the components.
     Letter,
     /// A later component that begins with `0`, which is compared as text.
     ZeroComponent,
+    /// The first component, or a later one that does not begin with `0`.
     Component,
 }
 
 impl Class {
-    /// Its place in the order of classes, the first with 0.
+    /// The place of the class in the order of classes, the first with 0.
     fn rank(self) -> u8
         ensures { result ≡ class_rank self }
     {
@@ -40,21 +51,21 @@ impl Class {
         matches!(self, Class::End | Class::Stray)
     }
 
-    /// Whether it is of a component of the number.
+    /// Whether a token of this class is a component, so that a component or a letter may follow.
     pub fn is_component(self) -> bool
         ensures { result ≡ is_component self }
     {
         matches!(self, Class::ZeroComponent | Class::Component)
     }
 
-    /// Whether it is of a suffix.
+    /// Whether a token of this class is a suffix, so that a number without a mark may follow.
     pub fn is_suffix(self) -> bool
         ensures { result ≡ is_suffix self }
     {
         matches!(self, Class::PreRelease | Class::Suffix)
     }
 
-    /// Whether a suffix or a hash may follow.
+    /// Whether a suffix or a hash may follow a token of this class.
     pub fn is_before_hash(self) -> bool
         ensures { result ≡ is_before_hash self }
     {
@@ -64,7 +75,7 @@ impl Class {
         }
     }
 
-    /// Whether a revision may follow.
+    /// Whether a revision may follow a token of this class.
     pub fn is_before_revision(self) -> bool
         ensures { result ≡ is_before_revision self }
     {
@@ -80,8 +91,11 @@ impl Class {
 /// is not read to its end before it is compared.
 #[derive(Clone, Copy)]
 pub struct TokenAt<'a> {
+    /// Of which class the token is.
     pub class: Class,
+    /// Its value as a number; 0 where it is compared as text.
     pub number: u64,
+    /// Its value as a text; empty where it is compared as a number.
     pub text: &'a [u8],
 }
 
@@ -119,7 +133,7 @@ pub struct Tokens<'a> {
 }
 
 impl<'a> Tokens<'a> {
-    /// The tokens of a text.
+    /// All tokens of a text, from its front on.
     #[tactic(auto, unfolding(crate::specs::Order::tokens))]
     pub fn of(text: &'a [u8]) -> Tokens<'a>
         ensures { tokens_left result ≡ tokens text.entry.now }
@@ -141,7 +155,7 @@ impl<'a> Tokens<'a> {
         }
     }
 
-    /// Takes the next token.
+    /// Takes the next token. Behind the last one, the end or a stray one, nothing is to be taken.
     pub fn next(&mut self) -> TokenAt<'a>
         ensures tokens { tokens_left self.old
             ≡ token_view result ∷ (if is_last result.class then [] else tokens_left self.new) }
@@ -154,7 +168,7 @@ impl<'a> Tokens<'a> {
         lexeme.token
     }
 
-    /// What is left behind the token before.
+    /// What stands behind the token that was taken last, also behind the digits of a hash.
     fn unread_text(&self) -> &'a [u8]
         ensures { result.now ≡ drop (unread_len self.now.last self.now.rest.now) self.now.rest.now }
     {

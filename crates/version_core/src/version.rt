@@ -1,4 +1,5 @@
-//! Versions and the operators that they are matched with.
+//! Versions and the operators that they are matched with. The rules stand in `docs/formats.md`,
+//! "Versions"; the operators and their match bits below "An operator has four bits".
 
 ghost use Rattle.std.specs.Prelude.{◌≡◌, IfSome, IsTrue, is_some};
 ghost use Rattle.version_core.specs.Op.{is_op};
@@ -26,6 +27,7 @@ const FUZZY: u8 = 8;
 /// match (apk-package(5), "depend").
 #[derive(Clone, Copy, Debug, PartialEq, Eq)]
 pub struct Op {
+    /// The four match bits.
     bits: u8,
 }
 
@@ -54,7 +56,7 @@ impl Op {
         Some(Op { bits })
     }
 
-    /// The bits that it was made of.
+    /// The match bits that the operator was made of.
     pub fn bits(self) -> u8
         ensures bits { result ≡ self }
         ensures op { IsTrue (is_op self) }
@@ -73,6 +75,7 @@ impl Op {
 /// A version, seen as its text (apk-package(5)).
 #[derive(Drop)]
 pub struct Version<'a> {
+    /// The text, which is a version.
     text: &'a [u8],
 }
 
@@ -100,7 +103,7 @@ impl<'a> Version<'a> {
         }
     }
 
-    /// The version that a text is which is known to be one, so that it is not looked at.
+    /// The version that a text is which is known to be one; the text is not read again.
     pub fn of(text: &'a [u8]) -> Version<'a>
         requires { IsTrue (is_version text.now) }
         ensures { result ≡ text.entry.now }
@@ -108,7 +111,7 @@ impl<'a> Version<'a> {
         Version { text }
     }
 
-    /// The text that it was read from.
+    /// The text that the version was read from.
     pub fn text(&self) -> &'a [u8]
         ensures value { result.now ≡ self.now }
         ensures version { IsTrue (is_version self.now) }

@@ -1,6 +1,6 @@
 //! Answers questions to `version_core` and `dep_core`: versions and their order, dependencies,
 //! worlds and lists of repositories. Its stored run has all rows; `tests/lines.md` describes their
-//! form.
+//! form. The README of this crate has a row for each question.
 #![tactic(auto)]
 
 mod versions;
@@ -14,21 +14,32 @@ use std::process::ExitCode;
 use versions::{add_operators, match_of, order_of, reads_as_itself};
 use worlds::{add_dependency, add_edits, add_meeting, add_repositories, add_world, is_name};
 
-/// What is asked.
+/// What is asked; the README of this crate says what each question answers.
 #[derive(Clone, Copy)]
 enum Question {
+    /// `version TEXT`.
     Version,
+    /// `order VERSION VERSION`.
     Order,
+    /// `match VERSION BITS WANTED`.
     Match,
+    /// `operators`.
     Operators,
+    /// `dependency TEXT`, `value NAME VERSION MATCH`.
     Dependency,
+    /// `meets DEPENDENCY NAME VERSION`.
     Meets,
+    /// `name TEXT`, `package TEXT`.
     Name,
+    /// `world TEXT`.
     World,
+    /// `edits WORLD EDIT ..`.
     Edits,
+    /// `repositories TEXT`.
     Repositories,
 }
 
+// The words that questions begin with.
 #[rattlefmt::skip]
 const QUESTIONS: [(&[u8], Question); 12] = [
     (b"version", Question::Version),

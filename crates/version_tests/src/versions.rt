@@ -1,20 +1,22 @@
 //! Versions: which texts are versions, their order, what an operator matches, and the operators.
+//! The rules stand in `docs/formats.md`, "Versions".
 use base_core::Words;
 use row_lines::{add_number, add_word, number_of, word_at};
 use std::alloc::{AllocError, Global};
 use std::cmp::Ordering;
 use version_core::{Op, Version};
 
-/// Whether a text is a version, which lends that text.
-pub fn reads_as_itself(text: &[u8]) -> bool {
+/// Whether a text is a version, which lends the same text.
+pub(crate) fn reads_as_itself(text: &[u8]) -> bool {
     match Version::read(text) {
         Some(version) => version.text() == text,
         None => false,
     }
 }
 
-/// The sign between the two versions of `order A B`; none where the two ways differ.
-pub fn order_of(words: &Words) -> &'static [u8] {
+/// The sign between the two versions of `order A B`; another text where the order is another one
+/// the other way round.
+pub(crate) fn order_of(words: &Words) -> &'static [u8] {
     let (Some(left), Some(right)) = (
         Version::read(word_at(words, 1)),
         Version::read(word_at(words, 2)),
@@ -33,7 +35,7 @@ pub fn order_of(words: &Words) -> &'static [u8] {
 }
 
 /// Whether the version A of `match A BITS B` matches B with the operator of these bits.
-pub fn match_of(words: &Words) -> &'static [u8] {
+pub(crate) fn match_of(words: &Words) -> &'static [u8] {
     let (Some(found), Some(op), Some(wanted)) = (
         Version::read(word_at(words, 1)),
         operator_of(word_at(words, 2)),
@@ -54,8 +56,8 @@ fn operator_of(bits: &[u8]) -> Option<Op> {
     Op::of(bits)
 }
 
-/// Adds the bits that are an operator.
-pub fn add_operators(alloc: Global, answer: &mut Vec<u8>) -> Result<(), AllocError> {
+/// Adds the match bits that are an operator, of all numbers from 0 to 255.
+pub(crate) fn add_operators(alloc: Global, answer: &mut Vec<u8>) -> Result<(), AllocError> {
     for bits in 0..=u8::MAX {
         if Op::of(bits).map(|op| op.bits()) == Some(bits) {
             add_word(answer, b"")?;

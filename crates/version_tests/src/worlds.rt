@@ -1,5 +1,6 @@
 //! Dependencies, worlds and lists of repositories: texts that are read and written, what meets a
-//! dependency, first bad lines, and edits.
+//! dependency, first bad lines, and edits. The rules stand in `docs/formats.md`, "Dependencies",
+//! "World" and "Repositories".
 
 use base_core::Words;
 use dep_core::{
@@ -11,7 +12,11 @@ use std::alloc::{AllocError, Global};
 use version_core::Version;
 
 /// Adds the text that a world is written as, or its first bad line.
-pub fn add_world(alloc: Global, text: &[u8], answer: &mut Vec<u8>) -> Result<(), AllocError> {
+pub(crate) fn add_world(
+    alloc: Global,
+    text: &[u8],
+    answer: &mut Vec<u8>,
+) -> Result<(), AllocError> {
     match World::read(alloc, text) {
         Ok(world) => answer.extend_from_slice(world.text(alloc)?.as_bytes()),
         Err(WorldFault::Bad { line }) => add_bad_line(alloc, line, answer),
@@ -28,7 +33,11 @@ fn add_bad_line(alloc: Global, line: u64, answer: &mut Vec<u8>) -> Result<(), Al
 /// Makes the edits of `edits WORLD EDIT..`, and adds what each answers: `+D` adds a dependency,
 /// `-N` takes out the one of this name, `#` counts, `?I` is the one at this place, and `=` is the
 /// text.
-pub fn add_edits(alloc: Global, words: &Words, answer: &mut Vec<u8>) -> Result<(), AllocError> {
+pub(crate) fn add_edits(
+    alloc: Global,
+    words: &Words,
+    answer: &mut Vec<u8>,
+) -> Result<(), AllocError> {
     let Ok(mut world) = World::read(alloc, word_at(words, 1)) else {
         return answer.extend_from_slice(b"no world");
     };
@@ -39,7 +48,7 @@ pub fn add_edits(alloc: Global, words: &Words, answer: &mut Vec<u8>) -> Result<(
 }
 
 // Makes one edit of world, or adds what one asks: `+TEXT` adds, `-NAME` takes out, `#` counts,
-// `?PLACE` shows an entry.
+// `?PLACE` shows an entry, and `=` the text.
 fn add_edit(
     alloc: Global,
     world: &mut World,
@@ -90,7 +99,7 @@ fn add_entry(
 }
 
 /// Adds the tags and paths of a list of repositories, or its first bad line.
-pub fn add_repositories(
+pub(crate) fn add_repositories(
     alloc: Global,
     text: &[u8],
     answer: &mut Vec<u8>,
@@ -109,7 +118,7 @@ pub fn add_repositories(
 }
 
 /// Adds the text of the dependency of `dependency TEXT` or `value NAME VERSION MATCH`.
-pub fn add_dependency(
+pub(crate) fn add_dependency(
     alloc: Global,
     words: &Words,
     answer: &mut Vec<u8>,
@@ -131,7 +140,7 @@ fn dependency_of(words: &Words) -> Option<Dep<'_>> {
 
 /// Adds whether a package of the name and the version of `meets DEPENDENCY NAME VERSION` meets that
 /// dependency.
-pub fn add_meeting(words: &Words, answer: &mut Vec<u8>) -> Result<(), AllocError> {
+pub(crate) fn add_meeting(words: &Words, answer: &mut Vec<u8>) -> Result<(), AllocError> {
     let version = Version::read(word_at(words, 3));
     match read_dep(word_at(words, 1)) {
         Some(dep) => add_yes_or_no(answer, dep.met_by(word_at(words, 2), version.as_ref())),
@@ -141,7 +150,7 @@ pub fn add_meeting(words: &Words, answer: &mut Vec<u8>) -> Result<(), AllocError
 
 /// Whether the text of `name TEXT` is the name of a dependency, and that of `package TEXT` the name
 /// of a package.
-pub fn is_name(words: &Words) -> bool {
+pub(crate) fn is_name(words: &Words) -> bool {
     if word_at(words, 0) == b"package".as_slice() {
         return is_package_name(word_at(words, 1));
     }

@@ -1,4 +1,6 @@
 -- What the refusals of the reader say.
+-- The rule of the place stands in `docs/commands.md`, "Words", behind the table of options; that memory
+-- is wanted only behind the applet is a promise of `read_words` alone, as the README says.
 use Rattle.std.specs.Prelude.{◌≡◌, ℕ, Result, Err, IsTrue}
 use Rattle.std.specs.Result.{is_ok}
 use Rattle.command_core.specs.Command.{CommandLine}
@@ -11,7 +13,7 @@ abbrev pub IsWordsFault : WordsFault → Result CommandLine ℕ → Type 0
 IsWordsFault (Usage place) command = command ≡ Err place
 IsWordsFault Memory command = Unit {0}
 
--- memory is wanted only behind an applet that was found
+-- want of memory is answered only where the applet was found, with its own options before it
 abbrev pub IsBehindApplet : WordsFault → Result Start ℕ → Type 0
 IsBehindApplet (Usage place) start = Unit {0}
 IsBehindApplet Memory start = IsTrue (is_ok start)

@@ -1,5 +1,6 @@
 -- The command of the words of a command line, or the place of the first word that offends. Places
 -- count from 1; where a word is missing, the place is the one behind the last word.
+-- The rules stand in `docs/commands.md`, "Words".
 use Rattle.std.specs.Prelude.{ℕ, ◌+◌, ◌-◌, ◌==◌, Bool, true, false, not, ◌&&◌, ◌||◌, nat_lt, List, [], ◌∷◌, ◌++◌, length, take, drop, codes, Option, Some, None, option_and_then, is_some, Result, Ok, Err, if◌then◌else◌}
 use Rattle.std.specs.List.{before_first, position}
 use Rattle.std.specs.Option.{option_map, option_or}
@@ -26,22 +27,23 @@ use Rattle.words_core.specs.Options.{OptionSpec, applet_of, is_early, option_spe
 
 -- ---- a word
 
--- two or more bytes that begin with a dash
+-- whether a word is an option, or `--`: it has two or more bytes, the first of which is a dash
 abbrev pub is_option : List ℕ → Bool
 is_option word = nat_lt 1 (length word) && bytes_eq (take 1 word) (codes "-")
 
--- the word behind which there are no options
+-- whether a word is `--`, behind which there are no options
 abbrev pub is_end : List ℕ → Bool
 is_end word = bytes_eq word (codes "--")
 
--- of `--name=value` the name, of `-xvalue` the first two bytes
+-- the word of the option alone: of `--name=value` what stands before the first `=`, of `-xvalue` the
+-- first two bytes
 unfoldable pub option_name : List ℕ → List ℕ
 option_name word =
     if bytes_eq (take 2 word) (codes "--") then before_first (λ b. b == EQUALS_SIGN) word else
     take 2 word
 
--- the value that an option's word holds: what is behind the first `=` of a long one, and behind the
--- letter of a short one
+-- the value that an option's word holds, if it holds one: what is behind the first `=` of a long one,
+-- and behind the first two bytes of a short one
 unfoldable pub held_value : List ℕ → Option (List ℕ)
 held_value word =
     if bytes_eq (take 2 word) (codes "--") then
@@ -51,14 +53,14 @@ held_value word =
 
 -- ---- flags
 
--- flags with what an option says; None where it says no flag, or a second kind
+-- flags with what an option means; None where it means no flag, or a second kind
 abbrev pub with_meaning : Flags → Meaning → Option Flags
 with_meaning flags (Plain flag) = Some (with_flag flag flags)
 with_meaning flags (Kind flag) =
     if has_kind flags && not (has_flag flag flags) then None else Some (with_flag flag flags)
 with_meaning flags (Value rule) = None
 
--- flags with what an option says
+-- flags with an option; None where it is no flag, or a second kind
 abbrev pub with_spec : Flags → OptionSpec → Option Flags
 with_spec flags option = with_meaning flags option.meaning
 
@@ -68,26 +70,27 @@ with_option options flags word = option_and_then (with_spec flags) (option_spell
 
 -- ---- up to the applet
 
--- what comes of what was read, or this place where nothing was
+-- what comes next of what was read, or a refusal at this place where nothing was read
 abbrev pub or_at : {A B : Type 0} → ℕ → (A → Result B ℕ) → Option A → Result B ℕ
 or_at place next None = Err place
 or_at place next (Some x) = next x
 
--- an applet, whether the options have ended before it, and how many words are read, its own among
--- them
+-- the site of an applet: the applet, whether the options have ended before it, and how many words are
+-- read, its own among them
 abbrev pub site_by : Bool → ℕ → Applet → AppletSite
 site_by ended place applet = record { applet = applet; ended = ended; read = place }
 
--- the word at a place is the applet
+-- the site of the applet that the word at a place names, or this place where it names none
 unfoldable pub site_at : Bool → ℕ → List ℕ → Result AppletSite ℕ
 site_at ended place word = or_at place (λ applet. Ok (site_by ended place applet)) (applet_of word)
 
--- behind `--` the next word is the applet
+-- the site of the applet behind `--`, which the next word names; this place counts the next word
 unfoldable pub site_behind_end : ℕ → List (List ℕ) → Result AppletSite ℕ
 site_behind_end place [] = Err place
 site_behind_end place (word ∷ words) = site_at true place word
 
--- where the applet stands, which only some options may stand before
+-- the site of the applet in the words from a place on, or the first place that offends: before the
+-- applet only some options may stand, and `--`
 abbrev pub applet_site : ℕ → List (List ℕ) → Result AppletSite ℕ
 applet_site place [] = Err place
 applet_site place (word ∷ words) =
@@ -95,7 +98,8 @@ applet_site place (word ∷ words) =
     if is_option word then (if is_early word then applet_site (place + 1) words else Err place) else
     site_at false place word
 
--- the flags of the words before the applet, each of which is one of its options
+-- the flags of the words before the applet, from a place on, or the first place that offends: each word
+-- is an option of the applet, up to `--`
 abbrev pub early_flags : List OptionSpec → Flags → ℕ → List (List ℕ) → Result Flags ℕ
 early_flags options flags place [] = Ok flags
 early_flags options flags place (word ∷ words) =
@@ -103,7 +107,7 @@ early_flags options flags place (word ∷ words) =
     or_at place (λ more. early_flags options more (place + 1) words)
     (with_option options flags word)
 
--- the applet, where it stands, and the flags before it
+-- the start of a command line: its applet, where that stands, and the flags before it
 abbrev pub start_by : AppletSite → Flags → Start
 start_by site flags =
     record { applet = site.applet; flags = flags; ended = site.ended; read = site.read }
@@ -119,7 +123,7 @@ start_from words (Err place) = Err place
 start_from words (Ok site) =
     start_with site (early_flags (options_of site.applet) no_flags 1 (take (site.read - 1) words))
 
--- the applet of the line, and the flags that stand before it
+-- the start of a command line, or the first place that offends before the applet or is it
 abbrev pub line_start : List (List ℕ) → Result Start ℕ
 line_start words = start_from words (applet_site 1 words)
 
@@ -130,7 +134,7 @@ line_start words = start_from words (applet_site 1 words)
 abbrev pub state_by : Flags → List OptionValue → Option ValueRule → OptionState
 state_by flags values awaiting = record { flags = flags; values = values; awaiting = awaiting }
 
--- where only flags were given
+-- the state behind the applet: the flags before it, no values, and none awaited
 abbrev pub first_state : Flags → OptionState
 first_state flags = state_by flags [] None
 
@@ -156,7 +160,8 @@ with_rule state place held rule =
 abbrev pub with_flags : OptionState → Option Flags → Option OptionState
 with_flags state flags = option_map (λ more. state_by more state.values state.awaiting) flags
 
--- a state with what an option says; None where it may not be said
+-- a state with what an option means, whose word holds this value or none; None where it may not be
+-- given so: a flag has no value
 abbrev pub with_meaning_at : OptionState → ℕ → Option (List ℕ) → Meaning → Option OptionState
 with_meaning_at state place held (Value rule) = with_rule state place held rule
 with_meaning_at state place (Some text) (Plain flag) = None
@@ -176,43 +181,47 @@ with_spelled options state place word =
 abbrev pub is_option_or_value : OptionState → List ℕ → Bool
 is_option_or_value state word = is_some state.awaiting || (is_option word && not (is_end word))
 
--- a state with such a word at a place; None where it cannot be read
+-- a state with the word at a place, by the option whose value is awaited, if one is: the word is its
+-- value, or else an option; None where it cannot be read
 abbrev pub with_word_by : List OptionSpec → OptionState → ℕ → List ℕ → Option ValueRule
     → Option OptionState
 with_word_by options state place word None = with_spelled options state place word
 with_word_by options state place word (Some rule) = with_value state place word rule
 
--- the same by what the state awaits
+-- a state with the word at a place, which is the value that the state awaits, or an option; None where
+-- it cannot be read
 abbrev pub with_word : List OptionSpec → OptionState → ℕ → List ℕ → Option OptionState
 with_word options state place word = with_word_by options state place word state.awaiting
 
 -- ---- behind the applet
 
--- what was read: what options have said, the operands, and the place of the word that cannot be
+-- the reading of words: what options have said, the operands, and the place of the word that cannot be
 -- read, if one ended the reading
 abbrev pub reading_by : OptionState → List Operand → Option ℕ → Reading
 reading_by state operands unread = record { state = state; operands = operands; unread = unread }
 
--- words that are operands, the first of them at a place
+-- the operands that some words are, the first of which stands at a place
 abbrev pub operands_of : ℕ → List (List ℕ) → List Operand
 operands_of place [] = []
 operands_of place (word ∷ words) = operand_at place word ∷ operands_of (place + 1) words
 
--- an operand before those that were read behind it
+-- a reading with an operand before those that were read
 abbrev pub with_operand : Operand → Reading → Reading
 with_operand operand reading = record reading { operands = operand ∷ reading.operands }
 
--- what is read behind a word that was read; one that cannot be read ends the reading
+-- what is read next, behind a word that was read; a word at this place that cannot be read ends the
+-- reading
 abbrev pub or_unread : OptionState → ℕ → (OptionState → Reading) → Option OptionState → Reading
 or_unread state place next None = reading_by state [] (Some place)
 or_unread state place next (Some more) = next more
 
--- the end of the words, where a value that is awaited is missing
+-- the reading where the words end at a place; a value that is awaited is missing there
 abbrev pub reading_end : OptionState → ℕ → Reading
 reading_end state place =
     reading_by state [] (option_map (λ (rule : ValueRule). place) state.awaiting)
 
--- words that are options, values and operands, up to the first that cannot be read
+-- the reading of words behind a state: options, values and operands, from a place on, up to the first
+-- word that cannot be read
 abbrev pub option_reading : List OptionSpec → OptionState → ℕ → List (List ℕ) → Reading
 option_reading options state place [] = reading_end state place
 option_reading options state place (word ∷ words) =
@@ -222,7 +231,7 @@ option_reading options state place (word ∷ words) =
     if is_end word then reading_by state (operands_of (place + 1) words) None else
     with_operand (operand_at place word) (option_reading options state (place + 1) words)
 
--- the words behind the applet
+-- the reading of the words behind the applet; where `--` stands before it they are operands alone
 unfoldable pub reading_behind : Start → List (List ℕ) → Reading
 reading_behind start words =
     let left = drop start.read words in
@@ -232,28 +241,30 @@ reading_behind start words =
 
 -- ---- the command, or what offends
 
--- the place of the first operand that is not taken; where there is no rule, since the kind of the
--- command is lacking, no operand offends: the kind does
+-- the place of the first operand that the rule does not take. There is no rule where the flag is
+-- lacking that says the kind of the command: then no operand offends, and the place behind the last
+-- word does
 abbrev pub refused_operand : Option OperandRule → List Operand → Option ℕ
 refused_operand None operands = None
 refused_operand (Some rule) operands = first_refused rule 0 operands
 
--- whether the kind or an operand is lacking
+-- whether too few operands were given, or the flag that says the kind of the command was not
 abbrev pub lacks_operand : Option OperandRule → List Operand → Bool
 lacks_operand None operands = true
 lacks_operand (Some rule) operands = nat_lt (length operands) rule.least
 
--- whether a word is lacking
+-- whether a word is lacking: an operand, the flag that says the kind, or the option that the applet
+-- needs
 abbrev pub lacks_word : Applet → Option OperandRule → Reading → Bool
 lacks_word applet rule reading =
     lacks_operand rule reading.operands || lacks_value (needed_option applet) reading.state.values
 
--- the command of what was read
+-- the command of a reading, with the place behind the last word
 abbrev pub command_read : ℕ → Applet → Reading → CommandLine
 command_read behind applet reading =
     command_by applet reading.state.flags reading.operands reading.state.values behind
 
--- the place that offends, or else the command
+-- a refusal at a place that offends, if there is one, and else what is given
 abbrev pub unless_at : Option ℕ → Result CommandLine ℕ → Result CommandLine ℕ
 unless_at None otherwise = otherwise
 unless_at (Some place) otherwise = Err place
@@ -266,7 +277,7 @@ verdict behind applet reading =
     unless_at (option_or (refused_operand rule reading.operands) reading.unread)
     (if lacks_word applet rule reading then Err behind else Ok (command_read behind applet reading))
 
--- the command that the words behind the applet give
+-- the command of the words, by the start that was found in them; or the first place that offends
 abbrev pub command_from : List (List ℕ) → Result Start ℕ → Result CommandLine ℕ
 command_from words (Err place) = Err place
 command_from words (Ok start) = verdict (length words + 1) start.applet (reading_behind start words)

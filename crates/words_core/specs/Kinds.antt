@@ -1,4 +1,6 @@
 -- Words of `info` whose kind can still follow: a kind takes other operands than `info` without one.
+-- The rule stands in `docs/commands.md`, "Words", below the table of places (`info usr/x -W`). Serves
+-- the laws `words_offend_whatever_follows` and `what_follows_a_command_offends_behind_it`.
 use Rattle.std.specs.Prelude.{ℕ, Bool, true, false, not, ◌&&◌, ◌||◌, List, drop, None, is_some, Result, Ok, Err}
 use Rattle.command_core.specs.declared.command.Applet.{Applet}
 use Rattle.command_core.specs.declared.command.Applet.TheVariants.{Info}
@@ -21,11 +23,11 @@ can_get_kind_from words start =
     is_info start.applet && not (has_kind reading.state.flags) && not (is_some reading.unread)
     && not (start.ended || have_ended (options_of start.applet) None (drop start.read words))
 
--- the same by the start of the words, which has to be found
+-- whether words can still get a kind, by their start; where none is found they are not `info`
 abbrev pub can_get_kind_by : List (List ℕ) → Result Start ℕ → Bool
 can_get_kind_by words (Err place) = false
 can_get_kind_by words (Ok start) = can_get_kind_from words start
 
--- whether words can still get a kind
+-- whether words are `info` without a kind, and one of its four options can still follow
 unfoldable pub can_get_kind : List (List ℕ) → Bool
 can_get_kind words = can_get_kind_by words (line_start words)

@@ -1,5 +1,7 @@
 -- What the words of a command are, apart from how they are read: options with their values, an
 -- applet, operands.
+-- The rules stand in `docs/commands.md`, "Words"; the laws `read_words_are_a_command` and
+-- `commands_are_read` say that *command_of* keeps them.
 use Rattle.std.specs.Prelude.{◌≡◌, ℕ, ◌+◌, ◌-◌, Bool, ◌||◌, List, [], ◌∷◌, ◌++◌, length, take, Option, Some, None, option_and_then, IsTrue, if◌then◌else◌}
 use Rattle.std.specs.List.{list_all}
 use Rattle.std.specs.Option.{option_map}
@@ -17,29 +19,29 @@ use Rattle.words_core.specs.declared.options.Meaning.TheVariants.{Flag as Plain,
 use Rattle.words_core.specs.Grammar.{held_value, is_end, is_option, operands_of, option_name}
 use Rattle.words_core.specs.Options.{OptionSpec, applet_of, is_early, option_spelled, options_of}
 
--- the rule of an option that has values
+-- the rule of the values that an option has; None where it is a flag
 abbrev pub rule_in : Meaning → Option ValueRule
 rule_in (Plain flag) = None
 rule_in (Kind flag) = None
 rule_in (Value rule) = Some rule
 
--- the option that a word spells, where it has values
+-- the rule of the option that a word spells; None where it has no values
 abbrev pub rule_at : List OptionSpec → List ℕ → Option ValueRule
 rule_at options word =
     option_and_then (λ (e : OptionSpec). rule_in e.meaning)
     (option_spelled options (option_name word))
 
--- the option that a word spells, where its value is the next word
+-- this rule, where the option's word holds no value
 abbrev pub rule_unless : Option (List ℕ) → Option ValueRule → Option ValueRule
 rule_unless None rule = rule
 rule_unless (Some text) rule = None
 
--- the option whose value is the next word
+-- the rule of the option that a word spells, where its value is the next word
 abbrev pub rule_behind : List OptionSpec → List ℕ → Option ValueRule
 rule_behind options word = rule_unless (held_value word) (rule_at options word)
 
--- the words that are neither options nor values, each with its place: all behind `--`, and before
--- it those that are none. The first word is the value of an option, if there is a rule of it
+-- the words that are neither options nor values, each with its place: all behind `--`, and before it
+-- those that are neither. With a rule the first word is the value of its option
 abbrev pub free_words : List OptionSpec → Option ValueRule → ℕ → List (List ℕ) → List Operand
 free_words options rule place [] = []
 free_words options (Some rule) place (word ∷ words) = free_words options None (place + 1) words
@@ -48,7 +50,7 @@ free_words options None place (word ∷ words) =
     if is_option word then free_words options (rule_behind options word) (place + 1) words else
     operand_at place word ∷ free_words options None (place + 1) words
 
--- the words that are options
+-- the words that are options, up to `--`. With a rule the first word is the value of its option
 abbrev pub option_words : List OptionSpec → Option ValueRule → List (List ℕ) → List (List ℕ)
 option_words options rule [] = []
 option_words options (Some rule) (word ∷ words) = option_words options None words
@@ -57,13 +59,15 @@ option_words options None (word ∷ words) =
     if is_option word then word ∷ option_words options (rule_behind options word) words else
     option_words options None words
 
--- the value that an option's word holds
+-- the list of the value that an option's word at a place holds; empty where the option has no values,
+-- or the next word is its value
 abbrev pub held_at : ℕ → Option ValueRule → Option (List ℕ) → List OptionValue
 held_at place None held = []
 held_at place (Some rule) None = []
 held_at place (Some rule) (Some text) = option_value place rule.letter text ∷ []
 
--- the values of the options, each with the place of its word; None where one is missing
+-- the values of the options, each with the place of the word that holds it; None where one is missing.
+-- With a rule the first word is the value of its option
 abbrev pub values_of : List OptionSpec → Option ValueRule → ℕ → List (List ℕ)
     → Option (List OptionValue)
 values_of options None place [] = Some []
@@ -78,7 +82,8 @@ values_of options None place (word ∷ words) =
     (values_of options (rule_behind options word) (place + 1) words) else
     values_of options None (place + 1) words
 
--- flags and what an option says whose word holds a value or none; None where a flag has a value
+-- flags with what an option means, whose word holds a value or none; None where the word of a flag
+-- holds one
 abbrev pub flags_with : Flags → Option (List ℕ) → Meaning → Option Flags
 flags_with flags held (Value rule) = Some flags
 flags_with flags None (Plain flag) = Some (with_flag flag flags)
@@ -86,14 +91,15 @@ flags_with flags None (Kind flag) = Some (with_flag flag flags)
 flags_with flags (Some text) (Plain flag) = None
 flags_with flags (Some text) (Kind flag) = None
 
--- flags and all that some options say; None where a word spells no option
+-- flags with what some options say, one after another; None where a word spells no option, or a flag
+-- has a value
 abbrev pub flags_after : List OptionSpec → Flags → List (List ℕ) → Option Flags
 flags_after options flags [] = Some flags
 flags_after options flags (word ∷ words) =
     option_and_then (λ (e : OptionSpec). option_and_then (λ more. flags_after options more words)
     (flags_with flags (held_value word) e.meaning)) (option_spelled options (option_name word))
 
--- whether a word may stand before the applet
+-- whether a word may stand before the applet: `--`, or one of the five options
 abbrev pub stands_before : List ℕ → Bool
 stands_before word = is_end word || is_early word
 

@@ -1,4 +1,6 @@
 -- The applets that exist, and the words that spell them and their options, after apk(8).
+-- The rules stand in `docs/commands.md`, "Words", the table of options and the paragraph of those
+-- before the applet.
 use Rattle.std.specs.Prelude.{ℕ, Bool, ◌||◌, List, [], ◌∷◌, ◌++◌, codes, Option}
 use Rattle.std.specs.List.{find, list_any}
 use Rattle.std.specs.Str.{bytes_eq}
@@ -17,15 +19,15 @@ pub record OptionSpec : Type 0 where
   pub short : List ℕ
   pub meaning : Meaning
 
--- an option without a value
+-- the option without a value of these words, which gives this flag
 abbrev pub flag_spec : List ℕ → List ℕ → Flag → OptionSpec
 flag_spec long short flag = record { long = long; short = short; meaning = Plain flag }
 
--- an option without a value that says of which kind the command is
+-- the option of these words whose flag says of which kind the command is
 abbrev pub kind_spec : List ℕ → List ℕ → Flag → OptionSpec
 kind_spec long short flag = record { long = long; short = short; meaning = Kind flag }
 
--- an option with values
+-- the option with values of these words, which has this rule
 abbrev pub value_spec : List ℕ → List ℕ → ValueRule → OptionSpec
 value_spec long short rule = record { long = long; short = short; meaning = Value rule }
 
@@ -35,15 +37,15 @@ common_options =
     flag_spec (codes "--allow-untrusted") [] AllowUntrusted ∷
     (flag_spec (codes "--no-scripts") [] NoScripts ∷ [])
 
--- a root without a database may begin one
+-- `--initdb`: where there is no database one is begun
 abbrev pub initdb_option : OptionSpec
 initdb_option = flag_spec (codes "--initdb") [] Initdb
 
--- a change is told, and nothing is written
+-- `--simulate`: the change is reported, and not made
 abbrev pub simulate_option : OptionSpec
 simulate_option = flag_spec (codes "--simulate") (codes "-s") Simulate
 
--- configuration that the user changed goes too
+-- `--purge`: configuration that the user changed goes too
 abbrev pub purge_option : OptionSpec
 purge_option = flag_spec (codes "--purge") [] Purge
 
@@ -95,7 +97,7 @@ own_options applet = []
 unfoldable pub options_of : Applet → List OptionSpec
 options_of applet = common_options ++ own_options applet
 
--- the option that a word spells, among some
+-- the option that a word spells, long or short, among some
 abbrev pub option_spelled : List OptionSpec → List ℕ → Option OptionSpec
 option_spelled options word =
     find (λ (o : OptionSpec). bytes_eq o.long word || bytes_eq o.short word) options
@@ -106,7 +108,7 @@ early_words =
     codes "--allow-untrusted" ∷ (codes "--no-scripts" ∷ (codes "--initdb" ∷ (codes "--simulate" ∷
     (codes "--purge" ∷ []))))
 
--- whether an option may stand before the applet
+-- whether a word is an option that may stand before the applet
 abbrev pub is_early : List ℕ → Bool
 is_early word = list_any (λ early. bytes_eq early word) early_words
 

@@ -1,4 +1,5 @@
 -- What the rows of the reader's tables stand for, and what they keep.
+-- Serves the proofs of `options` and the law `letters_are_those_of_short_words`, as the README says.
 use Rattle.std.specs.Prelude.{ℕ, Bool, true, List, [], ◌∷◌}
 use Rattle.std.specs.Str.{bytes_eq}
 use Rattle.words_core.specs.declared.options.Meaning.{Meaning}
@@ -10,15 +11,16 @@ use Rattle.words_core.specs.Options.{OptionSpec}
 abbrev pub option_spec : OptionRow → OptionSpec
 option_spec row = record { long = row.long.now; short = row.short.now; meaning = row.meaning }
 
--- the byte that options begin with
+-- the byte that options begin with: `-`
 abbrev pub dash : ℕ
 dash = 45
 
--- whether the letter of an option with values is that of its short word
+-- whether an option that has values has this short word: a dash, and the letter under which its values
+-- are kept
 abbrev pub has_letter : List ℕ → Meaning → Bool
 has_letter short (Value rule) = bytes_eq short (dash ∷ (rule.letter ∷ []))
 has_letter short meaning = true
 
--- whether the option of values has the letter of its short word
+-- whether the values of an option, if it has values, are kept under the letter of its short word
 abbrev pub has_its_letter : OptionSpec → Bool
 has_its_letter option = has_letter option.short option.meaning

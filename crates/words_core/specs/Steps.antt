@@ -1,11 +1,13 @@
 -- What a step of the reader says.
+-- Serves the proofs of `reading` and `read`: the contracts of their private functions.
 use Rattle.std.specs.Prelude.{◌≡◌, Bool, true, false, Option, Some, None, IsTrue}
 use Rattle.command_core.specs.declared.command.Applet.{Applet}
 use Rattle.command_core.specs.Sound.{may_have, value_rules, are_values}
 use Rattle.words_core.specs.declared.reading.OptionState.{OptionState}
 use Rattle.words_core.specs.declared.reading.Reading.{Reading}
 
--- a word that is read gives the new state, and one that cannot be read changes nothing
+-- a step of the reader: a word that is read gives the new state, and one that cannot be read leaves the
+-- old one
 abbrev pub IsReadingStep : Bool → OptionState → OptionState → Option OptionState → Type 0
 IsReadingStep true old new more = more ≡ Some new
 IsReadingStep false old new more = (more ≡ None) × (new ≡ old)

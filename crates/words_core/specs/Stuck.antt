@@ -1,5 +1,7 @@
 -- Words that cannot become a command, whatever follows: the options before the applet are no
 -- applet's, or no option can follow and one is lacking, or a value is awaited that no text can be.
+-- Serves the laws `words_before_a_usage_error_can_be_completed` and `stuck_words_are_no_command`, as
+-- the README says.
 use Rattle.std.specs.Prelude.{ℕ, ◌==◌, Bool, true, false, not, ◌&&◌, ◌||◌, List, [], ◌∷◌, drop, Option, Some, None, is_some, Result, Ok, Err, if◌then◌else◌}
 use Rattle.std.specs.List.{list_all, list_any}
 use Rattle.std.specs.Result.{is_ok}
@@ -21,7 +23,7 @@ use Rattle.words_core.specs.Options.{OptionSpec, applets, options_of}
 
 -- ---- before the applet
 
--- whether options that stand before an applet are its own
+-- whether the words before an applet are its own options
 abbrev pub suit : List (List ℕ) → Applet → Bool
 suit words applet = is_ok (early_flags (options_of applet) no_flags 1 words)
 
@@ -54,12 +56,13 @@ abbrev pub is_full : ValueKind → ℕ → List OptionValue → Bool
 is_full Script letter values = list_all (has_script letter values) script_types
 is_full kind letter values = false
 
--- whether a value is awaited that no text can be
+-- whether a value of an option is awaited, and no text can be one
 abbrev pub awaits_none : Option ValueRule → List OptionValue → Bool
 awaits_none None values = false
 awaits_none (Some rule) values = is_full rule.kind rule.letter values
 
--- whether words are stuck whose applet was found
+-- whether words whose start was found are stuck: options have ended and one is lacking, or a value is
+-- awaited that no text can be
 abbrev pub is_stuck : List (List ℕ) → Start → Bool
 is_stuck words start =
     let state = (reading_behind start words).state in
@@ -67,16 +70,18 @@ is_stuck words start =
     && lacks_option start.applet state)
     || awaits_none state.awaiting state.values
 
--- the same by the start of the words, which has to be found
+-- whether words whose applet was found are stuck, by their start; where the options before the applet
+-- offend they are not
 abbrev pub is_stuck_by : List (List ℕ) → Result Start ℕ → Bool
 is_stuck_by words (Err place) = false
 is_stuck_by words (Ok start) = is_stuck words start
 
--- where no applet was found yet, the options before it are those of none that exists
+-- whether words are stuck, by the site of their applet; where none was found they are where no applet
+-- has all the options before it
 abbrev pub are_stuck_by : List (List ℕ) → Result AppletSite ℕ → Bool
 are_stuck_by words (Err place) = not (list_any (suit words) applets)
 are_stuck_by words (Ok site) = is_stuck_by words (start_from words (Ok site))
 
--- whether words are stuck
+-- whether words are stuck: no words behind them make them a command
 unfoldable pub are_stuck : List (List ℕ) → Bool
 are_stuck words = are_stuck_by words (applet_site 1 words)

@@ -1,4 +1,6 @@
 //! Laws of the grammar of command lines.
+//! Each is a row of the README of this crate; the rules of the grammar stand in `docs/commands.md`,
+//! "Words".
 ghost use Rattle.std.specs.Prelude.{◌≡◌, ◌≤◌, ◌<◌, ◌+◌, ◌-◌, ◌++◌, ℕ, List, Ok, Err, IsTrue, length, not, take};
 ghost use Rattle.std.specs.List.{list_all};
 ghost use Rattle.command_core.specs.Command.{CommandLine};

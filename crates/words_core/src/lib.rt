@@ -6,6 +6,7 @@
 //! exist, and how their options are spelled) of `specs/`. `Lines` says which words are a command
 //! apart from how they are read, `Stuck` which words cannot become one, and the functions of `laws`
 //! join them.
+//! The rules stand in `docs/commands.md`, "Words".
 #![tactic(auto)]
 
 mod laws;

@@ -1,4 +1,6 @@
 //! The applets that exist, and the words that spell them and their options (apk(8)).
+//! The rules stand in `docs/commands.md`, "Words", the table of options and the paragraph of those
+//! before the applet.
 ghost use Rattle.std.specs.Prelude.{◌≡◌, ◌||◌, map};
 ghost use Rattle.std.specs.List.{list_any};
 ghost use Rattle.std.specs.Option.{option_and_then, option_map};
@@ -12,10 +14,10 @@ use command_core::{
     ValueRule,
 };
 
-/// An option.
+/// An option, as the table of options has it.
 #[derive(Clone, Copy)]
 pub(crate) struct OptionRow {
-    /// The word that spells it.
+    /// The long word that spells it.
     pub long: &'static [u8],
     /// The short word that spells it, or nothing.
     pub short: &'static [u8],
@@ -65,18 +67,21 @@ static COMMON: [OptionRow; 2] = [
     OptionRow { long: b"--no-scripts", short: b"", meaning: Meaning::Flag(Flag::NoScripts) },
 ];
 
+// The option of `add` that begins a database where there is none.
 const INITDB_ROW: OptionRow = OptionRow {
     long: b"--initdb",
     short: b"",
     meaning: Meaning::Flag(Flag::Initdb),
 };
 
+// The option of `add`, `del`, `upgrade` and `fix` under which the change is reported and not made.
 const SIMULATE_ROW: OptionRow = OptionRow {
     long: b"--simulate",
     short: b"-s",
     meaning: Meaning::Flag(Flag::Simulate),
 };
 
+// The option of `del` under which configuration that the user changed goes too.
 const PURGE_ROW: OptionRow = OptionRow {
     long: b"--purge",
     short: b"",
@@ -105,13 +110,16 @@ const COMPRESSION_ROW: OptionRow = OptionRow {
     }),
 };
 
-// The options that are an applet's own.
+// The options of `add` that are its own.
 static ADD: [OptionRow; 2] = [INITDB_ROW, SIMULATE_ROW];
 
+// The options of `del` that are its own.
 static DEL: [OptionRow; 2] = [SIMULATE_ROW, PURGE_ROW];
 
+// The option of `upgrade` and of `fix` that is their own.
 static SIMULATE: [OptionRow; 1] = [SIMULATE_ROW];
 
+// The options of `info`, each of which says the kind.
 #[rattlefmt::skip]
 static INFO_KINDS: [OptionRow; 4] = [
     OptionRow { long: b"--installed", short: b"-e", meaning: Meaning::Kind(Flag::Installed) },
@@ -120,12 +128,14 @@ static INFO_KINDS: [OptionRow; 4] = [
     OptionRow { long: b"--who-owns", short: b"-W", meaning: Meaning::Kind(Flag::WhoOwns) },
 ];
 
+// The options of `version`, each of which says the kind.
 #[rattlefmt::skip]
 static VERSION_KINDS: [OptionRow; 2] = [
     OptionRow { long: b"--test", short: b"-t", meaning: Meaning::Kind(Flag::Test) },
     OptionRow { long: b"--check", short: b"-c", meaning: Meaning::Kind(Flag::Check) },
 ];
 
+// The options of `mkpkg`.
 static MKPKG: [OptionRow; 6] = [
     OptionRow {
         long: b"--info",
@@ -167,6 +177,7 @@ static MKPKG: [OptionRow; 6] = [
     COMPRESSION_ROW,
 ];
 
+// The options of `mkndx`.
 static MKNDX: [OptionRow; 3] = [
     OptionRow {
         long: b"--description",
@@ -234,7 +245,7 @@ pub(crate) fn is_early(word: &[u8]) -> bool
     is_among(&EARLY_WORDS, word)
 }
 
-// Whether a word is among some.
+// Whether a word is one of some.
 fn is_among(words: &[&[u8]], word: &[u8]) -> bool
     ensures { result ≡ list_any (λ one. bytes_eq one.now word.now) words.now }
 {
@@ -271,7 +282,7 @@ fn find_option(options: &[OptionRow], word: &[u8]) -> Option<OptionRow>
         .find(|option| option.is_spelled(word))
 }
 
-/// Flags with an option behind them. None comes where there is no option, or where it says no flag
+/// Flags with an option, if there is one. None comes where there is none, and where it is no flag
 /// or a second kind.
 pub(crate) fn with_option(flags: Flags, option: Option<OptionRow>) -> Option<Flags>
     ensures { result ≡ option_and_then (with_spec flags) (option_map option_spec option) }

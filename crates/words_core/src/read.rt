@@ -1,4 +1,5 @@
-//! Reads a command.
+//! Reads the command of a command line, or finds the first place that offends. The rules stand in
+//! `docs/commands.md`, "Words".
 ghost use Rattle.std.specs.Prelude.{◌≡◌, IfOk, IfErr};
 ghost use Rattle.words_core.specs.Faults.{IsBehindApplet, IsWordsFault};
 ghost use Rattle.words_core.specs.Grammar.{command_of, line_start, verdict};
@@ -26,6 +27,7 @@ impl From<AllocError> for WordsFault {
 
     ghost from_gives = { λ _ fault. fault ≡ Memory };
 
+    /// Where no memory was given there is no command.
     fn from(_: AllocError) -> WordsFault {
         WordsFault::Memory
     }
@@ -51,23 +53,27 @@ pub fn read_words(alloc: Global, words: &Words) -> Result<Command, WordsFault>
     judge(start.applet, reading, place_behind(words.len()))
 }
 
-// The command that was read, or the first place that offends; one place is behind the last word.
+// The command that was read, or the first place that offends: an operand that is not taken, the
+// word that cannot be read, or the place behind the last word where a word is missing.
 #[tactic(auto, unfolding(crate::specs::Grammar::verdict))]
 fn judge(applet: Applet, reading: Reading, behind: u32) -> Result<Command, WordsFault>
     requires { IsSoundReading applet reading }
     ensures ok { IfOk result (λ command. verdict behind applet reading ≡ Ok command) }
     ensures usage { IfErr result (λ fault. IsWordsFault fault (verdict behind applet reading)) }
 {
+    // Without the flag that says its kind a command has no rule for its operands.
     let Some(rule) = applet.operands(reading.state.flags) else {
         let place = reading.unread.unwrap_or(behind);
         return Err(WordsFault::Usage { place });
     };
+    // The operands that were read stand in front of the word that could not be read.
     if let Some(place) = rule.first_refused(&reading.operands) {
         return Err(WordsFault::Usage { place });
     }
     if let Some(place) = reading.unread {
         return Err(WordsFault::Usage { place });
     }
+    // A word that is missing is refused behind the last one, and so only where no other offends.
     if reading.operands.len() < rule.least {
         return Err(WordsFault::Usage { place: behind });
     }

@@ -1,5 +1,7 @@
 //! Reads the words from left to right: up to the applet, and then options, their values and
 //! operands.
+//! The rules stand in `docs/commands.md`, "Words". Each function is the definition of its name in
+//! `specs/Grammar.antt`, or that which its contract cites.
 ghost use Rattle.std.specs.Prelude.{◌≡◌, ◌+◌, ◌-◌, ◌++◌, ◌≤◌, ◌<◌, Some, None, IfOk, IsTrue, OnOk, length, drop, take, not};
 ghost use Rattle.std.specs.Option.{option_map};
 ghost use Rattle.command_core.specs.Applets.{needed_option};
@@ -20,8 +22,9 @@ use std::alloc::{AllocError, Global};
 /// Where the applet stands.
 #[derive(Clone, Copy)]
 pub(crate) struct AppletSite {
+    /// The applet.
     pub applet: Applet,
-    /// Whether the options have ended before it.
+    /// Whether `--` stands before it, so that no options follow.
     pub ended: bool,
     /// How many words are read, the applet's among them.
     pub read: usize,
@@ -31,8 +34,11 @@ pub(crate) struct AppletSite {
 #[derive(Clone, Copy)]
 pub(crate) struct Start {
     pub applet: Applet,
+    /// The flags before it.
     pub flags: Flags,
+    /// Whether `--` stands before it, so that no options follow.
     pub ended: bool,
+    /// How many words are read, the applet's among them.
     pub read: usize,
 }
 
@@ -70,7 +76,7 @@ fn find_applet(words: &Words) -> Result<AppletSite, u32>
     Err(place_behind(words.len()))
 }
 
-// The applet behind the end of the options.
+// The applet that the first word behind `--` names, where so many words are read.
 #[tactic(auto, unfolding(crate::specs::Grammar::site_behind_end), using(crate::proofs::OneMore::left_at))]
 fn applet_behind_end(words: &Words, before: usize) -> Result<AppletSite, u32>
     requires { before ≤ length words.now }
@@ -82,7 +88,7 @@ fn applet_behind_end(words: &Words, before: usize) -> Result<AppletSite, u32>
     applet_at(words.word(before), true, before)
 }
 
-// The applet that is a word with so many before it.
+// The applet that a word names, where so many words stand before it.
 #[tactic(auto, unfolding(crate::specs::Grammar::site_at))]
 fn applet_at(word: &[u8], ended: bool, before: usize) -> Result<AppletSite, u32>
     requires { before < MOST_PLACES }
@@ -132,7 +138,7 @@ pub(crate) struct OptionState {
 }
 
 impl OptionState {
-    // Flags, and no values.
+    // The state behind the applet: the flags before it, and no values.
     fn new(alloc: Global, flags: Flags) -> OptionState
         ensures { result ≡ first_state flags }
     {
@@ -173,7 +179,8 @@ impl OptionState {
         }
     }
 
-    // Reads the option that the word at a place is.
+    // Reads the option that the word at a place is. False comes where it cannot be read, and then
+    // nothing changes.
     fn read_option(&mut self, applet: Applet, place: u32, word: &[u8]) -> Result<bool, AllocError>
         requires { IsTrue (is_option word.now) }
         ensures { IfOk result (λ good. IsReadingStep good self.old self.new (with_spelled
@@ -185,7 +192,8 @@ impl OptionState {
         }
     }
 
-    // Reads what an option says whose word holds a value or none.
+    // Reads what an option means, whose word holds a value or none. False comes where it may not be
+    // given so.
     fn read_meaning(
         &mut self,
         place: u32,
@@ -202,7 +210,7 @@ impl OptionState {
         }
     }
 
-    // Reads a flag that an option says.
+    // Reads an option without a value. False comes where its flag is a second kind.
     fn read_flag(&mut self, meaning: Meaning) -> bool
         ensures { IsReadingStep result self.old self.new (with_flags self.old
             (with_meaning self.old.flags meaning)) }
@@ -216,7 +224,8 @@ impl OptionState {
         }
     }
 
-    // Reads an option that has values, whose word holds a value or none.
+    // Reads an option that has values, whose word holds a value or none. False comes where it may
+    // not stand again, or does not have that value.
     fn read_rule(
         &mut self,
         place: u32,
@@ -238,7 +247,7 @@ impl OptionState {
         }
     }
 
-    // Reads a text as a value of an option.
+    // Reads a text as a value of an option. False comes where the option does not have that value.
     fn read_value(&mut self, place: u32, text: &[u8], rule: ValueRule) -> Result<bool, AllocError>
         ensures { IfOk result (λ good. IsReadingStep good self.old self.new
             (with_value self.old place text.now rule)) }
@@ -266,7 +275,7 @@ pub(crate) struct Reading {
 }
 
 impl Reading {
-    // All words were read.
+    // The reading where all words were read.
     fn whole(state: OptionState, operands: Operands) -> Reading
         ensures { result ≡ reading_by state operands None }
     {
@@ -277,7 +286,7 @@ impl Reading {
         }
     }
 
-    // The word at a place cannot be read, or is missing.
+    // The reading that ends at a place, because the word there cannot be read, or is missing.
     fn up_to(place: u32, state: OptionState, operands: Operands) -> Reading
         ensures { result ≡ reading_by state operands (Some place) }
     {
@@ -288,7 +297,7 @@ impl Reading {
         }
     }
 
-    // The words end at a place, where a value that is awaited is missing.
+    // The reading where the words end at a place: a value that is awaited is missing there.
     fn ended(place: u32, state: OptionState, operands: Operands) -> Reading
         ensures { result ≡ reading_by state operands (reading_end state place).unread }
     {
@@ -317,7 +326,7 @@ pub(crate) fn read_behind(
     Ok(Reading::whole(OptionState::new(alloc, start.flags), operands))
 }
 
-// Reads options, their values and operands.
+// Reads options, their values and operands, where no `--` stands before the applet.
 fn read_options(alloc: Global, words: &Words, start: &Start) -> Result<Reading, AllocError>
     requires { start.now.read ≤ length words.now }
     ensures { IfOk result (λ reading.
@@ -343,7 +352,7 @@ fn read_options(alloc: Global, words: &Words, start: &Start) -> Result<Reading, 
     Ok(Reading::ended(place_behind(words.len()), state, operands))
 }
 
-// Adds the words behind so many as operands.
+// Adds each word behind the first ones, so many of them, as an operand.
 fn add_operands(operands: &mut Operands, words: &Words, before: usize) -> Result<(), AllocError>
     requires { before ≤ length words.now }
     ensures { OnOk result (operands.new ≡ operands.old

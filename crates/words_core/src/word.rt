@@ -1,12 +1,15 @@
 //! What a single word is: an option or not, and the parts of an option's word.
+//! The rules stand in `docs/commands.md`, "Words", the first paragraphs and that of values.
 ghost use Rattle.std.specs.Prelude.{◌≡◌, ◌+◌, ◌==◌, ◌<◌, IsTrue, drop};
 ghost use Rattle.std.specs.List.{position};
 ghost use Rattle.std.specs.Option.{option_map};
 ghost use Rattle.words_core.specs.Grammar.{held_value, is_end, is_option, option_name};
 
-/// Places are u32 numbers: so many words are too many.
+/// 2^32 - 1: places count from 1 in 32 bits, and the one behind the last word needs one too, so
+/// that this many words are too many (`docs/commands.md`, "Answers and statuses").
 pub(crate) const MOST_PLACES: usize = 4294967295;
 
+// What stands between a long option's name and its value in the same word.
 const EQUALS_SIGN: u8 = b'=';
 
 /// Whether a word is an option, or the end of the options: two or more bytes that begin with a
@@ -17,7 +20,7 @@ pub(crate) fn is_option(word: &[u8]) -> bool
     word.len() > 1 && word.starts_with(b"-".as_slice())
 }
 
-/// Whether a word is the one behind which there are no options.
+/// Whether a word is `--`, behind which there are no options.
 pub(crate) fn is_end(word: &[u8]) -> bool
     ensures { result ≡ is_end word.now }
 {
@@ -31,7 +34,8 @@ fn equals_sign(word: &[u8]) -> Option<usize>
     word.iter().position(|byte| *byte == EQUALS_SIGN)
 }
 
-/// Of `--name=value` the name, of `-xvalue` the first two bytes.
+/// The word of the option alone: of `--name=value` what stands before the first `=`, of `-xvalue`
+/// the first two bytes.
 #[tactic(auto, unfolding(crate::specs::Grammar::option_name))]
 pub(crate) fn option_name(word: &[u8]) -> &[u8]
     requires { IsTrue (is_option word.now) }

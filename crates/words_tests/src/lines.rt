@@ -1,16 +1,20 @@
 //! Command lines: which are a command, what such a command has, and which word offends first where
-//! they are none.
+//! they are none. The rules stand in `docs/commands.md`, "Words".
 use base_core::Words;
 use command_core::{Applet, Command, Flag, OperandKind, OptionValue, ValueKind};
 use row_lines::{add_number, add_word, number_of, value_named, word_at};
 use std::alloc::{AllocError, Global};
 use words_core::{WordsFault, read_words};
 
-/// The most words that stand for one.
+/// The most words that a row's line may have.
 const MOST_WORDS: usize = 100_000;
 
 /// Adds the place of the first word that offends, or 0 where the words are a command.
-pub fn add_place(alloc: Global, line: &Words, answer: &mut Vec<u8>) -> Result<(), AllocError> {
+pub(crate) fn add_place(
+    alloc: Global,
+    line: &Words,
+    answer: &mut Vec<u8>,
+) -> Result<(), AllocError> {
     match read_words(alloc, line) {
         Ok(_) => answer.extend_from_slice(b"0"),
         Err(WordsFault::Usage { place }) => add_number(alloc, answer, u128::from(place)),
@@ -20,7 +24,11 @@ pub fn add_place(alloc: Global, line: &Words, answer: &mut Vec<u8>) -> Result<()
 
 /// Adds the place that offends in the words behind the number of `N WORD WORD ..`, of which the
 /// second stands so many times, and how many operands a command of them has.
-pub fn add_many(alloc: Global, words: &Words, answer: &mut Vec<u8>) -> Result<(), AllocError> {
+pub(crate) fn add_many(
+    alloc: Global,
+    words: &Words,
+    answer: &mut Vec<u8>,
+) -> Result<(), AllocError> {
     let many = many_words(alloc, words)?;
     add_place(alloc, &many, answer)?;
     match command_of(alloc, &many)? {
@@ -64,7 +72,11 @@ fn command_of(alloc: Global, line: &Words) -> Result<Option<Command>, AllocError
 
 /// Adds the applet of a command, its options without a value, the place behind its words, how many
 /// operands it has, and the place and the text of each up to a hundred.
-pub fn add_command(alloc: Global, line: &Words, answer: &mut Vec<u8>) -> Result<(), AllocError> {
+pub(crate) fn add_command(
+    alloc: Global,
+    line: &Words,
+    answer: &mut Vec<u8>,
+) -> Result<(), AllocError> {
     let Some(command) = command_of(alloc, line)? else {
         return answer.extend_from_slice(b"none");
     };
@@ -126,7 +138,7 @@ fn add_flags(command: &Command, answer: &mut Vec<u8>) -> Result<(), AllocError> 
     Ok(())
 }
 
-/// Adds a number in decimal.
+/// Adds a number in decimal, and a space before it.
 fn add_next(alloc: Global, number: u128, answer: &mut Vec<u8>) -> Result<(), AllocError> {
     add_word(answer, b"")?;
     add_number(alloc, answer, number)
@@ -144,7 +156,11 @@ fn add_operands(alloc: Global, command: &Command, answer: &mut Vec<u8>) -> Resul
 }
 
 /// Adds of each value its place, its option's letter, the type of a script, and its text.
-pub fn add_values(alloc: Global, line: &Words, answer: &mut Vec<u8>) -> Result<(), AllocError> {
+pub(crate) fn add_values(
+    alloc: Global,
+    line: &Words,
+    answer: &mut Vec<u8>,
+) -> Result<(), AllocError> {
     let Some(command) = command_of(alloc, line)? else {
         return answer.extend_from_slice(b"none");
     };
@@ -166,10 +182,15 @@ fn add_value(alloc: Global, value: &OptionValue, answer: &mut Vec<u8>) -> Result
 }
 
 /// Adds each letter for which a value is given, and the place of the first such value.
-pub fn add_letters(alloc: Global, line: &Words, answer: &mut Vec<u8>) -> Result<(), AllocError> {
+pub(crate) fn add_letters(
+    alloc: Global,
+    line: &Words,
+    answer: &mut Vec<u8>,
+) -> Result<(), AllocError> {
     let Some(command) = command_of(alloc, line)? else {
         return answer.extend_from_slice(b"none");
     };
+    // All letters of options that have a value.
     for letter in b"FIcdost" {
         if let Some(value) = command.values().first(*letter) {
             add_word(answer, &[*letter])?;
@@ -179,6 +200,7 @@ pub fn add_letters(alloc: Global, line: &Words, answer: &mut Vec<u8>) -> Result<
     Ok(())
 }
 
+// The words for the kinds of values.
 #[rattlefmt::skip]
 const VALUE_KINDS: [(&[u8], ValueKind); 6] = [
     (b"any", ValueKind::Any),
@@ -190,13 +212,14 @@ const VALUE_KINDS: [(&[u8], ValueKind); 6] = [
 ];
 
 /// Whether the text of `KIND TEXT` is a value of this kind.
-pub fn is_value(words: &Words) -> bool {
+pub(crate) fn is_value(words: &Words) -> bool {
     match value_named(&VALUE_KINDS, word_at(words, 0)) {
         Some(kind) => kind.has(word_at(words, 1)),
         None => false,
     }
 }
 
+// The words for the kinds of operands.
 #[rattlefmt::skip]
 const OPERAND_KINDS: [(&[u8], OperandKind); 7] = [
     (b"file", OperandKind::File),
@@ -209,7 +232,7 @@ const OPERAND_KINDS: [(&[u8], OperandKind); 7] = [
 ];
 
 /// Whether the text of `KIND TEXT` is an operand of this kind.
-pub fn is_operand(words: &Words) -> bool {
+pub(crate) fn is_operand(words: &Words) -> bool {
     match value_named(&OPERAND_KINDS, word_at(words, 0)) {
         Some(kind) => kind.has(word_at(words, 1)),
         None => false,

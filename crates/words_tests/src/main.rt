@@ -1,6 +1,6 @@
 //! Answers questions to `command_core`, `words_core` and `report_core`: command lines, kinds of
 //! operands and values, the lines of refusals, and reports. Its stored run has all rows;
-//! `tests/lines.md` describes their form.
+//! `tests/lines.md` describes their form. The README of this crate has a row for each question.
 #![tactic(auto)]
 
 mod lines;
@@ -14,20 +14,30 @@ use std::io;
 use std::process::ExitCode;
 use texts::{add_refusal, add_report};
 
-/// What is asked.
+/// What is asked; the README of this crate says what each question answers.
 #[derive(Clone, Copy)]
 enum Question {
+    /// `line WORD ..`.
     Line,
+    /// `many N WORD WORD ..`.
     Many,
+    /// `command WORD ..`.
     Command,
+    /// `values WORD ..`.
     Values,
+    /// `letters WORD ..`.
     Letters,
+    /// `value KIND TEXT`.
     Value,
+    /// `operand KIND TEXT`.
     Operand,
+    /// `refusal NAME FIELD ..`.
     Refusal,
+    /// `report WORD ..`.
     Report,
 }
 
+// The words that questions begin with.
 #[rattlefmt::skip]
 const QUESTIONS: [(&[u8], Question); 9] = [
     (b"line", Question::Line),

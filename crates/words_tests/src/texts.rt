@@ -1,4 +1,5 @@
-//! The lines of refusals and causes, and reports.
+//! The lines of refusals and causes, and reports. The lines stand in `docs/commands.md`,
+//! "Error lines".
 use base_core::{Cause, Digest, Name, Text, Words};
 use report_core::{Refusal, Report, write_error};
 use row_lines::{number_of, value_named, word_at, words_behind};
@@ -6,7 +7,11 @@ use std::alloc::{AllocError, Global};
 use tree_memory::MemorySink;
 
 /// Adds the pieces of a report, one behind another: a word of digits is a number, another is text.
-pub fn add_report(alloc: Global, words: &Words, answer: &mut Vec<u8>) -> Result<(), AllocError> {
+pub(crate) fn add_report(
+    alloc: Global,
+    words: &Words,
+    answer: &mut Vec<u8>,
+) -> Result<(), AllocError> {
     let mut report = Report::new(alloc);
     for i in 0..words.len() {
         match number_of(words.word(i)) {
@@ -18,7 +23,11 @@ pub fn add_report(alloc: Global, words: &Words, answer: &mut Vec<u8>) -> Result<
 }
 
 /// Adds the line of a refusal: its name, and its fields in order.
-pub fn add_refusal(alloc: Global, words: &Words, answer: &mut Vec<u8>) -> Result<(), AllocError> {
+pub(crate) fn add_refusal(
+    alloc: Global,
+    words: &Words,
+    answer: &mut Vec<u8>,
+) -> Result<(), AllocError> {
     let Some(refusal) = refusal_of(alloc, words)? else {
         return answer.extend_from_slice(b"no refusal");
     };
@@ -29,7 +38,7 @@ pub fn add_refusal(alloc: Global, words: &Words, answer: &mut Vec<u8>) -> Result
     answer.extend_from_slice(page.bytes())
 }
 
-/// A refusal's variant.
+/// A refusal's variant, which a row names.
 #[derive(Clone, Copy)]
 enum Named {
     Usage,
@@ -59,6 +68,7 @@ enum Named {
     Owned,
 }
 
+// The names of refusals in rows.
 #[rattlefmt::skip]
 const REFUSALS: [(&[u8], Named); 25] = [
     (b"usage", Named::Usage),
@@ -156,7 +166,7 @@ fn refusal_with_cause(
     }))
 }
 
-/// A refusal of a package's file.
+/// The refusal of a package's file, by its words; none where its cause is none.
 fn refusal_of_package(
     alloc: Global,
     named: Named,
@@ -182,7 +192,7 @@ fn refusal_of_package(
     }
 }
 
-/// A refusal for want of `--no-scripts`.
+/// The refusal of a script or a trigger that would run without `--no-scripts`.
 fn refusal_without_leave(
     alloc: Global,
     named: Named,
@@ -196,7 +206,7 @@ fn refusal_without_leave(
     }))
 }
 
-/// A refusal of a path.
+/// The refusal of a path: a reserved one, a folder of another, or one that two packages have.
 fn refusal_of_path(
     alloc: Global,
     named: Named,
@@ -219,7 +229,7 @@ fn refusal_of_path(
     }
 }
 
-/// A cause's variant.
+/// A cause's variant, which a row names.
 #[derive(Clone, Copy)]
 enum NamedCause {
     NotAdb,
@@ -239,6 +249,7 @@ enum NamedCause {
     DataOrder,
 }
 
+// The names of causes in rows.
 #[rattlefmt::skip]
 const CAUSES: [(&[u8], NamedCause); 15] = [
     (b"not-adb", NamedCause::NotAdb),
@@ -315,19 +326,19 @@ fn digest_of(bytes: &[u8]) -> Option<Digest> {
     }
 }
 
-/// The number at a place; 0 where there is none.
+/// The number that the word at a place is; 0 where it is none.
 fn long_at(words: &Words, i: usize) -> u64 {
     number_of(word_at(words, i))
         .and_then(|number| u64::try_from(number).ok())
         .unwrap_or(0)
 }
 
-/// A number of 32 bits; 0 where the word is none.
+/// The number of 32 bits that the word at a place is; 0 where it is none.
 fn int_at(words: &Words, i: usize) -> u32 {
     u32::try_from(long_at(words, i)).unwrap_or(0)
 }
 
-/// A number of 16 bits; 0 where the word is none.
+/// The number of 16 bits that the word at a place is; 0 where it is none.
 fn short_at(words: &Words, i: usize) -> u16 {
     u16::try_from(long_at(words, i)).unwrap_or(0)
 }

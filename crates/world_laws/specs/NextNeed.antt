@@ -1,4 +1,5 @@
 -- Which need is met next, in a reader's words: of world, then of the choices, then by install-if.
+-- The rules stand in `docs/selection.md`, "Which selection is taken".
 use Rattle.std.specs.Prelude.{◌≡◌, ◌⊎◌, ℕ, true, false, List, ◌∷◌, ◌++◌, Option, Some, None}
 use Rattle.dep_core.specs.Dependency.{Dependency}
 use Rattle.list_order.specs.ByteOrder.{precedes}
@@ -7,18 +8,18 @@ use Rattle.pool_core.specs.Options.{IsIn}
 use Rattle.pool_core.specs.Rank.{SealedPool, meets_at}
 use Rattle.solve_core.specs.Selection.{depends_at}
 
--- a chosen candidate meets it
+-- a chosen candidate meets a need
 abbrev pub IsMetByChoice : SealedPool → List ℕ → Need → Type 0
 IsMetByChoice pool chosen need = (c : ℕ) × IsIn c chosen × (meets_at pool c need ≡ true)
 
 -- ---- dependencies
 
--- each of them that is no conflict is met
+-- each of some dependencies that is no conflict is met
 abbrev pub AreMetByChoices : SealedPool → List ℕ → List Dependency → Type 0
 AreMetByChoices pool chosen deps = (d : Dependency) → IsIn d deps → d.conflict ≡ false
     → IsMetByChoice pool chosen (entry d)
 
--- of them this is the first that is no conflict and is not met
+-- a dependency is the first of some that is no conflict and is not met
 pub record IsFirstUnmet (pool : SealedPool) (chosen : List ℕ) (deps : List Dependency)
     (d : Dependency) : Type 0 where
   pub front : List Dependency
@@ -35,7 +36,7 @@ abbrev pub AreMetOfEach : SealedPool → List ℕ → List ℕ → Type 0
 AreMetOfEach pool chosen choices = (c : ℕ) → IsIn c choices
     → AreMetByChoices pool chosen (depends_at pool c)
 
--- it is the first unmet dependency of a choice, and those of the choices before it are met
+-- a dependency is the first unmet one of a choice, and those of the choices before it are met
 pub record IsFirstOfChoices (pool : SealedPool) (chosen choices : List ℕ)
     (d : Dependency) : Type 0 where
   pub front : List ℕ
@@ -47,8 +48,8 @@ pub record IsFirstOfChoices (pool : SealedPool) (chosen choices : List ℕ)
 
 -- ---- by install-if
 
--- a candidate has this name, its install-if can apply and is met entry by entry, and no choice
--- meets the name
+-- an install-if asks for a name: a candidate has the name, its install-if can apply and is met
+-- entry by entry, and no choice meets the name
 pub record IsAskedByInstallIf (pool : SealedPool) (chosen name : List ℕ) : Type 0 where
   pub candidate : Candidate
   pub stands : IsIn candidate pool.candidates
@@ -58,7 +59,7 @@ pub record IsAskedByInstallIf (pool : SealedPool) (chosen name : List ℕ) : Typ
       → IsMetByChoice pool chosen (entry d)
   pub unmet : ¬ IsMetByChoice pool chosen (named name)
 
--- of such names it is the first in byte order
+-- a name is the first in byte order of those that an install-if asks for
 pub record IsFirstByInstallIf (pool : SealedPool) (chosen name : List ℕ) : Type 0 where
   pub asked : IsAskedByInstallIf pool chosen name
   pub first : (other : List ℕ) → IsAskedByInstallIf pool chosen other
@@ -66,15 +67,15 @@ pub record IsFirstByInstallIf (pool : SealedPool) (chosen name : List ℕ) : Typ
 
 -- ---- the next need
 
--- Of world before all others; then of the choices in their order; a name that an install-if asks
--- for comes last.
+-- Which need is next: of world before all others; then of the choices in their order; a name that
+-- an install-if asks for comes last.
 abbrev pub IsNext : SealedPool → List ℕ → Need → Type 0
 IsNext pool chosen (entry d) = IsFirstUnmet pool chosen pool.world d
     ⊎ (AreMetByChoices pool chosen pool.world × IsFirstOfChoices pool chosen chosen d)
 IsNext pool chosen (named name) = AreMetByChoices pool chosen pool.world
     × AreMetOfEach pool chosen chosen × IsFirstByInstallIf pool chosen name
 
--- where there is none, all are met
+-- the next need, if there is one; where there is none, all are met
 abbrev pub IsNextOrNone : SealedPool → List ℕ → Option Need → Type 0
 IsNextOrNone pool chosen (Some need) = IsNext pool chosen need
 IsNextOrNone pool chosen None = AreMetByChoices pool chosen pool.world

@@ -1,16 +1,18 @@
--- What a simulation of a change tells of the change that is made.
+-- What a simulation of a change tells of the change that is made. The rules stand in
+-- `docs/commands.md`, "`add` and `del`", what is reported: what `--simulate` leaves out.
 use Rattle.std.specs.Prelude.{◌≡◌, ℕ, List, ◌++◌}
 use Rattle.command_core.specs.Command.{CommandLine}
 use Rattle.command_core.specs.Flags.{with_flag}
 use Rattle.command_core.specs.declared.command.Flag.TheVariants.{Simulate}
 use Rattle.report_core.specs.Reports.{report_line, sum_text}
 
--- the same command with `--simulate`
+-- a command with `--simulate`, and else as it is
 abbrev pub with_simulation : CommandLine → CommandLine
 with_simulation command = record command { flags = with_flag Simulate command.flags }
 
--- All that is told before the last line of the simulation's report, a sum, is told first by the
--- change's report too, to the byte; and this one ends with a sum of its own.
+-- A simulation foretells the report of a change: all that is told before the last line of its own
+-- report, a sum, is told first by the change's report too, to the byte; and this one ends with a
+-- sum of its own.
 pub record IsForetold (simulation report : List ℕ) : Type 0 where
   pub told : List ℕ
   pub bytes : ℕ

@@ -1,5 +1,6 @@
 //! What a command asks of world, which need is met next, and what a simulation tells of a change,
-//! in a reader's words.
+//! in a reader's words. The rules stand in `docs/formats.md`, "World", in `docs/selection.md`,
+//! "Which selection is taken", and in `docs/commands.md`, "`add` and `del`".
 //!
 //! The functions are laws. They cite the definitions of `specs/`, and those of `change_inputs`,
 //! `solve_core` and `engine_core` that they speak of.
@@ -39,8 +40,10 @@ use engine_core::a_choice_is_unique;
 /// the first name in byte order that a candidate's install-if asks for and no choice meets. There
 /// is none where all this is met, and never more than one.
 pub fn the_next_need_is_the_first_that_is_unmet()
+    // What the search takes as its next need is that.
     ensures next { (pool : SealedPool) (chosen : List ℕ)
         → IsNextOrNone pool chosen (next_need pool chosen) }
+    // There is one answer alone.
     ensures one { (pool : SealedPool) (chosen : List ℕ) (need other : Option Need)
         → IsNextOrNone pool chosen need → IsNextOrNone pool chosen other → need ≡ other }
 {}
@@ -49,9 +52,11 @@ pub fn the_next_need_is_the_first_that_is_unmet()
 /// and which stay that were to go. The change tells this first, and in the same bytes. So it is
 /// with a command and the same command with `--simulate`, over the same reads and files.
 pub fn a_simulation_tells_what_the_change_does()
+    // Of the two reports, by one replacement.
     ensures reports { (r : Replacement) (wishes : ChangeWishes) (change : FileChange)
         (files : Files)
         → IsForetold (simulated_report r wishes.to_go) (change_report r wishes change files) }
+    // Of one command with and without `--simulate`.
     ensures commands { (command : CommandLine) (read : Reads) (files : Files)
         (expected chosen : Option (List ℕ)) (other clash : Option NamePair)
         (simulation done : ChangeDone) → command.flags.simulate ≡ false
@@ -81,11 +86,14 @@ pub fn a_refused_simulation_refuses_the_change()
 /// names; after `del` it has the entries of all names but the operands. Any other command leaves
 /// it. Just one world holds what was asked. So it is with what a change reads of a root.
 pub fn the_new_world_holds_what_was_asked()
+    // Of any world.
     ensures world { (applet : Applet) (operands : List Operand) (world : List Dependency)
         → IsWorld world
         → HoldsWhatWasAsked applet operands world (new_world applet operands world) }
+    // Of what a change reads of a root.
     ensures read { (command : CommandLine) (read : Reads) (inputs : Inputs)
         → inputs_of command read ≡ Ok inputs → IsReadWorld command read inputs.root }
+    // Just one world holds it.
     ensures one { (applet : Applet) (operands : List Operand) (world after other : List Dependency)
         → HoldsWhatWasAsked applet operands world after
         → HoldsWhatWasAsked applet operands world other → after ≡ other }

@@ -1,5 +1,8 @@
 //! What excludes a further candidate: a choice that has a conflict which the candidate meets, that
 //! meets one of its conflicts, or that occupies a name which it occupies.
+//! The rules stand in `docs/selection.md`, "What satisfies world", 2 and 3. In the contracts, None
+//! says for which names or entries no choice excludes the candidate, and all of these together that
+//! none does.
 ghost use Rattle.std.specs.Prelude.{◌≡◌, ◌<◌, ℕ, length, true, false, MatchOption, Some, is_some};
 ghost use Rattle.dep_core.specs.Dependency.{Dependency};
 ghost use Rattle.dep_core.specs.Meets.{dependency};
@@ -36,7 +39,7 @@ impl<'p> Choices<'p> {
     }
 
     // A choice that has a conflict of a name which the candidate meets, or that occupies the name
-    // where the candidate does.
+    // where the candidate does (`is_occupied`).
     fn excluder_at(
         &self,
         name: &[u8],
@@ -61,7 +64,8 @@ impl<'p> Choices<'p> {
         None
     }
 
-    // The same at the names of the entries of its provides: one with a version is occupied.
+    // A choice that excludes the candidate at the name of one of its entries of provides: that has
+    // a conflict which the entry meets, or that occupies the name where the entry has a version.
     fn excluder_provided(&self, details: &Details<'_>, id: CandId) -> Option<CandId>
         requires listed { AreListed (pool_of self.now) (choices_of self.now) self.now.conflicts }
         requires here { candidate_at (pool_of self.now) id ≡ Some details.now }
@@ -81,7 +85,8 @@ impl<'p> Choices<'p> {
         None
     }
 
-    // A choice that keeps the candidate out by this entry of what it provides, if there is one.
+    // A choice that excludes the candidate at the name of this entry of its provides; an entry that
+    // is a conflict provides nothing.
     fn excluder_of_entry(
         &self,
         entry: &Dep<'_>,
@@ -103,7 +108,7 @@ impl<'p> Choices<'p> {
         self.excluder_at(entry.name, entry.version.is_some(), details, id)
     }
 
-    // A choice that meets a conflict of the candidate.
+    // A choice that meets a conflict which the candidate has.
     fn excluder_meeting(&self, details: &Details<'_>, id: CandId) -> Option<CandId>
         requires here { candidate_at (pool_of self.now) id ≡ Some details.now }
         requires once { IsIn id (choices_of self.now) → ⊥ }
@@ -121,7 +126,7 @@ impl<'p> Choices<'p> {
         None
     }
 
-    // A choice that meets this dependency of the candidate, where that is a conflict.
+    // A choice that meets this dependency of the candidate, where the dependency is a conflict.
     fn excluder_meeting_one(
         &self,
         dep: &Dep<'_>,

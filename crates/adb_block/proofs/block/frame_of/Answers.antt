@@ -1,6 +1,5 @@
 -- The step is that of the header.
-use Rattle.std.proofs.Common.{ap, sym, ◌∙◌}
-use Rattle.std.specs.Option.{option_map}
+use Rattle.std.proofs.Common.{sym}
 use Rattle.adb_block.specs.Frames.{fields_of}
 use Rattle.adb_block.proofs.Heads.{framed_step}
 use Rattle.adb_block.proofs.block.frame_of.Goals as goal

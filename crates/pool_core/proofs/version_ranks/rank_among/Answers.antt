@@ -2,9 +2,9 @@ use Rattle.std.proofs.Common.{ℕ, List, Bool, rules}
 use Rattle.std.specs.Prelude.{Option}
 use Rattle.std.specs.Ordering.{is_lt}
 use Rattle.std.proofs.lemmas.List.Sorted.{IsPartitionPoint-from_clause}
-use Rattle.pool_core.specs.VersionRanks.{version_order}
+use Rattle.pool_core.specs.Ranking.{version_order}
 use Rattle.pool_core.proofs.CountedRanks.{a_front_comes_before, front_count}
-use Rattle.pool_core.proofs.RankedVersions.{order_of_kind}
+use Rattle.pool_core.proofs.RankOrder.{order_of_kind}
 use Rattle.pool_core.proofs.version_ranks.rank_among.Goals as goal
 
 pub returns : goal.returns

@@ -1,14 +1,14 @@
-use Rattle.std.proofs.Common.{◌≡◌, All, ℕ, List, sym, subst, rules}
+use Rattle.std.proofs.Common.{All, ℕ, List, sym, subst, rules}
 use Rattle.std.specs.Prelude.{Option}
 use Rattle.std.specs.Ordering.{is_lt}
 use Rattle.std.specs.List.Sorted.{IsPermutation, IsSorted}
 use Rattle.std.proofs.lemmas.List.Sorted.{All-permutation, ranks_by}
-use Rattle.pool_core.specs.Ranking.{Ranking}
-use Rattle.pool_core.specs.VersionRanks.{IsListed, IsReadBy, version_of, version_order}
+use Rattle.pool_core.specs.Ranking.{Ranking, version_order}
+use Rattle.pool_core.specs.VersionRanks.{IsListed, IsReadBy, version_of}
 use Rattle.pool_core.specs.declared.versions.VersionKind.{VersionKind}
 use Rattle.pool_core.proofs.Answering.{compares_by}
 use Rattle.pool_core.proofs.MovedMembers.{moved_member}
-use Rattle.pool_core.proofs.RankedVersions.{order_of_kind}
+use Rattle.pool_core.proofs.RankOrder.{order_of_kind}
 use Rattle.pool_core.proofs.version_ranks.rank_versions.Goals as goal
 
 pub set_ranks-requires-clause-alike : goal.set_ranks-requires-clause-alike

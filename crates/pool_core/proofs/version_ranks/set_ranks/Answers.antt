@@ -1,10 +1,10 @@
-use Rattle.std.proofs.Common.{◌≡◌, ◌∙◌, ◌+◌, ◌-◌, ◌≤◌, ◌<◌, ℕ, List, length, map, set, ap, sym, subst, arith}
+use Rattle.std.proofs.Common.{◌≡◌, ◌∙◌, ◌-◌, ◌≤◌, ◌<◌, ℕ, List, length, set, ap, sym, arith}
 use Rattle.std.specs.Prelude.{Option, Some, slice_get}
 use Rattle.pool_core.specs.Ranking.{Ranking}
 use Rattle.pool_core.specs.VersionRanks.{rank_among, version_of, with_rank, with_rank_among}
 use Rattle.pool_core.specs.declared.versions.RankedVersion.{RankedVersion}
 use Rattle.pool_core.specs.declared.versions.VersionKind.{VersionKind}
-use Rattle.pool_core.proofs.RankedVersions.{first_all, first_here, first_length, map_first, one_more_changed, rank_before}
+use Rattle.pool_core.proofs.RankedVersions.{first_all, first_here, first_length, one_more_changed, rank_before}
 use Rattle.pool_core.proofs.Steps.{get_at}
 use Rattle.pool_core.proofs.version_ranks.set_ranks.Goals as goal
 use Rattle.pool_core.proofs.version_ranks.set_ranks.Goals.{then-reads_the_text_before, else-reads_the_text_before}

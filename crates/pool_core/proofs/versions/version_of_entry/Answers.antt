@@ -1,5 +1,4 @@
-use Rattle.std.proofs.Common.{◌≡◌, ◌∙◌, List, ℕ, refl, ap, sym, subst}
-use Rattle.std.specs.Prelude.{IfSome}
+use Rattle.std.proofs.Common.{◌≡◌, ◌∙◌, List, ℕ, refl, ap, sym}
 use Rattle.adb_view.specs.Adb.{payload_of}
 use Rattle.adb_view.specs.Plain.{Plain}
 use Rattle.adb_tables.specs.Values.{entry_in, text_in, value_at}

@@ -1,4 +1,4 @@
-use Rattle.std.proofs.Common.{◌≡◌, ap, sym, ◌∙◌, ◌++◌, codes, decimal}
+use Rattle.std.proofs.Common.{ap, sym, ◌∙◌, ◌++◌, codes, decimal}
 use Rattle.report_core.specs.Texts.{refusal_text, field_text}
 use Rattle.report_core.proofs.Behind.{differs_text, clash_text, ended}
 use Rattle.report_core.proofs.sentence.sentence_of.Goals as goal
