@@ -3,7 +3,7 @@
 use Rattle.std.specs.Prelude.{◌≡◌, ℕ, List, Option, Some, None, Result, Ok, Err}
 use Rattle.pool_core.specs.Rank.{SealedPool}
 use Rattle.report_core.specs.declared.refusal.Refusal.{Refusal}
-use Rattle.solve_core.specs.Selection.{IsFirstSelection, IsSatisfying}
+use Rattle.search_tables.specs.Selection.{IsFirstSelection, IsSatisfying}
 
 -- what is chosen among candidates: the places of the first preferred selection; or none, where no
 -- selection satisfies the world

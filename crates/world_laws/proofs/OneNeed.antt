@@ -8,7 +8,7 @@ use Rattle.list_order.specs.ByteOrder.{bytes_cmp}
 use Rattle.pool_core.specs.Candidates.{Need, entry, named}
 use Rattle.pool_core.specs.Options.{IsIn}
 use Rattle.pool_core.specs.Rank.{SealedPool}
-use Rattle.solve_core.specs.Selection.{depends_at}
+use Rattle.search_tables.specs.Selection.{depends_at}
 use Rattle.world_laws.specs.NextNeed.{AreMetByChoices, AreMetOfEach, IsFirstByInstallIf, IsFirstOfChoices, IsFirstUnmet, IsMetByChoice, IsNext, IsNextOrNone}
 
 -- ---- the first place of a list

@@ -6,7 +6,7 @@ use Rattle.list_order.specs.ByteOrder.{precedes}
 use Rattle.pool_core.specs.Candidates.{Candidate, Need, entry, named, has_usable_install_if}
 use Rattle.pool_core.specs.Options.{IsIn}
 use Rattle.pool_core.specs.Rank.{SealedPool, meets_at}
-use Rattle.solve_core.specs.Selection.{depends_at}
+use Rattle.search_tables.specs.Selection.{depends_at}
 
 -- a chosen candidate meets a need
 abbrev pub IsMetByChoice : SealedPool → List ℕ → Need → Type 0
