@@ -1,9 +1,9 @@
 -- There is one choice.
 use Rattle.std.proofs.Common.{◌≡◌, inl, inr, ℕ, ◌+◌, List, Option, Some, None, Result, Ok, Err, refl, sym, ap, subst, ◌∙◌, arith}
-use Rattle.pool_core.specs.Candidates.{Need, is_eligible}
-use Rattle.pool_core.specs.Options.{IsIn, places_from}
-use Rattle.pool_core.specs.Rank.{SealedPool}
-use Rattle.pool_core.proofs.OptionLists.{in_places}
+use Rattle.candidate_core.specs.Candidates.{Need, is_eligible}
+use Rattle.candidate_core.specs.Options.{IsIn, places_from}
+use Rattle.candidate_core.specs.Rank.{SealedPool}
+use Rattle.candidate_core.proofs.OptionLists.{in_places}
 use Rattle.report_core.specs.declared.refusal.Refusal.{Refusal}
 use Rattle.search_tables.specs.Reasons.{HasOptions}
 use Rattle.search_tables.specs.Selection.{IsFirstSelection}

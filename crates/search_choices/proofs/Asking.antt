@@ -12,9 +12,9 @@ use Rattle.std.specs.Cmp.Lexicographic.{bytes_decides, nat_list_cmp_total}
 use Rattle.std.proofs.lemmas.Bool.{cases_lt}
 use Rattle.std.proofs.lemmas.Map.Text.{is_eq-slice_cmp}
 use Rattle.dep_core.specs.Dependency.{Dependency}
-use Rattle.pool_core.specs.Candidates.{Candidate, Need, entry, has_usable_install_if, named, offers_name, meets_dependency}
-use Rattle.pool_core.specs.Rank.{SealedPool, bytes_cmp, candidate_at, meets_at}
-use Rattle.pool_core.specs.Options.{IsIn, options_for}
+use Rattle.candidate_core.specs.Candidates.{Candidate, Need, entry, has_usable_install_if, named, offers_name, meets_dependency}
+use Rattle.candidate_core.specs.Rank.{SealedPool, bytes_cmp, candidate_at, meets_at}
+use Rattle.candidate_core.specs.Options.{IsIn, options_for}
 use Rattle.search_tables.specs.Selection.{AreMembers, is_met, is_unmet, names_by_install_if, install_if_applies, least_name, lesser_name, needs, next_need, raised_needs}
 use Rattle.search_tables.specs.Reasons.{FrameValue, IsFrameOf}
 use Rattle.search_tables.specs.InstallIf.{AreInstallIfs, AreUnasked, IsLeastAsking, IsNoneAsking, all_met, asks_at, asks_for_name, has_lesser_name, install_if_at, is_usable_at, name_at, rank_asks}

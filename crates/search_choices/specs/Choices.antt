@@ -2,8 +2,8 @@
 -- No rule of a document: serves the contracts of `src/choices.rt` and `src/search.rt`; how the
 -- search works says `docs/selection.md`, "How the search works".
 use Rattle.std.specs.Prelude.{◌≡◌, ◌<◌, length, ℕ, List, [], ◌∷◌, ◌++◌}
-use Rattle.pool_core.specs.Rank.{SealedPool}
-use Rattle.pool_core.specs.Options.{IsIn}
+use Rattle.candidate_core.specs.Rank.{SealedPool}
+use Rattle.candidate_core.specs.Options.{IsIn}
 use Rattle.search_tables.specs.Excluders.{AreListed}
 use Rattle.search_tables.specs.InstallIf.{AreInstallIfs, AreUnasked}
 use Rattle.search_tables.specs.Queue.{AreMet, queue_of}

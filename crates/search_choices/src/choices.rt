@@ -5,9 +5,9 @@ ghost use Rattle.std.specs.Prelude.{◌≡◌, ◌≤◌, ℕ, List, [], ◌∷�
 ghost use Rattle.std.specs.List.{find};
 ghost use Rattle.dep_core.specs.Dependency.{Dependency};
 ghost use Rattle.dep_core.specs.Meets.{dependency};
-ghost use Rattle.pool_core.specs.Candidates.{entry};
-ghost use Rattle.pool_core.specs.Candidates.{offers_name};
-ghost use Rattle.pool_core.specs.Options.{IsIn, options_for};
+ghost use Rattle.candidate_core.specs.Candidates.{entry};
+ghost use Rattle.candidate_core.specs.Candidates.{offers_name};
+ghost use Rattle.candidate_core.specs.Options.{IsIn, options_for};
 ghost use Rattle.search_tables.specs.InstallIf.{AreUnasked, IsLeastAsking, IsNoneAsking, rank_asks};
 ghost use Rattle.search_tables.specs.NameTable.{items_of};
 ghost use Rattle.search_tables.specs.Queue.{AreMet, is_unmet_dep, queue_of};

@@ -4,8 +4,8 @@ use Rattle.std.specs.Prelude.{Some, slice_get, ◌&&◌, if◌then◌else◌}
 use Rattle.std.specs.List.{filter}
 use Rattle.std.specs.Str.{bytes_eq}
 use Rattle.dep_core.specs.Dependency.{Dependency}
-use Rattle.pool_core.specs.Rank.{SealedPool}
-use Rattle.pool_core.proofs.Steps.{take_one_more}
+use Rattle.candidate_core.specs.Rank.{SealedPool}
+use Rattle.candidate_core.proofs.Steps.{take_one_more}
 use Rattle.search_tables.specs.Conflicts.{conflicts_among, conflicts_named}
 use Rattle.search_tables.specs.Excluders.{AreListed}
 use Rattle.search_tables.specs.NameTable.{items_of, without_last}

@@ -7,9 +7,9 @@ use Rattle.std.specs.Str.{bytes_eq}
 use Rattle.std.specs.Cmp.Lexicographic.{bytes_decides}
 use Rattle.std.proofs.lemmas.Bool.Decides.{eqb_tells}
 use Rattle.dep_core.specs.Dependency.{Dependency}
-use Rattle.pool_core.specs.Candidates.{Candidate, entry, meets_dependency, occupies_name, offers_name}
-use Rattle.pool_core.specs.Rank.{SealedPool, candidate_at, is_at, meets_at}
-use Rattle.pool_core.specs.Options.{IsIn}
+use Rattle.candidate_core.specs.Candidates.{Candidate, entry, meets_dependency, occupies_name, offers_name}
+use Rattle.candidate_core.specs.Rank.{SealedPool, candidate_at, is_at, meets_at}
+use Rattle.candidate_core.specs.Options.{IsIn}
 use Rattle.search_tables.specs.Selection.{exclude_each_other, depends_at, conflicts_with, is_met, occupied_names_at, occupied_names, keeps_out, share_a_name}
 use Rattle.search_tables.specs.Conflicts.{conflicts_named}
 use Rattle.search_tables.specs.Excluders.{AreListed, IsExcluder, IsFreeAt}

@@ -8,7 +8,7 @@ use Rattle.std.specs.Cmp.Lexicographic.{bytes_decides}
 use Rattle.std.specs.Option.{option_map_or}
 use Rattle.std.specs.Str.{bytes_eq}
 use Rattle.indexmap.specs.IndexMap.{insert_entry}
-use Rattle.pool_core.specs.Options.{AreMembers, IsIn}
+use Rattle.candidate_core.specs.Options.{AreMembers, IsIn}
 use Rattle.search_tables.specs.NameTable.{items_of, names_and_items, without_last}
 use Rattle.search_tables.proofs.PoolFacts.{bool_cases}
 use Rattle.search_tables.proofs.Theory.{in_left, in_right}

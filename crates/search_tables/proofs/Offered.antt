@@ -1,18 +1,18 @@
 -- What meets a need offers its name.
 use Rattle.std.proofs.Common.{◌≡◌, ◌≤◌, inl, inr, ℕ, ◌+◌, Bool, true, false, List, [], ◌∷◌, ◌++◌, length, take, sym, subst, arith}
 use Rattle.std.proofs.lemmas.List.{take_all}
-use Rattle.pool_core.proofs.Steps.{take_one_more}
+use Rattle.candidate_core.proofs.Steps.{take_one_more}
 use Rattle.std.specs.Prelude.{Option, Some, None, slice_get, not, ◌&&◌, is_some}
 use Rattle.std.specs.Option.{option_map_or}
 use Rattle.std.specs.List.{list_any}
 use Rattle.std.specs.Str.{bytes_eq}
 use Rattle.dep_core.specs.Dependency.{Dependency}
 use Rattle.dep_core.specs.Meets.{is_wanted}
-use Rattle.pool_core.specs.Candidates.{Candidate, Need, entry, entry_occupies, is_met_by_entry, named, need_name, meets_dependency, meets_by_own_name, occupies_name, offers_name}
-use Rattle.pool_core.specs.Rank.{SealedPool, is_at, meets_at}
-use Rattle.pool_core.specs.Options.{IsIn, places_offering}
+use Rattle.candidate_core.specs.Candidates.{Candidate, Need, entry, entry_occupies, is_met_by_entry, named, need_name, meets_dependency, meets_by_own_name, occupies_name, offers_name}
+use Rattle.candidate_core.specs.Rank.{SealedPool, is_at, meets_at}
+use Rattle.candidate_core.specs.Options.{IsIn, places_offering}
 use Rattle.search_tables.specs.Selection.{is_met}
-use Rattle.pool_core.proofs.OptionLists.{in_places}
+use Rattle.candidate_core.proofs.OptionLists.{in_places}
 use Rattle.search_tables.proofs.PoolFacts.{bool_cases, any_in}
 use Rattle.search_tables.proofs.Satisfying.{and_true, or_true, true_or, any_one, one_any}
 use Rattle.search_tables.proofs.Theory.{in_append}

@@ -2,8 +2,8 @@
 use Rattle.std.proofs.Common.{◌≡◌, inl, inr, ℕ, zero, suc, ◌+◌, ◌<◌, Bool, true, false, List, [], ◌∷◌, length, refl, arith}
 use Rattle.std.specs.Prelude.{Option, Some, None, MatchOption, slice_get}
 use Rattle.std.specs.Option.{option_map_or}
-use Rattle.pool_core.specs.Candidates.{Candidate}
-use Rattle.pool_core.specs.Options.{IsIn, places_from}
+use Rattle.candidate_core.specs.Candidates.{Candidate}
+use Rattle.candidate_core.specs.Options.{IsIn, places_from}
 use Rattle.search_tables.proofs.PoolFacts.{bool_cases}
 
 pub there_is : {X : Type 0} (xs : List X) (r : ℕ) (x : X) → slice_get xs r ≡ Some x → (r < length xs) × IsIn x xs

@@ -3,8 +3,8 @@ use Rattle.std.proofs.Common.{◌≡◌, inl, inr, ℕ, zero, suc, ◌+◌, ◌�
 use Rattle.std.specs.Prelude.{Option, Some, None, not, ◌||◌, slice_get}
 use Rattle.std.specs.List.{filter, find, flat_map, list_any}
 use Rattle.dep_core.specs.Dependency.{Dependency}
-use Rattle.pool_core.specs.Candidates.{entry}
-use Rattle.pool_core.specs.Rank.{SealedPool, meets_at}
+use Rattle.candidate_core.specs.Candidates.{entry}
+use Rattle.candidate_core.specs.Rank.{SealedPool, meets_at}
 use Rattle.search_tables.specs.Selection.{is_met}
 use Rattle.search_tables.specs.Queue.{AreMet, RaisedDepValue, is_unmet_dep, queue_of, raised_deps_at, raised_deps}
 use Rattle.search_tables.proofs.PoolFacts.{bool_cases}

@@ -1,11 +1,11 @@
 -- Choices that meet the entries of an install-if.
 use Rattle.std.proofs.Common.{◌≡◌, inl, inr, ℕ, zero, suc, ◌+◌, true, false, List, [], ◌∷◌, ◌++◌, take, refl, sym, subst, ap, ◌∙◌}
 use Rattle.std.specs.Prelude.{Option, Some, None, is_some, slice_get, MatchOption}
-use Rattle.pool_core.proofs.Steps.{take_one_more}
+use Rattle.candidate_core.proofs.Steps.{take_one_more}
 use Rattle.dep_core.specs.Dependency.{Dependency}
-use Rattle.pool_core.specs.Candidates.{Need, entry}
-use Rattle.pool_core.specs.Rank.{SealedPool, meets_at}
-use Rattle.pool_core.specs.Options.{IsIn}
+use Rattle.candidate_core.specs.Candidates.{Need, entry}
+use Rattle.candidate_core.specs.Rank.{SealedPool, meets_at}
+use Rattle.candidate_core.specs.Options.{IsIn}
 use Rattle.search_tables.specs.Selection.{AreMembers, is_met}
 use Rattle.search_tables.specs.InstallIf.{all_met}
 use Rattle.search_tables.proofs.Theory.{in_left, in_right, in_append}

@@ -2,7 +2,7 @@
 -- No rule of a document: serves the contract of `src/candidate_set.rt`.
 use Rattle.std.specs.Prelude.{ℕ, Bool, false, List, slice_index_or}
 use Rattle.std.specs.Bool.{MatchBool}
-use Rattle.pool_core.specs.Options.{IsIn}
+use Rattle.candidate_core.specs.Options.{IsIn}
 use Rattle.search_tables.specs.Selection.{AreDistinct}
 
 -- the marks tell of each place whether it is one of the list, and the list has each candidate once

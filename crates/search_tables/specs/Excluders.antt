@@ -3,9 +3,9 @@
 -- *exclude_each_other* of `Selection`. Serves the contracts of `src/choices/excluders.rt`.
 use Rattle.std.specs.Prelude.{◌≡◌, ℕ, Bool, true, false, List}
 use Rattle.dep_core.specs.Dependency.{Dependency}
-use Rattle.pool_core.specs.Candidates.{Candidate, meets_dependency, occupies_name}
-use Rattle.pool_core.specs.Options.{IsIn}
-use Rattle.pool_core.specs.Rank.{SealedPool, is_at}
+use Rattle.candidate_core.specs.Candidates.{Candidate, meets_dependency, occupies_name}
+use Rattle.candidate_core.specs.Options.{IsIn}
+use Rattle.candidate_core.specs.Rank.{SealedPool, is_at}
 use Rattle.search_tables.specs.Conflicts.{conflicts_among}
 use Rattle.search_tables.specs.NameTable.{items_of}
 use Rattle.search_tables.specs.Selection.{depends_at, exclude_each_other}

@@ -3,9 +3,9 @@
 -- The rule stands in `docs/selection.md`, "How the search works"; the words in `docs/names.md`,
 -- "Choosing packages". Serves the contracts of `src/search.rt` and `src/frame.rt`.
 use Rattle.std.specs.Prelude.{◌≡◌, ℕ, true, List, [], ◌∷◌, ◌++◌, Some, None}
-use Rattle.pool_core.specs.Candidates.{Need}
-use Rattle.pool_core.specs.Rank.{SealedPool, is_better, is_eligible_at, meets_at}
-use Rattle.pool_core.specs.Options.{IsBestFirst, IsIn, options_for}
+use Rattle.candidate_core.specs.Candidates.{Need}
+use Rattle.candidate_core.specs.Rank.{SealedPool, is_better, is_eligible_at, meets_at}
+use Rattle.candidate_core.specs.Options.{IsBestFirst, IsIn, options_for}
 use Rattle.search_tables.specs.Selection.{AreMembers, AreDistinct, exclude_each_other, needs, next_need}
 
 -- candidates that are compatible: each may be selected, none stands twice, and no two exclude each

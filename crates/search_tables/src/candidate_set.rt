@@ -3,7 +3,7 @@
 //! (`docs/selection.md`, "How the search works"), and are asked again and again whether they have a
 //! candidate.
 ghost use Rattle.std.specs.Prelude.{◌≡◌, ◌<◌, ◌^◌, ℕ, List, [], ◌∷◌, ◌++◌, false, length, MatchBool, OnOk, Some, vec_len, slice_index_or};
-ghost use Rattle.pool_core.specs.Options.{IsIn};
+ghost use Rattle.candidate_core.specs.Options.{IsIn};
 ghost use Rattle.search_tables.specs.Reasons.{HasSameMembers};
 
 use pool_core::CandId;

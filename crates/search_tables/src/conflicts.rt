@@ -6,7 +6,7 @@ ghost use Rattle.std.specs.Prelude.{◌≡◌, ◌∷◌, ◌++◌, ℕ, List, [
 ghost use Rattle.std.specs.Option.{option_map};
 ghost use Rattle.dep_core.specs.Dependency.{Dependency};
 ghost use Rattle.dep_core.specs.Meets.{dependency};
-ghost use Rattle.pool_core.specs.Candidates.{meets_dependency};
+ghost use Rattle.candidate_core.specs.Candidates.{meets_dependency};
 ghost use Rattle.search_tables.specs.Conflicts.{conflicts_named};
 ghost use Rattle.search_tables.specs.NameTable.{items_of};
 

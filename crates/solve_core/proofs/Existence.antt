@@ -2,9 +2,9 @@
 -- or with a reason that holds for every selection.
 use Rattle.std.proofs.Common.{◌≡◌, ◌⊎◌, inl, inr, ℕ, zero, suc, ◌≤◌, true, false, List, [], ◌∷◌, ◌++◌, length, refl, sym, subst, ◌∙◌, arith, append_assoc}
 use Rattle.std.specs.Prelude.{Some}
-use Rattle.pool_core.specs.Candidates.{Need}
-use Rattle.pool_core.specs.Rank.{SealedPool, is_eligible_at}
-use Rattle.pool_core.specs.Options.{IsIn, options_for}
+use Rattle.candidate_core.specs.Candidates.{Need}
+use Rattle.candidate_core.specs.Rank.{SealedPool, is_eligible_at}
+use Rattle.candidate_core.specs.Options.{IsIn, options_for}
 use Rattle.search_tables.specs.Selection.{exclude_each_other, next_need}
 use Rattle.search_tables.specs.Reasons.{AreCompatible}
 use Rattle.search_tables.proofs.Theory as law

@@ -1,8 +1,8 @@
 -- A search that ends with no need left has found the first selection; one that ends with an empty reason shows that there is none.
 use Rattle.std.proofs.Common.{◌≡◌, ℕ, List, [], subst, sym}
 use Rattle.std.specs.Prelude.{None}
-use Rattle.pool_core.specs.Candidates.{Need}
-use Rattle.pool_core.specs.Rank.{SealedPool}
+use Rattle.candidate_core.specs.Candidates.{Need}
+use Rattle.candidate_core.specs.Rank.{SealedPool}
 use Rattle.search_tables.specs.Selection.{IsSatisfying, IsFirstSelection, next_need}
 use Rattle.search_tables.specs.Reasons.{FrameValue, AreCompatible, IsReason, AreTurnsFrom, choices_in}
 use Rattle.search_tables.specs.Reasons.{HasOptions}

@@ -1,9 +1,9 @@
 -- What each step of a search keeps.
 use Rattle.std.proofs.Common.{◌≡◌, ◌⊎◌, inl, inr, ℕ, false, List, [], ◌∷◌, ◌++◌, refl, sym, subst, ap, ◌∙◌, append-nil, length, arith}
 use Rattle.std.specs.Prelude.{not, filter, ◌==◌}
-use Rattle.pool_core.specs.Candidates.{Need}
-use Rattle.pool_core.specs.Rank.{SealedPool}
-use Rattle.pool_core.specs.Options.{IsIn, options_for}
+use Rattle.candidate_core.specs.Candidates.{Need}
+use Rattle.candidate_core.specs.Rank.{SealedPool}
+use Rattle.candidate_core.specs.Options.{IsIn, options_for}
 use Rattle.search_tables.specs.Selection.{AreMembers, AreDistinct, exclude_each_other}
 use Rattle.search_tables.specs.Reasons.{AreCompatible, IsReason, RulesOut, FrameValue, options_in, AreRuledOut, IsFrameOf, IsSpentFrame, IsFrameTaking, AreTurnsFrom, choices_in, others_in, dead_end_reason, HasSameMembers}
 use Rattle.search_tables.specs.Reasons.{HasOptions}

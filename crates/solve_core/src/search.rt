@@ -1,7 +1,7 @@
 //! The search: it takes options, rules options out, and steps back at a dead end.
 //! The rule stands in `docs/selection.md`, "How the search works".
 ghost use Rattle.std.specs.Prelude.{◌≡◌, ◌<◌, ◌^◌, ◌≤◌, ◌==◌, not, filter, ℕ, [], ◌∷◌, ◌++◌, false, true, length, IfOk, OnOk, IfSome, MatchOption, None, Some, slice_get};
-ghost use Rattle.pool_core.specs.Options.{IsIn};
+ghost use Rattle.candidate_core.specs.Options.{IsIn};
 ghost use Rattle.search_tables.specs.Selection.{AreMembers, exclude_each_other, next_need};
 ghost use Rattle.search_tables.specs.Reasons.{AreCompatible, FrameValue, IsReason, HasSameMembers, RulesOut, IsFrameOf, IsSpentFrame, IsFrameTaking, dead_end_reason};
 ghost use Rattle.solve_core.specs.Measure.{weight_of};

@@ -2,8 +2,8 @@
 //! The rules stand in `docs/selection.md`: "What satisfies world", "Which selection is taken", and
 //! "How the search works" for the loop.
 ghost use Rattle.std.specs.Prelude.{◌≡◌, ◌<◌, Some, IfOk, length, slice_get, [], List, ℕ, MatchOption};
-ghost use Rattle.pool_core.specs.Candidates.{Need};
-ghost use Rattle.pool_core.specs.Rank.{SealedPool};
+ghost use Rattle.candidate_core.specs.Candidates.{Need};
+ghost use Rattle.candidate_core.specs.Rank.{SealedPool};
 ghost use Rattle.search_tables.specs.Reasons.{HasOptions};
 ghost use Rattle.search_choices.specs.Choices.{IsSearch, pool_of};
 ghost use Rattle.search_tables.specs.Selection.{IsFirstSelection, IsSatisfying};

@@ -6,9 +6,9 @@
 ghost use Rattle.std.specs.Prelude.{◌≡◌, ◌<◌, ℕ, length, true, false, MatchOption, Some, is_some};
 ghost use Rattle.dep_core.specs.Dependency.{Dependency};
 ghost use Rattle.dep_core.specs.Meets.{dependency};
-ghost use Rattle.pool_core.specs.Candidates.{entry};
-ghost use Rattle.pool_core.specs.Options.{IsIn};
-ghost use Rattle.pool_core.specs.Rank.{candidate_at};
+ghost use Rattle.candidate_core.specs.Candidates.{entry};
+ghost use Rattle.candidate_core.specs.Options.{IsIn};
+ghost use Rattle.candidate_core.specs.Rank.{candidate_at};
 ghost use Rattle.search_choices.specs.Choices.{IsConsistent, choices_of, pool_of};
 ghost use Rattle.search_tables.specs.Excluders.{AreListed, IsExcluder, IsFreeAt};
 ghost use Rattle.search_tables.specs.Selection.{exclude_each_other, is_met, occupied_names};

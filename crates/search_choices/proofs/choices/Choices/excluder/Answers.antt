@@ -1,5 +1,5 @@
 use Rattle.std.proofs.Common.{ℕ, List, true, subst}
-use Rattle.pool_core.specs.Candidates.{Candidate}
+use Rattle.candidate_core.specs.Candidates.{Candidate}
 use Rattle.search_choices.specs.Choices.{choices_of, pool_of}
 use Rattle.search_tables.specs.Excluders.{IsFreeAt}
 use Rattle.search_tables.proofs.Places.{none_of}

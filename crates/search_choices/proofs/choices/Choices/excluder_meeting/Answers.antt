@@ -1,8 +1,8 @@
 use Rattle.std.proofs.Common.{◌≡◌, ◌≤◌, List, true, false, length, sym, subst, arith}
 use Rattle.dep_core.specs.Dependency.{Dependency}
 use Rattle.dep_core.specs.Meets.{dependency}
-use Rattle.pool_core.specs.Candidates.{entry}
-use Rattle.pool_core.specs.Options.{IsIn}
+use Rattle.candidate_core.specs.Candidates.{entry}
+use Rattle.candidate_core.specs.Options.{IsIn}
 use Rattle.search_choices.specs.Choices.{choices_of, pool_of}
 use Rattle.search_tables.specs.Selection.{is_met}
 use Rattle.search_tables.proofs.Places.{there_is}

@@ -1,7 +1,7 @@
 use Rattle.std.proofs.Common.{◌≡◌, false, take}
 use Rattle.std.specs.Prelude.{is_some}
 use Rattle.dep_core.specs.Dependency.{Dependency}
-use Rattle.pool_core.specs.Options.{IsIn}
+use Rattle.candidate_core.specs.Options.{IsIn}
 use Rattle.search_choices.specs.Choices.{choices_of, pool_of}
 use Rattle.search_tables.specs.Excluders.{IsFreeAt}
 use Rattle.search_choices.proofs.choices.Choices.excluder_provided.Given as goal

@@ -1,6 +1,6 @@
 use Rattle.std.proofs.Common.{ℕ, List, sym, ap, ◌∙◌}
 use Rattle.dep_core.specs.Dependency.{Dependency}
-use Rattle.pool_core.specs.Candidates.{entry}
+use Rattle.candidate_core.specs.Candidates.{entry}
 use Rattle.search_tables.specs.Selection.{is_met}
 use Rattle.search_choices.specs.Choices.{choices_of, pool_of}
 use Rattle.search_tables.specs.Queue.{RaisedDepValue}

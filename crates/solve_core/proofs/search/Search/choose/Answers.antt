@@ -1,5 +1,5 @@
 use Rattle.std.proofs.Common.{subst, sym, List, ℕ, [], ◌∷◌, inl, refl}
-use Rattle.pool_core.specs.Candidates.{is_eligible}
+use Rattle.candidate_core.specs.Candidates.{is_eligible}
 use Rattle.search_choices.specs.Choices.{choices_of, pool_of}
 use Rattle.search_tables.proofs.Theory.{in_right}
 use Rattle.search_tables.proofs.Marks.{distinct_front}

@@ -1,6 +1,6 @@
 use Rattle.std.proofs.Common.{◌≡◌, ◌<◌, ◌^◌, ◌∙◌, ◌∷◌, ◌++◌, [], ℕ, List, length, subst, sym, ap, refl, arith, append_assoc, append-nil}
-use Rattle.pool_core.specs.Options.{IsIn}
-use Rattle.pool_core.specs.Rank.{SealedPool}
+use Rattle.candidate_core.specs.Options.{IsIn}
+use Rattle.candidate_core.specs.Rank.{SealedPool}
 use Rattle.search_choices.specs.Choices.{IsSearch, choices_of, pool_of}
 use Rattle.search_tables.specs.Reasons.{FrameValue, IsReason, IsFrameOf, IsFrameTaking}
 use Rattle.search_tables.proofs.Places.{empty_list}
