@@ -1,6 +1,7 @@
 -- Packages that are kept by their words, and the candidates that they are.
 -- The order of the list stands in `docs/selection.md`, "What there is to choose from". Serves the
--- contracts of `src/packages.rt` and `src/pool.rt`, which say by it what their values show.
+-- contracts of `src/packages.rt` and `src/candidate_list.rt`, which say by it what their values
+-- show.
 use Rattle.std.specs.Prelude.{ℕ, zero, suc, Bool, false, List, [], ◌∷◌, map, Option, Some, None, option_copied, slice_get}
 use Rattle.adb_view.specs.Plain.{null, Plains, none, more}
 use Rattle.candidate_core.specs.Candidates.{Candidate, as_installed, candidate_of}

@@ -1,6 +1,6 @@
 -- What a search keeps true of its choices, of the queue and the cursors, and of its turns.
--- No rule of a document: serves the contracts of `src/choices.rt` and `src/search.rt`; how the
--- search works says `docs/selection.md`, "How the search works".
+-- No rule of a document: serves the contracts of `src/choices.rt` and `src/search.rt` of
+-- `solve_core`; how the search works says `docs/selection.md`, "How the search works".
 use Rattle.std.specs.Prelude.{◌≡◌, ◌<◌, length, ℕ, List, [], ◌∷◌, ◌++◌}
 use Rattle.candidate_core.specs.Rank.{SealedPool}
 use Rattle.candidate_core.specs.Options.{IsIn}
