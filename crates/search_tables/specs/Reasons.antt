@@ -1,7 +1,8 @@
 -- Why options are ruled out, and what a search keeps. A reason is a list of candidates that no
 -- satisfying selection holds whole.
 -- The rule stands in `docs/selection.md`, "How the search works"; the words in `docs/names.md`,
--- "Choosing packages". Serves the contracts of `src/search.rt` of `solve_core` and `src/frame.rt`.
+-- "Choosing packages". Serves the contracts of `src/frame.rt`, and in `solve_core` those
+-- of `src/search.rt`.
 use Rattle.std.specs.Prelude.{◌≡◌, ℕ, true, List, [], ◌∷◌, ◌++◌, Some, None}
 use Rattle.candidate_core.specs.Candidates.{Need}
 use Rattle.candidate_core.specs.Rank.{SealedPool, is_better, is_eligible_at, meets_at}
