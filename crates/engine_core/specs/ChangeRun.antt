@@ -24,7 +24,7 @@ use Rattle.package_files.specs.Runs.{AreObserved}
 use Rattle.package_changes.specs.Changes.{selected_version}
 use Rattle.path_clashes.specs.Clash.{NamePair}
 use Rattle.pkg_core.specs.Whole.{package_fault}
-use Rattle.pool_core.specs.Candidates.{Candidate}
+use Rattle.candidate_core.specs.Candidates.{Candidate}
 use Rattle.report_core.specs.declared.refusal.Refusal.{Refusal}
 use Rattle.report_core.specs.declared.refusal.Refusal.TheVariants.{PackageBad}
 use Rattle.stage_run.specs.StageRun.{IsStageRun, IsStageRunDone}

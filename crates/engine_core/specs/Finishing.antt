@@ -12,7 +12,7 @@ use Rattle.change_files.specs.FileChange.{old_listings}
 use Rattle.change_files.specs.NamesAfter.{name_change}
 use Rattle.file_owners.specs.Replaces.{version_text}
 use Rattle.path_clashes.specs.Clash.{HasNoClash}
-use Rattle.pool_core.specs.Candidates.{Candidate, is_same_id}
+use Rattle.candidate_core.specs.Candidates.{Candidate, is_same_id}
 use Rattle.change_inputs.specs.Inputs.{Inputs}
 use Rattle.change_laws.specs.Premises.{IsRootOfFiles}
 use Rattle.change_outcome.specs.ChangeOutcome.{ChangeWishes, file_change, is_other_file}

@@ -3,7 +3,7 @@
 use Rattle.std.specs.Prelude.{ℕ, List, map, option_map}
 use Rattle.db_core.specs.Seen.{packages_of}
 use Rattle.db_core.specs.declared.db.Db.{Db}
-use Rattle.pool_core.specs.Rank.{SealedPool}
+use Rattle.candidate_core.specs.Rank.{SealedPool}
 use Rattle.report_core.specs.Reports as Texts
 use Rattle.package_changes.specs.Placed.{PlacedChange, PlacedName, PlacedReplacement}
 use Rattle.package_changes.specs.declared.change.Change.{Change}

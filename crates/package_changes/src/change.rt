@@ -8,8 +8,8 @@ ghost use Rattle.file_owners.specs.Replaces.{version_text};
 ghost use Rattle.db_core.specs.Packages.{installed_id};
 ghost use Rattle.package_changes.specs.Changes.{change_between, is_installed_as, selected_version, version_change, version_text_cmp};
 ghost use Rattle.package_changes.specs.Seen.{change_seen};
-ghost use Rattle.pool_core.specs.Candidates.{is_same_id};
-ghost use Rattle.pool_core.specs.Values.{candidate_value};
+ghost use Rattle.candidate_core.specs.Candidates.{is_same_id};
+ghost use Rattle.candidate_core.specs.Values.{candidate_value};
 ghost use Rattle.report_core.specs.Reports as Texts;
 ghost use Rattle.std.specs.Prelude.{◌≡◌, ◌<◌, false, Some, None, length, option_map, slice_get};
 

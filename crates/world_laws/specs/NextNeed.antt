@@ -3,10 +3,10 @@
 use Rattle.std.specs.Prelude.{◌≡◌, ◌⊎◌, ℕ, true, false, List, ◌∷◌, ◌++◌, Option, Some, None}
 use Rattle.dep_core.specs.Dependency.{Dependency}
 use Rattle.list_order.specs.ByteOrder.{precedes}
-use Rattle.pool_core.specs.Candidates.{Candidate, Need, entry, named, has_usable_install_if}
-use Rattle.pool_core.specs.Options.{IsIn}
-use Rattle.pool_core.specs.Rank.{SealedPool, meets_at}
-use Rattle.solve_core.specs.Selection.{depends_at}
+use Rattle.candidate_core.specs.Candidates.{Candidate, Need, entry, named, has_usable_install_if}
+use Rattle.candidate_core.specs.Options.{IsIn}
+use Rattle.candidate_core.specs.Rank.{SealedPool, meets_at}
+use Rattle.search_tables.specs.Selection.{depends_at}
 
 -- a chosen candidate meets a need
 abbrev pub IsMetByChoice : SealedPool → List ℕ → Need → Type 0
