@@ -54,9 +54,13 @@ list_of (more v vs) = v ∷ list_of vs
 abbrev pub entries_at : ℕ → Plain → List Plain
 entries_at i v = list_of (entries_in (entry_in v i))
 
--- the name of a folder, a file or a package's information: the first field of each, with index 0
+-- the index of *name* in a folder, a file and a package's information: the first field of each
+abbrev pub NAME_INDEX : ℕ
+NAME_INDEX = 0
+
+-- the name of a folder, a file or a package's information
 abbrev pub name_of : Plain → List ℕ
-name_of v = text_in (entry_in v 0)
+name_of v = text_in (entry_in v NAME_INDEX)
 
 -- the name of a package
 abbrev pub package_name : Plain → List ℕ

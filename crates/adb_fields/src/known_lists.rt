@@ -10,7 +10,7 @@ ghost use Rattle.adb_tables.specs.Values.{is_sound, kind_at};
 ghost use Rattle.adb_fields.specs.Fields.{are_all_sound};
 ghost use Rattle.adb_fields.specs.KnownLists.{ArePairsOf, twice_at};
 ghost use Rattle.adb_fields.specs.NamedTexts.{plains_at};
-ghost use Rattle.adb_fields.specs.Repeated.{name_of, twice};
+ghost use Rattle.adb_fields.specs.Repeated.{NAME_INDEX, name_of, twice};
 ghost use Rattle.adb_tables.specs.declared.tables.Kind.TheVariants as Kinds;
 
 use crate::name_lists::object_names;
@@ -23,7 +23,7 @@ use std::collections::BTreeMap;
 
 /// How many entries a list has at most whose pair is not kept: it is looked through at each place
 /// where it stands, which takes no memory that stays. Any number gives the same answers.
-const SHORT: usize = 16;
+const LONGEST_SHORT_LIST: usize = 16;
 
 /// A payload, a table whose objects have names, and for each long list of such objects that was
 /// looked through the first pair of its names, by the list's word.
@@ -35,17 +35,17 @@ pub(crate) struct KnownLists<'a> {
     which: Which,
     /// By the word of a list: its pair, or that no name stands twice in it.
     pairs: BTreeMap<u32, Option<Pair>>,
-    ghost named: { kind_at which 0 ≡ Some Kinds.Text },
+    ghost named: { kind_at which NAME_INDEX ≡ Some Kinds.Text },
     ghost exact: { ArePairsOf (payload_of adb) which pairs },
 }
 
 impl<'a> KnownLists<'a> {
     ghost use Rattle.adb_fields.specs.ListsOf.{AreListsOf};
 
-    /// The lists of a payload before any was looked through. `kind_at which 0` asks that the first
-    /// field of the table, with index 0, is a text, its name.
+    /// The lists of a payload before any was looked through. The first field of the table has to be
+    /// a text: the name.
     pub(crate) fn new(alloc: Global, adb: Adb<'a>, which: Which) -> KnownLists<'a>
-        requires { kind_at which 0 ≡ Some Kinds.Text }
+        requires { kind_at which NAME_INDEX ≡ Some Kinds.Text }
         ensures { AreListsOf adb.entry which result }
     {
         KnownLists {
@@ -64,7 +64,7 @@ impl<'a> KnownLists<'a> {
         ensures lists { AreListsOf self.old.adb self.old.which self.new }
     {
         let objects = objects_word(self.adb, self.which, list);
-        if objects.len() <= SHORT {
+        if objects.len() <= LONGEST_SHORT_LIST {
             return name_twice(alloc, self.adb, self.which, objects);
         }
         if let Some(pair) = self.kept_pair(list) {
@@ -85,8 +85,7 @@ impl<'a> KnownLists<'a> {
     }
 }
 
-/// The pair of positions at which two of the objects have one name, which is their first field
-/// (index 0).
+/// The pair of positions at which two of the objects have one name, which is their first field.
 fn name_twice(
     alloc: Global,
     adb: Adb<'_>,
@@ -95,7 +94,7 @@ fn name_twice(
 ) -> Result<Option<Pair>, AllocError>
     requires sound { are_all_sound (payload_of adb) (Kinds.Obj which) (array_entries objects)
         ≡ true }
-    requires kind { kind_at which 0 ≡ Some Kinds.Text }
+    requires kind { kind_at which NAME_INDEX ≡ Some Kinds.Text }
     ensures { IfOk result (λ pair. pair
         ≡ twice (map name_of (plains_at (payload_of adb.entry) (Kinds.Obj which)
         (array_entries objects.entry)))) }

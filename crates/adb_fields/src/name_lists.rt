@@ -1,7 +1,6 @@
 //! The lists of names in which one may stand twice, each name with its position: names of folders,
 //! of files and of packages, paths, and the texts of an intent. Which lists these are stands in the
-//! table of `docs/formats.md`, "Names that stand twice". The indices of fields that are named here
-//! are those of `FieldIndexes` of `adb_tables`.
+//! table of `docs/formats.md`, "Names that stand twice".
 
 ghost use Rattle.std.specs.Prelude.{◌≡◌, ◌+◌, ◌<◌, ◌^◌, ◌++◌, ◌∷◌, [], true, Some, map, length, IfOk};
 ghost use Rattle.std.specs.Vec.{vec_len};
@@ -9,7 +8,7 @@ ghost use Rattle.adb_view.specs.Adb.{payload_of};
 ghost use Rattle.adb_view.specs.Entries.{array_entries};
 ghost use Rattle.adb_tables.specs.Values.{is_sound, value_at, kind_at, text_in};
 ghost use Rattle.adb_fields.specs.Fields.{are_all_sound};
-ghost use Rattle.adb_fields.specs.Repeated.{numbered_from, all_at, name_of, package_name, paths_in, paths_under, by_list_from};
+ghost use Rattle.adb_fields.specs.Repeated.{NAME_INDEX, numbered_from, all_at, name_of, package_name, paths_in, paths_under, by_list_from};
 ghost use Rattle.adb_fields.specs.Paths.{path_of};
 ghost use Rattle.adb_fields.specs.NamedTexts.{named_by, plains_at, named_at};
 ghost use Rattle.adb_tables.specs.declared.tables.Kind.TheVariants as Kinds;
@@ -18,9 +17,15 @@ ghost use Rattle.adb_tables.specs.declared.tables.Which.TheVariants as Tables;
 use crate::file_path::FilePath;
 use crate::pairs::PathWithPosition;
 use crate::reads::{field_word, objects_field, text_field, text_word};
+use adb_tables::field_indexes::{
+    DIR_FILES, DIR_NAME, FILE_NAME, INFO_NAME, PACKAGE_INFO, PACKAGE_PATHS,
+};
 use adb_tables::{Which, entry_word};
 use adb_view::{Adb, Arr, Val};
 use std::alloc::{AllocError, Global};
+
+/// The index of the name in a folder and in a file: in both it is the first field.
+const NAME_INDEX: usize = DIR_NAME;
 
 /// Adds a name behind the others, at the next position.
 fn add<'a>(names: &mut Vec<PathWithPosition<'a>>, name: &'a [u8]) -> Result<(), AllocError>
@@ -35,7 +40,7 @@ fn add<'a>(names: &mut Vec<PathWithPosition<'a>>, name: &'a [u8]) -> Result<(), 
     Ok(())
 }
 
-/// The names of folders or files: of objects whose first field (index 0) is a text.
+/// The names of folders or files: of objects whose first field is a text, their name.
 #[tactic(auto, using(crate::proofs::FieldReads::entry_sound))]
 pub(crate) fn object_names<'a>(
     alloc: Global,
@@ -45,7 +50,7 @@ pub(crate) fn object_names<'a>(
 ) -> Result<Vec<PathWithPosition<'a>>, AllocError>
     requires sound { are_all_sound (payload_of adb) (Kinds.Obj which) (array_entries objects)
         ≡ true }
-    requires kind { kind_at which 0 ≡ Some Kinds.Text }
+    requires kind { kind_at which NAME_INDEX ≡ Some Kinds.Text }
     ensures { IfOk result (λ names. map named_by names.items
         ≡ numbered_from 1
         (map name_of (plains_at (payload_of adb.entry) (Kinds.Obj which)
@@ -55,7 +60,7 @@ pub(crate) fn object_names<'a>(
     for i in 0..objects.len() {
         add(
             &mut names,
-            text_field(adb, which, entry_word(objects, i), 0),
+            text_field(adb, which, entry_word(objects, i), NAME_INDEX),
         )?;
     }
     Ok(names)
@@ -88,9 +93,8 @@ fn package_name<'a>(adb: Adb<'a>, pkg: Val) -> &'a [u8]
     ensures { result.now
         ≡ package_name (value_at (payload_of adb.entry) (Kinds.Obj Tables.Package) pkg) }
 {
-    // The indices are PACKAGE_INFO and INFO_NAME.
-    let info = field_word(adb, Which::Package, pkg, 0);
-    text_field(adb, Which::PkgInfo, info, 0)
+    let info = field_word(adb, Which::Package, pkg, PACKAGE_INFO);
+    text_field(adb, Which::PkgInfo, info, INFO_NAME)
 }
 
 /// Adds the texts of an array behind the names, at the positions that follow.
@@ -142,11 +146,10 @@ fn add_paths_under<'a>(
         ++ all_at position
         (paths_under (value_at (payload_of adb.entry) (Kinds.Obj Tables.Dir) folder))) }
 {
-    // The indices are DIR_NAME, DIR_FILES and, below, FILE_NAME.
-    let name = text_field(adb, Which::Dir, folder, 0);
-    let files = objects_field(adb, Which::Dir, folder, 2, Which::File);
+    let name = text_field(adb, Which::Dir, folder, DIR_NAME);
+    let files = objects_field(adb, Which::Dir, folder, DIR_FILES, Which::File);
     for i in 0..files.len() {
-        let file = text_field(adb, Which::File, entry_word(files, i), 0);
+        let file = text_field(adb, Which::File, entry_word(files, i), FILE_NAME);
         add_path(paths, name, file, position)?;
     }
     Ok(())
@@ -165,8 +168,7 @@ fn add_paths<'a>(
         ++ all_at position
         (paths_in (value_at (payload_of adb.entry) (Kinds.Obj Tables.Package) pkg))) }
 {
-    // The index is PACKAGE_PATHS.
-    let folders = objects_field(adb, Which::Package, pkg, 1, Which::Dir);
+    let folders = objects_field(adb, Which::Package, pkg, PACKAGE_PATHS, Which::Dir);
     for i in 0..folders.len() {
         add_paths_under(paths, adb, entry_word(folders, i), position)?;
     }

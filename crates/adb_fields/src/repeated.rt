@@ -1,6 +1,5 @@
 //! Names that stand twice in a walked container. The rule stands in `docs/formats.md`, "Names that
-//! stand twice". The indices of fields that are named here are those of `FieldIndexes` of
-//! `adb_tables`.
+//! stand twice".
 
 ghost use Rattle.std.specs.Prelude.{◌↔◌, None, ◌≡◌, ◌+◌, ◌<◌, ◌^◌, [], ◌∷◌, true, Some, map, IfOk};
 ghost use Rattle.std.specs.Option.{option_or};
@@ -10,7 +9,7 @@ ghost use Rattle.adb_tables.specs.Values.{count_of, entries_in, entry_in, is_sou
 ghost use Rattle.adb_fields.specs.Fields.{are_all_sound};
 ghost use Rattle.adb_fields.specs.ListsOf.{AreListsOf};
 ghost use Rattle.adb_tables.specs.Shaped.{shaped_value, table_of};
-ghost use Rattle.adb_tables.specs.FieldIndexes.{INTENT_WRITES};
+ghost use Rattle.adb_tables.specs.FieldIndexes.{INTENT_REMOVALS, INTENT_WRITES};
 ghost use Rattle.adb_fields.specs.Repeated.{between_fault, field_number, file_twice, files_in, folder_twice, folders_in, inside_fault, name_of, name_twice, package_twice, path_in_two, repeated_at, repeated_fault, twice, twice_in_one};
 ghost use Rattle.adb_fields.specs.Once.{NamesStandOnce};
 ghost use Rattle.adb_view.specs.Plain.{Plain};
@@ -23,6 +22,9 @@ use crate::known_lists::KnownLists;
 use crate::name_lists::{add_texts, all_paths, package_names};
 use crate::pairs::{Pair, earlier, first_pair};
 use crate::reads::{field_word, objects_field, texts_field};
+use adb_tables::field_indexes::{
+    DIR_FILES, IDB_PACKAGES, INTENT_REMOVALS, INTENT_WRITES, PACKAGE_PATHS,
+};
 use adb_tables::{Shaped, Which, entry_word, values_of_few_visits_have_no_fault};
 use adb_view::{Adb, Arr, Val};
 use base_core::Cause;
@@ -30,18 +32,18 @@ use std::alloc::{AllocError, Global};
 
 /// The numbers of the fields whose texts stand once: 100 times the number of the table plus that of
 /// the field in it, which counts from 1.
-mod field {
+mod field_numbers {
     // Field 1 of table 4, also for a path that stands in two packages.
     pub(super) const FILE_NAME: u16 = 401;
 
     // Field 1 of table 5.
-    pub(super) const FOLDER_NAME: u16 = 501;
+    pub(super) const DIR_NAME: u16 = 501;
 
     // Field 1 of table 9: the packages, by their names.
-    pub(super) const PACKAGE: u16 = 901;
+    pub(super) const IDB_PACKAGES: u16 = 901;
 
     // Field 2 of table 10, for the removals too.
-    pub(super) const WRITE: u16 = 1002;
+    pub(super) const INTENT_WRITES: u16 = 1002;
 }
 
 /// Looks for a name that stands twice in a walked container, and answers the cause `Repeated`, or
@@ -61,8 +63,7 @@ pub fn repeated_names(alloc: Global, shaped: &Shaped<'_>) -> Result<Option<Cause
     match shaped.which() {
         Which::Package => in_package(alloc, adb, root),
         Which::Idb => {
-            // The index is IDB_PACKAGES.
-            let packages = objects_field(adb, Which::Idb, root, 0, Which::Package);
+            let packages = objects_field(adb, Which::Idb, root, IDB_PACKAGES, Which::Package);
             in_database(alloc, adb, packages)
         }
         Which::Intent => in_intent(alloc, adb, root),
@@ -92,14 +93,14 @@ fn in_package(alloc: Global, adb: Adb<'_>, pkg: Val) -> Result<Option<Cause>, Al
 {
     let mut folders = KnownLists::new(alloc, adb, Which::Dir);
     match repeated_at(
-        field::FOLDER_NAME,
+        field_numbers::DIR_NAME,
         folder_twice(alloc, adb, &mut folders, pkg)?,
     ) {
         Some(cause) => Ok(Some(cause)),
         None => {
             let mut files = KnownLists::new(alloc, adb, Which::File);
             let pair = file_twice(alloc, adb, &mut files, pkg)?;
-            Ok(repeated_at(field::FILE_NAME, pair))
+            Ok(repeated_at(field_numbers::FILE_NAME, pair))
         }
     }
 }
@@ -134,9 +135,12 @@ fn inside_packages(
         ≡ inside_fault (plains_at (payload_of adb.entry) (Kinds.Obj Tables.Package)
         (array_entries packages.entry))) }
 {
-    match repeated_at(field::FOLDER_NAME, folders_twice(alloc, adb, packages)?) {
+    match repeated_at(
+        field_numbers::DIR_NAME,
+        folders_twice(alloc, adb, packages)?,
+    ) {
         Some(cause) => Ok(Some(cause)),
-        None => Ok(repeated_at(field::FILE_NAME, files_twice(alloc, adb, packages)?)),
+        None => Ok(repeated_at(field_numbers::FILE_NAME, files_twice(alloc, adb, packages)?)),
     }
 }
 
@@ -153,33 +157,34 @@ fn between_packages(
         (array_entries packages.entry))) }
 {
     let mut names = package_names(alloc, adb, packages)?;
-    match repeated_at(field::PACKAGE, first_pair(&mut names)) {
+    match repeated_at(field_numbers::IDB_PACKAGES, first_pair(&mut names)) {
         Some(cause) => Ok(Some(cause)),
         None => {
             let mut paths = all_paths(alloc, adb, packages)?;
-            Ok(repeated_at(field::FILE_NAME, first_pair(&mut paths)))
+            Ok(repeated_at(field_numbers::FILE_NAME, first_pair(&mut paths)))
         }
     }
 }
 
-/// The cause that is reported of names that stand twice in an intent: its removals (index 0)
-/// followed by its writes (index 1), which the tests of the shape keep below 2^32.
+/// The cause that is reported of names that stand twice in an intent: its removals followed by its
+/// writes, which the tests of the shape keep below 2^32.
 fn in_intent(alloc: Global, adb: Adb<'_>, intent: Val) -> Result<Option<Cause>, AllocError>
     requires sound { is_sound (payload_of adb) (Kinds.Obj Tables.Intent) intent ≡ true }
     requires few { count_of (entries_in
-        (entry_in (value_at (payload_of adb) (Kinds.Obj Tables.Intent) intent) 0)) +
+        (entry_in (value_at (payload_of adb) (Kinds.Obj Tables.Intent) intent) INTENT_REMOVALS)) +
         count_of (entries_in
-        (entry_in (value_at (payload_of adb) (Kinds.Obj Tables.Intent) intent) 1)) < 2 ^ 32 }
+        (entry_in (value_at (payload_of adb) (Kinds.Obj Tables.Intent) intent) INTENT_WRITES))
+        < 2 ^ 32 }
     ensures { IfOk result (λ cause. cause
         ≡ repeated_at (field_number Tables.Intent INTENT_WRITES)
         (name_twice (value_at (payload_of adb.entry) (Kinds.Obj Tables.Intent) intent))) }
 {
-    let removals = texts_field(adb, Which::Intent, intent, 0);
-    let writes = texts_field(adb, Which::Intent, intent, 1);
+    let removals = texts_field(adb, Which::Intent, intent, INTENT_REMOVALS);
+    let writes = texts_field(adb, Which::Intent, intent, INTENT_WRITES);
     let mut names = Vec::new(alloc);
     add_texts(&mut names, adb, removals)?;
     add_texts(&mut names, adb, writes)?;
-    Ok(repeated_at(field::WRITE, first_pair(&mut names)))
+    Ok(repeated_at(field_numbers::INTENT_WRITES, first_pair(&mut names)))
 }
 
 /// The pair of positions at which a package lists one folder.
@@ -196,8 +201,7 @@ fn folder_twice(
         (value_at (payload_of adb.entry) (Kinds.Obj Tables.Package) pkg)))) }
     ensures lists { AreListsOf adb.entry Tables.Dir lists.new }
 {
-    // The index is PACKAGE_PATHS.
-    lists.twice(alloc, field_word(adb, Which::Package, pkg, 1))
+    lists.twice(alloc, field_word(adb, Which::Package, pkg, PACKAGE_PATHS))
 }
 
 /// The first pair of positions at which one of a package's folders lists one file.
@@ -215,8 +219,7 @@ fn file_twice(
         (folders_in (value_at (payload_of adb.entry) (Kinds.Obj Tables.Package) pkg)))) }
     ensures lists { AreListsOf adb.entry Tables.File lists.new }
 {
-    // The index is PACKAGE_PATHS.
-    let folders = objects_field(adb, Which::Package, pkg, 1, Which::Dir);
+    let folders = objects_field(adb, Which::Package, pkg, PACKAGE_PATHS, Which::Dir);
     let mut first = None;
     for i in 0..folders.len() {
         let folder = entry_word(folders, i);
@@ -239,8 +242,7 @@ fn file_twice_in(
         (value_at (payload_of adb.entry) (Kinds.Obj Tables.Dir) folder)))) }
     ensures lists { AreListsOf adb.entry Tables.File lists.new }
 {
-    // The index is DIR_FILES.
-    lists.twice(alloc, field_word(adb, Which::Dir, folder, 2))
+    lists.twice(alloc, field_word(adb, Which::Dir, folder, DIR_FILES))
 }
 
 /// The first pair of positions at which one of the packages lists one folder.

@@ -1,29 +1,8 @@
 -- Where fields stand in an object of their table: how many fields stand before them, so that the
 -- first has index 0. The number in brackets is the one by which causes and `docs/formats.md`,
--- "Schemas", name the field; there fields count from 1. The tables themselves are in Schema.
+-- "Schemas", name the field; there fields count from 1. The tables themselves are in Schema. The
+-- program has the same list in its module `field_indexes`.
 use Rattle.std.specs.Prelude.{ℕ}
-
--- ---- a package
-
--- the index of *info* in a package (701)
-abbrev pub PACKAGE_INFO : ℕ
-PACKAGE_INFO = 0
-
--- the index of *paths* in a package (702)
-abbrev pub PACKAGE_PATHS : ℕ
-PACKAGE_PATHS = 1
-
--- the index of *scripts* in a package (703)
-abbrev pub PACKAGE_SCRIPTS : ℕ
-PACKAGE_SCRIPTS = 2
-
--- the index of *triggers* in a package (704)
-abbrev pub PACKAGE_TRIGGERS : ℕ
-PACKAGE_TRIGGERS = 3
-
--- the index of *replaces-priority* in a package (705)
-abbrev pub PACKAGE_REPLACES_PRIORITY : ℕ
-PACKAGE_REPLACES_PRIORITY = 4
 
 -- ---- a dependency
 
@@ -38,6 +17,24 @@ DEP_VERSION = 1
 -- the index of *match* in a dependency (103)
 abbrev pub DEP_MATCH : ℕ
 DEP_MATCH = 2
+
+-- ---- an access list
+
+-- the index of *mode* in an access list (201)
+abbrev pub ACL_MODE : ℕ
+ACL_MODE = 0
+
+-- the index of *user* in an access list (202)
+abbrev pub ACL_USER : ℕ
+ACL_USER = 1
+
+-- the index of *group* in an access list (203)
+abbrev pub ACL_GROUP : ℕ
+ACL_GROUP = 2
+
+-- the index of *xattrs* in an access list (204)
+abbrev pub ACL_XATTRS : ℕ
+ACL_XATTRS = 3
 
 -- ---- the information of a package
 
@@ -56,6 +53,34 @@ INFO_HASHES = 2
 -- the index of *description* in a package info (304)
 abbrev pub INFO_DESCRIPTION : ℕ
 INFO_DESCRIPTION = 3
+
+-- the index of *arch* in a package info (305)
+abbrev pub INFO_ARCH : ℕ
+INFO_ARCH = 4
+
+-- the index of *license* in a package info (306)
+abbrev pub INFO_LICENSE : ℕ
+INFO_LICENSE = 5
+
+-- the index of *origin* in a package info (307)
+abbrev pub INFO_ORIGIN : ℕ
+INFO_ORIGIN = 6
+
+-- the index of *maintainer* in a package info (308)
+abbrev pub INFO_MAINTAINER : ℕ
+INFO_MAINTAINER = 7
+
+-- the index of *url* in a package info (309)
+abbrev pub INFO_URL : ℕ
+INFO_URL = 8
+
+-- the index of *repo-commit* in a package info (310)
+abbrev pub INFO_REPO_COMMIT : ℕ
+INFO_REPO_COMMIT = 9
+
+-- the index of *build-time* in a package info (311)
+abbrev pub INFO_BUILD_TIME : ℕ
+INFO_BUILD_TIME = 10
 
 -- the index of *installed-size* in a package info (312)
 abbrev pub INFO_INSTALLED_SIZE : ℕ
@@ -89,6 +114,48 @@ INFO_INSTALL_IF = 17
 abbrev pub INFO_RECOMMENDS : ℕ
 INFO_RECOMMENDS = 18
 
+-- the index of *layer* in a package info (320)
+abbrev pub INFO_LAYER : ℕ
+INFO_LAYER = 19
+
+-- the index of *tags* in a package info (321)
+abbrev pub INFO_TAGS : ℕ
+INFO_TAGS = 20
+
+-- the index of *unused* in a package info (322)
+abbrev pub INFO_UNUSED : ℕ
+INFO_UNUSED = 21
+
+-- ---- a file of a folder
+
+-- the index of *name* in a file (401)
+abbrev pub FILE_NAME : ℕ
+FILE_NAME = 0
+
+-- the index of *acl* in a file (402)
+abbrev pub FILE_ACL : ℕ
+FILE_ACL = 1
+
+-- the index of *size* in a file (403)
+abbrev pub FILE_SIZE : ℕ
+FILE_SIZE = 2
+
+-- the index of *mtime* in a file (404)
+abbrev pub FILE_MTIME : ℕ
+FILE_MTIME = 3
+
+-- the index of *hashes* in a file (405)
+abbrev pub FILE_HASHES : ℕ
+FILE_HASHES = 4
+
+-- the index of *target* in a file (406)
+abbrev pub FILE_TARGET : ℕ
+FILE_TARGET = 5
+
+-- the index of *unused* in a file (407)
+abbrev pub FILE_UNUSED : ℕ
+FILE_UNUSED = 6
+
 -- ---- a folder of a package
 
 -- the index of *name* in a folder (501)
@@ -103,25 +170,63 @@ DIR_ACL = 1
 abbrev pub DIR_FILES : ℕ
 DIR_FILES = 2
 
--- ---- a file of a folder
+-- ---- the scripts of a package
 
--- the index of *name* in a file (401)
-abbrev pub FILE_NAME : ℕ
-FILE_NAME = 0
+-- the index of *trigger* in scripts (601)
+abbrev pub SCRIPTS_TRIGGER : ℕ
+SCRIPTS_TRIGGER = 0
 
--- the index of *size* in a file (403)
-abbrev pub FILE_SIZE : ℕ
-FILE_SIZE = 2
+-- the index of *pre-install* in scripts (602)
+abbrev pub SCRIPTS_PRE_INSTALL : ℕ
+SCRIPTS_PRE_INSTALL = 1
 
--- the index of *hashes* in a file (405)
-abbrev pub FILE_HASHES : ℕ
-FILE_HASHES = 4
+-- the index of *post-install* in scripts (603)
+abbrev pub SCRIPTS_POST_INSTALL : ℕ
+SCRIPTS_POST_INSTALL = 2
 
--- the index of *target* in a file (406)
-abbrev pub FILE_TARGET : ℕ
-FILE_TARGET = 5
+-- the index of *pre-deinstall* in scripts (604)
+abbrev pub SCRIPTS_PRE_DEINSTALL : ℕ
+SCRIPTS_PRE_DEINSTALL = 3
 
--- ---- an index, the installed database and an intent
+-- the index of *post-deinstall* in scripts (605)
+abbrev pub SCRIPTS_POST_DEINSTALL : ℕ
+SCRIPTS_POST_DEINSTALL = 4
+
+-- the index of *pre-upgrade* in scripts (606)
+abbrev pub SCRIPTS_PRE_UPGRADE : ℕ
+SCRIPTS_PRE_UPGRADE = 5
+
+-- the index of *post-upgrade* in scripts (607)
+abbrev pub SCRIPTS_POST_UPGRADE : ℕ
+SCRIPTS_POST_UPGRADE = 6
+
+-- ---- a package
+
+-- the index of *info* in a package (701)
+abbrev pub PACKAGE_INFO : ℕ
+PACKAGE_INFO = 0
+
+-- the index of *paths* in a package (702)
+abbrev pub PACKAGE_PATHS : ℕ
+PACKAGE_PATHS = 1
+
+-- the index of *scripts* in a package (703)
+abbrev pub PACKAGE_SCRIPTS : ℕ
+PACKAGE_SCRIPTS = 2
+
+-- the index of *triggers* in a package (704)
+abbrev pub PACKAGE_TRIGGERS : ℕ
+PACKAGE_TRIGGERS = 3
+
+-- the index of *replaces-priority* in a package (705)
+abbrev pub PACKAGE_REPLACES_PRIORITY : ℕ
+PACKAGE_REPLACES_PRIORITY = 4
+
+-- ---- an index
+
+-- the index of *description* in an index (801)
+abbrev pub INDEX_DESCRIPTION : ℕ
+INDEX_DESCRIPTION = 0
 
 -- the index of *packages* in an index (802)
 abbrev pub INDEX_PACKAGES : ℕ
@@ -131,9 +236,13 @@ INDEX_PACKAGES = 1
 abbrev pub INDEX_PKGNAME_SPEC : ℕ
 INDEX_PKGNAME_SPEC = 2
 
+-- ---- the installed database
+
 -- the index of *packages* in an installed database (901)
 abbrev pub IDB_PACKAGES : ℕ
 IDB_PACKAGES = 0
+
+-- ---- an intent
 
 -- the index of *removals* in an intent (1001)
 abbrev pub INTENT_REMOVALS : ℕ

@@ -3,11 +3,13 @@
 //! The ten tables are constants. `shape` walks a payload from its root as an object of a table, and
 //! makes a `Shaped` of it. The contracts cite `Schema` (the tables, and the shapes that they give),
 //! `FormatTables` (the same as the formats list them), `Walk` (the first fault of the walk),
-//! `Values` (plain values of words, and their fields) and `Shaped`.
+//! `Values` (plain values of words, and their fields) and `Shaped`. Which field has which index
+//! stands in `field_indexes`, and for the contracts in `FieldIndexes`.
 //!
 //! The rules stand in `docs/formats.md`, "Schemas" (the tables) and "The shape" (the walk).
 #![tactic(auto)]
 
+pub mod field_indexes;
 mod readers;
 mod shaped;
 mod tables;

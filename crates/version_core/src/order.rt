@@ -14,7 +14,7 @@ use std::cmp::Ordering;
 
 /// How many bytes are compared at once, by one comparison of slices; another number gives the same
 /// order.
-const BLOCK: usize = 128;
+const BYTES_PER_COMPARISON: usize = 128;
 
 /// The order of two versions: the first tokens that differ decide.
 pub fn compare(left: &[u8], right: &[u8]) -> Ordering
@@ -87,8 +87,10 @@ fn equal_blocks(left: &[u8], right: &[u8]) -> usize
 {
     let most = left.len().min(right.len());
     let mut len = 0;
-    while most - len >= BLOCK && left[len..len + BLOCK] == right[len..len + BLOCK] {
-        len += BLOCK;
+    while most - len >= BYTES_PER_COMPARISON
+        && left[len..len + BYTES_PER_COMPARISON] == right[len..len + BYTES_PER_COMPARISON]
+    {
+        len += BYTES_PER_COMPARISON;
     }
     len
 }

@@ -17,7 +17,7 @@ use std::marker::Model;
 
 /// How many bytes share one leap: with more of them leaps take less memory, and more bytes are read
 /// between two.
-const BLOCK: usize = 256;
+const BYTES_PER_LEAP: usize = 256;
 
 /// A place behind a token of a version or between the digits of its hash, and the class of that
 /// token.
@@ -125,7 +125,7 @@ impl<'a> OverlappingVersions<'a> {
     fn leap(&self, place: Place, end: usize) -> Option<Place>
         ensures { IfSome result (IsNextPlace self.now end place) }
     {
-        let leap = self.leaps.get(place.at / BLOCK)?;
+        let leap = self.leaps.get(place.at / BYTES_PER_LEAP)?;
         let Leap { from, to } = *leap;
         // The leap over this block begins elsewhere, or behind a token of another class.
         if from.at != place.at || from.class != place.class {
@@ -145,7 +145,7 @@ impl<'a> OverlappingVersions<'a> {
         ensures leads { IsLeap self.old result place }
         ensures bytes { self.new ≡ self.old }
     {
-        if place.at / BLOCK == begun.at / BLOCK {
+        if place.at / BYTES_PER_LEAP == begun.at / BYTES_PER_LEAP {
             return begun;
         }
         self.remember(begun, place);
@@ -157,7 +157,7 @@ impl<'a> OverlappingVersions<'a> {
         requires { IsLeap self.old from to }
         ensures { self.new ≡ self.old }
     {
-        let block = from.at / BLOCK;
+        let block = from.at / BYTES_PER_LEAP;
         if block < self.leaps.len() {
             self.leaps[block] = Leap { from, to };
         }
@@ -176,7 +176,8 @@ impl<'a> OverlappingVersions<'a> {
                 from: place,
                 to: place,
             };
-            self.leaps.resize(self.bytes.len() / BLOCK + 1, nowhere)?;
+            self.leaps
+                .resize(self.bytes.len() / BYTES_PER_LEAP + 1, nowhere)?;
         }
         Ok(())
     }
@@ -208,7 +209,7 @@ fn place_behind(bytes: &[u8], place: Place, end: usize) -> Option<Place>
     ensures some { IfSome result (IsNextPlace bytes.now end place) }
     ensures none { IfNone result (can_follow bytes.now place end ≡ false) }
 {
-    let len = (end - place.at).min(BLOCK);
+    let len = (end - place.at).min(BYTES_PER_LEAP);
     let digits = unread_digits(place.class, &bytes[place.at..place.at + len]);
     if digits > 0 {
         return Some(Place {
