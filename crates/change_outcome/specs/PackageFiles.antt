@@ -156,8 +156,8 @@ abbrev pub unless_number : {A : Type 0} → List ℕ → Option ℕ → A → Re
 unless_number name None a = Ok a
 unless_number name (Some number) a = Err (ScriptNeeded name number)
 
--- a value, unless one of these scripts of a package would have to run and there is no leave to
--- leave it out
+-- a value, unless one of these scripts of a package would have to run, and scripts may not be left
+-- out
 abbrev pub unless_script :
     {A : Type 0} → Bool → List ℕ → Plain → List ℕ → A → Result A Refusal
 unless_script true name pkg numbers a = Ok a

@@ -117,7 +117,9 @@ fn plan_change<T: Tree>(
     arrived: &Arrived<'_, '_, '_, '_>,
     tree: &mut T,
 ) -> Result<Text, Refused>
+    // The packages that come and those that stay are those that reads find.
     requires { (found : List MemberFound) × IsArrived (T.history tree.old) arrived.now found }
+    // Where reads find these packages, the run is the change with them.
     ensures run { (found : List MemberFound) (read : Reads)
         → IsArrived (T.history tree.old) arrived.now found
         → IsMembersRun (inputs_arrived arrived.now) (replacement_arrived arrived.now)

@@ -1,7 +1,7 @@
 //! The files that members list, as claims.
 //! The rule stands in `docs/commands.md`, "Files that several packages list": a package that comes
 //! claims each file that it lists, and one that stays those that the database lists for it. Members
-//! count from 0, folders and files from 1, as the words of a claim are defined in `docs/names.md`.
+//! count from 0, folders and files from 1, as in *Listing* of `db_core`.
 
 ghost use Rattle.std.specs.Prelude.{◌≡◌, ◌<◌, ◌+◌, [], ◌∷◌, Some, IfOk, length, map, slice_get};
 ghost use Rattle.adb_fields.specs.Paths.{path_of};

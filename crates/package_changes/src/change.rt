@@ -112,7 +112,9 @@ pub(crate) fn purge<'a>(
 }
 
 /// What becomes of the package of the database at a place, counted from 0, whose name a selected
-/// candidate has: nothing, where the candidate is the package, unless it is to be installed again.
+/// candidate has: nothing where the candidate is the package, or a reinstallation where its name is
+/// to be installed again; else an upgrade, a downgrade, or a replacement by a version that is equal
+/// in order.
 pub(crate) fn replace<'a>(
     name: &'a [u8],
     db: &Db<'a>,

@@ -187,7 +187,8 @@ fn push_selected_name<'a>(
     }
 }
 
-/// What becomes of the packages with these names, in the order of the names.
+/// What becomes of the packages with these names, in the order of the names. `again` has the names
+/// of the packages that are to be installed again.
 fn placed_names<'a>(
     alloc: Global,
     db: &Db<'a>,
@@ -207,7 +208,8 @@ fn placed_names<'a>(
     Ok(list)
 }
 
-/// What becomes of the package with this name, whose selected candidate has the place `new`.
+/// What becomes of the package with this name, whose selected candidate has the place `new`. `again`
+/// has the names of the packages that are to be installed again.
 fn placed_name<'a>(
     db: &Db<'a>,
     pool: &Sealed<'a>,

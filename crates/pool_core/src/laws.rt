@@ -1,7 +1,8 @@
 //! What the definitions of candidates, ranks and options keep, each as the contract of a function
 //! that does nothing.
 //! The rules stand in `docs/selection.md`: "Which selection is taken" (the rank), and "What there
-//! is to choose from" (options, offers, and which package is the installed one).
+//! is to choose from" (options, offers, and which package is the installed one). The fields of a
+//! candidate stand in `docs/formats.md`, "Schemas", table 3.
 ghost use Rattle.std.specs.Prelude.{◌≡◌, ◌<◌, Bool, true, false, ℕ, List, [], ◌∷◌, ◌++◌, length, Option, Some, slice_get, codes, if◌then◌else◌};
 ghost use Rattle.std.specs.Cmp.{IsTotalOrder};
 ghost use Rattle.std.specs.declared.cmp.Ordering.TheVariants.{Equal};
@@ -56,7 +57,8 @@ pub fn offers_hold_what_meets()
 {}
 
 /// Each part of a candidate is the value of the field of its name, as the names stand in
-/// `docs/formats.md`, "Schemas", table 3. So no definition depends on the number of a field alone.
+/// `docs/formats.md`, "Schemas", table 3. So a definition that
+/// took the number of another field would break this law.
 pub fn a_candidate_is_read_by_field_names()
     ensures { (info : Plain) (repository : Option ℕ) (tag : Option (List ℕ)) (installed : Bool) →
         candidate_of info repository tag installed

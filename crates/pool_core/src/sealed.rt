@@ -418,8 +418,8 @@ fn is_entry_of_kind(kind: EntryKind, dep: &Dep<'_>) -> bool
     }
 }
 
-// The places of the candidates that may be selected, as their marks say, and have an install-if
-// without conflict.
+// The places, rising, of the candidates that may be selected, as their marks in `eligible` say, and
+// have an install-if that is not empty and has no conflict.
 fn install_ifs_among(
     alloc: Global,
     packages: &Packages<'_>,

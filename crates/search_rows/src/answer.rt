@@ -250,7 +250,7 @@ fn add_counts(
 
 // ---- the pool
 
-// The pool of all packages, sealed.
+// The pool of all packages, joined to the world and to the names that the command upgrades.
 fn sealed<'a>(
     alloc: Global,
     row: &'a Row<'a>,

@@ -44,7 +44,8 @@ fn offers_for<'a>(pool: &'a Sealed<'_>, need: &NeedRef<'_>) -> &'a [CandId]
     }
 }
 
-// The first of some candidates that is a choice and meets a need.
+// A choice among some candidates that meets a need: the first of them, though no contract says
+// which.
 fn choice_among(
     pool: &Sealed<'_>,
     choices: &CandidateSet,
