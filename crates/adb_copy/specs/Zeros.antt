@@ -10,9 +10,9 @@ abbrev pub int_value : ℕ → Plain
 int_value zero = null
 int_value (suc n) = int (suc n)
 
--- a value without zeros: an integer 0 in it is Null at every depth, and so is what then holds
--- nothing
 unfoldable mutual
+  -- a value without zeros: an integer 0 in it is Null at every depth, and so is what then holds
+  -- nothing
   pub without_zeros : Plain → Plain
   without_zeros null = null
   without_zeros (int n) = int_value n
@@ -20,6 +20,7 @@ unfoldable mutual
   without_zeros (arr vs) = arr_value (all_without_zeros vs)
   without_zeros (obj vs) = obj_value (all_without_zeros vs)
 
+  -- the entries of an array or an object, each without zeros
   pub all_without_zeros : Plains → Plains
   all_without_zeros none = none
   all_without_zeros (more v vs) = more (without_zeros v) (all_without_zeros vs)

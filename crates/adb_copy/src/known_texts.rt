@@ -1,16 +1,17 @@
 //! The long texts of a payload that were written into a draft. Many places may share a text, so a
 //! long one is compared with what the draft has once, and then written by its word. Equal texts
-//! that overlap are found by their period.
+//! that overlap are found by their period, others by their fingerprints.
 //! That a blob is stored once is the rule of `docs/formats.md`, "Canonical layout". How often a
 //! text is looked at is this crate's own choice, as its README says.
 
-ghost use Rattle.std.specs.Prelude.{◌≡◌, ℕ, List, true, Some, All, IfSome, OnOk};
+ghost use Rattle.std.specs.Prelude.{◌≡◌, ℕ, List, true, Some, All, IfOk, IfSome, OnOk};
 ghost use Rattle.adb_view.specs.Adb.{payload_of};
 ghost use Rattle.adb_view.specs.Plain.{blob_value};
 ghost use Rattle.adb_tables.specs.Values.{entry_in, is_sound, kind_at, text_in, value_at};
 ghost use Rattle.adb_tables.specs.declared.tables.Kind.TheVariants as Kinds;
 ghost use Rattle.adb_values.specs.Drafts.{DraftState, draft_with};
 
+use crate::fingerprints::Fingerprints;
 use crate::overlaps::Overlaps;
 use adb_fields::{field_word, text_word};
 use adb_tables::Which;
@@ -31,6 +32,8 @@ pub struct KnownTexts {
     words: BTreeMap<u32, u32>,
     /// Which of the texts overlap, and the periods of their bytes.
     overlaps: Overlaps,
+    /// Which of the texts are likely to be equal to a further one.
+    fingerprints: Fingerprints,
 }
 
 impl KnownTexts {
@@ -43,6 +46,7 @@ impl KnownTexts {
         KnownTexts {
             words: BTreeMap::new(alloc),
             overlaps: Overlaps::new(alloc),
+            fingerprints: Fingerprints::new(alloc),
         }
     }
 
@@ -65,7 +69,7 @@ impl KnownTexts {
         }
         match self.known_word(adb, word) {
             Some(known) => draft.blob_again(Val::of(known)),
-            None => self.write_new(draft, adb, word),
+            None => self.write_unknown(draft, adb, word),
         }
     }
 
@@ -103,6 +107,49 @@ impl KnownTexts {
         }
     }
 
+    /// The word that an equal text has in the draft, if its fingerprint leads to one.
+    fn word_of_equal(&mut self, adb: Adb<'_>, word: Val) -> Result<Option<u32>, AllocError>
+        requires { All (HasPeriod (payload_of adb)) self.old.overlaps.ranges.items }
+        ensures words { self.new.words ≡ self.old.words }
+        ensures ranges { OnOk result
+            (All (HasPeriod (payload_of adb.entry)) self.new.overlaps.ranges.items) }
+        ensures known { IfOk result (λ known. IfSome known
+            (IsKnownFor (payload_of adb.entry) self.old.words word)) }
+    {
+        let Some(kept) = self.fingerprints.likely_equal(adb, word) else {
+            return Ok(None);
+        };
+        let Some(known) = self.words.get(&kept).copied() else {
+            return Ok(None);
+        };
+        let same = self
+            .overlaps
+            .find_equal(adb, Val::of(kept), Val::of(known), word)?;
+        Ok(if same { Some(known) } else { None })
+    }
+
+    /// Writes a text whose word is not known, and keeps the word.
+    fn write_unknown(
+        &mut self,
+        draft: &mut Draft,
+        adb: Adb<'_>,
+        word: Val,
+    ) -> Result<(), AllocError>
+        requires sound { is_sound (payload_of adb) Kinds.Text word ≡ true }
+        requires known { AreBlobsOf (payload_of adb) draft.old self.old }
+        ensures text { OnOk result (draft.new ≡ draft_with
+            (blob_value (text_in (value_at (payload_of adb.entry) Kinds.Text word))) draft.old) }
+        ensures known { OnOk result (AreBlobsOf (payload_of adb.entry) draft.new self.new) }
+    {
+        match self.word_of_equal(adb, word)? {
+            Some(known) => {
+                self.words.insert(word.word(), known)?;
+                draft.blob_again(Val::of(known))
+            }
+            None => self.write_new(draft, adb, word),
+        }
+    }
+
     /// Writes a text that is not known, and keeps the word that it has in the draft.
     fn write_new(&mut self, draft: &mut Draft, adb: Adb<'_>, word: Val) -> Result<(), AllocError>
         requires sound { is_sound (payload_of adb) Kinds.Text word ≡ true }
@@ -113,6 +160,7 @@ impl KnownTexts {
     {
         let known = draft.blob_word(text_word(adb, word))?;
         self.words.insert(word.word(), known.word())?;
+        self.fingerprints.note(adb, word)?;
         self.overlaps.keep(adb, word, known)
     }
 }

@@ -13,8 +13,10 @@
 
 mod copy;
 mod entry;
+mod fingerprints;
 mod known_texts;
 mod overlaps;
+mod sums;
 
 pub use copy::{write_info, write_int, write_text_list};
 pub use entry::{write_acl, write_file, write_scripts};

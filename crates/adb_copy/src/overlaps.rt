@@ -4,7 +4,7 @@
 //! No document has a rule for this: the README of this crate says it, in the paragraph on periods,
 //! and *HasPeriod* of `specs/Known.antt` what a range promises. All of it saves time alone.
 
-ghost use Rattle.std.specs.Prelude.{◌≡◌, ◌≤◌, ◌+◌, [], All, length, take, drop, IfSome, OnOk};
+ghost use Rattle.std.specs.Prelude.{◌≡◌, ◌<◌, ◌≤◌, ◌+◌, ℕ, List, [], All, length, take, drop, IfOk, IfSome, OnOk};
 ghost use Rattle.std.specs.Bool.{OnTrue};
 ghost use Rattle.adb_copy.specs.Known.{HasPeriod, AreEqualUnder, IsPhaseOf};
 ghost use Rattle.adb_tables.specs.Values.{text_in, value_at};
@@ -19,6 +19,9 @@ use std::collections::BTreeMap;
 /// one stretch are less than that apart, so they overlap and show a period. With a greater number
 /// fewer texts show one; with a lesser one more bytes around a text are tested.
 const PART: usize = 4;
+
+/// How many bytes around a text are compared at once; the last ones singly. Any number is right.
+const STEP: usize = 64;
 
 /// Where a text stands in its payload.
 #[derive(Clone, Copy)]
@@ -87,6 +90,9 @@ pub struct Overlaps {
     /// The offset at which a text begins that was kept, by the word that it has in the draft and by
     /// its stretch.
     places: BTreeMap<(u32, usize), usize>,
+    /// The place in `ranges` of the last range that was found with two equal texts, by how they
+    /// stand.
+    repeats: BTreeMap<(usize, usize, usize), usize>,
 }
 
 impl Overlaps {
@@ -99,6 +105,7 @@ impl Overlaps {
             latest: BTreeMap::new(alloc),
             words: BTreeMap::new(alloc),
             places: BTreeMap::new(alloc),
+            repeats: BTreeMap::new(alloc),
         }
     }
 
@@ -117,6 +124,88 @@ impl Overlaps {
         if same { Some(kept) } else { None }
     }
 
+    /// Whether the text of a word equals a kept one, which has this word in a draft. Where a range
+    /// shows it, no byte is looked at.
+    pub(crate) fn find_equal(
+        &mut self,
+        adb: Adb<'_>,
+        kept: Val,
+        known: Val,
+        word: Val,
+    ) -> Result<bool, AllocError>
+        requires { All (HasPeriod (payload_of adb)) self.old.ranges.items }
+        ensures ranges { OnOk result
+            (All (HasPeriod (payload_of adb.entry)) self.new.ranges.items) }
+        ensures equal { IfOk result (λ same. OnTrue same
+            (text_in (value_at (payload_of adb.entry) Kinds.Text kept)
+            ≡ text_in (value_at (payload_of adb.entry) Kinds.Text word))) }
+    {
+        let (Some(first), Some(second)) = (text_place(adb, kept), text_place(adb, word)) else {
+            return Ok(false);
+        };
+        if self.shows_equal(first, second) {
+            return Ok(true);
+        }
+        let Some(range) = self.keep_repeat(adb, first, second)? else {
+            return Ok(false);
+        };
+        self.keep(adb, word, known)?;
+        Ok(range.shows_equal(first, second))
+    }
+
+    /// Whether the range that was found last with two texts that stand so shows that these are
+    /// equal.
+    fn shows_equal(&self, first: TextPlace, second: TextPlace) -> bool
+        ensures { (payload : List ℕ) → All (HasPeriod payload) self.now.ranges.items
+            → OnTrue result (take first.len (drop first.from payload)
+            ≡ take second.len (drop second.from payload)) }
+    {
+        match self.repeat_of(first, second) {
+            Some(range) => range.shows_equal(first, second),
+            None => false,
+        }
+    }
+
+    /// That range.
+    fn repeat_of(&self, first: TextPlace, second: TextPlace) -> Option<PeriodicRange>
+        ensures { (payload : List ℕ) → All (HasPeriod payload) self.now.ranges.items
+            → IfSome result (HasPeriod payload) }
+    {
+        let place = repeat_place(first, second);
+        self.ranges.get(*self.repeats.get(&place)?).copied()
+    }
+
+    /// Keeps the range with two texts, if they are equal: it has the distance between them for its
+    /// period.
+    fn keep_repeat(
+        &mut self,
+        adb: Adb<'_>,
+        first: TextPlace,
+        second: TextPlace,
+    ) -> Result<Option<PeriodicRange>, AllocError>
+        requires first { first.from + first.len ≤ length (payload_of adb) }
+        requires second { second.from + second.len ≤ length (payload_of adb) }
+        requires ranges { All (HasPeriod (payload_of adb)) self.old.ranges.items }
+        ensures ranges { OnOk result
+            (All (HasPeriod (payload_of adb.entry)) self.new.ranges.items) }
+        ensures range { IfOk result
+            (λ range. IfSome range (HasPeriod (payload_of adb.entry))) }
+    {
+        let distance = first.from.abs_diff(second.from);
+        let len = first.len.min(second.len);
+        let both = TextPlace {
+            from: first.from.min(second.from),
+            len: distance + len,
+        };
+        let Some(range) = periodic_range(adb.payload(), both, distance, len / PART) else {
+            return Ok(None);
+        };
+        let place = repeat_place(first, second);
+        self.repeats.insert(place, self.ranges.len())?;
+        self.ranges.push(range)?;
+        Ok(Some(range))
+    }
+
     /// Keeps a text that was not known, by its word in the payload and the word that it has in a
     /// draft, which is NULL where the draft passed a limit: then nothing is kept.
     pub(crate) fn keep(&mut self, adb: Adb<'_>, word: Val, known: Val) -> Result<(), AllocError>
@@ -131,6 +220,7 @@ impl Overlaps {
         }
         // The bytes of both have the distance to an equal text of this stretch as a period.
         let place = (known.word(), text.stretch());
+        // The text that stood last in this stretch and has this word is equal to this one.
         if let Some(from) = self.places.insert(place, text.from)? {
             self.keep_range(adb, text, text.from.abs_diff(from))?;
         }
@@ -158,7 +248,7 @@ impl Overlaps {
             Some(range) => common_divisor(range.period, distance),
             None => distance,
         };
-        let Some(range) = periodic_range(adb.payload(), text, period) else {
+        let Some(range) = periodic_range(adb.payload(), text, period, text.len / PART) else {
             return Ok(());
         };
         self.latest
@@ -201,8 +291,18 @@ impl Overlaps {
     }
 }
 
+/// How two texts stand: how far apart they begin, and the length and the stretch of the one in front.
+fn repeat_place(first: TextPlace, second: TextPlace) -> (usize, usize, usize) {
+    let front = TextPlace {
+        from: first.from.min(second.from),
+        len: first.len.min(second.len),
+    };
+    let distance = first.from.abs_diff(second.from);
+    (distance, front.len, front.stretch())
+}
+
 /// Where the text of a word stands in the payload; none where the word means no bytes at an offset.
-fn text_place(adb: Adb<'_>, word: Val) -> Option<TextPlace>
+pub(crate) fn text_place(adb: Adb<'_>, word: Val) -> Option<TextPlace>
     ensures text { IfSome result (λ text. text_in (value_at (payload_of adb.entry) Kinds.Text word)
         ≡ take text.len (drop text.from (payload_of adb.entry))) }
     ensures within { IfSome result (λ text. text.from + text.len ≤ length (payload_of adb.entry)) }
@@ -216,51 +316,86 @@ fn text_place(adb: Adb<'_>, word: Val) -> Option<TextPlace>
     }
 }
 
-/// The bytes around a text that have a period, if those of the text have it. None where the period
-/// is 0, since two words then lead to one place, or where it is longer than the text, whose bytes
-/// then show nothing.
-fn periodic_range(bytes: &[u8], text: TextPlace, period: usize) -> Option<PeriodicRange>
+/// The bytes around a text that have a period, if those of the text have it, no further from it than
+/// they are to reach. None where the period is 0, since two words then lead to one place, or where
+/// it is longer than the text, whose bytes then show nothing.
+fn periodic_range(
+    bytes: &[u8],
+    text: TextPlace,
+    period: usize,
+    reach: usize,
+) -> Option<PeriodicRange>
     requires { text.from + text.len ≤ length bytes.now }
     ensures { IfSome result (HasPeriod bytes.now) }
 {
     if period == 0 || period > text.len {
         return None;
     }
-    let from = first_in_period(bytes, text, period);
-    let end = end_of_period(bytes, text, period);
+    let from = first_in_period(bytes, text, period, reach);
+    let end = end_of_period(bytes, text, period, reach);
     if bytes[from + period..end] != bytes[from..end - period] {
         return None;
     }
     Some(PeriodicRange { from, end, period })
 }
 
-/// The offset from which on the bytes in front of a text go on with its period, as far as texts of
-/// its stretch may begin.
-fn first_in_period(bytes: &[u8], text: TextPlace, period: usize) -> usize
+/// The offset from which on the bytes in front of a text go on with its period, no further than they
+/// are to reach.
+fn first_in_period(bytes: &[u8], text: TextPlace, period: usize, reach: usize) -> usize
     requires within { text.from + text.len ≤ length bytes.now }
     requires period { period ≤ text.len }
     ensures { result ≤ text.from }
 {
-    let least = text.from.saturating_sub(text.len / PART);
-    let mut from = text.from;
-    while from > least && bytes[from - 1] == bytes[from - 1 + period] {
-        from -= 1;
+    let least = text.from.saturating_sub(reach);
+    let from = first_by_steps(bytes, text.from, least, period, STEP);
+    first_by_steps(bytes, from, least, period, 1)
+}
+
+/// The same in front of an offset, where so many bytes at a time are compared.
+fn first_by_steps(bytes: &[u8], start: usize, least: usize, period: usize, step: usize) -> usize
+    requires within { start + period ≤ length bytes.now }
+    requires some { 0 < step }
+    ensures { result ≤ start }
+{
+    let mut from = start;
+    while from >= step
+        && from - step >= least
+        && bytes[from - step..from] == bytes[from - step + period..from + period]
+    {
+        from -= step;
     }
     from
 }
 
-/// The offset up to which the bytes behind a text go on with its period, as far as texts of its
-/// stretch may reach.
-fn end_of_period(bytes: &[u8], text: TextPlace, period: usize) -> usize
+/// The offset up to which the bytes behind a text go on with its period, no further than they are to
+/// reach.
+fn end_of_period(bytes: &[u8], text: TextPlace, period: usize, reach: usize) -> usize
     requires within { text.from + text.len ≤ length bytes.now }
     requires period { period ≤ text.len }
     ensures behind { text.from + text.len ≤ result }
     ensures within { result ≤ length bytes.now }
 {
-    let mut end = text.from + text.len;
-    let most = bytes.len().min(end.saturating_add(text.len / PART));
-    while end < most && bytes[end] == bytes[end - period] {
-        end += 1;
+    let start = text.from + text.len;
+    let most = bytes.len().min(start.saturating_add(reach));
+    let end = end_by_steps(bytes, start, most, period, STEP);
+    end_by_steps(bytes, end, most, period, 1)
+}
+
+/// The same behind an offset, where so many bytes at a time are compared.
+fn end_by_steps(bytes: &[u8], start: usize, most: usize, period: usize, step: usize) -> usize
+    requires period { period ≤ start }
+    requires start { start ≤ length bytes.now }
+    requires most { most ≤ length bytes.now }
+    requires some { 0 < step }
+    ensures behind { start ≤ result }
+    ensures within { result ≤ length bytes.now }
+{
+    let mut end = start;
+    while end <= most
+        && most - end >= step
+        && bytes[end..end + step] == bytes[end - period..end - period + step]
+    {
+        end += step;
     }
     end
 }

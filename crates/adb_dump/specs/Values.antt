@@ -9,8 +9,8 @@ use Rattle.adb_tables.specs.Schema.{shape_of}
 use Rattle.adb_tables.specs.declared.tables.Which.{Which}
 use Rattle.adb_tables.specs.declared.tables.Kind.TheVariants.{Obj}
 
--- whether the blobs in a value are bytes
 unfoldable mutual
+  -- whether the blobs in a value are bytes
   pub IsOfBytes : Plain → Type 0
   IsOfBytes null = Unit {0}
   IsOfBytes (int n) = Unit {0}
@@ -18,6 +18,7 @@ unfoldable mutual
   IsOfBytes (arr vs) = AreOfBytes vs
   IsOfBytes (obj vs) = AreOfBytes vs
 
+  -- whether the blobs in the entries of an array or an object are bytes
   pub AreOfBytes : Plains → Type 0
   AreOfBytes none = Unit {0}
   AreOfBytes (more v vs) = IsOfBytes v × AreOfBytes vs

@@ -74,6 +74,7 @@ fn counted_dump(alloc: Global, shaped: &Shaped<'_>) -> Result<Text, AllocError>
     let mut out = Vec::with_capacity(alloc, len)?;
     write_dump(&mut out, shaped)?;
     let is_exact = out.len() == len;
+    // Memory was taken for just so many bytes as are put: both come from `write_dump`.
     prove!(is_exact);
     Ok(Text::from_vec(out))
 }
@@ -120,6 +121,7 @@ fn write_schema<O: Out>(out: &mut O, which: Which) -> Result<(), AllocError>
             out.put(b"\n")?;
             Ok(())
         }
+        // Only roots are dumped, and each has a schema.
         None => unreachable!(),
     }
 }
@@ -261,6 +263,7 @@ pub(crate) fn write_fields<O: BlobOut>(
     let mut begun = start.begun;
     let mut all_null = true;
     for (i, field) in fields.iter().enumerate() {
+        // Entries past the last are NULL.
         if i >= words.len() {
             break;
         }

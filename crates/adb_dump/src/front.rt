@@ -3,7 +3,7 @@
 //! put; of a deeper line the spaces are put first, level by level.
 //! The rule stands in `docs/formats.md`, "Dump text": two spaces for each level, `name: ` before a
 //! value, `- ` before an entry; the names are those of "Schemas". That eight levels stand in each
-//! front saves time alone.
+//! front saves time alone. In the clauses 8 is `FRONT_LEVELS`.
 
 ghost use Rattle.std.specs.Prelude.{◌≡◌, ◌++◌, codes};
 ghost use Rattle.adb_dump.specs.Margin.{margin};

@@ -85,6 +85,7 @@ fn write_number<O: Out>(out: &mut O, number: u64) -> Result<(), AllocError>
 pub(crate) fn write_hex<O: Out>(out: &mut O, bytes: &[u8]) -> Result<(), AllocError>
     ensures { OnOk result (PutsForAny O.holds out.old out.new (encode_lower bytes.now)) }
 {
+    // Most hashes have this length, and are put at once.
     if bytes.len() == HASH_LEN {
         return out.put(&hash_digits(bytes));
     }
@@ -96,6 +97,7 @@ pub(crate) fn write_hex<O: Out>(out: &mut O, bytes: &[u8]) -> Result<(), AllocEr
 
 /// The digits of as many bytes as a SHA-256 has, two for each.
 fn hash_digits(hash: &[u8]) -> [u8; 2 * HASH_LEN]
+    // As many as `HASH_LEN`.
     requires { length hash.now ≡ 32 }
     ensures { result ≡ encode_lower hash.now }
 {
@@ -244,6 +246,7 @@ fn write_front<O: Out>(out: &mut O, start: LineStart, front: &[u8]) -> Result<()
 {
     let levels = start.levels();
     if levels <= FRONT_LEVELS {
+        // The end of the front that has as many spaces as the line.
         return out.put(&front[FRONT_LEN - 2 * levels as usize..]);
     }
     write_levels(out, levels)?;

@@ -28,6 +28,7 @@ pub(crate) fn field_words<'a>(adb: Adb<'a>, which: Which, word: Val) -> Arr<'a>
 {
     match adb.find_entries(word) {
         Some(entries) => entries,
+        // A word that is sound leads to a run, or is NULL.
         None => unreachable!(),
     }
 }
@@ -59,6 +60,7 @@ fn are_null(adb: Adb<'_>, fields: &[Field], words: Arr<'_>) -> bool
         ≡ are_null (fields_at (payload_of adb.entry) fields.now (array_entries words.entry)) }
 {
     for (i, field) in fields.iter().enumerate() {
+        // Entries past the last are NULL.
         if i >= words.len() {
             break;
         }

@@ -23,13 +23,14 @@ named_by e = record { name = joined_path e.path; position = e.position }
 abbrev pub named_cmp : NameWithPosition → NameWithPosition → Ordering
 named_cmp x y = ordering_then (slice_cmp nat_cmp x.name y.name) (nat_cmp x.position y.position)
 
--- the pairs that a name and the names behind it make, each with the next one; None where two names
--- differ
+-- the pairs of positions that a name and the names behind it make, each with the next one; None
+-- where two names differ. *earliest* takes of them the pair that is reported
 abbrev pub neighbours_from : NameWithPosition → List NameWithPosition → List (Option Pair)
 neighbours_from x [] = []
 neighbours_from x (y ∷ ys) = pair_of x y ∷ neighbours_from y ys
 
--- the pairs that each name of a list makes with the next one; None where the two differ
+-- the pairs of positions that each name of a list makes with the next one; None where the two names
+-- differ
 abbrev pub neighbours : List NameWithPosition → List (Option Pair)
 neighbours [] = []
 neighbours (x ∷ xs) = neighbours_from x xs

@@ -94,8 +94,10 @@ impl<W: Write + Drop> HostSink<W> {
 }
 
 impl<W: Write + Drop> Sink for HostSink<W> {
+    // What a host's stream got is not seen by a contract.
     ghost bytes = { λ sink. None };
 
+    // The counts are those of a host's sink with so many faults.
     ghost counts = { λ sink. host_counts sink.faults };
 
     /// Writes as many bytes as the stream takes at once. No bytes are no call of the host.

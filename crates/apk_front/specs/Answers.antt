@@ -58,7 +58,7 @@ pub record IsOutFault (outcome : Outcome) (out err : SinkChange) : Type 0 where
   pub out_gets : GetsSome out outcome.out
   pub err_gets : GetsSome err outcome.err
 
--- no outcome was printed: only this line on err, and nothing failed on out
+-- no outcome was printed: only this line on err; out got nothing, and did not fail
 pub record IsFault (line : List ℕ) (out err : SinkChange) : Type 0 where
   pub out_gets : Gets out []
   pub out_kept : DidNotFail out

@@ -69,8 +69,8 @@ LeavesRoom words files =
 
 -- ---- what is read while the command works
 
--- the names under which a command makes what it then moves to its name: the scratch name of an
--- output, or all below the stage
+-- whether a name is one under which a command makes what it then moves to its name: the scratch
+-- name of an output, or any below the stage
 abbrev pub is_draft_name : Effect → Option (List ℕ) → List ℕ → Bool
 is_draft_name Makes (Some name) q = bytes_eq q (scratch_of name)
 is_draft_name Makes None q = false
@@ -117,7 +117,8 @@ pub record IsRecovering (v w : TreeState) : Type 0 where
   pub bytes : HasOldOrNewBytes (files_of v) (unstaged_files (files_of v)) w
   pub waiting : IsLessWaiting v w
 
--- the tree is being recovered, if the command does that; or this holds
+-- at a moment of a run the tree is being recovered, if the command does that; or what is asked
+-- behind a recovery holds
 abbrev pub IsBehindRecovery : Effect → (TreeState → Type 0) → TreeState → TreeState → Type 0
 IsBehindRecovery effect IsNext v w = ((does_recover effect ≡ true) × IsRecovering v w) ⊎ IsNext w
 
@@ -196,7 +197,7 @@ AnswersOutcome (Refused refusal) = Unit {0}
 AnswersOutcome OutFault = Unit {0}
 AnswersOutcome other = ⊥
 
--- an outcome commits nothing
+-- one of these outcomes commits nothing
 abbrev pub HasIdleOutcome : (Outcome → Type 0) → Type 0
 HasIdleOutcome IsOne = (outcome : Outcome) × IsOne outcome × (outcome.commits ≡ false)
 

@@ -259,7 +259,7 @@ fn refuse(alloc: Global, command: &Command, fault: MakeFault) -> Result<Verdict,
 }
 
 // Why no container was made: the refusal, or the fault that stopped the making. A reserved name
-// comes before a result too large.
+// comes before a result too large. The clauses are those of `refuse`.
 fn refusal_of(alloc: Global, command: &Command, fault: MakeFault) -> Result<Refusal, TreeFault>
     ensures reported { IfOk result (λ refusal. (files : Files) (report : List ℕ)
         → make_outcome files (output_name command.now) report (Err fault)

@@ -15,7 +15,7 @@ use Rattle.make_info.specs.Reads.{Reads}
 use Rattle.package_files.specs.Runs.{AreObserved}
 use Rattle.package_changes.specs.Placed.{PlacedName}
 use Rattle.package_changes.proofs.Lists.{left_at}
-use Rattle.pool_core.specs.Rank.{SealedPool}
+use Rattle.candidate_core.specs.Rank.{SealedPool}
 use Rattle.report_core.specs.declared.refusal.Refusal as Refusals
 use Rattle.arrivals.specs.Arrivals.{AreMembersRead, IsMemberRead}
 use Rattle.arrivals.specs.NameReads.{FindsAt, IsAnswerByRead, IsByRead, IsNameRead, name_read}

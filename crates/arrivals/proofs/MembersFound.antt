@@ -17,7 +17,7 @@ use Rattle.make_info.specs.Reads.{Reads}
 use Rattle.package_files.specs.Runs.{Explains}
 use Rattle.package_changes.specs.Changes.{change_of_name, is_selected_named, names_on_both_sides}
 use Rattle.package_changes.specs.Placed.{PlacedName, PlacedReplacement, candidates_at, new_candidate, old_package, placed_name_of, placed_names_of, replacement_of}
-use Rattle.pool_core.specs.Rank.{SealedPool}
+use Rattle.candidate_core.specs.Rank.{SealedPool}
 use Rattle.report_core.specs.declared.refusal.Refusal as Refusals
 use Rattle.arrivals.specs.Answered.{StandsUnlessDisk}
 use Rattle.arrivals.specs.Arrivals.{AreMembersRead, CanBeMembers}

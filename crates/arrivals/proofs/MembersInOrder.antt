@@ -23,8 +23,8 @@ use Rattle.make_info.specs.Reads.{Reads}
 use Rattle.package_changes.specs.Changes.{Replacement, change_between, change_of_name, is_selected_named, names_on_both_sides}
 use Rattle.package_changes.specs.Placed.{PlacedReplacement, candidates_at, replacement_of}
 use Rattle.pkg_core.specs.Whole.{package_fault}
-use Rattle.pool_core.specs.Candidates.{Candidate}
-use Rattle.pool_core.specs.Rank.{SealedPool, candidate_at}
+use Rattle.candidate_core.specs.Candidates.{Candidate}
+use Rattle.candidate_core.specs.Rank.{SealedPool, candidate_at}
 use Rattle.report_core.specs.Reports.{Change, Purge}
 use Rattle.report_core.specs.declared.refusal.Refusal as Refusals
 

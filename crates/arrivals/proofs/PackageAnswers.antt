@@ -12,7 +12,7 @@ use Rattle.change_outcome.specs.PackageFiles.{ComingPackage, package_file_of, pa
 use Rattle.dep_core.specs.Repositories.{Repository}
 use Rattle.make_info.specs.Reads.{Reads}
 use Rattle.pkg_core.specs.Whole.{package_fault}
-use Rattle.pool_core.specs.Candidates.{Candidate}
+use Rattle.candidate_core.specs.Candidates.{Candidate}
 use Rattle.report_core.specs.Reports.{Change}
 use Rattle.report_core.specs.declared.refusal.Refusal as Refusals
 use Rattle.report_core.specs.declared.refusal.Refusal.TheVariants.{PackageBad, PackageMissing}

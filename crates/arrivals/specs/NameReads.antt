@@ -13,8 +13,8 @@ use Rattle.change_outcome.specs.PackageFiles.{ComingPackage, package_file_of, pa
 use Rattle.dep_core.specs.Repositories.{Repository}
 use Rattle.make_info.specs.Reads.{Reads}
 use Rattle.package_changes.specs.Placed.{PlacedName, new_candidate, old_package}
-use Rattle.pool_core.specs.Candidates.{Candidate}
-use Rattle.pool_core.specs.Rank.{SealedPool}
+use Rattle.candidate_core.specs.Candidates.{Candidate}
+use Rattle.candidate_core.specs.Rank.{SealedPool}
 use Rattle.report_core.specs.Reports.{Change}
 use Rattle.report_core.specs.declared.refusal.Refusal as Refusals
 use Rattle.arrivals.specs.Arrivals.{IsMemberRead}

@@ -166,6 +166,7 @@ fn read_name<T: Tree>(
 {
     readings_in_a_row_join::<TestedPackage, Option<MemberRead>, Refused>();
     let Some(change) = name.change else {
+        // Nothing becomes of the package: it stays, and no file is read.
         return Ok(staying(db, name.old));
     };
     match name.candidate(pool) {

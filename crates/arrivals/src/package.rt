@@ -12,7 +12,7 @@ ghost use Rattle.change_inputs.specs.Answers.{Agrees};
 ghost use Rattle.change_outcome.specs.PackageFiles.{ComingPackage, scripts_of_change, unless_different, unless_script};
 ghost use Rattle.package_changes.specs.Changes.{selected_version};
 ghost use Rattle.package_changes.specs.Seen.{change_seen};
-ghost use Rattle.pool_core.specs.Values.{candidate_value};
+ghost use Rattle.candidate_core.specs.Values.{candidate_value};
 ghost use Rattle.report_core.specs.declared.refusal.Refusal.TheVariants.{PackageBad, PackageMissing, PackageDiffers};
 ghost use Rattle.std.specs.Prelude.{◌≡◌, true, IfOk};
 ghost use Rattle.adb_schema.specs.Views.{package_value};

@@ -2,7 +2,7 @@
 //! The rule stands in `docs/commands.md`, "`add` and `del`", **What is read**: `NAME-VERSION.apk`
 //! beside the index that has the package; which bytes are a name, in "Words" there.
 ghost use Rattle.change_outcome.specs.PackageFiles.{folder_prefix, if_name, package_file_of, package_path};
-ghost use Rattle.pool_core.specs.Values.{candidate_value};
+ghost use Rattle.candidate_core.specs.Values.{candidate_value};
 ghost use Rattle.std.specs.Prelude.{◌≡◌, IfOk};
 
 use base_core::Name;

@@ -30,7 +30,7 @@ is_as_old (Some old) bytes = is_as_listed old bytes
 
 -- what becomes of a file that comes and is its owner's
 pub data Fate : Type 0 where
-  -- it takes the path
+  -- the file takes its path
   goes_in : Fate
   -- the user's file stays, and the new one is not laid down
   gives_way : Fate

@@ -26,12 +26,12 @@ if_aside l goes_in = None
 if_aside l gives_way = None
 if_aside l goes_aside = Some l
 
--- the file that takes this path
+-- the file that takes this path, if one does
 abbrev pub written_in : FileChange → Files → List ℕ → Option Listing
 written_in change files path =
     option_and_then (λ l. if_in l (fate_of change files l)) (coming_owner change path)
 
--- the file that is laid beside the one under this path
+-- the file that is laid beside the one under this path, if one is
 abbrev pub laid_beside : FileChange → Files → List ℕ → Option Listing
 laid_beside change files path =
     option_and_then (λ l. if_aside l (fate_of change files l)) (coming_owner change path)
@@ -42,13 +42,13 @@ abbrev pub path_beside : List ℕ → Option (List ℕ)
 path_beside name =
     if ends_with nat_eq name (codes ".apk-new") then Some (take (length name - 8) name) else None
 
--- the file whose contents this name gets
+-- the file whose contents this name gets, if one is written there
 unfoldable pub written_as : FileChange → Files → List ℕ → Option Listing
 written_as change files name =
     option_or (written_in change files name)
     (option_and_then (laid_beside change files) (path_beside name))
 
--- a file of a package is written under this name, be it its path or the name beside another
+-- whether a file of a package is written under this name, be it its path or the name beside another
 abbrev pub is_written : FileChange → Files → List ℕ → Bool
 is_written change files name = is_some (written_as change files name)
 

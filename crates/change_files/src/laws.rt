@@ -212,9 +212,11 @@ pub fn the_records_of_a_change_stand_under_their_names()
     ensures world { (change : FileChange) (bytes_of : Listing → List ℕ) (records : Records)
         (files : Files) → (records.world ≢ []) ⊎ IsSome (files world_name)
         → changed_files change bytes_of records files world_name ≡ Some records.world }
+    // A world that was absent and has nothing to say stays absent.
     ensures no_world { (change : FileChange) (bytes_of : Listing → List ℕ) (records : Records)
         (files : Files) → records.world ≡ [] → files world_name ≡ None
         → changed_files change bytes_of records files world_name ≡ None }
+    // A text database that was taken over is gone.
     ensures text { (change : FileChange) (bytes_of : Listing → List ℕ) (records : Records)
         (files : Files) → records.takes_text_over ≡ true
         → changed_files change bytes_of records files text_database_name ≡ None }
@@ -224,6 +226,7 @@ pub fn the_records_of_a_change_stand_under_their_names()
 
 /// The lists of a plan hold just the names that are written, removed, kept and laid aside.
 pub fn the_lists_of_a_plan_hold_just_its_names()
+    // A write stands in the list where something is written under its name, with that file.
     ensures writes { (change : FileChange) (files : Files) (write : FileWrite)
         → Contains (file_writes_of change files) write ↔ IsWriteOf change files write }
     ensures written { (change : FileChange) (files : Files) (name : List ℕ)

@@ -12,13 +12,13 @@ use Rattle.adb_view.specs.Plain.{Plain, Plains, none, more}
 use Rattle.command_core.proofs.Entries.{left_at}
 use Rattle.db_core.proofs.Places.{count_listed, nth_listed}
 use Rattle.dep_core.specs.Repositories.{Repository}
-use Rattle.pool_core.proofs.Installed.{counted_once, stands_last}
-use Rattle.pool_core.specs.Candidates.{Candidate, candidate_of, candidates_of_index, is_same_package, with_installed}
-use Rattle.pool_core.specs.Rank.{SealedPool, UpgradedNames, sealed_pool_by}
-use Rattle.pool_core.specs.Values.{IsPoolFault}
-use Rattle.pool_core.specs.declared.pool.PoolFault.{PoolFault}
-use Rattle.pool_core.specs.declared.pool.PoolFault.TheVariants as Pools
-use Rattle.pool_core.specs.declared.pool.TheConstants.{MOST_CANDIDATES}
+use Rattle.candidate_core.proofs.Installed.{counted_once, stands_last}
+use Rattle.candidate_core.specs.Candidates.{Candidate, candidate_of, candidates_of_index, is_same_package, with_installed}
+use Rattle.candidate_core.specs.Rank.{SealedPool, UpgradedNames, sealed_pool_by}
+use Rattle.candidate_core.specs.Values.{IsPoolFault}
+use Rattle.candidate_core.specs.declared.candidate_list.PoolFault.{PoolFault}
+use Rattle.candidate_core.specs.declared.candidate_list.PoolFault.TheVariants as Pools
+use Rattle.candidate_core.specs.declared.candidate_list.TheConstants.{MOST_CANDIDATES}
 use Rattle.report_core.specs.declared.refusal.Refusal.TheVariants.{TooMany}
 use Rattle.change_inputs.specs.Candidates.{candidates_from, candidates_of, installed_candidate, root_pool, with_all_installed}
 use Rattle.change_inputs.specs.Inputs.{Inputs}

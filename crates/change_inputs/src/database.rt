@@ -12,8 +12,8 @@ ghost use Rattle.change_inputs.specs.Answers.{Agrees};
 ghost use Rattle.change_inputs.specs.Candidates.{with_all_installed};
 ghost use Rattle.change_inputs.specs.Database.{container_database, new_database, root_database, text_database};
 ghost use Rattle.db_core.specs.Seen.{packages_of};
-ghost use Rattle.pool_core.specs.Values.{IsPoolFault};
-ghost use Rattle.pool_core.specs.declared.pool.TheConstants.{MOST_CANDIDATES};
+ghost use Rattle.candidate_core.specs.Values.{IsPoolFault};
+ghost use Rattle.candidate_core.specs.declared.candidate_list.TheConstants.{MOST_CANDIDATES};
 ghost use Rattle.std.specs.Option.{option_copied};
 ghost use Rattle.std.specs.Prelude.{◌≡◌, ◌≤◌, true, None, Ok, is_none, IfErr, IfOk, OnOk, length};
 ghost use Rattle.v2_core.specs.Payload.{IsV2Fault, payload_of_text};
@@ -31,6 +31,7 @@ use v2_core::{V2Fault, read_v2};
 pub(crate) struct DatabaseContainer {
     /// The bytes of the whole file.
     pub(crate) file: Vec<u8>,
+    // No test of the file as a database fails, so its payload is sound too.
     ghost passed: { is_none (first_fault Tables.Idb file.items) ≡ true },
     ghost sound: { is_none (payload_fault Tables.Idb (payload_in file.items)) ≡ true },
 }
@@ -40,6 +41,7 @@ pub(crate) struct DatabaseContainer {
 pub(crate) struct DatabasePayload {
     /// The bytes of the payload, which stands in no file.
     pub(crate) payload: Vec<u8>,
+    // No test of the payload as that of a database fails.
     ghost sound: { is_none (payload_fault Tables.Idb payload.items) ≡ true },
 }
 
@@ -147,9 +149,12 @@ impl DatabaseFile {
     /// `TooMany` where the candidates are more than a pool holds, or `Memory`.
     pub(crate) fn add_to<'a>(&'a self, pool: &mut Pool<'a>) -> Result<(), PoolFault>
         requires { length pool.old ≤ MOST_CANDIDATES }
+        // The pool still holds no more than it may.
         ensures fits { OnOk result (length pool.new ≤ MOST_CANDIDATES) }
+        // It has the installed packages then, each once.
         ensures ok { OnOk result (pool.new
             ≡ with_all_installed pool.old (database_seen self.entry.now).packages) }
+        // It is refused only for its count, or for want of memory.
         ensures fault { IfErr result (λ fault. IsPoolFault fault (length
             (with_all_installed pool.old (database_seen self.entry.now).packages))) }
     {
@@ -213,9 +218,12 @@ fn add_packages<'a>(
     packages: &List<'a, PackageView<'a>>,
 ) -> Result<(), PoolFault>
     requires { length pool.old ≤ MOST_CANDIDATES }
+    // The pool still holds no more than it may.
     ensures fits { OnOk result (length pool.new ≤ MOST_CANDIDATES) }
+    // It has these packages then, each once.
     ensures ok { OnOk result (pool.new
         ≡ with_all_installed pool.old (list_of (entries_in (list_value packages.now)))) }
+    // It is refused only for its count, or for want of memory.
     ensures fault { IfErr result (λ fault. IsPoolFault fault (length
         (with_all_installed pool.old (list_of (entries_in (list_value packages.now)))))) }
 {

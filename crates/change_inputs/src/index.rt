@@ -32,6 +32,7 @@ use std::alloc::{AllocError, Global};
 pub(crate) struct IndexFiles {
     /// The bytes of each file, in the order of the repositories.
     pub(crate) files: Vec<Vec<u8>>,
+    // No test of a file as an index fails.
     ghost sound: { are_indexes (bytes_of_each files.items) ≡ true },
 }
 
@@ -91,10 +92,14 @@ pub(crate) fn read_index_files<T: Tree>(
     repositories: &Repos,
     tree: &mut T,
 ) -> Result<Vec<Vec<u8>>, Refused>
+    // What is found stands there, where the tree shows its files; the files are all of it, or the
+    // first absent one is refused.
     ensures found { (found : List (Option (List ℕ)))
         × StandAt (T.history tree.old) repositories.now found
         × AgreesUnlessDisk (λ files. bytes_of_each files.items) result (index_files_from 1 found) }
+    // There is one file for each repository.
     ensures count { IfOk result (λ files. length files.items ≡ length repositories.now) }
+    // The tree is only read; a fault of it has its cause.
     ensures tree { OnlyReads Refused.Disk (T.history tree.old) (T.history tree.new)
         (T.counts tree.old) (T.counts tree.new) result }
 {

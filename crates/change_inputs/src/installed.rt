@@ -18,6 +18,7 @@ use std::alloc::{AllocError, Global};
 /// The database of a root, which passed its tests. Its bytes are kept.
 #[derive(Drop)]
 pub struct Installed {
+    /// The database, or that one is begun.
     database: DatabaseFile,
 }
 
@@ -35,8 +36,11 @@ impl Installed {
         command: &Command,
         tree: &mut T,
     ) -> Result<Installed, Refused>
+        // It is the database of some contents at each read; where the tree shows its files, of
+        // these.
         ensures found { Explains (T.history tree.old) (λ read.
             AgreesUnlessDisk installed_seen result (database_for command.now read)) }
+        // The tree is only read; a fault of it has its cause.
         ensures tree { OnlyReads Refused.Disk (T.history tree.old) (T.history tree.new)
             (T.counts tree.old) (T.counts tree.new) result }
     {

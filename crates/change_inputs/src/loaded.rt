@@ -8,8 +8,8 @@ ghost use Rattle.change_inputs.specs.Inputs.{inputs_of};
 ghost use Rattle.change_inputs.specs.RootFiles.{StandInRoot};
 ghost use Rattle.db_core.specs.Seen.{packages_of};
 ghost use Rattle.package_files.specs.Runs.{Explains};
-ghost use Rattle.pool_core.specs.declared.pool.TheConstants.{MOST_CANDIDATES};
-ghost use Rattle.pool_core.specs.Values.{IsPoolFault, names_upgraded_by};
+ghost use Rattle.candidate_core.specs.declared.candidate_list.TheConstants.{MOST_CANDIDATES};
+ghost use Rattle.candidate_core.specs.Values.{IsPoolFault, names_upgraded_by};
 ghost use Rattle.std.specs.Option.{option_copied};
 ghost use Rattle.std.specs.Prelude.{◌≡◌, ◌≤◌, [], IfErr, IfOk, OnOk, length};
 
@@ -27,8 +27,11 @@ use std::alloc::{AllocError, Global};
 /// passed their tests, and the bytes are kept.
 #[derive(Drop)]
 pub struct Loaded {
+    /// What the files of the root say.
     root: TestedRoot,
+    /// The files of the indexes, one for each repository.
     indexes: IndexFiles,
+    // Each repository has its index.
     ghost paired: { length indexes.files.items ≡ length root.repositories },
 }
 
@@ -45,8 +48,11 @@ impl Loaded {
     /// `RepositoriesBad`; `Untrusted`; `IndexMissing` of the first index that is absent; `IndexBad`
     /// of the first one that fails a test. `Disk` where the tree failed, and `Memory`.
     pub fn read<T: Tree>(alloc: Global, command: &Command, tree: &mut T) -> Result<Loaded, Refused>
+        // It is what some contents at each read say; where the tree shows its files, what these
+        // say.
         ensures found { Explains (T.history tree.old) (λ read.
             AgreesUnlessDisk inputs_seen result (inputs_of command.now read)) }
+        // The tree is only read; a fault of it has its cause.
         ensures tree { OnlyReads Refused.Disk (T.history tree.old) (T.history tree.new)
             (T.counts tree.old) (T.counts tree.new) result }
     {
@@ -146,8 +152,10 @@ impl Loaded {
     // The candidates of the indexes, and then those of the database, up to the most that a pool
     // holds.
     fn candidates(&self, alloc: Global) -> Result<Pool<'_>, PoolFault>
+        // They are all candidates, where they are not too many.
         ensures ok { IfOk result (λ pool. pool ≡ candidates_of (inputs_seen self.now)) }
         ensures fits { IfOk result (λ pool. length pool ≤ MOST_CANDIDATES) }
+        // They are refused only for their count, or for want of memory.
         ensures fault { IfErr result (λ fault.
             IsPoolFault fault (length (candidates_of (inputs_seen self.now)))) }
     {
@@ -161,6 +169,7 @@ impl Loaded {
     fn add_indexes<'a>(&'a self, pool: &mut Pool<'a>) -> Result<(), PoolFault>
         requires { pool.old ≡ [] }
         ensures fits { OnOk result (length pool.new ≤ MOST_CANDIDATES) }
+        // The pool has the packages of each index then, repository by repository.
         ensures ok { OnOk result (pool.new
             ≡ candidates_from 1 self.entry.now.root.repositories
             (indexes_seen self.entry.now.indexes)) }

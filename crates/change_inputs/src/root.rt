@@ -54,8 +54,11 @@ pub(crate) struct TestedRoot {
 
 /// Reads the files of a root: first the databases, then world and the repositories.
 pub(crate) fn read_root<T: Tree>(alloc: Global, tree: &mut T) -> Result<RootFiles, Refused>
+    // Each file stands under its name, where the tree shows its files.
     ensures found { IfOk result (λ files. StandInRoot (T.history tree.old) files) }
+    // Nothing is refused here.
     ensures failed { IfErr result IsFailure }
+    // The tree is only read; a fault of it has its cause.
     ensures tree { OnlyReads Refused.Disk (T.history tree.old) (T.history tree.new)
         (T.counts tree.old) (T.counts tree.new) result }
 {
@@ -78,10 +81,13 @@ pub(crate) fn read_databases<T: Tree>(
     alloc: Global,
     tree: &mut T,
 ) -> Result<(Option<Vec<u8>>, Option<Vec<u8>>), Refused>
+    // The database stands there, where the tree shows its files.
     ensures database { IfOk result (λ found.
         StandsAt (T.history tree.old) database_name (bytes_in found.0)) }
+    // So does the text database, which counts only where there is no other.
     ensures text_database { IfOk result (λ found. bytes_in found.0 ≡ None
         → StandsAt (T.history tree.old) text_database_name (bytes_in found.1)) }
+    // Nothing is refused here.
     ensures failed { IfErr result IsFailure }
     ensures tree { OnlyReads Refused.Disk (T.history tree.old) (T.history tree.new)
         (T.counts tree.old) (T.counts tree.new) result }
@@ -134,8 +140,10 @@ pub(crate) fn read_file<T: Tree>(
     tree: &mut T,
     name: &Name,
 ) -> Result<Option<Vec<u8>>, Refused>
+    // It stands there, where the tree shows its files.
     ensures found { IfOk result (λ found.
         StandsAt (T.history tree.old) name.now (bytes_in found)) }
+    // Nothing is refused here.
     ensures failed { IfErr result IsFailure }
     ensures tree { OnlyReads Refused.Disk (T.history tree.old) (T.history tree.new)
         (T.counts tree.old) (T.counts tree.new) result }
@@ -145,8 +153,10 @@ pub(crate) fn read_file<T: Tree>(
 
 /// Makes all tests of a file as a container with this table at its root.
 pub(crate) fn test_file(alloc: Global, file: &[u8], which: Which) -> Result<(), ReadFault>
+    // What is refused is the first test that the file fails.
     ensures bad { IfErr result (λ fault. IsReadFault fault (first_fault which file.now)) }
     ensures passed { OnOk result (first_fault which file.now ≡ None) }
+    // Then its payload passes the tests of a payload too.
     ensures sound { OnOk result (payload_fault which (payload_in file.now) ≡ None) }
 {
     read_adb(alloc, file, which)?;
@@ -183,6 +193,7 @@ impl From<AllocError> for Refused {
     ghost use Rattle.std.specs.Prelude.{◌≡◌};
     ghost use Rattle.change_inputs.specs.declared.root.Refused.TheVariants.{Memory};
 
+    // What becomes of it, as a caller that uses `?` sees it.
     ghost from_gives = { λ _ refused. refused ≡ Memory };
 
     // Want of memory, as a command tells it.
@@ -194,6 +205,7 @@ impl From<AllocError> for Refused {
 impl From<TreeFault> for Refused {
     ghost use Rattle.change_inputs.specs.Faults.{IsRefusedOf};
 
+    // What becomes of it, as a caller that uses `?` sees it.
     ghost from_gives = { λ fault refused. IsRefusedOf fault refused };
 
     // A fault of the tree, as a command tells it.

@@ -32,9 +32,12 @@ pub(crate) fn worlds_of(
     command: &Command,
     found: Option<Vec<u8>>,
 ) -> Result<Worlds, Refused>
+    // World before the command is that of the file, or its first bad line is refused.
     ensures read { Agrees (λ worlds. worlds.before) result
         (root_world (text_found (bytes_in found))) }
+    // The file's text is kept, by which a change tells whether world differs.
     ensures text { IfOk result (λ worlds. worlds.text.items ≡ text_found (bytes_in found)) }
+    // World after is what the command makes of it.
     ensures after { IfOk result (λ worlds.
         worlds.after ≡ new_world command.now.applet command.now.operands worlds.before) }
 {

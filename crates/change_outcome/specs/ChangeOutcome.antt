@@ -136,7 +136,7 @@ does_something actions = not (length actions.removals == 0) || not (length actio
 
 -- ---- the report
 
--- the size that a package has when it is installed
+-- the bytes that a package takes when it is installed, as its information says
 abbrev pub member_size : Member → ℕ
 member_size m = int_in (entry_in (entry_in m.pkg PACKAGE_INFO) INFO_INSTALLED_SIZE)
 
@@ -218,9 +218,9 @@ change_or_refusal inputs r wishes read clash files =
 
 -- ---- the first clash
 
--- It is the first clash of the names after the change, where the packages after it are found; else
--- nothing is asked, and there is none. By these files configuration is kept or a file is laid beside
--- it, and among the standing ones names clash.
+-- The first clash of the names after a change, where the packages after it are found; else nothing
+-- is asked, and there is none. By `files` configuration is kept or a file is laid beside it, and
+-- among the `standing` ones names clash.
 abbrev pub IsClashFoundOver :
     Inputs → ChangeWishes → Files → Files → Result (List MemberFound) Refusal → Option NamePair
     → Type 0

@@ -27,11 +27,12 @@ pub record PathLine : Type 0 where
 abbrev pub path_line : (List ℕ → List ℕ) → List ℕ → PathLine
 path_line line_of path = record { path = path; line = line_of path }
 
--- the order of such lines: by path
+-- the order of lines on configuration: by path
 abbrev pub path_line_cmp : PathLine → PathLine → Ordering
 path_line_cmp = on (λ l. l.path) bytes_cmp
 
--- a line for each path of both lists, in byte order of the paths
+-- the lines on configuration, in byte order of the paths: one for each path beside which a file is
+-- laid, and one for each at which the user's file stays
 unfoldable pub configuration_lines : List (List ℕ) → List (List ℕ) → List ℕ
 configuration_lines aside kept = flat_map (λ l. l.line)
     (sorted_by path_line_cmp (map (path_line aside_line) aside ++ map (path_line kept_line) kept))

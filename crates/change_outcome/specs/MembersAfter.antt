@@ -13,7 +13,7 @@ use Rattle.dep_core.specs.Repositories.{Repository}
 use Rattle.make_info.specs.Reads.{Reads}
 use Rattle.package_changes.specs.Changes.{Replacement, change_of_name, is_selected_named, names_on_both_sides}
 use Rattle.pkg_core.specs.Contents.{Contents}
-use Rattle.pool_core.specs.Candidates.{Candidate}
+use Rattle.candidate_core.specs.Candidates.{Candidate}
 use Rattle.report_core.specs.Reports.{Change}
 use Rattle.report_core.specs.declared.refusal.Refusal.{Refusal}
 use Rattle.change_outcome.specs.PackageFiles.{ComingPackage, package_file_of, package_found, scripts_of_change, unless_script}
@@ -46,8 +46,8 @@ name_that_comes read repositories no_scripts n name change c =
     and_then (coming_by_path read n c (package_file_of repositories c)) (λ pkg.
     unless_script no_scripts name pkg.value (scripts_of_change change) (Some (coming_found pkg)))
 
--- what becomes of a package that goes: it is no member any more, unless a script of its refuses
--- that
+-- what becomes of a package that goes: it is no member any more, unless one of its scripts would
+-- have to run, which refuses that
 abbrev pub name_that_goes :
     Bool → List ℕ → Change → Option Plain → Result (Option MemberFound) Refusal
 name_that_goes no_scripts name change None = Ok None
@@ -64,8 +64,8 @@ name_by_selected read repositories no_scripts n name change before None =
 name_by_selected read repositories no_scripts n name change before (Some c) =
     name_that_comes read repositories no_scripts n name change c
 
--- what a name comes to, a member or none, by what becomes of its package; where nothing does, the
--- package stays
+-- what a name comes to, a member or none, by what becomes of its package; a package of which nothing
+-- becomes stays. `n` is the number of the read of its file
 abbrev pub name_by_change :
     Reads → List Repository → Bool → ℕ → List ℕ → Option Change → Option Plain
     → Option Candidate → Result (Option MemberFound) Refusal

@@ -16,7 +16,7 @@ use Rattle.file_owners.specs.Replaces.{version_text}
 use Rattle.package_changes.specs.Changes.{selected_version}
 use Rattle.pkg_core.specs.Contents.{Contents, contents_in}
 use Rattle.pkg_core.specs.Whole.{files_in_file, package_fault, package_id}
-use Rattle.pool_core.specs.Candidates.{Candidate, is_same_id}
+use Rattle.candidate_core.specs.Candidates.{Candidate, is_same_id}
 use Rattle.report_core.specs.Reports.{Change, Downgrade, Install, Purge, Reinstall, Replace, Upgrade, name_version}
 use Rattle.report_core.specs.declared.refusal.Refusal.{Refusal}
 use Rattle.report_core.specs.declared.refusal.Refusal.TheVariants.{PackageBad, PackageDiffers, PackageMissing, ScriptNeeded}
@@ -73,7 +73,8 @@ package_in_file file = record {
   contents = contents_in (files_in_file file);
 }
 
--- of the fields that have to agree with the index (table 3), the number of the name
+-- the number of a name in the table of package information (table 3); it, version and id have to
+-- agree with the index
 abbrev pub name_field : ℕ
 name_field = 1
 
@@ -155,8 +156,8 @@ abbrev pub unless_number : {A : Type 0} → List ℕ → Option ℕ → A → Re
 unless_number name None a = Ok a
 unless_number name (Some number) a = Err (ScriptNeeded name number)
 
--- a value, unless one of these scripts of a package would have to run and there is no leave to
--- leave it out
+-- a value, unless one of these scripts of a package would have to run, and scripts may not be left
+-- out
 abbrev pub unless_script :
     {A : Type 0} → Bool → List ℕ → Plain → List ℕ → A → Result A Refusal
 unless_script true name pkg numbers a = Ok a

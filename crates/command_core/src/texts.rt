@@ -15,9 +15,9 @@ use dep_core::without_slash;
 use std::alloc::{AllocError, Global};
 use std::str;
 
-// The longest path of a file that is made: with `.apk-tmp` behind it, eight bytes more, it is still
-// a name, which has at most 1,024 bytes.
-const LONGEST_OUTPUT: usize = 1016;
+/// The longest path of a file that is made, in bytes: with `.apk-tmp` behind it, eight bytes more,
+/// it is still a name, which has at most 1,024.
+pub const LONGEST_OUTPUT: usize = 1016;
 
 // The largest number of packages that `demo` makes.
 const LARGEST_DEMO: u32 = 20000;
@@ -92,9 +92,9 @@ fn is_script_type(text: &[u8]) -> bool
     is_among(&SCRIPT_TYPES, text)
 }
 
-// Whether a text is one of some.
-fn is_among(texts: &[&[u8]], text: &[u8]) -> bool
-    ensures { result ≡ list_any (λ t. bytes_eq t.now text.now) texts.now }
+/// Whether a text is one of some.
+pub fn is_among(texts: &[&[u8]], text: &[u8]) -> bool
+    ensures { result ≡ list_any (λ one. bytes_eq one.now text.now) texts.now }
 {
     texts.iter().any(|one| *one == text)
 }
@@ -144,8 +144,8 @@ pub(crate) fn is_demo_number(text: &[u8]) -> bool
     }
 }
 
-// Whether a text is a decimal number without leading zeros.
-fn is_decimal(text: &[u8]) -> bool
+/// Whether a text is a decimal number without leading zeros.
+pub fn is_decimal(text: &[u8]) -> bool
     ensures { result ≡ is_decimal text.now }
 {
     if text.is_empty() || has_zero_in_front(text) {

@@ -18,7 +18,7 @@ use Rattle.adb_view.specs.Head.{head_fault, root_of}
 use Rattle.container_laws.specs.HeaderFaults.{IsHeaderFault}
 use Rattle.pkg_core.specs.Whole.{behind_fault, root_of_schema}
 
--- of tests in their order, one has this fault, and none before it has any
+-- the fault of tests in their order: one test has it, and none before that has any
 pub record IsFirstFailing (tests : List (Option Cause)) (c : Cause) : Type 0 where
   pub place : ℕ
   pub fails : slice_get tests place ≡ Some (Some c)

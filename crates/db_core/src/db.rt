@@ -37,10 +37,13 @@ pub struct Db<'a> {
     pub(crate) idb: Option<IdbView<'a>>,
     /// The names of the packages in byte order, each with the place of its package.
     pub(crate) names: Vec<NamePlace<'a>>,
+    // The names are those of the packages, in byte order.
     ghost by_name: { map name_seen names.items
         ≡ placed_names_in_order (packages_by (option_map idb_value idb)) },
+    // Each path that a package lists is a name, and none is reserved.
     ghost named: { list_all lists_names (packages_by (option_map idb_value idb)) ≡ true },
     ghost free: { list_all lists_no_reserved (packages_by (option_map idb_value idb)) ≡ true },
+    // The database passed all tests: its value is sound.
     ghost sound: { ∥ IsSoundDatabaseIfAny (option_map idb_value idb) ∥₁ },
 }
 
@@ -127,6 +130,7 @@ impl<'a> Db<'a> {
     {
         match &self.idb {
             Some(idb) => package_at(&idb.packages(), i),
+            // A database without a view has no package.
             None => unreachable!(),
         }
     }
@@ -153,13 +157,15 @@ impl<'a> Db<'a> {
         }
     }
 
-    /// Each path that a package of the database lists is a name.
+    /// Each path that a package of the database lists is a name, so that a file may be removed
+    /// under it.
     pub fn listed_paths_are_names(&self)
         ensures { All (λ l. IsName l.path)
             (member_listings (map staying_member (packages_of self.now))) }
     {}
 
-    /// No path that a package of the database lists is reserved.
+    /// No path that a package of the database lists is reserved: no change removes one of the
+    /// package keeper's own files as a package's.
     pub fn no_listed_path_is_reserved(&self)
         ensures { All (λ l. is_reserved l.path ≡ false)
             (member_listings (map staying_member (packages_of self.now))) }
@@ -172,6 +178,7 @@ fn first_payload(bytes: &[u8]) -> &[u8]
     requires { first_fault Tables.Idb bytes.now ≡ None }
     ensures { result.now ≡ payload_in bytes.entry.now }
 {
+    // The file passes all tests, so it has a first block.
     let Ok(mut blocks) = Blocks::new(bytes) else {
         unreachable!()
     };
@@ -196,6 +203,7 @@ fn open_root(payload: &[u8]) -> IdbView<'_>
     requires sound { is_sound payload.now (Kinds.Obj Tables.Idb) (root_of payload.now) ≡ true }
     ensures { idb_value result ≡ root_value Tables.Idb payload.now }
 {
+    // The head passes its test, by the contract.
     let Ok(adb) = Adb::new(payload) else {
         unreachable!()
     };
@@ -207,6 +215,7 @@ fn package_at<'a>(packages: &List<'a, PackageView<'a>>, i: usize) -> PackageView
     requires { i < count_of (entries_in (list_value packages.now)) }
     ensures { package_value result ≡ entry_in (list_value packages.now) i }
 {
+    // Never so, by the contract; `len` tells that a list has less than 2^32 entries.
     if i >= packages.len() {
         unreachable!();
     }

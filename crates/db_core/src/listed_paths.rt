@@ -31,6 +31,7 @@ fn is_path_in_folder<'a>(folders: &List<'a, DirInfo<'a>>, i: usize, path: &[u8])
     ensures { result ≡ list_any (bytes_eq path.now)
         (paths_under (entry_in (list_value folders.now) i)) }
 {
+    // Never so, by the contract; `len` tells that a list has less than 2^32 entries.
     if i >= folders.len() {
         unreachable!();
     }
@@ -57,6 +58,7 @@ fn is_path_of_file<'a>(files: &List<'a, FileInfo<'a>>, i: usize, folder: &[u8], 
     ensures { result ≡ bytes_eq path.now
         (path_of folder.now (name_of (entry_in (list_value files.now) i))) }
 {
+    // Never so, by the contract; `len` tells that a list has less than 2^32 entries.
     if i >= files.len() {
         unreachable!();
     }
@@ -68,6 +70,7 @@ fn is_path_of_file<'a>(files: &List<'a, FileInfo<'a>>, i: usize, folder: &[u8], 
 fn is_path(path: &[u8], folder: &[u8], name: &[u8]) -> bool
     ensures { result ≡ bytes_eq path.now (path_of folder.now name.now) }
 {
+    // A path in the root is the name alone.
     if folder.is_empty() {
         return path == name;
     }

@@ -60,10 +60,14 @@ impl<'a> Model for PackageWithId<'a> {
 pub struct Members<'a> {
     /// The packages, in byte order of their names.
     pub(crate) entries: Vec<PackageWithId<'a>>,
+    // The packages stand in byte order of their names, each name once.
     ghost in_order: { IsRising (map (λ e. member_name (member_by e)) entries.items) },
+    // There are no more packages than there may be.
     ghost few: { length entries.items ≤ MOST_MEMBERS },
+    // Each path that a package lists is a name; one that stays lists no reserved path.
     ghost named: { list_all (λ e. lists_names (member_by e).pkg) entries.items ≡ true },
     ghost free: { list_all (λ e. comes_or_lists_no_reserved (member_by e)) entries.items ≡ true },
+    // The packages come out of sound containers.
     ghost sound: { ∥ AreOfSoundContainers (map member_by entries.items) ∥₁ },
 }
 
@@ -204,30 +208,34 @@ impl<'a> Members<'a> {
         self.entries[i].id
     }
 
-    /// Members stand in byte order of their names, each name once.
+    /// Members stand in byte order of their names, each name once. The writer of a database asks
+    /// for it, since a database lists its packages in that order.
     pub fn members_are_in_order(&self)
         ensures { AreInOrder (members_of self.now) }
     {}
 
-    /// Each path that a member lists is a name.
+    /// Each path that a member lists is a name, so that a file may be written under it.
     pub fn listed_paths_are_names(&self)
         ensures { All (λ l. IsName l.path) (member_listings (members_of self.now)) }
     {}
 
-    /// No path that a member which stays lists is reserved.
+    /// No path that a member which stays lists is reserved, since its database passed the tests; a
+    /// package that comes may list one.
     pub fn no_path_that_stays_is_reserved(&self)
         ensures { All (λ l. is_coming l.member ≡ false → is_reserved l.path ≡ false)
             (member_listings (members_of self.now)) }
     {}
 
-    /// The packages come out of sound containers.
+    /// The packages come out of sound containers, so that what is read of them need not be judged
+    /// again, and a database of them is sound.
     pub fn packages_are_sound(&self)
         ensures { ∥ AreOfSoundContainers (members_of self.now) ∥₁ }
     {}
 }
 
 /// Each file that members list stands at its places: the member at the one among members, the
-/// folder and the file at those in it. Its path is that of the folder and the file.
+/// folder and the file at those in it. Its path is that of the folder and the file. So a claim
+/// leads back to the entry of its file.
 pub fn listings_stand_at_their_places()
     ensures { (members : List Member) (i : ℕ) (l : Listing)
         → slice_get (member_listings members) i ≡ Some l → IsListedAt members l }

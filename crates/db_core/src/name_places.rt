@@ -58,6 +58,7 @@ fn name_at<'a>(packages: &List<'a, PackageView<'a>>, i: usize) -> &'a [u8]
     requires { i < count_of (entries_in (list_value packages.now)) }
     ensures { result.now ≡ package_name (entry_in (list_value packages.now) i) }
 {
+    // Never so, by the contract; `len` tells that a list has less than 2^32 entries.
     if i >= packages.len() {
         unreachable!();
     }

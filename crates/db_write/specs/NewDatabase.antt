@@ -85,7 +85,7 @@ packages_after members flags = each_by_flags member_file_count package_after mem
 unfoldable pub database_value : List Member → List Bool → Plain
 database_value members flags = obj_value (more (arr_value (packages_after members flags)) none)
 
--- the container of a payload, unless that passes a limit of the writer
+-- the file of a database with this payload, unless the payload passes a limit of the writer
 abbrev pub database_container : Result (List ℕ) PayloadCounts → Result (List ℕ) PayloadCounts
 database_container (Ok payload) = Ok (file_of IDB_WORD payload)
 database_container (Err counts) = Err counts

@@ -7,7 +7,7 @@ use Rattle.adb_view.specs.Plain.{Plain}
 use Rattle.db_core.specs.Members.{Member, staying_member}
 use Rattle.db_write.specs.NewDatabase.{member_file_count, total_of}
 
--- the packages of a database, as members none of which comes
+-- packages that all stay, as members
 abbrev pub staying_members : List Plain → List Member
 staying_members packages = map staying_member packages
 

@@ -83,6 +83,7 @@ fn write_folder_list<'a>(
     for i in 0..folders.len() {
         let folder = entry_word(folders, i);
         write_folder(draft, adb, &mut known, folder, left)?;
+        // The next folder takes the flags behind those of this one.
         left = flags_behind_folder(adb, folder, left);
     }
     draft.close_array()

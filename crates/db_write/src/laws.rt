@@ -133,6 +133,7 @@ pub fn a_package_keeps_its_information()
 pub fn a_package_keeps_its_folders()
     ensures names { (m : Member) (flags : List Bool)
         → map name_of (folders_in (package_after m flags)) ≡ map name_of (folders_in m.pkg) }
+    // 1 is the index of the access list of a folder.
     ensures acls { (m : Member) (flags : List Bool)
         → map (λ folder. entry_in folder 1) (folders_in (package_after m flags))
         ≡ map (λ folder. without_zeros (entry_in folder 1)) (folders_in m.pkg) }
@@ -150,10 +151,13 @@ pub fn a_database_keeps_the_entries_of_owned_files()
 /// A package in a new database has the scripts, the triggers and the priority in replacing that it
 /// had, where an integer 0 is Null.
 pub fn a_package_keeps_its_scripts_and_its_priority()
+    // 2 is the index of `scripts` among the fields of a package.
     ensures scripts { (m : Member) (flags : List Bool)
         → entry_in (package_after m flags) 2 ≡ without_zeros (entry_in m.pkg 2) }
+    // 3 is that of `triggers`.
     ensures triggers { (m : Member) (flags : List Bool)
         → entry_in (package_after m flags) 3 ≡ without_zeros (entry_in m.pkg 3) }
+    // 4 is that of `replaces-priority`.
     ensures priority { (m : Member) (flags : List Bool)
         → int_in (entry_in (package_after m flags) 4) ≡ int_in (entry_in m.pkg 4) }
 {}

@@ -42,6 +42,7 @@ pub(crate) fn write_packages(
     for i in 0..members.len() {
         let pkg = members.view(i);
         write_package(alloc, draft, pkg, members.id(i), left)?;
+        // The next package takes the flags behind those of this one.
         left = flags_behind(pkg, left);
     }
     draft.close_array()

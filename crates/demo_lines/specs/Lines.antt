@@ -22,7 +22,7 @@ demo_version i = codes "1." ++ (digit_at 1 (i % 7) ∷ codes "-r" ++ (digit_at 1
 abbrev pub demo_folder : ℕ → List ℕ
 demo_folder i = codes "demo/" ++ demo_name i
 
--- the one file below that folder
+-- the path of the one file that package i is made of
 abbrev pub demo_file : ℕ → List ℕ
 demo_file i = demo_folder i ++ codes "/usr/share/demo/" ++ demo_name i
 

@@ -6,8 +6,8 @@ use Rattle.std.specs.Char.{is_ascii_alphanumeric}
 use Rattle.std.specs.List.{list_all, list_any}
 
 -- what a package needs or excludes: a name, the wanted version if one is named, the match bits
--- against it (1 equal, 2 less, 4 greater, 8 the fuzzy match), whether it excludes what meets it,
--- and the tag that world gives the name
+-- against it (1 equal, 2 less, 4 greater, 8 the fuzzy match; 1 where no version is named), whether
+-- it excludes what meets it, and the tag that world gives the name
 pub record Dependency : Type 0 where
   pub name : List ℕ
   pub version : Option (List ℕ)

@@ -25,7 +25,8 @@ operator_bits text = lookup (bytes_eq text) (operators ++ ((codes "=~", 9) ∷ (
 abbrev pub is_not_at : ℕ → Bool
 is_not_at b = not (b == 64)
 
--- a dependency on any version
+-- a dependency on any version; as each one without a wanted version it has the match bits of the
+-- operator `=`, which are 1
 abbrev pub any_version : Bool → List ℕ → Dependency
 any_version conflict name = dependency_by name None 1 conflict None
 

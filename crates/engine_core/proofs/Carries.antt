@@ -38,7 +38,7 @@ use Rattle.change_files.specs.NamesAfter.{name_change}
 use Rattle.db_core.specs.Members.{Member, is_coming}
 use Rattle.own_core.specs.Planned.{IsOfComingFile, IsOpenName, written_names}
 use Rattle.path_clashes.specs.Clash.{HasNoClash}
-use Rattle.pool_core.specs.Candidates.{Candidate}
+use Rattle.candidate_core.specs.Candidates.{Candidate}
 use Rattle.own_core.specs.WritesSeen.{writes_in}
 use Rattle.base_core.specs.declared.cause.Cause.{Cause}
 use Rattle.report_core.specs.declared.refusal.Refusal.{Refusal}

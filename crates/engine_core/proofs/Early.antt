@@ -20,7 +20,7 @@ use Rattle.make_info.specs.Reads.{Reads}
 use Rattle.package_files.specs.Runs.{AreObserved}
 use Rattle.path_clashes.specs.Clash.{NamePair}
 use Rattle.package_changes.specs.Changes.{Replacement}
-use Rattle.pool_core.specs.Candidates.{Candidate}
+use Rattle.candidate_core.specs.Candidates.{Candidate}
 use Rattle.report_core.specs.declared.refusal.Refusal.{Refusal}
 use Rattle.engine_core.specs.ChangeRun.{ComesTo, DoesCommit, IsNoneOrCommit, report_as_is, report_in, coming_in}
 use Rattle.engine_core.specs.Changed.{IsClashOfSelected, IsClashUnlessSimulated, Selected, change_of_selected}

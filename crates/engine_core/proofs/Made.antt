@@ -27,8 +27,8 @@ use Rattle.package_changes.specs.Placed.{candidates_at, placed_names_of, replace
 use Rattle.package_changes.specs.Seen.{placed_names_seen, replacement_by}
 use Rattle.package_changes.specs.declared.placed.PlacedNames.{PlacedNames}
 use Rattle.path_clashes.specs.Clash.{NamePair}
-use Rattle.pool_core.specs.Rank.{SealedPool}
-use Rattle.pool_core.specs.declared.pool.TheConstants.{MOST_CANDIDATES}
+use Rattle.candidate_core.specs.Rank.{SealedPool}
+use Rattle.candidate_core.specs.declared.candidate_list.TheConstants.{MOST_CANDIDATES}
 use Rattle.report_core.specs.declared.refusal.Refusal.{Refusal}
 use Rattle.engine_core.specs.ChangeRun.{ComesTo}
 use Rattle.engine_core.specs.Changed.{IsClashOfSelectedOver, IsClashUnlessSimulatedOver, change_of_selected, simulated_change}

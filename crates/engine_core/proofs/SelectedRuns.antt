@@ -12,7 +12,7 @@ use Rattle.change_inputs.specs.declared.root.Refused.TheVariants.{Disk, Memory, 
 use Rattle.change_outcome.specs.ChangeOutcome.{ChangeDone, change_or_refusal}
 use Rattle.command_core.specs.Command.{CommandLine}
 use Rattle.report_changes.specs.Report.{simulated_report}
-use Rattle.pool_core.specs.Rank.{SealedPool}
+use Rattle.candidate_core.specs.Rank.{SealedPool}
 use Rattle.report_core.specs.declared.refusal.Refusal.{Refusal}
 use Rattle.report_core.specs.declared.refusal.Refusal.TheVariants.{NotInstalled}
 use Rattle.engine_core.specs.Changed.{Selected, selected_by, selected_of_inputs, simulated_change}

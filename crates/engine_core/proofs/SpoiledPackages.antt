@@ -20,7 +20,7 @@ use Rattle.file_owners.specs.Replaces.{version_text}
 use Rattle.package_changes.specs.Changes.{selected_version}
 use Rattle.package_test.specs.Tested.{IsTestedOf}
 use Rattle.package_test.specs.declared.package.TestedPackage.{TestedPackage}
-use Rattle.pool_core.specs.Candidates.{Candidate, is_same_id}
+use Rattle.candidate_core.specs.Candidates.{Candidate, is_same_id}
 use Rattle.stage_files.specs.Spoiled.{IsSpoiledFile}
 use Rattle.engine_core.specs.ChangeRun.{IsSpoiledPackage}
 use Rattle.engine_core.specs.Finishing.{IsOfCandidate}

@@ -21,8 +21,8 @@ use Rattle.make_info.specs.Reads.{Reads}
 use Rattle.package_files.specs.Runs.{AreObserved, Explains}
 use Rattle.package_changes.specs.Changes.{Replacement}
 use Rattle.path_clashes.specs.Clash.{NamePair}
-use Rattle.pool_core.specs.Candidates.{Candidate}
-use Rattle.pool_core.specs.Rank.{SealedPool}
+use Rattle.candidate_core.specs.Candidates.{Candidate}
+use Rattle.candidate_core.specs.Rank.{SealedPool}
 use Rattle.report_core.specs.declared.refusal.Refusal.{Refusal}
 use Rattle.change_laws.specs.Premises.{IsRootOfFiles}
 use Rattle.engine_core.specs.Finishing.{IsRootRead}

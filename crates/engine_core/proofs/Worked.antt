@@ -12,8 +12,8 @@ use Rattle.command_core.specs.declared.operands.Operand.{Operand}
 use Rattle.dep_core.specs.Dependency.{Dependency, dependency_by}
 use Rattle.package_changes.specs.Changes.{change_of_name, changes_of}
 use Rattle.change_files.specs.PlanLists.{names_in_order}
-use Rattle.pool_core.specs.Candidates.{Candidate, candidate_by, named}
-use Rattle.pool_core.specs.Rank.{is_better, rank_cmp, sealed_pool_by}
+use Rattle.candidate_core.specs.Candidates.{Candidate, candidate_by, named}
+use Rattle.candidate_core.specs.Rank.{is_better, rank_cmp, sealed_pool_by}
 use Rattle.report_core.specs.Reports.{Change, Reinstall, Upgrade as Upgrading}
 use Rattle.version_core.specs.Order.{is_version, tokens, version_cmp}
 use Rattle.version_core.specs.Token.{component_lexeme, next_lexeme, number_lexeme}

@@ -24,7 +24,7 @@ use Rattle.package_files.specs.Runs.{AreObserved}
 use Rattle.package_changes.specs.Changes.{selected_version}
 use Rattle.path_clashes.specs.Clash.{NamePair}
 use Rattle.pkg_core.specs.Whole.{package_fault}
-use Rattle.pool_core.specs.Candidates.{Candidate}
+use Rattle.candidate_core.specs.Candidates.{Candidate}
 use Rattle.report_core.specs.declared.refusal.Refusal.{Refusal}
 use Rattle.report_core.specs.declared.refusal.Refusal.TheVariants.{PackageBad}
 use Rattle.stage_run.specs.StageRun.{IsStageRun, IsStageRunDone}
@@ -38,7 +38,7 @@ use Rattle.engine_core.specs.Selecting.{pool_for}
 abbrev pub report_as_is : List ℕ → List ℕ
 report_as_is report = report
 
--- of what a change comes to, the report alone, or its refusal
+-- what a change comes to, of which only the report counts, or its refusal
 abbrev pub report_in : Result ChangeDone Refusal → Result (List ℕ) Refusal
 report_in wanted = and_then wanted (λ done. Ok done.report)
 
@@ -47,8 +47,8 @@ abbrev pub DoesCommit : Result ChangeDone Refusal → Type 0
 DoesCommit (Ok done) = done.commits ≡ true
 DoesCommit (Err refusal) = ⊥
 
--- By its identity, name and version a file is the package of the candidate. But as a package it is
--- refused with this cause: a digest of contents differs.
+-- The file of a candidate's package is spoiled: by its identity, name and version it is that
+-- package, but as a package it is refused with this cause: a digest of contents differs.
 pub record IsSpoiledPackage (c : Candidate) (file : List ℕ) (cause : Cause) : Type 0 where
   pub agrees : unless_different c (package_in_file file) ≡ Ok (package_in_file file)
   pub wanted : Digest

@@ -1,9 +1,9 @@
 -- Which candidates are chosen. The rules stand in `docs/selection.md`, "What satisfies world" and
 -- "Which selection is taken".
 use Rattle.std.specs.Prelude.{◌≡◌, ℕ, List, Option, Some, None, Result, Ok, Err}
-use Rattle.pool_core.specs.Rank.{SealedPool}
+use Rattle.candidate_core.specs.Rank.{SealedPool}
 use Rattle.report_core.specs.declared.refusal.Refusal.{Refusal}
-use Rattle.solve_core.specs.Selection.{IsFirstSelection, IsSatisfying}
+use Rattle.search_tables.specs.Selection.{IsFirstSelection, IsSatisfying}
 
 -- what is chosen among candidates: the places of the first preferred selection; or none, where no
 -- selection satisfies the world

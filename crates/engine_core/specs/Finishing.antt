@@ -12,7 +12,7 @@ use Rattle.change_files.specs.FileChange.{old_listings}
 use Rattle.change_files.specs.NamesAfter.{name_change}
 use Rattle.file_owners.specs.Replaces.{version_text}
 use Rattle.path_clashes.specs.Clash.{HasNoClash}
-use Rattle.pool_core.specs.Candidates.{Candidate, is_same_id}
+use Rattle.candidate_core.specs.Candidates.{Candidate, is_same_id}
 use Rattle.change_inputs.specs.Inputs.{Inputs}
 use Rattle.change_laws.specs.Premises.{IsRootOfFiles}
 use Rattle.change_outcome.specs.ChangeOutcome.{ChangeWishes, file_change, is_other_file}
@@ -53,11 +53,11 @@ abbrev pub AreOfCandidates : List Candidate → List Member → Type 0
 AreOfCandidates coming members = (place : ℕ) (m : Member) → slice_get members place ≡ Some m
     → is_coming m ≡ true → IsOfCandidate coming m
 
--- what was read of the root, when the packages have arrived
+-- what was read of the root, as it is known when the packages have arrived
 abbrev pub inputs_arrived : Arrived → Inputs
 inputs_arrived a = inputs_of_selection a.selection.now
 
--- which packages take the place of which
+-- which packages take the place of which, as it is known when they have arrived
 abbrev pub replacement_arrived : Arrived → Replacement
 replacement_arrived a = replacement_seen a.selection.now
 
@@ -99,7 +99,8 @@ pub record IsPlanned (history : List TreeState) (wishes : ChangeWishes) (p : Pla
 
 -- ---- the database and world
 
--- the bytes that the database, world and the text database get
+-- the new database and world of a change: the text is that of the new world, and both have the
+-- names of their files
 pub record AreRecordsOf (inputs : Inputs) (records : NewRecords) : Type 0 where
   pub world : records.world ≡ world_text inputs.root.new_world
   pub database_name : records.database_name ≡ Names.database_name

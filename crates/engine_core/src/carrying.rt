@@ -37,8 +37,12 @@ fn carry_change<T: Tree>(
     records: &NewRecords,
     tree: &mut T,
 ) -> Result<Text, Refused>
+    // The files of the change are planned, over the tree as it is now.
     requires plan { HasPlan (T.history tree.old) (wishes_of command.now) planned.now }
+    // These records are those of what was read.
     requires records { AreRecordsOf (inputs_arrived planned.now.arrived.now) records.now }
+    // The run comes to the change with these records, or to the refusal that its intent is too
+    // large.
     ensures comes { (found : List MemberFound) (files : Files)
         → IsPlanned (T.history tree.old) (wishes_of command.now) planned.now found files
         → ComesTo (candidates_that_come (replacement_arrived planned.now.arrived.now))
@@ -46,6 +50,7 @@ fn carry_change<T: Tree>(
         (replacement_arrived planned.now.arrived.now) (wishes_of command.now) found files
         records.now.database.items) (T.history tree.old) (T.history tree.new) (T.counts tree.old)
         (T.counts tree.new) result }
+    // How the tree's counts explain the answer.
     ensures counts { IsRunCounted (T.counts tree.old) (T.counts tree.new) result }
 {
     a_package_that_was_read_is_that_of_its_file();
@@ -94,6 +99,7 @@ pub(crate) fn finish_change<T: Tree>(
     tree: &mut T,
 ) -> Result<Text, Refused>
     requires { HasPlan (T.history tree.old) (wishes_of command.now) planned.now }
+    // The run comes to the change, unless a trigger is due or a limit of the writer is passed.
     ensures comes { (found : List MemberFound) (files : Files)
         → IsPlanned (T.history tree.old) (wishes_of command.now) planned.now found files
         → ComesTo (candidates_that_come (replacement_arrived planned.now.arrived.now))

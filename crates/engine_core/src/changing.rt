@@ -40,8 +40,11 @@ use std::alloc::{AllocError, Global};
 /// `PathClash`, `Owned`, `TriggerNeeded`, and `ResultTooLarge` of the database and then of the
 /// intent. `Disk` where the tree failed, and `Memory`.
 pub fn change<T: Tree>(alloc: Global, command: &Command, tree: &mut T) -> Result<Text, Refused>
+    // What is answered, and what is done to the tree, moment by moment.
     ensures run { IsChangeRun command.now (T.history tree.old) (T.history tree.new)
         (T.counts tree.old) (T.counts tree.new) result }
+    // How the tree's counts explain the answer: no count falls, a fault has its cause, and any
+    // other answer hides none.
     ensures counts { IsRunCounted (T.counts tree.old) (T.counts tree.new) result }
 {
     a_choice_exists();
@@ -84,9 +87,12 @@ fn change_in_pool<'a, T: Tree>(
     again: &Words,
     tree: &mut T,
 ) -> Result<Text, Refused>
+    // The candidates are those of the command and of what was read.
     requires pool { pool_by command.now (inputs_seen loaded.now) ≡ Ok pool.now }
     requires again { again.now ≡ names_to_reinstall command.now.applet command.now.operands }
+    // The database and world still stand as they were read, where the tree shows its files.
     requires root { IsRootRead (T.history tree.old) (inputs_seen loaded.now) }
+    // The run is one by what was read and by whatever is chosen.
     ensures run { IsRunBy command.now (inputs_seen loaded.now) (T.history tree.old)
         (T.history tree.new) (T.counts tree.old) (T.counts tree.new) result }
     ensures counts { IsRunCounted (T.counts tree.old) (T.counts tree.new) result }
@@ -116,10 +122,12 @@ fn change_selected<T: Tree>(
     selection: &Selection<'_, '_>,
     tree: &mut T,
 ) -> Result<Text, Refused>
+    // The database is the one of the selection, opened.
     requires database { HasItsDatabase selection.now }
     requires pool { pool_by command.now (inputs_of_selection selection.now)
         ≡ Ok selection.now.pool.now }
     requires root { IsRootRead (T.history tree.old) (inputs_of_selection selection.now) }
+    // The run is one by what is selected.
     ensures run { IsSelectedRun command.now (Ok (selection_seen selection.now))
         (T.history tree.old) (T.history tree.new) (T.counts tree.old) (T.counts tree.new) result }
     ensures counts { IsRunCounted (T.counts tree.old) (T.counts tree.new) result }

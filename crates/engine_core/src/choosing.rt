@@ -6,7 +6,7 @@ ghost use Rattle.change_inputs.specs.Seen.{inputs_seen};
 ghost use Rattle.engine_core.specs.Chosen.{IsChosen};
 ghost use Rattle.engine_core.specs.Choice.{IsChoice, IsChoiceFrom};
 ghost use Rattle.std.specs.Prelude.{◌≡◌, ℕ, List, Option, Result};
-ghost use Rattle.pool_core.specs.Rank.{SealedPool};
+ghost use Rattle.candidate_core.specs.Rank.{SealedPool};
 ghost use Rattle.report_core.specs.declared.refusal.Refusal.{Refusal};
 
 use base_core::Words;

@@ -45,7 +45,9 @@ pub(crate) fn make_change<T: Tree>(
     requires pool { pool_by command.now (inputs_of_selection selection.now)
         ≡ Ok selection.now.pool.now }
     requires root { IsRootRead (T.history tree.old) (inputs_of_selection selection.now) }
+    // The change is not only simulated.
     requires real { command.now.flags.simulate ≡ false }
+    // The run is one by what is selected.
     ensures run { IsSelectedRun command.now (Ok (selection_seen selection.now))
         (T.history tree.old) (T.history tree.new) (T.counts tree.old) (T.counts tree.new) result }
     ensures counts { IsRunCounted (T.counts tree.old) (T.counts tree.new) result }
@@ -81,10 +83,13 @@ fn change_members<'a, 'm, T: Tree>(
     arrivals: &'m Arrivals,
     tree: &mut T,
 ) -> Result<Text, Refused>
+    // The packages that come and those that stay may stand in one database.
     requires members { CanBeMembers (packages_of selection.now.db.now)
         (arrivals_seen arrivals.now) }
+    // They are those that reads find.
     requires read { (found : List MemberFound)
         × AreArrivals (T.history tree.old) selection.now names.now arrivals.now found }
+    // Where reads find these packages, the run is the change with them.
     ensures run { (found : List MemberFound) (read : Reads)
         → AreArrivals (T.history tree.old) selection.entry.now names.entry.now arrivals.entry.now
         found
@@ -112,7 +117,9 @@ fn plan_change<T: Tree>(
     arrived: &Arrived<'_, '_, '_, '_>,
     tree: &mut T,
 ) -> Result<Text, Refused>
+    // The packages that come and those that stay are those that reads find.
     requires { (found : List MemberFound) × IsArrived (T.history tree.old) arrived.now found }
+    // Where reads find these packages, the run is the change with them.
     ensures run { (found : List MemberFound) (read : Reads)
         → IsArrived (T.history tree.old) arrived.now found
         → IsMembersRun (inputs_arrived arrived.now) (replacement_arrived arrived.now)

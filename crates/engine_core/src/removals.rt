@@ -44,7 +44,7 @@ fn push_each<'a>(names: &mut Vec<&'a Name>, more: &'a Names) -> Result<(), Alloc
     Ok(())
 }
 
-/// Puts names into byte order.
+/// Puts names into byte order, in which the intent lists them.
 fn sort_names(names: &mut Vec<&Name>) -> Result<(), AllocError>
     ensures { OnOk result (map (λ n. n.now) names.new.items
         ≡ sorted_by bytes_cmp (map (λ n. n.now) names.old.items)) }

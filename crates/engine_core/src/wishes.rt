@@ -5,8 +5,8 @@ ghost use Rattle.db_core.specs.Seen.{packages_of};
 ghost use Rattle.dep_core.specs.World.{has_name};
 ghost use Rattle.engine_core.specs.Wishes.{first_unknown, is_known_name, names_to_go, names_to_reinstall, names_to_upgrade, operand_texts, unknown_place};
 ghost use Rattle.report_changes.specs.Report.{was_installed};
-ghost use Rattle.pool_core.specs.Rank.{all_names, listed_names};
-ghost use Rattle.pool_core.specs.Values.{names_upgraded_by};
+ghost use Rattle.candidate_core.specs.Rank.{all_names, listed_names};
+ghost use Rattle.candidate_core.specs.Values.{names_upgraded_by};
 ghost use Rattle.std.specs.Prelude.{◌≡◌, ◌||◌, [], IfOk, OnOk};
 
 use base_core::Words;

@@ -23,9 +23,13 @@ use std::alloc::{AllocError, Global};
 /// The database and world, as they are written. Where no bytes are given the file stays as it is.
 #[derive(Clone, Copy)]
 pub(crate) struct RecordWrites<'c> {
+    /// The name of the database's file.
     pub database_name: &'c Name,
+    /// Its new bytes, where it is written.
     pub database: Option<&'c [u8]>,
+    /// The name of world's file.
     pub world_name: &'c Name,
+    /// Its new text, where it is written.
     pub world: Option<&'c [u8]>,
 }
 
@@ -114,11 +118,16 @@ pub(crate) fn writes_of<'c>(
     plan: &'c FilePlan,
     records: &RecordWrites<'c>,
 ) -> Result<Vec<StagedWrite<'c>>, AllocError>
+    // Each planned write is of a file of a package that comes.
     requires sources { HasSources (members_of members.now) plan.now }
+    // Each package that comes was read.
     requires packages { HasPackages (members_of members.now) arrivals.now }
+    // No name is written twice.
     requires once { AreOnce (written_names plan.now ++ record_names records.now) }
+    // The names are those of the plan and of the records, in byte order.
     ensures names { IfOk result (λ writes. map write_name writes.items
         ≡ names_in_order (written_names plan.entry.now ++ record_names records.now)) }
+    // Each write has the bytes that are to stand under its name.
     ensures each { IfOk result (λ writes. All (IsWriteBy (members_of members.now)
         (package_at arrivals.entry.now) (writes_in plan.entry.now.writes) records.now)
         writes.items) }

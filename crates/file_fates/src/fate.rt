@@ -134,6 +134,7 @@ fn guarded_fate<T: Tree>(
     let new = listed_after(change.members, claim);
     let old = listed_so_far(change, &claim.path);
     let found = compare_file(tree, &name, Some(new), old)?;
+    // The user changed the file: its bytes stay.
     if is_changed(found) {
         let fate = fate_beside(alloc, change, &name, &new, &old)?;
         return Ok(fate);

@@ -108,6 +108,7 @@ fn left_claims<'o>(
         (claims_before change.now)) }
 {
     let mut left = Vec::new(alloc);
+    // Paths are asked for in their order, so each search goes on where the last one ended.
     let mut next = 0;
     for i in 0..change.before.len() {
         if is_left(change, asides, &change.before[i].path, &mut next) {
@@ -131,6 +132,7 @@ fn does_stay<T: Tree>(
     ensures tree { OnlyReads TreeFault.Disk (T.history tree.old) (T.history tree.new)
         (T.counts tree.old) (T.counts tree.new) result }
 {
+    // Only configuration may stay, and not with `--purge`: no file is read.
     if change.purge || !is_guarded(&claim.path) {
         return Ok(false);
     }

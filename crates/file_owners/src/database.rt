@@ -62,6 +62,7 @@ fn add_package<'a>(
         → map claim_seen claims.new.items
         ≡ with_listings (map claim_seen claims.old.items) (listings_by i m)) }
 {
+    // Never so, by the contract; `len` tells that places are below 2^32.
     if i >= db.len() {
         unreachable!();
     }

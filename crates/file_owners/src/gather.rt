@@ -1,7 +1,7 @@
 //! The files that members list, as claims.
 //! The rule stands in `docs/commands.md`, "Files that several packages list": a package that comes
 //! claims each file that it lists, and one that stays those that the database lists for it. Members
-//! count from 0, folders and files from 1, as the words of a claim are defined in `docs/names.md`.
+//! count from 0, folders and files from 1, as in *Listing* of `db_core`.
 
 ghost use Rattle.std.specs.Prelude.{◌≡◌, ◌<◌, ◌+◌, [], ◌∷◌, Some, IfOk, length, map, slice_get};
 ghost use Rattle.adb_fields.specs.Paths.{path_of};
@@ -86,6 +86,7 @@ fn add_folder<'a>(
         (name_of (nth (entries_in (list_value folders.now)) i))
         (files_in (nth (entries_in (list_value folders.now)) i)))) }
 {
+    // Never so, by the contract; `len` tells that a list has less than 2^32 entries.
     if i >= folders.len() {
         unreachable!();
     }
@@ -135,6 +136,7 @@ pub(crate) fn place_of(members: &Members<'_>, i: usize) -> u32
     requires { i < length (members_of members.now) }
     ensures { result ≡ i }
 {
+    // Never so, by the contract; `len` tells that there are at most 65,536 members.
     if i >= members.len() {
         unreachable!();
     }

@@ -37,6 +37,7 @@ struct Claimants<'m, 'a> {
     members: &'m Members<'a>,
     /// For each member the places of those that it names, in rising order.
     named: Vec<Vec<u32>>,
+    // These are the places of the members that each names.
     ghost each: { ArePlacesOfEach (members_of members.now) (map (λ v. v.items) named.items) },
 }
 

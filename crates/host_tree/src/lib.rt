@@ -86,6 +86,7 @@ impl<'a, R: Host> HostTree<'a, R> {
     ) -> Result<T, Disk>
         ensures ok { OnOk result (self.new.faults ≡ self.old.faults) }
         ensures err { OnErr result (self.new.faults ≡ next_count self.old.faults) }
+        // No count falls.
         ensures later { self.old.faults ≤ self.new.faults }
     {
         match answer {
@@ -99,10 +100,13 @@ impl<'a, R: Host> Tree for HostTree<'a, R> {
     ghost use Rattle.std.proofs.lemmas.List.Elements.{All-nil};
     ghost use Rattle.base_core.specs.Tree.{IsWhole};
 
+    // The history is not observable: no contract sees the host's files.
     ghost history = { λ tree. [] };
 
+    // The counts are those of a host's tree with so many faults.
     ghost counts = { λ tree. host_counts tree.faults };
 
+    // Each state of the history is whole, as there is none.
     ghost whole = { λ tree. All-nil IsWhole };
 
     // How many bytes the file under a name has, or None where there is none.

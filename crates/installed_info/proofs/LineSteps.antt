@@ -10,7 +10,7 @@ use Rattle.std.proofs.lemmas.Grind.{flat_map-append}
 use Rattle.std.proofs.lemmas.List.{map-append}
 use Rattle.dep_core.specs.Dependency.{Dependency}
 use Rattle.dep_core.specs.DependencyText.{dep_text}
-use Rattle.pool_core.specs.Candidates.{dependencies_of, dependency_in}
+use Rattle.candidate_core.specs.Candidates.{dependencies_of, dependency_in}
 use Rattle.report_core.specs.Reports.{report_line, report_lines}
 
 pub joined : (r r1 r2 a b : List ℕ) → r1 ≡ r ++ a → r2 ≡ r1 ++ b → r2 ≡ r ++ (a ++ b)

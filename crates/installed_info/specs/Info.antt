@@ -14,7 +14,7 @@ use Rattle.dep_core.specs.LeadingSlash.{without_slash}
 use Rattle.file_owners.specs.Replaces.{version_text}
 use Rattle.list_order.specs.ByteOrder.{bytes_cmp}
 use Rattle.list_order.specs.Sorted.{sorted_by}
-use Rattle.pool_core.specs.Candidates.{dependencies_in}
+use Rattle.candidate_core.specs.Candidates.{dependencies_in}
 use Rattle.report_core.specs.Reports.{contents_section, depends_section, description_section, owner_text, report_line, report_lines}
 use Rattle.report_core.specs.declared.refusal.Refusal.{Refusal}
 use Rattle.report_core.specs.declared.refusal.Refusal.TheVariants.{NotInstalled}
@@ -74,7 +74,7 @@ info_refusal form packages (o ∷ operands) =
 
 -- ---- of a database
 
--- the names of all packages, in byte order
+-- a line with the name of each package, in byte order of the names
 abbrev pub names_info : List Plain → List ℕ
 names_info packages = report_lines (sorted_by bytes_cmp (map package_name packages))
 

@@ -12,7 +12,7 @@ ghost use Rattle.std.specs.Prelude.{◌≡◌, ◌<◌, ◌++◌, [], length, sl
 ghost use Rattle.adb_fields.specs.ListValue.{list_value};
 ghost use Rattle.dep_core.specs.DependencyText.{dep_text};
 ghost use Rattle.dep_core.specs.Meets.{dependency};
-ghost use Rattle.pool_core.specs.Candidates.{dependencies_in, dependency_in};
+ghost use Rattle.candidate_core.specs.Candidates.{dependencies_in, dependency_in};
 
 use crate::paths::push_paths;
 use crate::telling::Form;

@@ -27,8 +27,9 @@ AreSoundPackages read n (o ∷ operands) (file ∷ files) =
     (read n (without_dot o.text) ≡ Some file) × (package_fault file ≡ None)
     × AreSoundPackages read (n + 1) operands files
 
--- an index tells of just the packages that operands name, in the order of its entries; reads are
--- numbered from 0
+-- an index tells of just the packages that operands name, in the order of its entries (*entry_cmp*);
+-- which of two equal ones comes first is not said here. `files` are the operands' files, in their
+-- order; reads are numbered from 0
 pub record HasPackagesInOrder (read : Reads) (operands : List Operand) (index : Plain) :
     Type 0 where
   pub files : List (List ℕ)

@@ -61,7 +61,7 @@ found_entries read n (o ∷ operands) =
 
 -- ---- the file
 
--- the container of a payload, unless that passes a limit of the writer
+-- the file of an index with this payload, unless the payload passes a limit of the writer
 abbrev pub index_container : Result (List ℕ) PayloadCounts → Result (List ℕ) MakeFault
 index_container (Ok payload) = Ok (file_of INDEX_WORD payload)
 index_container (Err counts) = Err (TooLarge counts.0 counts.1)

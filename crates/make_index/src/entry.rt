@@ -105,6 +105,7 @@ fn compare_versions(one: &[u8], other: &[u8]) -> Ordering
 {
     match (Version::read(one), Version::read(other)) {
         (Some(one), Some(other)) => one.compare(&other),
+        // Both texts are versions, by the contract.
         _ => unreachable!(),
     }
 }

@@ -155,6 +155,7 @@ fn index_file(alloc: Global, description: &[u8], entries: Vec<Entry>) -> Result<
     ensures { IsMade (λ file. file.items) result
         (index_of description.now (map entry_view entries.items)) }
 {
+    // Only the order changes.
     let mut entries = entries;
     sort_entries(&mut entries)?;
     let payload = index_payload(alloc, description, &entries)?;

@@ -28,6 +28,7 @@ use std::alloc::{AllocError, Global};
 pub(crate) struct EntryPayload {
     /// The bytes of the payload.
     pub(crate) payload: Vec<u8>,
+    // The payload can be read, and its root is an object of the fields of table 3.
     ghost head: { is_none (head_fault payload.items) ≡ true },
     ghost sound: { is_sound payload.items (Kinds.Obj Tables.PkgInfo) (root_of payload.items)
         ≡ true },
@@ -38,6 +39,8 @@ pub(crate) struct EntryPayload {
 pub(crate) struct PackageFile {
     /// The bytes of the file.
     pub(crate) file: Vec<u8>,
+    // The first block of the file passes all tests of a package; the contents behind it were tested
+    // before.
     ghost sound: { is_none (first_fault Tables.Package file.items) ≡ true },
 }
 
@@ -73,6 +76,7 @@ impl EntryPayload {
         ensures { OnOk result (draft.new ≡ draft_with
             (copy_of_entry (root_value Tables.PkgInfo self.now.payload.items)) draft.old) }
     {
+        // The payload was written here, so its head is good.
         let Ok(adb) = Adb::new(&self.payload) else {
             unreachable!()
         };
@@ -90,6 +94,7 @@ impl PackageFile {
         match Package::new(alloc, &self.file) {
             Ok(pkg) => write_package(alloc, draft, &pkg, self.file.len() as u64),
             Err(PackageFault::Memory) => Err(AllocError),
+            // The file was opened before, and passed the tests.
             Err(PackageFault::Bad(_)) => unreachable!(),
         }
     }

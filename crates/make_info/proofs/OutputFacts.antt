@@ -16,7 +16,7 @@ use Rattle.command_core.specs.declared.values.OptionValue.{OptionValue}
 use Rattle.make_info.specs.declared.field.Field.{Field}
 use Rattle.make_info.specs.declared.field.Field.TheVariants as Fields
 use Rattle.make_info.specs.Fields.{kind_of_field, values_by_kind, text_if}
-use Rattle.make_info.specs.declared.output.TheConstants.{LONGEST_OUTPUT}
+use Rattle.command_core.specs.Files.{longest_output}
 use Rattle.make_info.specs.FieldTexts.{FieldText, file_name_in, first_text_for, field_text_in, if_passes, values_of_info, is_for, is_text_for, is_info_option, is_too_long, package_name_in, named_output, default_output, package_file_name_of, text_when_for, package_version_in}
 use Rattle.make_info.specs.Information.{InfoItem, all_items, first_offence, information, information_of, is_second, info_item, items_of_text, items_of_option, lacks_name_or_version, offends, unless_offence}
 use Rattle.make_info.specs.Output.{if_allowed, is_mkpkg, output_name, package_output}
@@ -25,14 +25,14 @@ use Rattle.make_info.proofs.Reading.{same_field}
 
 -- ---- it is short
 
-package_short : AreOutputs → (command : CommandLine) (file : List ℕ) (r : Result (List InfoItem) ℕ) (named : Option (List ℕ)) → r ≡ information command → named ≡ named_output command.values → IsCommand command → if_allowed r (option_or named (default_output command.values)) ≡ Some file → length file ≤ LONGEST_OUTPUT
+package_short : AreOutputs → (command : CommandLine) (file : List ℕ) (r : Result (List InfoItem) ℕ) (named : Option (List ℕ)) → r ≡ information command → named ≡ named_output command.values → IsCommand command → if_allowed r (option_or named (default_output command.values)) ≡ Some file → length file ≤ longest_output
 package_short law command file (Err place) named r n is h = absurd (none-some file h)
 package_short law command file (Ok about) (Some name) r n is h = named_short law command file is (sym n ∙ h)
 package_short law command file (Ok about) None r n is h = own_fits command.values command.behind file (ap is_ok (sym r)) (sym n) h
 
-pub output_short : AreOutputs → (command : CommandLine) (name : List ℕ) → IsCommand command → output_name command ≡ Some name → length name ≤ LONGEST_OUTPUT
+pub output_short : AreOutputs → (command : CommandLine) (name : List ℕ) → IsCommand command → output_name command ≡ Some name → length name ≤ longest_output
 output_short law command name is h =
-    elim (is_mkpkg command.applet) as (λ b. (if b then package_output command else named_output command.values) ≡ Some name → length name ≤ LONGEST_OUTPUT) [
+    elim (is_mkpkg command.applet) as (λ b. (if b then package_output command else named_output command.values) ≡ Some name → length name ≤ longest_output) [
       | true ↦ λ e. package_short law command name (information command) (named_output command.values) refl refl is e
       | false ↦ λ e. named_short law command name is e
     ] h

@@ -11,8 +11,8 @@ use Rattle.version_core.specs.Order.{is_version}
 use Rattle.dep_core.specs.Dependency.{is_package_name}
 use Rattle.command_core.specs.Values.{first_value}
 use Rattle.make_info.specs.declared.information.TheConstants.{COLON}
-use Rattle.make_info.specs.declared.output.TheConstants.{HYPHEN, LONGEST_OUTPUT}
-use Rattle.command_core.specs.Files.{without_dot}
+use Rattle.make_info.specs.declared.output.TheConstants.{HYPHEN}
+use Rattle.command_core.specs.Files.{longest_output, without_dot}
 use Rattle.command_core.specs.declared.values.OptionValue.{OptionValue}
 use Rattle.make_info.specs.declared.field.Field.{Field}
 use Rattle.make_info.specs.declared.field.Field.TheVariants as Fields
@@ -110,7 +110,7 @@ named_output values = option_map file_name_in (first_value OUTPUT values)
 -- no output is known nothing is too long
 abbrev pub is_long_name : Option (List ℕ) → Bool
 is_long_name None = false
-is_long_name (Some file) = nat_lt LONGEST_OUTPUT (length file)
+is_long_name (Some file) = nat_lt longest_output (length file)
 
 -- whether the output is NAME-VERSION.apk, and that is too long
 abbrev pub is_too_long : List OptionValue → Bool

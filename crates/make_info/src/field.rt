@@ -1,11 +1,9 @@
 //! The fields of `-I` of `mkpkg` (apk(8)), and what a value of each has to be.
 //! The rules stand in `docs/commands.md`, "`mkpkg`", the table of fields.
 ghost use Rattle.make_info.specs.Fields.{field_of, field_word, is_list, kind_of_field, field_among, decimal_number};
-ghost use Rattle.command_core.specs.Operands.{is_decimal, has_zero_in_front};
-ghost use Rattle.std.specs.Char.{is_ascii_digit};
-ghost use Rattle.std.specs.List.{list_all};
 ghost use Rattle.std.specs.Prelude.{◌≡◌};
 
+use command_core::is_decimal;
 use std::str;
 
 /// A field of a package's information that `-I` of `mkpkg` may give (apk(8), `mkpkg`).
@@ -159,31 +157,4 @@ pub fn read_number(digits: &[u8]) -> Option<u64>
         Ok(text) => text.parse::<u64>().ok(),
         Err(_) => None,
     }
-}
-
-// Whether a text is a decimal number without leading zeros.
-fn is_decimal(digits: &[u8]) -> bool
-    ensures { result ≡ is_decimal digits.now }
-{
-    if digits.is_empty() || has_zero_in_front(digits) {
-        return false;
-    }
-    are_digits(digits)
-}
-
-// Whether a zero stands in front of further digits.
-fn has_zero_in_front(digits: &[u8]) -> bool
-    ensures { result ≡ has_zero_in_front digits.now }
-{
-    match digits.split_first() {
-        Some((b'0', rest)) => !rest.is_empty(),
-        _ => false,
-    }
-}
-
-// Whether all bytes are decimal digits.
-fn are_digits(digits: &[u8]) -> bool
-    ensures { result ≡ list_all is_ascii_digit digits.now }
-{
-    digits.iter().all(|digit| digit.is_ascii_digit())
 }

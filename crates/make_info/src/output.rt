@@ -5,9 +5,9 @@ ghost use Rattle.make_info.specs.FieldTexts.{first_text_for, is_too_long, packag
 ghost use Rattle.make_info.specs.Information.{information};
 ghost use Rattle.make_info.specs.Output.{is_mkpkg, output_name, package_output};
 ghost use Rattle.std.specs.Option.{option_map};
-ghost use Rattle.make_info.specs.declared.output.TheConstants.{LONGEST_OUTPUT};
 ghost use Rattle.std.specs.Prelude.{is_some, ◌≡◌, ◌||◌, IfOk, is_ok, ◌≤◌, List, ℕ, Some, IsSome, IsTrue, length};
 ghost use Rattle.command_core.specs.Command.{CommandLine};
+ghost use Rattle.command_core.specs.Files.{longest_output};
 ghost use Rattle.command_core.specs.Sound.{IsCommand};
 ghost use Rattle.command_core.specs.declared.command.Applet.TheVariants.{Mkndx, Mkpkg};
 
@@ -16,8 +16,8 @@ use crate::field::Field;
 use crate::information::{FieldText, read_information};
 use base_core::Name;
 use command_core::{
-    Applet, Command, INFO, OUTPUT, OptionValue, Values, a_command_has_what_its_applet_may_have,
-    values_are_of_their_kind,
+    Applet, Command, INFO, LONGEST_OUTPUT, OUTPUT, OptionValue, Values,
+    a_command_has_what_its_applet_may_have, values_are_of_their_kind,
 };
 use dep_core::is_package_name;
 use std::alloc::{AllocError, Global};
@@ -25,10 +25,6 @@ use version_core::{Version, versions_have_version_bytes};
 
 /// What stands between NAME and VERSION.
 const HYPHEN: u8 = b'-';
-
-/// The longest name of a file that is made, in bytes: with `.apk-tmp` behind it, eight bytes more,
-/// it is still a name, which has at most 1,024.
-const LONGEST_OUTPUT: usize = 1016;
 
 /// NAME-VERSION.apk, where a good name and a good version are given.
 pub(crate) fn default_output(alloc: Global, values: &Values) -> Result<Option<Vec<u8>>, AllocError>
@@ -186,7 +182,7 @@ fn is_allowed(alloc: Global, command: &Command) -> Result<bool, AllocError>
 /// An output's name has room for the eight bytes more of its scratch name.
 pub fn an_output_is_short()
     ensures { (command : CommandLine) (name : List ℕ) → IsCommand command
-        → output_name command ≡ Some name → length name ≤ LONGEST_OUTPUT }
+        → output_name command ≡ Some name → length name ≤ longest_output }
 {
     // A law that the proof needs; it computes nothing.
     values_are_of_their_kind();

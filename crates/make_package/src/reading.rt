@@ -98,6 +98,7 @@ pub(crate) fn read_scripts<'a, T: Tree>(
     let mut scripts = Vec::new(alloc);
     for i in 0..values.len() {
         let value = values.get(i);
+        // The values of all options stand in one list.
         if value.letter != SCRIPT {
             continue;
         }

@@ -26,7 +26,7 @@ use Rattle.make_info.specs.declared.fault.MakeFault.TheVariants.{FileMissing, Fi
 use Rattle.make_package.specs.Making.{made_package}
 use Rattle.package_changes.specs.Changes.{Replacement}
 use Rattle.path_clashes.specs.Clash.{NamePair}
-use Rattle.pool_core.specs.Rank.{SealedPool}
+use Rattle.candidate_core.specs.Rank.{SealedPool}
 use Rattle.report_core.specs.declared.refusal.Refusal.{Refusal}
 use Rattle.report_core.specs.declared.refusal.Refusal.TheVariants.{Reserved, ResultTooLarge}
 use Rattle.words_core.specs.Grammar.{command_of}

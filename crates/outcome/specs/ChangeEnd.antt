@@ -12,11 +12,11 @@ use Rattle.engine_core.specs.Selecting.{pool_for}
 use Rattle.package_changes.specs.Changes.{changes_of}
 use Rattle.package_changes.specs.Placed.{candidates_at}
 use Rattle.path_clashes.specs.Clash.{NamePair}
-use Rattle.pool_core.specs.Rank.{SealedPool}
+use Rattle.candidate_core.specs.Rank.{SealedPool}
 use Rattle.report_core.specs.Reports.{change_lines}
 use Rattle.report_core.specs.declared.refusal.Refusal.{Refusal}
 use Rattle.report_core.specs.declared.refusal.Refusal.TheVariants.{DatabaseBad, IndexBad, IndexMissing, IntentBad, NoDatabase, NotInstalled, Owned, PackageBad, PackageDiffers, PackageMissing, PathClash, RepositoriesBad, Reserved, ResultTooLarge, ScriptNeeded, TooMany, TriggerNeeded, Unsatisfied, Untrusted, WorldBad}
-use Rattle.solve_core.specs.Selection.{IsFirstSelection, IsSatisfying}
+use Rattle.search_tables.specs.Selection.{IsFirstSelection, IsSatisfying}
 use Rattle.outcome.specs.Changing.{change_outcome}
 use Rattle.outcome.specs.Commands.{reads_in}
 use Rattle.outcome.specs.Effect.{Changes}

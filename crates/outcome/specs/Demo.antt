@@ -40,14 +40,15 @@ ArePackaged (suc i) outcome =
     × ArePackaged i before
     × IsRunBehind (mkpkg_words (suc i)) (with_demo_file (suc i) before.files) before outcome
 
--- behind the packages 1 to n their index is made
+-- the packages 1 to n are made, and their index behind them
 abbrev pub AreIndexed : ℕ → Outcome → Type 0
 AreIndexed n outcome =
     (before : Outcome)
     × ArePackaged n before
     × IsRunBehind (mkndx_words n) before.files before outcome
 
--- behind their index they are installed
+-- the packages 1 to n are made and indexed, and those on which no other depends are added behind
+-- that
 abbrev pub AreInstalled : ℕ → Outcome → Type 0
 AreInstalled n outcome =
     (before : Outcome)

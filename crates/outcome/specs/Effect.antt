@@ -1,6 +1,6 @@
 -- What a command looks at, and what it changes. The rules stand in `docs/commands.md`,
 -- "Before the commands that write, and `info`", and in `docs/crash-safety.md`,
--- "Misuses, faults and counts", its last part but one.
+-- "Misuses, faults and counts", its last paragraph.
 use Rattle.std.specs.Prelude.{ℕ, Bool, true, false, List, Option, None, Result, Ok, Err}
 use Rattle.make_info.specs.Output.{output_name}
 use Rattle.command_core.specs.Command.{CommandLine}
@@ -10,15 +10,15 @@ use Rattle.command_core.specs.declared.command.Applet.TheVariants.{Adbdump, Add,
 
 -- what a command may do to the files, from nothing to several of them
 pub data Effect : Type 0 where
-  -- it looks at the words alone
+  -- the command looks at its words alone
   Computes : Effect
-  -- it reads files, and leaves them as they are
+  -- the command reads files, and leaves them as they are
   Reads : Effect
-  -- it recovers, reads files, and leaves them as they are then
+  -- the command recovers, reads files, and leaves them as they are then
   Tells : Effect
-  -- it recovers, reads files, and writes one
+  -- the command recovers, reads files, and writes one
   Makes : Effect
-  -- it recovers, reads files, and writes and removes several in one step
+  -- the command recovers, reads files, and writes and removes several in one step
   Changes : Effect
 
 -- the effect of a command, by the applet that it names

@@ -221,7 +221,9 @@ pub fn a_change_leaves_room_for_the_next()
     an_intent_is_read_from_a_sound_container();
 }
 
-/// An outcome that rests on the words alone is the same over all other files, which it leaves.
+/// An outcome that rests on the words alone, that of a usage error, of `version` and of `demo`, is
+/// the same over all other files, which it leaves (`docs/commands.md`, "Words" and the sections of
+/// these two).
 pub fn an_outcome_of_words_is_the_same_everywhere()
     ensures { (words : List (List ℕ)) (files others : Files) (o : Outcome)
         → IsTrue (rests_on_words (command_of words))

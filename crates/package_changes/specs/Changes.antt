@@ -13,7 +13,7 @@ use Rattle.adb_fields.specs.Repeated.{package_name}
 use Rattle.db_core.specs.Packages.{installed_id, is_package_named}
 use Rattle.file_owners.specs.Replaces.{version_text}
 use Rattle.change_files.specs.PlanLists.{names_in_order}
-use Rattle.pool_core.specs.Candidates.{Candidate, is_same_id, version_of_text}
+use Rattle.candidate_core.specs.Candidates.{Candidate, is_same_id, version_of_text}
 use Rattle.std.specs.Option.{option_cmp}
 use Rattle.version_core.specs.Order.{version_cmp}
 use Rattle.report_core.specs.Reports.{Change, Downgrade, Install, Purge, Reinstall, Replace, Upgrade}

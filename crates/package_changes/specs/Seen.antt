@@ -3,7 +3,7 @@
 use Rattle.std.specs.Prelude.{ℕ, List, map, option_map}
 use Rattle.db_core.specs.Seen.{packages_of}
 use Rattle.db_core.specs.declared.db.Db.{Db}
-use Rattle.pool_core.specs.Rank.{SealedPool}
+use Rattle.candidate_core.specs.Rank.{SealedPool}
 use Rattle.report_core.specs.Reports as Texts
 use Rattle.package_changes.specs.Placed.{PlacedChange, PlacedName, PlacedReplacement}
 use Rattle.package_changes.specs.declared.change.Change.{Change}
@@ -22,7 +22,7 @@ change_seen (Upgrade name old new) = Texts.Upgrade name.now old.now new.now
 change_seen (Downgrade name old new) = Texts.Downgrade name.now old.now new.now
 change_seen (Replace name old new) = Texts.Replace name.now old.now new.now
 
--- a change with its two places, as contracts see it
+-- a change with its two places (in the database, and among the candidates), as contracts see it
 abbrev pub placed_change_seen : Placed → PlacedChange
 placed_change_seen p = record { change = change_seen p.change; old = p.old; new = p.new }
 

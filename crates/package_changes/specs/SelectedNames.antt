@@ -5,7 +5,7 @@ use Rattle.std.specs.Borrow.{Bor}
 use Rattle.std.specs.List.{position_from}
 use Rattle.adb_view.specs.Plain.{Plain}
 use Rattle.db_core.specs.Packages.{is_package_named}
-use Rattle.pool_core.specs.Rank.{SealedPool}
+use Rattle.candidate_core.specs.Rank.{SealedPool}
 use Rattle.package_changes.specs.Placed.{PlacedName, placed_name_with}
 
 -- the table as contracts see it: each name with the place of its candidate

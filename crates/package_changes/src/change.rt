@@ -8,8 +8,8 @@ ghost use Rattle.file_owners.specs.Replaces.{version_text};
 ghost use Rattle.db_core.specs.Packages.{installed_id};
 ghost use Rattle.package_changes.specs.Changes.{change_between, is_installed_as, selected_version, version_change, version_text_cmp};
 ghost use Rattle.package_changes.specs.Seen.{change_seen};
-ghost use Rattle.pool_core.specs.Candidates.{is_same_id};
-ghost use Rattle.pool_core.specs.Values.{candidate_value};
+ghost use Rattle.candidate_core.specs.Candidates.{is_same_id};
+ghost use Rattle.candidate_core.specs.Values.{candidate_value};
 ghost use Rattle.report_core.specs.Reports as Texts;
 ghost use Rattle.std.specs.Prelude.{◌≡◌, ◌<◌, false, Some, None, length, option_map, slice_get};
 
@@ -112,7 +112,9 @@ pub(crate) fn purge<'a>(
 }
 
 /// What becomes of the package of the database at a place, counted from 0, whose name a selected
-/// candidate has: nothing, where the candidate is the package, unless it is to be installed again.
+/// candidate has: nothing where the candidate is the package, or a reinstallation where its name is
+/// to be installed again; else an upgrade, a downgrade, or a replacement by a version that is equal
+/// in order.
 pub(crate) fn replace<'a>(
     name: &'a [u8],
     db: &Db<'a>,
@@ -143,6 +145,7 @@ fn is_same_selected(old: &OldPackage<'_>, new: &Candidate<'_>) -> bool
     ensures { result
         ≡ is_installed_as old.now.version.now old.now.id.now (candidate_value new.now) }
 {
+    // A candidate of no repository is the installed package itself.
     if new.repo.is_none() {
         return true;
     }

@@ -10,9 +10,9 @@ ghost use Rattle.package_changes.specs.Changes.{change_between};
 ghost use Rattle.package_changes.specs.Placed.{candidates_at, new_candidate, placed_name_with, placed_names_of};
 ghost use Rattle.package_changes.specs.Seen.{change_seen, placed_name_seen, placed_names_seen, replacement_by};
 ghost use Rattle.package_changes.specs.SelectedNames.{placed_name_at};
-ghost use Rattle.pool_core.specs.Candidates.{Candidate as CandidateValue};
-ghost use Rattle.pool_core.specs.Rank.{candidate_at};
-ghost use Rattle.pool_core.specs.Values.{candidate_value};
+ghost use Rattle.candidate_core.specs.Candidates.{Candidate as CandidateValue};
+ghost use Rattle.candidate_core.specs.Rank.{candidate_at};
+ghost use Rattle.candidate_core.specs.Values.{candidate_value};
 ghost use Rattle.std.specs.Option.{ForSome};
 ghost use Rattle.std.specs.List.{list_any, position_from};
 ghost use Rattle.std.specs.Prelude.{◌≡◌, ◌<◌, ◌==◌, ◌++◌, Some, length, map, bytes_eq, option_map, option_and_then, option_to_list, slice_get, IfOk, OnOk};
@@ -187,7 +187,8 @@ fn push_selected_name<'a>(
     }
 }
 
-/// What becomes of the packages with these names, in the order of the names.
+/// What becomes of the packages with these names, in the order of the names. `again` has the names
+/// of the packages that are to be installed again.
 fn placed_names<'a>(
     alloc: Global,
     db: &Db<'a>,
@@ -207,7 +208,8 @@ fn placed_names<'a>(
     Ok(list)
 }
 
-/// What becomes of the package with this name, whose selected candidate has the place `new`.
+/// What becomes of the package with this name, whose selected candidate has the place `new`. `again`
+/// has the names of the packages that are to be installed again.
 fn placed_name<'a>(
     db: &Db<'a>,
     pool: &Sealed<'a>,

@@ -6,8 +6,8 @@ ghost use Rattle.package_changes.specs.Changes.{is_selected_named};
 ghost use Rattle.package_changes.specs.Placed.{selected_place};
 ghost use Rattle.package_changes.specs.SelectedNames.{place_beside};
 ghost use Rattle.std.specs.Option.{option_or};
-ghost use Rattle.pool_core.specs.Rank.{candidate_at, is_at};
-ghost use Rattle.pool_core.specs.Values.{candidate_value};
+ghost use Rattle.candidate_core.specs.Rank.{candidate_at, is_at};
+ghost use Rattle.candidate_core.specs.Values.{candidate_value};
 ghost use Rattle.std.specs.Prelude.{◌≡◌, ℕ, List, [], Some, None, if◌then◌else◌, bytes_eq, option_map, IfOk, OnOk};
 
 use indexmap::IndexMap;
@@ -100,6 +100,7 @@ impl<'a> SelectedNames<'a> {
             (if bytes_eq name.entry.now other then Some place else None)) }
     {
         match self.by_name.get(name) {
+            // The first candidate of a name counts.
             Some(_) => Ok(()),
             None => {
                 self.by_name.insert(name, place)?;

@@ -57,7 +57,7 @@ abbrev pub with_folders : List (List ℕ) → List (List ℕ) → List (List ℕ
 with_folders so_far [] = so_far
 with_folders so_far (name ∷ names) = with_folders (with_folder name so_far) names
 
--- names in byte order, each once
+-- the names of a list, put into byte order one by one, each once
 abbrev pub sorted_names : List (List ℕ) → List (List ℕ)
 sorted_names names = with_folders [] names
 

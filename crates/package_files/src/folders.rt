@@ -102,6 +102,7 @@ pub(crate) fn folder_names<'a>(
     let mut folders = FolderNames::new(alloc);
     for i in 0..names.len() {
         let path = path_below(dir.len(), names.get(i).as_bytes());
+        // Where the folder is known, so are all above it.
         if folders.index_of(folder_of(path)).is_none() {
             folders.add_over(path)?;
         }
@@ -130,7 +131,7 @@ pub(crate) fn names_in_folders<'a>(
     Ok(files)
 }
 
-/// So many lists without a name.
+/// As many lists without a name as `len` says.
 fn empty_lists<'a>(alloc: Global, len: usize) -> Result<Vec<Vec<&'a Name>>, AllocError>
     ensures { IfOk result (λ lists. map names_borrowed lists.items ≡ replicate len []) }
 {

@@ -41,6 +41,7 @@ fn begin_block(blocks: &mut Vec<u8>, position: (u64, u64), size: u64) -> Result<
     if size > MOST_IN_MEMORY {
         return Err(AllocError);
     }
+    // The two positions have four bytes each.
     let head = block_head(BlockKind::Contents, 8 + size);
     blocks.extend_from_slice(head.bytes())?;
     blocks.extend_from_slice(&position.0.to_le_bytes()[..4])?;
@@ -64,6 +65,7 @@ fn end_block(blocks: &mut Vec<u8>, start: usize, kind: &FileKind) -> Result<(), 
         ++ replicate (padding_of (length blocks.old.items - start)) 0) }
 {
     if !kind.has_contents() {
+        // A link and an empty file have no block.
         blocks.truncate(start);
         return Ok(());
     }
@@ -83,6 +85,7 @@ pub fn put_in_front(bytes: &mut Vec<u8>, front: &[u8]) -> Result<(), AllocError>
     ensures { OnOk result (bytes.new.items ≡ front.now ++ bytes.old.items) }
 {
     bytes.extend_from_slice(front)?;
+    // The front was appended; the turn brings it before the rest, in the same memory.
     bytes.rotate_right(front.len());
     Ok(())
 }

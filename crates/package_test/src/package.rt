@@ -1,6 +1,7 @@
 //! A package in a tree that was read and tested once.
-//! The rules stand in `docs/formats.md`, "The other blocks", the paragraph of pieces; what is held
-//! of a package in `docs/commands.md`, "`verify FILE..`".
+//! The rules stand in `docs/formats.md`, "The other blocks", the last two paragraphs (the front, and
+//! pieces); what is kept of a package, in the README of this crate and in `docs/DECISIONS.md`,
+//! "Packages that are not held whole".
 
 ghost use Rattle.std.specs.Prelude.{◌≡◌, true, is_none};
 ghost use Rattle.adb_schema.specs.Soundness.{payload_fault};

@@ -57,6 +57,7 @@ fn owner_at<C: Contest>(
     ensures { (c : PathClaim) → slice_get (map claim_seen claims.now) i ≡ Some c
         → result ≡ owner_by (C.beats contest.now) (map claim_seen claims.now) c.path }
 {
+    // Claims of one path stand together, so the owner is that of the claim before.
     if !begins_path(claims, i) {
         return before;
     }
@@ -228,7 +229,8 @@ pub fn owners_of<'a, C: Contest>(
     })
 }
 
-/// Two members that claim a path, each of which beats every other one, are one member.
+/// Two members that claim a path, each of which beats every other one, are one member: so no path
+/// has two owners.
 pub fn a_path_has_one_owner()
     ensures { (beats : ℕ → ℕ → Bool) (members : List ℕ) (x y : ℕ) → IsOneWay beats
         → list_any (λ z. x == z) members ≡ true → list_any (λ z. y == z) members ≡ true

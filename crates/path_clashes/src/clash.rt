@@ -113,6 +113,7 @@ fn clash_near<T: Tree, G: LetGo>(
     ensures tree { OnlyReads TreeFault.Disk (T.history tree.old) (T.history tree.new)
         (T.counts tree.old) (T.counts tree.new) result }
 {
+    // All clashes of this name were looked for with the path before it.
     if before == bytes {
         return Ok(None);
     }
@@ -176,7 +177,8 @@ pub trait LetGo {
         ensures { result ≡ Self.lets_go self.now name.now };
 }
 
-/// Where a change has no clash, none of the names that are there after it is a folder of another.
+/// Where a change has no clash, none of the names that are there after it is a folder of another:
+/// so the files after it can stand in a file system.
 pub fn files_without_a_clash_are_folder_like()
     ensures files { (change : NameChange) (files after : Files) → IsFolderLike files
         → HasNoClash change files
@@ -188,13 +190,15 @@ pub fn files_without_a_clash_are_folder_like()
         → IsFolderLike after }
 {}
 
-/// A change has one first clash, or none.
+/// A change has one first clash, or none: so what is refused is one function of the change and the
+/// files.
 pub fn a_change_has_one_first_clash()
     ensures { (change : NameChange) (files : Files) (one other : Option NamePair)
         → IsClashOf change files one → IsClashOf change files other → one ≡ other }
 {}
 
-/// Changes that say the same of each name have the same first clash.
+/// Changes that say the same of each name have the same first clash: so names may be given as lists
+/// or by claims.
 pub fn changes_that_agree_clash_alike()
     ensures { (one other : NameChange) (files : Files) (found : Option NamePair)
         → ((name : List ℕ) → one.counts_as_written name ≡ other.counts_as_written name)

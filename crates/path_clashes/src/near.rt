@@ -139,6 +139,7 @@ pub(crate) fn first_below<T: Tree, G: LetGo>(
     ensures tree { OnlyReads TreeFault.Disk (T.history tree.old) (T.history tree.new)
         (T.counts tree.old) (T.counts tree.new) result }
 {
+    // The tree lists names in byte order.
     let names = tree.list(alloc, folder)?;
     let first = first_to_stay(alloc, &names, let_go)?;
     Ok(first)

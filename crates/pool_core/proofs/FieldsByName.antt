@@ -6,7 +6,7 @@ use Rattle.adb_view.specs.Plain.{Plains, none, more}
 use Rattle.adb_tables.specs.Values.{nth}
 use Rattle.adb_tables.specs.declared.tables.Kind.{Kind}
 use Rattle.pool_core.specs.FieldNames.{value_under_name}
-use Rattle.pool_core.proofs.OptionLists.{bool_cases}
+use Rattle.candidate_core.proofs.OptionLists.{bool_cases}
 
 -- whether the place is the first at which the table has the name
 abbrev pub is_place_of : List ℕ → ℕ → List (List ℕ × Kind) → Bool

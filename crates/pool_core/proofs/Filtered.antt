@@ -6,10 +6,10 @@ use Rattle.std.specs.List.{filter, list_any}
 use Rattle.std.specs.Str.{bytes_eq}
 use Rattle.dep_core.specs.Dependency.{Dependency}
 use Rattle.dep_core.specs.Meets.{is_wanted}
-use Rattle.pool_core.specs.Candidates.{Candidate, Need, entry, named, is_eligible, is_met_by_entry, meets_dependency, offers_name, need_name}
-use Rattle.pool_core.specs.Rank.{SealedPool, is_at, meets_at}
-use Rattle.pool_core.specs.Options.{may_meet, places_offering, places_from}
-use Rattle.pool_core.proofs.OptionLists.{bool_cases}
+use Rattle.candidate_core.specs.Candidates.{Candidate, Need, entry, named, is_eligible, is_met_by_entry, meets_dependency, offers_name, need_name}
+use Rattle.candidate_core.specs.Rank.{SealedPool, is_at, meets_at}
+use Rattle.candidate_core.specs.Options.{may_meet, places_offering, places_from}
+use Rattle.candidate_core.proofs.OptionLists.{bool_cases}
 
 wanted_alone : (p q : Bool) → (p && q) ≡ true → p ≡ true
 wanted_alone true q h = refl

@@ -9,13 +9,13 @@ use Rattle.std.proofs.Math.ListN.{set}
 use Rattle.dep_core.specs.Dependency.{Dependency}
 use Rattle.pool_core.specs.declared.marks.Effect.{Effect}
 use Rattle.pool_core.specs.declared.marks.Effect.TheVariants.{Bar, Pin}
-use Rattle.pool_core.specs.Candidates.{Candidate, is_allowed, is_barred_by, offers_name}
+use Rattle.candidate_core.specs.Candidates.{Candidate, is_allowed, is_barred_by, offers_name}
 use Rattle.pool_core.specs.Marks.{affects, is_affected, mark_at, marks_with}
-use Rattle.pool_core.specs.Options.{places_from}
-use Rattle.pool_core.specs.Rank.{is_pinned, is_pinned_to}
+use Rattle.candidate_core.specs.Options.{places_from}
+use Rattle.candidate_core.specs.Rank.{is_pinned, is_pinned_to}
 use Rattle.pool_core.proofs.Filtered.{meeting_offers}
-use Rattle.pool_core.proofs.OptionLists.{bool_cases}
-use Rattle.pool_core.proofs.Steps.{any_snoc}
+use Rattle.candidate_core.proofs.OptionLists.{bool_cases}
+use Rattle.candidate_core.proofs.Steps.{any_snoc}
 
 or_false : (m : Bool) → (m || false) ≡ m
 or_false true = refl

@@ -4,9 +4,9 @@ use Rattle.std.specs.Prelude.{Option, Some, None, slice_get, if◌then◌else◌
 use Rattle.std.specs.Cmp.Lexicographic.{bytes_decides}
 use Rattle.std.specs.List.{list_any, starts_with}
 use Rattle.std.specs.Str.{bytes_eq}
-use Rattle.pool_core.specs.Candidates.{Candidate, as_installed, as_installed_where_same, is_same_id, is_same_package, is_same_version, with_installed}
-use Rattle.pool_core.proofs.Installed.{and_first, and_last}
-use Rattle.pool_core.proofs.OptionLists.{bool_cases}
+use Rattle.candidate_core.specs.Candidates.{Candidate, as_installed, as_installed_where_same, is_same_id, is_same_package, is_same_version, with_installed}
+use Rattle.candidate_core.proofs.Installed.{and_first, and_last}
+use Rattle.candidate_core.proofs.OptionLists.{bool_cases}
 
 same_version : (a b : Option (List ℕ)) → is_same_version a b ≡ true → a ≡ b
 same_version None None h = refl

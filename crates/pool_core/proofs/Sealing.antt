@@ -6,11 +6,12 @@ use Rattle.std.specs.List.{filter, list_any}
 use Rattle.std.specs.Str.{bytes_eq}
 use Rattle.dep_core.specs.Dependency.{Dependency}
 use Rattle.pool_core.specs.declared.sealed.EntryKind.TheVariants.{Conflict, Tagged}
-use Rattle.pool_core.specs.Candidates.{Candidate, has_usable_install_if, is_allowed, is_eligible, is_barred_by, meets_dependency, uses_tag}
-use Rattle.pool_core.specs.Options.{places_from}
-use Rattle.pool_core.specs.Rank.{is_pinned, is_pinned_to}
-use Rattle.pool_core.specs.World.{entries_of_kind, has_positive_install_if, is_entry_of_kind, places_marked}
-use Rattle.pool_core.proofs.OptionLists.{bool_cases}
+use Rattle.candidate_core.specs.Candidates.{Candidate, has_usable_install_if, is_allowed, is_eligible, is_barred_by, meets_dependency, uses_tag}
+use Rattle.candidate_core.specs.Options.{places_from}
+use Rattle.candidate_core.specs.Rank.{is_pinned, is_pinned_to}
+use Rattle.candidate_core.specs.PositiveInstallIfs.{has_positive_install_if, places_marked}
+use Rattle.pool_core.specs.World.{entries_of_kind, is_entry_of_kind}
+use Rattle.candidate_core.proofs.OptionLists.{bool_cases}
 
 any_filter : {X : Type 0} (p q : X → Bool) (xs : List X) → ((x : X) → p x ≡ true → q x ≡ true) → list_any p (filter q xs) ≡ list_any p xs
 any_filter p q [] to = refl

@@ -3,15 +3,13 @@
 //! marked.
 //! The rule stands in `docs/selection.md`, "Which selection is taken", key 4 of the table.
 ghost use Rattle.std.specs.Prelude.{◌≡◌, ◌&&◌, map, not, IfOk};
-ghost use Rattle.pool_core.specs.Packages.{candidates_of_packages};
-ghost use Rattle.pool_core.specs.Rank.{is_kept_installed, listed_names};
-ghost use Rattle.pool_core.specs.Values.{names_upgraded_by};
+ghost use Rattle.candidate_core.specs.Packages.{candidates_of_packages};
+ghost use Rattle.candidate_core.specs.Rank.{is_kept_installed, listed_names};
+ghost use Rattle.candidate_core.specs.Values.{names_upgraded_by};
 
-use crate::candidate::Details;
-use crate::need::Upgrade;
-use crate::packages::Packages;
 use crate::sorted::SortedWords;
 use base_core::Words;
+use candidate_core::{Details, Packages, Upgrade};
 use std::alloc::{AllocError, Global};
 
 /// For each candidate, whether it is installed and the command does not upgrade its name.

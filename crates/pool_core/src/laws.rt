@@ -1,17 +1,18 @@
 //! What the definitions of candidates, ranks and options keep, each as the contract of a function
 //! that does nothing.
 //! The rules stand in `docs/selection.md`: "Which selection is taken" (the rank), and "What there
-//! is to choose from" (options, offers, and which package is the installed one).
+//! is to choose from" (options, offers, and which package is the installed one). The fields of a
+//! candidate stand in `docs/formats.md`, "Schemas", table 3.
 ghost use Rattle.std.specs.Prelude.{◌≡◌, ◌<◌, Bool, true, false, ℕ, List, [], ◌∷◌, ◌++◌, length, Option, Some, slice_get, codes, if◌then◌else◌};
 ghost use Rattle.std.specs.Cmp.{IsTotalOrder};
 ghost use Rattle.std.specs.declared.cmp.Ordering.TheVariants.{Equal};
 ghost use Rattle.std.specs.List.{list_any};
 ghost use Rattle.adb_view.specs.Plain.{Plain};
 ghost use Rattle.adb_tables.specs.Values.{int_in, text_in};
-ghost use Rattle.pool_core.specs.Candidates.{Candidate, Need, as_installed, candidate_by, candidate_of, dependencies_in, is_same_id, is_same_package, need_name, offers_name, version_of_text, with_installed};
+ghost use Rattle.candidate_core.specs.Candidates.{Candidate, Need, as_installed, candidate_by, candidate_of, dependencies_in, is_same_id, is_same_package, need_name, offers_name, version_of_text, with_installed};
 ghost use Rattle.pool_core.specs.FieldNames.{info_under_name};
-ghost use Rattle.pool_core.specs.Rank.{SealedPool, is_at, is_better, is_eligible_at, meets_at, rank_cmp};
-ghost use Rattle.pool_core.specs.Options.{AreRising, IsBestFirst, IsIn, options_for, places_offering};
+ghost use Rattle.candidate_core.specs.Rank.{SealedPool, is_at, is_better, is_eligible_at, meets_at, rank_cmp};
+ghost use Rattle.candidate_core.specs.Options.{AreRising, IsBestFirst, IsIn, options_for, places_offering};
 
 use version_core::order_is_total;
 
@@ -56,7 +57,8 @@ pub fn offers_hold_what_meets()
 {}
 
 /// Each part of a candidate is the value of the field of its name, as the names stand in
-/// `docs/formats.md`, "Schemas", table 3. So no definition depends on the number of a field alone.
+/// `docs/formats.md`, "Schemas", table 3. So a definition that
+/// took the number of another field would break this law.
 pub fn a_candidate_is_read_by_field_names()
     ensures { (info : Plain) (repository : Option ℕ) (tag : Option (List ℕ)) (installed : Bool) →
         candidate_of info repository tag installed

@@ -1,35 +1,27 @@
 //! The packages that a selection is made of: the candidates of indexes and of the database, the
 //! table of the names that they offer, and the options of a need in rank order. Views of indexes
-//! come in and stay borrowed; places in the list of candidates go out. The contracts cite `specs/`:
-//! `Candidates` (the list, and what each candidate meets), `Rank` (the eleven keys) and `Options`.
+//! come in and stay borrowed; places in the list of candidates go out. The contracts cite `specs` of
+//! `candidate_core`: `Candidates` (the list, and what each candidate meets), `Rank` (the eleven
+//! keys) and `Options`.
 //! The rules stand in `docs/selection.md`, "What there is to choose from", and "Which selection is
 //! taken" (the table of keys, and why).
 #![tactic(auto)]
 
-mod candidate;
-mod dependencies;
-mod judging;
 mod keeping;
 mod laws;
 mod marks;
-mod need;
-mod packages;
 mod pool;
-mod rank;
 mod sealed;
 mod sorted;
-mod table;
-mod version_ranks;
-mod versions;
 
-pub use candidate::{CandId, Candidate, Details};
-pub use dependencies::Deps;
+pub use candidate_core::{
+    CandId, Candidate, Deps, Details, MOST_CANDIDATES, Need, NeedRef, Options, PoolFault, Upgrade,
+};
 pub use laws::{
     a_candidate_is_read_by_field_names, an_installed_package_is_known_by_text_and_id,
     installed_candidates_count_once, offers_are_the_places, offers_hold_what_meets,
     options_are_the_best_first, rank_is_total,
 };
-pub use need::{Need, NeedRef, Options, Upgrade};
-pub use pool::{MOST_CANDIDATES, Pool, PoolFault};
+pub use pool::Pool;
 pub use sealed::Sealed;
 pub use sorted::SortedWords;

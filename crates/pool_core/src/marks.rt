@@ -8,16 +8,14 @@ ghost use Rattle.std.specs.Option.{option_map_or};
 ghost use Rattle.std.specs.List.{list_any};
 ghost use Rattle.std.specs.Str.{bytes_eq};
 ghost use Rattle.dep_core.specs.Meets.{dependency};
-ghost use Rattle.pool_core.specs.Candidates.{is_allowed, is_barred_by, uses_tag};
+ghost use Rattle.candidate_core.specs.Candidates.{is_allowed, is_barred_by, uses_tag};
 ghost use Rattle.pool_core.specs.Marks.{affects, is_affected, mark_at, marks_with};
-ghost use Rattle.pool_core.specs.Options.{places_offering};
-ghost use Rattle.pool_core.specs.Packages.{candidates_of_packages};
-ghost use Rattle.pool_core.specs.Rank.{is_pinned};
-ghost use Rattle.pool_core.specs.Table.{LeadsToOffers};
+ghost use Rattle.candidate_core.specs.Options.{places_offering};
+ghost use Rattle.candidate_core.specs.Packages.{candidates_of_packages};
+ghost use Rattle.candidate_core.specs.Rank.{is_pinned};
+ghost use Rattle.candidate_core.specs.Table.{LeadsToOffers};
 
-use crate::candidate::{CandId, Details};
-use crate::packages::Packages;
-use crate::table::Table;
+use candidate_core::{CandId, Details, Packages, Table};
 use dep_core::Dep;
 use std::alloc::{AllocError, Global};
 
@@ -213,7 +211,7 @@ fn is_allowed(one: &Details<'_>, tagged: &[Dep<'_>]) -> bool
 }
 
 // Whether one of some entries of world has this tag.
-#[tactic(auto, using(crate::proofs::Anyone::any_map))]
+#[tactic(auto, using(candidate_core::proofs::Anyone::any_map))]
 fn uses_tag(tagged: &[Dep<'_>], tag: &[u8]) -> bool
     ensures { result ≡ uses_tag (map dependency tagged.now) tag.now }
 {

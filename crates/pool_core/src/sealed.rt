@@ -10,28 +10,26 @@ ghost use Rattle.std.specs.Ordering.{bool_cmp, flip_args};
 ghost use Rattle.std.specs.Str.{bytes_eq};
 ghost use Rattle.dep_core.specs.Dependency.{Dependency};
 ghost use Rattle.dep_core.specs.Meets.{dependency};
-ghost use Rattle.pool_core.specs.Candidates.{Candidate as CandidateValue, has_usable_install_if, is_allowed, is_eligible, is_barred_by, meets_dependency, uses_tag};
-ghost use Rattle.pool_core.specs.CandidateList.{IsCandidateList};
-ghost use Rattle.pool_core.specs.Options.{may_meet, places_offering, options_for, places_from};
-ghost use Rattle.pool_core.specs.Packages.{candidates_of_packages};
-ghost use Rattle.pool_core.specs.Rank.{candidate_at, candidate_cmp, is_at, is_eligible_at, is_kept_installed, is_pinned, is_pinned_at, is_pinned_to, rank_cmp, sealed_pool_by};
-ghost use Rattle.pool_core.specs.Ranking.{IsRankingIn};
-ghost use Rattle.pool_core.specs.Values.{candidate_value, names_upgraded_by, need_by, need_of};
-ghost use Rattle.pool_core.specs.VersionRanks.{AreReadAlike, IsReadFrom};
-ghost use Rattle.pool_core.specs.declared.versions.VersionKind.TheVariants as Kinds;
-ghost use Rattle.pool_core.specs.World.{entries_of_kind, has_positive_install_if, is_entry_of_kind, places_marked};
+ghost use Rattle.candidate_core.specs.Candidates.{Candidate as CandidateValue, has_usable_install_if, is_allowed, is_eligible, is_barred_by, meets_dependency, uses_tag};
+ghost use Rattle.candidate_core.specs.CandidateList.{IsCandidateList};
+ghost use Rattle.candidate_core.specs.Options.{may_meet, places_offering, options_for, places_from};
+ghost use Rattle.candidate_core.specs.Packages.{candidates_of_packages};
+ghost use Rattle.candidate_core.specs.Rank.{candidate_at, candidate_cmp, is_at, is_eligible_at, is_kept_installed, is_pinned, is_pinned_at, is_pinned_to, rank_cmp, sealed_pool_by};
+ghost use Rattle.option_ranks.specs.Ranking.{IsRankingIn};
+ghost use Rattle.candidate_core.specs.Values.{candidate_value, names_upgraded_by, need_by, need_of};
+ghost use Rattle.option_ranks.specs.VersionRanks.{AreReadAlike, IsReadFrom};
+ghost use Rattle.candidate_core.specs.declared.versions.VersionKind.TheVariants as Kinds;
+ghost use Rattle.candidate_core.specs.PositiveInstallIfs.{has_positive_install_if, places_marked};
+ghost use Rattle.pool_core.specs.World.{entries_of_kind, is_entry_of_kind};
 
-use crate::candidate::{CandId, Candidate, Details};
 use crate::keeping::kept_marks;
 use crate::laws::rank_is_total;
 use crate::marks::{eligible_marks, pinned_marks};
-use crate::need::{Need, NeedRef, Options, Upgrade};
-use crate::packages::Packages;
-use crate::pool::CandidateList;
-use crate::rank::RankedOption;
-use crate::table::Table;
-use crate::version_ranks::rank_long_versions;
+use candidate_core::{
+    CandId, Candidate, CandidateList, Details, Need, NeedRef, Options, Packages, Table, Upgrade,
+};
 use dep_core::{Dep, World};
+use option_ranks::{RankedOption, rank_long_versions};
 use std::alloc::{AllocError, Global};
 use std::marker::Model;
 use version_core::order_is_total;
@@ -60,14 +58,14 @@ pub struct Sealed<'a> {
 
 impl<'a> Model for Sealed<'a> {
     ghost use Rattle.std.specs.Coded.{codes};
-    ghost use Rattle.pool_core.specs.PlainCode.{plain_code};
+    ghost use Rattle.candidate_core.specs.PlainCode.{plain_code};
     ghost use Rattle.std.specs.Prelude.{◌≡◌, map};
-    ghost use Rattle.pool_core.specs.Candidates.{has_usable_install_if, is_eligible};
-    ghost use Rattle.pool_core.specs.Options.{places_from};
-    ghost use Rattle.pool_core.specs.Packages.{candidates_of_packages};
-    ghost use Rattle.pool_core.specs.Rank.{SealedPool, is_kept_installed, is_pinned, sealed_pool_by};
-    ghost use Rattle.pool_core.specs.Table.{LeadsToOffers};
-    ghost use Rattle.pool_core.specs.Values.{names_upgraded_by};
+    ghost use Rattle.candidate_core.specs.Candidates.{has_usable_install_if, is_eligible};
+    ghost use Rattle.candidate_core.specs.Options.{places_from};
+    ghost use Rattle.candidate_core.specs.Packages.{candidates_of_packages};
+    ghost use Rattle.candidate_core.specs.Rank.{SealedPool, is_kept_installed, is_pinned, sealed_pool_by};
+    ghost use Rattle.candidate_core.specs.Table.{LeadsToOffers};
+    ghost use Rattle.candidate_core.specs.Values.{names_upgraded_by};
 
     ghost Value = { SealedPool };
 
@@ -161,6 +159,7 @@ impl<'a> Sealed<'a> {
         ensures { IfOk result (λ options. options ≡ options_for self.now (need_by need.now)) }
     {
         let ids = self.fitting(alloc, need)?;
+        // None and one are in order already.
         if ids.len() < 2 {
             return Ok(Options::of(ids));
         }
@@ -419,8 +418,8 @@ fn is_entry_of_kind(kind: EntryKind, dep: &Dep<'_>) -> bool
     }
 }
 
-// The places of the candidates that may be selected, as their marks say, and have an install-if
-// without conflict.
+// The places, rising, of the candidates that may be selected, as their marks in `eligible` say, and
+// have an install-if that is not empty and has no conflict.
 fn install_ifs_among(
     alloc: Global,
     packages: &Packages<'_>,

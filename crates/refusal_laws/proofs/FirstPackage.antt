@@ -23,7 +23,7 @@ use Rattle.make_info.specs.Reads.{Reads}
 use Rattle.package_changes.specs.Changes.{Replacement, change_of_name, is_selected_named, names_on_both_sides, selected_version}
 use Rattle.path_clashes.proofs.PairOrder.{precedes_itself, precedes_one_way}
 use Rattle.pkg_core.specs.Whole.{package_fault}
-use Rattle.pool_core.specs.Candidates.{Candidate, is_same_id}
+use Rattle.candidate_core.specs.Candidates.{Candidate, is_same_id}
 use Rattle.report_core.specs.Reports.{Change}
 use Rattle.report_core.specs.declared.refusal.Refusal.{Refusal}
 use Rattle.report_core.specs.declared.refusal.Refusal.TheVariants.{PackageBad, PackageDiffers, PackageMissing, ScriptNeeded}

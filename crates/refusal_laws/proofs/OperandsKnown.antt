@@ -10,7 +10,7 @@ use Rattle.command_core.specs.declared.operands.Operand.{Operand}
 use Rattle.engine_core.specs.Changed.{selected_by, selected_of_inputs}
 use Rattle.engine_core.specs.Selecting.{pool_by}
 use Rattle.engine_core.specs.Wishes.{first_unknown, is_installed_name, is_known_name, names_to_upgrade, unknown_place, unless_place}
-use Rattle.pool_core.specs.Rank.{SealedPool}
+use Rattle.candidate_core.specs.Rank.{SealedPool}
 use Rattle.report_core.specs.declared.refusal.Refusal.{Refusal}
 use Rattle.report_core.specs.declared.refusal.Refusal.TheVariants.{NotInstalled, Unsatisfied}
 use Rattle.refusal_laws.specs.CommandFaults.{IsUnknownTo}

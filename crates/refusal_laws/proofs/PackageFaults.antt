@@ -11,7 +11,7 @@ use Rattle.change_outcome.specs.PackageFiles.{package_file_of, scripts_of_change
 use Rattle.db_core.specs.Packages.{is_package_named}
 use Rattle.make_info.specs.Reads.{Reads}
 use Rattle.package_changes.specs.Changes.{Replacement, change_of_name, is_selected_named, names_on_both_sides}
-use Rattle.pool_core.specs.Candidates.{Candidate}
+use Rattle.candidate_core.specs.Candidates.{Candidate}
 use Rattle.report_core.specs.Reports.{Change}
 use Rattle.report_core.specs.declared.refusal.Refusal.{Refusal}
 use Rattle.refusal_laws.specs.ComingPackages.{selected_of_name}

@@ -17,7 +17,7 @@ use Rattle.db_core.specs.Members.{member_name}
 use Rattle.db_core.specs.Packages.{is_package_named}
 use Rattle.make_info.specs.Reads.{Reads}
 use Rattle.package_changes.specs.Changes.{Replacement, change_between, change_of_name, is_same_selected, is_selected_named, names_on_both_sides, unless_same}
-use Rattle.pool_core.specs.Candidates.{Candidate}
+use Rattle.candidate_core.specs.Candidates.{Candidate}
 use Rattle.report_core.specs.Reports.{Change}
 use Rattle.report_core.specs.declared.refusal.Refusal.{Refusal}
 use Rattle.refusal_laws.specs.ComingPackages.{selected_of_name}

@@ -30,7 +30,7 @@ use Rattle.refusal_laws.specs.PackageFaults.{IsFileBad, IsPackageMissing, IsPack
 
 -- ---- paths
 
--- of the paths that packages which come list, a path is the first that apk keeps for itself
+-- a path is the first, of those that packages which come list, that apk keeps for itself
 pub record IsFirstReserved (members : List Member) (path : List ℕ) : Type 0 where
   pub comes : IsIn path (coming_paths members)
   pub reserved : is_reserved path ≡ true

@@ -13,10 +13,10 @@ use Rattle.engine_core.specs.Changed.{Selected, selected_for}
 use Rattle.engine_core.specs.Selecting.{pool_by}
 use Rattle.engine_core.specs.Wishes.{is_installed_name, wishes_of}
 use Rattle.make_info.specs.Reads.{Reads}
-use Rattle.pool_core.specs.Rank.{SealedPool}
+use Rattle.candidate_core.specs.Rank.{SealedPool}
 use Rattle.report_core.specs.declared.refusal.Refusal.{Refusal}
 use Rattle.report_core.specs.declared.refusal.Refusal.TheVariants.{NotInstalled, TooMany, Unsatisfied}
-use Rattle.solve_core.specs.Selection.{IsSatisfying}
+use Rattle.search_tables.specs.Selection.{IsSatisfying}
 use Rattle.refusal_laws.specs.ChangeFaults.{IsFaultOfChange}
 use Rattle.refusal_laws.specs.InputFaults.{AreTooMany, IsFaultOfInput}
 

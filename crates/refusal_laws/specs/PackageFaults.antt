@@ -14,7 +14,7 @@ use Rattle.file_owners.specs.Replaces.{version_text}
 use Rattle.make_info.specs.Reads.{Reads}
 use Rattle.package_changes.specs.Changes.{Replacement, change_of_name, selected_version}
 use Rattle.pkg_core.specs.Whole.{package_fault}
-use Rattle.pool_core.specs.Candidates.{Candidate, is_same_id}
+use Rattle.candidate_core.specs.Candidates.{Candidate, is_same_id}
 use Rattle.report_core.specs.Reports.{Change}
 use Rattle.refusal_laws.specs.ComingPackages.{IsBrought, IsReadFor, selected_of_name}
 
@@ -79,8 +79,9 @@ IsComingOrGoing inputs r read name pkg =
     ((coming : ComingPackage) × IsBrought inputs r read name coming × (pkg ≡ coming.value))
     ⊎ IsGoing r name pkg
 
--- What becomes of the package of this name would run this script of it, the first that it has of
--- those that would run; and scripts are not left out.
+-- The change of the package of this name would run this script, the first that the package has of
+-- those that would run; and scripts are not left out. `script` is its number in table 6 of
+-- `docs/formats.md`, "Schemas".
 pub record IsScriptNeeded (inputs : Inputs) (r : Replacement) (wishes : ChangeWishes)
     (read : Reads) (name : List ℕ) (script : ℕ) : Type 0 where
   pub asked : wishes.no_scripts ≡ false

@@ -12,7 +12,7 @@ use Rattle.db_core.specs.Members.{AreInOrder, member_name}
 use Rattle.db_core.specs.Packages.{is_package_named}
 use Rattle.make_info.specs.Reads.{Reads}
 use Rattle.package_changes.specs.Changes.{Replacement, change_of_name, is_same_selected}
-use Rattle.pool_core.specs.Candidates.{Candidate}
+use Rattle.candidate_core.specs.Candidates.{Candidate}
 use Rattle.refusal_laws.specs.ComingPackages.{IsBrought, selected_of_name}
 
 -- a member is the package of its name before, to the letter, which is the selected candidate; and

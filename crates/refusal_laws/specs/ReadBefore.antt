@@ -13,7 +13,8 @@ use Rattle.report_core.specs.declared.refusal.Refusal.TheVariants.{IndexBad, Ind
 use Rattle.root_names.specs.RootNames.{world_name}
 use Rattle.refusal_laws.specs.InputFaults.{repositories_found}
 
--- the database is found, or one may be begun, and it passed its tests
+-- the database was read without a refusal: it passed its tests, or there is none and one may be
+-- begun
 abbrev pub HasDatabase : CommandLine → Reads → Type 0
 HasDatabase command read = (database : Database) × (database_for command read ≡ Ok database)
 

@@ -10,8 +10,8 @@ use Rattle.engine_core.specs.Selecting.{pool_for}
 use Rattle.engine_core.specs.Wishes.{wishes_of}
 use Rattle.outcome.specs.Commands.{reads_in}
 use Rattle.package_changes.specs.Placed.{candidates_at}
-use Rattle.pool_core.specs.Rank.{SealedPool}
-use Rattle.solve_core.specs.Selection.{IsFirstSelection}
+use Rattle.candidate_core.specs.Rank.{SealedPool}
+use Rattle.search_tables.specs.Selection.{IsFirstSelection}
 use Rattle.refusal_laws.specs.PackagesAfter.{AreSelectedOnes}
 use Rattle.refusal_laws.specs.TestsPassed.{HasNoFault}
 

@@ -4,7 +4,7 @@ use Rattle.std.specs.Prelude.{fold, if◌then◌else◌, option_to_list, slice_g
 use Rattle.std.specs.List.{cons_option, filter, flat_map, position_from, list_any}
 use Rattle.std.specs.Option.{option_map_or}
 use Rattle.std.specs.Prelude.{is_some, ◌||◌}
-use Rattle.pool_core.specs.Candidates.{Candidate}
+use Rattle.candidate_core.specs.Candidates.{Candidate}
 use Rattle.package_changes.proofs.Lists.{item_at}
 
 pub joined : (r r1 r2 a b : List ℕ) → r1 ≡ r ++ a → r2 ≡ r1 ++ b → r2 ≡ r ++ (a ++ b)

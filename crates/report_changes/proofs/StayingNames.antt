@@ -3,8 +3,8 @@ use Rattle.std.proofs.Common.{◌≡◌, ℕ, Bool, true, false, cond, List, [],
 use Rattle.std.specs.Prelude.{is_some, option_and_then}
 use Rattle.std.specs.List.{filter, find, flat_map}
 use Rattle.adb_view.specs.Plain.{Plain}
-use Rattle.pool_core.specs.Candidates.{Candidate}
-use Rattle.pool_core.specs.Rank.{SealedPool, candidate_at}
+use Rattle.candidate_core.specs.Candidates.{Candidate}
+use Rattle.candidate_core.specs.Rank.{SealedPool, candidate_at}
 use Rattle.report_core.specs.Reports.{report_line, stays_text}
 use Rattle.package_changes.specs.Changes.{is_selected_named}
 use Rattle.package_changes.specs.Placed.{candidates_at, selected_place}

@@ -8,7 +8,7 @@ use Rattle.adb_tables.specs.Values.{entry_in, int_in}
 use Rattle.change_files.specs.PlanLists.{names_in_order}
 use Rattle.db_core.specs.Packages.{is_package_named}
 use Rattle.dep_core.specs.Dependency.{Dependency}
-use Rattle.pool_core.specs.Candidates.{Candidate, meets_dependency}
+use Rattle.candidate_core.specs.Candidates.{Candidate, meets_dependency}
 use Rattle.report_core.specs.Reports.{change_lines, report_line, stays_text, sum_text}
 use Rattle.package_changes.specs.Changes.{Replacement, changes_of, is_selected_named}
 

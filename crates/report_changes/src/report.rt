@@ -5,7 +5,7 @@ ghost use Rattle.package_changes.specs.Changes.{changes_of};
 ghost use Rattle.package_changes.specs.Placed.{candidates_at, replacement_of};
 ghost use Rattle.report_changes.specs.Report.{candidate_size, selected_sum_line, simulated_report};
 ghost use Rattle.package_changes.specs.Seen.{change_seen, changes_seen, replacement_by};
-ghost use Rattle.pool_core.specs.Rank.{candidate_at};
+ghost use Rattle.candidate_core.specs.Rank.{candidate_at};
 ghost use Rattle.report_core.specs.Reports.{change_lines, change_text, from_version_to, name_and_version, numbered_change, report_line, sum_text};
 ghost use Rattle.std.specs.Fmt.{decimal};
 ghost use Rattle.std.specs.Option.{option_map_or};

@@ -1,5 +1,6 @@
 -- The definitions of this crate. Each file names the place of its rule.
 -- what the contract of `apk` says
+pub mod Numbers
 pub mod Texts
 pub mod Reports
 -- what only inner contracts and proofs use

@@ -4,17 +4,17 @@
 use Rattle.std.specs.Prelude.{ℕ, List, [], ◌∷◌, ◌++◌, Option, Some, None}
 use Rattle.std.specs.Fmt.{decimal}
 use Rattle.hex.specs.Hex.{encode_lower}
-use Rattle.report_core.specs.Texts.{hex_word, digest_bytes, position_text, cause_text}
+use Rattle.report_core.specs.Texts.{hex_number, digest_bytes, position_text, cause_text}
 use Rattle.report_core.specs.declared.sentence.Sentence.{Sentence}
 use Rattle.base_core.specs.declared.cause.Cause.{Cause}
 use Rattle.report_core.specs.declared.lines.Piece.{Piece}
-use Rattle.report_core.specs.declared.lines.Piece.TheVariants.{Bytes, Number, Word, Hex, Digest, Position, Nothing}
+use Rattle.report_core.specs.declared.lines.Piece.TheVariants.{Bytes, Number, HexNumber, Hex, Digest, Position, Nothing}
 
 -- the text of a piece
 abbrev pub piece_text : Piece → List ℕ
 piece_text (Bytes bytes) = bytes.now
 piece_text (Number number) = decimal number
-piece_text (Word word) = hex_word word
+piece_text (HexNumber number) = hex_number number
 piece_text (Hex bytes) = encode_lower bytes.now
 piece_text (Digest digest) = encode_lower (digest_bytes digest)
 piece_text (Position folder file) = position_text folder file

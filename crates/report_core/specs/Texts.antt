@@ -9,12 +9,13 @@ use Rattle.base_core.specs.declared.cause.Cause.{Cause}
 use Rattle.base_core.specs.declared.cause.Cause.TheVariants.{NotAdb, Compressed, Truncated, BlockOrder, CompatVersion, Outside, WrongKind, WrongSchema, TooLarge, BadText, Repeated, DataOrder, DataSize, HashDiffers, TextLine}
 use Rattle.base_core.specs.declared.cause.Digest.{Digest}
 use Rattle.base_core.specs.declared.cause.Digest.TheVariants.{Sha1, Sha256, Sha512}
+use Rattle.report_core.specs.Numbers.{HASHES_FIELD, TRIGGER_SCRIPT, PRE_INSTALL_SCRIPT, POST_INSTALL_SCRIPT, PRE_DEINSTALL_SCRIPT, POST_DEINSTALL_SCRIPT, PRE_UPGRADE_SCRIPT, POST_UPGRADE_SCRIPT}
 use Rattle.report_core.specs.declared.refusal.Refusal.{Refusal}
 use Rattle.report_core.specs.declared.refusal.Refusal.TheVariants.{Usage, IntentBad, FileMissing, FileBad, VersionBad, InfoBad, NoDatabase, DatabaseBad, WorldBad, RepositoriesBad, Untrusted, IndexMissing, IndexBad, TooMany, NotInstalled, Unsatisfied, PackageMissing, PackageBad, PackageDiffers, ScriptNeeded, Reserved, PathClash, Owned, TriggerNeeded, ResultTooLarge}
 
--- a word or a schema in eight lower-case hexadecimal digits
-abbrev pub hex_word : ℕ → List ℕ
-hex_word word = encode_lower (to_be_bytes w32 word)
+-- a number of 32 bits, a value's word or a schema, in eight lower-case hexadecimal digits
+abbrev pub hex_number : ℕ → List ℕ
+hex_number number = encode_lower (to_be_bytes w32 number)
 
 -- the bytes of a digest, of which the digits are printed
 abbrev pub digest_bytes : Digest → List ℕ
@@ -35,9 +36,9 @@ cause_text Compressed = codes "compressed ADB file"
 cause_text (Truncated at) = codes "truncated at " ++ decimal at
 cause_text (BlockOrder at) = codes "block out of order at " ++ decimal at
 cause_text CompatVersion = codes "incompatible version"
-cause_text (WrongSchema found) = codes "wrong schema " ++ hex_word found
-cause_text (Outside word) = codes "value " ++ hex_word word ++ codes " points outside"
-cause_text (WrongKind word) = codes "value " ++ hex_word word ++ codes " has the wrong kind"
+cause_text (WrongSchema found) = codes "wrong schema " ++ hex_number found
+cause_text (Outside word) = codes "value " ++ hex_number word ++ codes " points outside"
+cause_text (WrongKind word) = codes "value " ++ hex_number word ++ codes " has the wrong kind"
 cause_text (TooLarge count) = decimal count ++ codes " values are too many"
 cause_text (BadText place) = codes "bad field " ++ decimal place
 cause_text (Repeated place first second) =
@@ -68,22 +69,21 @@ repository_text number text = codes "repository " ++ decimal number ++ codes ": 
 abbrev pub package_text : List ℕ → List ℕ → List ℕ → List ℕ
 package_text name version text = name ++ codes "-" ++ version ++ codes ": " ++ text
 
--- what a package says of itself in a field of its information, as it is printed: the id (`hashes`,
--- field 3 of table 3 in `docs/formats.md`) in hexadecimal digits, name and version as they are
+-- what a package says of itself in a field of its information, as it is printed: the id (`hashes`) in
+-- hexadecimal digits, name and version as they are
 abbrev pub field_text : ℕ → List ℕ → List ℕ
-field_text field bytes = if field == 3 then encode_lower bytes else bytes
+field_text field bytes = if field == HASHES_FIELD then encode_lower bytes else bytes
 
--- the name of a script by its number, which is that of table 6 in `docs/formats.md`, "Schemas"; a
--- number that is no script's is printed as such
+-- the name of a script by its number; a number that is no script's is printed as such
 abbrev pub script_name : ℕ → List ℕ
 script_name script =
-    if script == 1 then codes "trigger" else
-    if script == 2 then codes "pre-install" else
-    if script == 3 then codes "post-install" else
-    if script == 4 then codes "pre-deinstall" else
-    if script == 5 then codes "post-deinstall" else
-    if script == 6 then codes "pre-upgrade" else
-    if script == 7 then codes "post-upgrade" else decimal script
+    if script == TRIGGER_SCRIPT then codes "trigger" else
+    if script == PRE_INSTALL_SCRIPT then codes "pre-install" else
+    if script == POST_INSTALL_SCRIPT then codes "post-install" else
+    if script == PRE_DEINSTALL_SCRIPT then codes "pre-deinstall" else
+    if script == POST_DEINSTALL_SCRIPT then codes "post-deinstall" else
+    if script == PRE_UPGRADE_SCRIPT then codes "pre-upgrade" else
+    if script == POST_UPGRADE_SCRIPT then codes "post-upgrade" else decimal script
 
 -- the text of a refusal
 abbrev pub refusal_text : Refusal → List ℕ

@@ -54,8 +54,8 @@ pub(crate) enum Piece<'a> {
     Bytes(&'a [u8]),
     /// A number, in decimal digits.
     Number(u64),
-    /// A value's word, in eight hexadecimal digits.
-    Word(u32),
+    /// A number of 32 bits, a value's word or a schema, in eight hexadecimal digits.
+    HexNumber(u32),
     /// Bytes, in two hexadecimal digits each.
     Hex(&'a [u8]),
     /// A digest, in hexadecimal digits.
@@ -88,7 +88,7 @@ fn write_piece<S: Sink>(piece: &Piece<'_>, sink: &mut S) -> Result<(), SinkFault
     match *piece {
         Piece::Bytes(bytes) => write_all(sink, bytes),
         Piece::Number(number) => write_number(number, sink),
-        Piece::Word(word) => write_hex(&word.to_be_bytes(), sink),
+        Piece::HexNumber(number) => write_hex(&number.to_be_bytes(), sink),
         Piece::Hex(bytes) => write_hex(bytes, sink),
         Piece::Digest(digest) => write_hex(digest_bytes(&digest), sink),
         Piece::Position(folder, file) => write_position(folder, file, sink),

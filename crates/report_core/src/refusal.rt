@@ -29,7 +29,8 @@ pub enum Refusal {
     VersionBad {
         place: u32,
     },
-    /// This word is no information of a package that may be given.
+    /// This word is no information of a package that may be given; or, at the place behind the last
+    /// word, a name or a version is lacking.
     InfoBad {
         place: u32,
     },

@@ -4,10 +4,28 @@ ghost use Rattle.std.specs.Prelude.{◌≡◌, ◌++◌};
 ghost use Rattle.report_core.specs.Pieces.{piece_text, pieces_text, sentence_text};
 ghost use Rattle.report_core.specs.Texts.{cause_text, field_text, word_text, refusal_text, script_name};
 
-use crate::lines::Piece::{Bytes, Digest, Hex, Nothing, Number, Position, Word};
+use crate::lines::Piece::{Bytes, Digest, Hex, HexNumber, Nothing, Number, Position};
 use crate::lines::{Piece, Pieces};
 use crate::refusal::Refusal;
 use base_core::Cause;
+
+// The number of `hashes` in table 3 of `docs/formats.md`, "Schemas".
+const HASHES_FIELD: u16 = 3;
+
+// The numbers of the scripts in table 6 there.
+const TRIGGER_SCRIPT: u16 = 1;
+
+const PRE_INSTALL_SCRIPT: u16 = 2;
+
+const POST_INSTALL_SCRIPT: u16 = 3;
+
+const PRE_DEINSTALL_SCRIPT: u16 = 4;
+
+const POST_DEINSTALL_SCRIPT: u16 = 5;
+
+const PRE_UPGRADE_SCRIPT: u16 = 6;
+
+const POST_UPGRADE_SCRIPT: u16 = 7;
 
 /// The text of a refusal: some pieces, and the text of its cause behind them, if it has one.
 #[derive(Clone, Copy)]
@@ -241,11 +259,15 @@ pub(crate) fn cause_pieces(cause: Cause) -> Pieces<'static>
         Cause::Truncated { at } => two(Bytes(b"truncated at "), Number(at)),
         Cause::BlockOrder { at } => two(Bytes(b"block out of order at "), Number(at)),
         Cause::CompatVersion => one(Bytes(b"incompatible version")),
-        Cause::WrongSchema { found } => two(Bytes(b"wrong schema "), Word(found)),
-        Cause::Outside { word } => three(Bytes(b"value "), Word(word), Bytes(b" points outside")),
+        Cause::WrongSchema { found } => two(Bytes(b"wrong schema "), HexNumber(found)),
+        Cause::Outside { word } => three(
+            Bytes(b"value "),
+            HexNumber(word),
+            Bytes(b" points outside"),
+        ),
         Cause::WrongKind { word } => three(
             Bytes(b"value "),
-            Word(word),
+            HexNumber(word),
             Bytes(b" has the wrong kind"),
         ),
         Cause::TooLarge { count } => two(Number(u64::from(count)), Bytes(b" values are too many")),
@@ -288,25 +310,29 @@ pub(crate) fn cause_pieces(cause: Cause) -> Pieces<'static>
 }
 
 // What a package says of itself in a field: its id in hexadecimal digits, and its name or its
-// version as text. 3 is the number of `hashes` in table 3 of `docs/formats.md`, "Schemas".
+// version as text.
 fn field_piece(field: u16, bytes: &[u8]) -> Piece<'_>
     ensures { piece_text result ≡ field_text field bytes.now }
 {
-    if field == 3 { Hex(bytes) } else { Bytes(bytes) }
+    if field == HASHES_FIELD {
+        Hex(bytes)
+    } else {
+        Bytes(bytes)
+    }
 }
 
-// The name of a script by its number in table 6 of `docs/formats.md`, "Schemas".
+// The name of a script by its number.
 fn script_piece(script: u16) -> Piece<'static>
     ensures { piece_text result ≡ script_name script }
 {
     match script {
-        1 => Bytes(b"trigger"),
-        2 => Bytes(b"pre-install"),
-        3 => Bytes(b"post-install"),
-        4 => Bytes(b"pre-deinstall"),
-        5 => Bytes(b"post-deinstall"),
-        6 => Bytes(b"pre-upgrade"),
-        7 => Bytes(b"post-upgrade"),
+        TRIGGER_SCRIPT => Bytes(b"trigger"),
+        PRE_INSTALL_SCRIPT => Bytes(b"pre-install"),
+        POST_INSTALL_SCRIPT => Bytes(b"post-install"),
+        PRE_DEINSTALL_SCRIPT => Bytes(b"pre-deinstall"),
+        POST_DEINSTALL_SCRIPT => Bytes(b"post-deinstall"),
+        PRE_UPGRADE_SCRIPT => Bytes(b"pre-upgrade"),
+        POST_UPGRADE_SCRIPT => Bytes(b"post-upgrade"),
         _ => Number(u64::from(script)),
     }
 }

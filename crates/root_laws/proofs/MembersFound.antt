@@ -30,7 +30,7 @@ use Rattle.make_info.specs.Reads.{Reads}
 use Rattle.package_changes.specs.Changes.{Replacement, change_of_name, is_selected_named, names_on_both_sides, selected_version}
 use Rattle.pkg_core.specs.Contents.{fault_in}
 use Rattle.pkg_core.specs.Whole.{files_in_file, package_fault, package_id}
-use Rattle.pool_core.specs.Candidates.{Candidate, is_same_id}
+use Rattle.candidate_core.specs.Candidates.{Candidate, is_same_id}
 use Rattle.report_core.specs.Reports.{Change}
 use Rattle.report_core.specs.declared.refusal.Refusal.{Refusal}
 use Rattle.root_laws.specs.RootLeft.{FindBytes}

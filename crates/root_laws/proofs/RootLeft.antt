@@ -18,7 +18,7 @@ use Rattle.engine_core.specs.Selecting.{pool_by}
 use Rattle.engine_core.specs.Wishes.{unknown_place, unless_place, wishes_of}
 use Rattle.make_info.specs.Reads.{Reads}
 use Rattle.path_clashes.specs.Clash.{NamePair}
-use Rattle.pool_core.specs.Rank.{SealedPool}
+use Rattle.candidate_core.specs.Rank.{SealedPool}
 use Rattle.report_core.specs.declared.refusal.Refusal.{Refusal}
 use Rattle.root_names.specs.RootNames.{database_name, text_database_name, world_name}
 use Rattle.root_laws.specs.RootLeft.{FindBytes, IsRootLeft}

@@ -94,7 +94,7 @@ impl Sides {
 
 /// How many images are looked at of a tree: for each map of names one for each of the three
 /// fillings of the files that were not synced (`docs/crash-safety.md`,
-/// "Misuses, faults and counts": as read, nothing, or bytes of value 255).
+/// "Images of the tree in memory": as read, nothing, or bytes of value 255).
 pub fn images_of(tree: &MemoryTree) -> u64 {
     tree.maps().saturating_mul(3)
 }

@@ -65,7 +65,7 @@ struct Reader {
     frames: Vec<Frame>,
 }
 
-/// The container of a dump text.
+/// The container of a dump text, or that the text is none.
 pub fn container_of(alloc: Global, text: &[u8]) -> Result<Vec<u8>, DumpFault> {
     let Some(lines) = text.strip_suffix(b"\n") else {
         return Err(DumpFault::NoDump);

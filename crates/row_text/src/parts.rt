@@ -1,6 +1,6 @@
 //! Parts of a row: the files that stand there before and behind a command line, and what goes wrong
 //! while it runs. The lines stand in `tests/rows.md`, "Lines" (`in memory`, `file`, `then`, `\`)
-//! and "What goes wrong".
+//! and "What goes wrong"; what is reported of a line that is none, in "A text that is none".
 use crate::reader::{Form, Reader, Target, first_word};
 use crate::row::{Content, NamedFile, SinkPlan, Sweeps, TreePlan, Trouble};
 use crate::words::{add_hex, number};
@@ -148,7 +148,8 @@ fn content(alloc: Global, form: Form, line: u64) -> Content {
     }
 }
 
-/// Adds a line to the last file, in the file's form. A file that is to be absent has no lines.
+/// Adds a line to the last file, in the file's form. A line behind no file, or behind one that is to
+/// be absent, is out of place.
 fn add_to_last(files: &mut Vec<NamedFile>, form: Form, piece: &[u8]) -> Result<(), Trouble> {
     let Some(file) = files.last_mut() else {
         return Err(Trouble::OutOfPlace);

@@ -71,9 +71,10 @@ const WORDS: [(&[u8], Word); 14] = [
     (b"err", Word::Err),
 ];
 
-/// A text that is read.
+/// A text that is being read: the rows that are whole, and what has begun.
 #[derive(Drop)]
 pub(crate) struct Reader {
+    /// Where memory is taken.
     pub(crate) alloc: Global,
     /// The number of the last line that was begun, counted from 1.
     pub(crate) line: u64,
@@ -92,8 +93,11 @@ pub(crate) struct Reader {
 /// What goes wrong in a command line: in its tree and its two streams.
 #[derive(Drop)]
 pub(crate) struct Plans {
+    /// Which calls of the tree fail.
     pub(crate) tree: TreePlan,
+    /// What standard output takes.
     pub(crate) out: SinkPlan,
+    /// What standard error takes.
     pub(crate) err: SinkPlan,
 }
 

@@ -1,5 +1,5 @@
 -- What is read at each moment of a run, and what runs leave that follow each other without a crash.
--- The rules stand in `docs/crash-safety.md`, "Recovery", its last part.
+-- The rules stand in `docs/crash-safety.md`, "Recovery", its last two paragraphs.
 use Rattle.std.specs.Prelude.{◌≡◌, ◌⊎◌, ℕ, Bool, true, false, List, [], ◌∷◌, Option}
 use Rattle.apk_front.specs.Moments.{is_draft_name, output_names}
 use Rattle.base_core.specs.Crash.{IsImage}

@@ -86,8 +86,8 @@ IsSafeBehindAll v run =
     → ignored intent_name ≡ false → IsOrderly (RestsOn ignored) first → HasSeen first events v
     → IsSafe (ignored_behind ignored events) v run
 
--- whatever list it has seen, where each crash leaves one state behind that, a run that begins in
--- the state v is all or nothing
+-- whatever list a root has seen behind which each crash leaves one state, a run that begins in the
+-- state v is all or nothing
 abbrev pub IsAtomicBehindAll : TreeState → Run → Type 0
 IsAtomicBehindAll v run =
     (ignored : List ℕ → Bool) (first : TreeState) (events : List Event)

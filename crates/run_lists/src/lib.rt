@@ -1,5 +1,5 @@
 //! Lists of runs, stops and crashes: what the contract of `apk` comes to for a root that has seen
-//! any of them. The rules stand in `docs/crash-safety.md`, "Recovery", its last part.
+//! any of them. The rules stand in `docs/crash-safety.md`, "Recovery", its last two paragraphs.
 //!
 //! It is a crate of definitions and laws above the top call. `Events` of `specs/` says what a run
 //! is, by the very clauses of `apk`, and what a list of runs, stops and crashes is; `Safety` what

@@ -101,7 +101,9 @@ struct Query<'q> {
 /// What a command asks for: its world, and the names that it upgrades.
 #[derive(Clone, Copy)]
 struct Command<'a> {
+    /// World, as the row gives it.
     world: &'a World,
+    /// The names that it upgrades.
     upgrade: Upgrade<'a>,
 }
 
@@ -248,7 +250,7 @@ fn add_counts(
 
 // ---- the pool
 
-// The pool of all packages, sealed.
+// The pool of all packages, joined to the world and to the names that the command upgrades.
 fn sealed<'a>(
     alloc: Global,
     row: &'a Row<'a>,

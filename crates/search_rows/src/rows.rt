@@ -67,10 +67,15 @@ const LINES: [(&[u8], Line); 11] = [
 #[derive(Drop)]
 struct Run<'t> {
     alloc: Global,
+    /// The row that has begun.
     row: Row<'t>,
+    /// The question that waits for its answer.
     query: Option<&'t [u8]>,
+    /// How many rows have begun.
     rows: u64,
+    /// How many answers were computed.
     answers: u64,
+    /// How many of them differ from the wanted ones, or are out of place.
     failed: u64,
 }
 

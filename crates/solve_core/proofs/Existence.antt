@@ -2,15 +2,15 @@
 -- or with a reason that holds for every selection.
 use Rattle.std.proofs.Common.{◌≡◌, ◌⊎◌, inl, inr, ℕ, zero, suc, ◌≤◌, true, false, List, [], ◌∷◌, ◌++◌, length, refl, sym, subst, ◌∙◌, arith, append_assoc}
 use Rattle.std.specs.Prelude.{Some}
-use Rattle.pool_core.specs.Candidates.{Need}
-use Rattle.pool_core.specs.Rank.{SealedPool, is_eligible_at}
-use Rattle.pool_core.specs.Options.{IsIn, options_for}
-use Rattle.solve_core.specs.Selection.{exclude_each_other, next_need}
-use Rattle.solve_core.specs.Reasons.{AreCompatible}
-use Rattle.solve_core.proofs.Theory as law
-use Rattle.solve_core.proofs.Theory.{in_left, in_right, in_append, none_or_some, removed}
-use Rattle.solve_core.proofs.Turns.{PoolFacts}
-use Rattle.solve_core.proofs.PoolFacts.{bool_cases}
+use Rattle.candidate_core.specs.Candidates.{Need}
+use Rattle.candidate_core.specs.Rank.{SealedPool, is_eligible_at}
+use Rattle.candidate_core.specs.Options.{IsIn, options_for}
+use Rattle.search_tables.specs.Selection.{exclude_each_other, next_need}
+use Rattle.search_tables.specs.Reasons.{AreCompatible}
+use Rattle.search_tables.proofs.Theory as law
+use Rattle.search_tables.proofs.Theory.{in_left, in_right, in_append, none_or_some, removed}
+use Rattle.search_tables.proofs.Turns.{PoolFacts}
+use Rattle.search_tables.proofs.PoolFacts.{bool_cases}
 
 module _ (pool : SealedPool) (facts : PoolFacts pool) where
   abbrev pub Found : Type 0

@@ -1,15 +1,16 @@
 -- A search that ends with no need left has found the first selection; one that ends with an empty reason shows that there is none.
 use Rattle.std.proofs.Common.{◌≡◌, ℕ, List, [], subst, sym}
-use Rattle.std.specs.Prelude.{Option, Some, None, MatchOption, refl}
-use Rattle.pool_core.specs.Candidates.{Need}
-use Rattle.pool_core.specs.Rank.{SealedPool}
-use Rattle.solve_core.specs.Selection.{IsSatisfying, IsFirstSelection, next_need}
-use Rattle.solve_core.specs.Reasons.{FrameValue, AreCompatible, IsReason, AreTurnsFrom, choices_in}
-use Rattle.solve_core.specs.Choices.{IsSearch, HasOptions, choices_of, pool_of}
-use Rattle.solve_core.specs.declared.choices.Choices.{Choices}
-use Rattle.solve_core.proofs.Turns.{turns_found}
-use Rattle.solve_core.proofs.PoolFacts.{pool_facts}
-use Rattle.solve_core.proofs.Satisfying.{closed_of_satisfying, satisfying_of_closed}
+use Rattle.std.specs.Prelude.{None}
+use Rattle.candidate_core.specs.Candidates.{Need}
+use Rattle.candidate_core.specs.Rank.{SealedPool}
+use Rattle.search_tables.specs.Selection.{IsSatisfying, IsFirstSelection, next_need}
+use Rattle.search_tables.specs.Reasons.{FrameValue, AreCompatible, IsReason, AreTurnsFrom, choices_in}
+use Rattle.search_tables.specs.Reasons.{HasOptions}
+use Rattle.search_choices.specs.Choices.{IsSearch, choices_of, pool_of}
+use Rattle.search_choices.specs.declared.choices.Choices.{Choices}
+use Rattle.search_tables.proofs.Turns.{turns_found}
+use Rattle.search_tables.proofs.PoolFacts.{pool_facts}
+use Rattle.search_tables.proofs.Satisfying.{closed_of_satisfying, satisfying_of_closed}
 
 pub first_found : (pool : SealedPool) → ((need : Need) → HasOptions pool need) → (chosen : Choices) (turns : List (FrameValue × ℕ)) → IsSearch chosen turns → pool_of chosen ≡ pool → next_need (pool_of chosen) (choices_of chosen) ≡ None → IsFirstSelection pool (choices_of chosen)
 first_found pool has chosen turns search same end =
@@ -28,7 +29,3 @@ first_found pool has chosen turns search same end =
 
 pub none_satisfies : (pool : SealedPool) → IsReason pool [] → (selection : List ℕ) → IsSatisfying pool selection → ⊥
 none_satisfies pool dead selection satisfies = dead selection (closed_of_satisfying pool selection satisfies) (λ c h. absurd h)
-
-pub none_of : {X : Type 0} (o : Option X) (P : Type 0) (Q : X → Type 0) → ((x : X) → o ≡ Some x → ⊥) → MatchOption o P Q → P
-none_of None P Q never m = m
-none_of (Some x) P Q never m = absurd (never x refl)

@@ -1,17 +1,18 @@
 -- What each step of a search keeps.
 use Rattle.std.proofs.Common.{◌≡◌, ◌⊎◌, inl, inr, ℕ, false, List, [], ◌∷◌, ◌++◌, refl, sym, subst, ap, ◌∙◌, append-nil, length, arith}
 use Rattle.std.specs.Prelude.{not, filter, ◌==◌}
-use Rattle.pool_core.specs.Candidates.{Need}
-use Rattle.pool_core.specs.Rank.{SealedPool}
-use Rattle.pool_core.specs.Options.{IsIn, options_for}
-use Rattle.solve_core.specs.Selection.{AreMembers, AreDistinct, exclude_each_other}
-use Rattle.solve_core.specs.Reasons.{AreCompatible, IsReason, RulesOut, FrameValue, options_in, AreRuledOut, IsFrameOf, IsSpentFrame, IsFrameTaking, AreTurnsFrom, choices_in, others_in, dead_end_reason, HasSameMembers}
-use Rattle.solve_core.specs.Choices.{IsSearch, HasOptions, IsConsistent, choices_of, pool_of}
-use Rattle.solve_core.specs.declared.choices.Choices.{Choices}
-use Rattle.solve_core.proofs.Theory as law
-use Rattle.solve_core.proofs.Theory.{Facts, in_left, in_right, in_append}
-use Rattle.solve_core.proofs.Turns.{reasons_dead, turns_more, turns_less, choices-append}
-use Rattle.solve_core.proofs.PoolFacts.{pool_facts}
+use Rattle.candidate_core.specs.Candidates.{Need}
+use Rattle.candidate_core.specs.Rank.{SealedPool}
+use Rattle.candidate_core.specs.Options.{IsIn, options_for}
+use Rattle.search_tables.specs.Selection.{AreMembers, AreDistinct, exclude_each_other}
+use Rattle.search_tables.specs.Reasons.{AreCompatible, IsReason, RulesOut, FrameValue, options_in, AreRuledOut, IsFrameOf, IsSpentFrame, IsFrameTaking, AreTurnsFrom, choices_in, others_in, dead_end_reason, HasSameMembers}
+use Rattle.search_tables.specs.Reasons.{HasOptions}
+use Rattle.search_choices.specs.Choices.{IsSearch, IsConsistent, choices_of, pool_of}
+use Rattle.search_choices.specs.declared.choices.Choices.{Choices}
+use Rattle.search_tables.proofs.Theory as law
+use Rattle.search_tables.proofs.Theory.{Facts, in_left, in_right, in_append}
+use Rattle.search_tables.proofs.Turns.{reasons_dead, turns_more, turns_less, choices-append}
+use Rattle.search_tables.proofs.PoolFacts.{pool_facts}
 use Rattle.std.proofs.lemmas.Bool.Decides.{eqb_tells}
 
 module _ (pool : SealedPool) where
@@ -155,7 +156,3 @@ dead_empty pool members chosen sub is dead S closed inside =
 
 pub no_choices : (turns : List (FrameValue × ℕ)) → turns ≡ [] → choices_in turns ≡ []
 no_choices turns e = ap choices_in e
-
-pub empty_list : {X : Type 0} (xs : List X) → length xs ≡ 0 → xs ≡ []
-empty_list [] h = refl
-empty_list (x ∷ xs) h = absurd (omega arith)

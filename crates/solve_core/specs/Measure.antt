@@ -4,7 +4,7 @@
 -- "How the search works"). An option that is taken or ruled out makes its frame's digit smaller,
 -- and what is put behind it counts less.
 use Rattle.std.specs.Prelude.{ℕ, zero, suc, ◌+◌, ◌*◌, ◌^◌, List, [], ◌∷◌, ◌++◌, length}
-use Rattle.solve_core.specs.Reasons.{FrameValue}
+use Rattle.search_tables.specs.Reasons.{FrameValue}
 
 -- the number b to the power n
 unfoldable pub power : ℕ → ℕ → ℕ

@@ -3,9 +3,9 @@
 //! The rules stand in `docs/selection.md`, "Which selection is taken": "the selection that is taken
 //! is the *first* one" and what follows there.
 ghost use Rattle.std.specs.Prelude.{◌≡◌, ◌⊎◌, ℕ, true, List, [], ◌∷◌, ◌++◌, Some};
-ghost use Rattle.pool_core.specs.Candidates.{Need};
-ghost use Rattle.pool_core.specs.Rank.{SealedPool, is_better, meets_at};
-ghost use Rattle.solve_core.specs.Selection.{AreMembers, ComesBefore, IsFirstSelection, IsSatisfying, IsWalk, next_need};
+ghost use Rattle.candidate_core.specs.Candidates.{Need};
+ghost use Rattle.candidate_core.specs.Rank.{SealedPool, is_better, meets_at};
+ghost use Rattle.search_tables.specs.Selection.{AreMembers, ComesBefore, IsFirstSelection, IsSatisfying, IsWalk, next_need};
 
 use crate::selection::options_are_as_promised;
 use pool_core::rank_is_total;

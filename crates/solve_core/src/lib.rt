@@ -1,20 +1,12 @@
 //! The first preferred selection of a world: `solve` answers it in the order of its walk, or that
 //! no selection satisfies the world. A sealed pool comes in, places of candidates go out. The
-//! contract cites `specs/Selection.antt`: what satisfies, the walk of a selection, which of two
-//! walks comes before, and the first selection.
+//! contract cites `Selection` of `search_tables`: what satisfies, the walk of a selection, which of
+//! two walks comes before, and the first selection.
 //! The rules stand in `docs/selection.md`, "What satisfies world", and "Which selection is taken";
 //! "How the search works" there says how the first selection is found.
 #![tactic(auto)]
 
-mod candidate_set;
-mod choices;
-mod conflicts;
-mod frame;
-mod install_ifs;
 mod laws;
-mod name_table;
-mod needs;
-mod queue;
 mod search;
 mod selection;
 
@@ -23,4 +15,5 @@ pub use laws::{
     each_selection_has_one_walk, the_first_selection_is_unique, walks_satisfy,
     walks_stand_in_one_order,
 };
-pub use selection::{Trace, solve};
+pub use search_choices::Trace;
+pub use selection::solve;

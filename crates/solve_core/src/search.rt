@@ -1,18 +1,17 @@
 //! The search: it takes options, rules options out, and steps back at a dead end.
 //! The rule stands in `docs/selection.md`, "How the search works".
 ghost use Rattle.std.specs.Prelude.{◌≡◌, ◌<◌, ◌^◌, ◌≤◌, ◌==◌, not, filter, ℕ, [], ◌∷◌, ◌++◌, false, true, length, IfOk, OnOk, IfSome, MatchOption, None, Some, slice_get};
-ghost use Rattle.pool_core.specs.Options.{IsIn};
-ghost use Rattle.solve_core.specs.Selection.{AreMembers, exclude_each_other, next_need};
-ghost use Rattle.solve_core.specs.Reasons.{AreCompatible, FrameValue, IsReason, HasSameMembers, RulesOut, IsFrameOf, IsSpentFrame, IsFrameTaking, dead_end_reason};
+ghost use Rattle.candidate_core.specs.Options.{IsIn};
+ghost use Rattle.search_tables.specs.Selection.{AreMembers, exclude_each_other, next_need};
+ghost use Rattle.search_tables.specs.Reasons.{AreCompatible, FrameValue, IsReason, HasSameMembers, RulesOut, IsFrameOf, IsSpentFrame, IsFrameTaking, dead_end_reason};
 ghost use Rattle.solve_core.specs.Measure.{weight_of};
-ghost use Rattle.solve_core.specs.Choices.{IsSearch, choices_of, pool_of};
+ghost use Rattle.search_choices.specs.Choices.{IsSearch, choices_of, pool_of};
 
-use crate::candidate_set::CandidateSet;
-use crate::choices::Choices;
-use crate::frame::{Frame, RuledOutOption};
-use crate::selection::{Trace, options_are_as_promised};
+use crate::selection::options_are_as_promised;
 use dep_core::World;
 use pool_core::{CandId, Sealed};
+use search_choices::{Choices, Trace};
+use search_tables::{CandidateSet, Frame, RuledOutOption};
 use std::alloc::{AllocError, Global};
 use std::marker::Model;
 
@@ -261,8 +260,10 @@ impl<'p> Search<'p> {
             spent)) }
     {
         while let Some(turn) = self.turns.pop() {
+            // Each turn has its choice: both go.
             self.chosen.pop();
             let Turn { mut frame, choice } = turn;
+            // This is the latest choice of the reason: the others rule it out.
             if self.reason.has(choice) {
                 let others = without(self.alloc, &self.reason, choice)?;
                 let hint = Hint {

@@ -2,56 +2,17 @@
 //! The rules stand in `docs/selection.md`: "What satisfies world", "Which selection is taken", and
 //! "How the search works" for the loop.
 ghost use Rattle.std.specs.Prelude.{◌≡◌, ◌<◌, Some, IfOk, length, slice_get, [], List, ℕ, MatchOption};
-ghost use Rattle.pool_core.specs.Candidates.{Need};
-ghost use Rattle.pool_core.specs.Rank.{SealedPool};
-ghost use Rattle.solve_core.specs.Choices.{HasOptions, IsSearch, pool_of};
-ghost use Rattle.solve_core.specs.Selection.{IsFirstSelection, IsSatisfying};
+ghost use Rattle.candidate_core.specs.Candidates.{Need};
+ghost use Rattle.candidate_core.specs.Rank.{SealedPool};
+ghost use Rattle.search_tables.specs.Reasons.{HasOptions};
+ghost use Rattle.search_choices.specs.Choices.{IsSearch, pool_of};
+ghost use Rattle.search_tables.specs.Selection.{IsFirstSelection, IsSatisfying};
 
 use crate::search::Search;
 use dep_core::World;
 use pool_core::{CandId, Sealed, options_are_the_best_first};
+use search_choices::Trace;
 use std::alloc::{AllocError, Global};
-use std::marker::Model;
-
-/// The chosen candidates, in the order chosen.
-#[derive(Drop)]
-pub struct Trace {
-    /// The places of the chosen candidates, in the order chosen.
-    ids: Vec<CandId>,
-}
-
-impl Model for Trace {
-    ghost use Rattle.std.specs.Prelude.{ℕ, List};
-
-    ghost Value = { List ℕ };
-
-    ghost view = { λ trace. trace.ids.items };
-}
-
-impl Trace {
-    /// A trace with a copy of the choices.
-    pub(crate) fn of(alloc: Global, ids: &[CandId]) -> Result<Trace, AllocError>
-        ensures { IfOk result (λ trace. trace ≡ ids.now) }
-    {
-        let ids = Vec::from_slice(alloc, ids)?;
-        Ok(Trace { ids })
-    }
-
-    /// How many candidates were chosen.
-    pub fn len(&self) -> usize
-        ensures { result ≡ length self.now }
-    {
-        self.ids.len()
-    }
-
-    /// The candidate that was chosen at a place of the trace, counted from 0.
-    pub fn get(&self, i: usize) -> CandId
-        requires { i < length self.now }
-        ensures { slice_get self.now i ≡ Some result }
-    {
-        self.ids[i]
-    }
-}
 
 /// What a pool promises of the options of each need: they are those that may be selected and meet
 /// it, best first. A law, which proofs of this crate call.

@@ -44,7 +44,7 @@ MayStandFor (File f) bytes = AreListedFor f bytes
 
 -- ---- those of several writes
 
--- the source of each stands for the bytes at its place
+-- the source of each write stands for the bytes at its place
 pub record StandForEach (files : Files) (writes : List StagedWrite) (contents : List (List ℕ)) :
     Type 0 where
   pub same : length contents ≡ length writes

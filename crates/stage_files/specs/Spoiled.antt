@@ -23,7 +23,8 @@ pub record IsSpoiledFile (tested file : List ℕ) (cause : Cause) : Type 0 where
   pub digest : cause ≡ HashDiffers wanted found
   pub fault : package_fault file ≡ Some cause
 
--- whichever file the package was of that was tested, another one is spoiled so
+-- whatever a file's package was when it was tested, there is a file that is spoiled beside it, with
+-- this cause
 abbrev pub IsSpoiledSince : PackagedFile → Cause → Type 0
 IsSpoiledSince f cause = (name tested : List ℕ) → IsTestedOf name tested f.package.now
     → (file : List ℕ) × IsSpoiledFile tested file cause

@@ -19,7 +19,7 @@ const FIRST: usize = 100_000;
 /// The most bytes of a payload (`docs/formats.md`, "Canonical layout").
 const MOST_BYTES: usize = 268_435_455;
 
-/// The most writes of a row.
+/// The most writes of a row, and the most that wait.
 const MOST: u64 = 65_536;
 
 /// Answers `many WRITES WAITING`: whether an intent of so many writes is read back, name by name,

@@ -1,5 +1,5 @@
--- What a crash leaves, by a number. The rule stands in `docs/crash-safety.md`, "Misuses, faults and
--- counts", the last paragraph; what a crash may leave at all, in "What a crash leaves".
+-- What a crash leaves, by a number. The rule stands in `docs/crash-safety.md`, "Images of the
+-- tree in memory"; what a crash may leave at all, in "What a crash leaves".
 use Rattle.std.specs.Prelude.{◌≡◌, ℕ, ◌+◌, ◌/◌, ◌%◌, Bool, true, false, if◌then◌else◌, ◌||◌, ◌==◌, List, [], ◌∷◌, reverse, length, replicate, slice_index_or}
 use Rattle.std.specs.Option.{option_map}
 use Rattle.base_core.specs.Files.{Files, NameMap, no_names}

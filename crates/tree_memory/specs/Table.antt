@@ -62,7 +62,8 @@ HasBelowBut entries folder but =
     (name : List ℕ) × IsFolderOf folder name
     × (IsSome (lookup entries name) × (bytes_eq name but ≡ false))
 
--- no name of the table is a folder of this one or lies below it, but the one left out
+-- no name of the table is a folder of this one or lies below it, but the one left out: the name
+-- that a rename takes away, or the name itself
 pub record IsFit (entries : List NameAndFile) (name but : List ℕ) : Type 0 where
   pub above : HasFolderBut entries name but → ⊥
   pub below : HasBelowBut entries name but → ⊥

@@ -1,5 +1,5 @@
 //! What a crash leaves of a store.
-//! The rule stands in `docs/crash-safety.md`, "Misuses, faults and counts", the last paragraph.
+//! The rule stands in `docs/crash-safety.md`, "Images of the tree in memory".
 ghost use Rattle.std.specs.Prelude.{◌≡◌, ◌+◌, ◌-◌, ◌<◌, ◌≤◌, ◌^◌, ℕ, List, true, IfOk, length, take, slice_index_or};
 ghost use Rattle.base_core.specs.Files.{no_names};
 ghost use Rattle.base_core.specs.Restart.{IsCrashOf};

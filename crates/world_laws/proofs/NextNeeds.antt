@@ -8,11 +8,11 @@ use Rattle.std.proofs.lemmas.Bool.{and_from, and_parts, or_left, or_right}
 use Rattle.dep_core.specs.Dependency.{Dependency}
 use Rattle.dep_core.proofs.Worlds.{names_total}
 use Rattle.list_order.specs.ByteOrder.{bytes_cmp, precedes}
-use Rattle.pool_core.specs.Candidates.{Candidate, Need, entry, named, has_usable_install_if}
-use Rattle.pool_core.specs.Options.{IsIn}
-use Rattle.pool_core.specs.Rank.{SealedPool, meets_at}
-use Rattle.solve_core.specs.Selection.{depends_at, install_if_applies, is_met, is_unmet, least_name, lesser_name, names_by_install_if, next_need, positive_needs, raised_needs}
-use Rattle.solve_core.proofs.PoolFacts.{any_in, filter_in, in_filter, in_map, least_in, least_none, map_in}
+use Rattle.candidate_core.specs.Candidates.{Candidate, Need, entry, named, has_usable_install_if}
+use Rattle.candidate_core.specs.Options.{IsIn}
+use Rattle.candidate_core.specs.Rank.{SealedPool, meets_at}
+use Rattle.search_tables.specs.Selection.{depends_at, install_if_applies, is_met, is_unmet, least_name, lesser_name, names_by_install_if, next_need, positive_needs, raised_needs}
+use Rattle.search_tables.proofs.PoolFacts.{any_in, filter_in, in_filter, in_map, least_in, least_none, map_in}
 use Rattle.world_laws.specs.NextNeed.{AreMetByChoices, AreMetOfEach, IsAskedByInstallIf, IsFirstOfChoices, IsFirstUnmet, IsMetByChoice, IsNextOrNone}
 
 -- ---- the least name

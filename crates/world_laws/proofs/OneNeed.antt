@@ -5,10 +5,10 @@ use Rattle.std.specs.declared.cmp.Ordering.TheVariants.{Less, Equal, Greater}
 use Rattle.dep_core.specs.Dependency.{Dependency}
 use Rattle.dep_core.proofs.Worlds.{cmp-equal, names_total}
 use Rattle.list_order.specs.ByteOrder.{bytes_cmp}
-use Rattle.pool_core.specs.Candidates.{Need, entry, named}
-use Rattle.pool_core.specs.Options.{IsIn}
-use Rattle.pool_core.specs.Rank.{SealedPool}
-use Rattle.solve_core.specs.Selection.{depends_at}
+use Rattle.candidate_core.specs.Candidates.{Need, entry, named}
+use Rattle.candidate_core.specs.Options.{IsIn}
+use Rattle.candidate_core.specs.Rank.{SealedPool}
+use Rattle.search_tables.specs.Selection.{depends_at}
 use Rattle.world_laws.specs.NextNeed.{AreMetByChoices, AreMetOfEach, IsFirstByInstallIf, IsFirstOfChoices, IsFirstUnmet, IsMetByChoice, IsNext, IsNextOrNone}
 
 -- ---- the first place of a list

@@ -3,10 +3,10 @@
 use Rattle.std.specs.Prelude.{◌≡◌, ◌⊎◌, ℕ, true, false, List, ◌∷◌, ◌++◌, Option, Some, None}
 use Rattle.dep_core.specs.Dependency.{Dependency}
 use Rattle.list_order.specs.ByteOrder.{precedes}
-use Rattle.pool_core.specs.Candidates.{Candidate, Need, entry, named, has_usable_install_if}
-use Rattle.pool_core.specs.Options.{IsIn}
-use Rattle.pool_core.specs.Rank.{SealedPool, meets_at}
-use Rattle.solve_core.specs.Selection.{depends_at}
+use Rattle.candidate_core.specs.Candidates.{Candidate, Need, entry, named, has_usable_install_if}
+use Rattle.candidate_core.specs.Options.{IsIn}
+use Rattle.candidate_core.specs.Rank.{SealedPool, meets_at}
+use Rattle.search_tables.specs.Selection.{depends_at}
 
 -- a chosen candidate meets a need
 abbrev pub IsMetByChoice : SealedPool → List ℕ → Need → Type 0
@@ -19,7 +19,7 @@ abbrev pub AreMetByChoices : SealedPool → List ℕ → List Dependency → Typ
 AreMetByChoices pool chosen deps = (d : Dependency) → IsIn d deps → d.conflict ≡ false
     → IsMetByChoice pool chosen (entry d)
 
--- of some dependencies one is the first that is no conflict and is not met
+-- a dependency is the first of some that is no conflict and is not met
 pub record IsFirstUnmet (pool : SealedPool) (chosen : List ℕ) (deps : List Dependency)
     (d : Dependency) : Type 0 where
   pub front : List Dependency
@@ -59,7 +59,7 @@ pub record IsAskedByInstallIf (pool : SealedPool) (chosen name : List ℕ) : Typ
       → IsMetByChoice pool chosen (entry d)
   pub unmet : ¬ IsMetByChoice pool chosen (named name)
 
--- of the names that an install-if asks for one is the first in byte order
+-- a name is the first in byte order of those that an install-if asks for
 pub record IsFirstByInstallIf (pool : SealedPool) (chosen name : List ℕ) : Type 0 where
   pub asked : IsAskedByInstallIf pool chosen name
   pub first : (other : List ℕ) → IsAskedByInstallIf pool chosen other

@@ -6,7 +6,7 @@ use Rattle.command_core.specs.Flags.{with_flag}
 use Rattle.command_core.specs.declared.command.Flag.TheVariants.{Simulate}
 use Rattle.report_core.specs.Reports.{report_line, sum_text}
 
--- the same command with `--simulate`
+-- a command with `--simulate`, and else as it is
 abbrev pub with_simulation : CommandLine → CommandLine
 with_simulation command = record command { flags = with_flag Simulate command.flags }
 

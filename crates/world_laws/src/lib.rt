@@ -7,9 +7,9 @@
 #![tactic(auto)]
 
 ghost use Rattle.std.specs.Prelude.{◌≡◌, ℕ, List, Option, false, Err, Ok};
-ghost use Rattle.pool_core.specs.Candidates.{Need};
-ghost use Rattle.pool_core.specs.Rank.{SealedPool};
-ghost use Rattle.solve_core.specs.Selection.{next_need};
+ghost use Rattle.candidate_core.specs.Candidates.{Need};
+ghost use Rattle.candidate_core.specs.Rank.{SealedPool};
+ghost use Rattle.search_tables.specs.Selection.{next_need};
 ghost use Rattle.world_laws.specs.NextNeed.{IsNextOrNone};
 ghost use Rattle.base_core.specs.Files.{Files};
 ghost use Rattle.change_files.specs.FileChange.{FileChange};

@@ -4,7 +4,7 @@ use Rattle.change_outcome.specs.MembersAfter.{name_that_goes, staying_found}
 use Rattle.db_core.specs.Seen.{packages_of}
 use Rattle.package_changes.specs.Placed.{old_package}
 use Rattle.package_changes.specs.Seen.{change_seen, placed_name_seen}
-use Rattle.pool_core.specs.Values.{candidate_value}
+use Rattle.candidate_core.specs.Values.{candidate_value}
 use Rattle.arrivals.specs.Arrivals.{IsPackageRead}
 use Rattle.arrivals.specs.NameReads.{IsNameRead, coming_read, name_read}
 use Rattle.arrivals.proofs.NameAnswers.{answer_handed, by_any_read, part_refused, test_refused}

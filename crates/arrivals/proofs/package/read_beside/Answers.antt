@@ -1,7 +1,7 @@
 use Rattle.std.proofs.Common.{◌≡◌, ◌∙◌, [], Ok, Err, ap, sym}
 use Rattle.change_inputs.specs.Faults.{IsRefusedOf}
 use Rattle.change_outcome.specs.PackageFiles.{unless_different}
-use Rattle.pool_core.specs.Values.{candidate_value}
+use Rattle.candidate_core.specs.Values.{candidate_value}
 use Rattle.arrivals.specs.Arrivals.{IsPackageRead}
 use Rattle.arrivals.specs.NameReads.{file_read}
 use Rattle.arrivals.proofs.NameAnswers.{failure_answers, test_refused, then_refused, told_answers, tree_failed}

@@ -1,6 +1,6 @@
 use Rattle.std.proofs.Common.{◌≡◌, ◌∙◌, Some, None, Ok, Err, ap, sym}
 use Rattle.change_outcome.specs.MembersAfter.{coming_by_path}
-use Rattle.pool_core.specs.Values.{candidate_value}
+use Rattle.candidate_core.specs.Values.{candidate_value}
 use Rattle.arrivals.specs.Arrivals.{IsPackageRead}
 use Rattle.arrivals.specs.NameReads.{candidate_read, file_read}
 use Rattle.arrivals.proofs.NameAnswers.{by_any_read, failure_answers, no_memory, same_answer, told_answers}

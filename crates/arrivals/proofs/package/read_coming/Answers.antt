@@ -1,7 +1,7 @@
 use Rattle.std.proofs.Common.{◌≡◌, ◌∙◌, true, Ok, Err, ap, sym}
 use Rattle.change_outcome.specs.PackageFiles.{scripts_of_change, unless_script}
 use Rattle.package_changes.specs.Seen.{change_seen}
-use Rattle.pool_core.specs.Values.{candidate_value}
+use Rattle.candidate_core.specs.Values.{candidate_value}
 use Rattle.arrivals.specs.Arrivals.{IsPackageRead}
 use Rattle.arrivals.specs.NameReads.{candidate_read, coming_read}
 use Rattle.package_test.specs.Tested.{tested_value}

@@ -3,7 +3,7 @@ use Rattle.change_inputs.specs.Answers.{Agrees}
 use Rattle.change_inputs.specs.Candidates.{root_pool}
 use Rattle.change_inputs.specs.Seen.{inputs_seen}
 use Rattle.change_inputs.specs.declared.root.Refused.TheVariants.{Memory}
-use Rattle.pool_core.specs.Rank.{SealedPool}
+use Rattle.candidate_core.specs.Rank.{SealedPool}
 use Rattle.report_core.specs.declared.refusal.Refusal.{Refusal}
 use Rattle.engine_core.specs.Runs.{IsRunBy}
 use Rattle.engine_core.proofs.Early.{HaveClash, nothing_read}

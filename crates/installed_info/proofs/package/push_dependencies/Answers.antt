@@ -4,7 +4,7 @@ use Rattle.adb_fields.specs.ListValue.{list_value}
 use Rattle.adb_fields.specs.Repeated.{list_of}
 use Rattle.adb_tables.specs.Values.{entries_in, entry_in, nth}
 use Rattle.dep_core.specs.DependencyText.{dep_text}
-use Rattle.pool_core.specs.Candidates.{dependency_in}
+use Rattle.candidate_core.specs.Candidates.{dependency_in}
 use Rattle.report_core.specs.Reports.{report_line, report_lines}
 use Rattle.installed_info.proofs.LineSteps.{all_told, dependencies_listed, dependency_left, dependency_lines, no_entry_left, told}
 use Rattle.installed_info.proofs.package.push_dependencies.Goals as goal

@@ -1,6 +1,6 @@
 use Rattle.std.proofs.Common.{◌≡◌, take, map}
-use Rattle.pool_core.specs.Packages.{candidates_of_packages}
-use Rattle.pool_core.specs.Rank.{is_kept_installed, listed_names}
+use Rattle.candidate_core.specs.Packages.{candidates_of_packages}
+use Rattle.candidate_core.specs.Rank.{is_kept_installed, listed_names}
 use Rattle.pool_core.proofs.keeping.marks_with_sorted.Given as goal
 
 abbrev pub invariant-loop-place : goal.invariant-loop-place

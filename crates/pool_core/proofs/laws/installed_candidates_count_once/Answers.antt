@@ -1,4 +1,4 @@
-use Rattle.pool_core.proofs.Installed.{counted_once, stands_last}
+use Rattle.candidate_core.proofs.Installed.{counted_once, stands_last}
 use Rattle.pool_core.proofs.SamePackage.{kept}
 use Rattle.pool_core.proofs.laws.installed_candidates_count_once.Goals as goal
 

@@ -1,5 +1,5 @@
-use Rattle.pool_core.proofs.OfferLists.{offers_those, offers_each, places_rising}
-use Rattle.pool_core.specs.Candidates.{offers_name}
+use Rattle.candidate_core.proofs.OfferLists.{offers_those, offers_each, places_rising}
+use Rattle.candidate_core.specs.Candidates.{offers_name}
 use Rattle.pool_core.proofs.laws.offers_are_the_places.Goals as goal
 
 pub returns-clause-those : goal.returns-clause-those

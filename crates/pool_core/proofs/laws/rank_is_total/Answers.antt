@@ -1,5 +1,5 @@
-use Rattle.pool_core.proofs.OptionLists.{same_place}
-use Rattle.pool_core.proofs.RankOrder.{rank_total}
+use Rattle.candidate_core.proofs.OptionLists.{same_place}
+use Rattle.option_ranks.proofs.RankOrder.{rank_total}
 use Rattle.pool_core.proofs.laws.rank_is_total.Goals as goal
 
 pub returns-clause-total : goal.returns-clause-total

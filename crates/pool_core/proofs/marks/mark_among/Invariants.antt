@@ -1,7 +1,7 @@
 use Rattle.std.proofs.Common.{◌≡◌, take}
 use Rattle.dep_core.specs.Meets.{dependency}
 use Rattle.pool_core.specs.Marks.{affects}
-use Rattle.pool_core.specs.Packages.{candidates_of_packages}
+use Rattle.candidate_core.specs.Packages.{candidates_of_packages}
 use Rattle.pool_core.proofs.MarksThroughTable.{marks_among}
 use Rattle.pool_core.proofs.marks.mark_among.Given as goal
 

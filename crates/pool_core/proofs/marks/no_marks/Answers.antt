@@ -1,6 +1,6 @@
 use Rattle.std.proofs.Common.{arith}
-use Rattle.pool_core.specs.Packages.{candidates_of_packages}
-use Rattle.pool_core.proofs.LoopTests.{unmarked_next}
+use Rattle.candidate_core.specs.Packages.{candidates_of_packages}
+use Rattle.candidate_core.proofs.LoopTests.{unmarked_next}
 use Rattle.pool_core.proofs.marks.no_marks.Goals as goal
 
 pub loop-place-preserved : goal.loop-place-preserved

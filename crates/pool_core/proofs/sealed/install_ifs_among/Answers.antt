@@ -1,9 +1,9 @@
 use Rattle.std.proofs.Common.{◌≤◌, ◌<◌, ◌∙◌, List, ℕ, Bool, false, length, take, get_or, ap, arith}
 use Rattle.std.proofs.lemmas.List.{take_all}
-use Rattle.pool_core.specs.Candidates.{Candidate}
-use Rattle.pool_core.specs.World.{places_marked}
-use Rattle.pool_core.specs.Packages.{candidates_of_packages}
-use Rattle.pool_core.proofs.Steps.{marked_step, get_at}
+use Rattle.candidate_core.specs.Candidates.{Candidate}
+use Rattle.candidate_core.specs.PositiveInstallIfs.{places_marked}
+use Rattle.candidate_core.specs.Packages.{candidates_of_packages}
+use Rattle.candidate_core.proofs.Steps.{marked_step, get_at}
 use Rattle.pool_core.proofs.sealed.install_ifs_among.Goals as goal
 
 pub loop-place-preserved : goal.loop-place-preserved

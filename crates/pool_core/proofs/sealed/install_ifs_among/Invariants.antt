@@ -1,6 +1,6 @@
 use Rattle.std.proofs.Common.{◌≡◌, take}
-use Rattle.pool_core.specs.World.{places_marked}
-use Rattle.pool_core.specs.Packages.{candidates_of_packages}
+use Rattle.candidate_core.specs.PositiveInstallIfs.{places_marked}
+use Rattle.candidate_core.specs.Packages.{candidates_of_packages}
 use Rattle.pool_core.proofs.sealed.install_ifs_among.Given as goal
 
 abbrev pub invariant-loop-place : goal.invariant-loop-place

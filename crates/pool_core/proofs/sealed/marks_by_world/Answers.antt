@@ -1,9 +1,9 @@
 use Rattle.std.proofs.Common.{◌≡◌, ◌∙◌, List, Bool, map, ap}
 use Rattle.dep_core.specs.Dependency.{Dependency}
 use Rattle.dep_core.specs.Meets.{dependency}
-use Rattle.pool_core.specs.Candidates.{Candidate}
-use Rattle.pool_core.specs.World.{places_marked}
-use Rattle.pool_core.specs.Packages.{candidates_of_packages}
+use Rattle.candidate_core.specs.Candidates.{Candidate}
+use Rattle.candidate_core.specs.PositiveInstallIfs.{places_marked}
+use Rattle.candidate_core.specs.Packages.{candidates_of_packages}
 use Rattle.pool_core.proofs.Sealing.{eligible_marked, pinned_marked, install_ifs_marked}
 use Rattle.pool_core.proofs.sealed.marks_by_world.Goals as goal
 

@@ -1,7 +1,7 @@
 -- The candidates that are left are still to be summed.
 use Rattle.std.proofs.Common.{◌≡◌, ◌≤◌, ◌+◌, ◌*◌, ℕ, List, drop}
 use Rattle.std.specs.Prelude.{fold, sum_by}
-use Rattle.pool_core.specs.Rank.{SealedPool}
+use Rattle.candidate_core.specs.Rank.{SealedPool}
 use Rattle.package_changes.specs.Placed.{candidates_at}
 use Rattle.report_changes.specs.Report.{candidate_size}
 use Rattle.report_changes.proofs.report.selected_size.Given as goal

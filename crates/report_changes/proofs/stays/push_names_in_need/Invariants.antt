@@ -1,7 +1,7 @@
 -- The names of the candidates that are left are still to come.
 use Rattle.std.proofs.Common.{◌≡◌, ◌++◌, map, drop}
 use Rattle.std.specs.List.{filter}
-use Rattle.pool_core.specs.Candidates.{Candidate}
+use Rattle.candidate_core.specs.Candidates.{Candidate}
 use Rattle.package_changes.specs.Placed.{candidates_at}
 use Rattle.report_changes.specs.Report.{is_in_need}
 use Rattle.report_changes.proofs.stays.push_names_in_need.Given as goal

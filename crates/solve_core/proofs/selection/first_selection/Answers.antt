@@ -1,11 +1,12 @@
 use Rattle.std.proofs.Common.{◌≡◌, ◌<◌, ◌≤◌, ◌^◌, ◌∙◌, ◌∷◌, ◌++◌, [], ℕ, List, length, subst, sym, ap, arith}
-use Rattle.pool_core.specs.Rank.{SealedPool}
-use Rattle.solve_core.specs.Selection.{IsFirstSelection}
-use Rattle.solve_core.specs.Choices.{choices_of, pool_of}
-use Rattle.solve_core.specs.declared.choices.Choices.{Choices}
+use Rattle.candidate_core.specs.Rank.{SealedPool}
+use Rattle.search_tables.specs.Selection.{IsFirstSelection}
+use Rattle.search_choices.specs.Choices.{choices_of, pool_of}
+use Rattle.search_choices.specs.declared.choices.Choices.{Choices}
 use Rattle.solve_core.specs.Measure.{weight_of}
-use Rattle.solve_core.specs.Reasons.{FrameValue, IsReason, IsSpentFrame, IsFrameTaking}
-use Rattle.solve_core.proofs.FirstFound.{first_found, none_satisfies, none_of}
+use Rattle.search_tables.specs.Reasons.{FrameValue, IsReason, IsSpentFrame, IsFrameTaking}
+use Rattle.search_tables.proofs.Places.{none_of}
+use Rattle.solve_core.proofs.FirstFound.{first_found, none_satisfies}
 use Rattle.solve_core.proofs.Weights.{opened_lighter, not_heavier, few_turns, few_options}
 use Rattle.solve_core.proofs.selection.first_selection.Goals as goal
 

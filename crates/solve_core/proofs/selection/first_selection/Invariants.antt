@@ -1,6 +1,6 @@
 use Rattle.std.proofs.Common.{◌≡◌}
-use Rattle.solve_core.specs.Choices.{IsSearch, choices_of, pool_of}
-use Rattle.solve_core.specs.Reasons.{IsFrameOf}
+use Rattle.search_choices.specs.Choices.{IsSearch, choices_of, pool_of}
+use Rattle.search_tables.specs.Reasons.{IsFrameOf}
 use Rattle.solve_core.specs.Measure.{weight_of}
 use Rattle.solve_core.proofs.selection.first_selection.Given as goal
 

@@ -1,8 +1,8 @@
 use Rattle.std.proofs.Common.{◌≡◌, ◌∙◌, List, ℕ, Bool, ap, sym, arith}
-use Rattle.pool_core.specs.Options.{options_for, rank_order_of}
-use Rattle.pool_core.specs.Rank.{is_better}
-use Rattle.pool_core.specs.Values.{need_by}
-use Rattle.pool_core.proofs.RankedOptions.{few_ranked}
+use Rattle.candidate_core.specs.Options.{options_for, rank_order_of}
+use Rattle.candidate_core.specs.Rank.{is_better}
+use Rattle.candidate_core.specs.Values.{need_by}
+use Rattle.option_ranks.proofs.RankedOptions.{few_ranked}
 use Rattle.pool_core.proofs.sealed.Sealed.options_for.Goals as goal
 
 pub returns-then-len-lt2 : goal.returns-then-len-lt2

@@ -1,8 +1,8 @@
 use Rattle.std.proofs.Common.{◌≡◌, All, map, take}
-use Rattle.pool_core.specs.Ranking.{IsRankingIn}
-use Rattle.pool_core.specs.Values.{need_by}
-use Rattle.pool_core.specs.VersionRanks.{IsReadFrom}
-use Rattle.pool_core.proofs.RankedOptions.{place_of}
+use Rattle.option_ranks.specs.Ranking.{IsRankingIn}
+use Rattle.candidate_core.specs.Values.{need_by}
+use Rattle.option_ranks.specs.VersionRanks.{IsReadFrom}
+use Rattle.option_ranks.proofs.RankedOptions.{place_of}
 use Rattle.pool_core.proofs.sealed.Sealed.rankings.Given as goal
 
 abbrev pub invariant-loop-id : goal.invariant-loop-id

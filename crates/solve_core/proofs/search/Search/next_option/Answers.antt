@@ -1,10 +1,10 @@
 use Rattle.std.proofs.Common.{◌∷◌, ◌++◌, [], length, subst, sym, ap, arith}
-use Rattle.solve_core.specs.Choices.{choices_of, pool_of}
-use Rattle.solve_core.specs.declared.choices.Choices.{Choices}
-use Rattle.solve_core.specs.Reasons.{FrameValue, AreCompatible, IsFrameOf, IsSpentFrame, IsFrameTaking}
+use Rattle.search_choices.specs.Choices.{choices_of, pool_of}
+use Rattle.search_choices.specs.declared.choices.Choices.{Choices}
+use Rattle.search_tables.specs.Reasons.{FrameValue, AreCompatible, IsFrameOf, IsSpentFrame, IsFrameTaking}
 use Rattle.solve_core.proofs.Steps.{taken_of_open, spent_of_open, fits_in}
-use Rattle.solve_core.proofs.Turns.{passed_over}
-use Rattle.solve_core.proofs.Consistency.{taken_once, taken_within}
+use Rattle.search_tables.proofs.Turns.{passed_over}
+use Rattle.search_choices.proofs.Consistency.{taken_once, taken_within}
 use Rattle.solve_core.proofs.search.Search.next_option.Goals as goal
 
 pub returns-in-None-clause-found : goal.returns-in-None-clause-found

@@ -1,6 +1,6 @@
 use Rattle.std.proofs.Common.{subst, sym, List, ℕ}
-use Rattle.solve_core.specs.Reasons.{RulesOut}
-use Rattle.solve_core.specs.Choices.{pool_of, choices_of}
+use Rattle.search_tables.specs.Reasons.{RulesOut}
+use Rattle.search_choices.specs.Choices.{pool_of, choices_of}
 use Rattle.solve_core.proofs.search.Search.reason_against.Goals as goal
 
 pub returns-in-Some : goal.returns-in-Some

@@ -1,0 +1,15 @@
+pub mod DependencyLists
+pub mod JudgedLists
+pub mod OptionLists
+pub mod OfferLists
+pub mod Anyone
+pub mod TableLookup
+pub mod Answering
+pub mod LoopTests
+pub mod Installed
+pub mod Steps
+pub mod TableAdding
+pub mod CandidateLists
+pub mod ReadWords
+pub mod PackageLists
+pub mod ProvidedVersions

@@ -1,0 +1,12 @@
+use Rattle.std.proofs.Common.{◌≡◌, ◌≤◌, length}
+use Rattle.adb_fields.specs.ListValue.{list_value}
+use Rattle.adb_tables.specs.Values.{entries_in}
+use Rattle.candidate_core.proofs.DependencyLists.{dependencies_to}
+use Rattle.candidate_core.proofs.dependencies.read_judged.Given as goal
+
+abbrev pub invariant-loop-i : goal.invariant-loop-i
+invariant-loop-i l = record {
+  passed : l.passed ≡ length (dependencies_to l.i (entries_in (list_value l.list)));
+  few : l.passed ≤ l.i;
+  before : l.passed ≤ l.place;
+}

@@ -1,0 +1,14 @@
+-- what the contract of `apk` says
+pub mod Candidates
+pub mod Rank
+pub mod Options
+-- what only other contracts and proofs use
+pub mod Values
+pub mod PlainCode
+pub mod Table
+pub mod PositiveInstallIfs
+pub mod SoundTexts
+pub mod PackageWords
+pub mod Packages
+pub mod CandidateList
+pub mod VersionTexts

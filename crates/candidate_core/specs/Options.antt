@@ -1,0 +1,60 @@
+-- The candidates that offer a name, and the options of a need.
+-- The rules stand in `docs/selection.md`: "What there is to choose from" (which candidate may be
+-- selected and what meets a need), and "Which selection is taken" (the options of a need in rank
+-- order).
+use Rattle.std.specs.Prelude.{◌≡◌, ◌<◌, ℕ, suc, Bool, true, ◌&&◌, if◌then◌else◌, List, [], ◌∷◌}
+use Rattle.candidate_core.specs.Candidates.{Candidate, Need, is_eligible, meets_need, offers_name}
+use Rattle.candidate_core.specs.Rank.{SealedPool, is_better}
+pub use Rattle.adb_fields.specs.FirstPair.{IsIn}
+
+-- each member of the first list is one of the second
+abbrev pub AreMembers : {X : Type 0} → List X → List X → Type 0
+AreMembers {X} xs ys = (c : X) → IsIn c xs → IsIn c ys
+
+-- no number stands twice
+abbrev pub AreDistinct : List ℕ → Type 0
+AreDistinct [] = Unit {0}
+AreDistinct (c ∷ cs) = (IsIn c cs → ⊥) × AreDistinct cs
+
+-- the places of the candidates that pass a test, in rising order; the first candidate of the list
+-- has the place `n`
+abbrev pub places_from : ℕ → (Candidate → Bool) → List Candidate → List ℕ
+places_from n test [] = []
+places_from n test (c ∷ cs) =
+    if test c then n ∷ places_from (suc n) test cs else places_from (suc n) test cs
+
+-- the offers of a name: the places, counted from 0, of the candidates that are named so or provide
+-- it
+abbrev pub places_offering : List ℕ → List Candidate → List ℕ
+places_offering name candidates = places_from 0 (offers_name name) candidates
+
+-- whether the candidate may be selected and meets the need
+abbrev pub may_meet : SealedPool → Need → Candidate → Bool
+may_meet pool need c = is_eligible pool.world c && meets_need need c
+
+-- places in rank order, with one more, which stands before the first that it is better than
+abbrev pub insert_by_rank : (ℕ → ℕ → Bool) → ℕ → List ℕ → List ℕ
+insert_by_rank better c [] = c ∷ []
+insert_by_rank better c (d ∷ ds) =
+    if better c d then c ∷ (d ∷ ds) else d ∷ insert_by_rank better c ds
+
+-- places in rank order: each better one first
+abbrev pub rank_order_of : (ℕ → ℕ → Bool) → List ℕ → List ℕ
+rank_order_of better [] = []
+rank_order_of better (c ∷ cs) = insert_by_rank better c (rank_order_of better cs)
+
+-- the options of a need: the candidates that may be selected and meet it, best first
+unfoldable pub options_for : SealedPool → Need → List ℕ
+options_for pool need =
+    rank_order_of (is_better pool need) (places_from 0 (may_meet pool need) pool.candidates)
+
+-- each place of the list is better than those behind it
+abbrev pub IsBestFirst : (ℕ → ℕ → Bool) → List ℕ → Type 0
+IsBestFirst better [] = Unit {0}
+IsBestFirst better (c ∷ cs) =
+    ((d : ℕ) → IsIn d cs → better c d ≡ true) × IsBestFirst better cs
+
+-- each place of the list is below those behind it
+abbrev pub AreRising : List ℕ → Type 0
+AreRising [] = Unit {0}
+AreRising (c ∷ cs) = ((d : ℕ) → IsIn d cs → c < d) × AreRising cs

@@ -1,0 +1,140 @@
+-- Which of two candidates is taken first for a need.
+-- The rule stands in `docs/selection.md`, "Which selection is taken", the table of eleven keys.
+-- Each definition that compares says which keys it has.
+use Rattle.std.specs.Prelude.{ℕ, Bool, true, false, not, ◌&&◌, List, Option, is_some, slice_get}
+use Rattle.std.specs.Option.{option_map_or, option_cmp}
+use Rattle.std.specs.List.{list_any}
+use Rattle.std.specs.Str.{bytes_eq}
+use Rattle.std.specs.Ordering.{nat_cmp, bool_cmp, on, flip_args, then_cmp, is_lt}
+use Rattle.std.specs.declared.cmp.Ordering.{Ordering}
+use Rattle.version_core.specs.Order.{version_cmp}
+use Rattle.dep_core.specs.Dependency.{Dependency}
+use Rattle.candidate_core.specs.Candidates.{Candidate, Need, need_name, version_under, is_eligible, meets_need}
+pub use Rattle.list_order.specs.ByteOrder.{bytes_cmp}
+
+-- the names that a command upgrades: none (`add`, `del`, `fix`), all (`upgrade` without names), or
+-- those of a list
+pub data UpgradedNames : Type 0 where
+  no_names : UpgradedNames
+  all_names : UpgradedNames
+  listed_names : List (List ℕ) → UpgradedNames
+
+-- the candidates that a selection is made of, the world that it is to satisfy, and the names that
+-- the command upgrades
+pub record SealedPool : Type 0 where
+  pub candidates : List Candidate
+  pub world : List Dependency
+  pub upgraded : UpgradedNames
+
+-- a sealed pool by its parts
+abbrev pub sealed_pool_by : List Candidate → List Dependency → UpgradedNames → SealedPool
+sealed_pool_by candidates world upgraded =
+    record { candidates = candidates; world = world; upgraded = upgraded }
+
+-- whether the command upgrades this name
+abbrev pub is_upgraded : UpgradedNames → List ℕ → Bool
+is_upgraded no_names name = false
+is_upgraded all_names name = true
+is_upgraded (listed_names names) name = list_any (bytes_eq name) names
+
+-- ---- the keys
+
+-- whether world pins the name to the tag: an entry, a conflict too, has both
+abbrev pub is_pinned_to : List Dependency → List ℕ → List ℕ → Bool
+is_pinned_to world name tag =
+    list_any
+    (λ (d : Dependency). bytes_eq name d.name && option_map_or (bytes_eq tag) d.tag false) world
+
+-- key 1: whether a candidate is tagged, and world pins its name to its tag
+abbrev pub is_pinned : List Dependency → Candidate → Bool
+is_pinned world c = option_map_or (is_pinned_to world c.name) c.tag false
+
+-- key 2: whether a candidate is of a repository without a tag, or of none
+abbrev pub is_untagged : Candidate → Bool
+is_untagged c = not (is_some c.tag)
+
+-- key 3: whether a candidate has the very name that is needed
+abbrev pub has_needed_name : Need → Candidate → Bool
+has_needed_name need c = bytes_eq (need_name need) c.name
+
+-- key 4: whether a candidate is installed, and the command does not upgrade its name
+abbrev pub is_kept_installed : UpgradedNames → Candidate → Bool
+is_kept_installed upgraded c = c.installed && not (is_upgraded upgraded c.name)
+
+-- ---- the order
+
+-- a candidate that has the quality comes before one that has it not
+abbrev pub quality_first : (Candidate → Bool) → Candidate → Candidate → Ordering
+quality_first quality = on quality (flip_args bool_cmp)
+
+-- of two versions the greater comes first, and none last
+abbrev pub greater_version : Option (List ℕ) → Option (List ℕ) → Ordering
+greater_version = flip_args (option_cmp version_cmp)
+
+-- of two repositories the one of the lesser number comes first, and none last
+abbrev pub earlier_repository : Option ℕ → Option ℕ → Ordering
+earlier_repository = flip_args (option_cmp (flip_args nat_cmp))
+
+-- keys 2 to 4: where a candidate comes from, what it is called, and whether it is installed and
+-- stays
+abbrev pub quality_cmp : UpgradedNames → Need → Candidate → Candidate → Ordering
+quality_cmp upgraded need =
+    then_cmp (quality_first is_untagged)
+    (then_cmp (quality_first (has_needed_name need))
+    (quality_first (is_kept_installed upgraded)))
+
+-- keys 5 to 8: the greater version under which the need is met, the greater provider-priority, the
+-- byte-lesser name, the greater version of its own
+abbrev pub merit_cmp : Need → Candidate → Candidate → Ordering
+merit_cmp need =
+    then_cmp (on (version_under need) greater_version)
+    (then_cmp (on (λ (c : Candidate). c.priority) (flip_args nat_cmp))
+    (then_cmp (on (λ (c : Candidate). c.name) bytes_cmp)
+    (on (λ (c : Candidate). c.version) greater_version)))
+
+-- keys 9 and 10: the byte-lesser text of the version, and the earlier repository
+abbrev pub text_cmp : Candidate → Candidate → Ordering
+text_cmp =
+    then_cmp (on (λ (c : Candidate). c.version) (option_cmp bytes_cmp))
+    (on (λ (c : Candidate). c.repository) earlier_repository)
+
+-- keys 2 to 10, of two candidates that world pins both, or neither
+abbrev pub unpinned_cmp : UpgradedNames → Need → Candidate → Candidate → Ordering
+unpinned_cmp upgraded need =
+    then_cmp (quality_cmp upgraded need) (then_cmp (merit_cmp need) text_cmp)
+
+-- keys 1 to 10, all but the place: what world pins comes first
+abbrev pub candidate_cmp : SealedPool → Need → Candidate → Candidate → Ordering
+candidate_cmp pool need =
+    then_cmp (quality_first (is_pinned pool.world)) (unpinned_cmp pool.upgraded need)
+
+-- ---- places in the list
+
+-- the candidate at a place, counted from 0
+abbrev pub candidate_at : SealedPool → ℕ → Option Candidate
+candidate_at pool place = slice_get pool.candidates place
+
+-- whether there is a candidate at the place, and the candidate passes the test
+abbrev pub is_at : SealedPool → (Candidate → Bool) → ℕ → Bool
+is_at pool test place = option_map_or test (candidate_at pool place) false
+
+-- whether the candidate at a place may be selected
+abbrev pub is_eligible_at : SealedPool → ℕ → Bool
+is_eligible_at pool place = is_at pool (is_eligible pool.world) place
+
+-- whether world pins the name of the candidate at a place to its tag
+abbrev pub is_pinned_at : SealedPool → ℕ → Bool
+is_pinned_at pool place = is_at pool (is_pinned pool.world) place
+
+-- whether the candidate at a place meets a need
+abbrev pub meets_at : SealedPool → ℕ → Need → Bool
+meets_at pool place need = is_at pool (meets_need need) place
+
+-- the order of two places for a need, by all eleven keys: the earlier place is the last one
+unfoldable pub rank_cmp : SealedPool → Need → ℕ → ℕ → Ordering
+rank_cmp pool need =
+    then_cmp (on (candidate_at pool) (option_cmp (candidate_cmp pool need))) nat_cmp
+
+-- whether the candidate at the first place comes before that at the second, for a need
+abbrev pub is_better : SealedPool → Need → ℕ → ℕ → Bool
+is_better pool need a b = is_lt (rank_cmp pool need a b)

@@ -1,0 +1,219 @@
+//! The list of candidates in the making: the packages of each index, then the installed ones that
+//! no index has.
+//! The rules stand in `docs/selection.md`, "What there is to choose from": the order of the list,
+//! which candidate is the installed package, and how many there may be.
+ghost use Rattle.std.specs.Prelude.{◌≡◌, ◌<◌, ◌+◌, ℕ, [], ◌∷◌, ◌++◌, length, true, None, Some, slice_get, OnOk, IfErr};
+ghost use Rattle.std.specs.List.{list_any};
+ghost use Rattle.adb_schema.specs.Views.{info_value};
+ghost use Rattle.adb_fields.specs.Fields.{are_all_sound, array_at};
+ghost use Rattle.adb_tables.specs.declared.tables.Kind.TheVariants as Kinds;
+ghost use Rattle.adb_tables.specs.declared.tables.Which.TheVariants as Tables;
+ghost use Rattle.adb_view.specs.Adb.{payload_of};
+ghost use Rattle.adb_view.specs.Entries.{array_entries};
+ghost use Rattle.adb_tables.specs.Values.{count_of, entries_in, entry_in};
+ghost use Rattle.candidate_core.specs.Candidates.{as_installed_where_same, candidate_of, is_same_package, with_installed};
+ghost use Rattle.candidate_core.specs.Options.{places_offering};
+ghost use Rattle.candidate_core.specs.CandidateList.{IsCandidateList, is_same_at, marked_at};
+ghost use Rattle.candidate_core.specs.PackageWords.{IsPackageOf};
+ghost use Rattle.candidate_core.specs.Packages.{candidate_in_source, candidates_of_packages, candidates_of_source};
+ghost use Rattle.candidate_core.specs.SoundTexts.{HasSoundTexts};
+ghost use Rattle.candidate_core.specs.Values.{IsPoolFault};
+
+use crate::candidate::{CandId, Details};
+use crate::judging::has_sound_texts;
+use crate::packages::{Packages, Source};
+use crate::table::Table;
+use adb_schema::PkgInfo;
+use adb_tables::entry_word;
+use adb_view::{Arr, Val};
+use std::alloc::{AllocError, Global};
+
+/// Why a package is not taken into a pool.
+#[derive(Clone, Copy, Debug, PartialEq, Eq)]
+pub enum PoolFault {
+    /// There would be more candidates than a pool holds; `count` is `MOST_CANDIDATES` and 1, the
+    /// first count that is too great.
+    TooMany { count: u64 },
+    /// There was no memory.
+    Memory,
+}
+
+impl From<AllocError> for PoolFault {
+    ghost use Rattle.std.specs.Prelude.{◌≡◌};
+    ghost use Rattle.candidate_core.specs.declared.candidate_list.PoolFault.TheVariants.{Memory};
+
+    ghost from_gives = { λ _ fault. fault ≡ Memory };
+
+    // The fault that want of memory is.
+    fn from(_: AllocError) -> PoolFault {
+        PoolFault::Memory
+    }
+}
+
+/// The most candidates that a pool holds (`docs/selection.md`, "What there is to choose from").
+pub const MOST_CANDIDATES: usize = 65536;
+
+/// The candidates so far, and the table of the names that they offer.
+#[derive(Drop)]
+pub struct CandidateList<'a> {
+    /// The packages that the candidates are, in the order of the list.
+    pub packages: Packages<'a>,
+    /// The places of the candidates that offer each name.
+    pub table: Table<'a>,
+}
+
+impl<'a> CandidateList<'a> {
+    /// A list without candidates.
+    pub fn new(alloc: Global) -> CandidateList<'a>
+        ensures list { IsCandidateList result }
+        ensures none { candidates_of_packages result.packages ≡ [] }
+    {
+        CandidateList {
+            packages: Packages::new(alloc),
+            table: Table::new(alloc),
+        }
+    }
+
+    // Puts the package of a source behind the others. `source_place` is the place of the source
+    // among those of the list. After a refusal the list may only be dropped, since the table may
+    // then have a place that the packages have not.
+    fn push(
+        &mut self,
+        source: &Source<'a>,
+        source_place: u32,
+        word: Val,
+        installed: bool,
+    ) -> Result<(), PoolFault>
+        requires list { IsCandidateList self.old }
+        requires source { slice_get self.old.packages.sources.items source_place ≡ Some source.now }
+        requires word { IsPackageOf source.now word }
+        ensures list { OnOk result (IsCandidateList self.new) }
+        ensures sources { OnOk result (self.new.packages.sources ≡ self.old.packages.sources) }
+        ensures pushed { OnOk result (candidates_of_packages self.new.packages
+            ≡ candidates_of_packages self.old.packages
+            ++ candidate_in_source (Some source.now) word installed ∷ []) }
+        ensures fault { IfErr result (λ fault. IsPoolFault fault
+            (length (candidates_of_packages self.old.packages) + 1)) }
+    {
+        let place = self.packages.len();
+        if place >= MOST_CANDIDATES {
+            return Err(PoolFault::TooMany {
+                count: place as u64 + 1,
+            });
+        }
+        let id = CandId {
+            place: place as u32,
+        };
+        self.table
+            .add_all(&Details::of(source, word, installed), id)?;
+        self.packages.push(source_place, word, installed)?;
+        Ok(())
+    }
+
+    /// Puts the packages of an index behind the others; these are the words of its packages.
+    #[tactic(auto, using(adb_fields::proofs::FieldReads::entry_sound))]
+    pub fn push_all(&mut self, source: Source<'a>, packages: Arr<'a>) -> Result<(), PoolFault>
+        requires list { IsCandidateList self.old }
+        requires sound { are_all_sound (payload_of source.adb) (Kinds.Obj Tables.PkgInfo)
+            (array_entries packages) ≡ true }
+        // Where the source's texts keep their rules, so do those of each of these packages.
+        requires texts { source.has_sound_texts ≡ true → (i : ℕ)
+            → i < count_of (entries_in (array_at (payload_of source.adb)
+            (Kinds.Obj Tables.PkgInfo) (array_entries packages))) → HasSoundTexts
+            (entry_in (array_at (payload_of source.adb) (Kinds.Obj Tables.PkgInfo)
+            (array_entries packages)) i) }
+        ensures list { OnOk result (IsCandidateList self.new) }
+        ensures pushed { OnOk result (candidates_of_packages self.new.packages
+            ≡ candidates_of_packages self.old.packages ++ candidates_of_source source.entry
+            (entries_in (array_at (payload_of source.entry.adb) (Kinds.Obj Tables.PkgInfo)
+            (array_entries packages.entry)))) }
+        ensures fault { IfErr result (λ fault. IsPoolFault fault
+            (length (candidates_of_packages self.old.packages) + count_of (entries_in
+            (array_at (payload_of source.entry.adb) (Kinds.Obj Tables.PkgInfo)
+            (array_entries packages.entry))))) }
+    {
+        let source_place = self.packages.add_source(source)?;
+        for i in 0..packages.len() {
+            let word = entry_word(packages, i);
+            match self.push(&source, source_place, word, false) {
+                Ok(()) => {}
+                Err(fault) => return Err(fault),
+            }
+        }
+        Ok(())
+    }
+
+    /// Adds an installed package, or lets the candidates that are the same package count as
+    /// installed.
+    pub fn push_installed(&mut self, alloc: Global, info: PkgInfo<'a>) -> Result<(), PoolFault>
+        requires { IsCandidateList self.old }
+        ensures list { OnOk result (IsCandidateList self.new) }
+        ensures pushed { OnOk result (candidates_of_packages self.new.packages ≡ with_installed
+            (candidates_of_packages self.old.packages)
+            (candidate_of (info_value info.entry) None None true)) }
+        ensures fault { IfErr result (λ fault. IsPoolFault fault (length (with_installed
+            (candidates_of_packages self.old.packages)
+            (candidate_of (info_value info.entry) None None true)))) }
+    {
+        let source = Source {
+            adb: info.adb(),
+            repo: None,
+            tag: None,
+            has_sound_texts: has_sound_texts(alloc, info)?,
+        };
+        if self.mark_same(&Details::of(&source, info.word(), true)) {
+            return Ok(());
+        }
+        let source_place = self.packages.add_source(source)?;
+        self.push(&source, source_place, info.word(), true)
+    }
+
+    // Lets the candidates that are an installed package count as installed, and answers whether
+    // there is one.
+    fn mark_same(&mut self, installed: &Details<'a>) -> bool
+        requires { IsCandidateList self.old }
+        ensures list { IsCandidateList self.new }
+        ensures some { result ≡ list_any (is_same_package installed.now)
+            (candidates_of_packages self.old.packages) }
+        ensures same { candidates_of_packages self.new.packages ≡ as_installed_where_same
+            installed.now (candidates_of_packages self.old.packages) }
+    {
+        mark_among(
+            &mut self.packages,
+            self.table.get(installed.name()),
+            installed,
+        )
+    }
+}
+
+// Lets each of some candidates count as installed if it is the installed package, and answers
+// whether one is.
+fn mark_among<'a>(packages: &mut Packages<'a>, ids: &[CandId], installed: &Details<'a>) -> bool
+    requires { ids.now
+        ≡ places_offering installed.now.name (candidates_of_packages packages.old) }
+    ensures some { result ≡ list_any (is_same_package installed.now)
+        (candidates_of_packages packages.old) }
+    ensures same { candidates_of_packages packages.new ≡ as_installed_where_same installed.now
+        (candidates_of_packages packages.old) }
+{
+    let mut found = false;
+    for id in ids {
+        found |= mark_one(packages, *id, installed);
+    }
+    found
+}
+
+// Lets a candidate count as installed if it is the installed package, and answers whether it is.
+fn mark_one<'a>(packages: &mut Packages<'a>, id: CandId, installed: &Details<'a>) -> bool
+    requires { id < length (candidates_of_packages packages.old) }
+    ensures same { result ≡ is_same_at installed.now (candidates_of_packages packages.old) id }
+    ensures marked { candidates_of_packages packages.new
+        ≡ marked_at installed.now id (candidates_of_packages packages.old) }
+{
+    let place = id.place as usize;
+    if !packages.get(place).is_same_package(installed) {
+        return false;
+    }
+    packages.mark_installed(place);
+    true
+}

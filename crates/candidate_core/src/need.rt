@@ -1,0 +1,105 @@
+//! What has to be met, what a command upgrades, and the candidates that a need may be met by.
+//! The rules stand in `docs/selection.md`: "What satisfies world", 1 and 4 (what has to be met),
+//! and "Which selection is taken" (needs in their order; key 4 for what a command upgrades).
+ghost use Rattle.std.specs.Prelude.{◌≡◌, ◌<◌, ◌==◌, length, slice_get, Some};
+ghost use Rattle.candidate_core.specs.Candidates.{need_name};
+ghost use Rattle.candidate_core.specs.Values.{need_by};
+
+use crate::candidate::CandId;
+use base_core::Words;
+use dep_core::Dep;
+use std::marker::Model;
+
+/// What has to be met. The value owns the dependency, whose texts stay borrowed.
+#[derive(Drop)]
+pub enum Need<'a> {
+    /// An entry of world, or a dependency of a candidate.
+    Entry(Dep<'a>),
+    /// The name of a package whose install-if applies.
+    Named(&'a [u8]),
+}
+
+/// What has to be met, where the dependency is borrowed.
+#[derive(Clone, Copy)]
+pub enum NeedRef<'a> {
+    /// An entry of world, or a dependency of a candidate.
+    Entry(&'a Dep<'a>),
+    /// The name of a package whose install-if applies.
+    Named(&'a [u8]),
+}
+
+impl<'a> NeedRef<'a> {
+    /// The name that the need asks for.
+    pub fn name(&self) -> &'a [u8]
+        ensures { result.now ≡ need_name (need_by self.now) }
+    {
+        match self {
+            NeedRef::Entry(dep) => dep.name,
+            NeedRef::Named(name) => name,
+        }
+    }
+}
+
+/// The names that a command upgrades: of these, an installed candidate is not preferred.
+#[derive(Clone, Copy)]
+pub enum Upgrade<'a> {
+    /// No name: the command is `add`, `del` or `fix`.
+    Nothing,
+    /// Every name: the command is `upgrade` without names.
+    All,
+    /// The listed names, which `upgrade` is given.
+    Listed(&'a Words),
+}
+
+/// The candidates that a need may be met by, best first.
+#[derive(Drop)]
+pub struct Options {
+    /// The places of the candidates, the best first.
+    ids: Vec<CandId>,
+}
+
+impl Model for Options {
+    ghost use Rattle.std.specs.Prelude.{ℕ, List};
+
+    ghost Value = { List ℕ };
+
+    ghost view = { λ options. options.ids.items };
+}
+
+impl Options {
+    /// The options at some places, which the caller has sorted.
+    pub fn of(ids: Vec<CandId>) -> Options
+        ensures { result ≡ ids.items }
+    {
+        Options { ids }
+    }
+
+    /// How many options there are.
+    pub fn len(&self) -> usize
+        ensures { result ≡ length self.now }
+    {
+        self.ids.len()
+    }
+
+    /// Whether there is no option.
+    pub fn is_empty(&self) -> bool
+        ensures { result ≡ (length self.now == 0) }
+    {
+        self.ids.is_empty()
+    }
+
+    /// The option at an index, counted from 0; the best has index 0.
+    pub fn get(&self, i: usize) -> CandId
+        requires { i < length self.now }
+        ensures { slice_get self.now i ≡ Some result }
+    {
+        self.ids[i]
+    }
+
+    /// The places of the options, the best first, as a list of the caller's.
+    pub fn into_ids(self) -> Vec<CandId>
+        ensures { result.items ≡ self }
+    {
+        self.ids
+    }
+}

@@ -1,0 +1,154 @@
+//! Packages, each kept as its word and the number of its source: an index, or an installed package.
+//! What is said of a package is read from its source when it is asked for.
+//! Which package stands where says `docs/selection.md`, "What there is to choose from"; what a
+//! package's information has, `docs/formats.md`, "Schemas", table 3. That 12 bytes are kept of each
+//! is this crate's own choice, as its README says.
+ghost use Rattle.std.specs.Prelude.{All};
+ghost use Rattle.candidate_core.specs.PackageWords.{IsPackageAmong};
+
+use crate::candidate::Details;
+use crate::need::NeedRef;
+use crate::versions::{RankedVersion, own_version, version_under};
+use adb_view::{Adb, Val};
+use std::alloc::{AllocError, Global};
+
+/// Where packages come from: an index, or the database, for one package.
+#[derive(Clone, Copy)]
+pub struct Source<'a> {
+    /// The payload that the packages are read from.
+    pub adb: Adb<'a>,
+    /// The repository of the packages, counted from 1; none for an installed package.
+    pub repo: Option<u64>,
+    /// The tag of the repository, where it has one.
+    pub tag: Option<&'a [u8]>,
+    /// Whether the texts of its packages are known to keep their rules.
+    pub has_sound_texts: bool,
+}
+
+/// A package of a source.
+#[derive(Clone, Copy)]
+pub struct PackageWord {
+    /// The word of the package's information in the source's payload.
+    pub word: u32,
+    /// The place of the package's source, counted from 0.
+    pub source: u32,
+    /// Whether the package counts as installed.
+    pub installed: bool,
+}
+
+/// The packages of some sources.
+#[derive(Drop)]
+pub struct Packages<'a> {
+    /// The indexes and the installed packages, in the order in which they were added.
+    pub sources: Vec<Source<'a>>,
+    /// The packages, in the order in which they were added.
+    words: Vec<PackageWord>,
+    // Each word leads to a package of the source at its place.
+    ghost sound: { All (IsPackageAmong sources.items) words.items },
+}
+
+impl<'a> Packages<'a> {
+    ghost use Rattle.candidate_core.specs.Candidates.{Candidate, version_under};
+    ghost use Rattle.candidate_core.specs.Values.{need_by};
+    ghost use Rattle.candidate_core.specs.VersionTexts.{IsReadBy, source_text};
+    ghost use Rattle.std.specs.Prelude.{◌≡◌, ◌<◌, ◌∷◌, [], ◌++◌, length, Some, slice_get, IfOk, OnOk, OnErr};
+    ghost use Rattle.candidate_core.specs.PackageWords.{IsPackageAt};
+    ghost use Rattle.candidate_core.specs.Packages.{candidate_in_source, candidates_of_packages, installed_at};
+
+    /// A list without packages.
+    pub fn new(alloc: Global) -> Packages<'a>
+        ensures { candidates_of_packages result ≡ [] }
+    {
+        Packages {
+            sources: Vec::new(alloc),
+            words: Vec::new(alloc),
+        }
+    }
+
+    /// How many packages there are.
+    pub fn len(&self) -> usize
+        ensures { result ≡ length (candidates_of_packages self.now) }
+    {
+        self.words.len()
+    }
+
+    /// What is read of the package at a place, counted from 0.
+    pub fn get(&self, place: usize) -> Details<'a>
+        requires { place < length (candidates_of_packages self.now) }
+        ensures { slice_get (candidates_of_packages self.now) place ≡ Some result }
+    {
+        let package = self.words[place];
+        let source = self.sources[package.source as usize];
+        Details::of(&source, Val::of(package.word), package.installed)
+    }
+
+    /// The version of the package at a place, counted from 0.
+    pub fn version(&self, place: usize) -> RankedVersion<'a>
+        requires { place < length (candidates_of_packages self.now) }
+        ensures version { (c : Candidate)
+            → slice_get (candidates_of_packages self.now) place ≡ Some c
+            → result.version ≡ c.version }
+        ensures text { IsReadBy (source_text self.now.sources.items) result }
+    {
+        let package = self.words[place];
+        let source = self.sources[package.source as usize];
+        own_version(&source, package)
+    }
+
+    /// The version under which the package at a place, counted from 0, meets a need: its own, else
+    /// that of the first entry of its provides that meets it.
+    pub fn version_under(&self, place: usize, need: &NeedRef<'_>) -> RankedVersion<'a>
+        requires { place < length (candidates_of_packages self.now) }
+        ensures version { (c : Candidate)
+            → slice_get (candidates_of_packages self.now) place ≡ Some c
+            → result.version ≡ version_under (need_by need.now) c }
+        ensures text { IsReadBy (source_text self.now.sources.items) result }
+    {
+        let package = self.words[place];
+        let source = self.sources[package.source as usize];
+        version_under(&source, package, need)
+    }
+
+    /// Adds a source, and answers its place, counted from 0. After an error the packages are as
+    /// before.
+    pub(crate) fn add_source(&mut self, source: Source<'a>) -> Result<u32, AllocError>
+        ensures place { IfOk result (λ place.
+            slice_get self.new.sources.items place ≡ Some source.entry) }
+        ensures same { candidates_of_packages self.new ≡ candidates_of_packages self.old }
+    {
+        if self.sources.len() >= u32::MAX as usize {
+            return Err(AllocError);
+        }
+        let place = self.sources.len() as u32;
+        self.sources.push(source)?;
+        Ok(place)
+    }
+
+    /// Adds the package with a word in the source at a place behind the others. `installed` says
+    /// whether it counts as installed.
+    pub fn push(&mut self, source: u32, word: Val, installed: bool) -> Result<(), AllocError>
+        requires { IsPackageAt self.old.sources.items source word }
+        ensures sources { self.new.sources ≡ self.old.sources }
+        ensures pushed { OnOk result (candidates_of_packages self.new
+            ≡ candidates_of_packages self.old ++ candidate_in_source
+            (slice_get self.old.sources.items source) word installed ∷ []) }
+        ensures same { OnErr result (candidates_of_packages self.new
+            ≡ candidates_of_packages self.old) }
+    {
+        self.words.push(PackageWord {
+            word: word.word(),
+            source,
+            installed,
+        })?;
+        Ok(())
+    }
+
+    /// Lets the package at a place, counted from 0, count as installed.
+    pub(crate) fn mark_installed(&mut self, place: usize)
+        requires { place < length (candidates_of_packages self.old) }
+        ensures { candidates_of_packages self.new
+            ≡ installed_at place (candidates_of_packages self.old) }
+    {
+        self.words[place].installed = true;
+    }
+}

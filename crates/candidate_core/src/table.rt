@@ -1,0 +1,210 @@
+//! The table of names: for each name the candidates that are named so or provide it, in rising
+//! order and each once. It borrows the names. Most names have one candidate, which takes no memory
+//! of its own.
+//! The rule stands in `docs/selection.md`, "What there is to choose from": by which names a
+//! candidate meets a dependency. An entry of `provides` without version counts too, and one with a
+//! conflict bit does not.
+ghost use Rattle.std.specs.Prelude.{◌≡◌, ◌&&◌, ℕ, List, [], ◌∷◌, ◌++◌, IfOk, OnOk, None, Some, unwrap_or, not};
+ghost use Rattle.std.specs.List.{list_any};
+ghost use Rattle.std.specs.Str.{bytes_eq};
+ghost use Rattle.indexmap.specs.IndexMap.{insert_entry};
+ghost use Rattle.dep_core.specs.Dependency.{Dependency};
+ghost use Rattle.dep_core.specs.Meets.{dependency};
+ghost use Rattle.candidate_core.specs.Candidates.{offers_name};
+ghost use Rattle.candidate_core.specs.Table.{first_under, ids_of, is_last_id, with_last, with_last_where};
+
+use crate::candidate::{CandId, Details};
+use crate::dependencies::Deps;
+use dep_core::Dep;
+use indexmap::IndexMap;
+use std::alloc::{AllocError, Global};
+use std::marker::Model;
+use std::slice;
+
+/// The candidates that offer each name.
+#[derive(Drop)]
+pub struct Table<'a> {
+    /// What memory comes from.
+    alloc: Global,
+    // The first candidate of each name.
+    singles: IndexMap<&'a [u8], CandId>,
+    // All candidates of each name that has two or more.
+    lists: IndexMap<&'a [u8], Vec<CandId>>,
+}
+
+impl<'a> Model for Table<'a> {
+    ghost use Rattle.candidate_core.specs.Table.{Offered, offered_by};
+
+    ghost Value = { Offered };
+
+    ghost view = { λ t. offered_by t.singles.entries t.lists.entries };
+}
+
+impl<'a> Table<'a> {
+    /// A table without names.
+    pub fn new(alloc: Global) -> Table<'a>
+        ensures { (name : List ℕ) → ids_of result name ≡ [] }
+    {
+        Table {
+            alloc,
+            singles: IndexMap::new(alloc),
+            lists: IndexMap::new(alloc),
+        }
+    }
+
+    /// The places of the candidates that offer a name, in rising order.
+    pub fn get(&self, name: &[u8]) -> &[CandId]
+        ensures { result.now ≡ ids_of self.now name.now }
+    {
+        // A name with a list has its first candidate in `singles` too; the list counts.
+        match self.lists.get(name) {
+            Some(ids) => ids.as_slice(),
+            None => self.single(name),
+        }
+    }
+
+    // The candidate of a name that one candidate at most offers.
+    fn single(&self, name: &[u8]) -> &[CandId]
+        ensures { result.now ≡ unwrap_or (first_under self.now.singles name.now) [] }
+    {
+        match self.singles.get(name) {
+            Some(id) => slice::from_ref(id),
+            None => &[],
+        }
+    }
+
+    /// Adds a candidate to each name that it offers.
+    pub(crate) fn add_all(&mut self, details: &Details<'a>, id: CandId) -> Result<(), AllocError>
+        ensures { OnOk result ((name : List ℕ) → ids_of self.new name
+            ≡ with_last_where (offers_name name details.now) (ids_of self.old name) id) }
+    {
+        self.add(details.name(), id)?;
+        self.add_provided(&details.provides(), id)?;
+        Ok(())
+    }
+
+    // Adds a candidate to each name that an entry of its provides has.
+    fn add_provided(&mut self, provides: &Deps<'a>, id: CandId) -> Result<(), AllocError>
+        ensures { OnOk result ((name : List ℕ) → ids_of self.new name
+            ≡ with_last_where (list_any
+            (λ (p : Dependency). not p.conflict && bytes_eq name p.name)
+            provides.now) (ids_of self.old name) id) }
+    {
+        for i in 0..provides.len() {
+            self.add_entry(&provides.get(i), id)?;
+        }
+        Ok(())
+    }
+
+    // Adds a candidate to the name of an entry of its provides, unless that is a conflict.
+    fn add_entry(&mut self, entry: &Dep<'a>, id: CandId) -> Result<(), AllocError>
+        ensures { OnOk result ((name : List ℕ) → ids_of self.new name
+            ≡ with_last_where (not (dependency entry.now).conflict
+            && bytes_eq name (dependency entry.now).name) (ids_of self.old name) id) }
+    {
+        if entry.conflict {
+            return Ok(());
+        }
+        self.add(entry.name, id)?;
+        Ok(())
+    }
+
+    // Adds a candidate to those of a name, unless it is the last of them: a candidate may provide a
+    // name twice, or its own.
+    fn add(&mut self, name: &'a [u8], id: CandId) -> Result<(), AllocError>
+        ensures { OnOk result ((other : List ℕ) → ids_of self.new other
+            ≡ with_last_where (bytes_eq other name.entry.now) (ids_of self.old other) id) }
+    {
+        match self.lists.get_mut(name) {
+            Some(ids) => push_once(ids, id),
+            None => self.add_to_single(name, id),
+        }
+    }
+
+    // Adds a candidate to those of a name that has no list: it has one candidate at most.
+    fn add_to_single(&mut self, name: &'a [u8], id: CandId) -> Result<(), AllocError>
+        requires { first_under self.old.lists name.now ≡ None }
+        ensures { OnOk result ((other : List ℕ) → ids_of self.new other
+            ≡ with_last_where (bytes_eq other name.entry.now) (ids_of self.old other) id) }
+    {
+        match self.singles.get(name).copied() {
+            Some(first) => self.add_second(name, first, id),
+            None => insert_single(&mut self.singles, name, id),
+        }
+    }
+
+    // Adds a second candidate to those of a name that has one, unless they are the same.
+    fn add_second(&mut self, name: &'a [u8], first: CandId, id: CandId) -> Result<(), AllocError>
+        requires list { first_under self.old.lists name.now ≡ None }
+        requires single { first_under self.old.singles name.now ≡ Some (first ∷ []) }
+        ensures { OnOk result ((other : List ℕ) → ids_of self.new other
+            ≡ with_last_where (bytes_eq other name.entry.now) (ids_of self.old other) id) }
+    {
+        if first == id {
+            return Ok(());
+        }
+        let ids = pair(self.alloc, first, id)?;
+        insert_list(&mut self.lists, name, ids)
+    }
+}
+
+// Puts the first candidate of a name into the table.
+fn insert_single<'a>(
+    singles: &mut IndexMap<&'a [u8], CandId>,
+    name: &'a [u8],
+    id: CandId,
+) -> Result<(), AllocError>
+    ensures { OnOk result (singles.new.entries
+        ≡ insert_entry (λ one other. bytes_eq one.now other.now) singles.old.entries name.entry
+        id) }
+{
+    match singles.insert(name, id) {
+        Ok(_) => Ok(()),
+        Err(_) => Err(AllocError),
+    }
+}
+
+// Puts the candidates of a name that has two into the table.
+fn insert_list<'a>(
+    lists: &mut IndexMap<&'a [u8], Vec<CandId>>,
+    name: &'a [u8],
+    ids: Vec<CandId>,
+) -> Result<(), AllocError>
+    ensures { OnOk result (lists.new.entries
+        ≡ insert_entry (λ one other. bytes_eq one.now other.now) lists.old.entries name.entry
+        ids) }
+{
+    lists.insert(name, ids)?;
+    Ok(())
+}
+
+// A list of two candidates.
+fn pair(alloc: Global, first: CandId, second: CandId) -> Result<Vec<CandId>, AllocError>
+    ensures { IfOk result (λ ids. ids.items ≡ first ∷ second ∷ []) }
+{
+    let mut ids = Vec::with_capacity(alloc, 2)?;
+    ids.push(first)?;
+    ids.push(second)?;
+    Ok(ids)
+}
+
+// Puts a candidate behind others, unless it is the last of them.
+fn push_once(ids: &mut Vec<CandId>, id: CandId) -> Result<(), AllocError>
+    ensures { OnOk result (ids.new.items ≡ with_last ids.old.items id) }
+{
+    if is_last_id(ids, id) {
+        return Ok(());
+    }
+    ids.push(id)?;
+    Ok(())
+}
+
+// Whether the last of some places is this one.
+fn is_last_id(ids: &[CandId], id: CandId) -> bool
+    ensures { result ≡ is_last_id id ids.now }
+{
+    match ids.last() {
+        Some(last) => *last == id,
+        None => false,
+    }
+}

@@ -1,0 +1,184 @@
+//! The versions that options are ranked by: what is read of each, and where its text stands, so
+//! that a text which many packages share is known to be one.
+//! The rule stands in `docs/selection.md`, "Which selection is taken", the last paragraph (the
+//! version of key 5) and key 8.
+ghost use Rattle.std.specs.Prelude.{◌≡◌, ◌<◌, true, IfSome, length, option_copied, Some};
+ghost use Rattle.std.specs.Option.{option_and_then, option_map};
+ghost use Rattle.std.specs.List.{find};
+ghost use Rattle.adb_rules.specs.SoundValues.{IsSoundDependency};
+ghost use Rattle.adb_tables.specs.Values.{entry_in, is_sound, text_in, value_at};
+ghost use Rattle.adb_tables.specs.declared.tables.Kind.TheVariants as Kinds;
+ghost use Rattle.adb_tables.specs.declared.tables.Which.TheVariants as Tables;
+ghost use Rattle.adb_view.specs.Adb.{payload_of};
+ghost use Rattle.dep_core.specs.Dependency.{Dependency};
+ghost use Rattle.dep_core.specs.Meets.{dependency};
+ghost use Rattle.candidate_core.specs.Candidates.{candidate_of, dependencies_in, dependency_in, entry, is_met_by_entry, version_of_text, version_under};
+ghost use Rattle.candidate_core.specs.PackageWords.{IsPackageOf, info_in_source};
+ghost use Rattle.candidate_core.specs.Values.{need_by};
+
+use crate::candidate::{Details, is_met_by_entry};
+use crate::dependencies::{read_if_sound, read_sound};
+use crate::judging::{PACKAGE_VERSION, PROVIDES, VERSION};
+use crate::need::NeedRef;
+use crate::packages::{PackageWord, Source};
+use adb_fields::{View, field_word, objects_field};
+use adb_schema::DepView;
+use adb_tables::{Which, entry_word};
+use adb_view::Val;
+use dep_core::Dep;
+use version_core::Version;
+
+/// A version that an option is ranked by.
+#[derive(Drop)]
+pub struct RankedVersion<'a> {
+    /// The version; none where the text is no version, or the need is met by an entry without
+    /// version.
+    pub version: Option<Version<'a>>,
+    /// The place of the source that the version's text is read from, counted from 0.
+    pub source: u32,
+    /// The word of the version's text in that source.
+    pub word: u32,
+    /// How many of the versions that are ranked come before this one; 0 until they are ranked.
+    pub rank: usize,
+}
+
+/// Which of the two versions of an option is ranked.
+#[derive(Clone, Copy)]
+pub enum VersionKind {
+    /// The version under which the candidate meets the need.
+    Under,
+    /// The candidate's own version.
+    Own,
+}
+
+/// The version of the package with a word in a source. In the clause, 1 is the index of the version
+/// among the fields of a package's information (`PACKAGE_VERSION`).
+pub(crate) fn own_version<'a>(source: &Source<'a>, kept: PackageWord) -> RankedVersion<'a>
+    requires { IsPackageOf source.now kept.word }
+    ensures version { result.version ≡ version_of_text
+        (text_in (entry_in (info_in_source source.now kept.word) 1)) }
+    ensures source { result.source ≡ kept.source }
+    ensures text { IfSome result.version (λ version. version
+        ≡ text_in (value_at (payload_of source.now.adb) Kinds.Text result.word)) }
+{
+    let word = Val::of(kept.word);
+    RankedVersion {
+        version: Details::of(source, word, kept.installed).version(),
+        source: kept.source,
+        word: field_word(source.adb, Which::PkgInfo, word, PACKAGE_VERSION).word(),
+        rank: 0,
+    }
+}
+
+/// The version under which the package with a word in a source meets a need: its own, else that of
+/// the first entry of provides that meets the need.
+pub fn version_under<'a>(
+    source: &Source<'a>,
+    kept: PackageWord,
+    need: &NeedRef<'_>,
+) -> RankedVersion<'a>
+    requires { IsPackageOf source.now kept.word }
+    ensures version { result.version ≡ version_under (need_by need.now)
+        (candidate_of (info_in_source source.now kept.word) source.now.repo
+        (option_copied source.now.tag) kept.installed) }
+    ensures source { result.source ≡ kept.source }
+    ensures text { IfSome result.version (λ version. version
+        ≡ text_in (value_at (payload_of source.now.adb) Kinds.Text result.word)) }
+{
+    match need {
+        NeedRef::Named(_) => own_version(source, kept),
+        NeedRef::Entry(dep) => version_meeting(source, kept, dep),
+    }
+}
+
+/// The version under which the package with a word in a source meets a dependency.
+fn version_meeting<'a>(source: &Source<'a>, kept: PackageWord, dep: &Dep<'_>) -> RankedVersion<'a>
+    requires { IsPackageOf source.now kept.word }
+    ensures version { result.version ≡ version_under (entry (dependency dep.now))
+        (candidate_of (info_in_source source.now kept.word) source.now.repo
+        (option_copied source.now.tag) kept.installed) }
+    ensures source { result.source ≡ kept.source }
+    ensures text { IfSome result.version (λ version. version
+        ≡ text_in (value_at (payload_of source.now.adb) Kinds.Text result.word)) }
+{
+    let details = Details::of(source, Val::of(kept.word), kept.installed);
+    if details.meets_by_own_name(dep) {
+        return own_version(source, kept);
+    }
+    provided_version(source, kept, dep)
+}
+
+// The version of the first entry of a package's provides that meets a dependency; none where no
+// entry does. In the clause, 15 is the index of `provides` (`PROVIDES`).
+fn provided_version<'a>(source: &Source<'a>, kept: PackageWord, dep: &Dep<'_>) -> RankedVersion<'a>
+    requires { IsPackageOf source.now kept.word }
+    ensures version { result.version ≡ option_and_then (λ (p : Dependency). p.version)
+        (find (is_met_by_entry (dependency dep.now))
+        (dependencies_in (entry_in (info_in_source source.now kept.word) 15))) }
+    ensures source { result.source ≡ kept.source }
+    ensures text { IfSome result.version (λ version. version
+        ≡ text_in (value_at (payload_of source.now.adb) Kinds.Text result.word)) }
+{
+    let word = Val::of(kept.word);
+    let entries = objects_field(source.adb, Which::PkgInfo, word, PROVIDES, Which::Dep);
+    for i in 0..entries.len() {
+        let entry = entry_word(entries, i);
+        if let Some(found) = read_entry(source, entry) {
+            if is_met_by_entry(dep, &found) {
+                return version_of_entry(source, kept.source, entry, found);
+            }
+        }
+    }
+    // No entry meets the dependency: a version that is none needs no place.
+    RankedVersion {
+        version: None,
+        source: kept.source,
+        word: 0,
+        rank: 0,
+    }
+}
+
+// The version of an entry of provides, which is the dependency `found`, in the source at a place.
+// Where the entry has no version, the word is 0.
+fn version_of_entry<'a>(
+    source: &Source<'a>,
+    place: u32,
+    entry: Val,
+    found: Dep<'a>,
+) -> RankedVersion<'a>
+    requires sound { is_sound (payload_of source.now.adb) (Kinds.Obj Tables.Dep) entry ≡ true }
+    requires found { Some (dependency found)
+        ≡ dependency_in (value_at (payload_of source.now.adb) (Kinds.Obj Tables.Dep) entry) }
+    ensures version { result.version ≡ (dependency found.entry).version }
+    ensures source { result.source ≡ place }
+    ensures text { IfSome result.version (λ version. version
+        ≡ text_in (value_at (payload_of source.now.adb) Kinds.Text result.word)) }
+{
+    let word = if found.version.is_some() {
+        field_word(source.adb, Which::Dep, entry, VERSION).word()
+    } else {
+        0
+    };
+    RankedVersion {
+        version: found.version,
+        source: place,
+        word,
+        rank: 0,
+    }
+}
+
+// The dependency that an entry of a list is, if it is one; where the source's texts keep their
+// rules, each entry is.
+fn read_entry<'a>(source: &Source<'a>, entry: Val) -> Option<Dep<'a>>
+    requires sound { is_sound (payload_of source.now.adb) (Kinds.Obj Tables.Dep) entry ≡ true }
+    requires texts { source.now.has_sound_texts ≡ true → IsSoundDependency
+        (value_at (payload_of source.now.adb) (Kinds.Obj Tables.Dep) entry) }
+    ensures { option_map dependency result
+        ≡ dependency_in (value_at (payload_of source.now.adb) (Kinds.Obj Tables.Dep) entry) }
+{
+    let view = DepView::of(source.adb, entry);
+    if source.has_sound_texts {
+        return Some(read_sound(&view));
+    }
+    read_if_sound(&view)
+}

@@ -1,0 +1,5 @@
+pub mod RankOrder
+pub mod MovedMembers
+pub mod CountedRanks
+pub mod RankedVersions
+pub mod RankedOptions

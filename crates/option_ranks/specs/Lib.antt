@@ -1,0 +1,3 @@
+-- what only contracts and proofs use
+pub mod Ranking
+pub mod VersionRanks

@@ -1,0 +1,119 @@
+-- What options are ranked by, read once for each: the keys of the rank, in their order. Versions
+-- are compared by their texts, or by how many of those that are ranked come before them.
+-- The rule stands in `docs/selection.md`, "Which selection is taken", the table of eleven keys,
+-- which *Rank* says over candidates. This file serves the contracts of `src/rank.rt` and
+-- `src/sealed.rt` of `pool_core`: the order of rankings is that of their candidates.
+use Rattle.std.specs.Prelude.{◌≡◌, ℕ, Bool, List, Option, Some}
+use Rattle.std.specs.Option.{option_cmp}
+use Rattle.std.specs.Ordering.{bool_cmp, flip_args, nat_cmp, on, then_cmp}
+use Rattle.std.specs.declared.cmp.Ordering.{Ordering}
+use Rattle.candidate_core.specs.Candidates.{Candidate, Need, version_under}
+use Rattle.candidate_core.specs.Rank.{SealedPool, bytes_cmp, candidate_at, earlier_repository, greater_version, has_needed_name, is_kept_installed, is_pinned, is_untagged}
+use Rattle.option_ranks.specs.declared.rank.VersionKey.{VersionKey}
+use Rattle.option_ranks.specs.declared.rank.VersionKey.TheVariants.{ByRank, ByText}
+use Rattle.candidate_core.specs.declared.versions.RankedVersion.{RankedVersion}
+use Rattle.candidate_core.specs.declared.versions.VersionKind.{VersionKind}
+use Rattle.candidate_core.specs.declared.versions.VersionKind.TheVariants.{Under, Own}
+
+-- the keys of one option: whether world pins its name to its tag, whether it has no tag, whether it
+-- has the needed name, whether it is installed and stays; `under` is the version under which it
+-- meets the need, `version` its own; `place` counts from 0
+pub record Ranking : Type 0 where
+  pub pinned : Bool
+  pub untagged : Bool
+  pub named : Bool
+  pub kept : Bool
+  pub under : RankedVersion
+  pub priority : ℕ
+  pub name : List ℕ
+  pub version : RankedVersion
+  pub repository : Option ℕ
+  pub place : ℕ
+
+-- a ranking by its parts
+abbrev pub ranking_by :
+    Bool → Bool → Bool → Bool → RankedVersion → ℕ → List ℕ → RankedVersion → Option ℕ → ℕ → Ranking
+ranking_by pinned untagged named kept under priority name version repository place = record {
+  pinned = pinned;
+  untagged = untagged;
+  named = named;
+  kept = kept;
+  under = under;
+  priority = priority;
+  name = name;
+  version = version;
+  repository = repository;
+  place = place;
+}
+
+-- a version that is ranked, with its place and rank, where `version` is what is read at that place
+abbrev pub with_version : RankedVersion → Option (List ℕ) → RankedVersion
+with_version ranked version = record ranked { version = version }
+
+-- what is read of a candidate, at the place and with the ranks of a ranking
+abbrev pub read_as : SealedPool → Need → Candidate → Ranking → Ranking
+read_as pool need c r =
+    ranking_by (is_pinned pool.world c) (is_untagged c) (has_needed_name need c)
+    (is_kept_installed pool.upgraded c) (with_version r.under (version_under need c)) c.priority c.name
+    (with_version r.version c.version) c.repository r.place
+
+-- there is a candidate at the place of the ranking, and the ranking is what is read of it
+abbrev pub IsRankingIn : SealedPool → Need → Ranking → Type 0
+IsRankingIn pool need r = (c : Candidate) × ((candidate_at pool r.place ≡ Some c)
+    × (r ≡ read_as pool need c r))
+
+-- the order of two versions of a kind: the greater comes first; candidates' own versions are told
+-- apart by their texts too
+abbrev pub version_order : VersionKind → Option (List ℕ) → Option (List ℕ) → Ordering
+version_order Under = greater_version
+version_order Own = then_cmp greater_version (option_cmp bytes_cmp)
+
+-- the order of two versions of a kind by what versions are compared by: the lesser rank comes
+-- first, or the order is that of the versions
+abbrev pub version_key_cmp : VersionKey → VersionKind → RankedVersion → RankedVersion → Ordering
+version_key_cmp ByRank kind = on (λ (v : RankedVersion). v.rank) nat_cmp
+version_key_cmp ByText kind = on (λ (v : RankedVersion). v.version) (version_order kind)
+
+-- a ranking whose key is true comes before one whose key is false
+abbrev pub truth_first : (Ranking → Bool) → Ranking → Ranking → Ordering
+truth_first key = on key (flip_args bool_cmp)
+
+-- keys 2 to 4: untagged first, then by the needed name, then what is installed and stays
+abbrev pub quality_ranking_cmp : Ranking → Ranking → Ordering
+quality_ranking_cmp =
+    then_cmp (truth_first (λ r. r.untagged))
+    (then_cmp (truth_first (λ r. r.named)) (truth_first (λ r. r.kept)))
+
+-- keys 7 to 9: the byte-lesser name first, then the greater own version, and of equal ones the
+-- byte-lesser text
+abbrev pub name_ranking_cmp : VersionKey → Ranking → Ranking → Ordering
+name_ranking_cmp key =
+    then_cmp (on (λ (r : Ranking). r.name) bytes_cmp)
+    (on (λ (r : Ranking). r.version) (version_key_cmp key Own))
+
+-- keys 6 to 9: the greater provider-priority first
+abbrev pub priority_ranking_cmp : VersionKey → Ranking → Ranking → Ordering
+priority_ranking_cmp key =
+    then_cmp (on (λ (r : Ranking). r.priority) (flip_args nat_cmp)) (name_ranking_cmp key)
+
+-- keys 5 to 9: the greater version under which the need is met first
+abbrev pub merit_ranking_cmp : VersionKey → Ranking → Ranking → Ordering
+merit_ranking_cmp key =
+    then_cmp (on (λ (r : Ranking). r.under) (version_key_cmp key Under)) (priority_ranking_cmp key)
+
+-- key 10: the earlier repository first, and none last
+abbrev pub repository_ranking_cmp : Ranking → Ranking → Ordering
+repository_ranking_cmp = on (λ (r : Ranking). r.repository) earlier_repository
+
+-- keys 2 to 10, of two options that world pins both, or neither
+abbrev pub unpinned_ranking_cmp : VersionKey → Ranking → Ranking → Ordering
+unpinned_ranking_cmp key =
+    then_cmp quality_ranking_cmp (then_cmp (merit_ranking_cmp key) repository_ranking_cmp)
+
+-- keys 1 to 10, all but the place
+abbrev pub candidate_ranking_cmp : VersionKey → Ranking → Ranking → Ordering
+candidate_ranking_cmp key = then_cmp (truth_first (λ r. r.pinned)) (unpinned_ranking_cmp key)
+
+-- all eleven keys: by the place where the others are equal
+unfoldable pub ranking_cmp : VersionKey → Ranking → Ranking → Ordering
+ranking_cmp key = then_cmp (candidate_ranking_cmp key) (on (λ (r : Ranking). r.place) nat_cmp)

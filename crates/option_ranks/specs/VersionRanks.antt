@@ -1,0 +1,83 @@
+-- The ranks of the versions of options: each version of a list is ranked by how many of them come
+-- before it.
+-- The rule stands in `docs/selection.md`, "Which selection is taken", keys 5, 8 and 9 of the table.
+-- Serves the contracts of `src/version_ranks.rt`: a rank may stand for a version where two options
+-- are compared.
+use Rattle.std.specs.Prelude.{◌≡◌, ℕ, List, length, map, Option, All, is_some}
+use Rattle.std.specs.List.{filter}
+use Rattle.std.specs.List.Sorted.{IsPermutation}
+use Rattle.std.specs.Ordering.{is_lt}
+use Rattle.candidate_core.specs.Options.{IsIn}
+use Rattle.option_ranks.specs.Ranking.{Ranking, version_order}
+use Rattle.candidate_core.specs.VersionTexts.{IsReadBy, source_text}
+use Rattle.candidate_core.specs.declared.packages.Source.{Source}
+use Rattle.option_ranks.specs.declared.rank.VersionKey.{VersionKey}
+use Rattle.option_ranks.specs.declared.rank.VersionKey.TheVariants.{ByRank, ByText}
+use Rattle.candidate_core.specs.declared.versions.RankedVersion.{RankedVersion}
+use Rattle.candidate_core.specs.declared.versions.VersionKind.{VersionKind}
+use Rattle.candidate_core.specs.declared.versions.VersionKind.TheVariants.{Under, Own}
+
+-- ---- where the texts of versions stand
+
+-- both are versions, or neither is, and their texts stand at one place: the same word in the same
+-- source
+pub record HaveSamePlace (one other : RankedVersion) : Type 0 where
+  pub version : is_some one.version ≡ is_some other.version
+  pub source : one.source ≡ other.source
+  pub word : one.word ≡ other.word
+
+-- both versions of a ranking, where they are there, are the texts at their places in some sources
+abbrev pub IsReadFrom : List Source → Ranking → Type 0
+IsReadFrom sources r = IsReadBy (source_text sources) r.under × IsReadBy (source_text sources) r.version
+
+-- ---- ranks
+
+-- the version of an option that a kind names: the one under which it meets the need, or its own
+abbrev pub version_of : VersionKind → Ranking → RankedVersion
+version_of Under r = r.under
+version_of Own r = r.version
+
+-- the rank of a version among some: how many of them come before it
+abbrev pub rank_among : VersionKind → List (Option (List ℕ)) → Option (List ℕ) → ℕ
+rank_among kind versions version =
+    length (filter (λ one. is_lt (version_order kind one version)) versions)
+
+-- a ranking in which the version of a kind has this rank
+abbrev pub with_rank : VersionKind → ℕ → Ranking → Ranking
+with_rank Under n r = record r { under = record r.under { rank = n } }
+with_rank Own n r = record r { version = record r.version { rank = n } }
+
+-- a ranking in which the version of a kind has its rank among these
+abbrev pub with_rank_among : VersionKind → List (Option (List ℕ)) → Ranking → Ranking
+with_rank_among kind versions r =
+    with_rank kind (rank_among kind versions (version_of kind r).version) r
+
+-- the ranking's version of a kind is one of the list
+abbrev pub IsListed : VersionKind → List (Option (List ℕ)) → Ranking → Type 0
+IsListed kind versions r = IsIn (version_of kind r).version versions
+
+-- one function of places gives the texts of the versions of a kind of all these rankings
+abbrev pub AreReadAlike : VersionKind → List Ranking → Type 0
+AreReadAlike kind rankings = (text : ℕ → ℕ → List ℕ)
+    × All (λ r. IsReadBy text (version_of kind r)) rankings
+
+-- the rankings `after` are those `before` in some order, each with the rank of its version among
+-- some that hold the versions of all
+pub record AreRankedFrom (kind : VersionKind) (before after : List Ranking) : Type 0 where
+  pub versions : List (Option (List ℕ))
+  pub moved : List Ranking
+  pub permutation : IsPermutation before moved
+  pub listed : All (IsListed kind versions) moved
+  pub ranked : after ≡ map (with_rank_among kind versions) moved
+
+-- the rankings `after` are those `before` in some order, each with the ranks of both its versions
+pub record AreRankedTwice (before after : List Ranking) : Type 0 where
+  pub between : List Ranking
+  pub under : AreRankedFrom Under before between
+  pub own : AreRankedFrom Own between after
+
+-- the rankings `after` are those `before`, and may be compared by a key: both versions of each are
+-- ranked, or nothing has changed
+abbrev pub AreReadyFor : VersionKey → List Ranking → List Ranking → Type 0
+AreReadyFor ByRank before after = AreRankedTwice before after
+AreReadyFor ByText before after = after ≡ before

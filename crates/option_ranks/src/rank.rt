@@ -1,0 +1,250 @@
+//! Which of two options is taken first for a need. Each key of an option is read once, versions are
+//! compared by their texts or their ranks, and the first key that differs decides.
+//! The rule stands in `docs/selection.md`, "Which selection is taken", the table of eleven keys.
+//! Keys 8 and 9, the candidate's own version and then the version's text, are one here: the order
+//! of own versions tells both, and so does their rank.
+ghost use Rattle.std.specs.Prelude.{◌≡◌};
+ghost use Rattle.std.specs.Option.{option_cmp};
+ghost use Rattle.std.specs.Ordering.{bool_cmp, flip_args, then_cmp};
+ghost use Rattle.candidate_core.specs.Rank.{bytes_cmp, earlier_repository, greater_version};
+ghost use Rattle.option_ranks.specs.Ranking.{candidate_ranking_cmp, merit_ranking_cmp, name_ranking_cmp, priority_ranking_cmp, quality_ranking_cmp, ranking_cmp, repository_ranking_cmp, unpinned_ranking_cmp, version_key_cmp, version_order};
+ghost use Rattle.option_ranks.specs.VersionRanks.{version_of, with_rank};
+
+use candidate_core::{CandId, RankedVersion, VersionKind};
+use std::cmp::Ordering;
+use std::marker::Model;
+use version_core::Version;
+
+/// What the versions of two options are compared by.
+#[derive(Clone, Copy)]
+pub enum VersionKey {
+    /// The ranks of the versions; both versions of each option are ranked.
+    ByRank,
+    /// The versions themselves, as they are read.
+    ByText,
+}
+
+/// What an option is ranked by, in the order of the keys.
+#[derive(Drop)]
+pub struct RankedOption<'a> {
+    /// Key 1: whether world pins the candidate's name to its tag.
+    pub pinned: bool,
+    /// Key 2: whether the candidate is of a repository without tag, or of none.
+    pub untagged: bool,
+    /// Key 3: whether the candidate has the name that is needed.
+    pub named: bool,
+    /// Key 4: whether the candidate is installed, and the command does not upgrade its name.
+    pub kept: bool,
+    /// Key 5: the version under which the candidate meets the need.
+    pub under: RankedVersion<'a>,
+    /// Key 6: the provider-priority.
+    pub priority: u64,
+    /// Key 7: the candidate's name.
+    pub name: &'a [u8],
+    /// Keys 8 and 9: the candidate's own version.
+    pub version: RankedVersion<'a>,
+    /// Key 10: the repository, counted from 1; none for an installed package that no index has.
+    pub repo: Option<u64>,
+    /// Key 11: the place in the list of candidates.
+    pub id: CandId,
+}
+
+impl<'a> Model for RankedOption<'a> {
+    ghost use Rattle.option_ranks.specs.Ranking.{Ranking, ranking_by};
+
+    ghost Value = { Ranking };
+
+    ghost view = { λ r. ranking_by r.pinned r.untagged r.named r.kept r.under r.priority r.name.now
+        r.version r.repo r.id };
+}
+
+impl<'a> RankedOption<'a> {
+    /// The version of the option that a kind names.
+    pub(crate) fn version_of(&self, kind: VersionKind) -> &RankedVersion<'a>
+        ensures { result.now ≡ version_of kind self.now }
+    {
+        match kind {
+            VersionKind::Under => &self.under,
+            VersionKind::Own => &self.version,
+        }
+    }
+
+    /// Sets the rank of the version of the option that a kind names.
+    pub(crate) fn set_rank(&mut self, kind: VersionKind, rank: usize)
+        ensures { self.new ≡ with_rank kind rank self.old }
+    {
+        match kind {
+            VersionKind::Under => self.under.rank = rank,
+            VersionKind::Own => self.version.rank = rank,
+        }
+    }
+
+    /// The order of two options by all eleven keys.
+    #[tactic(auto, unfolding(crate::specs::Ranking::ranking_cmp))]
+    pub fn compare(&self, other: &RankedOption<'_>, key: VersionKey) -> Ordering
+        ensures { result ≡ ranking_cmp key self.now other.now }
+    {
+        match self.by_candidate(other, key) {
+            Ordering::Less => Ordering::Less,
+            Ordering::Greater => Ordering::Greater,
+            Ordering::Equal => self.id.place.cmp(&other.id.place),
+        }
+    }
+
+    // The order by all keys but the place: 1 to 10.
+    fn by_candidate(&self, other: &RankedOption<'_>, key: VersionKey) -> Ordering
+        ensures { result ≡ candidate_ranking_cmp key self.now other.now }
+    {
+        match truth_first(self.pinned, other.pinned) {
+            Ordering::Less => Ordering::Less,
+            Ordering::Greater => Ordering::Greater,
+            Ordering::Equal => self.by_unpinned(other, key),
+        }
+    }
+
+    // The order by keys 2 to 10, of options that world pins both, or neither.
+    fn by_unpinned(&self, other: &RankedOption<'_>, key: VersionKey) -> Ordering
+        ensures { result ≡ unpinned_ranking_cmp key self.now other.now }
+    {
+        match self.by_quality(other) {
+            Ordering::Less => Ordering::Less,
+            Ordering::Greater => Ordering::Greater,
+            Ordering::Equal => self.by_merit_and_repo(other, key),
+        }
+    }
+
+    // The order by keys 2 to 4: whether an option has no tag, has the needed name, is installed and
+    // stays.
+    fn by_quality(&self, other: &RankedOption<'_>) -> Ordering
+        ensures { result ≡ quality_ranking_cmp self.now other.now }
+    {
+        let untagged = truth_first(self.untagged, other.untagged);
+        let named = truth_first(self.named, other.named);
+        let kept = truth_first(self.kept, other.kept);
+        untagged.then(named.then(kept))
+    }
+
+    // The order by keys 5 to 10.
+    fn by_merit_and_repo(&self, other: &RankedOption<'_>, key: VersionKey) -> Ordering
+        ensures { result
+            ≡ then_cmp (merit_ranking_cmp key) repository_ranking_cmp self.now other.now }
+    {
+        match self.by_merit(other, key) {
+            Ordering::Less => Ordering::Less,
+            Ordering::Greater => Ordering::Greater,
+            Ordering::Equal => by_repo(self.repo, other.repo),
+        }
+    }
+
+    // The order by keys 5 to 9: the version under which the need is met, and what follows.
+    fn by_merit(&self, other: &RankedOption<'_>, key: VersionKey) -> Ordering
+        ensures { result ≡ merit_ranking_cmp key self.now other.now }
+    {
+        match by_version_key(key, VersionKind::Under, &self.under, &other.under) {
+            Ordering::Less => Ordering::Less,
+            Ordering::Greater => Ordering::Greater,
+            Ordering::Equal => self.by_priority(other, key),
+        }
+    }
+
+    // The order by keys 6 to 9: the greater priority comes first.
+    fn by_priority(&self, other: &RankedOption<'_>, key: VersionKey) -> Ordering
+        ensures { result ≡ priority_ranking_cmp key self.now other.now }
+    {
+        match other.priority.cmp(&self.priority) {
+            Ordering::Less => Ordering::Less,
+            Ordering::Greater => Ordering::Greater,
+            Ordering::Equal => self.by_name(other, key),
+        }
+    }
+
+    // The order by keys 7 to 9: the byte-lesser name comes first, and then the greater own version,
+    // and of equal ones the byte-lesser text.
+    fn by_name(&self, other: &RankedOption<'_>, key: VersionKey) -> Ordering
+        ensures { result ≡ name_ranking_cmp key self.now other.now }
+    {
+        match self.name.cmp(other.name) {
+            Ordering::Less => Ordering::Less,
+            Ordering::Greater => Ordering::Greater,
+            Ordering::Equal => {
+                by_version_key(key, VersionKind::Own, &self.version, &other.version)
+            }
+        }
+    }
+}
+
+// The order by a quality, of which the first option has `one` and the second `other`: an option
+// that has the quality comes first.
+fn truth_first(one: bool, other: bool) -> Ordering
+    ensures { result ≡ flip_args bool_cmp one other }
+{
+    other.cmp(&one)
+}
+
+// The order of two versions of a kind by what versions are compared by: their ranks, or the
+// versions themselves.
+fn by_version_key(
+    key: VersionKey,
+    kind: VersionKind,
+    one: &RankedVersion<'_>,
+    other: &RankedVersion<'_>,
+) -> Ordering
+    ensures { result ≡ version_key_cmp key kind one.now other.now }
+{
+    match key {
+        VersionKey::ByRank => one.rank.cmp(&other.rank),
+        VersionKey::ByText => compare_versions(kind, &one.version, &other.version),
+    }
+}
+
+/// The order of two versions of a kind: the greater first. Of the candidates' own versions, equal
+/// ones are told apart by their texts, the byte-lesser first; under which of two equal texts a need
+/// is met makes no difference.
+pub(crate) fn compare_versions(
+    kind: VersionKind,
+    one: &Option<Version<'_>>,
+    other: &Option<Version<'_>>,
+) -> Ordering
+    ensures { result ≡ version_order kind one.now other.now }
+{
+    match kind {
+        VersionKind::Under => by_version(one, other),
+        VersionKind::Own => by_version(one, other).then(by_version_text(one, other)),
+    }
+}
+
+// The order of two versions: the greater comes first, and none last.
+fn by_version(one: &Option<Version<'_>>, other: &Option<Version<'_>>) -> Ordering
+    ensures { result ≡ greater_version one.now other.now }
+{
+    match (one, other) {
+        (None, None) => Ordering::Equal,
+        (None, Some(_)) => Ordering::Greater,
+        (Some(_), None) => Ordering::Less,
+        (Some(one), Some(other)) => other.compare(one),
+    }
+}
+
+// The order of two versions by the bytes of their texts, none first.
+fn by_version_text(one: &Option<Version<'_>>, other: &Option<Version<'_>>) -> Ordering
+    ensures { result ≡ option_cmp bytes_cmp one.now other.now }
+{
+    match (one, other) {
+        (None, None) => Ordering::Equal,
+        (None, Some(_)) => Ordering::Less,
+        (Some(_), None) => Ordering::Greater,
+        (Some(one), Some(other)) => one.text().cmp(&other.text()),
+    }
+}
+
+// The order of two repositories: the lesser number comes first, and none last.
+fn by_repo(one: Option<u64>, other: Option<u64>) -> Ordering
+    ensures { result ≡ earlier_repository one other }
+{
+    match (one, other) {
+        (None, None) => Ordering::Equal,
+        (None, Some(_)) => Ordering::Greater,
+        (Some(_), None) => Ordering::Less,
+        (Some(one), Some(other)) => one.cmp(&other),
+    }
+}

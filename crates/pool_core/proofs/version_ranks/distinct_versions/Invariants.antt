@@ -1,6 +1,0 @@
-use Rattle.std.proofs.Common.{All, take}
-use Rattle.pool_core.specs.VersionRanks.{IsListed}
-use Rattle.pool_core.proofs.version_ranks.distinct_versions.Given as goal
-
-abbrev pub invariant-loop-i : goal.invariant-loop-i
-invariant-loop-i l = All (IsListed l.kind l.versions.items) (take l.i l.options)

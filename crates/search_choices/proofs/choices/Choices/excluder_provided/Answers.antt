@@ -1,0 +1,29 @@
+use Rattle.std.proofs.Common.{◌≡◌, ◌≤◌, List, false, length, sym, subst, arith}
+use Rattle.std.specs.Prelude.{is_some}
+use Rattle.dep_core.specs.Dependency.{Dependency}
+use Rattle.dep_core.specs.Meets.{dependency}
+use Rattle.candidate_core.specs.Options.{IsIn}
+use Rattle.search_choices.specs.Choices.{choices_of, pool_of}
+use Rattle.search_tables.specs.Excluders.{IsFreeAt}
+use Rattle.search_tables.proofs.Places.{there_is}
+use Rattle.search_tables.proofs.Offered.{each_all, each_on}
+use Rattle.search_choices.proofs.choices.Choices.excluder_provided.Goals as goal
+
+pub loop-i-init : goal.loop-i-init
+loop-i-init c = λ p h. absurd h
+
+pub excluder_of_entry-requires-clause-provided : goal.excluder_of_entry-requires-clause-provided
+excluder_of_entry-requires-clause-provided c =
+    subst (λ (z : List Dependency). IsIn (dependency c.get.result) z) c.provides-provides.ensures (there_is c.provides-provides.result c.loop-i.i (dependency c.get.result) c.get.ensures).1
+
+pub loop-i-preserved : goal.loop-i-preserved
+loop-i-preserved c =
+    let P : Dependency → Type 0 = λ p. p.conflict ≡ false → IsFreeAt (pool_of c.args.self.now) (choices_of c.args.self.now) c.args.details.now p.name (is_some p.version) in
+    each_on P c.provides-provides.result c.loop-i.i (dependency c.get.result) c.get.ensures c.loop-i.invariant c.in-None.ensures
+
+pub returns : goal.returns
+returns c =
+    let P : Dependency → Type 0 = λ p. p.conflict ≡ false → IsFreeAt (pool_of c.args.self.now) (choices_of c.args.self.now) c.args.details.now p.name (is_some p.version) in
+    let deps : List Dependency = c.provides-provides.result in
+    let past : length deps ≤ c.loop-i.i = omega arith in
+    λ p h. each_all P deps c.loop-i.i past c.loop-i.invariant p (subst (λ (z : List Dependency). IsIn p z) (sym c.provides-provides.ensures) h)

@@ -1,0 +1,13 @@
+use Rattle.std.proofs.Common.{◌≡◌, ◌≤◌, ◌<◌, ℕ, false, take}
+use Rattle.dep_core.specs.Dependency.{Dependency}
+use Rattle.candidate_core.specs.Options.{IsIn}
+use Rattle.search_choices.specs.Choices.{choices_of, install_ifs_of, pool_of}
+use Rattle.search_tables.specs.InstallIf.{rank_asks}
+use Rattle.search_tables.specs.NameTable.{items_of}
+use Rattle.search_choices.proofs.choices.Choices.least_rank_provided.Given as goal
+
+abbrev pub invariant-loop-i : goal.invariant-loop-i
+invariant-loop-i l = record {
+  less : l.least ≤ l.cursor;
+  unasked : (d : Dependency) → IsIn d (take l.i l.provides) → (rank : ℕ) → IsIn rank (items_of l.self.install_ifs.waiting d.name) → rank < l.least → rank_asks (pool_of l.self) (choices_of l.self) (install_ifs_of l.self) rank ≡ false;
+}

@@ -1,0 +1,58 @@
+-- What a search keeps true of its choices, of the queue and the cursors, and of its turns.
+-- No rule of a document: serves the contracts of `src/choices.rt` and `src/search.rt` of
+-- `solve_core`; how the search works says `docs/selection.md`, "How the search works".
+use Rattle.std.specs.Prelude.{◌≡◌, ◌<◌, length, ℕ, List, [], ◌∷◌, ◌++◌}
+use Rattle.candidate_core.specs.Rank.{SealedPool}
+use Rattle.candidate_core.specs.Options.{IsIn}
+use Rattle.search_tables.specs.Excluders.{AreListed}
+use Rattle.search_tables.specs.InstallIf.{AreInstallIfs, AreUnasked}
+use Rattle.search_tables.specs.Queue.{AreMet, queue_of}
+use Rattle.search_tables.specs.declared.queue.Checkpoint.{Checkpoint}
+use Rattle.search_tables.specs.Reasons.{FrameValue, AreCompatible, AreTurnsFrom, choices_in}
+use Rattle.search_choices.specs.declared.choices.Choices.{Choices}
+
+-- the pool in which some choices are made
+abbrev pub pool_of : Choices → SealedPool
+pool_of chosen = chosen.pool.now
+
+-- the choices, in the order chosen
+abbrev pub choices_of : Choices → List ℕ
+choices_of chosen = chosen.choices
+
+-- the candidates of the pool whose install-if can come to apply, in byte order of their names
+abbrev pub install_ifs_of : Choices → List ℕ
+install_ifs_of chosen = chosen.install_ifs.by_name.items
+
+-- behind the choices `u`: the checkpoints tell where the queue and the cursors stood before each
+-- further choice
+abbrev pub AreCheckpoints : SealedPool → List ℕ → List ℕ → List ℕ → List Checkpoint → Type 0
+AreCheckpoints pool install_ifs u [] [] = Unit {0}
+AreCheckpoints pool install_ifs u [] (b ∷ bs) = ⊥
+AreCheckpoints pool install_ifs u (c ∷ cs) [] = ⊥
+AreCheckpoints pool install_ifs u (c ∷ cs) (b ∷ bs) =
+    (b.queue_len ≡ length (queue_of pool u)) × AreMet pool u b.cursor
+    × AreUnasked pool u install_ifs b.asking_cursor
+    × AreCheckpoints pool install_ifs (u ++ c ∷ []) cs bs
+
+-- the queue is that of the choices, what stands in front of its cursor is met, what stands in front
+-- of the cursor of the install-ifs does not ask, the conflicts of the choices are listed, and each
+-- choice can be taken back to its checkpoint
+pub record IsConsistent (chosen : Choices) : Type 0 where
+  pub within : (c : ℕ) → IsIn c (choices_of chosen) → c < length (pool_of chosen).candidates
+  pub queue : chosen.queue.items ≡ queue_of (pool_of chosen) (choices_of chosen)
+  pub met : AreMet (pool_of chosen) (choices_of chosen) chosen.cursor
+  pub install_ifs :
+      AreInstallIfs (pool_of chosen) (install_ifs_of chosen) chosen.install_ifs.waiting
+  pub unasked :
+      AreUnasked (pool_of chosen) (choices_of chosen) (install_ifs_of chosen) chosen.asking_cursor
+  pub listed : AreListed (pool_of chosen) (choices_of chosen) chosen.conflicts
+  pub checkpoints :
+      AreCheckpoints (pool_of chosen) (install_ifs_of chosen) [] (choices_of chosen)
+      chosen.checkpoints.items
+
+-- the choices are compatible, and the turns are theirs: each was taken from the frame of its need
+pub record IsSearch (chosen : Choices) (turns : List (FrameValue × ℕ)) : Type 0 where
+  pub consistent : IsConsistent chosen
+  pub choices : choices_of chosen ≡ choices_in turns
+  pub clean : AreCompatible (pool_of chosen) (choices_of chosen)
+  pub taken : AreTurnsFrom (pool_of chosen) [] turns

@@ -1,0 +1,378 @@
+//! The choices so far: what they raise, and the first need that none of them meets.
+//! The rules stand in `docs/selection.md`: "Which selection is taken" (the order in which needs are
+//! met), and "What satisfies world", 4 (install-if).
+ghost use Rattle.std.specs.Prelude.{◌≡◌, ◌≤◌, ℕ, List, [], ◌∷◌, ◌++◌, ◌<◌, ◌^◌, length, IfSome, false, true, IfOk, OnOk, MatchOption, MatchBool, None, Some, ◌+◌, option_copied, slice_get, option_to_list};
+ghost use Rattle.std.specs.List.{find};
+ghost use Rattle.dep_core.specs.Dependency.{Dependency};
+ghost use Rattle.dep_core.specs.Meets.{dependency};
+ghost use Rattle.candidate_core.specs.Candidates.{entry};
+ghost use Rattle.candidate_core.specs.Candidates.{offers_name};
+ghost use Rattle.candidate_core.specs.Options.{IsIn, options_for};
+ghost use Rattle.search_tables.specs.InstallIf.{AreUnasked, IsLeastAsking, IsNoneAsking, rank_asks};
+ghost use Rattle.search_tables.specs.NameTable.{items_of};
+ghost use Rattle.search_tables.specs.Queue.{AreMet, is_unmet_dep, queue_of};
+ghost use Rattle.search_tables.specs.Selection.{next_need};
+ghost use Rattle.search_tables.specs.Reasons.{IsFrameOf};
+ghost use Rattle.search_choices.specs.Choices.{IsConsistent, choices_of, install_ifs_of, pool_of};
+ghost use Rattle.search_tables.specs.Excluders.{AreListed};
+
+mod excluders;
+
+use crate::trace::Trace;
+use dep_core::World;
+use pool_core::{CandId, Deps, Details, NeedRef, Sealed};
+use search_tables::{
+    CandidateSet, Checkpoint, Conflicts, Frame, InstallIfs, RaisedDep, asks_for_name,
+    is_met_by_latest_or_other, queue_all, queue_world, raisers,
+};
+use std::alloc::{AllocError, Global};
+use std::marker::Model;
+
+/// The choices so far; the queue of the dependencies that they and world raise, with a cursor in
+/// front of which each is met; the install-ifs in byte order of names, with a cursor in front of
+/// which none asks; the conflicts of the choices; and, for each choice, where the queue and the
+/// cursors stood before it.
+#[derive(Drop)]
+pub struct Choices<'p> {
+    /// What memory comes from.
+    alloc: Global,
+    /// The candidates, under their world.
+    pool: &'p Sealed<'p>,
+    /// The choices, in the order chosen.
+    choices: CandidateSet,
+    /// The dependencies that world and the choices raise, in the order in which they are to be met.
+    queue: Vec<RaisedDep<'p>>,
+    /// How many of the queue are known to be met, from the front.
+    cursor: usize,
+    /// The candidates whose install-if can come to apply, in byte order of their names.
+    install_ifs: InstallIfs<'p>,
+    /// How many of the install-ifs are known not to ask, from the front: a rank.
+    asking_cursor: usize,
+    /// The conflicts of the choices, by their names.
+    conflicts: Conflicts<'p>,
+    /// Where the queue and the cursors stood before each choice.
+    checkpoints: Vec<Checkpoint>,
+}
+
+impl<'p> Choices<'p> {
+    /// No choices, under the world that the pool was sealed with.
+    pub fn new(
+        alloc: Global,
+        pool: &'p Sealed<'p>,
+        world: &'p World,
+    ) -> Result<Choices<'p>, AllocError>
+        requires { world.now ≡ pool.now.world }
+        ensures consistent { IfOk result (λ chosen. IsConsistent chosen) }
+        ensures pool { IfOk result (λ chosen. pool_of chosen ≡ pool.entry.now) }
+        ensures none { IfOk result (λ chosen. choices_of chosen ≡ []) }
+    {
+        let mut queue = Vec::new(alloc);
+        queue_world(&mut queue, world)?;
+        let install_ifs = InstallIfs::new(alloc, pool)?;
+        Ok(Choices {
+            alloc,
+            pool,
+            choices: CandidateSet::new(alloc),
+            queue,
+            cursor: 0,
+            install_ifs,
+            asking_cursor: 0,
+            conflicts: Conflicts::new(alloc),
+            checkpoints: Vec::new(alloc),
+        })
+    }
+
+    /// Makes a choice. After a refusal the choices may only be dropped.
+    pub fn push(&mut self, id: CandId) -> Result<(), AllocError>
+        requires consistent { IsConsistent self.old }
+        requires within { id < length (pool_of self.old).candidates }
+        requires once { IsIn id (choices_of self.old) → ⊥ }
+        ensures consistent { OnOk result (IsConsistent self.new) }
+        ensures pool { pool_of self.new ≡ pool_of self.old }
+        ensures choices { OnOk result (choices_of self.new ≡ choices_of self.old ++ id ∷ []) }
+    {
+        let before = Checkpoint {
+            queue_len: self.queue.len(),
+            cursor: self.cursor,
+            asking_cursor: self.asking_cursor,
+        };
+        let details = self.pool.details(id);
+        let depends = details.depends();
+        queue_all(&mut self.queue, &depends, id)?;
+        self.conflicts.add(&depends, id)?;
+        self.checkpoints.push(before)?;
+        self.choices.push(id)?;
+        // Only what waits for a name of the new choice can ask now that did not before.
+        self.asking_cursor = self.least_rank_asking(&details);
+        Ok(())
+    }
+
+    /// Takes the latest choice back.
+    pub fn pop(&mut self)
+        requires { IsConsistent self.old }
+        ensures consistent { IsConsistent self.new }
+        ensures pool { pool_of self.new ≡ pool_of self.old }
+        ensures choices { (rest : List ℕ) (last : ℕ) → choices_of self.old ≡ rest ++ last ∷ [] →
+            choices_of self.new ≡ rest }
+    {
+        if let Some(before) = self.checkpoints.pop() {
+            // The conflicts go first, while the set still has the choice that they are of.
+            self.take_conflicts_away();
+            self.choices.pop();
+            self.queue.truncate(before.queue_len);
+            self.cursor = before.cursor;
+            self.asking_cursor = before.asking_cursor;
+        }
+    }
+
+    // Takes the conflicts of the latest choice out of the list of conflicts.
+    fn take_conflicts_away(&mut self)
+        requires { AreListed (pool_of self.old) (choices_of self.old) self.old.conflicts }
+        ensures others { self.new ≡ record self.old { conflicts = self.new.conflicts } }
+        ensures listed { (rest : List ℕ) (last : ℕ) → choices_of self.old ≡ rest ++ last ∷ [] →
+            AreListed (pool_of self.old) rest self.new.conflicts }
+    {
+        if let Some(id) = self.choices.last() {
+            if let Some(details) = self.pool.at(id) {
+                self.conflicts.take_away(&details.depends());
+            }
+        }
+    }
+
+    /// The frame of the first need that no choice meets; none where each need is met. The call
+    /// moves the cursors alone.
+    pub fn next_frame(&mut self) -> Result<Option<Frame>, AllocError>
+        requires { IsConsistent self.old }
+        ensures consistent { IsConsistent self.new }
+        ensures pool { pool_of self.new ≡ pool_of self.old }
+        ensures choices { choices_of self.new ≡ choices_of self.old }
+        // The options that are left are fewer than a digit of the measure counts (*base* of
+        // `Measure`).
+        ensures few { IfOk result (λ found. IfSome found (λ frame. length frame.1 < 2 ^ 64)) }
+        ensures frame { IfOk result (λ found. MatchOption found (next_need (pool_of self.old)
+            (choices_of self.old) ≡ None) (λ frame. IsFrameOf (pool_of self.old)
+            (choices_of self.old) frame)) }
+    {
+        self.skip_met();
+        match self.front() {
+            Some(raised) => {
+                let frame = frame_of(self.alloc, self.pool, raised)?;
+                Ok(Some(frame))
+            }
+            None => {
+                let found = self.frame_asked()?;
+                Ok(found)
+            }
+        }
+    }
+
+    // Moves the cursor of the queue to the first raised dependency that no choice meets, or to the
+    // end.
+    fn skip_met(&mut self)
+        requires { IsConsistent self.old }
+        ensures consistent { IsConsistent self.new }
+        ensures pool { pool_of self.new ≡ pool_of self.old }
+        ensures choices { choices_of self.new ≡ choices_of self.old }
+        ensures front { slice_get self.new.queue.items self.new.cursor
+            ≡ find (is_unmet_dep (pool_of self.old) (choices_of self.old)) (queue_of
+            (pool_of self.old) (choices_of self.old)) }
+    {
+        while self.is_front_met() {
+            self.cursor += 1;
+        }
+    }
+
+    // Whether the queue has a dependency at the cursor, and a choice meets that.
+    fn is_front_met(&self) -> bool
+        requires { IsConsistent self.now }
+        ensures { MatchBool result (AreMet (pool_of self.now) (choices_of self.now)
+            (self.now.cursor + 1)) (slice_get self.now.queue.items self.now.cursor
+            ≡ find (is_unmet_dep (pool_of self.now) (choices_of self.now)) (queue_of
+            (pool_of self.now) (choices_of self.now))) }
+    {
+        match self.front() {
+            Some(raised) => {
+                let need = NeedRef::Entry(raised.dep());
+                is_met_by_latest_or_other(self.pool, &self.choices, &need)
+            }
+            None => false,
+        }
+    }
+
+    // The raised dependency at the cursor of the queue, if the queue has one there.
+    fn front(&self) -> Option<&RaisedDep<'p>>
+        ensures { option_copied result ≡ slice_get self.now.queue.items self.now.cursor }
+    {
+        self.queue.get(self.cursor)
+    }
+
+    // The frame of the byte-least name whose install-if applies and that no choice has. It is asked
+    // for only where each raised dependency is met.
+    fn frame_asked(&mut self) -> Result<Option<Frame>, AllocError>
+        requires consistent { IsConsistent self.old }
+        requires met { find (is_unmet_dep (pool_of self.old) (choices_of self.old)) (queue_of
+            (pool_of self.old) (choices_of self.old)) ≡ None }
+        ensures consistent { IsConsistent self.new }
+        ensures pool { pool_of self.new ≡ pool_of self.old }
+        ensures choices { choices_of self.new ≡ choices_of self.old }
+        // As above: fewer than a digit of the measure counts.
+        ensures few { IfOk result (λ found. IfSome found (λ frame. length frame.1 < 2 ^ 64)) }
+        ensures frame { IfOk result (λ found. MatchOption found (next_need (pool_of self.old)
+            (choices_of self.old) ≡ None) (λ frame. IsFrameOf (pool_of self.old)
+            (choices_of self.old) frame)) }
+    {
+        self.skip_unasked();
+        match self.install_ifs.at(self.asking_cursor) {
+            None => Ok(None),
+            Some(id) => {
+                let frame = self.frame_named(id)?;
+                Ok(Some(frame))
+            }
+        }
+    }
+
+    // Moves the cursor of the install-ifs to the first candidate that asks, or to the end.
+    fn skip_unasked(&mut self)
+        requires { IsConsistent self.old }
+        ensures consistent { IsConsistent self.new }
+        ensures pool { pool_of self.new ≡ pool_of self.old }
+        ensures choices { choices_of self.new ≡ choices_of self.old }
+        ensures first { MatchOption (slice_get (install_ifs_of self.new) self.new.asking_cursor)
+            (IsNoneAsking (pool_of self.old) (choices_of self.old))
+            (λ id. IsLeastAsking (pool_of self.old) (choices_of self.old) id) }
+    {
+        while self.is_front_unasked() {
+            self.asking_cursor += 1;
+        }
+    }
+
+    // Whether there is a candidate at the cursor of the install-ifs, and it does not ask.
+    fn is_front_unasked(&self) -> bool
+        requires { IsConsistent self.now }
+        ensures { MatchBool result ((self.now.asking_cursor + 1
+            ≤ length (install_ifs_of self.now)) × AreUnasked (pool_of self.now)
+            (choices_of self.now) (install_ifs_of self.now) (self.now.asking_cursor + 1))
+            (MatchOption (slice_get (install_ifs_of self.now) self.now.asking_cursor)
+            (IsNoneAsking (pool_of self.now) (choices_of self.now))
+            (λ id. IsLeastAsking (pool_of self.now) (choices_of self.now) id)) }
+    {
+        match self.install_ifs.at(self.asking_cursor) {
+            None => false,
+            Some(id) => !asks_for_name(self.pool, &self.choices, id),
+        }
+    }
+
+    // The frame of the name of a candidate that asks, of which the name is the byte-least one. It
+    // is asked for only where each raised dependency is met. The need is raised by the choices that
+    // meet the entries of the install-if.
+    fn frame_named(&self, id: CandId) -> Result<Frame, AllocError>
+        requires met { find (is_unmet_dep (pool_of self.now) (choices_of self.now)) (queue_of
+            (pool_of self.now) (choices_of self.now)) ≡ None }
+        requires least { IsLeastAsking (pool_of self.now) (choices_of self.now) id }
+        // As above: fewer than a digit of the measure counts.
+        ensures few { IfOk result (λ frame. length frame.1 < 2 ^ 64) }
+        ensures frame { IfOk result (λ frame. IsFrameOf (pool_of self.now)
+            (choices_of self.now) frame) }
+    {
+        let details = self.pool.details(id);
+        let by = raisers(self.alloc, self.pool, &self.choices, &details.install_if())?;
+        let options = self
+            .pool
+            .options_for(self.alloc, &NeedRef::Named(details.name()))?;
+        Ok(Frame::new(self.alloc, options.into_ids(), by))
+    }
+
+    // Whether the candidate of a rank asks; there is none where no candidate has the rank.
+    fn rank_asks(&self, rank: usize) -> bool
+        ensures { result ≡ rank_asks (pool_of self.now) (choices_of self.now)
+            (install_ifs_of self.now) rank }
+    {
+        match self.install_ifs.at(rank) {
+            None => false,
+            Some(id) => asks_for_name(self.pool, &self.choices, id),
+        }
+    }
+
+    // Where the cursor of the install-ifs is to stand once the candidate is chosen: where it
+    // stands, or at the least rank in front of it that asks now and waits for a name which the
+    // candidate offers. A new choice can let only those ask that wait for one of its names.
+    fn least_rank_asking(&self, details: &Details<'_>) -> usize
+        ensures less { result ≤ self.now.asking_cursor }
+        ensures unasked { (name : List ℕ) (rank : ℕ) → offers_name name details.now ≡ true →
+            IsIn rank (items_of self.now.install_ifs.waiting name) → rank < result →
+            rank_asks (pool_of self.now) (choices_of self.now) (install_ifs_of self.now) rank
+            ≡ false }
+    {
+        let own = self.least_rank_waiting(details.name(), self.asking_cursor);
+        self.least_rank_provided(&details.provides(), own)
+    }
+
+    // The cursor, or the least rank in front of it that asks and waits for the name of one of these
+    // entries of provides.
+    fn least_rank_provided(&self, provides: &Deps<'_>, cursor: usize) -> usize
+        ensures less { result ≤ cursor }
+        ensures unasked { (d : Dependency) (rank : ℕ) → IsIn d provides.now →
+            IsIn rank (items_of self.now.install_ifs.waiting d.name) → rank < result →
+            rank_asks (pool_of self.now) (choices_of self.now) (install_ifs_of self.now) rank
+            ≡ false }
+    {
+        let mut least = cursor;
+        for i in 0..provides.len() {
+            least = self.least_rank_waiting(provides.get(i).name, least);
+        }
+        least
+    }
+
+    // The cursor, or the least rank in front of it that asks and waits for a name.
+    fn least_rank_waiting(&self, name: &[u8], cursor: usize) -> usize
+        ensures less { result ≤ cursor }
+        ensures unasked { (rank : ℕ) →
+            IsIn rank (items_of self.now.install_ifs.waiting name.now) → rank < result →
+            rank_asks (pool_of self.now) (choices_of self.now) (install_ifs_of self.now) rank
+            ≡ false }
+    {
+        let mut least = cursor;
+        for rank in self.install_ifs.waiting_for(name) {
+            least = self.lesser_rank(*rank, least);
+        }
+        least
+    }
+
+    // The lesser of two ranks, of which the first counts only where its candidate asks.
+    fn lesser_rank(&self, rank: usize, least: usize) -> usize
+        ensures less { result ≤ least }
+        ensures unasked { rank < result → rank_asks (pool_of self.now) (choices_of self.now)
+            (install_ifs_of self.now) rank ≡ false }
+    {
+        if rank < least && self.rank_asks(rank) {
+            return rank;
+        }
+        least
+    }
+
+    /// The choices, in the order chosen, as the answer of the search.
+    pub fn trace(&self, alloc: Global) -> Result<Trace, AllocError>
+        ensures { IfOk result (λ trace. trace ≡ choices_of self.now) }
+    {
+        Trace::of(alloc, self.choices.as_slice())
+    }
+}
+
+// The frame of a raised dependency: all its options are left, and the choice that has the
+// dependency raised it; an entry of world is raised by none.
+fn frame_of(alloc: Global, pool: &Sealed<'_>, raised: &RaisedDep<'_>) -> Result<Frame, AllocError>
+    ensures few { IfOk result (λ frame. length frame.1 < 2 ^ 64) }
+    ensures value { IfOk result (λ frame. frame ≡ (
+      [],
+      options_for pool.now
+          (entry raised.now.0),
+      option_to_list raised.now.1,
+    )) }
+{
+    let mut by = Vec::new(alloc);
+    if let Some(id) = raised.by() {
+        by.push(id)?;
+    }
+    let options = pool.options_for(alloc, &NeedRef::Entry(raised.dep()))?;
+    Ok(Frame::new(alloc, options.into_ids(), by))
+}

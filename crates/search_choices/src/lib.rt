@@ -1,0 +1,13 @@
+//! The choices of a search: what they raise, the first need that none of them meets, and what
+//! excludes a further candidate.
+//!
+//! The rules stand in `docs/selection.md`, "What satisfies world", and "How the search works".
+//!
+//! The contracts cite `Choices` of `specs/`, and `Selection` of `search_tables`.
+#![tactic(auto)]
+
+mod choices;
+mod trace;
+
+pub use choices::Choices;
+pub use trace::Trace;

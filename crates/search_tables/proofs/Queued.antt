@@ -1,0 +1,126 @@
+-- The queue of raised dependencies, a choice at a time.
+use Rattle.std.proofs.Common.{◌≡◌, inl, inr, ℕ, zero, suc, ◌+◌, ◌≤◌, ◌<◌, Bool, true, false, List, [], ◌∷◌, ◌++◌, length, take, map, refl, sym, subst, ap, ◌∙◌, arith, append_assoc, append-nil, length-append}
+use Rattle.std.specs.Prelude.{Option, Some, None, not, ◌||◌, slice_get}
+use Rattle.std.specs.List.{filter, find, flat_map, list_any}
+use Rattle.dep_core.specs.Dependency.{Dependency}
+use Rattle.candidate_core.specs.Candidates.{entry}
+use Rattle.candidate_core.specs.Rank.{SealedPool, meets_at}
+use Rattle.search_tables.specs.Selection.{is_met}
+use Rattle.search_tables.specs.Queue.{AreMet, RaisedDepValue, is_unmet_dep, queue_of, raised_deps_at, raised_deps}
+use Rattle.search_tables.proofs.PoolFacts.{bool_cases}
+
+pub any_map : {X Y : Type 0} (p : Y → Bool) (f : X → Y) (xs : List X) → list_any p (map f xs) ≡ list_any (λ x. p (f x)) xs
+any_map p f [] = refl
+any_map p f (x ∷ xs) = ap (λ b. p (f x) || b) (any_map p f xs)
+
+pub any_append : {X : Type 0} (p : X → Bool) (xs ys : List X) → list_any p xs ≡ true → list_any p (xs ++ ys) ≡ true
+any_append p [] ys h = absurd (cc)
+any_append p (x ∷ xs) ys h = elim (bool_cases (p x)) [ inl t ↦ rw t refl | inr t ↦ rw t (any_append p xs ys (rw t at h)) ]
+
+pub filtered : {X : Type 0} (p : X → Bool) (xs ys : List X) → filter p (xs ++ ys) ≡ filter p xs ++ filter p ys
+filtered p [] ys = refl
+filtered {X} p (x ∷ xs) ys = elim (bool_cases (p x)) [ inl t ↦ rw t (ap (λ (z : List X). x ∷ z) (filtered p xs ys)) | inr t ↦ rw t (filtered p xs ys) ]
+
+pub mapped : {X Y : Type 0} (f : X → Y) (xs ys : List X) → map f (xs ++ ys) ≡ map f xs ++ map f ys
+mapped f [] ys = refl
+mapped {X} {Y} f (x ∷ xs) ys = ap (λ (z : List Y). f x ∷ z) (mapped f xs ys)
+
+wants : Dependency → Bool
+wants d = not d.conflict
+
+pub raised_needs-append : (by : Option ℕ) (xs ys : List Dependency) → raised_deps by (xs ++ ys) ≡ raised_deps by xs ++ raised_deps by ys
+raised_needs-append by xs ys =
+    ap (map (λ (d : Dependency). (d, by))) (filtered (λ (d : Dependency). not d.conflict) xs ys)
+    ∙ mapped (λ (d : Dependency). (d, by)) (filter (λ (d : Dependency). not d.conflict) xs) (filter (λ (d : Dependency). not d.conflict) ys)
+
+-- a queue with one more dependency, in a loop over some
+pub queued_more : (by : Option ℕ) (start before after : List RaisedDepValue) (done more : List Dependency) (d : Dependency) → before ≡ start ++ raised_deps by done → after ≡ before ++ raised_deps by (d ∷ []) → more ≡ done ++ d ∷ [] → after ≡ start ++ raised_deps by more
+queued_more by start before after done more d was is e =
+    is ∙ (ap (λ (z : List RaisedDepValue). z ++ raised_deps by (d ∷ [])) was
+    ∙ (append_assoc start (raised_deps by done) (raised_deps by (d ∷ []))
+    ∙ ap (λ (z : List RaisedDepValue). start ++ z) (sym (raised_needs-append by done (d ∷ [])) ∙ ap (raised_deps by) (sym e))))
+
+pub flat_more : {X : Type 0} (f : ℕ → List X) (t : List ℕ) (c : ℕ) → flat_map f (t ++ c ∷ []) ≡ flat_map f t ++ f c
+flat_more f [] c = append-nil (f c)
+flat_more {X} f (x ∷ t) c = ap (λ (z : List X). f x ++ z) (flat_more f t c) ∙ sym (append_assoc (f x) (flat_map f t) (f c))
+
+pub queue_more : (pool : SealedPool) (t : List ℕ) (c : ℕ) → queue_of pool (t ++ c ∷ []) ≡ queue_of pool t ++ raised_deps_at pool c
+queue_more pool t c =
+    ap (λ (z : List RaisedDepValue). raised_deps None pool.world ++ z) (flat_more (raised_deps_at pool) t c)
+    ∙ sym (append_assoc (raised_deps None pool.world) (flat_map (raised_deps_at pool) t) (raised_deps_at pool c))
+
+pub take_front : {X : Type 0} (xs ys : List X) (n : ℕ) → n ≡ length xs → take n (xs ++ ys) ≡ xs
+take_front [] ys n e = rw e refl
+take_front {X} (x ∷ xs) ys zero e = absurd (omega (arith, e))
+take_front {X} (x ∷ xs) ys (suc n) e = ap (λ (z : List X). x ∷ z) (take_front xs ys n (omega (arith, e)))
+
+pub take_within : {X : Type 0} (xs ys : List X) (n : ℕ) → n ≤ length xs → take n (xs ++ ys) ≡ take n xs
+take_within [] [] n h = refl
+take_within [] (y ∷ ys) zero h = refl
+take_within [] (y ∷ ys) (suc n) h = absurd (omega arith)
+take_within (x ∷ xs) ys zero h = refl
+take_within {X} (x ∷ xs) ys (suc n) h = ap (λ (z : List X). x ∷ z) (take_within xs ys n (omega arith))
+
+none_still : {X : Type 0} (p q : X → Bool) (xs : List X) → ((x : X) → p x ≡ false → q x ≡ false) → find p xs ≡ None → find q xs ≡ None
+none_still p q [] to h = refl
+none_still {X} p q (x ∷ xs) to h = elim (bool_cases (p x)) [
+  | inl t ↦ let bad : Some x ≡ None = rw t at h in absurd (cc)
+  | inr t ↦ rw (to x t) (none_still p q xs to (rw t at h))
+]
+
+not_false : (b : Bool) → not b ≡ false → b ≡ true
+not_false true h = refl
+not_false false h = absurd (cc)
+
+still_met : (pool : SealedPool) (t us : List ℕ) (r : RaisedDepValue) → is_unmet_dep pool t r ≡ false → is_unmet_dep pool (t ++ us) r ≡ false
+still_met pool t us r h = ap not (any_append (λ c. meets_at pool c (entry r.0)) t us (not_false (is_met pool t (entry r.0)) h))
+
+pub met_more : (pool : SealedPool) (t : List ℕ) (c at : ℕ) → AreMet pool t at → AreMet pool (t ++ c ∷ []) at
+met_more pool t c at met =
+    let e = queue_more pool t c in (
+      subst (λ (z : List RaisedDepValue). at ≤ length z) (sym e) (omega (arith, met.0, length-append (queue_of pool t) (raised_deps_at pool c))),
+      subst (λ (z : List RaisedDepValue). find (is_unmet_dep pool (t ++ c ∷ [])) (take at z) ≡ None) (sym e)
+          (subst (λ (z : List RaisedDepValue). find (is_unmet_dep pool (t ++ c ∷ [])) z ≡ None) (sym (take_within (queue_of pool t) (raised_deps_at pool c) at met.0))
+          (none_still (is_unmet_dep pool t) (is_unmet_dep pool (t ++ c ∷ [])) (take at (queue_of pool t)) (still_met pool t (c ∷ [])) met.1)),
+    )
+
+-- ---- the cursor
+
+find_at : {X : Type 0} (p : X → Bool) (xs : List X) (i : ℕ) (x : X) → find p (take i xs) ≡ None → slice_get xs i ≡ Some x → p x ≡ true → find p xs ≡ Some x
+find_at p [] zero x n h e = absurd (cc)
+find_at p [] (suc i) x n h e = absurd (cc)
+find_at {X} p (y ∷ xs) zero x n h e =
+    let s : x ≡ y = cc in
+    rw (subst (λ (z : X). p z ≡ true) s e) (ap Some (sym s))
+find_at p (y ∷ xs) (suc i) x n h e = elim (bool_cases (p y)) [
+  | inl t ↦ let bad : Some y ≡ None = rw t at n in absurd (cc)
+  | inr t ↦ rw t (find_at p xs i x (rw t at n) h e)
+]
+
+pub find_here : {X : Type 0} (p : X → Bool) (xs : List X) (i : ℕ) (x : X) → find p (take i xs) ≡ None → slice_get xs i ≡ Some x → p x ≡ true → slice_get xs i ≡ find p xs
+find_here p xs i x n h e = h ∙ sym (find_at p xs i x n h e)
+
+pub none_at : {X : Type 0} (p : X → Bool) (xs : List X) (i : ℕ) (x : X) → find p (take i xs) ≡ None → slice_get xs i ≡ Some x → p x ≡ false → find p (take (suc i) xs) ≡ None
+none_at p [] zero x n h e = absurd (cc)
+none_at p [] (suc i) x n h e = absurd (cc)
+none_at {X} p (y ∷ xs) zero x n h e =
+    let s : x ≡ y = cc in
+    rw (subst (λ (z : X). p z ≡ false) s e) refl
+none_at p (y ∷ xs) (suc i) x n h e = elim (bool_cases (p y)) [
+  | inl t ↦ let bad : Some y ≡ None = rw t at n in absurd (cc)
+  | inr t ↦ rw t (none_at p xs i x (rw t at n) h e)
+]
+
+pub past_end : {X : Type 0} (p : X → Bool) (xs : List X) (i : ℕ) → length xs ≤ i → find p (take i xs) ≡ None → slice_get xs i ≡ find p xs
+past_end p [] zero h n = refl
+past_end p [] (suc i) h n = refl
+past_end p (x ∷ xs) zero h n = absurd (omega arith)
+past_end p (x ∷ xs) (suc i) h n = elim (bool_cases (p x)) [
+  | inl t ↦ let bad : Some x ≡ None = rw t at n in absurd (cc)
+  | inr t ↦ rw t (past_end p xs i (omega arith) (rw t at n))
+]
+
+pub met_next : (pool : SealedPool) (t : List ℕ) (at : ℕ) (r : RaisedDepValue) → AreMet pool t at → at < length (queue_of pool t) → slice_get (queue_of pool t) at ≡ Some r → is_unmet_dep pool t r ≡ false → AreMet pool t (at + 1)
+met_next pool t at r met h g e =
+    let z : at + 1 ≡ suc at = omega arith in
+    (omega arith, subst (λ (k : ℕ). find (is_unmet_dep pool t) (take k (queue_of pool t)) ≡ None) (sym z) (none_at (is_unmet_dep pool t) (queue_of pool t) at r met.1 g e))

@@ -1,0 +1,11 @@
+use Rattle.std.proofs.Common.{ℕ, List, take}
+use Rattle.dep_core.specs.Dependency.{Dependency}
+use Rattle.candidate_core.specs.Options.{AreMembers, IsIn}
+use Rattle.search_tables.specs.NameTable.{items_of}
+use Rattle.search_tables.proofs.install_ifs.add_entries.Given as goal
+
+abbrev pub invariant-loop-i : goal.invariant-loop-i
+invariant-loop-i l = record {
+  more : (name : List ℕ) → AreMembers (items_of l.initial.waiting name) (items_of l.waiting name);
+  each : (d : Dependency) → IsIn d (take l.i l.deps) → IsIn l.rank (items_of l.waiting d.name);
+}

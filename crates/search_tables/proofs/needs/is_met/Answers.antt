@@ -1,0 +1,7 @@
+use Rattle.std.proofs.Common.{◌∙◌}
+use Rattle.candidate_core.specs.Values.{need_by}
+use Rattle.search_tables.proofs.RaiserLists.{is_met_by}
+use Rattle.search_tables.proofs.needs.is_met.Goals as goal
+
+pub returns : goal.returns
+returns c = c.is_some.ensures ∙ is_met_by c.args.pool.now c.args.choices.now (need_by c.args.need.now) c.choice_meeting.result c.choice_meeting.ensures

@@ -1,0 +1,11 @@
+use Rattle.std.proofs.Common.{◌∙◌, sym}
+use Rattle.candidate_core.specs.Rank.{meets_at}
+use Rattle.candidate_core.specs.Values.{need_by}
+use Rattle.search_tables.proofs.Places.{there_is}
+use Rattle.search_tables.proofs.Satisfying.{one_any}
+use Rattle.search_tables.proofs.needs.latest_meets.Goals as goal
+
+pub returns-in-Some : goal.returns-in-Some
+returns-in-Some c = λ h.
+    one_any (λ k. meets_at c.args.pool.now k (need_by c.args.need.now)) c.args.choices.now c.in-Some.id.now
+    (there_is c.args.choices.now _ c.in-Some.id.now (sym c.in-Some.ensures.value)).1 (sym c.meets.ensures ∙ h)

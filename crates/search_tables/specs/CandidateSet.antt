@@ -1,0 +1,12 @@
+-- A set of candidates as a list with marks.
+-- No rule of a document: serves the contract of `src/candidate_set.rt`.
+use Rattle.std.specs.Prelude.{ℕ, Bool, false, List, slice_index_or}
+use Rattle.std.specs.Bool.{MatchBool}
+use Rattle.candidate_core.specs.Options.{IsIn}
+use Rattle.search_tables.specs.Selection.{AreDistinct}
+
+-- the marks tell of each place whether it is one of the list, and the list has each candidate once
+pub record AreMarks (marks : List Bool) (ids : List ℕ) : Type 0 where
+  pub told : (c : ℕ) → MatchBool (slice_index_or marks c false) (IsIn c ids) (IsIn c ids →
+      ⊥)
+  pub once : AreDistinct ids

@@ -1,0 +1,30 @@
+-- What excludes a further candidate.
+-- The rules stand in `docs/selection.md`, "What satisfies world", 2 and 3, and are said of pairs by
+-- *exclude_each_other* of `Selection`. Serves the contracts of `src/choices/excluders.rt` of
+-- `search_choices`.
+use Rattle.std.specs.Prelude.{◌≡◌, ℕ, Bool, true, false, List}
+use Rattle.dep_core.specs.Dependency.{Dependency}
+use Rattle.candidate_core.specs.Candidates.{Candidate, meets_dependency, occupies_name}
+use Rattle.candidate_core.specs.Options.{IsIn}
+use Rattle.candidate_core.specs.Rank.{SealedPool, is_at}
+use Rattle.search_tables.specs.Conflicts.{conflicts_among}
+use Rattle.search_tables.specs.NameTable.{items_of}
+use Rattle.search_tables.specs.Selection.{depends_at, exclude_each_other}
+use Rattle.search_tables.specs.declared.conflicts.Conflicts.{Conflicts}
+
+-- the table has for each name just the conflicts of the choices
+abbrev pub AreListed : SealedPool → List ℕ → Conflicts → Type 0
+AreListed pool chosen conflicts =
+    (name : List ℕ) → items_of conflicts.by_name name ≡ conflicts_among pool chosen name
+
+-- the candidate at place `k` is a choice, and it and the candidate at place `id` exclude each other
+abbrev pub IsExcluder : SealedPool → List ℕ → ℕ → ℕ → Type 0
+IsExcluder pool chosen id k = IsIn k chosen × (exclude_each_other pool k id ≡ true)
+
+-- the choices leave a candidate alone at a name: it meets no conflict of that name that a choice
+-- has, and, where `is_occupied`, no choice occupies the name
+abbrev pub IsFreeAt : SealedPool → List ℕ → Candidate → List ℕ → Bool → Type 0
+IsFreeAt pool chosen details name is_occupied =
+    ((k : ℕ) (d : Dependency) → IsIn k chosen → IsIn d (depends_at pool k) →
+    d.conflict ≡ true → d.name ≡ name → meets_dependency d details ≡ false)
+    × (is_occupied ≡ true → (k : ℕ) → IsIn k chosen → is_at pool (occupies_name name) k ≡ false)

@@ -1,0 +1,37 @@
+-- The dependencies that are raised, each with the choice that has it.
+-- The rule stands in `docs/selection.md`, "Which selection is taken": first the entries of world,
+-- then the dependencies of each choice in the order chosen. Serves the contracts of `src/queue.rt`
+-- and `src/choices.rt` of `search_choices`.
+use Rattle.std.specs.Prelude.{◌≡◌, ◌≤◌, ℕ, Bool, not, List, ◌++◌, length, map, take, Option, Some, None}
+use Rattle.std.specs.List.{filter, find, flat_map}
+use Rattle.dep_core.specs.Dependency.{Dependency}
+use Rattle.candidate_core.specs.Candidates.{entry}
+use Rattle.candidate_core.specs.Rank.{SealedPool}
+use Rattle.search_tables.specs.Selection.{depends_at, is_unmet}
+
+-- a dependency, and the choice that has it; one of world's has none
+abbrev pub RaisedDepValue : Type 0
+RaisedDepValue = Dependency × Option ℕ
+
+-- the dependencies of a list that are no conflicts, each with the choice that raised it, or with
+-- none for world
+abbrev pub raised_deps : Option ℕ → List Dependency → List RaisedDepValue
+raised_deps by deps = map (λ (d : Dependency). (d, by)) (filter (λ
+    (d : Dependency). not d.conflict) deps)
+
+-- what the choice at a place raises
+abbrev pub raised_deps_at : SealedPool → ℕ → List RaisedDepValue
+raised_deps_at pool c = raised_deps (Some c) (depends_at pool c)
+
+-- all that world and the choices raise, in the order in which it is to be met
+abbrev pub queue_of : SealedPool → List ℕ → List RaisedDepValue
+queue_of pool chosen = raised_deps None pool.world ++ flat_map (raised_deps_at pool) chosen
+
+-- whether no choice meets a dependency that is raised
+abbrev pub is_unmet_dep : SealedPool → List ℕ → RaisedDepValue → Bool
+is_unmet_dep pool chosen r = is_unmet pool chosen (entry r.0)
+
+-- the first `at` of the queue are there, and each of them is met
+abbrev pub AreMet : SealedPool → List ℕ → ℕ → Type 0
+AreMet pool chosen at = (at ≤ length (queue_of pool chosen))
+    × (find (is_unmet_dep pool chosen) (take at (queue_of pool chosen)) ≡ None)

@@ -1,0 +1,168 @@
+-- Selections that satisfy a world, the walk of one, and the first of them.
+-- The rules stand in `docs/selection.md`, "What satisfies world", and "Which selection is taken".
+use Rattle.std.specs.Prelude.{◌≡◌, ◌≢◌, ℕ, ◌==◌, Bool, true, false, not, ◌&&◌, ◌||◌, if◌then◌else◌, List, [], ◌∷◌, ◌++◌, map, Option, Some, None, is_some, ◌⊎◌}
+use Rattle.std.specs.Option.{option_map, option_map_or, option_or}
+use Rattle.std.specs.List.{filter, find, flat_map, list_all, list_any}
+use Rattle.std.specs.Ordering.{is_lt}
+use Rattle.dep_core.specs.Dependency.{Dependency}
+use Rattle.candidate_core.specs.Candidates.{Candidate, Need, entry, named, occupies_name, has_usable_install_if, meets_dependency}
+use Rattle.candidate_core.specs.Rank.{SealedPool, bytes_cmp, candidate_at, is_at, is_eligible_at, is_better, meets_at}
+use Rattle.candidate_core.specs.Options.{IsIn}
+pub use Rattle.candidate_core.specs.Options.{AreMembers, AreDistinct}
+
+-- ---- needs
+
+-- whether one of the choices meets the need, by its own name or by what it provides
+abbrev pub is_met : SealedPool → List ℕ → Need → Bool
+is_met pool chosen need = list_any (λ c. meets_at pool c need) chosen
+
+-- whether no choice meets the need
+abbrev pub is_unmet : SealedPool → List ℕ → Need → Bool
+is_unmet pool chosen need = not (is_met pool chosen need)
+
+-- the dependencies of a list that are no conflicts, as needs
+abbrev pub positive_needs : List Dependency → List Need
+positive_needs deps = map entry (filter (λ (d : Dependency). not d.conflict) deps)
+
+-- the dependencies of the candidate at a place, conflicts too; none where no candidate is there
+abbrev pub depends_at : SealedPool → ℕ → List Dependency
+depends_at pool c = option_map_or (λ (k : Candidate). k.depends) (candidate_at pool c) []
+
+-- what world and the choices raise: the entries of world, then the dependencies of each choice in
+-- the order chosen
+abbrev pub raised_needs : SealedPool → List ℕ → List Need
+raised_needs pool chosen =
+    positive_needs pool.world ++ flat_map (λ c. positive_needs (depends_at pool c)) chosen
+
+-- whether the install-if of a candidate applies: it is usable, and each entry is met
+abbrev pub install_if_applies : SealedPool → List ℕ → Candidate → Bool
+install_if_applies pool chosen c =
+    has_usable_install_if pool.world c
+    && list_all (λ (d : Dependency). is_met pool chosen (entry d)) c.install_if
+
+-- the names of the candidates whose install-if applies
+abbrev pub names_by_install_if : SealedPool → List ℕ → List (List ℕ)
+names_by_install_if pool chosen =
+    map (λ (c : Candidate). c.name) (filter (install_if_applies pool chosen) pool.candidates)
+
+-- what world and the choices raise in all, met or not
+abbrev pub needs : SealedPool → List ℕ → List Need
+needs pool chosen = raised_needs pool chosen ++ map named (names_by_install_if pool chosen)
+
+-- the byte-lesser of a name and another, if there is another
+abbrev pub lesser_name : List ℕ → Option (List ℕ) → List ℕ
+lesser_name name None = name
+lesser_name name (Some other) = if is_lt (bytes_cmp other name) then other else name
+
+-- the byte-least of some names
+abbrev pub least_name : List (List ℕ) → Option (List ℕ)
+least_name [] = None
+least_name (name ∷ names) = Some (lesser_name name (least_name names))
+
+-- the first need that no choice meets: of what is raised in its order, else the byte-least of the
+-- names whose install-if applies
+unfoldable pub next_need : SealedPool → List ℕ → Option Need
+next_need pool chosen =
+    option_or (find (is_unmet pool chosen) (raised_needs pool chosen))
+    (option_map named
+    (least_name (filter (λ name. is_unmet pool chosen (named name))
+    (names_by_install_if pool chosen))))
+
+-- ---- candidates that exclude each other
+
+-- whether a conflict of the first candidate is met by the second
+abbrev pub conflicts_with : SealedPool → ℕ → ℕ → Bool
+conflicts_with pool a b =
+    list_any (λ (d : Dependency). d.conflict && is_at pool (meets_dependency d) b)
+    (depends_at pool a)
+
+-- the names that a candidate occupies
+abbrev pub occupied_names : Candidate → List (List ℕ)
+occupied_names c =
+    c.name ∷ map (λ (p : Dependency). p.name)
+    (filter (λ (p : Dependency). not p.conflict && is_some p.version) c.provides)
+
+-- the names that the candidate at a place occupies; none where no candidate is there
+abbrev pub occupied_names_at : SealedPool → ℕ → List (List ℕ)
+occupied_names_at pool c = option_map_or occupied_names (candidate_at pool c) []
+
+-- whether both candidates occupy a name: one selection cannot have both, since a name has one place
+-- in it
+abbrev pub share_a_name : SealedPool → ℕ → ℕ → Bool
+share_a_name pool a b =
+    list_any (λ name. is_at pool (occupies_name name) b) (occupied_names_at pool a)
+
+-- whether one candidate keeps the other out: by a conflict that it has, or by a name that both
+-- occupy
+abbrev pub keeps_out : SealedPool → ℕ → ℕ → Bool
+keeps_out pool a b = conflicts_with pool a b || share_a_name pool a b
+
+-- whether two candidates exclude each other: no satisfying selection has both
+abbrev pub exclude_each_other : SealedPool → ℕ → ℕ → Bool
+exclude_each_other pool a b = not (a == b) && (keeps_out pool a b || keeps_out pool b a)
+
+-- ---- satisfying selections
+
+-- a selection satisfies the world: its members are different and may be selected; each entry of
+-- world and each dependency of a member is met; no conflict of a member is met by another; each
+-- name is occupied by one member at most; and each name whose install-if applies is a member's
+pub record IsSatisfying (pool : SealedPool) (selection : List ℕ) : Type 0 where
+  pub once : AreDistinct selection
+  pub eligible : (c : ℕ) → IsIn c selection → is_eligible_at pool c ≡ true
+  pub world_met :
+      (q : Need) → IsIn q (positive_needs pool.world) → is_met pool selection q ≡ true
+  pub depends_met :
+      (c : ℕ) (q : Need) → IsIn c selection → IsIn q (positive_needs (depends_at pool c)) →
+      is_met pool selection q ≡ true
+  pub no_conflict :
+      (a b : ℕ) → IsIn a selection → IsIn b selection → a ≢ b →
+      conflicts_with pool a b ≡ false
+  pub names_alone :
+      (a b : ℕ) (name : List ℕ) → IsIn a selection → IsIn b selection →
+      is_at pool (occupies_name name) a ≡ true → is_at pool (occupies_name name) b ≡ true → a ≡ b
+  pub asked_met :
+      (name : List ℕ) → IsIn name (names_by_install_if pool selection) →
+      is_met pool selection (named name) ≡ true
+
+-- ---- the walk of a selection
+
+-- the member of a selection is the best ranked that meets the need
+abbrev pub IsBestMember : SealedPool → List ℕ → Need → ℕ → Type 0
+IsBestMember pool selection need c =
+    IsIn c selection × (meets_at pool c need ≡ true)
+    × ((o : ℕ) → IsIn o selection → meets_at pool o need ≡ true →
+    (o ≡ c) ⊎ (is_better pool need c o ≡ true))
+
+-- behind some choices: the rest of the walk of a selection, which has the best ranked member for
+-- each next need, until there is none
+abbrev pub IsWalkFrom : SealedPool → List ℕ → List ℕ → List ℕ → Type 0
+IsWalkFrom pool selection chosen [] = next_need pool chosen ≡ None
+IsWalkFrom pool selection chosen (c ∷ rest) =
+    (need : Need) × (next_need pool chosen ≡ Some need) × IsBestMember pool selection need c
+    × IsWalkFrom pool selection (chosen ++ c ∷ []) rest
+
+-- the walk of a selection, from the first need on
+abbrev pub IsWalk : SealedPool → List ℕ → List ℕ → Type 0
+IsWalk pool selection walk = IsWalkFrom pool selection [] walk
+
+-- behind some choices: of the rests of two walks the first has the better rank at the first place
+-- where they differ, for the need there
+abbrev pub ComesBeforeFrom : SealedPool → List ℕ → List ℕ → List ℕ → Type 0
+ComesBeforeFrom pool chosen [] other = ⊥
+ComesBeforeFrom pool chosen (c ∷ rest) [] = ⊥
+ComesBeforeFrom pool chosen (c ∷ rest) (d ∷ other) =
+    ((need : Need) × (next_need pool chosen ≡ Some need) × (is_better pool need c d ≡ true))
+    ⊎ ((c ≡ d) × ComesBeforeFrom pool (chosen ++ c ∷ []) rest other)
+
+-- of two walks the first comes before the other, from the first need on
+abbrev pub ComesBefore : SealedPool → List ℕ → List ℕ → Type 0
+ComesBefore pool walk other = ComesBeforeFrom pool [] walk other
+
+-- the first selection: it satisfies the world, is its own walk, and comes before the walk of each
+-- other satisfying selection
+pub record IsFirstSelection (pool : SealedPool) (trace : List ℕ) : Type 0 where
+  pub satisfies : IsSatisfying pool trace
+  pub walked : IsWalk pool trace trace
+  pub first :
+      (selection walk : List ℕ) → IsSatisfying pool selection → IsWalk pool selection walk →
+      (walk ≡ trace) ⊎ ComesBefore pool trace walk

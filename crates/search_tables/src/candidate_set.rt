@@ -1,0 +1,144 @@
+//! A list of candidates, each once, that answers at once whether it has one.
+//! No rule of a document: the choices and the reason of a dead end are such lists
+//! (`docs/selection.md`, "How the search works"), and are asked again and again whether they have a
+//! candidate.
+ghost use Rattle.std.specs.Prelude.{◌≡◌, ◌<◌, ◌^◌, ℕ, List, [], ◌∷◌, ◌++◌, false, length, MatchBool, OnOk, Some, vec_len, slice_index_or};
+ghost use Rattle.candidate_core.specs.Options.{IsIn};
+ghost use Rattle.search_tables.specs.Reasons.{HasSameMembers};
+
+use pool_core::CandId;
+use std::alloc::{AllocError, Global};
+use std::marker::Model;
+
+/// Candidates in the order in which they came, each once, and a mark for each place in the list of
+/// all candidates, which is set where it is one of them.
+#[derive(Drop)]
+pub struct CandidateSet {
+    /// The places of the candidates, in the order in which they came.
+    ids: Vec<CandId>,
+    /// For each place in the list of all candidates, up to the greatest that was ever in the set,
+    /// whether the set has it.
+    marks: Vec<bool>,
+}
+
+impl Model for CandidateSet {
+    ghost use Rattle.std.specs.Prelude.{ℕ, List};
+    ghost use Rattle.search_tables.specs.CandidateSet.{AreMarks};
+
+    ghost Value = { List ℕ };
+
+    ghost view = { λ m. m.ids.items };
+
+    ghost invariant = { λ m. AreMarks m.marks.items m.ids.items };
+}
+
+impl CandidateSet {
+    /// A set without candidates.
+    pub fn new(alloc: Global) -> CandidateSet
+        ensures { result ≡ [] }
+    {
+        CandidateSet {
+            ids: Vec::new(alloc),
+            marks: Vec::new(alloc),
+        }
+    }
+
+    /// Whether the set has a candidate.
+    pub fn has(&self, id: CandId) -> bool
+        ensures { MatchBool result (IsIn id self.now) (IsIn id self.now → ⊥) }
+    {
+        let place = id.place as usize;
+        if place < self.marks.len() {
+            self.marks[place]
+        } else {
+            false
+        }
+    }
+
+    /// Puts a candidate behind the others of the set, unless the set has it.
+    pub fn add(&mut self, id: CandId) -> Result<(), AllocError>
+        ensures { OnOk result (HasSameMembers self.new (self.old ++ id ∷ [])) }
+    {
+        if self.has(id) {
+            return Ok(());
+        }
+        self.push(id)?;
+        Ok(())
+    }
+
+    /// Puts those of some candidates behind the others that the set has not.
+    pub fn add_all(&mut self, ids: &[CandId]) -> Result<(), AllocError>
+        ensures { OnOk result (HasSameMembers self.new (self.old ++ ids.now)) }
+    {
+        for id in ids {
+            self.add(*id)?;
+        }
+        Ok(())
+    }
+
+    /// Puts a candidate behind the others, which the set does not have. A refused call changes
+    /// nothing.
+    pub fn push(&mut self, id: CandId) -> Result<(), AllocError>
+        requires { IsIn id self.old → ⊥ }
+        ensures { OnOk result (self.new ≡ self.old ++ id ∷ []) }
+    {
+        let place = id.place as usize;
+        grow(&mut self.marks, place)?;
+        self.ids.push(id)?;
+        self.marks[place] = true;
+        Ok(())
+    }
+
+    /// Takes all candidates out of the set. The marks stay long, so that a set which is used again
+    /// makes none anew.
+    pub fn clear(&mut self)
+        ensures { self.new ≡ [] }
+    {
+        while !self.as_slice().is_empty() {
+            self.pop();
+        }
+    }
+
+    /// Takes the last candidate out of the set; an empty set stays empty.
+    pub fn pop(&mut self)
+        ensures last { (rest : List ℕ) (last : ℕ) → self.old ≡ rest ++ last ∷ [] →
+            self.new ≡ rest }
+        ensures fewer { 0 < length self.old → length self.new < length self.old }
+    {
+        if let Some(id) = self.ids.pop() {
+            let place = id.place as usize;
+            // Each candidate of the set has a mark.
+            if place < self.marks.len() {
+                self.marks[place] = false;
+            }
+        }
+    }
+
+    /// The last candidate of the set; none of an empty set.
+    pub fn last(&self) -> Option<CandId>
+        ensures { (rest : List ℕ) (last : ℕ) → self.now ≡ rest ++ last ∷ [] →
+            result ≡ Some last }
+    {
+        self.ids.last().copied()
+    }
+
+    /// The candidates of the set, in the order in which they came.
+    pub fn as_slice(&self) -> &[CandId]
+        ensures { result.now ≡ self.now }
+    {
+        self.ids.as_slice()
+    }
+}
+
+// Adds marks that are not set, until there is one at the place.
+fn grow(marks: &mut Vec<bool>, place: usize) -> Result<(), AllocError>
+    requires { place < 2 ^ 32 }
+    ensures room { OnOk result (place < vec_len marks.new) }
+    ensures same { (c : ℕ) → slice_index_or marks.new.items c false
+        ≡ slice_index_or marks.old.items c false }
+{
+    while marks.len() <= place {
+        marks.push(false)?;
+    }
+    Ok(())
+}

@@ -1,0 +1,134 @@
+//! A need under way: the options that are ruled out, each with its reason, and those that are left.
+//! What a reason is, and when an option is ruled out, stands in `docs/selection.md`, "How the
+//! search works"; the words *frame* and *turn* in `docs/names.md`, "Choosing packages".
+ghost use Rattle.std.specs.Prelude.{◌≡◌, [], ◌∷◌, ◌++◌, map, length, ◌<◌, ◌^◌, MatchOption, OnOk, IfSome, Some, slice_get};
+
+use pool_core::CandId;
+use std::alloc::{AllocError, Global};
+use std::marker::Model;
+
+/// An option that is ruled out, and why: no satisfying selection holds it and all of the others.
+#[derive(Drop)]
+pub struct RuledOutOption {
+    /// The option.
+    option: CandId,
+    /// The other members of the reason.
+    others: Vec<CandId>,
+}
+
+impl Model for RuledOutOption {
+    ghost use Rattle.std.specs.Prelude.{ℕ, List};
+
+    ghost Value = { ℕ × List ℕ };
+
+    ghost view = { λ ruled_out. (ruled_out.option, ruled_out.others.items) };
+}
+
+impl RuledOutOption {
+    /// The option that is ruled out.
+    pub fn option(&self) -> CandId
+        ensures { result ≡ self.now.0 }
+    {
+        self.option
+    }
+
+    /// The other members of the reason against the option.
+    pub fn others(&self) -> &[CandId]
+        ensures { result.now ≡ self.now.1 }
+    {
+        self.others.as_slice()
+    }
+}
+
+/// A need that is to be met: its options, of which those in front are ruled out or taken, each that
+/// is ruled out with its reason; and the choices that raised the need.
+#[derive(Drop)]
+pub struct Frame {
+    /// The options that are ruled out, in the order in which they were, each with the other members
+    /// of its reason.
+    ruled_out: Vec<RuledOutOption>,
+    /// All options of the need, best first.
+    options: Vec<CandId>,
+    /// The index, counted from 0, of the first option that is left; the one before it may be taken.
+    next: usize,
+    /// The choices that raised the need: that have the dependency, or that meet the entries of the
+    /// install-if.
+    by: Vec<CandId>,
+}
+
+impl Model for Frame {
+    ghost use Rattle.std.specs.Prelude.{ℕ, List, drop, length, ◌≤◌};
+
+    ghost Value = { List (ℕ × List ℕ) × List ℕ × List ℕ };
+
+    // In this order: what is ruled out, what is left, what raised the need.
+    ghost view = { λ f. (f.ruled_out.items, drop f.next f.options.items, f.by.items) };
+}
+
+impl Frame {
+    /// A frame with all options left.
+    pub fn new(alloc: Global, options: Vec<CandId>, by: Vec<CandId>) -> Frame
+        ensures value { result ≡ ([], options.items, by.items) }
+        ensures few { length result.1 < 2 ^ 64 }
+    {
+        Frame {
+            ruled_out: Vec::new(alloc),
+            options,
+            next: 0,
+            by,
+        }
+    }
+
+    /// Takes the best option that is left, if one is.
+    pub fn take_next(&mut self) -> Option<CandId>
+        ensures ruled_out { self.new.0 ≡ self.old.0 }
+        ensures left { MatchOption result ((self.old.1 ≡ []) × (self.new.1
+            ≡ [])) (λ option. self.old.1 ≡ option ∷ self.new.1) }
+        ensures by { self.new.2 ≡ self.old.2 }
+    {
+        if self.next >= self.options.len() {
+            return None;
+        }
+        let id = self.options[self.next];
+        self.next += 1;
+        Some(id)
+    }
+
+    /// Rules the option out that was taken last, with the other members of the reason against it.
+    pub fn rule_out(&mut self, option: CandId, others: Vec<CandId>) -> Result<(), AllocError>
+        ensures { OnOk result (self.new ≡ (
+          self.old.0 ++
+              (option, others.items) ∷ [],
+          self.old.1,
+          self.old.2,
+        )) }
+    {
+        self.ruled_out.push(RuledOutOption { option, others })?;
+        Ok(())
+    }
+
+    /// The choices that raised the need.
+    pub fn by(&self) -> &[CandId]
+        ensures { result.now ≡ self.now.2 }
+    {
+        self.by.as_slice()
+    }
+
+    /// The options that are ruled out, each with the other members of its reason.
+    pub fn ruled_out(&self) -> &[RuledOutOption]
+        ensures { result.now ≡ self.now.0 }
+    {
+        self.ruled_out.as_slice()
+    }
+
+    /// The option that was ruled out at an index, counted from 0, if there are so many.
+    pub fn ruled_out_at(&self, i: usize) -> Option<&RuledOutOption>
+        ensures { IfSome result (λ ruled_out. slice_get self.now.0 i ≡ Some ruled_out.now) }
+    {
+        if i < self.ruled_out.len() {
+            Some(&self.ruled_out[i])
+        } else {
+            None
+        }
+    }
+}

@@ -1,0 +1,26 @@
+//! What a search for a selection keeps and asks: sets of candidates, the conflicts of the choices and
+//! the install-ifs by their names, the queue of the dependencies that are raised, and the frame of a
+//! need with the options that are ruled out.
+//!
+//! The rules stand in `docs/selection.md`, "What satisfies world", "Which selection is taken", and
+//! "How the search works".
+//!
+//! The contracts cite `Selection` (what satisfies a world, and which selection comes first),
+//! `InstallIf`, `Conflicts`, `Queue` and `Reasons` (why options are ruled out) of `specs/`.
+#![tactic(auto)]
+
+mod candidate_set;
+mod conflicts;
+mod frame;
+mod install_ifs;
+mod name_table;
+mod needs;
+mod queue;
+
+pub use candidate_set::CandidateSet;
+pub use conflicts::{Conflicts, ListedConflict};
+pub use frame::{Frame, RuledOutOption};
+pub use install_ifs::InstallIfs;
+pub use name_table::NameTable;
+pub use needs::{asks_for_name, choice_meeting, is_met_by_latest_or_other, occupant, raisers};
+pub use queue::{Checkpoint, RaisedDep, queue_all, queue_world};

@@ -1,0 +1,82 @@
+//! Items by name, each name's in the order in which they were added. It borrows the names.
+//! No rule of a document: `conflicts` keeps the conflicts of the choices in such a table, and
+//! `install_ifs` the ranks that wait for a name.
+ghost use Rattle.std.specs.Prelude.{◌≡◌, ℕ, List, [], ◌∷◌, ◌++◌, OnOk, if◌then◌else◌};
+ghost use Rattle.std.specs.Str.{bytes_eq};
+ghost use Rattle.search_tables.specs.NameTable.{items_of, without_last};
+
+use indexmap::IndexMap;
+use std::alloc::{AllocError, Global};
+use std::marker::Model;
+
+/// The items of each name.
+#[derive(Drop)]
+pub struct NameTable<'p, T> {
+    /// What memory comes from.
+    alloc: Global,
+    /// The items of each name, the earliest first.
+    by_name: IndexMap<&'p [u8], Vec<T>>,
+}
+
+impl<'p, T> Model for NameTable<'p, T> {
+    ghost use Rattle.std.specs.Prelude.{ℕ, List};
+    ghost use Rattle.search_tables.specs.NameTable.{names_and_items};
+
+    ghost Value = { List (List ℕ × List T) };
+
+    ghost view = { λ t. names_and_items t.by_name.entries };
+}
+
+impl<'p, T: Drop> NameTable<'p, T> {
+    /// A table without items.
+    pub fn new(alloc: Global) -> NameTable<'p, T>
+        ensures { result ≡ [] }
+    {
+        NameTable {
+            alloc,
+            by_name: IndexMap::new(alloc),
+        }
+    }
+
+    /// The items of a name; none where no item of the name was added.
+    pub fn get(&self, name: &[u8]) -> &[T]
+        ensures { result.now ≡ items_of self.now name.now }
+    {
+        match self.by_name.get(name) {
+            Some(items) => items.as_slice(),
+            None => &[],
+        }
+    }
+
+    /// Adds an item behind those of a name; other names keep theirs.
+    pub fn add(&mut self, name: &'p [u8], item: T) -> Result<(), AllocError>
+        ensures { OnOk result ((other : List ℕ) → items_of self.new other
+            ≡ items_of self.old other
+            ++ (if bytes_eq other name.entry.now then item ∷ [] else [])) }
+    {
+        match self.by_name.get_mut(name) {
+            Some(items) => {
+                items.push(item)?;
+                Ok(())
+            }
+            None => {
+                let mut items = Vec::new(self.alloc);
+                items.push(item)?;
+                self.by_name.insert(name, items)?;
+                Ok(())
+            }
+        }
+    }
+
+    /// Takes the last item of a name out, if there is one; other names keep theirs.
+    pub fn pop(&mut self, name: &[u8])
+        ensures { (other : List ℕ) → items_of self.new other
+            ≡ (if bytes_eq other name.now then without_last (items_of self.old other)
+            else items_of self.old other) }
+    {
+        let Some(items) = self.by_name.get_mut(name) else {
+            return;
+        };
+        items.pop();
+    }
+}

@@ -1,0 +1,271 @@
+//! Which choices meet a need, which install-if applies, and which choice occupies a name.
+//! The rules stand in `docs/selection.md`: "What there is to choose from" (what meets a
+//! dependency), and "What satisfies world", 3 (occupied names) and 4 (install-if).
+ghost use Rattle.std.specs.Prelude.{◌≡◌, ℕ, false, true, MatchBool, MatchOption, IfOk, OnOk};
+ghost use Rattle.dep_core.specs.Meets.{dependency};
+ghost use Rattle.candidate_core.specs.Candidates.{entry, meets_need, need_name, occupies_name};
+ghost use Rattle.candidate_core.specs.Options.{IsIn, places_offering};
+ghost use Rattle.candidate_core.specs.Rank.{is_at, meets_at};
+ghost use Rattle.candidate_core.specs.Values.{need_by};
+ghost use Rattle.search_tables.specs.Selection.{is_met, AreMembers};
+ghost use Rattle.search_tables.specs.InstallIf.{all_met, asks_at, asks_for_name};
+
+use crate::candidate_set::CandidateSet;
+use dep_core::Dep;
+use pool_core::{CandId, Deps, Details, NeedRef, Sealed};
+use std::alloc::{AllocError, Global};
+
+/// A choice that meets a need. It is looked for among all choices where these are fewer than the
+/// candidates that offer the need's name.
+pub fn choice_meeting(
+    pool: &Sealed<'_>,
+    choices: &CandidateSet,
+    need: &NeedRef<'_>,
+) -> Option<CandId>
+    ensures { MatchOption result (is_met pool.now choices.now (need_by need.now)
+        ≡ false) (λ id. IsIn id choices.now × (meets_at pool.now id (need_by need.now)
+        ≡ true)) }
+{
+    let offers = offers_for(pool, need);
+    if choices.as_slice().len() < offers.len() {
+        return choice_among(pool, choices, choices.as_slice(), need);
+    }
+    choice_among(pool, choices, offers, need)
+}
+
+// The offers of the need's name: only these candidates can meet the need.
+fn offers_for<'a>(pool: &'a Sealed<'_>, need: &NeedRef<'_>) -> &'a [CandId]
+    ensures { result.now ≡ places_offering (need_name (need_by need.now))
+        pool.entry.now.candidates }
+{
+    match need {
+        NeedRef::Entry(dep) => pool.offers(dep.name),
+        NeedRef::Named(name) => pool.offers(name),
+    }
+}
+
+// A choice among some candidates that meets a need: the first of them, though no contract says
+// which.
+fn choice_among(
+    pool: &Sealed<'_>,
+    choices: &CandidateSet,
+    ids: &[CandId],
+    need: &NeedRef<'_>,
+) -> Option<CandId>
+    ensures { MatchOption result ((k : ℕ) → IsIn k ids.now → IsIn k choices.now →
+        meets_at pool.now k (need_by need.now) ≡ false) (λ id. IsIn id choices.now
+        × (meets_at pool.now id (need_by need.now) ≡ true)) }
+{
+    for id in ids {
+        if is_choice_meeting(pool, choices, *id, need) {
+            return Some(*id);
+        }
+    }
+    None
+}
+
+// Whether the candidate is a choice, and meets the need.
+fn is_choice_meeting(
+    pool: &Sealed<'_>,
+    choices: &CandidateSet,
+    id: CandId,
+    need: &NeedRef<'_>,
+) -> bool
+    ensures { MatchBool result (IsIn id choices.now × (meets_at pool.now id
+        (need_by need.now) ≡ true)) (IsIn id choices.now →
+        meets_at pool.now id (need_by need.now) ≡ false) }
+{
+    if choices.has(id) {
+        return meets(pool, id, need);
+    }
+    false
+}
+
+// Whether the candidate at a place meets a need.
+fn meets(pool: &Sealed<'_>, id: CandId, need: &NeedRef<'_>) -> bool
+    ensures { result ≡ meets_at pool.now id (need_by need.now) }
+{
+    match pool.at(id) {
+        None => false,
+        Some(details) => meets_need(&details, need),
+    }
+}
+
+// Whether a candidate meets a need, by what is known of it: a name that an install-if asks for is
+// met by the candidate's own name alone.
+fn meets_need(details: &Details<'_>, need: &NeedRef<'_>) -> bool
+    ensures { result ≡ meets_need (need_by need.now) details.now }
+{
+    match need {
+        NeedRef::Entry(dep) => details.meets(dep),
+        NeedRef::Named(name) => *name == details.name(),
+    }
+}
+
+// Whether a choice meets a need; `is_met_by_latest_or_other` answers the same.
+fn is_met(pool: &Sealed<'_>, choices: &CandidateSet, need: &NeedRef<'_>) -> bool
+    ensures { result ≡ is_met pool.now choices.now (need_by need.now) }
+{
+    choice_meeting(pool, choices, need).is_some()
+}
+
+/// Whether a choice meets a need. The latest is tried first: it may have been taken for this need.
+pub fn is_met_by_latest_or_other(
+    pool: &Sealed<'_>,
+    choices: &CandidateSet,
+    need: &NeedRef<'_>,
+) -> bool
+    ensures { result ≡ is_met pool.now choices.now (need_by need.now) }
+{
+    if latest_meets(pool, choices.as_slice(), need) {
+        return true;
+    }
+    is_met(pool, choices, need)
+}
+
+// Whether the latest choice meets the need. That it does not says nothing of the others.
+fn latest_meets(pool: &Sealed<'_>, choices: &[CandId], need: &NeedRef<'_>) -> bool
+    ensures { result ≡ true → is_met pool.now choices.now (need_by need.now) ≡ true }
+{
+    match choices.last() {
+        None => false,
+        Some(id) => meets(pool, *id, need),
+    }
+}
+
+/// Whether the candidate at a place asks: each entry of its install-if is met, and no choice has
+/// its name.
+pub fn asks_for_name(pool: &Sealed<'_>, choices: &CandidateSet, id: CandId) -> bool
+    ensures { result ≡ asks_at pool.now choices.now id }
+{
+    match pool.at(id) {
+        None => false,
+        Some(details) => wants(pool, choices, &details),
+    }
+}
+
+// Whether a candidate asks, by what is known of it: each entry of its install-if is met, and no
+// choice has its name.
+fn wants(pool: &Sealed<'_>, choices: &CandidateSet, details: &Details<'_>) -> bool
+    ensures { result ≡ asks_for_name pool.now choices.now details.now }
+{
+    if !all_met(pool, choices, &details.install_if()) {
+        return false;
+    }
+    !is_met(pool, choices, &NeedRef::Named(details.name()))
+}
+
+// Whether a choice meets each of some dependencies.
+fn all_met(pool: &Sealed<'_>, choices: &CandidateSet, deps: &Deps<'_>) -> bool
+    ensures { result ≡ all_met pool.now choices.now deps.now }
+{
+    for i in 0..deps.len() {
+        if !is_dep_met(pool, choices, &deps.get(i)) {
+            return false;
+        }
+    }
+    true
+}
+
+// Whether a choice meets one dependency.
+fn is_dep_met(pool: &Sealed<'_>, choices: &CandidateSet, dep: &Dep<'_>) -> bool
+    ensures { result ≡ is_met pool.now choices.now (entry (dependency dep.now)) }
+{
+    is_met(pool, choices, &NeedRef::Entry(dep))
+}
+
+/// Of each of some dependencies that a choice meets, one choice that does. Where they all are met,
+/// they are met by these choices alone: so these raised the need of an install-if.
+pub fn raisers(
+    alloc: Global,
+    pool: &Sealed<'_>,
+    choices: &CandidateSet,
+    deps: &Deps<'_>,
+) -> Result<Vec<CandId>, AllocError>
+    ensures within { IfOk result (λ by. AreMembers by.items choices.now) }
+    ensures met { IfOk result (λ by. all_met pool.now choices.now deps.now ≡ true →
+        all_met pool.now by.items deps.now ≡ true) }
+{
+    let mut by = Vec::new(alloc);
+    for i in 0..deps.len() {
+        push_met(&mut by, pool, choices, &deps.get(i))?;
+    }
+    Ok(by)
+}
+
+// Adds a choice that meets the dependency to the list `by`, if one does.
+fn push_met(
+    by: &mut Vec<CandId>,
+    pool: &Sealed<'_>,
+    choices: &CandidateSet,
+    dep: &Dep<'_>,
+) -> Result<(), AllocError>
+    ensures within { OnOk result (AreMembers by.old.items choices.now →
+        AreMembers by.new.items choices.now) }
+    ensures more { OnOk result (AreMembers by.old.items by.new.items) }
+    ensures met { OnOk result (is_met pool.now choices.now (entry (dependency dep.now)) ≡ true →
+        is_met pool.now by.new.items (entry (dependency dep.now)) ≡ true) }
+{
+    match choice_meeting(pool, choices, &NeedRef::Entry(dep)) {
+        None => Ok(()),
+        Some(id) => {
+            by.push(id)?;
+            Ok(())
+        }
+    }
+}
+
+/// A choice that occupies a name. It is looked for among all choices where these are fewer than
+/// the candidates that offer the name.
+pub fn occupant(pool: &Sealed<'_>, choices: &CandidateSet, name: &[u8]) -> Option<CandId>
+    ensures { MatchOption result ((k : ℕ) → IsIn k choices.now →
+        is_at pool.now (occupies_name name.now) k ≡ false) (λ id. IsIn id choices.now
+        × (is_at pool.now (occupies_name name.now) id ≡ true)) }
+{
+    let offers = pool.offers(name);
+    if choices.as_slice().len() < offers.len() {
+        return occupant_among(pool, choices, choices.as_slice(), name);
+    }
+    occupant_among(pool, choices, offers, name)
+}
+
+// The first of some candidates that is a choice and occupies a name.
+fn occupant_among(
+    pool: &Sealed<'_>,
+    choices: &CandidateSet,
+    ids: &[CandId],
+    name: &[u8],
+) -> Option<CandId>
+    ensures { MatchOption result ((k : ℕ) → IsIn k ids.now → IsIn k choices.now →
+        is_at pool.now (occupies_name name.now) k ≡ false) (λ id. IsIn id choices.now
+        × (is_at pool.now (occupies_name name.now) id ≡ true)) }
+{
+    for id in ids {
+        if is_choice_occupying(pool, choices, *id, name) {
+            return Some(*id);
+        }
+    }
+    None
+}
+
+// Whether the candidate is a choice, and occupies the name.
+fn is_choice_occupying(pool: &Sealed<'_>, choices: &CandidateSet, id: CandId, name: &[u8]) -> bool
+    ensures { MatchBool result (IsIn id choices.now
+        × (is_at pool.now (occupies_name name.now) id ≡ true)) (IsIn id choices.now →
+        is_at pool.now (occupies_name name.now) id ≡ false) }
+{
+    if choices.has(id) {
+        return occupies(pool, id, name);
+    }
+    false
+}
+
+// Whether the candidate at a place occupies a name.
+fn occupies(pool: &Sealed<'_>, id: CandId, name: &[u8]) -> bool
+    ensures { result ≡ is_at pool.now (occupies_name name.now) id }
+{
+    match pool.at(id) {
+        None => false,
+        Some(details) => details.occupies(name),
+    }
+}

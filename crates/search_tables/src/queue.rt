@@ -1,0 +1,98 @@
+//! The dependencies that world and the choices raise, in the order in which they are to be met.
+//! The rule stands in `docs/selection.md`, "Which selection is taken": first the entries of world,
+//! then the dependencies of each choice in the order chosen; conflicts are no needs.
+ghost use Rattle.std.specs.Prelude.{◌≡◌, ◌∷◌, ◌++◌, [], OnOk, None, Some};
+ghost use Rattle.dep_core.specs.Meets.{dependency};
+ghost use Rattle.search_tables.specs.Queue.{raised_deps};
+
+use dep_core::{Dep, World};
+use pool_core::{CandId, Deps};
+use std::alloc::AllocError;
+use std::marker::Model;
+
+/// A dependency that has to be met, and the choice that has it, if it is none of world's.
+#[derive(Drop)]
+pub struct RaisedDep<'p> {
+    /// The dependency, which is no conflict.
+    dep: Dep<'p>,
+    /// The choice that has the dependency; none for an entry of world.
+    by: Option<CandId>,
+}
+
+impl<'p> Model for RaisedDep<'p> {
+    ghost use Rattle.search_tables.specs.Queue.{RaisedDepValue};
+    ghost use Rattle.dep_core.specs.Meets.{dependency};
+
+    ghost Value = { RaisedDepValue };
+
+    ghost view = { λ r. (dependency r.dep, r.by) };
+}
+
+impl<'p> RaisedDep<'p> {
+    /// The dependency that is raised.
+    pub fn dep(&self) -> &Dep<'p>
+        ensures { dependency result.now ≡ self.now.0 }
+    {
+        &self.dep
+    }
+
+    /// The choice that has the dependency; none for an entry of world.
+    pub fn by(&self) -> Option<CandId>
+        ensures { result ≡ self.now.1 }
+    {
+        self.by
+    }
+}
+
+/// Where the queue and the cursors stood before a choice.
+#[derive(Clone, Copy)]
+pub struct Checkpoint {
+    /// How many dependencies the queue had.
+    pub queue_len: usize,
+    /// Where the cursor of the queue stood.
+    pub cursor: usize,
+    /// Where the cursor of the install-ifs stood.
+    pub asking_cursor: usize,
+}
+
+/// Queues what world asks for: its entries that are no conflicts.
+pub fn queue_world<'p>(queue: &mut Vec<RaisedDep<'p>>, world: &'p World) -> Result<(), AllocError>
+    ensures { OnOk result (queue.new.items ≡ queue.old.items
+        ++ raised_deps None world.entry.now) }
+{
+    for i in 0..world.len() {
+        queue_one(queue, world.entry(i), None)?;
+    }
+    Ok(())
+}
+
+/// Queues the dependencies of a choice that are no conflicts.
+pub fn queue_all<'p>(
+    queue: &mut Vec<RaisedDep<'p>>,
+    deps: &Deps<'p>,
+    by: CandId,
+) -> Result<(), AllocError>
+    ensures { OnOk result (queue.new.items ≡ queue.old.items
+        ++ raised_deps (Some by) deps.now) }
+{
+    for i in 0..deps.len() {
+        queue_one(queue, deps.get(i), Some(by))?;
+    }
+    Ok(())
+}
+
+// Puts a dependency behind the others of the queue, unless it is a conflict; `by` is the choice
+// that has it.
+fn queue_one<'p>(
+    queue: &mut Vec<RaisedDep<'p>>,
+    dep: Dep<'p>,
+    by: Option<CandId>,
+) -> Result<(), AllocError>
+    ensures { OnOk result (queue.new.items ≡ queue.old.items
+        ++ raised_deps by (dependency dep.entry ∷ [])) }
+{
+    if !dep.conflict {
+        queue.push(RaisedDep { dep, by })?;
+    }
+    Ok(())
+}

@@ -1,5 +1,0 @@
-use Rattle.solve_core.proofs.Members.{same_there}
-use Rattle.solve_core.proofs.candidate_set.CandidateSet.add.Goals as goal
-
-pub returns-then-has : goal.returns-then-has
-returns-then-has c = same_there c.args.self.now c.args.id (rw c.if-has.true at c.has.ensures)

@@ -1,6 +1,0 @@
-use Rattle.std.proofs.Common.{◌++◌, take}
-use Rattle.solve_core.specs.Reasons.{HasSameMembers}
-use Rattle.solve_core.proofs.candidate_set.CandidateSet.add_all.Given as goal
-
-abbrev pub invariant-loop-id : goal.invariant-loop-id
-invariant-loop-id l = HasSameMembers l.self (l.initial.self ++ take l.id-index l.ids)

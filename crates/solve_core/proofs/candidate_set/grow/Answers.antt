@@ -1,7 +1,0 @@
-use Rattle.std.proofs.Common.{◌∙◌, Bool, List, false, ap}
-use Rattle.std.specs.Prelude.{slice_index_or}
-use Rattle.solve_core.proofs.Marks.{same-append}
-use Rattle.solve_core.proofs.candidate_set.grow.Goals as goal
-
-pub loop-marks-preserved : goal.loop-marks-preserved
-loop-marks-preserved c = λ k. ap (λ (z : List Bool). slice_index_or z k false) c.in_ok-push.ensures.items ∙ (same-append c.loop-marks.marks.items k ∙ c.loop-marks.invariant k)

@@ -1,8 +1,0 @@
-use Rattle.std.proofs.Common.{◌∙◌, sym}
-use Rattle.dep_core.specs.Meets.{dependency}
-use Rattle.solve_core.proofs.Excluders.{occupied_by_entry}
-use Rattle.solve_core.proofs.choices.Choices.excluder_of_entry.Goals as goal
-
-pub excluder_at-requires-clause-occupied : goal.excluder_at-requires-clause-occupied
-excluder_at-requires-clause-occupied c = λ occupied.
-    occupied_by_entry c.args.details.now (dependency c.args.entry.now) c.requires.provided c.if-entry.false (sym c.is_some.ensures ∙ occupied)

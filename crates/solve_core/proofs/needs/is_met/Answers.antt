@@ -1,7 +1,0 @@
-use Rattle.std.proofs.Common.{◌∙◌}
-use Rattle.pool_core.specs.Values.{need_by}
-use Rattle.solve_core.proofs.Raisers.{is_met_by}
-use Rattle.solve_core.proofs.needs.is_met.Goals as goal
-
-pub returns : goal.returns
-returns c = c.is_some.ensures ∙ is_met_by c.args.pool.now c.args.choices.now (need_by c.args.need.now) c.choice_meeting.result c.choice_meeting.ensures

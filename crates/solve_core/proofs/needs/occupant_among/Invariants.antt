@@ -1,8 +1,0 @@
-use Rattle.std.proofs.Common.{◌≡◌, ℕ, take, false}
-use Rattle.pool_core.specs.Options.{IsIn}
-use Rattle.pool_core.specs.Candidates.{occupies_name}
-use Rattle.pool_core.specs.Rank.{is_at}
-use Rattle.solve_core.proofs.needs.occupant_among.Given as goal
-
-abbrev pub invariant-loop-id : goal.invariant-loop-id
-invariant-loop-id l = (k : ℕ) → IsIn k (take l.id-index l.ids) → IsIn k l.choices → is_at l.pool (occupies_name l.name) k ≡ false
