@@ -4,3 +4,4 @@ pub mod Owners
 -- what only inner contracts and proofs use
 pub mod Gathered
 pub mod NamedPlaces
+pub mod Questions
