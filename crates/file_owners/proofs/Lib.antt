@@ -5,6 +5,6 @@ pub mod Claiming
 mod NamedPlaces
 mod ReadWords
 mod AnyOfFront
-mod Questions
+mod AskedQuestions
 mod Staying
 mod SoundMembers

@@ -1,7 +1,7 @@
 //! The questions whether entries of what a package replaces name a member. Many entries may share
 //! the text of a version, so entries that ask the same of one member are answered once.
 
-ghost use Rattle.std.specs.Prelude.{◌≡◌, ◌<◌, ◌-◌, ◌+◌, ◌==◌, ◌||◌, ℕ, true, Some, IfOk, IfSome, length, slice_get, take};
+ghost use Rattle.std.specs.Prelude.{◌≡◌, ◌<◌, ◌-◌, ◌+◌, ◌==◌, ◌||◌, ℕ, true, All, Some, IfOk, IfSome, length, slice_get, take};
 ghost use Rattle.std.specs.List.{list_any};
 ghost use Rattle.adb_view.specs.Adb.{payload_of};
 ghost use Rattle.adb_view.specs.Entries.{array_entries};
@@ -12,10 +12,9 @@ ghost use Rattle.adb_tables.specs.declared.tables.Which.TheVariants as Tables;
 ghost use Rattle.adb_fields.specs.Fields.{are_all_sound, array_at};
 ghost use Rattle.adb_fields.specs.Repeated.{list_of};
 ghost use Rattle.adb_rules.specs.SoundValues.{IsSoundDependency};
-ghost use Rattle.adb_schema.specs.Views.{dependency_value};
 ghost use Rattle.db_core.specs.Members.{Member, is_place};
 ghost use Rattle.db_core.specs.Seen.{members_of};
-ghost use Rattle.file_owners.specs.Questions.{AreQuestionsIn, AreSameQuestion, IsQuestionBy, asks_for, asks_for_if_any, text_of_word, with_question};
+ghost use Rattle.file_owners.specs.Questions.{AreSameQuestion, IsQuestionIn, question_names, question_names_if_any, with_question};
 ghost use Rattle.file_owners.specs.Replaces.{is_named_by};
 ghost use Rattle.file_owners.specs.declared.questions.Question.{Question as AskedQuestion};
 
@@ -34,28 +33,28 @@ const VERSION: usize = 1;
 
 /// Whether an entry names the member that has its name.
 #[derive(Clone, Copy)]
-pub(crate) struct Question<'a> {
+pub(crate) struct Question {
     /// The member's place, counted from 0.
     pub(crate) place: u32,
     /// The word of the version that is asked for, in the payload of the entry.
     pub(crate) version: u32,
     /// How that version is compared.
     pub(crate) matching: u64,
-    /// What the entry is.
-    pub(crate) dependency: DepView<'a>,
+    /// The word of the entry.
+    pub(crate) word: Val,
 }
 
-impl<'a> Question<'a> {
-    // The order in which questions that are the same stand together.
-    fn compare(&self, other: &Question<'_>) -> Ordering {
+impl Question {
+    /// The order in which questions that are the same stand together.
+    fn compare(&self, other: &Question) -> Ordering {
         let by_place = self.place.cmp(&other.place);
         let by_version = self.version.cmp(&other.version);
         let by_matching = self.matching.cmp(&other.matching);
         by_place.then(by_version.then(by_matching))
     }
 
-    // Whether both ask the same of one member: the words tell, and not the bytes.
-    fn is_same(&self, other: &Question<'_>) -> bool
+    /// Whether both ask the same of one member: the words tell, and not the bytes.
+    fn is_same(&self, other: &Question) -> bool
         ensures { result ≡ true → AreSameQuestion self.now other.now }
     {
         self.place == other.place
@@ -85,28 +84,28 @@ pub(crate) fn places_in<'a>(
 {
     let mut questions = questions_of(alloc, members, adb, entries)?;
     questions.sort_by(|one, other| one.compare(other))?;
-    let places = places_asked(alloc, members, &questions)?;
+    let places = places_asked(alloc, members, adb, &questions)?;
     Ok(places)
 }
 
-// The questions of entries, in their order; an entry whose name no member has asks none.
+/// The questions of entries, in their order; an entry whose name no member has asks none.
 fn questions_of<'a>(
     alloc: Global,
     members: &Members<'_>,
     adb: Adb<'a>,
     entries: Arr<'a>,
-) -> Result<Vec<Question<'a>>, AllocError>
+) -> Result<Vec<Question>, AllocError>
     requires sound { are_all_sound (payload_of adb) (Kinds.Obj Tables.Dep) (array_entries entries)
         ≡ true }
     requires texts { Each IsSoundDependency (entries_in
         (array_at (payload_of adb) (Kinds.Obj Tables.Dep) (array_entries entries))) }
     ensures asked { IfOk result (λ questions. (y : ℕ) (m : Member)
         → slice_get (members_of members.now) y ≡ Some m
-        → list_any (asks_for y m.pkg) questions.items
+        → list_any (question_names (payload_of adb.entry) y m.pkg) questions.items
         ≡ list_any (λ entry. is_named_by entry m.pkg) (list_of (entries_in
         (array_at (payload_of adb.entry) (Kinds.Obj Tables.Dep) (array_entries entries.entry))))) }
     ensures questions { IfOk result (λ questions.
-        AreQuestionsIn (members_of members.now) questions.items) }
+        All (IsQuestionIn (members_of members.now) (payload_of adb.entry)) questions.items) }
 {
     let mut questions = Vec::new(alloc);
     for i in 0..entries.len() {
@@ -118,13 +117,10 @@ fn questions_of<'a>(
     Ok(questions)
 }
 
-// Adds a question, if there is one.
-fn add_question<'a>(
-    questions: &mut Vec<Question<'a>>,
-    question: Option<Question<'a>>,
-) -> Result<(), AllocError>
+/// Adds a question, if there is one.
+fn add_question(questions: &mut Vec<Question>, question: Option<Question>) -> Result<(), AllocError>
     ensures { IfOk result (λ _. questions.new.items
-        ≡ with_question questions.old.items question.entry) }
+        ≡ with_question questions.old.items question) }
 {
     if let Some(question) = question {
         questions.push(question)?;
@@ -132,15 +128,15 @@ fn add_question<'a>(
     Ok(())
 }
 
-// The question of an entry, if a member has its name.
-fn question_of<'a>(members: &Members<'_>, adb: Adb<'a>, entry: Val) -> Option<Question<'a>>
+/// The question of an entry, if a member has its name.
+fn question_of(members: &Members<'_>, adb: Adb<'_>, entry: Val) -> Option<Question>
     requires sound { is_sound (payload_of adb) (Kinds.Obj Tables.Dep) entry ≡ true }
     requires texts { IsSoundDependency (value_at (payload_of adb) (Kinds.Obj Tables.Dep) entry) }
     ensures asked { (y : ℕ) (m : Member) → slice_get (members_of members.now) y ≡ Some m
-        → asks_for_if_any y m.pkg result
+        → question_names_if_any (payload_of adb.entry) y m.pkg result
         ≡ is_named_by (value_at (payload_of adb.entry) (Kinds.Obj Tables.Dep) entry) m.pkg }
     ensures question { IfSome result
-        (IsQuestionBy (members_of members.now) (text_of_word (payload_of adb.entry))) }
+        (IsQuestionIn (members_of members.now) (payload_of adb.entry)) }
 {
     let view = DepView::of(adb, entry);
     match members.find(view.name()) {
@@ -148,33 +144,34 @@ fn question_of<'a>(members: &Members<'_>, adb: Adb<'a>, entry: Val) -> Option<Qu
             place: place_of(members, place),
             version: field_word(adb, Which::Dep, entry, VERSION).word(),
             matching: view.matching(),
-            dependency: view,
+            word: entry,
         }),
         None => None,
     }
 }
 
-// The places of the members for which questions are answered with yes. Those that are the same and
-// stand together are answered once.
+/// The places of the members for which questions are answered with yes. Those that are the same and
+/// stand together are answered once.
 fn places_asked(
     alloc: Global,
     members: &Members<'_>,
-    questions: &[Question<'_>],
+    adb: Adb<'_>,
+    questions: &[Question],
 ) -> Result<Vec<u32>, AllocError>
-    requires { AreQuestionsIn (members_of members.now) questions.now }
+    requires { All (IsQuestionIn (members_of members.now) (payload_of adb)) questions.now }
     ensures { IfOk result (λ places. (y : ℕ) (m : Member)
         → slice_get (members_of members.now) y ≡ Some m
         → list_any (λ place. place == y) places.items
-        ≡ list_any (asks_for y m.pkg) questions.now) }
+        ≡ list_any (question_names (payload_of adb.entry) y m.pkg) questions.now) }
 {
     let mut places = Vec::new(alloc);
     for i in 0..questions.len() {
-        add_place(&mut places, place_asked(members, questions, i))?;
+        add_place(&mut places, place_asked(members, adb, questions, i))?;
     }
     Ok(places)
 }
 
-// Adds a place, if there is one.
+/// Adds a place, if there is one.
 fn add_place(places: &mut Vec<u32>, place: Option<u32>) -> Result<(), AllocError>
     ensures { IfOk result (λ _. (y : ℕ) → list_any (λ p. p == y) places.new.items
         ≡ (list_any (λ p. p == y) places.old.items || is_place y place)) }
@@ -185,23 +182,25 @@ fn add_place(places: &mut Vec<u32>, place: Option<u32>) -> Result<(), AllocError
     Ok(())
 }
 
-// The place of the member for which a question is answered with yes, unless the one before it is
-// the same.
-fn place_asked(members: &Members<'_>, questions: &[Question<'_>], i: usize) -> Option<u32>
+/// The place of the member for which a question is answered with yes, unless the one before it is
+/// the same.
+fn place_asked(members: &Members<'_>, adb: Adb<'_>, questions: &[Question], i: usize) -> Option<u32>
     requires within { i < length questions.now }
-    requires questions { AreQuestionsIn (members_of members.now) questions.now }
+    requires questions { All (IsQuestionIn (members_of members.now) (payload_of adb))
+        questions.now }
     ensures { (y : ℕ) (m : Member) → slice_get (members_of members.now) y ≡ Some m
-        → (list_any (asks_for y m.pkg) (take i questions.now) || is_place y result)
-        ≡ list_any (asks_for y m.pkg) (take (i + 1) questions.now) }
+        → (list_any (question_names (payload_of adb.entry) y m.pkg) (take i questions.now)
+        || is_place y result)
+        ≡ list_any (question_names (payload_of adb.entry) y m.pkg) (take (i + 1) questions.now) }
 {
     if repeats_the_one_before(questions, i) {
         return None;
     }
-    place_if_named(members, &questions[i])
+    place_if_named(members, adb, &questions[i])
 }
 
-// Whether a question is the same as the one before it.
-fn repeats_the_one_before(questions: &[Question<'_>], i: usize) -> bool
+/// Whether a question is the same as the one before it.
+fn repeats_the_one_before(questions: &[Question], i: usize) -> bool
     requires { i < length questions.now }
     ensures first { result ≡ true → 0 < i }
     ensures same { result ≡ true → (one other : AskedQuestion)
@@ -214,16 +213,16 @@ fn repeats_the_one_before(questions: &[Question<'_>], i: usize) -> bool
     questions[i - 1].is_same(&questions[i])
 }
 
-// The place of the member that a question is about, if its entry names that member.
-fn place_if_named(members: &Members<'_>, question: &Question<'_>) -> Option<u32>
-    requires within { question.now.place < length (members_of members.now) }
-    requires sound { IsSoundDependency (dependency_value question.now.dependency) }
+/// The place of the member that a question is about, if its entry names that member.
+fn place_if_named(members: &Members<'_>, adb: Adb<'_>, question: &Question) -> Option<u32>
+    requires { IsQuestionIn (members_of members.now) (payload_of adb) question.now }
     ensures { (y : ℕ) (m : Member) → slice_get (members_of members.now) y ≡ Some m
-        → is_place y result ≡ asks_for y m.pkg question.now }
+        → is_place y result ≡ question_names (payload_of adb.entry) y m.pkg question.now }
 {
     members.packages_are_sound();
     let place = question.place;
-    if is_named_by(&question.dependency, members.view(place as usize)) {
+    let entry = DepView::of(adb, question.word);
+    if is_named_by(&entry, members.view(place as usize)) {
         Some(place)
     } else {
         None

@@ -12,9 +12,9 @@ use Rattle.adb_view.specs.Adb.{payload_of}
 use Rattle.adb_view.specs.Entries.{array_entries}
 use Rattle.adb_view.specs.Plain.{Plains}
 use Rattle.db_core.specs.Seen.{members_of}
-use Rattle.file_owners.specs.Questions.{IsQuestionBy, text_of_word}
+use Rattle.file_owners.specs.Questions.{IsQuestionIn}
 use Rattle.file_owners.specs.declared.questions.Question.{Question}
-use Rattle.file_owners.proofs.Questions.{all_asked, all_with, entry_asked}
+use Rattle.file_owners.proofs.AskedQuestions.{all_asked, all_with, entry_asked}
 use Rattle.file_owners.proofs.ReadWords.{word_sound, word_value, word_within}
 use Rattle.file_owners.proofs.questions.questions_of.Goals as goal
 
@@ -44,10 +44,10 @@ loop-i-preserved c =
     let word : ℕ = c.entry_word.result in
     let within : i < length ws = omega (arith, c.len-i-end.ensures.value, c.loop-i-test.true) in
     let old : List Question = c.loop-i.questions.items in
-    let P : Question → Type 0 = IsQuestionBy (members_of c.args.members.now) (text_of_word p) in
+    let P : Question → Type 0 = IsQuestionIn (members_of c.args.members.now) p in
     record {
       asked =
-          entry_asked (members_of c.args.members.now) old c.add_question.new.questions.items c.question_of.result values i (value_at p k word)
+          entry_asked p (members_of c.args.members.now) old c.add_question.new.questions.items c.question_of.result values i (value_at p k word)
           (word_within p k ws i word c.requires.sound within c.entry_word.ensures) (word_value p k ws i word c.requires.sound within c.entry_word.ensures)
           c.in_ok-add_question.ensures c.question_of.ensures.asked c.loop-i.invariant.asked;
       each = subst (λ (qs : List Question). All P qs) (sym c.in_ok-add_question.ensures) (all_with P old c.question_of.result c.loop-i.invariant.each c.question_of.ensures.question);
@@ -57,8 +57,8 @@ pub returns-clause-asked : goal.returns-clause-asked
 returns-clause-asked c =
     let p : List ℕ = payload_of c.args.adb in
     let ws : List ℕ = array_entries c.args.entries in
-    all_asked (members_of c.args.members.now) c.loop-i.questions.items (entries_in (array_at p (Kinds.Obj Tables.Dep) ws)) c.loop-i.i
+    all_asked p (members_of c.args.members.now) c.loop-i.questions.items (entries_in (array_at p (Kinds.Obj Tables.Dep) ws)) c.loop-i.i
     (omega (arith, c.len-i-end.ensures.value, c.loop-i-test.false, c.loop-i.auto.i-end, entry_count p (Kinds.Obj Tables.Dep) ws c.requires.sound)) c.loop-i.invariant.asked
 
 pub returns-clause-questions : goal.returns-clause-questions
-returns-clause-questions c = (text_of_word (payload_of c.args.adb), c.loop-i.invariant.each)
+returns-clause-questions c = c.loop-i.invariant.each
