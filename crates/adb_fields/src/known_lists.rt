@@ -65,12 +65,12 @@ impl<'a> KnownLists<'a> {
     {
         let objects = objects_word(self.adb, self.which, list);
         if objects.len() <= LONGEST_SHORT_LIST {
-            return name_twice(alloc, self.adb, self.which, objects);
+            return name_twice_in_list(alloc, self.adb, self.which, objects);
         }
         if let Some(pair) = self.kept_pair(list) {
             return Ok(pair);
         }
-        let pair = name_twice(alloc, self.adb, self.which, objects)?;
+        let pair = name_twice_in_list(alloc, self.adb, self.which, objects)?;
         self.pairs.insert(list.word(), pair)?;
         Ok(pair)
     }
@@ -86,7 +86,7 @@ impl<'a> KnownLists<'a> {
 }
 
 /// The pair of positions at which two of the objects have one name, which is their first field.
-fn name_twice(
+fn name_twice_in_list(
     alloc: Global,
     adb: Adb<'_>,
     which: Which,

@@ -94,12 +94,12 @@ fn in_package(alloc: Global, adb: Adb<'_>, pkg: Val) -> Result<Option<Cause>, Al
     let mut folders = KnownLists::new(alloc, adb, Which::Dir);
     match repeated_at(
         field_numbers::DIR_NAME,
-        folder_twice(alloc, adb, &mut folders, pkg)?,
+        folder_twice_in_package(alloc, adb, &mut folders, pkg)?,
     ) {
         Some(cause) => Ok(Some(cause)),
         None => {
             let mut files = KnownLists::new(alloc, adb, Which::File);
-            let pair = file_twice(alloc, adb, &mut files, pkg)?;
+            let pair = file_twice_in_package(alloc, adb, &mut files, pkg)?;
             Ok(repeated_at(field_numbers::FILE_NAME, pair))
         }
     }
@@ -135,12 +135,9 @@ fn inside_packages(
         ≡ inside_fault (plains_at (payload_of adb.entry) (Kinds.Obj Tables.Package)
         (array_entries packages.entry))) }
 {
-    match repeated_at(
-        field_numbers::DIR_NAME,
-        folders_twice(alloc, adb, packages)?,
-    ) {
+    match repeated_at(field_numbers::DIR_NAME, folder_twice(alloc, adb, packages)?) {
         Some(cause) => Ok(Some(cause)),
-        None => Ok(repeated_at(field_numbers::FILE_NAME, files_twice(alloc, adb, packages)?)),
+        None => Ok(repeated_at(field_numbers::FILE_NAME, file_twice(alloc, adb, packages)?)),
     }
 }
 
@@ -188,7 +185,7 @@ fn in_intent(alloc: Global, adb: Adb<'_>, intent: Val) -> Result<Option<Cause>, 
 }
 
 /// The pair of positions at which a package lists one folder.
-fn folder_twice(
+fn folder_twice_in_package(
     alloc: Global,
     adb: Adb<'_>,
     lists: &mut KnownLists<'_>,
@@ -206,7 +203,7 @@ fn folder_twice(
 
 /// The first pair of positions at which one of a package's folders lists one file.
 #[tactic(auto, using(crate::proofs::FieldReads::entry_sound))]
-fn file_twice(
+fn file_twice_in_package(
     alloc: Global,
     adb: Adb<'_>,
     lists: &mut KnownLists<'_>,
@@ -223,13 +220,13 @@ fn file_twice(
     let mut first = None;
     for i in 0..folders.len() {
         let folder = entry_word(folders, i);
-        first = earlier(first, file_twice_in(alloc, adb, lists, folder)?);
+        first = earlier(first, file_twice_in_folder(alloc, adb, lists, folder)?);
     }
     Ok(first)
 }
 
 /// The pair of positions at which a folder lists one file.
-fn file_twice_in(
+fn file_twice_in_folder(
     alloc: Global,
     adb: Adb<'_>,
     lists: &mut KnownLists<'_>,
@@ -247,7 +244,7 @@ fn file_twice_in(
 
 /// The first pair of positions at which one of the packages lists one folder.
 #[tactic(auto, using(crate::proofs::FieldReads::entry_sound))]
-fn folders_twice(alloc: Global, adb: Adb<'_>, packages: Arr<'_>) -> Result<Option<Pair>, AllocError>
+fn folder_twice(alloc: Global, adb: Adb<'_>, packages: Arr<'_>) -> Result<Option<Pair>, AllocError>
     requires { are_all_sound (payload_of adb) (Kinds.Obj Tables.Package) (array_entries packages)
         ≡ true }
     ensures { IfOk result (λ pair. pair
@@ -258,14 +255,14 @@ fn folders_twice(alloc: Global, adb: Adb<'_>, packages: Arr<'_>) -> Result<Optio
     let mut first = None;
     for i in 0..packages.len() {
         let pkg = entry_word(packages, i);
-        first = earlier(first, folder_twice(alloc, adb, &mut lists, pkg)?);
+        first = earlier(first, folder_twice_in_package(alloc, adb, &mut lists, pkg)?);
     }
     Ok(first)
 }
 
 /// The first pair of positions at which a folder of one of the packages lists one file.
 #[tactic(auto, using(crate::proofs::FieldReads::entry_sound))]
-fn files_twice(alloc: Global, adb: Adb<'_>, packages: Arr<'_>) -> Result<Option<Pair>, AllocError>
+fn file_twice(alloc: Global, adb: Adb<'_>, packages: Arr<'_>) -> Result<Option<Pair>, AllocError>
     requires { are_all_sound (payload_of adb) (Kinds.Obj Tables.Package) (array_entries packages)
         ≡ true }
     ensures { IfOk result (λ pair. pair
@@ -276,7 +273,7 @@ fn files_twice(alloc: Global, adb: Adb<'_>, packages: Arr<'_>) -> Result<Option<
     let mut first = None;
     for i in 0..packages.len() {
         let pkg = entry_word(packages, i);
-        first = earlier(first, file_twice(alloc, adb, &mut lists, pkg)?);
+        first = earlier(first, file_twice_in_package(alloc, adb, &mut lists, pkg)?);
     }
     Ok(first)
 }

@@ -11,12 +11,13 @@ use Rattle.base_core.specs.declared.cause.Cause.TheVariants.{BadText}
 use Rattle.adb_view.specs.Plain.{Plain, null, Plains, none, more, Shape, number, text, hash, array, object, Fields, no_fields, field}
 use Rattle.adb_rules.specs.Reserved.{is_reserved}
 use Rattle.adb_fields.specs.Paths.{path_of}
+use Rattle.adb_fields.specs.Repeated.{field_number}
 use Rattle.adb_rules.specs.Rules.{is_change_name, is_digest_length, is_digest_length_or_none, is_file_name, is_folder_name, is_id_length, is_name_pattern, is_target}
-use Rattle.adb_tables.specs.FieldIndexes.{DIR_NAME, FILE_SIZE, FILE_TARGET}
+use Rattle.adb_tables.specs.FieldIndexes.{DEP_MATCH, DEP_NAME, DEP_VERSION, DIR_NAME, FILE_HASHES, FILE_NAME, FILE_SIZE, FILE_TARGET, INDEX_PKGNAME_SPEC, INFO_HASHES, INFO_NAME, INFO_VERSION, INTENT_REMOVALS, INTENT_WRITES}
 use Rattle.adb_tables.specs.Schema.{schema_number, shape_of}
 use Rattle.adb_tables.specs.Values.{entries_in, entry_in, int_in, text_in}
 use Rattle.adb_tables.specs.declared.tables.Which.{Which}
-use Rattle.adb_tables.specs.declared.tables.Which.TheVariants.{File, Dir, Index, Idb}
+use Rattle.adb_tables.specs.declared.tables.Which.TheVariants.{Dep, PkgInfo, File, Dir, Index, Idb, Intent}
 use Rattle.adb_tables.specs.declared.tables.Kind.TheVariants.{Obj}
 
 -- what stands around a value, as far as a rule looks at it: the table of the container's root, the
@@ -62,27 +63,27 @@ is_file_hash around len = if needs_hash around.root around.has_contents then is_
 
 -- ---- the rule of each field
 
--- whether a number keeps the rule of the field with this number; only the match number of a
--- dependency (103) has one
+-- whether a number keeps the rule of the field with the number `place`; only the match number of a
+-- dependency has one
 abbrev pub number_rule : ℕ → ℕ → Bool
-number_rule field_number n = if field_number == 103 then is_matching n else true
+number_rule place n = if place == field_number Dep DEP_MATCH then is_matching n else true
 
--- whether a text keeps the rule of the field with this number; a field that is not named here has
--- none
+-- whether a text keeps the rule of the field with the number `place`; a field that is not named here
+-- has none
 unfoldable pub text_rule : ℕ → Surroundings → List ℕ → Bool
-text_rule field_number around bytes =
-    if field_number == 101 then is_dep_name bytes
-    else if field_number == 102 then is_version_or_empty bytes
-    else if field_number == 301 then is_package_name bytes
-    else if field_number == 302 then is_version bytes
-    else if field_number == 303 then is_package_hash around.root (length bytes)
-    else if field_number == 401 then is_listed_file around bytes
-    else if field_number == 405 then is_file_hash around (length bytes)
-    else if field_number == 406 then is_target bytes
-    else if field_number == 501 then is_folder_name bytes
-    else if field_number == 803 then is_name_pattern bytes
-    else if field_number == 1001 then is_change_name bytes
-    else if field_number == 1002 then is_change_name bytes
+text_rule place around bytes =
+    if place == field_number Dep DEP_NAME then is_dep_name bytes
+    else if place == field_number Dep DEP_VERSION then is_version_or_empty bytes
+    else if place == field_number PkgInfo INFO_NAME then is_package_name bytes
+    else if place == field_number PkgInfo INFO_VERSION then is_version bytes
+    else if place == field_number PkgInfo INFO_HASHES then is_package_hash around.root (length bytes)
+    else if place == field_number File FILE_NAME then is_listed_file around bytes
+    else if place == field_number File FILE_HASHES then is_file_hash around (length bytes)
+    else if place == field_number File FILE_TARGET then is_target bytes
+    else if place == field_number Dir DIR_NAME then is_folder_name bytes
+    else if place == field_number Index INDEX_PKGNAME_SPEC then is_name_pattern bytes
+    else if place == field_number Intent INTENT_REMOVALS then is_change_name bytes
+    else if place == field_number Intent INTENT_WRITES then is_change_name bytes
     else true
 
 -- ---- what the walk comes to, in order

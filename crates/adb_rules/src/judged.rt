@@ -20,7 +20,7 @@ use version_core::OverlappingVersions;
 
 /// How many bytes a text has at most that is not kept: it is judged at each place where it stands,
 /// which takes no memory. Any number gives the same answers.
-const SHORT: usize = 64;
+const LONGEST_SHORT_TEXT: usize = 64;
 
 /// A rule that looks at each byte of a text, and at nothing around the text; each is named for what
 /// the text has to be.
@@ -102,7 +102,7 @@ impl<'a> Judged<'a> {
         ensures value { IfOk result (λ kept. kept ≡ keeps_text_rule rule text.now) }
         ensures payload { self.new.adb ≡ self.old.adb }
     {
-        if text.len() <= SHORT {
+        if text.len() <= LONGEST_SHORT_TEXT {
             return Ok(rule.is_kept_by(text));
         }
         if self.is_good(rule, word) {

@@ -1,7 +1,6 @@
 //! The text walk: each number and text of a walked payload, against the rule of its field. The
-//! order and the rules stand in `docs/formats.md`, "The texts". The indices of fields that are
-//! named here are those of `FieldIndexes` of `adb_tables`. Each call that is lent a `Judged` leaves
-//! its payload the same (clause `payload`), so that what is known of its words stays true.
+//! order and the rules stand in `docs/formats.md`, "The texts". Each call that is lent a `Judged`
+//! leaves its payload the same (clause `payload`), so that what is known of its words stays true.
 
 ghost use Rattle.std.specs.Prelude.{ℕ, List, ◌↔◌, None, ◌≡◌, ◌==◌, ◌*◌, true, false, length, ◌+◌, ◌<◌, ◌≤◌, ◌^◌, IfOk, [], ◌∷◌};
 ghost use Rattle.std.specs.Bool.{OnTrue};
@@ -31,6 +30,7 @@ use adb_fields::{
     hash_word, int_field, int_word, object_words, objects_word, text_field, text_word, texts_word,
     word_or_null,
 };
+use adb_tables::field_indexes::{DIR_NAME, FILE_SIZE, FILE_TARGET};
 use adb_tables::{Kind, Shaped, Which, entry_word, fields_of, number_of};
 use adb_view::{Adb, Arr, Val};
 use base_core::Cause;
@@ -38,7 +38,7 @@ use std::alloc::{AllocError, Global};
 
 /// The numbers of the fields that have a rule: 100 times the number of the table plus that of the
 /// field in it, which counts from 1 (`docs/formats.md`, "Schemas").
-mod field_number {
+mod field_numbers {
     // A dependency's name.
     pub(crate) const DEP_NAME: u16 = 101;
 
@@ -49,13 +49,13 @@ mod field_number {
     pub(crate) const DEP_MATCH: u16 = 103;
 
     // A package's name.
-    pub(crate) const PKGINFO_NAME: u16 = 301;
+    pub(crate) const INFO_NAME: u16 = 301;
 
     // A package's version.
-    pub(crate) const PKGINFO_VERSION: u16 = 302;
+    pub(crate) const INFO_VERSION: u16 = 302;
 
     // A package's hash.
-    pub(crate) const PKGINFO_HASHES: u16 = 303;
+    pub(crate) const INFO_HASHES: u16 = 303;
 
     // A file's name.
     pub(crate) const FILE_NAME: u16 = 401;
@@ -112,8 +112,7 @@ impl<'a> Surroundings<'a> {
         match which {
             Which::Dir => Surroundings {
                 root: self.root,
-                // The index is DIR_NAME.
-                folder: text_field(adb, Which::Dir, object, 0),
+                folder: text_field(adb, Which::Dir, object, DIR_NAME),
                 has_contents: self.has_contents,
             },
             Which::File => Surroundings {
@@ -172,9 +171,8 @@ fn has_contents(adb: Adb<'_>, file: Val) -> bool
     ensures { result
         ≡ is_with_contents (value_at (payload_of adb.entry) (Kinds.Obj Tables.File) file) }
 {
-    // The indices are FILE_TARGET and FILE_SIZE.
-    let target = text_field(adb, Which::File, file, 5);
-    target.is_empty() && int_field(adb, Which::File, file, 2) > 0
+    let target = text_field(adb, Which::File, file, FILE_TARGET);
+    target.is_empty() && int_field(adb, Which::File, file, FILE_SIZE) > 0
 }
 
 /// Whether a number keeps the rule of the field with this number; only the match of a dependency
@@ -183,7 +181,7 @@ pub(crate) fn keeps_number_rule(field_number: u16, n: u64) -> bool
     ensures { result ≡ number_rule field_number n }
 {
     match field_number {
-        field_number::DEP_MATCH => is_matching(n),
+        field_numbers::DEP_MATCH => is_matching(n),
         _ => true,
     }
 }
@@ -204,17 +202,17 @@ fn keeps_rule_of_field(
     ensures payload { judged.new.adb ≡ judged.old.adb }
 {
     match field_number {
-        field_number::DEP_NAME => judged.keeps(TextRule::DependencyName, word, text),
-        field_number::DEP_VERSION => judged.keeps(TextRule::VersionOrEmpty, word, text),
-        field_number::PKGINFO_NAME => judged.keeps(TextRule::PackageName, word, text),
-        field_number::PKGINFO_VERSION => judged.keeps(TextRule::Version, word, text),
-        field_number::PKGINFO_HASHES => Ok(around.takes_package_hash(text.len())),
-        field_number::FILE_NAME => keeps_file_name(judged, around, word, text),
-        field_number::FILE_HASHES => Ok(around.takes_file_hash(text.len())),
-        field_number::FILE_TARGET => judged.keeps(TextRule::Target, word, text),
-        field_number::DIR_NAME => judged.keeps(TextRule::FolderName, word, text),
-        field_number::INDEX_PKGNAME_SPEC => Ok(is_name_pattern(text)),
-        field_number::INTENT_REMOVALS | field_number::INTENT_WRITES => {
+        field_numbers::DEP_NAME => judged.keeps(TextRule::DependencyName, word, text),
+        field_numbers::DEP_VERSION => judged.keeps(TextRule::VersionOrEmpty, word, text),
+        field_numbers::INFO_NAME => judged.keeps(TextRule::PackageName, word, text),
+        field_numbers::INFO_VERSION => judged.keeps(TextRule::Version, word, text),
+        field_numbers::INFO_HASHES => Ok(around.takes_package_hash(text.len())),
+        field_numbers::FILE_NAME => keeps_file_name(judged, around, word, text),
+        field_numbers::FILE_HASHES => Ok(around.takes_file_hash(text.len())),
+        field_numbers::FILE_TARGET => judged.keeps(TextRule::Target, word, text),
+        field_numbers::DIR_NAME => judged.keeps(TextRule::FolderName, word, text),
+        field_numbers::INDEX_PKGNAME_SPEC => Ok(is_name_pattern(text)),
+        field_numbers::INTENT_REMOVALS | field_numbers::INTENT_WRITES => {
             keeps_change_name(judged, word, text)
         }
         _ => Ok(true),
@@ -386,7 +384,7 @@ fn has_rule(kind: Kind, field_number: u16) -> bool
     ensures { result ≡ false → TakesEachValue kind field_number }
 {
     match kind {
-        Kind::Int => field_number == field_number::DEP_MATCH,
+        Kind::Int => field_number == field_numbers::DEP_MATCH,
         Kind::Text => has_text_rule(field_number),
         Kind::Hash => has_text_rule(field_number),
         Kind::TextArr => has_text_rule(field_number),
@@ -414,18 +412,18 @@ fn has_text_rule(field_number: u16) -> bool
 {
     matches!(
         field_number,
-        field_number::DEP_NAME
-            | field_number::DEP_VERSION
-            | field_number::PKGINFO_NAME
-            | field_number::PKGINFO_VERSION
-            | field_number::PKGINFO_HASHES
-            | field_number::FILE_NAME
-            | field_number::FILE_HASHES
-            | field_number::FILE_TARGET
-            | field_number::DIR_NAME
-            | field_number::INDEX_PKGNAME_SPEC
-            | field_number::INTENT_REMOVALS
-            | field_number::INTENT_WRITES
+        field_numbers::DEP_NAME
+            | field_numbers::DEP_VERSION
+            | field_numbers::INFO_NAME
+            | field_numbers::INFO_VERSION
+            | field_numbers::INFO_HASHES
+            | field_numbers::FILE_NAME
+            | field_numbers::FILE_HASHES
+            | field_numbers::FILE_TARGET
+            | field_numbers::DIR_NAME
+            | field_numbers::INDEX_PKGNAME_SPEC
+            | field_numbers::INTENT_REMOVALS
+            | field_numbers::INTENT_WRITES
     )
 }
 

@@ -1,8 +1,6 @@
 //! A checked payload, and the four views of its root. The tests stand in `docs/formats.md`, "The
-//! texts"; the fields of the roots in "Schemas", tables 7 to 10. A clause has a field's index,
-//! which counts from 0; its number, by which the document and causes name the field, is one more.
-//! In the clauses of `Checked::new` `bad` says which cause a refusal has, and `sound` that no text
-//! is bad.
+//! texts"; the fields of the roots in "Schemas", tables 7 to 10. In the clauses of `Checked::new`
+//! `bad` says which cause a refusal has, and `sound` that no text is bad.
 
 ghost use Rattle.std.specs.Prelude.{◌≡◌, true, is_none, None, IfErr, IfOk};
 ghost use Rattle.adb_view.specs.Adb.{payload_of};
@@ -17,6 +15,10 @@ use crate::package_info::PkgInfo;
 use crate::read::ReadFault;
 use adb_fields::{Kinded, List, View, objects_field, text_field, texts_field};
 use adb_rules::{check_texts, no_text_is_bad_where_each_keeps_its_rule};
+use adb_tables::field_indexes::{
+    IDB_PACKAGES, INDEX_DESCRIPTION, INDEX_PACKAGES, INDEX_PKGNAME_SPEC, INTENT_REMOVALS,
+    INTENT_WRITES,
+};
 use adb_tables::{Shaped, Which};
 use adb_view::{Adb, Val};
 use std::alloc::Global;
@@ -120,6 +122,7 @@ pub struct IndexView<'a> {
 }
 
 impl<'a> IndexView<'a> {
+    ghost use Rattle.adb_tables.specs.FieldIndexes.{INDEX_DESCRIPTION, INDEX_PACKAGES, INDEX_PKGNAME_SPEC};
     ghost use Rattle.adb_tables.specs.Values.{entry_in, text_in};
     ghost use Rattle.adb_rules.specs.SoundValues.{KeepsRules};
     ghost use Rattle.adb_schema.specs.Views.{index_value};
@@ -165,20 +168,25 @@ impl<'a> IndexView<'a> {
 
     /// What the index says of itself.
     pub fn description(&self) -> &'a [u8]
-        ensures { result.now ≡ text_in (entry_in (index_value self.now) 0) }
+        ensures { result.now ≡ text_in (entry_in (index_value self.now) INDEX_DESCRIPTION) }
     {
-        text_field(self.adb, Which::Index, Val::of(self.word), 0)
+        text_field(
+            self.adb,
+            Which::Index,
+            Val::of(self.word),
+            INDEX_DESCRIPTION,
+        )
     }
 
     /// The packages of the index, by their information.
     pub fn packages(&self) -> List<'a, PkgInfo<'a>>
-        ensures { list_value result ≡ entry_in (index_value self.now) 1 }
+        ensures { list_value result ≡ entry_in (index_value self.now) INDEX_PACKAGES }
     {
         let entries = objects_field(
             self.adb,
             Which::Index,
             Val::of(self.word),
-            1,
+            INDEX_PACKAGES,
             Which::PkgInfo,
         );
         List::of(self.adb, entries)
@@ -186,9 +194,14 @@ impl<'a> IndexView<'a> {
 
     /// How the files of its packages are named: empty, or `${name}-${version}.apk`.
     pub fn pkgname_spec(&self) -> &'a [u8]
-        ensures { result.now ≡ text_in (entry_in (index_value self.now) 2) }
+        ensures { result.now ≡ text_in (entry_in (index_value self.now) INDEX_PKGNAME_SPEC) }
     {
-        text_field(self.adb, Which::Index, Val::of(self.word), 2)
+        text_field(
+            self.adb,
+            Which::Index,
+            Val::of(self.word),
+            INDEX_PKGNAME_SPEC,
+        )
     }
 }
 
@@ -214,15 +227,22 @@ impl<'a> View<'a> for IdbView<'a> {
 }
 
 impl<'a> IdbView<'a> {
+    ghost use Rattle.adb_tables.specs.FieldIndexes.{IDB_PACKAGES};
     ghost use Rattle.adb_tables.specs.Values.{entry_in};
     ghost use Rattle.adb_schema.specs.Views.{idb_value};
     ghost use Rattle.adb_fields.specs.ListValue.{list_value};
 
     /// The packages that are installed, in their order.
     pub fn packages(&self) -> List<'a, PackageView<'a>>
-        ensures { list_value result ≡ entry_in (idb_value self.now) 0 }
+        ensures { list_value result ≡ entry_in (idb_value self.now) IDB_PACKAGES }
     {
-        let entries = objects_field(self.adb, Which::Idb, self.word, 0, Which::Package);
+        let entries = objects_field(
+            self.adb,
+            Which::Idb,
+            self.word,
+            IDB_PACKAGES,
+            Which::Package,
+        );
         List::of(self.adb, entries)
     }
 }
@@ -249,21 +269,28 @@ impl<'a> View<'a> for IntentView<'a> {
 }
 
 impl<'a> IntentView<'a> {
+    ghost use Rattle.adb_tables.specs.FieldIndexes.{INTENT_REMOVALS, INTENT_WRITES};
     ghost use Rattle.adb_tables.specs.Values.{entry_in};
     ghost use Rattle.adb_schema.specs.Views.{intent_value};
     ghost use Rattle.adb_fields.specs.ListValue.{list_value};
 
     /// The paths to be removed.
     pub fn removals(&self) -> List<'a, &'a [u8]>
-        ensures { list_value result ≡ entry_in (intent_value self.now) 0 }
+        ensures { list_value result ≡ entry_in (intent_value self.now) INTENT_REMOVALS }
     {
-        List::of(self.adb, texts_field(self.adb, Which::Intent, self.word, 0))
+        List::of(
+            self.adb,
+            texts_field(self.adb, Which::Intent, self.word, INTENT_REMOVALS),
+        )
     }
 
     /// The paths to be written.
     pub fn writes(&self) -> List<'a, &'a [u8]>
-        ensures { list_value result ≡ entry_in (intent_value self.now) 1 }
+        ensures { list_value result ≡ entry_in (intent_value self.now) INTENT_WRITES }
     {
-        List::of(self.adb, texts_field(self.adb, Which::Intent, self.word, 1))
+        List::of(
+            self.adb,
+            texts_field(self.adb, Which::Intent, self.word, INTENT_WRITES),
+        )
     }
 }

@@ -1,6 +1,5 @@
 //! Views of a package: its folders, its files, their rights, and its scripts. The fields stand in
-//! `docs/formats.md`, "Schemas", tables 2 and 4 to 7. A clause has a field's index, which counts
-//! from 0; its number, by which the document and causes name the field, is one more.
+//! `docs/formats.md`, "Schemas", tables 2 and 4 to 7.
 
 ghost use Rattle.std.specs.Prelude.{◌≡◌, true};
 ghost use Rattle.adb_view.specs.Adb.{payload_of};
@@ -13,6 +12,13 @@ use adb_fields::{
     Kinded, List, View, field_word, hash_field, int_field, objects_field, text_field, texts_field,
 };
 use adb_tables::Which;
+use adb_tables::field_indexes::{
+    ACL_GROUP, ACL_MODE, ACL_USER, ACL_XATTRS, DIR_ACL, DIR_FILES, DIR_NAME, FILE_ACL, FILE_HASHES,
+    FILE_MTIME, FILE_NAME, FILE_SIZE, FILE_TARGET, FILE_UNUSED, PACKAGE_INFO, PACKAGE_PATHS,
+    PACKAGE_REPLACES_PRIORITY, PACKAGE_SCRIPTS, PACKAGE_TRIGGERS, SCRIPTS_POST_DEINSTALL,
+    SCRIPTS_POST_INSTALL, SCRIPTS_POST_UPGRADE, SCRIPTS_PRE_DEINSTALL, SCRIPTS_PRE_INSTALL,
+    SCRIPTS_PRE_UPGRADE, SCRIPTS_TRIGGER,
+};
 use adb_view::{Adb, Val};
 
 /// A view of an access list (table 2): whose a file or a folder is, and its mode.
@@ -37,36 +43,40 @@ impl<'a> View<'a> for AclView<'a> {
 }
 
 impl<'a> AclView<'a> {
+    ghost use Rattle.adb_tables.specs.FieldIndexes.{ACL_GROUP, ACL_MODE, ACL_USER, ACL_XATTRS};
     ghost use Rattle.adb_tables.specs.Values.{entry_in, int_in, text_in};
     ghost use Rattle.adb_schema.specs.Views.{acl_value};
     ghost use Rattle.adb_fields.specs.ListValue.{list_value};
 
     /// The mode bits, as a number.
     pub fn mode(&self) -> u64
-        ensures { result ≡ int_in (entry_in (acl_value self.now) 0) }
+        ensures { result ≡ int_in (entry_in (acl_value self.now) ACL_MODE) }
     {
-        int_field(self.adb, Which::Acl, self.word, 0)
+        int_field(self.adb, Which::Acl, self.word, ACL_MODE)
     }
 
     /// The name, or the number as a text, of the user whose the file or folder is.
     pub fn user(&self) -> &'a [u8]
-        ensures { result.now ≡ text_in (entry_in (acl_value self.now) 1) }
+        ensures { result.now ≡ text_in (entry_in (acl_value self.now) ACL_USER) }
     {
-        text_field(self.adb, Which::Acl, self.word, 1)
+        text_field(self.adb, Which::Acl, self.word, ACL_USER)
     }
 
     /// The name, or the number as a text, of the group whose the file or folder is.
     pub fn group(&self) -> &'a [u8]
-        ensures { result.now ≡ text_in (entry_in (acl_value self.now) 2) }
+        ensures { result.now ≡ text_in (entry_in (acl_value self.now) ACL_GROUP) }
     {
-        text_field(self.adb, Which::Acl, self.word, 2)
+        text_field(self.adb, Which::Acl, self.word, ACL_GROUP)
     }
 
     /// The extended attributes; they are kept, and no command acts on them.
     pub fn xattrs(&self) -> List<'a, &'a [u8]>
-        ensures { list_value result ≡ entry_in (acl_value self.now) 3 }
+        ensures { list_value result ≡ entry_in (acl_value self.now) ACL_XATTRS }
     {
-        List::of(self.adb, texts_field(self.adb, Which::Acl, self.word, 3))
+        List::of(
+            self.adb,
+            texts_field(self.adb, Which::Acl, self.word, ACL_XATTRS),
+        )
     }
 }
 
@@ -92,58 +102,62 @@ impl<'a> View<'a> for FileInfo<'a> {
 }
 
 impl<'a> FileInfo<'a> {
+    ghost use Rattle.adb_tables.specs.FieldIndexes.{FILE_ACL, FILE_HASHES, FILE_MTIME, FILE_NAME, FILE_SIZE, FILE_TARGET, FILE_UNUSED};
     ghost use Rattle.adb_tables.specs.Values.{entry_in, int_in, text_in};
     ghost use Rattle.adb_schema.specs.Views.{acl_value, file_value};
 
     /// The name of the file: one part of a path, in its folder.
     pub fn name(&self) -> &'a [u8]
-        ensures { result.now ≡ text_in (entry_in (file_value self.now) 0) }
+        ensures { result.now ≡ text_in (entry_in (file_value self.now) FILE_NAME) }
     {
-        text_field(self.adb, Which::File, self.word, 0)
+        text_field(self.adb, Which::File, self.word, FILE_NAME)
     }
 
     /// The access list of the file: whose it is, and its mode.
     pub fn acl(&self) -> AclView<'a>
-        ensures { acl_value result ≡ entry_in (file_value self.now) 1 }
+        ensures { acl_value result ≡ entry_in (file_value self.now) FILE_ACL }
     {
-        AclView::of(self.adb, field_word(self.adb, Which::File, self.word, 1))
+        AclView::of(
+            self.adb,
+            field_word(self.adb, Which::File, self.word, FILE_ACL),
+        )
     }
 
     /// The size of the file in bytes.
     pub fn size(&self) -> u64
-        ensures { result ≡ int_in (entry_in (file_value self.now) 2) }
+        ensures { result ≡ int_in (entry_in (file_value self.now) FILE_SIZE) }
     {
-        int_field(self.adb, Which::File, self.word, 2)
+        int_field(self.adb, Which::File, self.word, FILE_SIZE)
     }
 
     /// When the file was changed, in seconds since 1970.
     pub fn mtime(&self) -> u64
-        ensures { result ≡ int_in (entry_in (file_value self.now) 3) }
+        ensures { result ≡ int_in (entry_in (file_value self.now) FILE_MTIME) }
     {
-        int_field(self.adb, Which::File, self.word, 3)
+        int_field(self.adb, Which::File, self.word, FILE_MTIME)
     }
 
     /// The digest of the file's bytes: SHA-1, SHA-256 or SHA-512 by its length; empty where none is
     /// known.
     pub fn hashes(&self) -> &'a [u8]
-        ensures { result.now ≡ text_in (entry_in (file_value self.now) 4) }
+        ensures { result.now ≡ text_in (entry_in (file_value self.now) FILE_HASHES) }
     {
-        hash_field(self.adb, Which::File, self.word, 4)
+        hash_field(self.adb, Which::File, self.word, FILE_HASHES)
     }
 
     /// A link's target, behind the two bytes `00 a0`; empty for a regular file (`docs/formats.md`,
     /// "The texts", 406).
     pub fn target(&self) -> &'a [u8]
-        ensures { result.now ≡ text_in (entry_in (file_value self.now) 5) }
+        ensures { result.now ≡ text_in (entry_in (file_value self.now) FILE_TARGET) }
     {
-        text_field(self.adb, Which::File, self.word, 5)
+        text_field(self.adb, Which::File, self.word, FILE_TARGET)
     }
 
     /// A field that is kept free.
     pub fn unused(&self) -> u64
-        ensures { result ≡ int_in (entry_in (file_value self.now) 6) }
+        ensures { result ≡ int_in (entry_in (file_value self.now) FILE_UNUSED) }
     {
-        int_field(self.adb, Which::File, self.word, 6)
+        int_field(self.adb, Which::File, self.word, FILE_UNUSED)
     }
 }
 
@@ -169,29 +183,33 @@ impl<'a> View<'a> for DirInfo<'a> {
 }
 
 impl<'a> DirInfo<'a> {
+    ghost use Rattle.adb_tables.specs.FieldIndexes.{DIR_ACL, DIR_FILES, DIR_NAME};
     ghost use Rattle.adb_tables.specs.Values.{entry_in, text_in};
     ghost use Rattle.adb_schema.specs.Views.{acl_value, dir_value};
     ghost use Rattle.adb_fields.specs.ListValue.{list_value};
 
     /// The folder's path; empty for the root.
     pub fn name(&self) -> &'a [u8]
-        ensures { result.now ≡ text_in (entry_in (dir_value self.now) 0) }
+        ensures { result.now ≡ text_in (entry_in (dir_value self.now) DIR_NAME) }
     {
-        text_field(self.adb, Which::Dir, self.word, 0)
+        text_field(self.adb, Which::Dir, self.word, DIR_NAME)
     }
 
     /// The access list of the folder: whose it is, and its mode.
     pub fn acl(&self) -> AclView<'a>
-        ensures { acl_value result ≡ entry_in (dir_value self.now) 1 }
+        ensures { acl_value result ≡ entry_in (dir_value self.now) DIR_ACL }
     {
-        AclView::of(self.adb, field_word(self.adb, Which::Dir, self.word, 1))
+        AclView::of(
+            self.adb,
+            field_word(self.adb, Which::Dir, self.word, DIR_ACL),
+        )
     }
 
     /// The files of the folder, in their order.
     pub fn files(&self) -> List<'a, FileInfo<'a>>
-        ensures { list_value result ≡ entry_in (dir_value self.now) 2 }
+        ensures { list_value result ≡ entry_in (dir_value self.now) DIR_FILES }
     {
-        let entries = objects_field(self.adb, Which::Dir, self.word, 2, Which::File);
+        let entries = objects_field(self.adb, Which::Dir, self.word, DIR_FILES, Which::File);
         List::of(self.adb, entries)
     }
 }
@@ -219,56 +237,57 @@ impl<'a> View<'a> for ScriptsView<'a> {
 }
 
 impl<'a> ScriptsView<'a> {
+    ghost use Rattle.adb_tables.specs.FieldIndexes.{SCRIPTS_POST_DEINSTALL, SCRIPTS_POST_INSTALL, SCRIPTS_POST_UPGRADE, SCRIPTS_PRE_DEINSTALL, SCRIPTS_PRE_INSTALL, SCRIPTS_PRE_UPGRADE, SCRIPTS_TRIGGER};
     ghost use Rattle.adb_tables.specs.Values.{entry_in, text_in};
     ghost use Rattle.adb_schema.specs.Views.{scripts_value};
 
     /// Runs where a watched folder has changed.
     pub fn trigger(&self) -> &'a [u8]
-        ensures { result.now ≡ text_in (entry_in (scripts_value self.now) 0) }
+        ensures { result.now ≡ text_in (entry_in (scripts_value self.now) SCRIPTS_TRIGGER) }
     {
-        text_field(self.adb, Which::Scripts, self.word, 0)
+        text_field(self.adb, Which::Scripts, self.word, SCRIPTS_TRIGGER)
     }
 
     /// Runs before an installation.
     pub fn pre_install(&self) -> &'a [u8]
-        ensures { result.now ≡ text_in (entry_in (scripts_value self.now) 1) }
+        ensures { result.now ≡ text_in (entry_in (scripts_value self.now) SCRIPTS_PRE_INSTALL) }
     {
-        text_field(self.adb, Which::Scripts, self.word, 1)
+        text_field(self.adb, Which::Scripts, self.word, SCRIPTS_PRE_INSTALL)
     }
 
     /// Runs after an installation.
     pub fn post_install(&self) -> &'a [u8]
-        ensures { result.now ≡ text_in (entry_in (scripts_value self.now) 2) }
+        ensures { result.now ≡ text_in (entry_in (scripts_value self.now) SCRIPTS_POST_INSTALL) }
     {
-        text_field(self.adb, Which::Scripts, self.word, 2)
+        text_field(self.adb, Which::Scripts, self.word, SCRIPTS_POST_INSTALL)
     }
 
     /// Runs before a removal.
     pub fn pre_deinstall(&self) -> &'a [u8]
-        ensures { result.now ≡ text_in (entry_in (scripts_value self.now) 3) }
+        ensures { result.now ≡ text_in (entry_in (scripts_value self.now) SCRIPTS_PRE_DEINSTALL) }
     {
-        text_field(self.adb, Which::Scripts, self.word, 3)
+        text_field(self.adb, Which::Scripts, self.word, SCRIPTS_PRE_DEINSTALL)
     }
 
     /// Runs after a removal.
     pub fn post_deinstall(&self) -> &'a [u8]
-        ensures { result.now ≡ text_in (entry_in (scripts_value self.now) 4) }
+        ensures { result.now ≡ text_in (entry_in (scripts_value self.now) SCRIPTS_POST_DEINSTALL) }
     {
-        text_field(self.adb, Which::Scripts, self.word, 4)
+        text_field(self.adb, Which::Scripts, self.word, SCRIPTS_POST_DEINSTALL)
     }
 
     /// Runs before an upgrade.
     pub fn pre_upgrade(&self) -> &'a [u8]
-        ensures { result.now ≡ text_in (entry_in (scripts_value self.now) 5) }
+        ensures { result.now ≡ text_in (entry_in (scripts_value self.now) SCRIPTS_PRE_UPGRADE) }
     {
-        text_field(self.adb, Which::Scripts, self.word, 5)
+        text_field(self.adb, Which::Scripts, self.word, SCRIPTS_PRE_UPGRADE)
     }
 
     /// Runs after an upgrade.
     pub fn post_upgrade(&self) -> &'a [u8]
-        ensures { result.now ≡ text_in (entry_in (scripts_value self.now) 6) }
+        ensures { result.now ≡ text_in (entry_in (scripts_value self.now) SCRIPTS_POST_UPGRADE) }
     {
-        text_field(self.adb, Which::Scripts, self.word, 6)
+        text_field(self.adb, Which::Scripts, self.word, SCRIPTS_POST_UPGRADE)
     }
 }
 
@@ -294,6 +313,7 @@ impl<'a> View<'a> for PackageView<'a> {
 }
 
 impl<'a> PackageView<'a> {
+    ghost use Rattle.adb_tables.specs.FieldIndexes.{PACKAGE_INFO, PACKAGE_PATHS, PACKAGE_REPLACES_PRIORITY, PACKAGE_SCRIPTS, PACKAGE_TRIGGERS};
     ghost use Rattle.adb_tables.specs.Values.{entry_in, int_in};
     ghost use Rattle.adb_schema.specs.Views.{info_value, package_value, scripts_value};
     ghost use Rattle.adb_fields.specs.ListValue.{list_value};
@@ -316,41 +336,58 @@ impl<'a> PackageView<'a> {
 
     /// The information of the package.
     pub fn info(&self) -> PkgInfo<'a>
-        ensures { info_value result ≡ entry_in (package_value self.now) 0 }
+        ensures { info_value result ≡ entry_in (package_value self.now) PACKAGE_INFO }
     {
-        PkgInfo::of(self.adb, field_word(self.adb, Which::Package, self.word, 0))
+        PkgInfo::of(
+            self.adb,
+            field_word(self.adb, Which::Package, self.word, PACKAGE_INFO),
+        )
     }
 
     /// The folders of the package, with their files.
     pub fn paths(&self) -> List<'a, DirInfo<'a>>
-        ensures { list_value result ≡ entry_in (package_value self.now) 1 }
+        ensures { list_value result ≡ entry_in (package_value self.now) PACKAGE_PATHS }
     {
-        let entries = objects_field(self.adb, Which::Package, self.word, 1, Which::Dir);
+        let entries = objects_field(
+            self.adb,
+            Which::Package,
+            self.word,
+            PACKAGE_PATHS,
+            Which::Dir,
+        );
         List::of(self.adb, entries)
     }
 
     /// The scripts of the package.
     pub fn scripts(&self) -> ScriptsView<'a>
-        ensures { scripts_value result ≡ entry_in (package_value self.now) 2 }
+        ensures { scripts_value result ≡ entry_in (package_value self.now) PACKAGE_SCRIPTS }
     {
-        ScriptsView::of(self.adb, field_word(self.adb, Which::Package, self.word, 2))
+        ScriptsView::of(
+            self.adb,
+            field_word(self.adb, Which::Package, self.word, PACKAGE_SCRIPTS),
+        )
     }
 
     /// The patterns of the folders for which its trigger is due.
     pub fn triggers(&self) -> List<'a, &'a [u8]>
-        ensures { list_value result ≡ entry_in (package_value self.now) 3 }
+        ensures { list_value result ≡ entry_in (package_value self.now) PACKAGE_TRIGGERS }
     {
         List::of(
             self.adb,
-            texts_field(self.adb, Which::Package, self.word, 3),
+            texts_field(self.adb, Which::Package, self.word, PACKAGE_TRIGGERS),
         )
     }
 
     /// Its priority in replacing: of two packages that list one path and each name the other in
     /// `replaces`, the one with the greater priority owns the path.
     pub fn replaces_priority(&self) -> u64
-        ensures { result ≡ int_in (entry_in (package_value self.now) 4) }
+        ensures { result ≡ int_in (entry_in (package_value self.now) PACKAGE_REPLACES_PRIORITY) }
     {
-        int_field(self.adb, Which::Package, self.word, 4)
+        int_field(
+            self.adb,
+            Which::Package,
+            self.word,
+            PACKAGE_REPLACES_PRIORITY,
+        )
     }
 }

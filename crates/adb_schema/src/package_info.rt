@@ -1,6 +1,5 @@
 //! Views of a package's information and of dependencies. The fields stand in `docs/formats.md`,
-//! "Schemas", tables 1 and 3. A clause has a field's index, which counts from 0; its number, by
-//! which the document and causes name the field, is one more.
+//! "Schemas", tables 1 and 3.
 
 ghost use Rattle.std.specs.Prelude.{◌≡◌, true};
 ghost use Rattle.adb_view.specs.Adb.{payload_of};
@@ -12,6 +11,13 @@ use adb_fields::{
     Kinded, List, View, hash_field, int_field, objects_field, text_field, texts_field,
 };
 use adb_tables::Which;
+use adb_tables::field_indexes::{
+    DEP_MATCH, DEP_NAME, DEP_VERSION, INFO_ARCH, INFO_BUILD_TIME, INFO_DEPENDS, INFO_DESCRIPTION,
+    INFO_FILE_SIZE, INFO_HASHES, INFO_INSTALL_IF, INFO_INSTALLED_SIZE, INFO_LAYER, INFO_LICENSE,
+    INFO_MAINTAINER, INFO_NAME, INFO_ORIGIN, INFO_PROVIDER_PRIORITY, INFO_PROVIDES,
+    INFO_RECOMMENDS, INFO_REPLACES, INFO_REPO_COMMIT, INFO_TAGS, INFO_UNUSED, INFO_URL,
+    INFO_VERSION,
+};
 use adb_view::{Adb, Val};
 
 /// A view of a dependency (table 1).
@@ -36,29 +42,30 @@ impl<'a> View<'a> for DepView<'a> {
 }
 
 impl<'a> DepView<'a> {
+    ghost use Rattle.adb_tables.specs.FieldIndexes.{DEP_MATCH, DEP_NAME, DEP_VERSION};
     ghost use Rattle.adb_tables.specs.Values.{entry_in, int_in, text_in};
     ghost use Rattle.adb_schema.specs.Views.{dependency_value};
 
     /// The name that is asked for.
     pub fn name(&self) -> &'a [u8]
-        ensures { result.now ≡ text_in (entry_in (dependency_value self.now) 0) }
+        ensures { result.now ≡ text_in (entry_in (dependency_value self.now) DEP_NAME) }
     {
-        text_field(self.adb, Which::Dep, self.word, 0)
+        text_field(self.adb, Which::Dep, self.word, DEP_NAME)
     }
 
     /// The version that the dependency names; empty for none.
     pub fn version(&self) -> &'a [u8]
-        ensures { result.now ≡ text_in (entry_in (dependency_value self.now) 1) }
+        ensures { result.now ≡ text_in (entry_in (dependency_value self.now) DEP_VERSION) }
     {
-        text_field(self.adb, Which::Dep, self.word, 1)
+        text_field(self.adb, Which::Dep, self.word, DEP_VERSION)
     }
 
     /// The match number: the bits 1 equal, 2 less, 4 greater, 8 fuzzy, 16 conflict
     /// (`docs/formats.md`, "Dependencies").
     pub fn matching(&self) -> u64
-        ensures { result ≡ int_in (entry_in (dependency_value self.now) 2) }
+        ensures { result ≡ int_in (entry_in (dependency_value self.now) DEP_MATCH) }
     {
-        int_field(self.adb, Which::Dep, self.word, 2)
+        int_field(self.adb, Which::Dep, self.word, DEP_MATCH)
     }
 }
 
@@ -87,6 +94,7 @@ impl<'a> View<'a> for PkgInfo<'a> {
 }
 
 impl<'a> PkgInfo<'a> {
+    ghost use Rattle.adb_tables.specs.FieldIndexes.{INFO_ARCH, INFO_BUILD_TIME, INFO_DEPENDS, INFO_DESCRIPTION, INFO_FILE_SIZE, INFO_HASHES, INFO_INSTALLED_SIZE, INFO_INSTALL_IF, INFO_LAYER, INFO_LICENSE, INFO_MAINTAINER, INFO_NAME, INFO_ORIGIN, INFO_PROVIDER_PRIORITY, INFO_PROVIDES, INFO_RECOMMENDS, INFO_REPLACES, INFO_REPO_COMMIT, INFO_TAGS, INFO_UNUSED, INFO_URL, INFO_VERSION};
     ghost use Rattle.adb_tables.specs.Values.{entry_in, int_in, text_in};
     ghost use Rattle.adb_schema.specs.Views.{info_value};
     ghost use Rattle.adb_fields.specs.ListValue.{list_value};
@@ -109,164 +117,224 @@ impl<'a> PkgInfo<'a> {
 
     /// The package's name.
     pub fn name(&self) -> &'a [u8]
-        ensures { result.now ≡ text_in (entry_in (info_value self.now) 0) }
+        ensures { result.now ≡ text_in (entry_in (info_value self.now) INFO_NAME) }
     {
-        text_field(self.adb, Which::PkgInfo, Val::of(self.word), 0)
+        text_field(self.adb, Which::PkgInfo, Val::of(self.word), INFO_NAME)
     }
 
     /// The package's version.
     pub fn version(&self) -> &'a [u8]
-        ensures { result.now ≡ text_in (entry_in (info_value self.now) 1) }
+        ensures { result.now ≡ text_in (entry_in (info_value self.now) INFO_VERSION) }
     {
-        text_field(self.adb, Which::PkgInfo, Val::of(self.word), 1)
+        text_field(self.adb, Which::PkgInfo, Val::of(self.word), INFO_VERSION)
     }
 
     /// A digest: in an index the package's id or the first 20 bytes of it; empty where none is
     /// known.
     pub fn hashes(&self) -> &'a [u8]
-        ensures { result.now ≡ text_in (entry_in (info_value self.now) 2) }
+        ensures { result.now ≡ text_in (entry_in (info_value self.now) INFO_HASHES) }
     {
-        hash_field(self.adb, Which::PkgInfo, Val::of(self.word), 2)
+        hash_field(self.adb, Which::PkgInfo, Val::of(self.word), INFO_HASHES)
     }
 
     /// What the package is, in a line.
     pub fn description(&self) -> &'a [u8]
-        ensures { result.now ≡ text_in (entry_in (info_value self.now) 3) }
+        ensures { result.now ≡ text_in (entry_in (info_value self.now) INFO_DESCRIPTION) }
     {
-        text_field(self.adb, Which::PkgInfo, Val::of(self.word), 3)
+        text_field(
+            self.adb,
+            Which::PkgInfo,
+            Val::of(self.word),
+            INFO_DESCRIPTION,
+        )
     }
 
     /// The architecture.
     pub fn arch(&self) -> &'a [u8]
-        ensures { result.now ≡ text_in (entry_in (info_value self.now) 4) }
+        ensures { result.now ≡ text_in (entry_in (info_value self.now) INFO_ARCH) }
     {
-        text_field(self.adb, Which::PkgInfo, Val::of(self.word), 4)
+        text_field(self.adb, Which::PkgInfo, Val::of(self.word), INFO_ARCH)
     }
 
     /// The license.
     pub fn license(&self) -> &'a [u8]
-        ensures { result.now ≡ text_in (entry_in (info_value self.now) 5) }
+        ensures { result.now ≡ text_in (entry_in (info_value self.now) INFO_LICENSE) }
     {
-        text_field(self.adb, Which::PkgInfo, Val::of(self.word), 5)
+        text_field(self.adb, Which::PkgInfo, Val::of(self.word), INFO_LICENSE)
     }
 
     /// The package that it was built from.
     pub fn origin(&self) -> &'a [u8]
-        ensures { result.now ≡ text_in (entry_in (info_value self.now) 6) }
+        ensures { result.now ≡ text_in (entry_in (info_value self.now) INFO_ORIGIN) }
     {
-        text_field(self.adb, Which::PkgInfo, Val::of(self.word), 6)
+        text_field(self.adb, Which::PkgInfo, Val::of(self.word), INFO_ORIGIN)
     }
 
     /// Who maintains the package.
     pub fn maintainer(&self) -> &'a [u8]
-        ensures { result.now ≡ text_in (entry_in (info_value self.now) 7) }
+        ensures { result.now ≡ text_in (entry_in (info_value self.now) INFO_MAINTAINER) }
     {
-        text_field(self.adb, Which::PkgInfo, Val::of(self.word), 7)
+        text_field(
+            self.adb,
+            Which::PkgInfo,
+            Val::of(self.word),
+            INFO_MAINTAINER,
+        )
     }
 
     /// Where to read of the package.
     pub fn url(&self) -> &'a [u8]
-        ensures { result.now ≡ text_in (entry_in (info_value self.now) 8) }
+        ensures { result.now ≡ text_in (entry_in (info_value self.now) INFO_URL) }
     {
-        text_field(self.adb, Which::PkgInfo, Val::of(self.word), 8)
+        text_field(self.adb, Which::PkgInfo, Val::of(self.word), INFO_URL)
     }
 
     /// The commit of the recipe that the package was built by, as bytes.
     pub fn repo_commit(&self) -> &'a [u8]
-        ensures { result.now ≡ text_in (entry_in (info_value self.now) 9) }
+        ensures { result.now ≡ text_in (entry_in (info_value self.now) INFO_REPO_COMMIT) }
     {
-        hash_field(self.adb, Which::PkgInfo, Val::of(self.word), 9)
+        hash_field(
+            self.adb,
+            Which::PkgInfo,
+            Val::of(self.word),
+            INFO_REPO_COMMIT,
+        )
     }
 
     /// When the package was built, in seconds since 1970.
     pub fn build_time(&self) -> u64
-        ensures { result ≡ int_in (entry_in (info_value self.now) 10) }
+        ensures { result ≡ int_in (entry_in (info_value self.now) INFO_BUILD_TIME) }
     {
-        int_field(self.adb, Which::PkgInfo, Val::of(self.word), 10)
+        int_field(
+            self.adb,
+            Which::PkgInfo,
+            Val::of(self.word),
+            INFO_BUILD_TIME,
+        )
     }
 
     /// The size of its installed files in bytes.
     pub fn installed_size(&self) -> u64
-        ensures { result ≡ int_in (entry_in (info_value self.now) 11) }
+        ensures { result ≡ int_in (entry_in (info_value self.now) INFO_INSTALLED_SIZE) }
     {
-        int_field(self.adb, Which::PkgInfo, Val::of(self.word), 11)
+        int_field(
+            self.adb,
+            Which::PkgInfo,
+            Val::of(self.word),
+            INFO_INSTALLED_SIZE,
+        )
     }
 
     /// The size of the package's file in bytes.
     pub fn file_size(&self) -> u64
-        ensures { result ≡ int_in (entry_in (info_value self.now) 12) }
+        ensures { result ≡ int_in (entry_in (info_value self.now) INFO_FILE_SIZE) }
     {
-        int_field(self.adb, Which::PkgInfo, Val::of(self.word), 12)
+        int_field(self.adb, Which::PkgInfo, Val::of(self.word), INFO_FILE_SIZE)
     }
 
     /// How much the package is preferred among providers of one name.
     pub fn provider_priority(&self) -> u64
-        ensures { result ≡ int_in (entry_in (info_value self.now) 13) }
+        ensures { result ≡ int_in (entry_in (info_value self.now) INFO_PROVIDER_PRIORITY) }
     {
-        int_field(self.adb, Which::PkgInfo, Val::of(self.word), 13)
+        int_field(
+            self.adb,
+            Which::PkgInfo,
+            Val::of(self.word),
+            INFO_PROVIDER_PRIORITY,
+        )
     }
 
     /// What the package needs, and, as conflicts, what it excludes.
     pub fn depends(&self) -> List<'a, DepView<'a>>
-        ensures { list_value result ≡ entry_in (info_value self.now) 14 }
+        ensures { list_value result ≡ entry_in (info_value self.now) INFO_DEPENDS }
     {
-        let entries = objects_field(self.adb, Which::PkgInfo, Val::of(self.word), 14, Which::Dep);
+        let entries = objects_field(
+            self.adb,
+            Which::PkgInfo,
+            Val::of(self.word),
+            INFO_DEPENDS,
+            Which::Dep,
+        );
         List::of(self.adb, entries)
     }
 
     /// What the package provides besides its own name.
     pub fn provides(&self) -> List<'a, DepView<'a>>
-        ensures { list_value result ≡ entry_in (info_value self.now) 15 }
+        ensures { list_value result ≡ entry_in (info_value self.now) INFO_PROVIDES }
     {
-        let entries = objects_field(self.adb, Which::PkgInfo, Val::of(self.word), 15, Which::Dep);
+        let entries = objects_field(
+            self.adb,
+            Which::PkgInfo,
+            Val::of(self.word),
+            INFO_PROVIDES,
+            Which::Dep,
+        );
         List::of(self.adb, entries)
     }
 
     /// The packages whose files this one may take over.
     pub fn replaces(&self) -> List<'a, DepView<'a>>
-        ensures { list_value result ≡ entry_in (info_value self.now) 16 }
+        ensures { list_value result ≡ entry_in (info_value self.now) INFO_REPLACES }
     {
-        let entries = objects_field(self.adb, Which::PkgInfo, Val::of(self.word), 16, Which::Dep);
+        let entries = objects_field(
+            self.adb,
+            Which::PkgInfo,
+            Val::of(self.word),
+            INFO_REPLACES,
+            Which::Dep,
+        );
         List::of(self.adb, entries)
     }
 
     /// Where all of these are met, the package is installed by itself.
     pub fn install_if(&self) -> List<'a, DepView<'a>>
-        ensures { list_value result ≡ entry_in (info_value self.now) 17 }
+        ensures { list_value result ≡ entry_in (info_value self.now) INFO_INSTALL_IF }
     {
-        let entries = objects_field(self.adb, Which::PkgInfo, Val::of(self.word), 17, Which::Dep);
+        let entries = objects_field(
+            self.adb,
+            Which::PkgInfo,
+            Val::of(self.word),
+            INFO_INSTALL_IF,
+            Which::Dep,
+        );
         List::of(self.adb, entries)
     }
 
     /// What the package goes well with; no command acts on it.
     pub fn recommends(&self) -> List<'a, DepView<'a>>
-        ensures { list_value result ≡ entry_in (info_value self.now) 18 }
+        ensures { list_value result ≡ entry_in (info_value self.now) INFO_RECOMMENDS }
     {
-        let entries = objects_field(self.adb, Which::PkgInfo, Val::of(self.word), 18, Which::Dep);
+        let entries = objects_field(
+            self.adb,
+            Which::PkgInfo,
+            Val::of(self.word),
+            INFO_RECOMMENDS,
+            Which::Dep,
+        );
         List::of(self.adb, entries)
     }
 
     /// The layer, a part of the root, that the package belongs to; no command acts on it.
     pub fn layer(&self) -> u64
-        ensures { result ≡ int_in (entry_in (info_value self.now) 19) }
+        ensures { result ≡ int_in (entry_in (info_value self.now) INFO_LAYER) }
     {
-        int_field(self.adb, Which::PkgInfo, Val::of(self.word), 19)
+        int_field(self.adb, Which::PkgInfo, Val::of(self.word), INFO_LAYER)
     }
 
     /// The tags of the package, as the one who made it gave them.
     pub fn tags(&self) -> List<'a, &'a [u8]>
-        ensures { list_value result ≡ entry_in (info_value self.now) 20 }
+        ensures { list_value result ≡ entry_in (info_value self.now) INFO_TAGS }
     {
         List::of(
             self.adb,
-            texts_field(self.adb, Which::PkgInfo, Val::of(self.word), 20),
+            texts_field(self.adb, Which::PkgInfo, Val::of(self.word), INFO_TAGS),
         )
     }
 
     /// A field that is kept free.
     pub fn unused(&self) -> u64
-        ensures { result ≡ int_in (entry_in (info_value self.now) 21) }
+        ensures { result ≡ int_in (entry_in (info_value self.now) INFO_UNUSED) }
     {
-        int_field(self.adb, Which::PkgInfo, Val::of(self.word), 21)
+        int_field(self.adb, Which::PkgInfo, Val::of(self.word), INFO_UNUSED)
     }
 }

@@ -51,7 +51,7 @@ pub fn entry_word(entries: Arr<'_>, i: usize) -> Val
 
 /// How many visits the walk of a payload may have (`docs/formats.md`, "The shape"); a word that
 /// stands at two places is visited twice.
-const MOST_VISITS: u32 = 4_194_304;
+const MOST_VALUES: u32 = 4_194_304;
 
 /// Walks a payload's values from its root, as an object of this table: a word, then its entries in
 /// order. Each visit is counted, then its word's kind is tested, then its range. The entries of an
@@ -85,7 +85,7 @@ fn walk_value(adb: Adb<'_>, kind: Kind, before: u32, word: Val) -> Result<u32, V
     ensures bound { IfOk result (λ n. n ≤ MOST_VALUES) }
 {
     let count = before + 1;
-    if count > MOST_VISITS {
+    if count > MOST_VALUES {
         return Err(VisitFault::TooLarge { count });
     }
     match kind {
@@ -122,7 +122,7 @@ fn walk_texts(adb: Adb<'_>, before: u32, texts: Arr<'_>) -> Result<u32, VisitFau
     let mut count = before;
     for i in 0..texts.len() {
         let word = entry_word(texts, i);
-        if count < MOST_VISITS && is_sound_leaf(adb, Kind::Text, word) {
+        if count < MOST_VALUES && is_sound_leaf(adb, Kind::Text, word) {
             count += 1;
         } else {
             count = walk_value(adb, Kind::Text, count, word)?;
@@ -164,7 +164,7 @@ fn walk_object(adb: Adb<'_>, which: Which, before: u32, word: Val) -> Result<u32
     ensures bound { IfOk result (λ n. n ≤ MOST_VALUES) }
 {
     let count = before + 1;
-    if count > MOST_VISITS {
+    if count > MOST_VALUES {
         return Err(VisitFault::TooLarge { count });
     }
     match read_object(adb, word) {
@@ -192,7 +192,7 @@ fn walk_each_field(
     ensures bound { IfOk result (λ n. n ≤ MOST_VALUES) }
 {
     let leaves = leading_leaves(adb, fields, entries);
-    if before as usize + leaves > MOST_VISITS as usize {
+    if before as usize + leaves > MOST_VALUES as usize {
         return walk_fields_from(adb, fields, 0, before, entries);
     }
     let count = before + leaves as u32;
@@ -224,7 +224,7 @@ fn walk_fields_from(
     for i in from..fields.len().min(entries.len()) {
         let kind = fields[i].kind;
         let word = entry_word(entries, i);
-        if count < MOST_VISITS && is_sound_leaf(adb, kind, word) {
+        if count < MOST_VALUES && is_sound_leaf(adb, kind, word) {
             count += 1;
         } else {
             count = walk_value(adb, kind, count, word)?;

@@ -46,9 +46,9 @@ const KINDS: [(&[u8], BlockKind); 3] = [
 
 /// The blocks of containers.
 #[derive(Drop)]
-struct Containers;
+struct FramedBlocks;
 
-impl Subject for Containers {
+impl Subject for FramedBlocks {
     /// Answers a question by its first word. No question rests on one before it.
     fn answer(
         &mut self,
@@ -217,5 +217,5 @@ fn add_lengths(alloc: Global, frame: Frame, answer: &mut Vec<u8>) -> Result<(), 
 
 /// Answers the rows of standard input.
 fn main(rt: HostRuntime) -> io::Result<ExitCode> {
-    run_program(&rt, rt.alloc(), &mut Containers)
+    run_program(&rt, rt.alloc(), &mut FramedBlocks)
 }

@@ -126,3 +126,10 @@ pub fn add_word(text: &mut Vec<u8>, word: &[u8]) -> Result<(), AllocError> {
     }
     text.extend_from_slice(word)
 }
+
+/// Adds a name and what stands under it, as a word `NAME=BYTES`.
+pub fn add_named(text: &mut Vec<u8>, name: &[u8], bytes: &[u8]) -> Result<(), AllocError> {
+    add_word(text, name)?;
+    text.push(b'=')?;
+    text.extend_from_slice(bytes)
+}

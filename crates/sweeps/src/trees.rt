@@ -1,7 +1,7 @@
 //! The trees of the rows, and what they hold: how a row writes files, and how an answer does, as
 //! the README of this crate says.
 use base_core::{Name, Words};
-use row_lines::{add_number, add_word, number_of, word_at};
+use row_lines::{add_named, add_number, add_word, number_of, word_at};
 use std::alloc::{AllocError, Global};
 use tree_memory::MemoryTree;
 
@@ -53,9 +53,11 @@ pub(crate) fn add_tree(
     let names = tree.names(alloc)?;
     for i in 0..names.len() {
         let name = names.get(i);
-        add_word(answer, name.as_bytes())?;
-        answer.push(b'=')?;
-        answer.extend_from_slice(tree.file(name).unwrap_or(b"absent"))?;
+        add_named(
+            answer,
+            name.as_bytes(),
+            tree.file(name).unwrap_or(b"absent"),
+        )?;
     }
     Ok(())
 }

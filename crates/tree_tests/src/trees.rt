@@ -3,7 +3,7 @@
 //! "What a crash leaves" and "Misuses, faults and counts".
 
 use base_core::{Name, Names, Sink, Tree, Words, read_all, write_all};
-use row_lines::{add_number, add_word, add_yes_or_no, number_of, word_at};
+use row_lines::{add_named, add_number, add_word, add_yes_or_no, number_of, word_at};
 use std::alloc::{AllocError, Global};
 use tree_memory::{MemorySink, MemoryTree};
 
@@ -128,9 +128,11 @@ pub(crate) fn add_tree(
     let names = tree.names(alloc)?;
     for i in 0..names.len() {
         let name = names.get(i);
-        add_word(answer, name.as_bytes())?;
-        answer.push(b'=')?;
-        answer.extend_from_slice(tree.file(name).unwrap_or(b"absent"))?;
+        add_named(
+            answer,
+            name.as_bytes(),
+            tree.file(name).unwrap_or(b"absent"),
+        )?;
     }
     Ok(())
 }

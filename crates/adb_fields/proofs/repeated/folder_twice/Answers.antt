@@ -9,14 +9,14 @@ use Rattle.adb_fields.specs.declared.pairs.Pair.{Pair}
 use Rattle.adb_tables.specs.declared.tables.Kind.TheVariants as Kinds
 use Rattle.adb_tables.specs.declared.tables.Which.TheVariants as Tables
 use Rattle.adb_fields.proofs.FirstKinds.{one_first, no_first, one_each}
-use Rattle.adb_fields.proofs.repeated.folders_twice.Goals as goal
+use Rattle.adb_fields.proofs.repeated.folder_twice.Goals as goal
 
 pub loop-i-preserved : goal.loop-i-preserved
 loop-i-preserved c =
     let g : Plain → Option Pair = λ pkg. twice (map name_of (folders_in pkg)) in
     record {
-      so_far = one_first (payload_of c.args.adb) (Kinds.Obj Tables.Package) g (array_entries c.args.packages) c.loop-i.i c.entry_word-pkg.result c.loop-i.first c.in_ok-folder_twice.field-0 _ _ c.requires (grind arith) c.entry_word-pkg.ensures c.in_ok-folder_twice.ensures.pair c.earlier-first.ensures c.loop-i.invariant.so_far;
-      lists = c.in_ok-folder_twice.ensures.lists;
+      so_far = one_first (payload_of c.args.adb) (Kinds.Obj Tables.Package) g (array_entries c.args.packages) c.loop-i.i c.entry_word-pkg.result c.loop-i.first c.in_ok-folder_twice_in_package.field-0 _ _ c.requires (grind arith) c.entry_word-pkg.ensures c.in_ok-folder_twice_in_package.ensures.pair c.earlier-first.ensures c.loop-i.invariant.so_far;
+      lists = c.in_ok-folder_twice_in_package.ensures.lists;
     }
 
 pub returns : goal.returns

@@ -4,14 +4,14 @@ use Rattle.adb_view.specs.Adb.{payload_of}
 use Rattle.adb_view.specs.Entries.{array_entries}
 use Rattle.adb_fields.specs.ListsOf.{AreListsOf}
 use Rattle.adb_fields.specs.Pairs.{earlier, earliest}
-use Rattle.adb_fields.specs.Repeated.{twice, name_of, folders_in}
+use Rattle.adb_fields.specs.Repeated.{twice, name_of, files_in}
 use Rattle.adb_fields.specs.NamedTexts.{plains_at}
 use Rattle.adb_tables.specs.declared.tables.Kind.TheVariants as Kinds
 use Rattle.adb_tables.specs.declared.tables.Which.TheVariants as Tables
-use Rattle.adb_fields.proofs.repeated.folders_twice.Given as goal
+use Rattle.adb_fields.proofs.repeated.file_twice_in_package.Given as goal
 
 abbrev pub invariant-loop-i : goal.invariant-loop-i
 invariant-loop-i l = record {
-  so_far : earlier l.first (earliest (map (λ pkg. twice (map name_of (folders_in pkg))) (drop l.i (plains_at (payload_of l.adb) (Kinds.Obj Tables.Package) (array_entries l.packages))))) ≡ earliest (map (λ pkg. twice (map name_of (folders_in pkg))) (plains_at (payload_of l.adb) (Kinds.Obj Tables.Package) (array_entries l.packages)));
-  lists : AreListsOf l.adb Tables.Dir l.lists;
+  so_far : earlier l.first (earliest (map (λ folder. twice (map name_of (files_in folder))) (drop l.i (plains_at (payload_of l.adb) (Kinds.Obj Tables.Dir) (array_entries l.folders))))) ≡ earliest (map (λ folder. twice (map name_of (files_in folder))) (plains_at (payload_of l.adb) (Kinds.Obj Tables.Dir) (array_entries l.folders)));
+  lists : AreListsOf l.adb Tables.File l.lists;
 }
