@@ -16,3 +16,4 @@ pub mod TextLines
 pub mod ReadOnly
 pub mod ValueLaws
 pub mod ValuesFound
+mod HashDigits

@@ -2,10 +2,10 @@
 //! The rules stand in `docs/formats.md`, "Dump text": the table, and the paragraph on texts that
 //! stand as they are or between quotes.
 
-ghost use Rattle.std.specs.Prelude.{◌≡◌, ◌≤◌, [], ◌∷◌, ◌++◌, OnOk, codes, drop, length};
+ghost use Rattle.std.specs.Prelude.{slice_index, ◌<◌, ◌≡◌, ◌≤◌, [], ◌∷◌, ◌++◌, OnOk, codes, drop, length};
 ghost use Rattle.std.specs.Fmt.{decimal};
 ghost use Rattle.std.specs.List.{flat_map, list_all};
-ghost use Rattle.hex.specs.Hex.{encode_lower};
+ghost use Rattle.hex.specs.Hex.{encode_lower, lower_digits};
 ghost use Rattle.adb_dump.specs.Dump.{begins_with_byte, ends_with_byte, escape_of, is_bare, is_printable, quoted_text, text_form};
 ghost use Rattle.adb_dump.specs.Margin.{lines_at, lead, margin};
 ghost use Rattle.adb_dump.specs.Out.{Puts, PutsForAny};
@@ -41,6 +41,7 @@ pub(crate) fn write_number_line<O: Out>(
 }
 
 /// Puts the line of a text, which is that of the word.
+#[inline(always)]
 pub(crate) fn write_text_line<O: BlobOut>(
     out: &mut O,
     start: LineStart,
@@ -95,15 +96,34 @@ pub(crate) fn write_hex<O: Out>(out: &mut O, bytes: &[u8]) -> Result<(), AllocEr
     Ok(())
 }
 
-/// The digits of as many bytes as a SHA-256 has, two for each.
+/// The digits of as many bytes as a SHA-256 has, two for each. They are reckoned and not looked up,
+/// so that the compiler can make many at once.
 fn hash_digits(hash: &[u8]) -> [u8; 2 * HASH_LEN]
     // As many as `HASH_LEN`.
     requires { length hash.now ≡ 32 }
     ensures { result ≡ encode_lower hash.now }
 {
     let mut digits = [0; 2 * HASH_LEN];
-    let _ = hex::encode_to_slice(hash, &mut digits);
+    'bytes: for i in 0..HASH_LEN {
+        let byte = hash[i];
+        digits[2 * i] = hex_digit(byte / 16);
+        digits[2 * i + 1] = hex_digit(byte % 16);
+    }
     digits
+}
+
+/// The lower-case hexadecimal digit of a number below 16.
+#[inline(always)]
+#[tactic(auto, using(crate::proofs::HashDigits::digit_is))]
+fn hex_digit(number: u8) -> u8
+    requires { number < 16 }
+    ensures { result ≡ slice_index lower_digits number }
+{
+    if number < 10 {
+        b'0' + number
+    } else {
+        b'a' - 10 + number
+    }
 }
 
 /// The two hexadecimal digits of a byte, lower-case.
@@ -116,6 +136,7 @@ fn hex_digits(byte: u8) -> [u8; 2]
 }
 
 /// Puts a text as it is, or between quotes where it cannot stand as it is.
+#[inline(always)]
 pub(crate) fn write_text<O: Out>(out: &mut O, text: &[u8]) -> Result<(), AllocError>
     ensures { OnOk result (PutsForAny O.holds out.old out.new (text_form text.now)) }
 {
@@ -127,6 +148,8 @@ pub(crate) fn write_text<O: Out>(out: &mut O, text: &[u8]) -> Result<(), AllocEr
 }
 
 /// Puts a text between quotes, escaped byte by byte.
+#[cold]
+#[inline(never)]
 fn write_quoted<O: Out>(out: &mut O, text: &[u8]) -> Result<(), AllocError>
     ensures { OnOk result (PutsForAny O.holds out.old out.new (quoted_text text.now)) }
 {
@@ -237,6 +260,7 @@ impl LineStart {
 
 /// Puts what is still to stand in front of the next line, and then what a front has behind its
 /// eight levels of spaces: both at once, unless the line stands deeper.
+#[inline(always)]
 fn write_front<O: Out>(out: &mut O, start: LineStart, front: &[u8]) -> Result<(), AllocError>
     // Eight levels (`FRONT_LEVELS`) are sixteen spaces (`FRONT_LEN`).
     requires spaces { front.now ≡ margin 8 ++ drop 16 front.now }
@@ -255,6 +279,8 @@ fn write_front<O: Out>(out: &mut O, start: LineStart, front: &[u8]) -> Result<()
 }
 
 /// Puts two spaces for each level, one level behind another.
+#[cold]
+#[inline(never)]
 fn write_levels<O: Out>(out: &mut O, levels: u32) -> Result<(), AllocError>
     ensures { OnOk result (PutsForAny O.holds out.old out.new (margin levels)) }
 {
@@ -265,6 +291,7 @@ fn write_levels<O: Out>(out: &mut O, levels: u32) -> Result<(), AllocError>
 }
 
 /// Puts what is still to stand in front of an entry of an array, and its dash and a space.
+#[inline(always)]
 pub(crate) fn write_dash<O: Out>(out: &mut O, depth: u32, begun: bool) -> Result<(), AllocError>
     ensures { OnOk result (PutsForAny O.holds out.old out.new (lead depth begun ++ codes "- ")) }
 {
@@ -273,6 +300,7 @@ pub(crate) fn write_dash<O: Out>(out: &mut O, depth: u32, begun: bool) -> Result
 
 /// Puts what is still to stand in front of a field, its name, a colon and a space: its value
 /// follows on the line.
+#[inline(always)]
 pub(crate) fn write_name<O: Out>(
     out: &mut O,
     start: LineStart,
