@@ -2,10 +2,10 @@
 //! The rules stand in `docs/formats.md`, "Dump text": the table, and the paragraph on texts that
 //! stand as they are or between quotes.
 
-ghost use Rattle.std.specs.Prelude.{slice_index, ◌<◌, ◌≡◌, ◌≤◌, [], ◌∷◌, ◌++◌, OnOk, codes, drop, length};
+ghost use Rattle.std.specs.Prelude.{◌≡◌, ◌≤◌, [], ◌∷◌, ◌++◌, OnOk, codes, drop, length};
 ghost use Rattle.std.specs.Fmt.{decimal};
 ghost use Rattle.std.specs.List.{flat_map, list_all};
-ghost use Rattle.hex.specs.Hex.{encode_lower, lower_digits};
+ghost use Rattle.hex.specs.Hex.{encode_lower};
 ghost use Rattle.adb_dump.specs.Dump.{begins_with_byte, ends_with_byte, escape_of, is_bare, is_printable, quoted_text, text_form};
 ghost use Rattle.adb_dump.specs.Margin.{lines_at, lead, margin};
 ghost use Rattle.adb_dump.specs.Out.{Puts, PutsForAny};
@@ -96,34 +96,15 @@ pub(crate) fn write_hex<O: Out>(out: &mut O, bytes: &[u8]) -> Result<(), AllocEr
     Ok(())
 }
 
-/// The digits of as many bytes as a SHA-256 has, two for each. They are reckoned and not looked up,
-/// so that the compiler can make many at once.
+/// The digits of as many bytes as a SHA-256 has, two for each.
 fn hash_digits(hash: &[u8]) -> [u8; 2 * HASH_LEN]
     // As many as `HASH_LEN`.
     requires { length hash.now ≡ 32 }
     ensures { result ≡ encode_lower hash.now }
 {
     let mut digits = [0; 2 * HASH_LEN];
-    'bytes: for i in 0..HASH_LEN {
-        let byte = hash[i];
-        digits[2 * i] = hex_digit(byte / 16);
-        digits[2 * i + 1] = hex_digit(byte % 16);
-    }
+    let _ = hex::encode_to_slice(hash, &mut digits);
     digits
-}
-
-/// The lower-case hexadecimal digit of a number below 16.
-#[inline(always)]
-#[tactic(auto, using(crate::proofs::HashDigits::digit_is))]
-fn hex_digit(number: u8) -> u8
-    requires { number < 16 }
-    ensures { result ≡ slice_index lower_digits number }
-{
-    if number < 10 {
-        b'0' + number
-    } else {
-        b'a' - 10 + number
-    }
 }
 
 /// The two hexadecimal digits of a byte, lower-case.
