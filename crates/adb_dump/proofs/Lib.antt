@@ -16,4 +16,3 @@ pub mod TextLines
 pub mod ReadOnly
 pub mod ValueLaws
 pub mod ValuesFound
-mod HashDigits
