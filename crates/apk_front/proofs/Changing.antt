@@ -40,8 +40,8 @@ use Rattle.outcome.specs.Outcome.{Outcome, just_refusal, just_report}
 use Rattle.apk_front.specs.Moments.{IsAtRest, IsReadAtWork, UnreadNamesLast}
 use Rattle.apk_front.specs.Runs.{HasNothingWaiting, IfNothingWaits, IsRun}
 use Rattle.apk_front.specs.Told.{IsToldAs}
-use Rattle.apk_front.specs.Verdicts.{Reports, ReportsOne, as_outcome}
-use Rattle.apk_front.specs.declared.answer.Verdict.{Verdict}
+use Rattle.read_commands.specs.Verdicts.{Reports, ReportsOne, as_outcome}
+use Rattle.read_commands.specs.declared.verdict.Verdict.{Verdict}
 use Rattle.apk_front.proofs.AfterRecovery.{StaysWithout}
 use Rattle.apk_front.proofs.Carried.{Ones, RoomFor}
 use Rattle.apk_front.proofs.Runs.{History, Judged, on_ok, run_idle, since_weaker}
