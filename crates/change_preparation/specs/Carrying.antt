@@ -1,6 +1,6 @@
 -- How a change that is made ready is carried through. Serves the proofs of `carry_change` and
--- `finish_change` in `src/carrying.rt`; the rules stand in `docs/commands.md`, "`add` and `del`",
--- and in `docs/crash-safety.md`, "A change of several files".
+-- `finish_change` in `src/carrying.rt` of `engine_core`; the rules stand in `docs/commands.md`,
+-- "`add` and `del`", and in `docs/crash-safety.md`, "A change of several files".
 use Rattle.std.specs.Prelude.{◌≡◌, ℕ, List, Some, Result, slice_get}
 use Rattle.adb_write.specs.Canonical.{overflow_of}
 use Rattle.base_core.specs.Files.{Files}
