@@ -2,8 +2,6 @@
 -- rules stand in `docs/commands.md`, "`mkpkg`" and "`mkndx PACKAGE..`".
 use Rattle.std.specs.Prelude.{◌≡◌, ℕ, Bool, true, false, List, Result, Ok, Err, Vec}
 use Rattle.std.specs.declared.alloc.Global.{Global}
-use Rattle.adb_block.specs.Reading.{fault}
-use Rattle.adb_schema.specs.declared.read.ReadFault.TheVariants as ReadFaults
 use Rattle.base_core.specs.Files.{Files}
 use Rattle.command_core.specs.Command.{CommandLine}
 use Rattle.command_core.specs.declared.values.TheConstants.{FILES}

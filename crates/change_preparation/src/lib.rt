@@ -3,7 +3,8 @@
 //!
 //! The contract of `apk` cites of `specs/` `Choice` (which candidates are chosen), `Selecting` (the
 //! candidates of a command), `Wishes` (what a command says beside world) and `Changed` (what a
-//! command comes to, by what is read and by what is chosen).
+//! command comes to, by what is read and by what is chosen). Each command's rules stand in
+//! `docs/commands.md`, under its name.
 #![tactic(auto)]
 
 mod choosing;

@@ -4,7 +4,8 @@
 //! The contract of `change` cites `ChangeRun` of `specs/` (what a run answers, and what it makes of
 //! the tree), and of `change_preparation` `Changed` (what a command comes to, by what is read and by
 //! what is chosen) and `Choice` (which candidates are chosen). The contract of `info`, which tells
-//! of what is installed, cites `InfoTold`.
+//! of what is installed, cites `InfoTold`. Each command's rules stand in `docs/commands.md`, under
+//! its name.
 #![tactic(auto)]
 
 mod carrying;
