@@ -1,0 +1,12 @@
+-- what the contract of `apk` says
+pub mod Choice
+pub mod Selecting
+pub mod Wishes
+pub mod Changed
+-- what only inner contracts and proofs use
+pub mod Chosen
+pub mod SelectionSeen
+pub mod Plans
+pub mod Writing
+pub mod Finishing
+pub mod Carrying
