@@ -22,8 +22,8 @@ use Rattle.outcome.specs.Work.{fault_of_intent, recovery_fault, work_files}
 use Rattle.report_core.specs.declared.refusal.Refusal.TheVariants.{IntentBad}
 use Rattle.apk_front.specs.Moments.{HasRoomToWrite, LeavesRoomFor}
 use Rattle.apk_front.specs.Runs.{HasNothingWaiting, IfNothingWaits, IsRun, IsWholeRun}
-use Rattle.read_commands.specs.Verdicts.{ReportsOne, as_outcome}
-use Rattle.read_commands.specs.declared.verdict.Verdict.{Verdict}
+use Rattle.apk_front.specs.Verdicts.{ReportsOne, as_outcome}
+use Rattle.apk_front.specs.declared.answer.Verdict.{Verdict}
 use Rattle.apk_front.proofs.Carried.{Ones, RoomFor, Wholes}
 use Rattle.apk_front.proofs.AfterRecovery.{AreLaws, BytesAs, IsCalm, IsRecovery, LastsUnread, LeavesAll, RecoversAs, StaysWithout, whole_behind, whole_failed, whole_idle}
 use Rattle.apk_front.proofs.Runs.{History, Judged, Leaves, none_is_some}

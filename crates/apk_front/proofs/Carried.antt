@@ -45,11 +45,10 @@ use Rattle.apk_front.specs.Effects.{access_of}
 use Rattle.apk_front.specs.Moments.{AnswersOutcome, AreReadOnTheWay, AreSafe, CommitsNothing, HasNothingToRecover, HasRoomToWrite, HidesScratchOf, IsAtRest, IsLeftUndone, LeavesAtRest, LeavesLasting, LeavesRoom, LeavesRoomFor, LeavesSettled, Settles, UnreadNamesLast, ignored_but}
 use Rattle.apk_front.specs.Runs.{IfNothingWaits, IsRun, IsWholeRun, IsWithoutCommit}
 use Rattle.apk_front.specs.Containers.{IsIndexOutcome, IsPackageOutcome}
-use Rattle.apk_front.specs.Shown.{IsPrinted, IsShown}
-use Rattle.read_commands.specs.Verdicts.{Reports, ReportsOne, as_outcome}
+use Rattle.apk_front.specs.Verdicts.{IsPrinted, IsShown, Reports, ReportsOne, as_outcome}
 use Rattle.apk_front.specs.declared.answer.Answer.{Answer}
 use Rattle.apk_front.specs.declared.answer.Answer.TheVariants.{Ok as Done, Refused, TreeFault as TreeFailed, OutFault, Memory}
-use Rattle.read_commands.specs.declared.verdict.Verdict.{Verdict}
+use Rattle.apk_front.specs.declared.answer.Verdict.{Verdict}
 use Rattle.apk_front.specs.declared.judge.RootAccess.{RootAccess}
 use Rattle.apk_front.specs.declared.judge.RootAccess.TheVariants.{Read, Write}
 use Rattle.apk_front.proofs.Judged.{Runs, found_at, none_by_some, none_given, of_over, over_of, reads_without}

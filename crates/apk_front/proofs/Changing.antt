@@ -18,10 +18,10 @@ use Rattle.command_core.specs.Command.{CommandLine}
 use Rattle.command_core.specs.declared.command.Applet.{Applet}
 use Rattle.command_core.specs.declared.command.Applet.TheVariants.{Add, Del, Fix, Upgrade}
 use Rattle.engine_core.specs.ChangeRun.{ComesTo, DoesCommit, IsChangeRun, IsCommit, IsFoundChanged, IsNoneOrCommit, report_as_is, report_in, coming_in}
-use Rattle.change_preparation.specs.Changed.{IsClashFor, IsClashForOver, change_of_command, selected_for}
-use Rattle.change_preparation.specs.Choice.{IsChoiceFrom}
+use Rattle.engine_core.specs.Changed.{IsClashFor, IsClashForOver, change_of_command, selected_for}
+use Rattle.engine_core.specs.Choice.{IsChoiceFrom}
 use Rattle.engine_core.specs.Runs.{IsRunCounted}
-use Rattle.change_preparation.specs.Selecting.{pool_for}
+use Rattle.engine_core.specs.Selecting.{pool_for}
 use Rattle.journal_core.specs.Kept.{HasOldOrNewBytes}
 use Rattle.journal_core.specs.Recovery.{IsSettled, RestsOn, intent_name}
 use Rattle.journal_core.specs.Staged.{IsOnTheWay}
@@ -40,8 +40,8 @@ use Rattle.outcome.specs.Outcome.{Outcome, just_refusal, just_report}
 use Rattle.apk_front.specs.Moments.{IsAtRest, IsReadAtWork, UnreadNamesLast}
 use Rattle.apk_front.specs.Runs.{HasNothingWaiting, IfNothingWaits, IsRun}
 use Rattle.apk_front.specs.Told.{IsToldAs}
-use Rattle.read_commands.specs.Verdicts.{Reports, ReportsOne, as_outcome}
-use Rattle.read_commands.specs.declared.verdict.Verdict.{Verdict}
+use Rattle.apk_front.specs.Verdicts.{Reports, ReportsOne, as_outcome}
+use Rattle.apk_front.specs.declared.answer.Verdict.{Verdict}
 use Rattle.apk_front.proofs.AfterRecovery.{StaysWithout}
 use Rattle.apk_front.proofs.Carried.{Ones, RoomFor}
 use Rattle.apk_front.proofs.Runs.{History, Judged, on_ok, run_idle, since_weaker}

@@ -31,8 +31,8 @@ use Rattle.command_core.specs.declared.values.OptionValue.{OptionValue}
 use Rattle.apk_front.specs.Moments.{HasRoomFor}
 use Rattle.apk_front.specs.Runs.{IsRun}
 use Rattle.apk_front.specs.Containers.{IsIndexMade, IsIndexFound, IsIndexOutcome, IsPackageMade, IsPackageOutcome, OnMade, is_cut, is_cut_off, made_in}
-use Rattle.read_commands.specs.Verdicts.{Reports, ReportsOne, as_outcome}
-use Rattle.read_commands.specs.declared.verdict.Verdict.{Verdict}
+use Rattle.apk_front.specs.Verdicts.{Reports, ReportsOne, as_outcome}
+use Rattle.apk_front.specs.declared.answer.Verdict.{Verdict}
 use Rattle.apk_front.proofs.Packages.{HaveListing, made_allowed, package_here}
 use Rattle.apk_front.proofs.Runs.{History, Judged, Leaves, left_at, run_among, run_idle}
 use Rattle.make_info.specs.declared.fault.MakeFault.TheVariants as Faults

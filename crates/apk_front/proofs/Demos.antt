@@ -31,8 +31,8 @@ use Rattle.words_core.specs.declared.read.WordsFault.TheVariants.{Usage as Wrong
 use Rattle.apk_front.specs.DemoRuns.{IsRunTo}
 use Rattle.apk_front.specs.Moments.{CanRecover, LeavesRoomFor}
 use Rattle.apk_front.specs.Runs.{IsWholeRun}
-use Rattle.read_commands.specs.Verdicts.{Reports, ReportsOne, as_outcome}
-use Rattle.read_commands.specs.declared.verdict.Verdict.{Verdict}
+use Rattle.apk_front.specs.Verdicts.{Reports, ReportsOne, as_outcome}
+use Rattle.apk_front.specs.declared.answer.Verdict.{Verdict}
 use Rattle.apk_front.proofs.AfterRecovery.{LeavesAll, whole_idle}
 use Rattle.apk_front.proofs.Judged.{ran_over, words_read}
 use Rattle.apk_front.proofs.Runs.{History, Judged, Leaves, ok_always}

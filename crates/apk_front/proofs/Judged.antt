@@ -28,12 +28,11 @@ use Rattle.outcome.specs.Work.{recovery_fault, work_files}
 use Rattle.base_core.specs.declared.cause.Cause.{Cause}
 use Rattle.apk_front.specs.Answers.{IsAnswerTo, IsAnswerOf, LeavesFiles, LeavesAny, HasCauses, IsFaultless, IsComplete, IsStated, DidNotFail, FailedAt, answer_by}
 use Rattle.apk_front.specs.Runs.{IsWholeRun}
-use Rattle.apk_front.specs.Shown.{IsPrinted, IsShown}
-use Rattle.read_commands.specs.Verdicts.{as_outcome, Reports, ReportsOne}
+use Rattle.apk_front.specs.Verdicts.{as_outcome, IsPrinted, IsShown, Reports, ReportsOne}
 use Rattle.apk_front.proofs.Printing.{either_failed}
 use Rattle.apk_front.specs.declared.answer.Answer.{Answer}
 use Rattle.apk_front.specs.declared.answer.Answer.TheVariants.{Ok as Good, Refused, TreeFault as TreeFailed, OutFault, Memory}
-use Rattle.read_commands.specs.declared.verdict.Verdict.{Verdict}
+use Rattle.apk_front.specs.declared.answer.Verdict.{Verdict}
 
 -- ---- the words and the outcome
 

@@ -2,6 +2,8 @@ pub mod Judged
 pub mod Unplanned
 pub mod Unrecovered
 pub mod Printing
+pub mod Operands
+pub mod Dumping
 pub mod Runs
 pub mod Packages
 pub mod Containers

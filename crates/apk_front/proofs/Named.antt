@@ -8,10 +8,10 @@ use Rattle.command_core.specs.Command.{CommandLine}
 use Rattle.words_core.specs.Grammar.{command_from, command_of, line_start}
 use Rattle.std.specs.Prelude.{is_ok}
 use Rattle.apk_front.specs.Answers.{name_an_applet}
-use Rattle.apk_front.specs.Shown.{IsShown}
+use Rattle.apk_front.specs.Verdicts.{IsShown}
 use Rattle.apk_front.specs.declared.answer.Answer.{Answer}
 use Rattle.apk_front.specs.declared.answer.Answer.TheVariants.{Ok as Done, Refused, TreeFault as TreeFailed, OutFault, Memory}
-use Rattle.read_commands.specs.declared.verdict.Verdict.{Verdict}
+use Rattle.apk_front.specs.declared.answer.Verdict.{Verdict}
 
 -- a command line names an applet
 pub command_named : (words : List (List ℕ)) (command : CommandLine) → command_of words ≡ Ok command → IsTrue (name_an_applet words)

@@ -7,7 +7,7 @@ use Rattle.report_core.specs.Texts.{refusal_line}
 use Rattle.report_core.specs.declared.refusal.Refusal.{Refusal}
 use Rattle.outcome.specs.Outcome.{outcome_of, line_of}
 use Rattle.apk_front.specs.Answers.{DidNotFail, IsOutFault}
-use Rattle.apk_front.specs.Shown.{IsPrinted, IsRefusalPrinted}
+use Rattle.apk_front.specs.Verdicts.{IsPrinted, IsRefusalPrinted}
 use Rattle.apk_front.specs.declared.answer.Answer.{Answer}
 use Rattle.apk_front.specs.declared.answer.Answer.TheVariants.{OutFault}
 

@@ -23,8 +23,8 @@ use Rattle.outcome.specs.Outcome.{Outcome, commit_report, just_refusal, just_rep
 use Rattle.report_core.specs.declared.refusal.Refusal.TheVariants.{Reserved}
 use Rattle.apk_front.specs.Moments.{AreSafe, HasRoomFor, HidesScratchOf, IsAtRest, IsReadAtWork, SettlesUnrecovered, UnreadNamesLast, ignored_but, is_draft_name, output_names}
 use Rattle.apk_front.specs.Runs.{AreReadAtWork, IsRun}
-use Rattle.read_commands.specs.Verdicts.{Reports, as_outcome}
-use Rattle.read_commands.specs.declared.verdict.Verdict.{Verdict}
+use Rattle.apk_front.specs.Verdicts.{Reports, as_outcome}
+use Rattle.apk_front.specs.declared.answer.Verdict.{Verdict}
 
 abbrev pub History : Type 0
 History = List TreeState

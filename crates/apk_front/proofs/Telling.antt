@@ -27,8 +27,8 @@ use Rattle.outcome.specs.Outcome.{Outcome}
 use Rattle.outcome.specs.Telling.{info, told_outcome}
 use Rattle.apk_front.specs.Runs.{IfNothingWaits, IsRun}
 use Rattle.apk_front.specs.Told.{IsInfoToldAs}
-use Rattle.read_commands.specs.Verdicts.{Reports, ReportsOne}
-use Rattle.read_commands.specs.declared.verdict.Verdict.{Verdict}
+use Rattle.apk_front.specs.Verdicts.{Reports, ReportsOne}
+use Rattle.apk_front.specs.declared.answer.Verdict.{Verdict}
 use Rattle.apk_front.proofs.Carried.{Ones, RoomFor}
 use Rattle.apk_front.proofs.Runs.{History, Judged, Leaves, ok_always, run_idle}
 

@@ -1,8 +1,14 @@
--- What the parts of `mkpkg` and `mkndx` hand on. Serves the proofs of both in `src/make.rt`; the
--- rules stand in `docs/commands.md`, "`mkpkg`" and "`mkndx PACKAGE..`".
-use Rattle.std.specs.Prelude.{◌≡◌, ℕ, Bool, true, false, List, Result, Ok, Err, Vec}
+-- What the parts of `adbdump`, `mkpkg` and `mkndx` hand on. Serves the proofs of `adbdump`, `mkpkg`
+-- and `mkndx` in `src/dump.rt` and `src/make.rt`; the rules stand in `docs/commands.md`,
+-- "`adbdump FILE`", "`mkpkg`" and "`mkndx PACKAGE..`".
+use Rattle.std.specs.Prelude.{◌≡◌, ℕ, Bool, true, false, List, Option, Some, None, Result, Ok, Err, Vec}
 use Rattle.std.specs.declared.alloc.Global.{Global}
+use Rattle.adb_block.specs.Reading.{Reading, done, fault, more}
+use Rattle.adb_schema.specs.declared.read.ReadFault.{ReadFault}
+use Rattle.adb_schema.specs.declared.read.ReadFault.TheVariants as ReadFaults
+use Rattle.adb_tables.specs.declared.tables.Which.{Which}
 use Rattle.base_core.specs.Files.{Files}
+use Rattle.base_core.specs.declared.cause.Cause.{Cause}
 use Rattle.command_core.specs.Command.{CommandLine}
 use Rattle.command_core.specs.declared.values.TheConstants.{FILES}
 use Rattle.make_index.specs.Files.{AreFiles}
@@ -13,8 +19,33 @@ use Rattle.make_info.specs.declared.fault.MakeFault.TheVariants.{Disk, Memory}
 use Rattle.make_package.specs.Making.{made_package}
 use Rattle.package_files.specs.Sources.{values_with}
 use Rattle.outcome.specs.Commands.{reads_in}
+use Rattle.outcome.specs.Dump.{form_fault}
 use Rattle.outcome.specs.Make.{IsListing, mkndx, mkpkg}
 use Rattle.outcome.specs.Outcome.{Outcome}
+
+-- ---- the text of a container
+
+-- why a container has no text, as the definition of its text says; want of memory says nothing of
+-- the file
+abbrev pub IsDumpFault : ReadFault → Result (List ℕ) Cause → Type 0
+IsDumpFault (ReadFaults.Bad cause) text = text ≡ Err cause
+IsDumpFault ReadFaults.Memory text = Unit {0}
+
+-- why the first block is refused for its framing, its head or its shape, if it is
+abbrev pub first_form_fault : Which → Reading → Option Cause
+first_form_fault which done = None
+first_form_fault which (fault c) = Some c
+first_form_fault which (more b at r) = form_fault which b.payload
+
+-- a first block with this payload passed its tests, and the reader that stood before it stands
+-- behind it
+abbrev pub IsShapedFirst : Which → List ℕ → Reading → Reading → Type 0
+IsShapedFirst which payload done later = ⊥
+IsShapedFirst which payload (fault c) later = ⊥
+IsShapedFirst which payload (more b at r) later =
+    (payload ≡ b.payload) × (form_fault which b.payload ≡ None) × (r ≡ later)
+
+-- ---- a container that is made
 
 -- what was made, or why it was not, without where its bytes lie in memory
 abbrev pub made_in : Result (Vec ℕ Global) MakeFault → Result (List ℕ) MakeFault

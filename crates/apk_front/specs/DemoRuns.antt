@@ -5,8 +5,8 @@ use Rattle.base_core.specs.Tree.{files_of}
 use Rattle.outcome.specs.Outcome.{Outcome}
 use Rattle.tree_memory.specs.Memory.{tree_state}
 use Rattle.tree_memory.specs.declared.tree.MemoryTree.{MemoryTree}
-use Rattle.read_commands.specs.Verdicts.{Reports}
-use Rattle.read_commands.specs.declared.verdict.Verdict.{Verdict}
+use Rattle.apk_front.specs.Verdicts.{Reports}
+use Rattle.apk_front.specs.declared.answer.Verdict.{Verdict}
 
 -- a verdict reports one of these outcomes, and the tree has its files
 abbrev pub IsRunTo : (Outcome → Type 0) → Verdict → MemoryTree → Type 0

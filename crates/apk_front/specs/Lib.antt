@@ -3,7 +3,7 @@ pub mod Answers
 pub mod Moments
 -- what only inner contracts and proofs use
 pub mod Status
-pub mod Shown
+pub mod Verdicts
 pub mod Runs
 pub mod Containers
 pub mod Told

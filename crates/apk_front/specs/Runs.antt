@@ -15,7 +15,7 @@ use Rattle.outcome.specs.Effect.{Effect}
 use Rattle.outcome.specs.Outcome.{Outcome}
 use Rattle.outcome.specs.Work.{recovery_fault}
 use Rattle.apk_front.specs.Moments.{AreReadOnTheWay, AreSafe, HasIdleOutcome, HasNothingToRecover, HidesScratchOf, IsAtRest, IsReadAtWork, Settles, SettlesUnrecovered, UnreadNamesLast, ignored_but}
-use Rattle.read_commands.specs.declared.verdict.Verdict.{Verdict}
+use Rattle.apk_front.specs.declared.answer.Verdict.{Verdict}
 
 -- ---- behind a recovery
 

@@ -9,8 +9,8 @@ use Rattle.change_inputs.specs.declared.root.Refused.{Refused}
 use Rattle.change_inputs.specs.declared.root.Refused.TheVariants.{Disk, Memory, Refusal}
 use Rattle.installed_info.specs.declared.telling.InfoDone.{InfoDone}
 use Rattle.outcome.specs.Outcome.{just_refusal, just_report, outcome_of}
-use Rattle.read_commands.specs.Verdicts.{as_outcome}
-use Rattle.read_commands.specs.declared.verdict.Verdict.{Verdict}
+use Rattle.apk_front.specs.Verdicts.{as_outcome}
+use Rattle.apk_front.specs.declared.answer.Verdict.{Verdict}
 
 -- what is judged where the engine gives no report: a refusal is told, and a failure is handed on
 abbrev pub IsRefusedAs : Refused → Result Verdict TreeFault → Type 0

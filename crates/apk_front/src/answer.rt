@@ -3,15 +3,15 @@
 ghost use Rattle.std.specs.Prelude.{◌≡◌, ◌≢◌, [], OnErr, Err};
 ghost use Rattle.apk_front.specs.Answers.{GetsLine};
 ghost use Rattle.apk_front.specs.Status.{status_of};
-ghost use Rattle.apk_front.specs.Shown.{IsPrinted, IsRefusalPrinted, IsShown};
-ghost use Rattle.read_commands.specs.Verdicts.{as_outcome};
+ghost use Rattle.apk_front.specs.Verdicts.{IsPrinted, IsRefusalPrinted, IsShown, as_outcome};
 ghost use Rattle.base_core.specs.Files.{Files};
 ghost use Rattle.base_core.specs.Sink.{sink_change, IsProperUse};
 ghost use Rattle.base_core.specs.Write.{Writes};
+ghost use Rattle.outcome.specs.Outcome.{just_refusal, just_report};
 
-use base_core::{Sink, SinkFault, TreeFault, counts_of_calls_in_a_row_join, write_all};
-use read_commands::Verdict;
+use base_core::{Sink, SinkFault, Text, TreeFault, counts_of_calls_in_a_row_join, write_all};
 use report_core::{Refusal, write_error};
+use std::alloc::Global;
 
 /// What a run answers.
 #[derive(Drop)]
@@ -39,6 +39,44 @@ pub fn status(answer: &Answer) -> u8
         Answer::TreeFault => 2,
         Answer::OutFault => 3,
         Answer::Memory => 4,
+    }
+}
+
+/// What a command comes to: a report, and a refusal behind it, if there is one.
+#[derive(Drop)]
+pub(crate) struct Verdict {
+    /// What goes to standard output.
+    pub(crate) report: Text,
+    /// Why the command is refused: a line on standard error, behind the report.
+    pub(crate) refusal: Option<Refusal>,
+}
+
+impl Verdict {
+    /// The verdict of a command that prints nothing and is not refused.
+    pub(crate) fn empty(alloc: Global) -> Verdict
+        ensures { (files : Files) → as_outcome files result ≡ just_report files [] }
+    {
+        Verdict::reported(Text::from_vec(Vec::new(alloc)))
+    }
+
+    /// The verdict of a command that prints a report and is not refused.
+    pub(crate) fn reported(report: Text) -> Verdict
+        ensures { (files : Files) → as_outcome files result ≡ just_report files report }
+    {
+        Verdict {
+            report,
+            refusal: None,
+        }
+    }
+
+    /// The verdict of a command that is refused and prints no report.
+    pub(crate) fn refused(alloc: Global, refusal: Refusal) -> Verdict
+        ensures { (files : Files) → as_outcome files result ≡ just_refusal files refusal }
+    {
+        Verdict {
+            report: Text::from_vec(Vec::new(alloc)),
+            refusal: Some(refusal),
+        }
     }
 }
 

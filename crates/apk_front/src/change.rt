@@ -5,18 +5,19 @@ ghost use Rattle.std.specs.Prelude.{◌≡◌, true, IfOk, IsErrOf, OnOk};
 ghost use Rattle.apk_front.specs.Moments.{HasRoomToWrite};
 ghost use Rattle.apk_front.specs.Runs.{IfNothingWaits, IsRun};
 ghost use Rattle.apk_front.specs.Told.{IsToldAs};
-ghost use Rattle.read_commands.specs.Verdicts.{ReportsOne};
+ghost use Rattle.apk_front.specs.Verdicts.{ReportsOne};
+ghost use Rattle.base_core.specs.Calls.{IfObservable};
 ghost use Rattle.base_core.specs.Faults.{GoesOn, HasCause, IsNoFault};
 ghost use Rattle.base_core.specs.Tree.{files_of};
 ghost use Rattle.outcome.specs.Commands.{IsFoundOver, IsOutcomeOver};
 ghost use Rattle.outcome.specs.Effect.{Changes, effect_of, output_if};
 ghost use Rattle.outcome.specs.Outcome.{Outcome};
 
+use crate::answer::Verdict;
 use base_core::{Text, Tree, TreeFault};
 use command_core::Command;
 use engine_core::Refused;
 use outcome::{a_command_that_commits_nothing_leaves_the_files, an_outcome_over_files_is_unique};
-use read_commands::Verdict;
 use std::alloc::Global;
 
 /// Changes what is installed, and reports it. Nothing asks for memory once the change is carried

@@ -4,7 +4,7 @@
 //! Each command line is run by the function that runs it on every other tree, too.
 ghost use Rattle.std.specs.Prelude.{◌≡◌, IfOk, IsTrue, MatchResult, OnOk, Some};
 ghost use Rattle.apk_front.specs.DemoRuns.{IsRunTo};
-ghost use Rattle.read_commands.specs.Verdicts.{Reports, as_outcome};
+ghost use Rattle.apk_front.specs.Verdicts.{Reports, as_outcome};
 ghost use Rattle.base_core.specs.Files.{Files, no_names, put_name};
 ghost use Rattle.base_core.specs.Tree.{files_of};
 ghost use Rattle.command_core.specs.Operands.{exactly};
@@ -19,6 +19,7 @@ ghost use Rattle.outcome.specs.Outcome.{Outcome, report_unless};
 ghost use Rattle.tree_memory.specs.Memory.{tree_state};
 ghost use Rattle.words_core.specs.Grammar.{command_of};
 
+use crate::answer::Verdict;
 use crate::judge::run;
 use base_core::{Name, Text, TreeFault, Words};
 use command_core::Operands;
@@ -26,7 +27,6 @@ use demo_lines::{
     add_words, demo_count, demo_file, demo_line, demo_repositories, demo_text, mkndx_words,
     mkpkg_words,
 };
-use read_commands::Verdict;
 use report_core::Refusal;
 use std::alloc::{AllocError, Global};
 use tree_memory::MemoryTree;

@@ -4,17 +4,18 @@ ghost use Rattle.std.specs.Prelude.{◌≡◌, true, IfOk, IsErrOf, OnOk};
 ghost use Rattle.apk_front.specs.Moments.{HasRoomToWrite};
 ghost use Rattle.apk_front.specs.Runs.{IfNothingWaits, IsRun};
 ghost use Rattle.apk_front.specs.Told.{IsInfoToldAs};
-ghost use Rattle.read_commands.specs.Verdicts.{ReportsOne};
+ghost use Rattle.apk_front.specs.Verdicts.{ReportsOne};
+ghost use Rattle.base_core.specs.Calls.{IfObservable};
 ghost use Rattle.base_core.specs.Faults.{GoesOn, HasCause, IsNoFault};
 ghost use Rattle.base_core.specs.Tree.{files_of};
 ghost use Rattle.outcome.specs.Commands.{IsFoundOver, IsOutcomeOver};
 ghost use Rattle.outcome.specs.Effect.{Tells, effect_of, output_if};
 ghost use Rattle.outcome.specs.Outcome.{Outcome};
 
+use crate::answer::Verdict;
 use base_core::{Tree, TreeFault};
 use command_core::Command;
 use engine_core::{InfoDone, Refused};
-use read_commands::Verdict;
 use std::alloc::Global;
 
 /// Tells what is installed. A refusal may stand behind the report; nothing is written. The clauses

@@ -4,11 +4,11 @@
 //! `docs/crash-safety.md`, "What the host's tree does"; how counts explain an answer, in "Misuses,
 //! faults and counts".
 
-ghost use Rattle.std.specs.Prelude.{◌≡◌, Ok, IfOk, IsErrOf, IsTrue, MatchResult, OnOk};
+ghost use Rattle.std.specs.Prelude.{◌≡◌, [], None, Ok, IfOk, IsErrOf, IsTrue, MatchResult, OnOk};
 ghost use Rattle.apk_front.specs.Answers.{name_an_applet};
 ghost use Rattle.apk_front.specs.Moments.{LeavesRoom, LeavesRoomFor};
 ghost use Rattle.apk_front.specs.Runs.{IsWholeRun};
-ghost use Rattle.read_commands.specs.Verdicts.{ReportsOne, as_outcome};
+ghost use Rattle.apk_front.specs.Verdicts.{ReportsOne, as_outcome};
 ghost use Rattle.base_core.specs.Calls.{IfObservable};
 ghost use Rattle.base_core.specs.Faults.{GoesOn, HasCause, IsNoFault};
 ghost use Rattle.base_core.specs.Files.{Files, no_names};
@@ -22,11 +22,14 @@ ghost use Rattle.outcome.specs.Words.{IsFoundOutcome, IsFoundOutcomeBy, IsOutcom
 ghost use Rattle.words_core.specs.Grammar.{command_of};
 ghost use Rattle.apk_front.specs.Effects.{access_of};
 
+use crate::answer::Verdict;
 use crate::demo::demo;
+use crate::dump::adbdump;
 use crate::recovered::recover_and_run;
+use crate::verify::verify;
+use crate::version::version;
 use base_core::{Tree, TreeFault, Words};
 use command_core::{Applet, Command};
-use read_commands::{Verdict, adbdump, verify, version};
 use report_core::Refusal;
 use std::alloc::{AllocError, Global};
 use words_core::{WordsFault, read_words};
@@ -79,7 +82,7 @@ pub(crate) fn judge<T: Tree>(
 
 // Runs an applet; `demo` runs others, in a tree of its own. The clauses are those of `judge`, for a
 // command that was read.
-#[tactic(auto, using(read_commands::proofs::Operands::demo_operands))]
+#[tactic(auto, using(crate::proofs::Operands::demo_operands))]
 fn carry_out<T: Tree>(alloc: Global, command: &Command, tree: &mut T) -> Result<Verdict, TreeFault>
     ensures found { IfOk result (λ verdict. IfObservable (T.history tree.old) (λ v.
         ReportsOne (IsOutcomeBy (Ok command.now) (files_of v)) verdict)) }
@@ -160,7 +163,7 @@ pub(crate) fn run<T: Tree>(
 
 // Runs an applet that only reads. The clauses are those of `run`; `tree` says that nothing is
 // written.
-#[tactic(auto, using(read_commands::proofs::Operands::dump_operands, read_commands::proofs::Operands::verify_operands, read_commands::proofs::Operands::version_operands))]
+#[tactic(auto, using(crate::proofs::Operands::dump_operands, crate::proofs::Operands::verify_operands, crate::proofs::Operands::version_operands))]
 fn look<T: Tree>(alloc: Global, command: &Command, tree: &mut T) -> Result<Verdict, TreeFault>
     requires { IsTrue (does_only_read (effect_of command.now.applet)) }
     ensures found { IfOk result (λ verdict. IfObservable (T.history tree.old) (λ v.

@@ -11,12 +11,15 @@
 mod answer;
 mod change;
 mod demo;
+mod dump;
 mod front;
 mod info;
 mod judge;
 mod laws;
 mod make;
 mod recovered;
+mod verify;
+mod version;
 
 pub use answer::{Answer, status};
 pub use front::apk;

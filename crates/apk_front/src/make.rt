@@ -6,7 +6,7 @@ ghost use Rattle.make_package.specs.Answers.{IsMadeBySome};
 ghost use Rattle.apk_front.specs.Containers.{IsIndexMade, IsIndexFound, IsIndexOutcome, IsPackageMade, IsPackageOutcome, OnMade, is_cut, is_cut_off, made_in};
 ghost use Rattle.apk_front.specs.Moments.{HasRoomFor};
 ghost use Rattle.apk_front.specs.Runs.{IsRun};
-ghost use Rattle.read_commands.specs.Verdicts.{Reports, ReportsOne};
+ghost use Rattle.apk_front.specs.Verdicts.{Reports, ReportsOne};
 ghost use Rattle.base_core.specs.Calls.{IfObservable};
 ghost use Rattle.base_core.specs.Faults.{GoesOn, HasCause, IsNoFault};
 ghost use Rattle.base_core.specs.Files.{Files, no_names};
@@ -24,6 +24,7 @@ ghost use Rattle.outcome.specs.Make.{index_line, make_outcome, mkndx, mkpkg, unl
 ghost use Rattle.outcome.specs.Outcome.{Outcome, just_refusal};
 ghost use Rattle.report_core.specs.declared.refusal.Refusal.TheVariants.{ResultTooLarge};
 
+use crate::answer::Verdict;
 use adb_schema::is_reserved;
 use base_core::{
     Text, Tree, TreeFault, counts_of_calls_in_a_row_join, files_have_one_list_of_names,
@@ -36,7 +37,6 @@ use make_core::{
     an_output_is_short, output_name,
 };
 use outcome::a_listing_of_a_tree_is_that_of_its_files;
-use read_commands::Verdict;
 use report_core::Refusal;
 use std::alloc::{AllocError, Global};
 

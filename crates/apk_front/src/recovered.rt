@@ -1,10 +1,10 @@
 //! A command that recovers: what an intent has still to do is done first. The rules stand in
 //! `docs/commands.md`, "Before the commands that write, and `info`", and in `docs/crash-safety.md`,
 //! "Recovery".
-ghost use Rattle.std.specs.Prelude.{◌≡◌, true, Ok, IfOk, IsErrOf, OnOk};
+ghost use Rattle.std.specs.Prelude.{◌≡◌, true, None, Ok, IfOk, IsErrOf, IsSome, OnOk};
 ghost use Rattle.apk_front.specs.Moments.{HasRoomToWrite, LeavesRoomFor};
 ghost use Rattle.apk_front.specs.Runs.{IfNothingWaits, IsRun, IsWholeRun};
-ghost use Rattle.read_commands.specs.Verdicts.{ReportsOne, as_outcome};
+ghost use Rattle.apk_front.specs.Verdicts.{ReportsOne, as_outcome};
 ghost use Rattle.base_core.specs.Calls.{IfObservable};
 ghost use Rattle.base_core.specs.Faults.{GoesOn, HasCause, IsNoFault};
 ghost use Rattle.base_core.specs.Files.{Files};
@@ -15,6 +15,7 @@ ghost use Rattle.outcome.specs.Effect.{does_recover, effect_of, output_if};
 ghost use Rattle.outcome.specs.Outcome.{Outcome, just_refusal};
 ghost use Rattle.report_core.specs.declared.refusal.Refusal.TheVariants.{IntentBad};
 
+use crate::answer::Verdict;
 use crate::change::change;
 use crate::info::info;
 use crate::make::{mkndx, mkpkg};
@@ -25,7 +26,6 @@ use journal_core::{
     still_moments_join,
 };
 use journal_recovery::{RecoverFault, recover};
-use read_commands::Verdict;
 use report_core::Refusal;
 use std::alloc::Global;
 

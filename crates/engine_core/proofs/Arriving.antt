@@ -22,7 +22,7 @@ use Rattle.pkg_core.specs.Whole.{package_fault}
 use Rattle.candidate_core.specs.Candidates.{Candidate, is_same_id}
 use Rattle.report_core.specs.Reports.{Change}
 use Rattle.report_core.specs.declared.refusal.Refusal.{Refusal}
-use Rattle.change_preparation.specs.Finishing.{AreOfCandidates, IsOfCandidate}
+use Rattle.engine_core.specs.Finishing.{AreOfCandidates, IsOfCandidate}
 
 chain_ok : {A B : Type 0} (a : Result A Refusal) (next : A → Result B Refusal) (b : B) → and_then a next ≡ Ok b → (x : A) × (a ≡ Ok x) × (next x ≡ Ok b)
 chain_ok (Ok x) next b e = (x, refl, e)

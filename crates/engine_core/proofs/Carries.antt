@@ -26,7 +26,7 @@ use Rattle.change_laws.proofs.ChangeNames.{change_names}
 use Rattle.change_laws.proofs.FreeNames.{name_of_any, none_of, once_rising}
 use Rattle.journal_intent.specs.FreeNames.{AreOnce}
 use Rattle.journal_intent.specs.Intent.{AreChangeNames}
-use Rattle.change_preparation.proofs.Once.{once_both}
+use Rattle.engine_core.proofs.Once.{once_both}
 use Rattle.change_laws.proofs.Leading.{acted_is}
 use Rattle.change_laws.proofs.Room.{room}
 use Rattle.change_outcome.specs.ChangeOutcome.{Actions, ChangeDone, ChangeWishes, actions_of, bytes_under, change_done, does_something, file_change, is_other_file, name_if_needed, new_records, unless_overflow, written_records}
@@ -54,13 +54,13 @@ use Rattle.stage_files.specs.declared.writes.Source.TheVariants.{Bytes, File, Li
 use Rattle.stage_files.specs.declared.writes.StageFault.{StageFault}
 use Rattle.stage_files.specs.declared.writes.StageFault.TheVariants as Stages
 use Rattle.stage_files.specs.declared.writes.StagedWrite.{StagedWrite}
-use Rattle.change_preparation.specs.Carrying.{IsRefusedPackage, ready_change}
+use Rattle.engine_core.specs.Carrying.{IsRefusedPackage, ready_change}
 use Rattle.engine_core.specs.ChangeRun.{ComesTo, DoesCommit, IsNoneOrCommit, report_in}
-use Rattle.change_preparation.specs.Finishing.{AreRecordWrites, AreRecordsOf, IsPlanned, bytes_if, inputs_arrived, members_arrived, replacement_arrived}
-use Rattle.change_preparation.specs.Writing.{HasBytes, IsRecordOf, IsSourceOfWrite, IsWriteBy, package_at, record_names, write_name}
-use Rattle.change_preparation.specs.declared.planning.Planned.{Planned}
-use Rattle.change_preparation.specs.declared.finishing.NewRecords.{NewRecords}
-use Rattle.change_preparation.specs.declared.writes.RecordWrites.{RecordWrites}
+use Rattle.engine_core.specs.Finishing.{AreRecordWrites, AreRecordsOf, IsPlanned, bytes_if, inputs_arrived, members_arrived, replacement_arrived}
+use Rattle.engine_core.specs.Writing.{HasBytes, IsRecordOf, IsSourceOfWrite, IsWriteBy, package_at, record_names, write_name}
+use Rattle.engine_core.specs.declared.planning.Planned.{Planned}
+use Rattle.engine_core.specs.declared.finishing.NewRecords.{NewRecords}
+use Rattle.engine_core.specs.declared.writes.RecordWrites.{RecordWrites}
 use Rattle.engine_core.proofs.Early.{comes_to_failure, comes_to_idle, comes_to_refusal, if_told, nothing_read}
 use Rattle.engine_core.proofs.Sources.{FilesAreRead, all_at, all_stand}
 use Rattle.engine_core.proofs.SpoiledPackages.{spoiled_package}

@@ -23,9 +23,9 @@ use Rattle.package_changes.specs.Changes.{Replacement}
 use Rattle.candidate_core.specs.Candidates.{Candidate}
 use Rattle.report_core.specs.declared.refusal.Refusal.{Refusal}
 use Rattle.engine_core.specs.ChangeRun.{ComesTo, DoesCommit, IsNoneOrCommit, report_as_is, report_in, coming_in}
-use Rattle.change_preparation.specs.Changed.{IsClashOfSelected, IsClashUnlessSimulated, Selected, change_of_selected}
+use Rattle.engine_core.specs.Changed.{IsClashOfSelected, IsClashUnlessSimulated, Selected, change_of_selected}
 use Rattle.engine_core.specs.Runs.{IsSelectedRun}
-use Rattle.change_preparation.specs.Wishes.{wishes_of}
+use Rattle.engine_core.specs.Wishes.{wishes_of}
 
 -- ---- there is a first clash
 

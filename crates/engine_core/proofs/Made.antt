@@ -31,14 +31,14 @@ use Rattle.candidate_core.specs.Rank.{SealedPool}
 use Rattle.candidate_core.specs.declared.candidate_list.TheConstants.{MOST_CANDIDATES}
 use Rattle.report_core.specs.declared.refusal.Refusal.{Refusal}
 use Rattle.engine_core.specs.ChangeRun.{ComesTo}
-use Rattle.change_preparation.specs.Changed.{IsClashOfSelectedOver, IsClashUnlessSimulatedOver, change_of_selected, simulated_change}
-use Rattle.change_preparation.specs.Finishing.{AreArrivals, AreOfCandidates, IsRootRead}
+use Rattle.engine_core.specs.Changed.{IsClashOfSelectedOver, IsClashUnlessSimulatedOver, change_of_selected, simulated_change}
+use Rattle.engine_core.specs.Finishing.{AreArrivals, AreOfCandidates, IsRootRead}
 use Rattle.engine_core.specs.Making.{IsFoundRun}
 use Rattle.engine_core.specs.Runs.{IsSelectedRun}
-use Rattle.change_preparation.specs.Selecting.{pool_by}
-use Rattle.change_preparation.specs.SelectionSeen.{HasItsDatabase, inputs_of_selection, replacement_seen, selection_seen}
-use Rattle.change_preparation.specs.Wishes.{wishes_of}
-use Rattle.change_preparation.specs.declared.choosing.Selection.{Selection}
+use Rattle.engine_core.specs.Selecting.{pool_by}
+use Rattle.engine_core.specs.SelectionSeen.{HasItsDatabase, inputs_of_selection, replacement_seen, selection_seen}
+use Rattle.engine_core.specs.Wishes.{wishes_of}
+use Rattle.engine_core.specs.declared.choosing.Selection.{Selection}
 use Rattle.engine_core.proofs.Arriving.{of_candidates}
 use Rattle.engine_core.proofs.Early.{HaveClash, IsOnlyRead, comes_to_refusal, files_seen, selected_failure}
 use Rattle.engine_core.proofs.WholeRuns.{run_behind_reads}

@@ -6,8 +6,8 @@ use Rattle.change_inputs.specs.Inputs.{Inputs}
 use Rattle.command_core.specs.Command.{CommandLine}
 use Rattle.candidate_core.specs.Rank.{SealedPool, UpgradedNames, sealed_pool_by}
 use Rattle.report_core.specs.declared.refusal.Refusal.{Refusal}
-use Rattle.change_preparation.specs.Selecting.{pool_by}
-use Rattle.change_preparation.specs.Wishes.{names_to_upgrade}
+use Rattle.engine_core.specs.Selecting.{pool_by}
+use Rattle.engine_core.specs.Wishes.{names_to_upgrade}
 
 -- the pool's world is the one that the command asks for
 pub pool_world : (command : CommandLine) (inputs : Inputs) (pool : SealedPool) → pool_by command inputs ≡ Ok pool → pool.world ≡ inputs.root.new_world

@@ -15,12 +15,12 @@ use Rattle.report_changes.specs.Report.{simulated_report}
 use Rattle.candidate_core.specs.Rank.{SealedPool}
 use Rattle.report_core.specs.declared.refusal.Refusal.{Refusal}
 use Rattle.report_core.specs.declared.refusal.Refusal.TheVariants.{NotInstalled}
-use Rattle.change_preparation.specs.Changed.{Selected, selected_by, selected_of_inputs, simulated_change}
-use Rattle.change_preparation.specs.Choice.{IsChoice, IsChoiceFrom}
-use Rattle.change_preparation.specs.Chosen.{IsChosen}
+use Rattle.engine_core.specs.Changed.{Selected, selected_by, selected_of_inputs, simulated_change}
+use Rattle.engine_core.specs.Choice.{IsChoice, IsChoiceFrom}
+use Rattle.engine_core.specs.Chosen.{IsChosen}
 use Rattle.engine_core.specs.Runs.{IsRunBy, IsSelectedRun}
-use Rattle.change_preparation.specs.Selecting.{pool_by, replacement_of_choice}
-use Rattle.change_preparation.specs.Wishes.{names_to_go, names_to_reinstall, unknown_place, unless_place, wishes_of}
+use Rattle.engine_core.specs.Selecting.{pool_by, replacement_of_choice}
+use Rattle.engine_core.specs.Wishes.{names_to_go, names_to_reinstall, unknown_place, unless_place, wishes_of}
 use Rattle.engine_core.proofs.Early.{HaveClash, IsOnlyRead, Seen, comes_to_idle, of_seen, seen_any, selected_failure, selected_refusal}
 
 abbrev pub HaveChoice : Type 0

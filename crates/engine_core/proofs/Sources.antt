@@ -36,10 +36,10 @@ use Rattle.stage_files.specs.Sources.{StandForEach, StandsForBytes}
 use Rattle.stage_files.specs.declared.writes.Source.{Source}
 use Rattle.stage_files.specs.declared.writes.Source.TheVariants.{Bytes, File, Link}
 use Rattle.stage_files.specs.declared.writes.StagedWrite.{StagedWrite}
-use Rattle.change_preparation.specs.Finishing.{AreRecordWrites, AreRecordsOf, bytes_if}
-use Rattle.change_preparation.specs.Writing.{HasBytes, IsRecordOf, IsSourceOfWrite, IsWriteBy, entry_of_write, write_name}
-use Rattle.change_preparation.specs.declared.finishing.NewRecords.{NewRecords}
-use Rattle.change_preparation.specs.declared.writes.RecordWrites.{RecordWrites}
+use Rattle.engine_core.specs.Finishing.{AreRecordWrites, AreRecordsOf, bytes_if}
+use Rattle.engine_core.specs.Writing.{HasBytes, IsRecordOf, IsSourceOfWrite, IsWriteBy, entry_of_write, write_name}
+use Rattle.engine_core.specs.declared.finishing.NewRecords.{NewRecords}
+use Rattle.engine_core.specs.declared.writes.RecordWrites.{RecordWrites}
 
 -- ---- a file of a package
 

@@ -23,7 +23,7 @@ use Rattle.package_test.specs.declared.package.TestedPackage.{TestedPackage}
 use Rattle.candidate_core.specs.Candidates.{Candidate, is_same_id}
 use Rattle.stage_files.specs.Spoiled.{IsSpoiledFile}
 use Rattle.engine_core.specs.ChangeRun.{IsSpoiledPackage}
-use Rattle.change_preparation.specs.Finishing.{IsOfCandidate}
+use Rattle.engine_core.specs.Finishing.{IsOfCandidate}
 
 -- ---- the member at a place is that of the package that was read for it
 

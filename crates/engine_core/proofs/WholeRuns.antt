@@ -25,13 +25,13 @@ use Rattle.candidate_core.specs.Candidates.{Candidate}
 use Rattle.candidate_core.specs.Rank.{SealedPool}
 use Rattle.report_core.specs.declared.refusal.Refusal.{Refusal}
 use Rattle.change_laws.specs.Premises.{IsRootOfFiles}
-use Rattle.change_preparation.specs.Finishing.{IsRootRead}
+use Rattle.engine_core.specs.Finishing.{IsRootRead}
 use Rattle.engine_core.specs.ChangeRun.{ComesTo, IsChangeRun, coming_in}
-use Rattle.change_preparation.specs.Changed.{IsClashOfSelected, IsClashOfSelectedOver, IsClashUnlessSimulatedOver, Selected, change_of_selected, change_of_command, selected_by, selected_for, selected_of_inputs, simulated_change}
-use Rattle.change_preparation.specs.Choice.{IsChoiceFrom}
+use Rattle.engine_core.specs.Changed.{IsClashOfSelected, IsClashOfSelectedOver, IsClashUnlessSimulatedOver, Selected, change_of_selected, change_of_command, selected_by, selected_for, selected_of_inputs, simulated_change}
+use Rattle.engine_core.specs.Choice.{IsChoiceFrom}
 use Rattle.engine_core.specs.Runs.{IsRunBy, IsSelectedRun}
-use Rattle.change_preparation.specs.Selecting.{pool_by, pool_for}
-use Rattle.change_preparation.specs.Wishes.{unknown_place, unless_place, wishes_of}
+use Rattle.engine_core.specs.Selecting.{pool_by, pool_for}
+use Rattle.engine_core.specs.Wishes.{unknown_place, unless_place, wishes_of}
 use Rattle.engine_core.proofs.Early.{HaveClash, IsOnlyRead, comes_to_failure, comes_to_refusal, files_seen}
 use Rattle.engine_core.proofs.SelectedRuns.{HaveChoice}
 

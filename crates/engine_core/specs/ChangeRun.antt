@@ -28,9 +28,9 @@ use Rattle.candidate_core.specs.Candidates.{Candidate}
 use Rattle.report_core.specs.declared.refusal.Refusal.{Refusal}
 use Rattle.report_core.specs.declared.refusal.Refusal.TheVariants.{PackageBad}
 use Rattle.stage_run.specs.StageRun.{IsStageRun, IsStageRunDone}
-use Rattle.change_preparation.specs.Changed.{IsClashForOver, Selected, change_of_command, selected_for}
-use Rattle.change_preparation.specs.Choice.{IsChoiceFrom}
-use Rattle.change_preparation.specs.Selecting.{pool_for}
+use Rattle.engine_core.specs.Changed.{IsClashForOver, Selected, change_of_command, selected_for}
+use Rattle.engine_core.specs.Choice.{IsChoiceFrom}
+use Rattle.engine_core.specs.Selecting.{pool_for}
 
 -- ---- what it answers
 

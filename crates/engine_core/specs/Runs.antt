@@ -15,9 +15,9 @@ use Rattle.package_files.specs.Runs.{AreObserved}
 use Rattle.path_clashes.specs.Clash.{NamePair}
 use Rattle.report_core.specs.declared.refusal.Refusal.{Refusal}
 use Rattle.engine_core.specs.ChangeRun.{ComesTo, coming_in}
-use Rattle.change_preparation.specs.Changed.{IsClashOfSelectedOver, Selected, change_of_selected, selected_of_inputs}
-use Rattle.change_preparation.specs.Choice.{IsChoiceFrom}
-use Rattle.change_preparation.specs.Selecting.{pool_by}
+use Rattle.engine_core.specs.Changed.{IsClashOfSelectedOver, Selected, change_of_selected, selected_of_inputs}
+use Rattle.engine_core.specs.Choice.{IsChoiceFrom}
+use Rattle.engine_core.specs.Selecting.{pool_by}
 
 -- a run by what is selected, or by the refusal in its place
 pub record IsSelectedRun (command : CommandLine) (selected : Result Selected Refusal)

@@ -6,20 +6,23 @@ ghost use Rattle.change_inputs.specs.Chains.{and_then};
 ghost use Rattle.change_outcome.specs.ChangeOutcome.{file_change, touched_paths, unless_too_large};
 ghost use Rattle.change_outcome.specs.MembersAfter.{MemberFound, candidates_that_come, members_found};
 ghost use Rattle.change_outcome.specs.Triggers.{unless_trigger};
-ghost use Rattle.change_preparation.specs.Carrying.{HasPlan, ready_change};
+ghost use Rattle.engine_core.specs.Carrying.{HasPlan, ready_change};
 ghost use Rattle.engine_core.specs.ChangeRun.{ComesTo};
-ghost use Rattle.change_preparation.specs.Finishing.{AreRecordsOf, IsPlanned, inputs_arrived, replacement_arrived};
+ghost use Rattle.engine_core.specs.Finishing.{AreRecordsOf, IsPlanned, inputs_arrived, replacement_arrived};
 ghost use Rattle.engine_core.specs.Runs.{IsRunCounted};
-ghost use Rattle.change_preparation.specs.Wishes.{wishes_of};
+ghost use Rattle.engine_core.specs.Wishes.{wishes_of};
 ghost use Rattle.std.specs.Prelude.{◌≡◌, List};
 
+use crate::finishing::{
+    NewRecords, is_idle, new_records, record_writes_of, refused_package, report_of,
+};
+use crate::planning::{Planned, test_triggers};
+use crate::records::begin_stage;
+use crate::removals::removals_of;
+use crate::writes::{names_of, writes_of};
 use arrivals::a_package_that_was_read_is_that_of_its_file;
 use base_core::{Text, Tree};
 use change_inputs::Refused;
-use change_preparation::{
-    NewRecords, Planned, begin_stage, is_idle, names_of, new_records, record_writes_of,
-    refused_package, removals_of, report_of, test_triggers, writes_of,
-};
 use command_core::Command;
 use piece_reader::Piece;
 use stage_files::{StageFault, carry_out};

@@ -4,23 +4,23 @@
 
 ghost use Rattle.change_inputs.specs.Seen.{inputs_seen};
 ghost use Rattle.engine_core.specs.ChangeRun.{IsChangeRun};
-ghost use Rattle.change_preparation.specs.Finishing.{IsRootRead};
+ghost use Rattle.engine_core.specs.Finishing.{IsRootRead};
 ghost use Rattle.engine_core.specs.Runs.{IsRunBy, IsRunCounted, IsSelectedRun};
-ghost use Rattle.change_preparation.specs.Selecting.{pool_by};
-ghost use Rattle.change_preparation.specs.SelectionSeen.{HasItsDatabase, inputs_of_selection, selection_seen, replacement_seen};
-ghost use Rattle.change_preparation.specs.Wishes.{names_to_reinstall, names_to_go};
+ghost use Rattle.engine_core.specs.Selecting.{pool_by};
+ghost use Rattle.engine_core.specs.SelectionSeen.{HasItsDatabase, inputs_of_selection, selection_seen, replacement_seen};
+ghost use Rattle.engine_core.specs.Wishes.{names_to_reinstall, names_to_go};
 ghost use Rattle.std.specs.Prelude.{◌≡◌, Ok, IfOk};
 ghost use Rattle.report_changes.specs.Report.{simulated_report};
 
+use crate::choosing::{Selection, a_choice_exists, choose};
 use crate::making::make_change;
+use crate::wishes::{
+    names_to_go, names_to_reinstall, names_to_upgrade, operand_texts, unknown_operand,
+};
 use arrivals::packages_after_a_change_rest_on_later_reads;
 use base_core::{Text, Tree, Words};
 use change_inputs::{Loaded, Refused, inputs_rest_on_their_own_reads};
 use change_laws::{a_change_has_a_first_clash_or_none, what_is_read_of_a_root_stands_there};
-use change_preparation::{
-    Selection, a_choice_exists, choose, names_to_go, names_to_reinstall, names_to_upgrade,
-    operand_texts, unknown_operand,
-};
 use command_core::Command;
 use package_changes::Changes;
 use pool_core::Sealed;

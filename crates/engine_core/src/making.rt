@@ -6,23 +6,24 @@ ghost use Rattle.change_inputs.specs.Inputs.{Inputs};
 ghost use Rattle.change_outcome.specs.MembersAfter.{MemberFound};
 ghost use Rattle.arrivals.specs.Arrivals.{CanBeMembers, arrivals_seen};
 ghost use Rattle.db_core.specs.Seen.{packages_of};
-ghost use Rattle.change_preparation.specs.Finishing.{AreArrivals, IsArrived, IsRootRead, inputs_arrived, replacement_arrived};
+ghost use Rattle.engine_core.specs.Finishing.{AreArrivals, IsArrived, IsRootRead, inputs_arrived, replacement_arrived};
 ghost use Rattle.engine_core.specs.Making.{IsMembersRun};
 ghost use Rattle.engine_core.specs.Runs.{IsRunCounted, IsSelectedRun};
-ghost use Rattle.change_preparation.specs.Selecting.{pool_by};
-ghost use Rattle.change_preparation.specs.SelectionSeen.{HasItsDatabase, inputs_of_selection, replacement_seen, selection_seen};
-ghost use Rattle.change_preparation.specs.Wishes.{wishes_of};
+ghost use Rattle.engine_core.specs.Selecting.{pool_by};
+ghost use Rattle.engine_core.specs.SelectionSeen.{HasItsDatabase, inputs_of_selection, replacement_seen, selection_seen};
+ghost use Rattle.engine_core.specs.Wishes.{wishes_of};
 ghost use Rattle.make_info.specs.Reads.{Reads};
 ghost use Rattle.std.specs.Prelude.{◌≡◌, List, false, Ok};
 
 use crate::carrying::finish_change;
+use crate::choosing::Selection;
+use crate::planning::{Arrived, Planned, refused_plan};
 use arrivals::{
     Arrivals, members_of_change, packages_that_were_read_are_those_found, read_arrivals,
 };
 use base_core::{Text, Tree, counts_of_calls_in_a_row_join};
 use change_inputs::Refused;
 use change_laws::a_change_has_a_first_clash_or_none;
-use change_preparation::{Arrived, Planned, Selection, refused_plan};
 use command_core::Command;
 use own_core::plan;
 use package_changes::PlacedNames;

@@ -4,8 +4,8 @@ use Rattle.base_core.specs.Files.{Files, IsWithin}
 use Rattle.change_inputs.specs.Inputs.{Inputs}
 use Rattle.change_outcome.specs.ChangeOutcome.{ChangeWishes, IsClashOfChange}
 use Rattle.command_core.specs.Command.{CommandLine}
-use Rattle.change_preparation.specs.Changed.{IsClashOfSelected, IsClashUnlessSimulated, Selected, selected_for}
-use Rattle.change_preparation.specs.Wishes.{wishes_of}
+use Rattle.engine_core.specs.Changed.{IsClashOfSelected, IsClashUnlessSimulated, Selected, selected_for}
+use Rattle.engine_core.specs.Wishes.{wishes_of}
 use Rattle.make_info.specs.Reads.{Reads}
 use Rattle.package_changes.specs.Changes.{Replacement}
 use Rattle.path_clashes.specs.Clash.{NamePair}

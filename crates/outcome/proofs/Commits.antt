@@ -13,7 +13,7 @@ use Rattle.make_info.specs.declared.fault.MakeFault.{MakeFault}
 use Rattle.make_info.specs.declared.fault.MakeFault.TheVariants.{FileMissing, FileBad, InfoBad, TooLarge, Disk, Memory}
 use Rattle.make_package.specs.Making.{made_package}
 use Rattle.change_outcome.specs.ChangeOutcome.{ChangeDone}
-use Rattle.change_preparation.specs.Changed.{change_of_command}
+use Rattle.engine_core.specs.Changed.{change_of_command}
 use Rattle.engine_core.specs.InfoTold.{info_told}
 use Rattle.report_core.specs.declared.refusal.Refusal.{Refusal}
 use Rattle.report_core.specs.declared.refusal.Refusal.TheVariants.{Reserved, ResultTooLarge}

@@ -7,8 +7,8 @@ use Rattle.std.proofs.lemmas.Bool.{false≢true}
 use Rattle.base_core.specs.Files.{Files, IsWithin}
 use Rattle.base_core.specs.Listed.{IsNamesOf}
 use Rattle.base_core.specs.declared.cause.Cause.{Cause}
-use Rattle.change_preparation.specs.Choice.{IsChoiceFrom}
-use Rattle.change_preparation.specs.Selecting.{pool_for}
+use Rattle.engine_core.specs.Choice.{IsChoiceFrom}
+use Rattle.engine_core.specs.Selecting.{pool_for}
 use Rattle.make_info.specs.Reads.{Reads}
 use Rattle.candidate_core.specs.Rank.{SealedPool}
 use Rattle.report_core.specs.declared.refusal.Refusal.{Refusal}

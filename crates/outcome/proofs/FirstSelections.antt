@@ -12,10 +12,10 @@ use Rattle.change_outcome.specs.ChangeOutcome.{ChangeDone, ChangeWishes, change_
 use Rattle.change_outcome.specs.ConfigurationLines.{configuration_lines}
 use Rattle.change_outcome.specs.Triggers.{trigger_lines}
 use Rattle.command_core.specs.Command.{CommandLine}
-use Rattle.change_preparation.specs.Changed.{IsClashFor, Selected, change_of_selected, change_of_command, selected_by, selected_of_inputs, simulated_change}
-use Rattle.change_preparation.specs.Choice.{IsChoiceFrom}
-use Rattle.change_preparation.specs.Selecting.{pool_by, pool_for, replacement_of_choice}
-use Rattle.change_preparation.specs.Wishes.{names_to_reinstall, names_to_upgrade, unknown_place, unless_place, wishes_of}
+use Rattle.engine_core.specs.Changed.{IsClashFor, Selected, change_of_selected, change_of_command, selected_by, selected_of_inputs, simulated_change}
+use Rattle.engine_core.specs.Choice.{IsChoiceFrom}
+use Rattle.engine_core.specs.Selecting.{pool_by, pool_for, replacement_of_choice}
+use Rattle.engine_core.specs.Wishes.{names_to_reinstall, names_to_upgrade, unknown_place, unless_place, wishes_of}
 use Rattle.make_info.specs.Reads.{Reads}
 use Rattle.package_changes.specs.Changes.{Replacement, changes_of}
 use Rattle.report_changes.specs.Report.{selected_sum_line, simulated_report, stay_lines}

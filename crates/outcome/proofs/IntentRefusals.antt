@@ -16,7 +16,7 @@ use Rattle.change_outcome.specs.ChangeOutcome.{ChangeDone}
 use Rattle.command_core.specs.Command.{CommandLine}
 use Rattle.command_core.specs.declared.command.Applet.{Applet}
 use Rattle.command_core.specs.declared.command.Applet.TheVariants.{Demo, Mkndx, Mkpkg}
-use Rattle.change_preparation.specs.Changed.{Selected, change_of_selected}
+use Rattle.engine_core.specs.Changed.{Selected, change_of_selected}
 use Rattle.engine_core.specs.InfoTold.{info_told}
 use Rattle.installed_info.specs.Info.{info_of}
 use Rattle.installed_info.specs.Refusals.{IsOfAnOperand}

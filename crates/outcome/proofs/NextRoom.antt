@@ -7,8 +7,8 @@ use Rattle.change_inputs.specs.Inputs.{Inputs}
 use Rattle.change_outcome.specs.ChangeOutcome.{ChangeDone, ChangeWishes, IsClashOfChange, change_or_refusal}
 use Rattle.command_core.specs.Command.{CommandLine}
 use Rattle.command_core.specs.declared.command.Applet.{Applet}
-use Rattle.change_preparation.specs.Changed.{IsClashFor, IsClashOfSelected, IsClashUnlessSimulated, Selected, change_of_selected, change_of_command, selected_for, simulated_change}
-use Rattle.change_preparation.specs.Wishes.{wishes_of}
+use Rattle.engine_core.specs.Changed.{IsClashFor, IsClashOfSelected, IsClashUnlessSimulated, Selected, change_of_selected, change_of_command, selected_for, simulated_change}
+use Rattle.engine_core.specs.Wishes.{wishes_of}
 use Rattle.journal_core.specs.Recovery.{Intent, intent_at, intent_name, is_staged, recovered_files, recovered_files_by}
 use Rattle.journal_core.specs.Staged.{HasRoomToReplay, HasRoomToStage, unstaged_files}
 use Rattle.make_info.specs.Reads.{Reads}

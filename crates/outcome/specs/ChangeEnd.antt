@@ -7,8 +7,8 @@ use Rattle.base_core.specs.Files.{Files}
 use Rattle.base_core.specs.declared.cause.Cause.{Cause}
 use Rattle.change_outcome.specs.ChangeOutcome.{ChangeDone}
 use Rattle.command_core.specs.Command.{CommandLine}
-use Rattle.change_preparation.specs.Changed.{IsClashFor, Selected, change_of_selected, selected_for}
-use Rattle.change_preparation.specs.Selecting.{pool_for}
+use Rattle.engine_core.specs.Changed.{IsClashFor, Selected, change_of_selected, selected_for}
+use Rattle.engine_core.specs.Selecting.{pool_for}
 use Rattle.package_changes.specs.Changes.{changes_of}
 use Rattle.package_changes.specs.Placed.{candidates_at}
 use Rattle.path_clashes.specs.Clash.{NamePair}

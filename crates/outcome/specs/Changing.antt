@@ -5,7 +5,7 @@ use Rattle.std.specs.Prelude.{ℕ, List, Option, Result, Ok, Err}
 use Rattle.base_core.specs.Files.{Files}
 use Rattle.change_outcome.specs.ChangeOutcome.{ChangeDone}
 use Rattle.command_core.specs.Command.{CommandLine}
-use Rattle.change_preparation.specs.Changed.{change_of_command}
+use Rattle.engine_core.specs.Changed.{change_of_command}
 use Rattle.make_info.specs.Reads.{Reads}
 use Rattle.path_clashes.specs.Clash.{NamePair}
 use Rattle.report_core.specs.declared.refusal.Refusal.{Refusal}

@@ -14,7 +14,7 @@ use Rattle.command_core.specs.Command.{CommandLine}
 use Rattle.command_core.specs.declared.command.Applet.{Applet}
 use Rattle.command_core.specs.declared.command.Applet.TheVariants.{Adbdump, Demo, Info, Mkndx, Mkpkg, Verify, Version}
 use Rattle.engine_core.specs.ChangeRun.{IsSpoiledPackage, coming_in}
-use Rattle.change_preparation.specs.Changed.{selected_for}
+use Rattle.engine_core.specs.Changed.{selected_for}
 use Rattle.outcome.specs.Changing.{change}
 use Rattle.outcome.specs.Dump.{adbdump}
 use Rattle.outcome.specs.Effect.{Changes, does_recover, effect_of}

@@ -8,9 +8,9 @@ use Rattle.command_core.specs.Command.{CommandLine}
 use Rattle.command_core.specs.declared.command.Applet.{Applet}
 use Rattle.command_core.specs.declared.command.Applet.TheVariants.{Mkpkg}
 use Rattle.command_core.specs.declared.values.TheConstants.{FILES}
-use Rattle.change_preparation.specs.Changed.{IsClashFor, IsClashForOver}
-use Rattle.change_preparation.specs.Choice.{IsChoiceFrom}
-use Rattle.change_preparation.specs.Selecting.{pool_for}
+use Rattle.engine_core.specs.Changed.{IsClashFor, IsClashForOver}
+use Rattle.engine_core.specs.Choice.{IsChoiceFrom}
+use Rattle.engine_core.specs.Selecting.{pool_for}
 use Rattle.make_info.specs.Reads.{Reads}
 use Rattle.package_files.specs.Sources.{AreNamesFor, values_with}
 use Rattle.path_clashes.specs.Clash.{NamePair}

@@ -7,9 +7,9 @@ use Rattle.command_core.specs.Command.{CommandLine}
 use Rattle.command_core.specs.declared.command.Applet.{Applet}
 use Rattle.command_core.specs.declared.command.Applet.TheVariants.{Del, Fix, Upgrade}
 use Rattle.command_core.specs.declared.operands.Operand.{Operand}
-use Rattle.change_preparation.specs.Changed.{selected_by, selected_of_inputs}
-use Rattle.change_preparation.specs.Selecting.{pool_by}
-use Rattle.change_preparation.specs.Wishes.{first_unknown, is_installed_name, is_known_name, names_to_upgrade, unknown_place, unless_place}
+use Rattle.engine_core.specs.Changed.{selected_by, selected_of_inputs}
+use Rattle.engine_core.specs.Selecting.{pool_by}
+use Rattle.engine_core.specs.Wishes.{first_unknown, is_installed_name, is_known_name, names_to_upgrade, unknown_place, unless_place}
 use Rattle.candidate_core.specs.Rank.{SealedPool}
 use Rattle.report_core.specs.declared.refusal.Refusal.{Refusal}
 use Rattle.report_core.specs.declared.refusal.Refusal.TheVariants.{NotInstalled, Unsatisfied}

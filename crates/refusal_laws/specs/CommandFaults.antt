@@ -9,9 +9,9 @@ use Rattle.command_core.specs.declared.command.Applet.{Applet}
 use Rattle.command_core.specs.declared.command.Applet.TheVariants.{Del, Fix, Upgrade}
 use Rattle.command_core.specs.declared.operands.Operand.{Operand}
 use Rattle.dep_core.specs.World.{has_name}
-use Rattle.change_preparation.specs.Changed.{Selected, selected_for}
-use Rattle.change_preparation.specs.Selecting.{pool_by}
-use Rattle.change_preparation.specs.Wishes.{is_installed_name, wishes_of}
+use Rattle.engine_core.specs.Changed.{Selected, selected_for}
+use Rattle.engine_core.specs.Selecting.{pool_by}
+use Rattle.engine_core.specs.Wishes.{is_installed_name, wishes_of}
 use Rattle.make_info.specs.Reads.{Reads}
 use Rattle.candidate_core.specs.Rank.{SealedPool}
 use Rattle.report_core.specs.declared.refusal.Refusal.{Refusal}

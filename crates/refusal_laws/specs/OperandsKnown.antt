@@ -5,7 +5,7 @@ use Rattle.adb_fields.specs.FirstPair.{IsIn}
 use Rattle.change_inputs.specs.Inputs.{Inputs}
 use Rattle.command_core.specs.Command.{CommandLine}
 use Rattle.command_core.specs.declared.operands.Operand.{Operand}
-use Rattle.change_preparation.specs.Selecting.{pool_by}
+use Rattle.engine_core.specs.Selecting.{pool_by}
 use Rattle.candidate_core.specs.Rank.{SealedPool}
 use Rattle.report_core.specs.declared.refusal.Refusal.{Refusal}
 use Rattle.report_core.specs.declared.refusal.Refusal.TheVariants.{NotInstalled, Unsatisfied}

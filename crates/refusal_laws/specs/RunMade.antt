@@ -5,9 +5,9 @@ use Rattle.base_core.specs.Files.{Files}
 use Rattle.change_outcome.specs.ChangeOutcome.{change_members, file_change}
 use Rattle.change_outcome.specs.MembersAfter.{MemberFound}
 use Rattle.command_core.specs.Command.{CommandLine}
-use Rattle.change_preparation.specs.Changed.{Selected, selected_for}
-use Rattle.change_preparation.specs.Selecting.{pool_for}
-use Rattle.change_preparation.specs.Wishes.{wishes_of}
+use Rattle.engine_core.specs.Changed.{Selected, selected_for}
+use Rattle.engine_core.specs.Selecting.{pool_for}
+use Rattle.engine_core.specs.Wishes.{wishes_of}
 use Rattle.outcome.specs.Commands.{reads_in}
 use Rattle.package_changes.specs.Placed.{candidates_at}
 use Rattle.candidate_core.specs.Rank.{SealedPool}

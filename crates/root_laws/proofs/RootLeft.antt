@@ -13,9 +13,9 @@ use Rattle.change_laws.proofs.Made.{and_then_ok, made}
 use Rattle.change_outcome.specs.ChangeOutcome.{ChangeDone, change_or_refusal, file_change, new_records}
 use Rattle.change_outcome.specs.MembersAfter.{contents_found, members_found}
 use Rattle.command_core.specs.Command.{CommandLine}
-use Rattle.change_preparation.specs.Changed.{Selected, change_of_selected, change_of_command, selected_by, selected_for, selected_of_inputs, simulated_change}
-use Rattle.change_preparation.specs.Selecting.{pool_by}
-use Rattle.change_preparation.specs.Wishes.{unknown_place, unless_place, wishes_of}
+use Rattle.engine_core.specs.Changed.{Selected, change_of_selected, change_of_command, selected_by, selected_for, selected_of_inputs, simulated_change}
+use Rattle.engine_core.specs.Selecting.{pool_by}
+use Rattle.engine_core.specs.Wishes.{unknown_place, unless_place, wishes_of}
 use Rattle.make_info.specs.Reads.{Reads}
 use Rattle.path_clashes.specs.Clash.{NamePair}
 use Rattle.candidate_core.specs.Rank.{SealedPool}

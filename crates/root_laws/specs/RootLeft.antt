@@ -12,8 +12,8 @@ use Rattle.command_core.specs.Command.{CommandLine}
 use Rattle.db_core.specs.Members.{Member}
 use Rattle.db_write.specs.NewDatabase.{packages_after}
 use Rattle.dep_core.specs.World.{world_text}
-use Rattle.change_preparation.specs.Changed.{Selected, selected_for}
-use Rattle.change_preparation.specs.Wishes.{wishes_of}
+use Rattle.engine_core.specs.Changed.{Selected, selected_for}
+use Rattle.engine_core.specs.Wishes.{wishes_of}
 use Rattle.file_owners.specs.Owners.{owned_of}
 use Rattle.make_info.specs.Reads.{Reads}
 use Rattle.root_names.specs.RootNames.{database_name, world_name}

@@ -7,7 +7,7 @@ ghost use Rattle.base_core.specs.Files.{AreNamedFiles, Files};
 ghost use Rattle.change_inputs.specs.Inputs.{Inputs, inputs_of};
 ghost use Rattle.change_outcome.specs.ChangeOutcome.{ChangeDone};
 ghost use Rattle.command_core.specs.Command.{CommandLine};
-ghost use Rattle.change_preparation.specs.Changed.{change_of_command};
+ghost use Rattle.engine_core.specs.Changed.{change_of_command};
 ghost use Rattle.make_info.specs.Reads.{Reads};
 ghost use Rattle.path_clashes.specs.Clash.{NamePair};
 ghost use Rattle.report_core.specs.declared.refusal.Refusal.{Refusal};

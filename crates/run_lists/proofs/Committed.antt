@@ -15,8 +15,8 @@ use Rattle.change_outcome.specs.ChangeOutcome.{ChangeDone, ChangeWishes, change_
 use Rattle.command_core.specs.Command.{CommandLine}
 use Rattle.command_core.specs.declared.command.Applet.{Applet}
 use Rattle.command_core.specs.declared.command.Applet.TheVariants.{Demo, Mkndx, Mkpkg}
-use Rattle.change_preparation.specs.Changed.{Selected, change_of_selected, change_of_command, selected_for, simulated_change}
-use Rattle.change_preparation.specs.Wishes.{wishes_of}
+use Rattle.engine_core.specs.Changed.{Selected, change_of_selected, change_of_command, selected_for, simulated_change}
+use Rattle.engine_core.specs.Wishes.{wishes_of}
 use Rattle.journal_core.specs.Recovery.{Intent, intent_at, intent_in, intent_name, intent_of, read_intent, recovered_files_by}
 use Rattle.journal_core.specs.Replacing.{replaced_files, scratch_of}
 use Rattle.journal_core.specs.Staged.{unstaged_files}

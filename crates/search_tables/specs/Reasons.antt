@@ -2,7 +2,7 @@
 -- satisfying selection holds whole.
 -- The rule stands in `docs/selection.md`, "How the search works"; the words in `docs/names.md`,
 -- "Choosing packages". Serves the contracts of `src/frame.rt`, and in `solve_core` those
--- of `src/search.rt` of `solve_core`.
+-- of `src/search.rt`.
 use Rattle.std.specs.Prelude.{◌≡◌, ℕ, true, List, [], ◌∷◌, ◌++◌, Some, None}
 use Rattle.candidate_core.specs.Candidates.{Need}
 use Rattle.candidate_core.specs.Rank.{SealedPool, is_better, is_eligible_at, meets_at}

@@ -11,10 +11,10 @@ use Rattle.change_outcome.specs.ChangeOutcome.{ChangeDone, ChangeWishes, change_
 use Rattle.change_outcome.specs.ConfigurationLines.{configuration_lines}
 use Rattle.change_outcome.specs.Triggers.{trigger_lines}
 use Rattle.command_core.specs.Command.{CommandLine}
-use Rattle.change_preparation.specs.Changed.{Selected, change_of_selected, change_of_command, selected_for, simulated_change}
-use Rattle.change_preparation.specs.Choice.{IsChoiceFrom}
-use Rattle.change_preparation.specs.Selecting.{pool_for}
-use Rattle.change_preparation.specs.Wishes.{wishes_of}
+use Rattle.engine_core.specs.Changed.{Selected, change_of_selected, change_of_command, selected_for, simulated_change}
+use Rattle.engine_core.specs.Choice.{IsChoiceFrom}
+use Rattle.engine_core.specs.Selecting.{pool_for}
+use Rattle.engine_core.specs.Wishes.{wishes_of}
 use Rattle.make_info.specs.Reads.{Reads}
 use Rattle.package_changes.specs.Changes.{Replacement, changes_of}
 use Rattle.report_changes.specs.Report.{candidate_size, simulated_report, stay_lines}

@@ -11,11 +11,11 @@ use Rattle.root_names.specs.RootNames.{text_database_name}
 use Rattle.stage_files.specs.Carried.{IsCarriedTo}
 use Rattle.stage_files.specs.Spoiled.{HasSpoiledFile}
 use Rattle.stage_files.specs.declared.writes.StagedWrite.{StagedWrite}
-use Rattle.change_preparation.specs.Carrying.{ready_change}
+use Rattle.engine_core.specs.Carrying.{ready_change}
 use Rattle.engine_core.specs.ChangeRun.{ComesTo}
-use Rattle.change_preparation.specs.Finishing.{inputs_arrived, replacement_arrived}
-use Rattle.change_preparation.specs.Wishes.{wishes_of}
-use Rattle.change_preparation.specs.Writing.{package_at, write_name}
+use Rattle.engine_core.specs.Finishing.{inputs_arrived, replacement_arrived}
+use Rattle.engine_core.specs.Wishes.{wishes_of}
+use Rattle.engine_core.specs.Writing.{package_at, write_name}
 use Rattle.engine_core.proofs.Carries.{IsReady, bad_comes, commits_by, disk_comes, done_comes, few_writes, file_comes, fits_by, idle_comes, large_comes, may_be_changed, once_reserved, proper_shown, text_once, text_reserved, where_shown, within_length, written_once}
 use Rattle.engine_core.proofs.SelectedRuns.{with_error}
 use Rattle.engine_core.proofs.Sources.{FilesAreRead}

@@ -2,7 +2,7 @@ use Rattle.std.proofs.Common.{◌∙◌, ℕ, List, Ok, sym, subst}
 use Rattle.change_inputs.specs.Seen.{inputs_seen}
 use Rattle.change_inputs.specs.declared.root.Refused.TheVariants.{Memory}
 use Rattle.engine_core.specs.Runs.{IsRunBy, IsSelectedRun}
-use Rattle.change_preparation.specs.Selecting.{replacement_of_choice}
+use Rattle.engine_core.specs.Selecting.{replacement_of_choice}
 use Rattle.engine_core.proofs.Early.{HaveClash, nothing_read}
 use Rattle.engine_core.proofs.Pools.{pool_world}
 use Rattle.engine_core.proofs.SelectedRuns.{chosen_run, run_failure, unchosen_run, unknown_run, with_error}

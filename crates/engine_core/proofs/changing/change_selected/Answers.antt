@@ -2,7 +2,7 @@ use Rattle.change_inputs.specs.declared.root.Refused.TheVariants.{Memory}
 use Rattle.std.proofs.Common.{◌∙◌, sym, ap, Ok}
 use Rattle.command_core.specs.declared.command.Flags.{Flags}
 use Rattle.engine_core.specs.Runs.{IsSelectedRun}
-use Rattle.change_preparation.specs.SelectionSeen.{selection_seen}
+use Rattle.engine_core.specs.SelectionSeen.{selection_seen}
 use Rattle.engine_core.proofs.Early.{HaveClash, nothing_read, selected_failure}
 use Rattle.engine_core.proofs.SelectedRuns.{simulated_run, with_error}
 use Rattle.engine_core.proofs.changing.change_selected.Goals as goal

@@ -1,7 +1,7 @@
 use Rattle.change_inputs.specs.declared.root.Refused.TheVariants.{Memory}
 use Rattle.engine_core.specs.Making.{IsFoundRun}
-use Rattle.change_preparation.specs.SelectionSeen.{inputs_of_selection, replacement_seen}
-use Rattle.change_preparation.specs.Wishes.{wishes_of}
+use Rattle.engine_core.specs.SelectionSeen.{inputs_of_selection, replacement_seen}
+use Rattle.engine_core.specs.Wishes.{wishes_of}
 use Rattle.engine_core.proofs.Early.{HaveClash, nothing_read}
 use Rattle.engine_core.proofs.Found.{found_failure}
 use Rattle.engine_core.proofs.SelectedRuns.{with_error}

@@ -1,7 +1,7 @@
 use Rattle.change_inputs.specs.declared.root.Refused.TheVariants.{Memory}
 use Rattle.std.specs.Prelude.{Ok}
 use Rattle.engine_core.specs.Runs.{IsSelectedRun}
-use Rattle.change_preparation.specs.SelectionSeen.{inputs_of_selection, selection_seen}
+use Rattle.engine_core.specs.SelectionSeen.{inputs_of_selection, selection_seen}
 use Rattle.engine_core.proofs.Early.{HaveClash, nothing_read, selected_failure}
 use Rattle.engine_core.proofs.Made.{arrived, arrived_run, few_candidates, unarrived}
 use Rattle.engine_core.proofs.SelectedRuns.{with_error}

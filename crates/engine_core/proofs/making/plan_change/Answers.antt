@@ -3,7 +3,7 @@ use Rattle.base_core.specs.Calls.{IfObservable}
 use Rattle.base_core.specs.Tree.{files_of}
 use Rattle.command_core.specs.declared.command.Flags.{Flags}
 use Rattle.own_core.specs.Planned.{IsPlanOf, IsRefusalOf, MayBeRefusalOf, change_by}
-use Rattle.change_preparation.specs.Wishes.{wishes_of}
+use Rattle.engine_core.specs.Wishes.{wishes_of}
 use Rattle.engine_core.proofs.Counted.{counted_behind}
 use Rattle.engine_core.proofs.Early.{HaveClash}
 use Rattle.engine_core.proofs.Found.{planned_now, planned_run, unplanned_run}

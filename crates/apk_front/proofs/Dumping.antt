@@ -1,0 +1,119 @@
+-- The text of a container, by the blocks that are read of it.
+use Rattle.std.proofs.Common.{◌≡◌, ℕ, true, false, if◌then◌else◌, List, [], ◌∷◌, Option, Some, None, is_some, Result, Ok, Err, refl, sym, ap, subst, ◌∙◌, ◌==◌, length, suc, arith}
+use Rattle.std.specs.List.{slice_get}
+use Rattle.std.proofs.lemmas.Option.{none-some, same_Some}
+use Rattle.base_core.specs.declared.cause.Cause.{Cause}
+use Rattle.base_core.specs.Calls.{IfObservable}
+use Rattle.base_core.specs.Files.{Files, no_names}
+use Rattle.base_core.specs.Tree.{TreeState, files_of}
+use Rattle.adb_block.specs.Header.{header_of}
+use Rattle.adb_block.specs.Reading.{Reading, done, fault, more, reading_of}
+use Rattle.adb_block.specs.Standing.{Standing, start_of}
+use Rattle.adb_dump.specs.Dump.{dump_text}
+use Rattle.adb_tables.specs.Shaped.{adb_of, shaped_value, table_of}
+use Rattle.adb_schema.specs.Soundness.{root_value, schema_word}
+use Rattle.adb_tables.specs.declared.shaped.Shaped.{Shaped}
+use Rattle.adb_schema.specs.declared.read.ReadFault.{ReadFault}
+use Rattle.adb_schema.specs.declared.read.ReadFault.TheVariants.{Bad}
+use Rattle.adb_schema.specs.declared.read.TheConstants.{PACKAGE_WORD, INDEX_WORD, IDB_WORD, INTENT_WORD}
+use Rattle.adb_tables.specs.declared.tables.Which.{Which}
+use Rattle.adb_tables.specs.declared.tables.Which.TheVariants.{Package, Index, Idb, Intent}
+use Rattle.adb_view.specs.Adb.{payload_of}
+use Rattle.std.specs.Option.{option_map, option_or}
+use Rattle.command_core.specs.Named.{operand_file}
+use Rattle.make_info.specs.Reads.{Reads}
+use Rattle.outcome.specs.Commands.{reads_in}
+use Rattle.outcome.specs.Dump.{adbdump, dump_outcome, text_outcome, dump_of, dump_with_root, dump_of_blocks, dump_with_schema, form_fault, framing_fault, or_text}
+use Rattle.outcome.specs.Outcome.{just_refusal, just_report}
+use Rattle.pkg_core.specs.Whole.{root_of_schema}
+use Rattle.report_core.specs.declared.refusal.Refusal.TheVariants.{FileMissing, FileBad}
+use Rattle.command_core.specs.declared.operands.Operand.{Operand}
+use Rattle.apk_front.specs.Containers.{IsDumpFault, IsShapedFirst, first_form_fault}
+use Rattle.apk_front.specs.Verdicts.{as_outcome}
+use Rattle.apk_front.specs.declared.answer.Verdict.{Verdict}
+use Rattle.apk_front.proofs.Operands.{file_named}
+
+-- ---- blocks
+
+pub text_of_shaped : (which : Which) (r later : Reading) (shaped : Shaped) (text : List ℕ) → IsShapedFirst which (payload_of (adb_of shaped)) r later → None ≡ framing_fault later → table_of shaped ≡ which → text ≡ dump_text (table_of shaped) (shaped_value shaped) → dump_of_blocks which r ≡ Ok text
+text_of_shaped which done later shaped text first framed table is = absurd first
+text_of_shaped which (fault c) later shaped text first framed table is = absurd first
+text_of_shaped which (more b at r) later shaped text first framed table is =
+    let value : dump_text (table_of shaped) (shaped_value shaped) ≡ dump_text which (root_value which b.payload) =
+    ap (λ w. dump_text w (root_value w (payload_of (adb_of shaped)))) table ∙ ap (λ p. dump_text which (root_value which p)) first.0 in
+    let tested : option_or (form_fault which b.payload) (framing_fault r) ≡ None =
+    ap (λ f. option_or f (framing_fault r)) first.1 ∙ (ap framing_fault first.2 ∙ sym framed) in
+    ap (λ f. or_text f (dump_text which (root_value which b.payload))) tested ∙ ap Ok (sym (is ∙ value))
+
+pub first_block_bad : (which : Which) (r : Reading) (c : Cause) → first_form_fault which r ≡ Some c → dump_of_blocks which r ≡ Err c
+first_block_bad which done c h = absurd (none-some c h)
+first_block_bad which (fault d) c h = ap (λ f. or_text f (dump_text which (root_value which []))) h
+first_block_bad which (more b at r) c h = ap (λ f. or_text (option_or f (framing_fault r)) (dump_text which (root_value which b.payload))) h
+
+pub later_block_bad : (which : Which) (r later : Reading) (payload : List ℕ) (c : Cause) → IsShapedFirst which payload r later → Some c ≡ framing_fault later → dump_of_blocks which r ≡ Err c
+later_block_bad which done later payload c first framed = absurd first
+later_block_bad which (fault d) later payload c first framed = absurd first
+later_block_bad which (more b at r) later payload c first framed =
+    let tested : option_or (form_fault which b.payload) (framing_fault r) ≡ Some c =
+    ap (λ f. option_or f (framing_fault r)) first.1 ∙ (ap framing_fault first.2 ∙ sym framed) in
+    ap (λ f. or_text f (dump_text which (root_value which b.payload))) tested
+
+-- ---- the schema
+
+pub root_known : (schema : ℕ) (which : Which) → root_of_schema schema ≡ Some which → is_some (schema_word which) ≡ true
+root_known schema which h =
+    elim (schema == PACKAGE_WORD) as (λ b. (if b then Some Package else if schema == INDEX_WORD then Some Index else if schema == IDB_WORD then Some Idb else if schema == INTENT_WORD then Some Intent else None) ≡ Some which → is_some (schema_word which) ≡ true) [
+      | true ↦ λ (e : Some Package ≡ Some which). known Package e refl
+      | false ↦ elim (schema == INDEX_WORD) as (λ b. (if b then Some Index else if schema == IDB_WORD then Some Idb else if schema == INTENT_WORD then Some Intent else None) ≡ Some which → is_some (schema_word which) ≡ true) [
+        | true ↦ λ (e : Some Index ≡ Some which). known Index e refl
+        | false ↦ elim (schema == IDB_WORD) as (λ b. (if b then Some Idb else if schema == INTENT_WORD then Some Intent else None) ≡ Some which → is_some (schema_word which) ≡ true) [
+          | true ↦ λ (e : Some Idb ≡ Some which). known Idb e refl
+          | false ↦ elim (schema == INTENT_WORD) as (λ b. (if b then Some Intent else None) ≡ Some which → is_some (schema_word which) ≡ true) [
+            | true ↦ λ (e : Some Intent ≡ Some which). known Intent e refl
+            | false ↦ λ (e : None ≡ Some which). absurd (none-some which e)
+          ]
+        ]
+      ]
+    ] h
+  where
+    known : (w : Which) → Some w ≡ Some which → is_some (schema_word w) ≡ true → is_some (schema_word which) ≡ true
+    known w e k = subst (λ x. is_some (schema_word x) ≡ true) (same_Some w which e) k
+
+pub dump_is : (file : List ℕ) (schema : ℕ) (s : Standing) (which : Which) (answer : Result (List ℕ) Cause) → header_of file ≡ Ok schema → s ≡ start_of schema file → root_of_schema schema ≡ Some which → dump_of_blocks which (reading_of s) ≡ answer → dump_of file ≡ answer
+unfolding dump_of
+dump_is file schema s which answer h at root is =
+    ap (dump_with_schema file) h ∙ (ap (dump_with_root schema (reading_of (start_of schema file))) root ∙ (ap (λ t. dump_of_blocks which (reading_of t)) (sym at) ∙ is))
+
+-- ---- the operand
+
+pub one_of : (os : List Operand) (o : Operand) → length os ≡ 1 → slice_get os 0 ≡ Some o → os ≡ o ∷ []
+one_of [] o n x = absurd (none-some o x)
+one_of (p ∷ []) o n x = ap (λ q. q ∷ []) (same_Some p o x)
+one_of (p ∷ (q ∷ os)) o n x = absurd (let two : suc (suc (length os)) ≡ 1 = n in omega arith)
+
+pub dump_found : (old : List TreeState) (os : List Operand) (o : Operand) (name : List ℕ) (verdict : Verdict) (bytes : Option (List ℕ)) → length os ≡ 1 → slice_get os 0 ≡ Some o → option_map operand_file (slice_get os 0) ≡ Some name
+    → ((files : Files) → as_outcome files verdict ≡ dump_outcome files o.place bytes) → IfObservable old (λ v. bytes ≡ files_of v name)
+    → IfObservable old (λ v. as_outcome (files_of v) verdict ≡ adbdump (reads_in (files_of v)) (files_of v) os)
+dump_found [] os o name verdict bytes n x named is found = tt
+dump_found (v ∷ old) os o name verdict bytes n x named is found =
+    is (files_of v)
+    ∙ ap (dump_outcome (files_of v) o.place) (found ∙ ap (files_of v) (file_named os 0 o name x named))
+    ∙ ap (adbdump (reads_in (files_of v)) (files_of v)) (sym (one_of os o n x))
+
+pub dump_read : (os : List Operand) (o : Operand) (verdict : Verdict) (bytes : Option (List ℕ)) → length os ≡ 1 → slice_get os 0 ≡ Some o
+    → ((files : Files) → as_outcome files verdict ≡ dump_outcome files o.place bytes)
+    → (read : Reads) × (as_outcome no_names verdict ≡ adbdump read no_names os)
+dump_read os o verdict bytes n x is = (λ k name. bytes, is no_names ∙ ap (adbdump (λ k name. bytes) no_names) (sym (one_of os o n x)))
+
+-- ---- what was found
+
+pub dump_missing : (place : ℕ) (bytes : Option (List ℕ)) (verdict : Verdict) → bytes ≡ None → ((files : Files) → as_outcome files verdict ≡ just_refusal files (FileMissing place)) → (files : Files) → as_outcome files verdict ≡ dump_outcome files place bytes
+dump_missing place bytes verdict is same_outcome files = same_outcome files ∙ ap (dump_outcome files place) (sym is)
+
+pub dump_good : (place : ℕ) (bytes : Option (List ℕ)) (file text : List ℕ) (verdict : Verdict) → bytes ≡ Some file → dump_of file ≡ Ok text → ((files : Files) → as_outcome files verdict ≡ just_report files text) → (files : Files) → as_outcome files verdict ≡ dump_outcome files place bytes
+dump_good place bytes file text verdict is good same_outcome files = same_outcome files ∙ (ap (text_outcome files place) (sym good) ∙ ap (dump_outcome files place) (sym is))
+
+pub dump_bad : (place : ℕ) (bytes : Option (List ℕ)) (file view : List ℕ) (p q : Cause) (why : ReadFault) (verdict : Verdict) → bytes ≡ Some file → view ≡ file → p ≡ q → why ≡ Bad q → IsDumpFault why (dump_of view) → ((files : Files) → as_outcome files verdict ≡ just_refusal files (FileBad place p)) → (files : Files) → as_outcome files verdict ≡ dump_outcome files place bytes
+dump_bad place bytes file view p q why verdict is at same bad of same_outcome files =
+    let cause : dump_of view ≡ Err q = subst (λ (f : ReadFault). IsDumpFault f (dump_of view)) bad of in
+    same_outcome files ∙ (ap (λ c. just_refusal files (FileBad place c)) same ∙ (ap (text_outcome files place) (sym cause ∙ ap dump_of at) ∙ ap (dump_outcome files place) (sym is)))

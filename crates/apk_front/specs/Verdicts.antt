@@ -1,0 +1,50 @@
+-- What a run is judged to come to, and how that is printed. Serves the contracts of `judge` and
+-- `show`, of which `apk` is made; the rule stands in `docs/commands.md`, "Answers and statuses".
+use Rattle.std.specs.Prelude.{◌≡◌, ◌⊎◌, [], Option, Some, None, Result, Ok, Err}
+use Rattle.base_core.specs.Files.{Files}
+use Rattle.base_core.specs.Sink.{SinkChange, Gets, GetsSome, SinkFailed}
+use Rattle.base_core.specs.declared.tree.TreeFault.{TreeFault}
+use Rattle.base_core.specs.declared.tree.TreeFault.TheVariants.{Disk, Memory as NoMemory}
+use Rattle.outcome.specs.Outcome.{Outcome, outcome_of}
+use Rattle.report_core.specs.Texts.{refusal_line, tree_line, memory_line}
+use Rattle.report_core.specs.declared.refusal.Refusal.{Refusal}
+use Rattle.apk_front.specs.Answers.{DidNotFail, IsStated, IsOutFault, IsFault}
+use Rattle.apk_front.specs.declared.answer.Answer.{Answer}
+use Rattle.apk_front.specs.declared.answer.Answer.TheVariants.{Ok as Good, Refused, TreeFault as TreeFailed, OutFault, Memory}
+use Rattle.apk_front.specs.declared.answer.Verdict.{Verdict}
+
+-- a verdict as an outcome that writes nothing, and leaves these files
+abbrev pub as_outcome : Files → Verdict → Outcome
+as_outcome files verdict = outcome_of verdict.refusal verdict.report files
+
+-- the verdict's refusal and report are those of an outcome
+abbrev pub Reports : Verdict → Outcome → Type 0
+Reports verdict outcome =
+    record (as_outcome outcome.files verdict) { commits = outcome.commits } ≡ outcome
+
+-- the verdict's refusal and report are those of one of these outcomes
+abbrev pub ReportsOne : (Outcome → Type 0) → Verdict → Type 0
+ReportsOne IsOne verdict = (outcome : Outcome) × IsOne outcome × Reports verdict outcome
+
+-- the answer and the bytes that stand for an outcome: its own, or a sink's fault in its place
+abbrev pub IsPrinted : Outcome → Answer → SinkChange → SinkChange → Type 0
+IsPrinted outcome Good out err = IsStated outcome Good out err
+IsPrinted outcome (Refused refusal) out err = IsStated outcome (Refused refusal) out err
+IsPrinted outcome OutFault out err = IsOutFault outcome out err
+IsPrinted outcome TreeFailed out err = ⊥
+IsPrinted outcome Memory out err = ⊥
+
+-- the answer and the bytes of standard error behind a report: a refusal, if there is one, or a
+-- fault of that sink in its place
+abbrev pub IsRefusalPrinted : Option Refusal → Answer → SinkChange → Type 0
+IsRefusalPrinted None answer err = (answer ≡ Good) × Gets err [] × DidNotFail err
+IsRefusalPrinted (Some refusal) answer err =
+    ((answer ≡ Refused refusal) × Gets err (refusal_line refusal) × DidNotFail err)
+    ⊎ ((answer ≡ OutFault) × GetsSome err (refusal_line refusal) × SinkFailed err)
+
+-- the answer to what was judged, and the bytes of the two sinks
+abbrev pub IsShown : Result Verdict TreeFault → Answer → SinkChange → SinkChange → Type 0
+IsShown (Ok verdict) answer out err =
+    (files : Files) → IsPrinted (as_outcome files verdict) answer out err
+IsShown (Err Disk) answer out err = (answer ≡ TreeFailed) × IsFault tree_line out err
+IsShown (Err NoMemory) answer out err = (answer ≡ Memory) × IsFault memory_line out err

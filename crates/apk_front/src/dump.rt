@@ -1,0 +1,151 @@
+//! `adbdump`: a container is printed as text. The rules stand in `docs/commands.md`,
+//! "`adbdump FILE`" (which tests are made, and in which order), and `docs/formats.md`, "Dump text".
+ghost use Rattle.std.specs.Prelude.{◌≡◌, None, Ok, IsTrue, IfOk, IfErr, is_some, length};
+ghost use Rattle.std.specs.Result.{result_err};
+ghost use Rattle.adb_block.specs.Reading.{reading_of};
+ghost use Rattle.adb_tables.specs.Shaped.{adb_of, table_of};
+ghost use Rattle.adb_schema.specs.Soundness.{schema_word};
+ghost use Rattle.adb_view.specs.Adb.{payload_of};
+ghost use Rattle.apk_front.specs.Containers.{IsDumpFault, IsShapedFirst, first_form_fault};
+ghost use Rattle.apk_front.specs.Verdicts.{as_outcome};
+ghost use Rattle.base_core.specs.Calls.{IfObservable};
+ghost use Rattle.base_core.specs.Files.{Files, no_names};
+ghost use Rattle.base_core.specs.Read.{OnlyReads, bytes_in};
+ghost use Rattle.base_core.specs.Tree.{files_of};
+ghost use Rattle.command_core.specs.Named.{are_files};
+ghost use Rattle.make_info.specs.Reads.{Reads};
+ghost use Rattle.outcome.specs.Commands.{reads_in};
+ghost use Rattle.outcome.specs.Dump.{adbdump, dump_of, dump_of_blocks, dump_outcome, form_fault, framing_fault};
+ghost use Rattle.pkg_core.specs.Whole.{root_of_schema};
+
+use crate::answer::Verdict;
+use adb_block::Blocks;
+use adb_dump::dump;
+use adb_schema::{
+    IDB_WORD, INDEX_WORD, INTENT_WORD, PACKAGE_WORD, ReadFault, Shaped, Which, shape,
+};
+use adb_view::Adb;
+use base_core::{Cause, Text, Tree, TreeFault, read_all};
+use command_core::Operands;
+use report_core::Refusal;
+use std::alloc::{AllocError, Global};
+
+/// Prints the text of the file that the one operand names. Of a tree that shows its files it is
+/// that file's text (`found`), of each tree that of some bytes (`by_reads`).
+pub(crate) fn adbdump<T: Tree>(
+    alloc: Global,
+    operands: &Operands,
+    tree: &mut T,
+) -> Result<Verdict, TreeFault>
+    requires one { length operands.now ≡ 1 }
+    requires files { IsTrue (are_files operands.now) }
+    ensures found { IfOk result (λ verdict. IfObservable (T.history tree.old) (λ v.
+        as_outcome (files_of v) verdict
+        ≡ adbdump (reads_in (files_of v)) (files_of v) operands.now)) }
+    ensures by_reads { IfOk result (λ verdict. (read : Reads)
+        × (as_outcome no_names verdict ≡ adbdump read no_names operands.now)) }
+    // The tree is only read; a fault of it has its cause.
+    ensures tree { OnlyReads TreeFault.Disk (T.history tree.old) (T.history tree.new)
+        (T.counts tree.old) (T.counts tree.new) result }
+{
+    let place = operands.get(0).place;
+    let found = read_all(alloc, tree, operands.file(0))?;
+    let verdict = verdict_of(alloc, place, &found)?;
+    Ok(verdict)
+}
+
+// The text of the file that was found, or its refusal.
+fn verdict_of(alloc: Global, place: u32, found: &Option<Vec<u8>>) -> Result<Verdict, AllocError>
+    ensures { IfOk result (λ verdict. (files : Files)
+        → as_outcome files verdict ≡ dump_outcome files place (bytes_in found.now)) }
+{
+    let Some(bytes) = found else {
+        return Ok(Verdict::refused(alloc, Refusal::FileMissing { place }));
+    };
+    match text_of(alloc, bytes) {
+        Ok(text) => Ok(Verdict::reported(text)),
+        Err(ReadFault::Bad(cause)) => {
+            Ok(Verdict::refused(alloc, Refusal::FileBad { place, cause }))
+        }
+        Err(ReadFault::Memory) => Err(AllocError),
+    }
+}
+
+// The text of a container of any of the four schemas, or its first failed test.
+#[tactic(auto, unfolding(outcome::specs::Dump::dump_of), using(crate::proofs::Dumping::root_known, crate::proofs::Dumping::dump_is))]
+fn text_of(alloc: Global, bytes: &[u8]) -> Result<Text, ReadFault>
+    ensures ok { IfOk result (λ text. dump_of bytes.now ≡ Ok text) }
+    ensures bad { IfErr result (λ fault. IsDumpFault fault (dump_of bytes.now)) }
+{
+    let mut blocks = Blocks::new(bytes)?;
+    let found = blocks.schema();
+    match root_of_schema(found) {
+        Some(which) => text_of_blocks(alloc, &mut blocks, which),
+        None => Err(ReadFault::Bad(Cause::WrongSchema { found })),
+    }
+}
+
+// The table at the root of a container with this schema (`docs/formats.md`, "Schemas").
+fn root_of_schema(schema: u32) -> Option<Which>
+    ensures { result ≡ root_of_schema schema }
+{
+    match schema {
+        PACKAGE_WORD => Some(Which::Package),
+        INDEX_WORD => Some(Which::Index),
+        IDB_WORD => Some(Which::Idb),
+        INTENT_WORD => Some(Which::Intent),
+        _ => None,
+    }
+}
+
+// The text of the blocks of a file with this table at its root, or their first failed test.
+#[tactic(auto, using(crate::proofs::Dumping::text_of_shaped, crate::proofs::Dumping::first_block_bad, crate::proofs::Dumping::later_block_bad))]
+fn text_of_blocks(alloc: Global, blocks: &mut Blocks<'_>, which: Which) -> Result<Text, ReadFault>
+    // No block was read yet.
+    requires first { blocks.old.last ≡ None }
+    // The table is one that may be at a root.
+    requires root { IsTrue (is_some (schema_word which)) }
+    ensures ok { IfOk result (λ text. dump_of_blocks which (reading_of blocks.old) ≡ Ok text) }
+    ensures bad { IfErr result (λ fault.
+        IsDumpFault fault (dump_of_blocks which (reading_of blocks.old))) }
+{
+    let shaped = shape_first(blocks, which)?;
+    check_framing(blocks)?;
+    let text = dump(alloc, &shaped)?;
+    Ok(text)
+}
+
+// Tests the first block: its framing, its head and its shape.
+fn shape_first<'a>(blocks: &mut Blocks<'a>, which: Which) -> Result<Shaped<'a>, Cause>
+    requires { blocks.old.last ≡ None }
+    ensures bad { IfErr result (λ cause.
+        first_form_fault which (reading_of blocks.old) ≡ Some cause) }
+    ensures table { IfOk result (λ shaped. table_of shaped ≡ which) }
+    // The reader then stands behind that block.
+    ensures behind { IfOk result (λ shaped. IsShapedFirst which (payload_of (adb_of shaped))
+        (reading_of blocks.old) (reading_of blocks.new)) }
+{
+    match blocks.next()? {
+        Some(block) => shape_payload(block.payload, which),
+        None => unreachable!(),
+    }
+}
+
+// Tests the head of a payload and its shape.
+fn shape_payload<'a>(payload: &'a [u8], which: Which) -> Result<Shaped<'a>, Cause>
+    ensures exact { result_err result ≡ form_fault which payload.entry.now }
+    ensures table { IfOk result (λ shaped. table_of shaped ≡ which) }
+    // What is shaped is this payload, not a copy.
+    ensures lent { IfOk result (λ shaped. payload_of (adb_of shaped) ≡ payload.entry.now) }
+{
+    let adb = Adb::new(payload)?;
+    shape(adb, which)
+}
+
+// Tests the framing of the blocks behind the first.
+fn check_framing(blocks: &mut Blocks<'_>) -> Result<(), Cause>
+    ensures { result_err result ≡ framing_fault (reading_of blocks.old) }
+{
+    while blocks.next()?.is_some() {}
+    Ok(())
+}

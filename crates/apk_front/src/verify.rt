@@ -1,0 +1,164 @@
+//! `verify`: containers are tested. The rules stand in `docs/commands.md`, "`verify FILE..`", and
+//! the tests in `docs/formats.md`, "Tests of a container".
+ghost use Rattle.std.specs.Prelude.{◌≡◌, List, Option, ℕ, IsTrue, IfOk};
+ghost use Rattle.apk_front.specs.Verdicts.{as_outcome};
+ghost use Rattle.base_core.specs.Calls.{IfObservable};
+ghost use Rattle.base_core.specs.Files.{Files, no_names};
+ghost use Rattle.base_core.specs.Read.{OnlyReads, bytes_in};
+ghost use Rattle.base_core.specs.Tree.{files_of};
+ghost use Rattle.command_core.specs.Named.{are_files};
+ghost use Rattle.make_info.specs.Reads.{Reads};
+ghost use Rattle.outcome.specs.Commands.{reads_in};
+ghost use Rattle.outcome.specs.Outcome.{report_unless};
+ghost use Rattle.outcome.specs.Verify.{file_refusal, sound_lines, verify, verify_refusal};
+
+use crate::answer::Verdict;
+use base_core::{Name, Text, Tree, TreeFault, read_all, readings_in_a_row_join};
+use command_core::Operands;
+use package_test::{PackageTest, test_package};
+use pkg_core::PackageFault;
+use report_core::Refusal;
+use std::alloc::{AllocError, Global};
+
+/// Tests the files that the operands name, one after another up to the first that is no sound
+/// container. On a tree that shows its files these are tested (`found`), on each tree some bytes
+/// (`by_reads`).
+pub(crate) fn verify<T: Tree>(
+    alloc: Global,
+    operands: &Operands,
+    tree: &mut T,
+) -> Result<Verdict, TreeFault>
+    requires { IsTrue (are_files operands.now) }
+    ensures found { IfOk result (λ verdict. IfObservable (T.history tree.old) (λ v.
+        as_outcome (files_of v) verdict
+        ≡ verify (reads_in (files_of v)) (files_of v) operands.now)) }
+    ensures by_reads { IfOk result (λ verdict. (read : Reads)
+        × (as_outcome no_names verdict ≡ verify read no_names operands.now)) }
+    // The tree is only read; a fault of it has its cause.
+    ensures tree { OnlyReads TreeFault.Disk (T.history tree.old) (T.history tree.new)
+        (T.counts tree.old) (T.counts tree.new) result }
+{
+    let refusal = first_refusal(alloc, operands, tree)?;
+    let verdict = verdict_by(alloc, operands, refusal)?;
+    Ok(verdict)
+}
+
+// The verdict with the refusal of the first bad operand, or with a line for each operand.
+fn verdict_by(
+    alloc: Global,
+    operands: &Operands,
+    refusal: Option<Refusal>,
+) -> Result<Verdict, AllocError>
+    requires { IsTrue (are_files operands.now) }
+    ensures { IfOk result (λ verdict. (files : Files)
+        → as_outcome files verdict ≡ report_unless files refusal (sound_lines operands.now)) }
+{
+    match refusal {
+        Some(refusal) => Ok(Verdict::refused(alloc, refusal)),
+        None => Ok(Verdict::reported(lines(alloc, operands)?)),
+    }
+}
+
+// The refusal of the first operand whose file is no sound container. What is held of a file is
+// dropped before the next is read.
+fn first_refusal<T: Tree>(
+    alloc: Global,
+    operands: &Operands,
+    tree: &mut T,
+) -> Result<Option<Refusal>, TreeFault>
+    requires { IsTrue (are_files operands.now) }
+    // On a tree that shows its files it is the refusal of these.
+    ensures found { IfOk result (λ refusal. IfObservable (T.history tree.old) (λ v.
+        refusal ≡ verify_refusal (reads_in (files_of v)) 0 operands.now)) }
+    // On each tree it is the refusal of some bytes at each read.
+    ensures by_reads { IfOk result (λ refusal. (read : Reads)
+        × (refusal ≡ verify_refusal read 0 operands.now)) }
+    ensures tree { OnlyReads TreeFault.Disk (T.history tree.old) (T.history tree.new)
+        (T.counts tree.old) (T.counts tree.new) result }
+{
+    readings_in_a_row_join::<Option<Refusal>, Option<Refusal>, TreeFault>();
+    for i in 0..operands.len() {
+        let place = operands.get(i).place;
+        let refusal = test_file(alloc, place, operands.file(i), tree)?;
+        if refusal.is_some() {
+            return Ok(refusal);
+        }
+    }
+    Ok(None)
+}
+
+// Tests the file that the argument at a place names: a package piece by piece, another container
+// whole.
+fn test_file<T: Tree>(
+    alloc: Global,
+    place: u32,
+    file: &Name,
+    tree: &mut T,
+) -> Result<Option<Refusal>, TreeFault>
+    // On a tree that shows its files the file under this name is tested.
+    ensures found { IfOk result (λ refusal. IfObservable (T.history tree.old) (λ v.
+        refusal ≡ file_refusal place (files_of v file.now))) }
+    // On each tree some bytes are, or none.
+    ensures by_reads { IfOk result (λ refusal. (found : Option (List ℕ))
+        × (refusal ≡ file_refusal place found)) }
+    ensures tree { OnlyReads TreeFault.Disk (T.history tree.old) (T.history tree.new)
+        (T.counts tree.old) (T.counts tree.new) result }
+{
+    readings_in_a_row_join::<PackageTest, Option<Refusal>, TreeFault>();
+    match test_package(alloc, tree, file)? {
+        PackageTest::Absent => Ok(Some(Refusal::FileMissing { place })),
+        PackageTest::OtherSchema => test_whole(alloc, place, file, tree),
+        PackageTest::Sound => Ok(None),
+        PackageTest::Bad(cause) => Ok(Some(Refusal::FileBad { place, cause })),
+    }
+}
+
+// Reads the file that the argument at a place names, and tests it.
+fn test_whole<T: Tree>(
+    alloc: Global,
+    place: u32,
+    file: &Name,
+    tree: &mut T,
+) -> Result<Option<Refusal>, TreeFault>
+    ensures found { IfOk result (λ refusal. IfObservable (T.history tree.old) (λ v.
+        refusal ≡ file_refusal place (files_of v file.now))) }
+    ensures by_reads { IfOk result (λ refusal. (found : Option (List ℕ))
+        × (refusal ≡ file_refusal place found)) }
+    ensures tree { OnlyReads TreeFault.Disk (T.history tree.old) (T.history tree.new)
+        (T.counts tree.old) (T.counts tree.new) result }
+{
+    let found = read_all(alloc, tree, file)?;
+    let refusal = refusal_of(alloc, place, &found)?;
+    Ok(refusal)
+}
+
+// The refusal of what was found, if it is no sound container.
+fn refusal_of(
+    alloc: Global,
+    place: u32,
+    found: &Option<Vec<u8>>,
+) -> Result<Option<Refusal>, AllocError>
+    ensures { IfOk result (λ refusal. refusal ≡ file_refusal place (bytes_in found.now)) }
+{
+    let Some(bytes) = found else {
+        return Ok(Some(Refusal::FileMissing { place }));
+    };
+    match pkg_core::verify(alloc, bytes) {
+        Ok(()) => Ok(None),
+        Err(PackageFault::Bad(cause)) => Ok(Some(Refusal::FileBad { place, cause })),
+        Err(PackageFault::Memory) => Err(AllocError),
+    }
+}
+
+// The report where all files are sound: a line `FILE: OK` for each operand.
+fn lines(alloc: Global, operands: &Operands) -> Result<Text, AllocError>
+    requires { IsTrue (are_files operands.now) }
+    ensures { IfOk result (λ report. report ≡ sound_lines operands.now) }
+{
+    let mut report = Vec::new(alloc);
+    for i in 0..operands.len() {
+        report.extend_from_slice(operands.file(i).as_bytes())?;
+        report.extend_from_slice(b": OK\n")?;
+    }
+    Ok(Text::from_vec(report))
+}

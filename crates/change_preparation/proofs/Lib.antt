@@ -1,9 +1,0 @@
-pub mod Choices
-pub mod Known
-pub mod Lists
-pub mod Once
-pub mod Members
-pub mod Reporting
-pub mod Elements
-pub mod Written
-pub mod Worked

@@ -1,5 +1,0 @@
-use Rattle.std.proofs.Common.{◌≡◌, ◌++◌, List, ℕ, Bor, map, take}
-use Rattle.change_preparation.proofs.removals.push_each.Given as goal
-
-abbrev pub invariant-loop-i : goal.invariant-loop-i
-invariant-loop-i l = map (λ (n : Bor (List ℕ)). n.now) l.names.items ≡ map (λ (n : Bor (List ℕ)). n.now) l.fn.names.items ++ take l.i l.more

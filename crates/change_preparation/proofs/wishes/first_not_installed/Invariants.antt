@@ -1,9 +1,0 @@
-use Rattle.std.proofs.Common.{◌≡◌, drop}
-use Rattle.db_core.specs.Seen.{packages_of}
-use Rattle.report_changes.specs.Report.{was_installed}
-use Rattle.change_preparation.specs.Wishes.{first_unknown}
-use Rattle.change_preparation.proofs.wishes.first_not_installed.Given as goal
-
--- all so far are installed: the rest decides
-abbrev pub invariant-loop-i : goal.invariant-loop-i
-invariant-loop-i l = first_unknown (was_installed (packages_of l.db)) (drop l.i l.operands) ≡ first_unknown (was_installed (packages_of l.db)) l.operands

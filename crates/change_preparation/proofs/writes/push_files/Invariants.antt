@@ -1,7 +1,0 @@
-use Rattle.db_core.specs.Seen.{members_of}
-use Rattle.change_preparation.specs.Writing.{package_at}
-use Rattle.change_preparation.proofs.Written.{Wrote}
-use Rattle.change_preparation.proofs.writes.push_files.Given as goal
-
-abbrev pub invariant-loop-i : goal.invariant-loop-i
-invariant-loop-i l = Wrote (members_of l.members) (package_at l.arrivals) l.plan l.fn.writes.items l.i l.writes.items

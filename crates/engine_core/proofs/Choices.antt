@@ -1,0 +1,52 @@
+-- There is one choice.
+use Rattle.std.proofs.Common.{◌≡◌, inl, inr, ℕ, ◌+◌, List, Option, Some, None, Result, Ok, Err, refl, sym, ap, subst, ◌∙◌, arith}
+use Rattle.candidate_core.specs.Candidates.{Need, is_eligible}
+use Rattle.candidate_core.specs.Options.{IsIn, places_from}
+use Rattle.candidate_core.specs.Rank.{SealedPool}
+use Rattle.candidate_core.proofs.OptionLists.{in_places}
+use Rattle.report_core.specs.declared.refusal.Refusal.{Refusal}
+use Rattle.search_tables.specs.Reasons.{HasOptions}
+use Rattle.search_tables.specs.Selection.{IsFirstSelection}
+use Rattle.solve_core.proofs.Existence.{first_or_none}
+use Rattle.solve_core.proofs.FirstFound.{none_satisfies}
+use Rattle.search_tables.proofs.PoolFacts.{pool_facts}
+use Rattle.search_tables.proofs.Satisfying.{closed_of_satisfying, satisfying_of_closed}
+use Rattle.engine_core.specs.Choice.{IsChoice, IsChoiceFrom}
+
+-- what a pool promises of the options of each need
+abbrev pub HaveOptions : Type 0
+HaveOptions = (pool : SealedPool) (need : Need) → HasOptions pool need
+
+pool_choice : HaveOptions → (pool : SealedPool) → (chosen : Option (List ℕ)) × IsChoice pool chosen
+pool_choice has pool =
+    let facts = pool_facts pool (has pool) in
+    let all = places_from 0 (is_eligible pool.world) pool.candidates in
+    elim (first_or_none pool facts all (λ c h. let z : 0 + c ≡ c = omega arith in subst (λ (k : ℕ). IsIn k all) z (in_places 0 (is_eligible pool.world) pool.candidates c h))) [
+      | inl found ↦ (
+        Some found.0,
+        record {
+          satisfies = satisfying_of_closed pool found.0 found.1.0;
+          walked = found.1.1;
+          first = λ other walk o walked. found.1.2 other walk (closed_of_satisfying pool other o) walked;
+        },
+      )
+      | inr dead ↦ (None, none_satisfies pool dead)
+    ]
+
+pub choice_exists : HaveOptions → (pool : Result SealedPool Refusal) → (chosen : Option (List ℕ)) × IsChoiceFrom pool chosen
+choice_exists has (Ok pool) = pool_choice has pool
+choice_exists has (Err refusal) = (None, refl)
+
+-- a pool has one first selection at most
+abbrev pub HasOneFirst : Type 0
+HasOneFirst = (pool : SealedPool) (trace other : List ℕ) → IsFirstSelection pool trace → IsFirstSelection pool other → trace ≡ other
+
+pool_one : HasOneFirst → (pool : SealedPool) (a b : Option (List ℕ)) → IsChoice pool a → IsChoice pool b → a ≡ b
+pool_one one pool None None x y = refl
+pool_one one pool None (Some t) x y = absurd (x t y.satisfies)
+pool_one one pool (Some t) None x y = absurd (y t x.satisfies)
+pool_one one pool (Some t) (Some u) x y = ap Some (one pool t u x y)
+
+pub choice_one : HasOneFirst → (pool : Result SealedPool Refusal) (a b : Option (List ℕ)) → IsChoiceFrom pool a → IsChoiceFrom pool b → a ≡ b
+choice_one one (Ok pool) a b x y = pool_one one pool a b x y
+choice_one one (Err refusal) a b x y = x ∙ sym y

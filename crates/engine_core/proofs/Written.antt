@@ -1,0 +1,108 @@
+-- What a change writes, file by file.
+use Rattle.std.proofs.Common.{◌≡◌, ◌∙◌, inl, inr, ◌+◌, ◌≤◌, ℕ, List, [], ◌∷◌, ◌++◌, All, Bor, Option, Some, None, length, map, take, take_all, refl, ap, sym, subst, append_assoc, arith}
+use Rattle.std.specs.Prelude.{is_some, slice_get}
+use Rattle.std.specs.Ordering.{on}
+use Rattle.std.proofs.lemmas.List.{length-map}
+use Rattle.change_files.specs.PlanLists.{FileWrite, names_in_order}
+use Rattle.change_outcome.specs.ChangeOutcome.{name_if_needed}
+use Rattle.db_core.specs.Members.{Member}
+use Rattle.journal_intent.specs.FreeNames.{AreOnce}
+use Rattle.list_order.specs.ByteOrder.{bytes_cmp}
+use Rattle.list_order.specs.Sorted.{sorted_by}
+use Rattle.list_order.proofs.Sorting.{Each}
+use Rattle.own_core.specs.Planned.{written_names}
+use Rattle.own_core.specs.WritesSeen.{writes_in}
+use Rattle.own_core.specs.declared.planning.FilePlan.{FilePlan}
+use Rattle.stage_files.specs.declared.writes.StagedWrite.{StagedWrite}
+use Rattle.engine_core.specs.Writing.{IsFileWrite, IsRecordOf, IsSourceOfWrite, IsWriteBy, Packages, record_names, record_writes, write_name}
+use Rattle.engine_core.specs.declared.writes.RecordWrites.{RecordWrites}
+use Rattle.engine_core.proofs.Elements.{all_each, contains_at, each_all, each_both, each_weaker, mapped_at}
+use Rattle.engine_core.proofs.Lists.{map_both, map_more, take_next}
+use Rattle.engine_core.proofs.Once.{each_sorted, names_sorted, once_ordered}
+
+-- ---- the planned files
+
+-- the first so many are added to others
+abbrev pub Wrote : List Member → Packages → FilePlan → List StagedWrite → ℕ → List StagedWrite → Type 0
+Wrote members packages plan base i now =
+    (files : List StagedWrite)
+    × (now ≡ base ++ files)
+    × (map write_name files ≡ take i (written_names plan))
+    × Each (IsFileWrite members packages (writes_in plan.writes)) files
+
+module _ (members : List Member) (packages : Packages) (plan : FilePlan) (base : List StagedWrite) where
+  pub none_wrote : Wrote members packages plan base 0 base
+  none_wrote = ([], sym (nothing base), refl, tt)
+    where
+      nothing : (xs : List StagedWrite) → xs ++ [] ≡ xs
+      nothing [] = refl
+      nothing (x ∷ xs) = ap (λ l. x ∷ l) (nothing xs)
+
+  pub one_wrote : (i : ℕ) (before after : List StagedWrite) (w : StagedWrite) (f : FileWrite)
+      → after ≡ before ++ w ∷ [] → slice_get (writes_in plan.writes) i ≡ Some f → write_name w ≡ f.name → IsSourceOfWrite members packages f w.source
+      → Wrote members packages plan base i before → Wrote members packages plan base (i + 1) after
+  one_wrote i before after w f more at named source (files, is, names, each) = (
+    files ++ w ∷ [],
+    more ∙ ap (λ l. l ++ w ∷ []) is ∙ append_assoc base files (w ∷ []),
+    map_more write_name files w ∙ ap (λ l. l ++ write_name w ∷ []) names ∙ ap (λ (n : List ℕ). take i (written_names plan) ++ n ∷ []) named
+        ∙ sym (take_next (written_names plan) i f.name (mapped_at (λ (x : FileWrite). x.name) (writes_in plan.writes) i f at)),
+    each_both (IsFileWrite members packages (writes_in plan.writes)) files (w ∷ []) each
+        (record { file = f; planned_file = contains_at (writes_in plan.writes) i f at; named = named; source = source }, tt),
+  )
+
+  pub all_wrote : (i : ℕ) (now : List StagedWrite) → length (writes_in plan.writes) ≤ i → Wrote members packages plan base i now
+      → (files : List StagedWrite) × (now ≡ base ++ files) × (map write_name files ≡ written_names plan) × All (IsFileWrite members packages (writes_in plan.writes)) files
+  all_wrote i now past (files, is, names, each) = (
+    files,
+    is,
+    names ∙ take_all i (written_names plan) (omega (arith, past, length-map (writes_in plan.writes) (λ (x : FileWrite). x.name))),
+    each_all (IsFileWrite members packages (writes_in plan.writes)) files each,
+  )
+
+-- ---- the database and world
+
+record_named : (name : Bor (List ℕ)) (bytes : Option (Bor (List ℕ))) → map write_name (record_writes name bytes) ≡ name_if_needed (is_some bytes) name.now
+record_named name None = refl
+record_named name (Some bytes) = refl
+
+record_each : (Q : StagedWrite → Type 0) (name : Bor (List ℕ)) (bytes : Option (Bor (List ℕ))) → ((w : StagedWrite) → IsRecordOf name.now bytes w → Q w) → Each Q (record_writes name bytes)
+record_each Q name None each = tt
+record_each Q name (Some bytes) each = (each _ (record { named = refl; source = refl }), tt)
+
+-- ---- all of them
+
+module _ (members : List Member) (packages : Packages) (plan : FilePlan) (r : RecordWrites) where
+  abbrev pub Gathered : List StagedWrite → Type 0
+  Gathered items =
+      (files : List StagedWrite)
+      × (items ≡ (files ++ record_writes r.database_name r.database) ++ record_writes r.world_name r.world)
+      × (map write_name files ≡ written_names plan)
+      × All (IsFileWrite members packages (writes_in plan.writes)) files
+
+  gathered_names : (items : List StagedWrite) → Gathered items → map write_name items ≡ written_names plan ++ record_names r
+  gathered_names items (files, is, names, all) =
+      let one = record_writes r.database_name r.database in
+      let two = record_writes r.world_name r.world in
+      ap (map write_name) is
+      ∙ map_both write_name (files ++ one) two
+      ∙ ap (λ l. l ++ map write_name two) (map_both write_name files one)
+      ∙ append_assoc (map write_name files) (map write_name one) (map write_name two)
+      ∙ ap (λ l. l ++ (map write_name one ++ map write_name two)) names
+      ∙ ap (λ l. written_names plan ++ (l ++ map write_name two)) (record_named r.database_name r.database)
+      ∙ ap (λ l. written_names plan ++ (name_if_needed (is_some r.database) r.database_name.now ++ l)) (record_named r.world_name r.world)
+
+  pub names_gathered : (items sorted : List StagedWrite) → Gathered items → AreOnce (written_names plan ++ record_names r) → sorted ≡ sorted_by (on write_name bytes_cmp) items
+      → map write_name sorted ≡ names_in_order (written_names plan ++ record_names r)
+  names_gathered items sorted gathered once is =
+      ap (map write_name) is ∙ names_sorted write_name items ∙ ap (sorted_by bytes_cmp) (gathered_names items gathered) ∙ once_ordered (written_names plan ++ record_names r) once
+
+  pub each_gathered : (items sorted : List StagedWrite) → Gathered items → sorted ≡ sorted_by (on write_name bytes_cmp) items
+      → All (IsWriteBy members packages (writes_in plan.writes) r) sorted
+  each_gathered items sorted (files, is, names, all) sorts =
+      let Q : StagedWrite → Type 0 = IsWriteBy members packages (writes_in plan.writes) r in
+      let one = record_writes r.database_name r.database in
+      let two = record_writes r.world_name r.world in
+      let ours : Each Q files = each_weaker (IsFileWrite members packages (writes_in plan.writes)) Q (λ w h. inl h) files (all_each (IsFileWrite members packages (writes_in plan.writes)) files all) in
+      let records : Each Q ((files ++ one) ++ two) =
+      each_both Q (files ++ one) two (each_both Q files one ours (record_each Q r.database_name r.database (λ w h. inr (inl h)))) (record_each Q r.world_name r.world (λ w h. inr (inr h))) in
+      each_all Q sorted (subst (Each Q) (sym sorts) (each_sorted (on write_name bytes_cmp) Q items (subst (Each Q) (sym is) records)))

@@ -1,0 +1,33 @@
+use Rattle.std.proofs.Common.{◌≡◌, ◌∙◌, ℕ, List, map, Result, Ok, Err, sym, ap, subst}
+use Rattle.std.specs.Prelude.{IfOk}
+use Rattle.std.specs.List.{filter_map}
+use Rattle.std.specs.declared.alloc.AllocError.{AllocError}
+use Rattle.adb_view.specs.Plain.{Plain}
+use Rattle.change_outcome.specs.ChangeOutcome.{change_report, file_change}
+use Rattle.package_changes.specs.Placed.{PlacedChange, candidates_at, change_in}
+use Rattle.package_changes.specs.Seen.{replacement_by}
+use Rattle.engine_core.specs.Finishing.{inputs_arrived}
+use Rattle.engine_core.specs.Wishes.{wishes_of}
+use Rattle.engine_core.proofs.Reporting.{changes_named}
+use Rattle.engine_core.proofs.finishing.report_of.Goals as goal
+
+copied : (r : Result (List ℕ) AllocError) (bytes : List ℕ) (Q : List ℕ → Type 0) → Q bytes → IfOk r (λ t. t ≡ bytes) → IfOk r Q
+copied (Ok t) bytes Q q is = subst Q (sym is) q
+copied (Err e) bytes Q q is = tt
+
+pub returns : goal.returns
+returns c =
+    let a = c.args.planned.now.arrived.now in
+    let s = a.selection.now in
+    let wishes = wishes_of c.args.command.now in
+    copied c.of.result c.bytes.result.now _ (λ history found files planned.
+    let change = file_change (inputs_arrived a) wishes found in
+    c.bytes.ensures
+    ∙ (c.in_ok-report.ensures s.again.now wishes change files (record {
+      changes = ap (map (λ (p : PlacedChange). p.change)) (c.in_ok-changes.ensures ∙ ap (filter_map change_in) planned.arrived.read.placed)
+          ∙ changes_named c.places_lead_to_packages_and_candidates.ensures.change (replacement_by s.db.now s.pool.now s.trace.now s.again.now);
+      to_go = sym (c.in_ok-to_go.ensures);
+      members = sym planned.arrived.members;
+      plan = planned.lists;
+    })
+    ∙ ap (λ (before : List Plain). change_report (record { before = before; selected = candidates_at s.pool.now s.trace.now; again = s.again.now }) wishes change files) planned.arrived.read.database)) c.of.ensures

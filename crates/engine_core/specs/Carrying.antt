@@ -1,0 +1,55 @@
+-- How a change that is made ready is carried through. Serves the proofs of `carry_change` and
+-- `finish_change` in `src/carrying.rt`; the rules stand in `docs/commands.md`, "`add` and `del`",
+-- and in `docs/crash-safety.md`, "A change of several files".
+use Rattle.std.specs.Prelude.{◌≡◌, ℕ, List, Some, Result, slice_get}
+use Rattle.adb_write.specs.Canonical.{overflow_of}
+use Rattle.base_core.specs.Files.{Files}
+use Rattle.base_core.specs.Tree.{TreeState}
+use Rattle.base_core.specs.declared.cause.Cause.{Cause}
+use Rattle.change_inputs.specs.Inputs.{Inputs}
+use Rattle.change_inputs.specs.declared.root.Refused.{Refused}
+use Rattle.change_inputs.specs.declared.root.Refused.TheVariants.{Disk, Memory, Refusal as IsRefused}
+use Rattle.change_outcome.specs.ChangeOutcome.{ChangeDone, ChangeWishes, actions_of, change_done, file_change, new_records, unless_overflow}
+use Rattle.change_outcome.specs.MembersAfter.{MemberFound}
+use Rattle.db_core.specs.Members.{Member, member_name}
+use Rattle.file_owners.specs.Replaces.{version_text}
+use Rattle.journal_intent.specs.IntentValue.{intent_of_lists, value_of_intent}
+use Rattle.package_changes.specs.Changes.{Replacement}
+use Rattle.report_core.specs.declared.refusal.Refusal.{Refusal}
+use Rattle.report_core.specs.declared.refusal.Refusal.TheVariants.{PackageBad}
+use Rattle.engine_core.specs.Finishing.{IsPlanned}
+use Rattle.engine_core.specs.declared.planning.Planned.{Planned}
+
+-- ---- what it comes to
+
+-- what a change comes to that is ready but for the intent, with these bytes of the database: it is
+-- done, or refused where the intent passes a limit of the writer
+abbrev pub ready_change :
+    Inputs → Replacement → ChangeWishes → List MemberFound → Files → List ℕ
+    → Result ChangeDone Refusal
+ready_change inputs r wishes found files database =
+    let records = new_records inputs database in
+    let actions = actions_of inputs (file_change inputs wishes found) files records in
+    unless_overflow
+    (overflow_of (value_of_intent (intent_of_lists actions.removals actions.writes)))
+    (change_done inputs r wishes found files records)
+
+-- the files of a change are planned, by some packages that are found and over some files
+abbrev pub HasPlan : List TreeState → ChangeWishes → Planned → Type 0
+HasPlan history wishes p =
+    (found : List MemberFound) × (files : Files) × IsPlanned history wishes p found files
+
+-- ---- a package that was changed
+
+-- the refusal names the member at a place, whose file is bad, and tells the test that failed
+abbrev pub IsPackageBad : List Member → ℕ → Cause → Refusal → Type 0
+IsPackageBad members place cause refusal =
+    (m : Member)
+    × (slice_get members place ≡ Some m)
+    × (refusal ≡ PackageBad (member_name m) (version_text m.pkg) cause)
+
+-- how carrying out fails where the package of the member at a place was changed since it was tested
+abbrev pub IsRefusedPackage : List Member → ℕ → Cause → Refused → Type 0
+IsRefusedPackage members place cause (IsRefused refusal) = IsPackageBad members place cause refusal
+IsRefusedPackage members place cause Disk = ⊥
+IsRefusedPackage members place cause Memory = Unit {0}

@@ -1,0 +1,122 @@
+-- What is known of a change as it is made ready. Serves the contracts between the steps of a
+-- change, from `make_change` to `carry_change`; the rules stand in `docs/commands.md`,
+-- "What a change does with files" and "`add` and `del`".
+use Rattle.std.specs.Prelude.{◌≡◌, ℕ, Bool, true, false, not, List, All, Contains, Option, Some, None, IfSome, bytes_eq, slice_get}
+use Rattle.std.specs.Option.{option_copied}
+use Rattle.adb_rules.specs.Reserved.{is_reserved}
+use Rattle.arrivals.specs.Arrivals.{AreMembersRead, arrivals_seen}
+use Rattle.base_core.specs.Calls.{IfObservable}
+use Rattle.base_core.specs.Files.{Files}
+use Rattle.base_core.specs.Tree.{TreeState, files_of}
+use Rattle.change_files.specs.FileChange.{old_listings}
+use Rattle.change_files.specs.NamesAfter.{name_change}
+use Rattle.file_owners.specs.Replaces.{version_text}
+use Rattle.path_clashes.specs.Clash.{HasNoClash}
+use Rattle.candidate_core.specs.Candidates.{Candidate, is_same_id}
+use Rattle.change_inputs.specs.Inputs.{Inputs}
+use Rattle.change_laws.specs.Premises.{IsRootOfFiles}
+use Rattle.change_outcome.specs.ChangeOutcome.{ChangeWishes, file_change, is_other_file}
+use Rattle.change_outcome.specs.MembersAfter.{MemberFound, candidates_that_come, members_found}
+use Rattle.db_core.specs.Members.{Member, is_coming, member_name}
+use Rattle.db_core.specs.Seen.{members_of, packages_of}
+use Rattle.dep_core.specs.World.{world_text}
+use Rattle.own_core.specs.Planned.{ArePlanLists, HasOwnNames, HasSources, IsPlanFor}
+use Rattle.package_changes.specs.Changes.{Replacement, selected_version}
+use Rattle.package_changes.specs.Placed.{placed_names_of}
+use Rattle.package_changes.specs.Seen.{placed_names_seen, replacement_by}
+use Rattle.root_names.specs.RootNames as Names
+use Rattle.engine_core.specs.SelectionSeen.{HasItsDatabase, inputs_of_selection, replacement_seen}
+use Rattle.arrivals.specs.declared.arrivals.Arrivals.{Arrivals}
+use Rattle.package_changes.specs.declared.placed.PlacedNames.{PlacedNames}
+use Rattle.engine_core.specs.declared.choosing.Selection.{Selection}
+use Rattle.engine_core.specs.declared.planning.Arrived.{Arrived}
+use Rattle.engine_core.specs.declared.planning.Planned.{Planned}
+use Rattle.engine_core.specs.declared.finishing.NewRecords.{NewRecords}
+use Rattle.engine_core.specs.declared.writes.RecordWrites.{RecordWrites}
+
+-- where the tree shows its files, the database and world were read from these
+abbrev pub IsRootRead : List TreeState → Inputs → Type 0
+IsRootRead history inputs = IfObservable history (λ v. IsRootOfFiles (files_of v) inputs.root)
+
+-- ---- the packages
+
+-- a member is of one of these candidates: it has its identity, its name and its version
+pub record IsOfCandidate (coming : List Candidate) (m : Member) : Type 0 where
+  pub candidate : Candidate
+  pub comes : Contains coming candidate
+  pub id : IfSome m.id (λ id. is_same_id candidate.id id ≡ true)
+  pub name : candidate.name ≡ member_name m
+  pub version : selected_version candidate ≡ version_text m.pkg
+
+-- each member that comes is of the candidate with its name
+abbrev pub AreOfCandidates : List Candidate → List Member → Type 0
+AreOfCandidates coming members = (place : ℕ) (m : Member) → slice_get members place ≡ Some m
+    → is_coming m ≡ true → IsOfCandidate coming m
+
+-- what was read of the root, as it is known when the packages have arrived
+abbrev pub inputs_arrived : Arrived → Inputs
+inputs_arrived a = inputs_of_selection a.selection.now
+
+-- which packages take the place of which, as it is known when they have arrived
+abbrev pub replacement_arrived : Arrived → Replacement
+replacement_arrived a = replacement_seen a.selection.now
+
+-- the packages after the change, those that come among them
+abbrev pub members_arrived : Arrived → List Member
+members_arrived a = members_of a.members.now
+
+-- the packages that come were read, and with those that stay they are the ones that are found
+pub record AreArrivals (history : List TreeState) (s : Selection) (names : PlacedNames)
+    (arrivals : Arrivals) (found : List MemberFound) : Type 0 where
+  pub database : HasItsDatabase s
+  pub placed : placed_names_seen names
+      ≡ placed_names_of (replacement_by s.db.now s.pool.now s.trace.now s.again.now)
+  pub read : AreMembersRead history (packages_of s.db.now) (arrivals_seen arrivals) found
+  pub root : IsRootRead history (inputs_of_selection s)
+  pub coming : AreOfCandidates (candidates_that_come (replacement_seen s)) (members_found found)
+
+-- the packages after a change have arrived: they were read, and their members stand one beside the
+-- other
+pub record IsArrived (history : List TreeState) (a : Arrived) (found : List MemberFound) : Type 0 where
+  pub read : AreArrivals history a.selection.now a.names.now a.arrivals.now found
+  pub members : members_arrived a ≡ members_found found
+
+-- ---- the plan
+
+-- the files of a change are planned, over these files where the tree shows its files
+pub record IsPlanned (history : List TreeState) (wishes : ChangeWishes) (p : Planned)
+    (found : List MemberFound) (files : Files) : Type 0 where
+  pub arrived : IsArrived history p.arrived.now found
+  pub told : IfObservable history (λ v. files ≡ files_of v)
+  pub lists : ArePlanLists (file_change (inputs_arrived p.arrived.now) wishes found) files p.plan.now
+  pub names : HasOwnNames p.plan.now
+  pub sources : HasSources (members_arrived p.arrived.now) p.plan.now
+  pub owners : IsPlanFor (members_arrived p.arrived.now) p.plan.now
+  pub no_clash : IfObservable history (λ v.
+      HasNoClash (name_change (file_change (inputs_arrived p.arrived.now) wishes found) files) files)
+  pub unreserved : All (λ l. is_reserved l.path ≡ false)
+      (old_listings (file_change (inputs_arrived p.arrived.now) wishes found))
+
+-- ---- the database and world
+
+-- the new database and world of a change: the text is that of the new world, and both have the
+-- names of their files
+pub record AreRecordsOf (inputs : Inputs) (records : NewRecords) : Type 0 where
+  pub world : records.world ≡ world_text inputs.root.new_world
+  pub database_name : records.database_name ≡ Names.database_name
+  pub world_name : records.world_name ≡ Names.world_name
+
+-- the bytes that are to be written of a file: only one that differs is written
+abbrev pub bytes_if : Bool → List ℕ → Option (List ℕ)
+bytes_if true bytes = Some bytes
+bytes_if false bytes = None
+
+-- what of the database and world is written
+pub record AreRecordWrites (inputs : Inputs) (records : NewRecords) (writes : RecordWrites)
+    : Type 0 where
+  pub database_name : writes.database_name.now ≡ records.database_name
+  pub database : option_copied writes.database
+      ≡ bytes_if (is_other_file inputs.root.database.file records.database.items) records.database.items
+  pub world_name : writes.world_name.now ≡ records.world_name
+  pub world : option_copied writes.world
+      ≡ bytes_if (not (bytes_eq inputs.root.world_text records.world)) records.world

@@ -1,0 +1,31 @@
+-- The candidates of a command, and what a choice among them leads to. The rules stand in
+-- `docs/selection.md`, "What there is to choose from".
+use Rattle.std.specs.Prelude.{ℕ, List, Result}
+use Rattle.change_inputs.specs.Candidates.{root_pool}
+use Rattle.change_inputs.specs.Chains.{and_then}
+use Rattle.change_inputs.specs.Inputs.{Inputs, inputs_of}
+use Rattle.command_core.specs.Command.{CommandLine}
+use Rattle.make_info.specs.Reads.{Reads}
+use Rattle.package_changes.specs.Changes.{Replacement}
+use Rattle.package_changes.specs.Placed.{candidates_at}
+use Rattle.candidate_core.specs.Rank.{SealedPool}
+use Rattle.report_core.specs.declared.refusal.Refusal.{Refusal}
+use Rattle.engine_core.specs.Wishes.{names_to_upgrade}
+
+-- the candidates that a command may choose from, by its inputs: under the new world and the names
+-- that the command upgrades
+abbrev pub pool_by : CommandLine → Inputs → Result SealedPool Refusal
+pool_by command inputs = root_pool inputs (names_to_upgrade command.applet command.operands)
+
+-- the candidates that a command may choose from, by what reads find
+abbrev pub pool_for : CommandLine → Reads → Result SealedPool Refusal
+pool_for command read = and_then (inputs_of command read) (pool_by command)
+
+-- what a choice does to the packages before: the chosen candidates take their place, and some names
+-- are installed again
+abbrev pub replacement_of_choice : List (List ℕ) → Inputs → SealedPool → List ℕ → Replacement
+replacement_of_choice again inputs pool trace = record {
+  before = inputs.root.database.packages;
+  selected = candidates_at pool trace;
+  again = again;
+}

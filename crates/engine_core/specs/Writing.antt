@@ -1,0 +1,109 @@
+-- What a change writes, and where it comes from. Serves the contracts of `src/writes.rt`; the rules
+-- stand in `docs/commands.md`, "What a change does with files" and "`add` and `del`", what is
+-- written.
+use Rattle.std.specs.Prelude.{◌≡◌, ◌⊎◌, ℕ, true, false, List, [], ◌∷◌, ◌++◌, Option, Some, None, Contains, is_some, option_and_then, slice_get}
+use Rattle.std.specs.Borrow.{Bor}
+use Rattle.arrivals.specs.Arrivals.{arrivals_seen, package_in}
+use Rattle.arrivals.specs.declared.arrivals.Arrivals.{Arrivals}
+use Rattle.adb_view.specs.Plain.{Plain}
+use Rattle.change_files.specs.PlanLists.{FileWrite}
+use Rattle.change_outcome.specs.ChangeOutcome.{name_if_needed}
+use Rattle.db_core.specs.Members.{Member, is_coming}
+use Rattle.file_guard.specs.AsListed.{file_target, has_target}
+use Rattle.file_fates.specs.ClaimEntries.{folders_if_any, listed_file_at}
+use Rattle.package_test.specs.declared.package.TestedPackage.{TestedPackage}
+use Rattle.stage_files.specs.declared.writes.PackagedFile.{PackagedFile}
+use Rattle.stage_files.specs.declared.writes.Source.{Source}
+use Rattle.stage_files.specs.declared.writes.Source.TheVariants.{Bytes, File, Link}
+use Rattle.stage_files.specs.declared.writes.StagedWrite.{StagedWrite}
+use Rattle.engine_core.specs.declared.writes.RecordWrites.{RecordWrites}
+
+-- the name that the staged file is to have
+abbrev pub write_name : StagedWrite → List ℕ
+write_name w = w.name.now
+
+-- ---- a file of a package
+
+-- what the package says of the file that a write is of
+abbrev pub entry_of_write : List Member → FileWrite → Plain
+entry_of_write members w =
+    listed_file_at (folders_if_any (slice_get members w.member)) w.folder w.file
+
+-- the packages that were read for the members that come, by their places
+abbrev pub Packages : Type 0
+Packages = ℕ → Option TestedPackage
+
+-- a file in a package is the one that a write is of
+pub record IsFileOfWrite (packages : Packages) (w : FileWrite) (f : PackagedFile) : Type 0 where
+  pub read : packages w.member ≡ Some f.package.now
+  pub member : f.member ≡ w.member
+  pub folder : f.folder ≡ w.folder
+  pub file : f.file ≡ w.file
+
+-- where the bytes of a write come from: a link's text, or the file in the package
+abbrev pub IsSourceOfWrite : List Member → Packages → FileWrite → Source → Type 0
+IsSourceOfWrite members packages w (Bytes own) = ⊥
+IsSourceOfWrite members packages w (Link target) =
+    (has_target (entry_of_write members w) ≡ true)
+    × (target.now ≡ file_target (entry_of_write members w))
+IsSourceOfWrite members packages w (File f) =
+    (has_target (entry_of_write members w) ≡ false) × IsFileOfWrite packages w f
+
+-- what is staged under a name is the file that the plan writes there
+pub record IsFileWrite (members : List Member) (packages : Packages) (planned : List FileWrite)
+    (write : StagedWrite) : Type 0 where
+  pub file : FileWrite
+  pub planned_file : Contains planned file
+  pub named : write_name write ≡ file.name
+  pub source : IsSourceOfWrite members packages file write.source
+
+-- ---- the database and world
+
+-- a source is these bytes, and neither a link nor a file of a package
+abbrev pub HasBytes : List ℕ → Source → Type 0
+HasBytes bytes (Bytes own) = own.now ≡ bytes
+HasBytes bytes (Link target) = ⊥
+HasBytes bytes (File f) = ⊥
+
+-- what is staged under this name are these bytes
+pub record IsRecordWrite (name bytes : List ℕ) (write : StagedWrite) : Type 0 where
+  pub named : write_name write ≡ name
+  pub source : HasBytes bytes write.source
+
+-- a write is that of a record, whose bytes are given where it is written; where none are given it
+-- stays
+abbrev pub IsRecordOf : List ℕ → Option (Bor (List ℕ)) → StagedWrite → Type 0
+IsRecordOf name None write = ⊥
+IsRecordOf name (Some bytes) write = IsRecordWrite name bytes.now write
+
+-- the writes of a record, the database or world: one where it changes, none where it stays
+abbrev pub record_writes : Bor (List ℕ) → Option (Bor (List ℕ)) → List StagedWrite
+record_writes name None = []
+record_writes name (Some bytes) = record { name = name; source = Bytes bytes } ∷ []
+
+-- the names of the database and of world, where they are written
+abbrev pub record_names : RecordWrites → List (List ℕ)
+record_names r =
+    name_if_needed (is_some r.database) r.database_name.now
+    ++ name_if_needed (is_some r.world) r.world_name.now
+
+-- ---- each write
+
+-- a write is that of a file of a package, of the database, or of world
+abbrev pub IsWriteBy :
+    List Member → Packages → List FileWrite → RecordWrites → StagedWrite → Type 0
+IsWriteBy members packages planned r write =
+    IsFileWrite members packages planned write
+    ⊎ (IsRecordOf r.database_name.now r.database write
+    ⊎ IsRecordOf r.world_name.now r.world write)
+
+-- ---- what was read
+
+-- the package that was read for the member at a place, if one was
+abbrev pub package_at : Arrivals → ℕ → Option TestedPackage
+package_at arrivals place = option_and_then package_in (slice_get (arrivals_seen arrivals) place)
+
+-- the package of each member that comes was read
+abbrev pub HasPackages : List Member → Arrivals → Type 0
+HasPackages members arrivals = (place : ℕ) (m : Member) → slice_get members place ≡ Some m
+    → is_coming m ≡ true → is_some (package_at arrivals place) ≡ true

@@ -1,0 +1,103 @@
+//! The packages after a change, and the plan of its files, by which its triggers are tested. The
+//! rules stand in `docs/commands.md`, "What a change does with files", and of triggers in
+//! "`add` and `del`", which triggers are due.
+
+ghost use Rattle.change_inputs.specs.Answers.{Agrees};
+ghost use Rattle.change_outcome.specs.ChangeOutcome.{name_at_place};
+ghost use Rattle.change_outcome.specs.Triggers.{unless_trigger};
+ghost use Rattle.db_core.specs.Seen.{members_of};
+ghost use Rattle.due_triggers.specs.Due.{planned_paths};
+ghost use Rattle.engine_core.specs.Plans.{IsRefusedFor};
+ghost use Rattle.std.specs.Prelude.{◌≡◌, ◌<◌, IfOk, length};
+
+use crate::choosing::Selection;
+use arrivals::Arrivals;
+use base_core::Text;
+use change_inputs::Refused;
+use db_core::Members;
+use due_triggers::{first_due, touched_folders};
+use own_core::{FilePlan, PlanFault};
+use package_changes::PlacedNames;
+use report_core::Refusal;
+use std::alloc::{AllocError, Global};
+
+/// Why a change is refused whose files cannot be planned.
+pub(crate) fn refused_plan(fault: PlanFault) -> Refused
+    ensures { IsRefusedFor fault result }
+{
+    match fault {
+        PlanFault::Reserved { path } => Refused::Refusal(Refusal::Reserved { path }),
+        PlanFault::PathClash { path, other } => {
+            Refused::Refusal(Refusal::PathClash { path, other })
+        }
+        PlanFault::Owned {
+            path,
+            first,
+            second,
+        } => Refused::Refusal(Refusal::Owned {
+            path,
+            first,
+            second,
+        }),
+        PlanFault::Disk => Refused::Disk,
+        PlanFault::Memory => Refused::Memory,
+    }
+}
+
+/// Tests that no trigger is due, or that there is leave not to run it (`--no-scripts`).
+///
+/// # Errors
+///
+/// `TriggerNeeded` of the first package whose trigger is due, or `Memory`.
+pub(crate) fn test_triggers(
+    alloc: Global,
+    no_scripts: bool,
+    members: &Members<'_>,
+    plan: &FilePlan,
+) -> Result<bool, Refused>
+    ensures { Agrees (λ allowed. allowed) result
+        (unless_trigger no_scripts (planned_paths plan.now) (members_of members.now)) }
+{
+    if no_scripts {
+        return Ok(true);
+    }
+    let folders = touched_folders(alloc, plan)?;
+    match first_due(members, &folders) {
+        Some(place) => {
+            let name = member_name(alloc, members, place)?;
+            Err(Refused::Refusal(Refusal::TriggerNeeded { name }))
+        }
+        None => Ok(true),
+    }
+}
+
+/// The name of the package at a place.
+fn member_name(alloc: Global, members: &Members<'_>, place: usize) -> Result<Text, AllocError>
+    requires { place < length (members_of members.now) }
+    ensures { IfOk result (λ name. name ≡ name_at_place (members_of members.now) place) }
+{
+    let view = members.view(place);
+    Text::of(alloc, view.info().name())
+}
+
+/// The packages after a change, with what they were selected from and what was read of them.
+#[derive(Clone, Copy)]
+pub(crate) struct Arrived<'r, 'a, 'm, 'x> {
+    /// The candidates that were selected, and what was read of the root.
+    pub selection: &'r Selection<'r, 'a>,
+    /// The names of the packages before and of the candidates, each with its place.
+    pub names: &'r PlacedNames<'a>,
+    /// The packages that come, read and tested, among those that stay.
+    pub arrivals: &'m Arrivals,
+    /// The packages after the change, as the database is to list them.
+    pub members: &'r Members<'x>,
+}
+
+/// The packages after a change, with the plan of its files.
+#[derive(Clone, Copy)]
+pub(crate) struct Planned<'r, 'a, 'm, 'x> {
+    /// The packages after the change.
+    pub arrived: &'r Arrived<'r, 'a, 'm, 'x>,
+    /// What the change removes, writes, lays beside and keeps.
+    pub plan: &'m FilePlan,
+}

@@ -1,0 +1,75 @@
+//! The database after a change, and the stage of its files. The rules stand in `docs/formats.md`,
+//! "The database after a change", and in `docs/crash-safety.md`, "A change of several files"; the
+//! limits in `docs/formats.md`, "Canonical layout".
+ghost use Rattle.adb_write.specs.Canonical.{overflow_of};
+ghost use Rattle.change_inputs.specs.Answers.{Agrees};
+ghost use Rattle.change_outcome.specs.ChangeOutcome.{is_other_file, unless_large, unless_overflow};
+ghost use Rattle.db_core.specs.Seen.{members_of};
+ghost use Rattle.db_write.specs.NewDatabase.{database_of};
+ghost use Rattle.journal_core.specs.Staged.{new_stage};
+ghost use Rattle.journal_intent.specs.Intent.{AreChangeNames};
+ghost use Rattle.journal_intent.specs.IntentValue.{intent_of_lists, value_of_intent};
+ghost use Rattle.std.specs.Option.{option_copied};
+ghost use Rattle.std.specs.Prelude.{◌≡◌, ◌++◌, true, IfOk};
+
+use adb_write::WriteFault;
+use base_core::Names;
+use change_inputs::Refused;
+use db_core::{Members, Owned};
+use db_write::write_db;
+use journal_core::Stage;
+use report_core::Refusal;
+use std::alloc::Global;
+
+/// The bytes of the database that lists the packages after a change, and of their files those that
+/// are theirs.
+///
+/// # Errors
+///
+/// `ResultTooLarge` where the database passes a limit of the writer, or `Memory`.
+pub(crate) fn new_database(
+    alloc: Global,
+    members: &Members<'_>,
+    owned: &Owned,
+) -> Result<Vec<u8>, Refused>
+    ensures { Agrees (λ file. file.items) result
+        (unless_large (database_of (members_of members.now) owned.now)) }
+{
+    match write_db(alloc, members, owned) {
+        Ok(file) => Ok(file),
+        Err(WriteFault::TooLarge { bytes, values }) => {
+            Err(Refused::Refusal(Refusal::ResultTooLarge { bytes, values }))
+        }
+        Err(WriteFault::Memory) => Err(Refused::Memory),
+    }
+}
+
+/// Whether a file is absent or has other bytes than these.
+pub(crate) fn is_other_file(found: Option<&[u8]>, bytes: &[u8]) -> bool
+    ensures { result ≡ is_other_file (option_copied found.entry) bytes.now }
+{
+    match found {
+        Some(old) => old != bytes,
+        None => true,
+    }
+}
+
+/// Begins the stage of a change: makes its intent in memory. The tree is not touched.
+///
+/// # Errors
+///
+/// `ResultTooLarge` where the intent passes a limit of the writer, or `Memory`.
+pub(crate) fn begin_stage(alloc: Global, removals: &Names, writes: &Names) -> Result<Stage, Refused>
+    requires { AreChangeNames (removals.now ++ writes.now) }
+    ensures stage { IfOk result (λ stage. stage ≡ new_stage removals.now writes.now) }
+    ensures told { Agrees (λ _. true) result (unless_overflow
+        (overflow_of (value_of_intent (intent_of_lists removals.now writes.now))) true) }
+{
+    match Stage::begin(alloc, removals, writes) {
+        Ok(stage) => Ok(stage),
+        Err(WriteFault::TooLarge { bytes, values }) => {
+            Err(Refused::Refusal(Refusal::ResultTooLarge { bytes, values }))
+        }
+        Err(WriteFault::Memory) => Err(Refused::Memory),
+    }
+}

@@ -1,0 +1,165 @@
+//! What a command says of a change beside world. The rules stand in `docs/commands.md`,
+//! "`add` and `del`" and "`upgrade` and `fix`".
+ghost use Rattle.change_inputs.specs.Seen.{inputs_seen};
+ghost use Rattle.db_core.specs.Seen.{packages_of};
+ghost use Rattle.dep_core.specs.World.{has_name};
+ghost use Rattle.engine_core.specs.Wishes.{first_unknown, is_known_name, names_to_go, names_to_reinstall, names_to_upgrade, operand_texts, unknown_place};
+ghost use Rattle.report_changes.specs.Report.{was_installed};
+ghost use Rattle.candidate_core.specs.Rank.{all_names, listed_names};
+ghost use Rattle.candidate_core.specs.Values.{names_upgraded_by};
+ghost use Rattle.std.specs.Prelude.{◌≡◌, ◌||◌, [], IfOk, OnOk};
+
+use base_core::Words;
+use change_inputs::Loaded;
+use command_core::{Applet, Command, Operands};
+use db_core::Db;
+use dep_core::World;
+use pool_core::Upgrade;
+use std::alloc::{AllocError, Global};
+
+/// The most texts that a list of words holds (`docs/commands.md`, "Answers and statuses"):
+/// 2^32 - 2.
+const MOST_NAMES: usize = 4294967294;
+
+/// The names that were to go, whether they do or not: those that `del` takes out of world.
+///
+/// # Errors
+///
+/// Want of memory, also where they are more than a list of words holds.
+pub(crate) fn names_to_go(alloc: Global, command: &Command) -> Result<Words, AllocError>
+    ensures { IfOk result
+        (λ names. names ≡ names_to_go command.now.applet command.now.operands) }
+{
+    match command.applet() {
+        Applet::Del => operand_texts(alloc, command.operands()),
+        _ => Ok(Words::new(alloc)),
+    }
+}
+
+/// The names that `fix` installs again: those of its operands.
+///
+/// # Errors
+///
+/// Want of memory, also where they are more than a list of words holds.
+pub(crate) fn names_to_reinstall(alloc: Global, command: &Command) -> Result<Words, AllocError>
+    ensures { IfOk result
+        (λ names. names ≡ names_to_reinstall command.now.applet command.now.operands) }
+{
+    match command.applet() {
+        Applet::Fix => operand_texts(alloc, command.operands()),
+        _ => Ok(Words::new(alloc)),
+    }
+}
+
+/// The names that `upgrade` upgrades, by the texts of its operands.
+pub(crate) fn names_to_upgrade<'a>(command: &Command, names: &'a Words) -> Upgrade<'a>
+    requires { names.now ≡ operand_texts command.now.operands }
+    ensures { names_upgraded_by result
+        ≡ names_to_upgrade command.now.applet command.now.operands }
+{
+    match command.applet() {
+        Applet::Upgrade => all_or_listed(names),
+        _ => Upgrade::Nothing,
+    }
+}
+
+// What `upgrade` upgrades: the listed names, or all where none is listed.
+fn all_or_listed(names: &Words) -> Upgrade<'_>
+    ensures all { names.entry.now ≡ [] → names_upgraded_by result ≡ all_names }
+    ensures listed { (names.entry.now ≡ [] → ⊥)
+        → names_upgraded_by result ≡ listed_names names.entry.now }
+{
+    if names.is_empty() {
+        return Upgrade::All;
+    }
+    Upgrade::Listed(names)
+}
+
+/// The texts of operands, in their order.
+///
+/// # Errors
+///
+/// Want of memory, also where they are more than a list of words holds.
+pub(crate) fn operand_texts(alloc: Global, operands: &Operands) -> Result<Words, AllocError>
+    ensures { IfOk result (λ texts. texts ≡ operand_texts operands.now) }
+{
+    let mut texts = Words::new(alloc);
+    for i in 0..operands.len() {
+        if i >= MOST_NAMES {
+            return Err(AllocError);
+        }
+        texts.push(operands.get(i).text.as_bytes())?;
+    }
+    Ok(texts)
+}
+
+/// The place of the first operand that the command does not know: of `del` one that is neither in
+/// world nor installed, of `upgrade` and `fix` one that is not installed.
+pub(crate) fn unknown_operand(command: &Command, loaded: &Loaded, db: &Db<'_>) -> Option<u32>
+    requires { packages_of db.now ≡ (inputs_seen loaded.now).root.database.packages }
+    ensures { result
+        ≡ unknown_place command.now.applet (inputs_seen loaded.now) command.now.operands }
+{
+    match command.applet() {
+        Applet::Del => first_unknown(command.operands(), loaded, db),
+        Applet::Upgrade | Applet::Fix => first_not_installed(command.operands(), db),
+        _ => None,
+    }
+}
+
+// The place of the first operand that is neither in world nor installed.
+fn first_unknown(operands: &Operands, loaded: &Loaded, db: &Db<'_>) -> Option<u32>
+    requires { packages_of db.now ≡ (inputs_seen loaded.now).root.database.packages }
+    ensures { result ≡ first_unknown (is_known_name (inputs_seen loaded.now)) operands.now }
+{
+    for i in 0..operands.len() {
+        let operand = operands.get(i);
+        if !is_known(operand.text.as_bytes(), loaded, db) {
+            return Some(operand.place);
+        }
+    }
+    None
+}
+
+// The place of the first operand that is not installed.
+fn first_not_installed(operands: &Operands, db: &Db<'_>) -> Option<u32>
+    ensures { result ≡ first_unknown (was_installed (packages_of db.now)) operands.now }
+{
+    for i in 0..operands.len() {
+        let operand = operands.get(i);
+        if !is_installed(operand.text.as_bytes(), db) {
+            return Some(operand.place);
+        }
+    }
+    None
+}
+
+// Whether world has an entry of a name, or a package of it is installed.
+fn is_known(name: &[u8], loaded: &Loaded, db: &Db<'_>) -> bool
+    requires { packages_of db.now ≡ (inputs_seen loaded.now).root.database.packages }
+    ensures { result ≡ is_known_name (inputs_seen loaded.now) name.now }
+{
+    if is_in_world(name, loaded.world()) {
+        return true;
+    }
+    is_installed(name, db)
+}
+
+// Whether world has an entry of a name.
+fn is_in_world(name: &[u8], world: &World) -> bool
+    ensures { result ≡ has_name name.now world.now }
+{
+    for i in 0..world.len() {
+        if world.entry(i).name == name {
+            return true;
+        }
+    }
+    false
+}
+
+// Whether a package of a name is installed.
+fn is_installed(name: &[u8], db: &Db<'_>) -> bool
+    ensures { result ≡ was_installed (packages_of db.now) name.now }
+{
+    db.find(name).is_some()
+}

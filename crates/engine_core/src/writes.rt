@@ -1,0 +1,152 @@
+//! What a change writes. The rules stand in `docs/commands.md`, "What a change does with files" and
+//! "`add` and `del`", what is written.
+ghost use Rattle.change_files.specs.PlanLists.{names_in_order};
+ghost use Rattle.db_core.specs.Seen.{members_of};
+ghost use Rattle.engine_core.specs.Writing.{HasPackages, IsFileWrite, IsSourceOfWrite, IsWriteBy, package_at, record_names, record_writes, write_name};
+ghost use Rattle.journal_intent.specs.FreeNames.{AreOnce};
+ghost use Rattle.list_order.specs.ByteOrder.{bytes_cmp};
+ghost use Rattle.list_order.specs.Sorted.{sorted_by};
+ghost use Rattle.own_core.specs.Planned.{HasSources, IsOfComingFile, written_names};
+ghost use Rattle.own_core.specs.WritesSeen.{write_seen, writes_in};
+ghost use Rattle.stage_files.specs.declared.writes.StagedWrite.{StagedWrite as StagedWriteValue};
+ghost use Rattle.std.specs.Ordering.{on};
+ghost use Rattle.std.specs.Prelude.{◌≡◌, ◌++◌, List, All, IfOk, OnOk, map};
+
+use crate::targets::target_of;
+use arrivals::Arrivals;
+use base_core::{Name, Names};
+use db_core::Members;
+use own_core::{FilePlan, Write};
+use stage_files::{PackagedFile, Source, StagedWrite};
+use std::alloc::{AllocError, Global};
+
+/// The database and world, as they are written. Where no bytes are given the file stays as it is.
+#[derive(Clone, Copy)]
+pub(crate) struct RecordWrites<'c> {
+    /// The name of the database's file.
+    pub database_name: &'c Name,
+    /// Its new bytes, where it is written.
+    pub database: Option<&'c [u8]>,
+    /// The name of world's file.
+    pub world_name: &'c Name,
+    /// Its new text, where it is written.
+    pub world: Option<&'c [u8]>,
+}
+
+/// Where the bytes of a planned write come from: the text of a link, or the file of the package
+/// that was read for its member.
+fn source_of<'c>(members: &Members<'c>, arrivals: &'c Arrivals, write: &Write) -> Source<'c>
+    requires file { IsOfComingFile (members_of members.now) (write_seen write.now) }
+    requires packages { HasPackages (members_of members.now) arrivals.now }
+    ensures { IsSourceOfWrite (members_of members.now) (package_at arrivals.now)
+        (write_seen write.now) result }
+{
+    let target = target_of(members, write);
+    if !target.is_empty() {
+        return Source::Link(target);
+    }
+    match arrivals.package(write.member as usize) {
+        Some(package) => Source::File(PackagedFile {
+            package,
+            member: write.member,
+            folder: write.path,
+            file: write.file,
+        }),
+        None => unreachable!(),
+    }
+}
+
+/// Adds the staged write of each write that the plan has.
+fn push_files<'c>(
+    writes: &mut Vec<StagedWrite<'c>>,
+    members: &Members<'c>,
+    arrivals: &'c Arrivals,
+    plan: &'c FilePlan,
+) -> Result<(), AllocError>
+    requires sources { HasSources (members_of members.now) plan.now }
+    requires packages { HasPackages (members_of members.now) arrivals.now }
+    ensures { OnOk result ((files : List StagedWriteValue)
+        × (writes.new.items ≡ writes.old.items ++ files)
+        × (map write_name files ≡ written_names plan.entry.now)
+        × All (IsFileWrite (members_of members.now) (package_at arrivals.entry.now)
+        (writes_in plan.entry.now.writes)) files) }
+{
+    let planned = plan.writes();
+    for i in 0..planned.len() {
+        let write = planned.get(i);
+        let source = source_of(members, arrivals, write);
+        writes.push(StagedWrite {
+            name: &write.name,
+            source,
+        })?;
+    }
+    Ok(())
+}
+
+/// Adds a write of the database or of world, if it has bytes to write.
+fn push_record<'c>(
+    writes: &mut Vec<StagedWrite<'c>>,
+    name: &'c Name,
+    bytes: Option<&'c [u8]>,
+) -> Result<(), AllocError>
+    ensures { OnOk result (writes.new.items
+        ≡ writes.old.items ++ record_writes name.entry bytes.entry) }
+{
+    if let Some(bytes) = bytes {
+        writes.push(StagedWrite {
+            name,
+            source: Source::Bytes(bytes),
+        })?;
+    }
+    Ok(())
+}
+
+/// Puts writes into byte order of their names, in which the intent lists them.
+fn sort_writes(writes: &mut Vec<StagedWrite<'_>>) -> Result<(), AllocError>
+    ensures { OnOk result (writes.new.items
+        ≡ sorted_by (on write_name bytes_cmp) writes.old.items) }
+{
+    writes.sort_by(|one, other| one.name.as_bytes().cmp(other.name.as_bytes()))?;
+    Ok(())
+}
+
+/// What a change writes, files of packages, database and world, in byte order of the names.
+pub(crate) fn writes_of<'c>(
+    alloc: Global,
+    members: &Members<'c>,
+    arrivals: &'c Arrivals,
+    plan: &'c FilePlan,
+    records: &RecordWrites<'c>,
+) -> Result<Vec<StagedWrite<'c>>, AllocError>
+    // Each planned write is of a file of a package that comes.
+    requires sources { HasSources (members_of members.now) plan.now }
+    // Each package that comes was read.
+    requires packages { HasPackages (members_of members.now) arrivals.now }
+    // No name is written twice.
+    requires once { AreOnce (written_names plan.now ++ record_names records.now) }
+    // The names are those of the plan and of the records, in byte order.
+    ensures names { IfOk result (λ writes. map write_name writes.items
+        ≡ names_in_order (written_names plan.entry.now ++ record_names records.now)) }
+    // Each write has the bytes that are to stand under its name.
+    ensures each { IfOk result (λ writes. All (IsWriteBy (members_of members.now)
+        (package_at arrivals.entry.now) (writes_in plan.entry.now.writes) records.now)
+        writes.items) }
+{
+    let mut writes = Vec::new(alloc);
+    push_files(&mut writes, members, arrivals, plan)?;
+    push_record(&mut writes, records.database_name, records.database)?;
+    push_record(&mut writes, records.world_name, records.world)?;
+    sort_writes(&mut writes)?;
+    Ok(writes)
+}
+
+/// The names of writes, in the same order.
+pub(crate) fn names_of(alloc: Global, writes: &[StagedWrite<'_>]) -> Result<Names, AllocError>
+    ensures { IfOk result (λ names. names ≡ map write_name writes.now) }
+{
+    let mut names = Names::new(alloc);
+    for write in writes {
+        names.push(write.name.copy(alloc)?)?;
+    }
+    Ok(names)
+}

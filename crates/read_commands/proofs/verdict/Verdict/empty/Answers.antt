@@ -1,6 +1,0 @@
-use Rattle.std.proofs.Common.{◌∙◌, ap}
-use Rattle.outcome.specs.Outcome.{just_report}
-use Rattle.read_commands.proofs.verdict.Verdict.empty.Goals as goal
-
-pub returns : goal.returns
-returns c = λ files. c.reported.ensures files ∙ ap (just_report files) (c.from_vec.ensures ∙ c.new.ensures.items)

@@ -1,7 +1,0 @@
-use Rattle.std.proofs.Common.{◌≡◌, ◌++◌, drop}
-use Rattle.outcome.specs.Version.{invalid_lines}
-use Rattle.read_commands.proofs.version.lines.Given as goal
-
--- the lines so far, and those of the operands that are left
-abbrev pub invariant-loop-i : goal.invariant-loop-i
-invariant-loop-i l = l.report.items ++ invalid_lines (drop l.i l.operands) ≡ invalid_lines l.operands

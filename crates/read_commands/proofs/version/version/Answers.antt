@@ -1,4 +1,0 @@
-use Rattle.read_commands.proofs.version.version.Goals as goal
-
-pub returns-else-flags : goal.returns-else-flags
-returns-else-flags c = rw c.if-flags.false c.check.ensures
