@@ -129,6 +129,7 @@ fn write_schema<O: Out>(out: &mut O, which: Which) -> Result<(), AllocError>
 /// Puts the lines of the value of a word, which is not Null.
 #[cycle(block)]
 #[tactic(auto, using(adb_tables::proofs::WalkSteps::table_rank, crate::proofs::BlockLines::int_lines, crate::proofs::BlockLines::text_lines, crate::proofs::BlockLines::hash_lines, crate::proofs::BlockLines::texts_lines, crate::proofs::BlockLines::objects_lines, crate::proofs::BlockLines::object_lines))]
+#[inline(always)]
 fn write_block<O: BlobOut>(
     out: &mut O,
     adb: Adb<'_>,
@@ -309,6 +310,7 @@ fn write_field<O: BlobOut>(
 
 /// Puts the line of a field that holds a text, and answers whether its value is Null: then it has
 /// no line. Most fields hold texts, so the text is looked up once.
+#[inline(always)]
 fn write_text_field<O: BlobOut>(
     out: &mut O,
     adb: Adb<'_>,
@@ -338,6 +340,7 @@ fn write_text_field<O: BlobOut>(
 /// Puts the lines of a field whose value is not Null: behind its name, or below it.
 #[cycle(block)]
 #[tactic(auto, using(crate::proofs::Turns::field_behind, crate::proofs::Turns::field_below))]
+#[inline(always)]
 fn write_named<O: BlobOut>(
     out: &mut O,
     adb: Adb<'_>,

@@ -41,6 +41,7 @@ pub(crate) fn write_number_line<O: Out>(
 }
 
 /// Puts the line of a text, which is that of the word.
+#[inline(always)]
 pub(crate) fn write_text_line<O: BlobOut>(
     out: &mut O,
     start: LineStart,
@@ -116,6 +117,7 @@ fn hex_digits(byte: u8) -> [u8; 2]
 }
 
 /// Puts a text as it is, or between quotes where it cannot stand as it is.
+#[inline(always)]
 pub(crate) fn write_text<O: Out>(out: &mut O, text: &[u8]) -> Result<(), AllocError>
     ensures { OnOk result (PutsForAny O.holds out.old out.new (text_form text.now)) }
 {
@@ -127,6 +129,8 @@ pub(crate) fn write_text<O: Out>(out: &mut O, text: &[u8]) -> Result<(), AllocEr
 }
 
 /// Puts a text between quotes, escaped byte by byte.
+#[cold]
+#[inline(never)]
 fn write_quoted<O: Out>(out: &mut O, text: &[u8]) -> Result<(), AllocError>
     ensures { OnOk result (PutsForAny O.holds out.old out.new (quoted_text text.now)) }
 {
@@ -237,6 +241,7 @@ impl LineStart {
 
 /// Puts what is still to stand in front of the next line, and then what a front has behind its
 /// eight levels of spaces: both at once, unless the line stands deeper.
+#[inline(always)]
 fn write_front<O: Out>(out: &mut O, start: LineStart, front: &[u8]) -> Result<(), AllocError>
     // Eight levels (`FRONT_LEVELS`) are sixteen spaces (`FRONT_LEN`).
     requires spaces { front.now ≡ margin 8 ++ drop 16 front.now }
@@ -255,6 +260,8 @@ fn write_front<O: Out>(out: &mut O, start: LineStart, front: &[u8]) -> Result<()
 }
 
 /// Puts two spaces for each level, one level behind another.
+#[cold]
+#[inline(never)]
 fn write_levels<O: Out>(out: &mut O, levels: u32) -> Result<(), AllocError>
     ensures { OnOk result (PutsForAny O.holds out.old out.new (margin levels)) }
 {
@@ -265,6 +272,7 @@ fn write_levels<O: Out>(out: &mut O, levels: u32) -> Result<(), AllocError>
 }
 
 /// Puts what is still to stand in front of an entry of an array, and its dash and a space.
+#[inline(always)]
 pub(crate) fn write_dash<O: Out>(out: &mut O, depth: u32, begun: bool) -> Result<(), AllocError>
     ensures { OnOk result (PutsForAny O.holds out.old out.new (lead depth begun ++ codes "- ")) }
 {
@@ -273,6 +281,7 @@ pub(crate) fn write_dash<O: Out>(out: &mut O, depth: u32, begun: bool) -> Result
 
 /// Puts what is still to stand in front of a field, its name, a colon and a space: its value
 /// follows on the line.
+#[inline(always)]
 pub(crate) fn write_name<O: Out>(
     out: &mut O,
     start: LineStart,

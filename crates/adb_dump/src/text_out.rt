@@ -3,7 +3,8 @@
 //! the contracts are those of `Out` and `BlobOut`. How a text or a hash stands in its line, says
 //! `docs/formats.md`, "Dump text".
 
-ghost use Rattle.std.specs.Prelude.{◌≡◌, ℕ, ◌+◌, List, [], ◌∷◌, IfOk, OnOk, length};
+ghost use Rattle.std.specs.Prelude.{◌≡◌, ℕ, ◌+◌, ◌-◌, List, [], ◌∷◌, IfOk, OnOk, length};
+ghost use Rattle.std.specs.Vec.{vec_capacity};
 ghost use Rattle.std.specs.BTreeMap.{get};
 ghost use Rattle.std.specs.Ordering.{nat_cmp};
 ghost use Rattle.hex.specs.Hex.{encode_lower};
@@ -82,13 +83,11 @@ impl BlobOut for Vec<u8> {
     }
 }
 
-/// The bytes themselves, as long as there is room.
+/// The bytes themselves, as long as there is room: no more memory is taken than at the start.
 #[derive(Drop)]
 pub(crate) struct Room {
     /// The bytes that were put in.
     pub(crate) bytes: Vec<u8>,
-    /// How many bytes more may come.
-    left: usize,
 }
 
 impl Room {
@@ -98,8 +97,15 @@ impl Room {
     {
         Ok(Room {
             bytes: Vec::with_capacity(alloc, bytes)?,
-            left: bytes,
         })
+    }
+
+    /// How many bytes more may come.
+    #[inline(always)]
+    fn left(&self) -> usize
+        ensures { result ≡ vec_capacity self.now.bytes - length self.now.bytes.items }
+    {
+        self.bytes.capacity().saturating_sub(self.bytes.len())
     }
 }
 
@@ -109,14 +115,20 @@ impl Out for Room {
     ghost holds = { λ _ out bytes. out.bytes.items ≡ bytes };
 
     /// Puts bytes, and fails where there is no room for them, as for want of memory.
+    #[inline(always)]
     fn put(&mut self, bytes: &[u8]) -> Result<(), AllocError> {
-        self.left = self.left.checked_sub(bytes.len()).ok_or(AllocError)?;
+        if bytes.len() > self.left() {
+            return Err(AllocError);
+        }
         self.bytes.extend_from_slice(bytes)
     }
 
     /// Puts a byte, and fails where there is no room for it, as for want of memory.
+    #[inline(always)]
     fn put_byte(&mut self, byte: u8) -> Result<(), AllocError> {
-        self.left = self.left.checked_sub(1).ok_or(AllocError)?;
+        if self.left() == 0 {
+            return Err(AllocError);
+        }
         self.bytes.push(byte)?;
         Ok(())
     }
@@ -124,6 +136,7 @@ impl Out for Room {
 
 impl BlobOut for Room {
     // Puts the text as its line has it.
+    #[inline(always)]
     fn put_text(&mut self, _adb: Adb<'_>, _word: Val, text: &[u8]) -> Result<(), AllocError> {
         write_text(self, text)
     }

@@ -37,6 +37,7 @@ pub(crate) fn field_words<'a>(adb: Adb<'a>, which: Which, word: Val) -> Arr<'a>
 /// a value.
 #[cycle(null)]
 #[tactic(auto, using(adb_tables::proofs::WalkSteps::table_rank, crate::proofs::Nulls::text_null, crate::proofs::Nulls::hash_null, crate::proofs::Nulls::arr_null, crate::proofs::Nulls::obj_null))]
+#[inline(always)]
 pub(crate) fn is_null(adb: Adb<'_>, kind: Kind, word: Val) -> bool
     requires { is_sound (payload_of adb) kind word ≡ true }
     ensures { result ≡ is_null (value_at (payload_of adb.entry) kind word) }

@@ -12,9 +12,14 @@ use Rattle.change_files.specs.FileChange.{FileChange, is_claimed, old_entry}
 abbrev pub is_guarded : List ℕ → Bool
 is_guarded path = starts_with nat_eq path (codes "etc/")
 
+-- what stands behind the path in the name of a new file that is laid beside one that the user
+-- changed
+abbrev pub aside_ending : List ℕ
+aside_ending = codes ".apk-new"
+
 -- the name under which a new file is laid beside one that the user changed
 abbrev pub aside_name : List ℕ → List ℕ
-aside_name path = path ++ codes ".apk-new"
+aside_name path = path ++ aside_ending
 
 -- whether the package before has the same file there; where the path was not listed before, nothing
 -- agrees
@@ -37,13 +42,17 @@ pub data Fate : Type 0 where
   -- the user's file stays, and the new one is laid beside it
   goes_aside : Fate
 
+-- how many bytes a name may have at most
+abbrev pub longest_name : ℕ
+longest_name = 1024
+
 -- What becomes of a file whose path holds a file that the user changed. It is laid beside that one
--- where it differs from what was listed before, and no package lists the name beside it, which has
--- at most the 1,024 bytes of a name.
+-- where it differs from what was listed before, and no package lists the name beside it, which is
+-- not too long for a name.
 abbrev pub fate_beside : FileChange → List ℕ → Plain → Fate
 fate_beside change path entry =
     if not (agrees_with_old (old_entry change path) entry)
-    && (nat_le (length (aside_name path)) 1024 && not (is_claimed change (aside_name path)))
+    && (nat_le (length (aside_name path)) longest_name && not (is_claimed change (aside_name path)))
     then goes_aside else gives_way
 
 -- What becomes of a file that comes, by what stands under its path. The user changed a guarded file

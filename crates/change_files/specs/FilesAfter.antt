@@ -1,6 +1,6 @@
 -- The files after a change, name by name. The rules stand in `docs/commands.md`,
 -- "What a change does with files", behind the three tests.
-use Rattle.std.specs.Prelude.{ℕ, ◌==◌, ◌-◌, Bool, true, false, not, ◌&&◌, if◌then◌else◌, List, [], ◌∷◌, length, take, codes, Option, Some, None, is_some, option_and_then, bytes_eq, nat_eq}
+use Rattle.std.specs.Prelude.{ℕ, ◌-◌, Bool, true, false, not, ◌&&◌, if◌then◌else◌, List, [], ◌∷◌, length, take, Option, Some, None, is_some, option_and_then, bytes_eq, nat_eq}
 use Rattle.std.specs.List.{ends_with}
 use Rattle.std.specs.Option.{option_or}
 use Rattle.adb_view.specs.Plain.{Plain}
@@ -9,7 +9,7 @@ use Rattle.db_core.specs.Members.{Listing}
 use Rattle.pkg_core.specs.Contents as Packages
 use Rattle.file_guard.specs.AsListed.{has_target, is_as_listed, link_bytes}
 pub use Rattle.root_names.specs.RootNames.{database_name, text_database_name, world_name}
-use Rattle.change_files.specs.Fate.{Fate, fate_of, gives_way, goes_aside, goes_in, is_guarded}
+use Rattle.change_files.specs.Fate.{Fate, aside_ending, fate_of, gives_way, goes_aside, goes_in, is_guarded}
 use Rattle.change_files.specs.FileChange.{FileChange, coming_owner, is_claimed, old_entry, was_listed}
 
 -- ---- what is written
@@ -36,11 +36,11 @@ abbrev pub laid_beside : FileChange → Files → List ℕ → Option Listing
 laid_beside change files path =
     option_and_then (λ l. if_aside l (fate_of change files l)) (coming_owner change path)
 
--- the path beside which a file of this name would lie: the name without `.apk-new`, which has 8
--- bytes
+-- the path beside which a file of this name would lie: the name without the ending
 abbrev pub path_beside : List ℕ → Option (List ℕ)
 path_beside name =
-    if ends_with nat_eq name (codes ".apk-new") then Some (take (length name - 8) name) else None
+    if ends_with nat_eq name aside_ending then Some (take (length name - length aside_ending) name)
+    else None
 
 -- the file whose contents this name gets, if one is written there
 unfoldable pub written_as : FileChange → Files → List ℕ → Option Listing

@@ -7,11 +7,15 @@ use Rattle.journal_core.specs.Staged.{IsEmptyStage}
 use Rattle.journal_intent.specs.FreeNames.{HasFreeNames, IsNoneOf, IsOneOf}
 use Rattle.journal_intent.specs.IntentValue.{intent_of_lists}
 
+-- a change has fewer writes than this, so that their count and the number behind it have 64 bits
+abbrev pub write_limit : ℕ
+write_limit = 2 ^ 63
+
 -- where these names are removed and written, and the others stay, the files are `after`; the names
--- are free, nothing waits before, and there are fewer writes than 2^63
+-- are free, nothing waits before, and the writes are below their limit
 pub record LeadsTo (removals writes : List (List ℕ)) (files after : Files) : Type 0 where
   pub free : HasFreeNames (intent_of_lists removals writes)
-  pub few : length writes < 2 ^ 63
+  pub few : length writes < write_limit
   pub empty : IsEmptyStage files
   pub gives : (name : List ℕ) → IsOneOf name writes → IsSome (after name)
   pub removes : (name : List ℕ) → IsOneOf name removals → after name ≡ None

@@ -1,7 +1,7 @@
 //! What follows from the definitions of a change. The rules stand in `docs/commands.md`,
 //! "`add` and `del`", and in `docs/crash-safety.md`, "A change of several files".
 
-ghost use Rattle.std.specs.Prelude.{◌≡◌, ◌<◌, ◌^◌, ◌++◌, ℕ, false, List, All, None, Ok, Option, length, map};
+ghost use Rattle.std.specs.Prelude.{◌≡◌, ◌<◌, ◌++◌, ℕ, false, List, All, None, Ok, Option, length, map};
 ghost use Rattle.base_core.specs.Files.{Files, IsWithin};
 ghost use Rattle.base_core.specs.Name.{IsName};
 ghost use Rattle.change_files.specs.FileChange.{FileChange};
@@ -17,7 +17,7 @@ ghost use Rattle.journal_intent.specs.IntentValue.{intent_of_lists};
 ghost use Rattle.make_info.specs.Reads.{Reads};
 ghost use Rattle.package_changes.specs.Changes.{Replacement};
 ghost use Rattle.path_clashes.specs.Clash.{NamePair};
-ghost use Rattle.change_laws.specs.Leading.{LeadsTo};
+ghost use Rattle.change_laws.specs.Leading.{LeadsTo, write_limit};
 ghost use Rattle.change_laws.specs.Made.{IsChangeMade};
 ghost use Rattle.change_laws.specs.Premises.{HasNoReservedPath, IsRootOfFiles};
 
@@ -51,7 +51,7 @@ pub fn the_actions_of_a_change_lead_to_its_files()
         → let records = new_records inputs database in
         let actions = actions_of inputs change files records in
         let after = changed_files change bytes_of records files in
-        length actions.writes < 2 ^ 63
+        length actions.writes < write_limit
         → after_actions (intent_of_lists actions.removals actions.writes)
         (with_staged 1 (map (bytes_under after) actions.writes) files) ≡ after }
 {}

@@ -14,6 +14,7 @@ use Rattle.adb_fields.specs.Repeated.{package_name}
 use Rattle.dep_core.specs.Repositories.{Repository}
 use Rattle.file_owners.specs.Replaces.{version_text}
 use Rattle.package_changes.specs.Changes.{selected_version}
+use Rattle.package_files.specs.Folders.{is_slash}
 use Rattle.pkg_core.specs.Contents.{Contents, contents_in}
 use Rattle.pkg_core.specs.Whole.{files_in_file, package_fault, package_id}
 use Rattle.candidate_core.specs.Candidates.{Candidate, is_same_id}
@@ -23,9 +24,9 @@ use Rattle.report_core.specs.declared.refusal.Refusal.TheVariants.{PackageBad, P
 
 -- ---- where it lies
 
--- whether a path has a folder above it: a `/`, which is byte 47
+-- whether a path has a folder above it: a `/`
 abbrev pub has_slash : List ℕ → Bool
-has_slash path = list_any (λ b. b == 47) path
+has_slash path = list_any is_slash path
 
 -- the folder of a path: its bytes up to the last slash, with it
 abbrev pub folder_prefix : List ℕ → List ℕ

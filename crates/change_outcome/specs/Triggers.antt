@@ -28,12 +28,15 @@ abbrev pub is_byte_then : ℕ → (List ℕ → Bool) → List ℕ → Bool
 is_byte_then p is_rest [] = false
 is_byte_then p is_rest (b ∷ bytes) = (p == b) && is_rest bytes
 
--- whether a part of a pattern matches a part of a folder; a `*` (byte 42) of the pattern stands for
--- any bytes
+-- the byte `*`, which stands for any bytes in a pattern
+abbrev pub star : ℕ
+star = 42
+
+-- whether a part of a pattern matches a part of a folder
 abbrev pub is_part_matched : List ℕ → List ℕ → Bool
 is_part_matched [] bytes = length bytes == 0
 is_part_matched (p ∷ pattern) bytes =
-    if p == 42 then list_any (is_part_matched pattern) (suffixes_of bytes)
+    if p == star then list_any (is_part_matched pattern) (suffixes_of bytes)
     else is_byte_then p (is_part_matched pattern) bytes
 
 -- whether the parts of a pattern match those of a folder, part by part, and of as many parts

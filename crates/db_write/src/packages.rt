@@ -1,9 +1,9 @@
 //! The packages of a database.
 //! The rule stands in `docs/formats.md`, "The database after a change": what a database has of each
-//! package; the fields in "Schemas", table 7, which counts from 1. In the clauses and the constant
-//! here they count from 0: 0 is `info`, 2 `scripts`, 3 `triggers`.
+//! package; the fields in "Schemas", table 7, which counts from 1. The constant here counts from 0.
 ghost use Rattle.adb_copy.specs.Zeros.{without_zeros};
 ghost use Rattle.adb_schema.specs.Views.{package_value};
+ghost use Rattle.adb_tables.specs.FieldIndexes.{PACKAGE_INFO, PACKAGE_SCRIPTS, PACKAGE_TRIGGERS};
 ghost use Rattle.adb_tables.specs.Values.{entry_in};
 ghost use Rattle.adb_values.specs.Drafts.{draft_with};
 ghost use Rattle.adb_view.specs.Plain.{arr_value};
@@ -79,7 +79,7 @@ fn write_member_info(
     id: Option<[u8; 32]>,
 ) -> Result<(), AllocError>
     ensures { OnOk result (draft.new
-        ≡ draft_with (info_after id (entry_in (package_value pkg.now) 0)) draft.old) }
+        ≡ draft_with (info_after id (entry_in (package_value pkg.now) PACKAGE_INFO)) draft.old) }
 {
     let info = pkg.info();
     match &id {
@@ -97,7 +97,7 @@ fn write_package_scripts<'a>(
     _mark: PhantomData<PackageView<'a>>,
 ) -> Result<(), AllocError>
     ensures { OnOk result (draft.new
-        ≡ draft_with (without_zeros (entry_in (package_value pkg.now) 2)) draft.old) }
+        ≡ draft_with (without_zeros (entry_in (package_value pkg.now) PACKAGE_SCRIPTS)) draft.old) }
 {
     let scripts = pkg.scripts();
     write_scripts(draft, &scripts)
@@ -106,7 +106,7 @@ fn write_package_scripts<'a>(
 /// Writes the triggers of a package: the patterns of folders that its trigger watches.
 fn write_triggers(alloc: Global, draft: &mut Draft, pkg: &PackageView<'_>) -> Result<(), AllocError>
     ensures { OnOk result (draft.new
-        ≡ draft_with (without_zeros (entry_in (package_value pkg.now) 3)) draft.old) }
+        ≡ draft_with (without_zeros (entry_in (package_value pkg.now) PACKAGE_TRIGGERS)) draft.old) }
 {
     let adb = pkg.adb();
     let mut known = KnownTexts::new(alloc);

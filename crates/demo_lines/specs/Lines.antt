@@ -4,9 +4,13 @@ use Rattle.std.specs.Prelude.{ℕ, zero, suc, ◌+◌, ◌*◌, ◌/◌, ◌%◌
 
 -- ---- package i
 
--- the digit of i at a unit, as 100 for hundreds, in ASCII, where `0` is byte 48
+-- the byte `0` of ASCII, behind which the other digits follow
+abbrev pub digit_zero : ℕ
+digit_zero = 48
+
+-- the digit of i at a unit, as 100 for hundreds, in ASCII
 abbrev pub digit_at : ℕ → ℕ → ℕ
-digit_at unit i = 48 + i / unit % 10
+digit_at unit i = digit_zero + i / unit % 10
 
 -- the name of package i: `p` and i in five digits
 abbrev pub demo_name : ℕ → List ℕ

@@ -81,10 +81,10 @@ pub(crate) fn push_version(text: &mut Vec<u8>, i: u16) -> Result<(), AllocError>
     Ok(())
 }
 
-// The digit of i at a unit, as 100 for hundreds, in ASCII, where `0` is byte 48.
+// The digit of i at a unit, as 100 for hundreds, in ASCII.
 fn digit_at(unit: u16, i: u16) -> u8
     requires { 0 < unit }
     ensures { result ≡ digit_at unit i }
 {
-    48 + (i / unit % 10) as u8
+    b'0' + (i / unit % 10) as u8
 }

@@ -2,11 +2,11 @@
 -- rule stands in `docs/commands.md`, "`add` and `del`", which triggers are due.
 use Rattle.std.specs.Prelude.{ℕ, ◌==◌, Bool, List}
 use Rattle.std.specs.List.{list_any}
-use Rattle.change_outcome.specs.Triggers.{is_part_matched, suffixes_of}
+use Rattle.change_outcome.specs.Triggers.{is_part_matched, star, suffixes_of}
 
--- whether a pattern has a `*`, which is byte 42
+-- whether a pattern has a `*`
 abbrev pub has_star : List ℕ → Bool
-has_star pattern = list_any (λ b. b == 42) pattern
+has_star pattern = list_any (λ b. b == star) pattern
 
 -- whether a pattern matches some end of the bytes
 abbrev pub is_end_matched : List ℕ → List ℕ → Bool

@@ -1,8 +1,9 @@
 //! Whether a pattern of a trigger matches a folder. The rule stands in `docs/commands.md`,
 //! "`add` and `del`", which triggers are due: the sentences on patterns.
 ghost use Rattle.base_core.specs.Name.{parts_of};
-ghost use Rattle.change_outcome.specs.Triggers.{are_parts_matched, is_folder_matched, is_part_matched};
+ghost use Rattle.change_outcome.specs.Triggers.{are_parts_matched, is_folder_matched, is_part_matched, star};
 ghost use Rattle.due_triggers.specs.Stars.{has_star, is_end_matched};
+ghost use Rattle.package_files.specs.Folders.{is_slash};
 ghost use Rattle.std.specs.Option.{option_map_or};
 ghost use Rattle.std.specs.Prelude.{◌≡◌, ◌==◌, ◌∷◌, ◌++◌, ◌<◌, ℕ, List, false, ◌+◌, count_by, drop, length, position, IfSome};
 
@@ -34,9 +35,9 @@ fn are_parts_matched(pattern: &[u8], folder: &[u8]) -> bool
         .all(|(wanted, part)| is_part_matched(wanted, part))
 }
 
-/// How many slashes (byte 47) bytes have: one less than their number of parts.
+/// How many slashes bytes have: one less than their number of parts.
 fn count_slashes(bytes: &[u8]) -> usize
-    ensures { result ≡ count_by (λ b. b == 47) bytes.now }
+    ensures { result ≡ count_by is_slash bytes.now }
 {
     bytes.iter().filter(|b| **b == b'/').count()
 }
@@ -71,11 +72,10 @@ fn is_end_matched(pattern: &[u8], bytes: &[u8]) -> bool
     left.ends_with(wanted)
 }
 
-/// What stands behind the first place of a piece without a star, if it stands anywhere. In the
-/// clause 42 is a `*`.
+/// What stands behind the first place of a piece without a star, if it stands anywhere.
 fn behind_first<'a>(piece: &[u8], bytes: &'a [u8]) -> Option<&'a [u8]>
     ensures { (pattern : List ℕ) → has_star piece.now ≡ false
-        → is_end_matched (piece.now ++ 42 ∷ pattern) bytes.now
+        → is_end_matched (piece.now ++ star ∷ pattern) bytes.now
         ≡ option_map_or (λ rest. is_end_matched pattern rest.now) result false }
 {
     let mut left = bytes;
@@ -98,9 +98,9 @@ fn behind(bytes: &[u8], at: usize) -> &[u8]
     &bytes[at + 1..]
 }
 
-/// Where the first `*` (byte 42) of a pattern stands, counted from 0.
+/// Where the first `*` of a pattern stands, counted from 0.
 fn first_star(pattern: &[u8]) -> Option<usize>
-    ensures found { result ≡ position (λ b. b == 42) pattern.now }
+    ensures found { result ≡ position (λ b. b == star) pattern.now }
     ensures within { IfSome result (λ at. at < length pattern.now) }
 {
     pattern.iter().position(|b| *b == b'*')

@@ -25,10 +25,17 @@ file_target entry = text_in (entry_in entry FILE_TARGET)
 abbrev pub has_target : Plain → Bool
 has_target entry = not (length (file_target entry) == 0)
 
--- the bytes that stand for a link to a target: a mark, and the link's text, which is the target
--- without the two bytes `00 a0` that it begins with
+-- where the text of a link begins in its target, counted from 0: behind `00 a0`
+abbrev pub link_text_at : ℕ
+link_text_at = 2
+
+-- the text of a link with this target
+abbrev pub target_text : List ℕ → List ℕ
+target_text target = drop link_text_at target
+
+-- the bytes that stand for a link to a target: a mark, and the link's text
 abbrev pub link_to : List ℕ → List ℕ
-link_to target = codes "!<symlink>" ++ drop 2 target
+link_to target = codes "!<symlink>" ++ target_text target
 
 -- the bytes of a file that stands for the link of an entry
 abbrev pub link_bytes : Plain → List ℕ

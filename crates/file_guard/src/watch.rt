@@ -2,20 +2,13 @@
 //! `compare_file`; the rules stand in `docs/commands.md`, "What a change does with files", what
 //! counts as changed.
 
-ghost use Rattle.std.specs.Prelude.{◌≡◌, ℕ, Bool, List, [], ◌++◌, drop, Some};
+ghost use Rattle.std.specs.Prelude.{◌≡◌, ℕ, Bool, List, [], ◌++◌, Some};
 ghost use Rattle.file_guard.specs.Listed.{is_as_told};
 ghost use Rattle.file_guard.specs.Watching.{Watches};
 
 use crate::compare::ListedFile;
+use crate::link::{LINK_MARK, target_text};
 use piece_core::Hasher;
-
-/// What stands in front of a link's text in the file that is written for the link
-/// (`docs/commands.md`, "What a change does with files").
-const LINK_MARK: &[u8] = b"!<symlink>";
-
-/// How many bytes stand in front of a link's text in an entry (`docs/formats.md`, "The texts",
-/// field 406: `00 a0`).
-const TEXT_AT: usize = 2;
 
 /// What the bytes that are still to come have to be. Contracts see, by `Watching` of `specs/`, what
 /// is tested of all bytes.
@@ -75,7 +68,7 @@ fn watch_listed<'a>(listed: ListedFile<'a>) -> Watch<'a>
     ensures { Watches result (is_as_told (Some listed.entry)) [] }
 {
     if !listed.target.is_empty() {
-        return Watch::Exactly(LINK_MARK, text_of(listed.target));
+        return Watch::Exactly(LINK_MARK, target_text(listed.target));
     }
     if !listed.hash.is_empty() {
         return Watch::Hashed(Hasher::new(listed.hash), listed.hash);
@@ -84,16 +77,6 @@ fn watch_listed<'a>(listed: ListedFile<'a>) -> Watch<'a>
         return Watch::Exactly(&[], &[]);
     }
     Watch::Never
-}
-
-/// The text of a link with this target; none where the target is too short to have one.
-fn text_of(target: &[u8]) -> &[u8]
-    ensures { result.now ≡ drop 2 target.now }
-{
-    match target.get(TEXT_AT..) {
-        Some(text) => text,
-        None => &[],
-    }
 }
 
 /// What is to come behind some bytes, where these two runs of bytes were to come.

@@ -8,6 +8,7 @@ ghost use Rattle.installed_info.specs.Form.{form_of};
 ghost use Rattle.adb_fields.specs.FirstPair.{IsIn};
 ghost use Rattle.adb_fields.specs.Once.{NamesStandOnce};
 ghost use Rattle.adb_fields.specs.Repeated.{entries_at, package_name, paths_in};
+ghost use Rattle.adb_tables.specs.FieldIndexes.{IDB_PACKAGES};
 ghost use Rattle.adb_tables.specs.declared.tables.Which.TheVariants.{Idb};
 ghost use Rattle.adb_view.specs.Plain.{Plain};
 ghost use Rattle.command_core.specs.Command.{CommandLine};
@@ -131,10 +132,10 @@ pub fn owners_are_those_that_list_a_path()
     ensures owner { (packages : List Plain) (path : List ℕ) (pkg : Plain)
         → path_owner packages path ≡ Some pkg
         → IsIn pkg packages × IsIn path (paths_in pkg) }
-    // Of a database, whose first field has the packages.
+    // Of the packages of a database.
     ensures lister { (database pkg : Plain) (path : List ℕ) → NamesStandOnce Idb database
-        → IsIn pkg (entries_at 0 database) → IsIn path (paths_in pkg)
-        → path_owner (entries_at 0 database) path ≡ Some pkg }
+        → IsIn pkg (entries_at IDB_PACKAGES database) → IsIn path (paths_in pkg)
+        → path_owner (entries_at IDB_PACKAGES database) path ≡ Some pkg }
 {}
 
 /// A package that is asked for by a name is installed and has it; where names stand once, as in a
@@ -144,8 +145,8 @@ pub fn packages_have_the_names_that_ask_for_them()
     ensures asked { (packages : List Plain) (name : List ℕ) (pkg : Plain)
         → package_named packages name ≡ Some pkg
         → IsIn pkg packages × (package_name pkg ≡ name) }
-    // Of a database, whose first field has the packages.
+    // Of the packages of a database.
     ensures named { (database pkg : Plain) → NamesStandOnce Idb database
-        → IsIn pkg (entries_at 0 database)
-        → package_named (entries_at 0 database) (package_name pkg) ≡ Some pkg }
+        → IsIn pkg (entries_at IDB_PACKAGES database)
+        → package_named (entries_at IDB_PACKAGES database) (package_name pkg) ≡ Some pkg }
 {}

@@ -3,6 +3,7 @@
 //! information alone passes a limit of the writer is kept to the end. What an entry has, says
 //! `docs/commands.md`, "`mkndx PACKAGE..`".
 ghost use Rattle.adb_schema.specs.Soundness.{first_fault, root_value};
+ghost use Rattle.adb_tables.specs.FieldIndexes.{PACKAGE_INFO};
 ghost use Rattle.adb_tables.specs.Values.{is_sound, entry_in};
 ghost use Rattle.adb_view.specs.Head.{head_fault, root_of};
 ghost use Rattle.adb_values.specs.Drafts.{draft_with};
@@ -100,8 +101,7 @@ impl PackageFile {
     }
 }
 
-/// Writes the entry of a package whose file has this length. In the clauses, 0 is the index of
-/// `info` among the fields of a package (1 in table 7 of `docs/formats.md`, "Schemas").
+/// Writes the entry of a package whose file has this length.
 fn write_package(
     alloc: Global,
     draft: &mut Draft,
@@ -109,8 +109,8 @@ fn write_package(
     len: u64,
 ) -> Result<(), AllocError>
     ensures { OnOk result (draft.new ≡ draft_with
-        (info_with (entry_in (opened_value pkg.now) 0) (sha256 (opened_payload pkg.now)) len)
-        draft.old) }
+        (info_with (entry_in (opened_value pkg.now) PACKAGE_INFO) (sha256 (opened_payload pkg.now))
+        len) draft.old) }
 {
     let id = pkg.id();
     let info = pkg.view().info();
@@ -126,8 +126,8 @@ pub(crate) fn entry_payload(
 ) -> Result<Option<Vec<u8>>, AllocError>
     ensures small { len < 2 ^ 64 }
     ensures payload { IfOk result (λ found. IfSome found (λ payload. written_of
-        (info_with (entry_in (opened_value pkg.now) 0) (sha256 (opened_payload pkg.now)) len)
-        ≡ Ok payload.items)) }
+        (info_with (entry_in (opened_value pkg.now) PACKAGE_INFO) (sha256 (opened_payload pkg.now))
+        len) ≡ Ok payload.items)) }
 {
     let mut draft = Draft::new(alloc);
     write_package(alloc, &mut draft, pkg, len)?;

@@ -2,7 +2,7 @@
 //! change is not carried through. The rules stand in `docs/commands.md`,
 //! "What a change does with files", and in `docs/crash-safety.md`, "A change of several files".
 
-ghost use Rattle.std.specs.Prelude.{◌≡◌, ◌<◌, ◌+◌, ◌++◌, ◌∷◌, [], ℕ, false, List, None, drop, length, IfErr, IsErrOf, OnOk, OnErr};
+ghost use Rattle.std.specs.Prelude.{◌≡◌, ◌<◌, ◌+◌, ◌++◌, ◌∷◌, [], ℕ, false, List, None, length, IfErr, IsErrOf, OnOk, OnErr};
 ghost use Rattle.base_core.specs.Faults.{GoesOn, HasCause, IsNoFault};
 ghost use Rattle.base_core.specs.Files.{Files};
 ghost use Rattle.base_core.specs.Tree.{TreeState, files_of};
@@ -15,25 +15,11 @@ ghost use Rattle.stage_run.specs.StageRun.{IsStaging, IsStagingRun};
 
 use crate::file::stage_file;
 use base_core::{Cause, Disk, Name, Tree};
+use file_guard::{LINK_MARK, target_text};
 use journal_core::Stage;
 use package_test::TestedPackage;
 use piece_reader::{Piece, PieceFault};
 use stage_run::{stage_bytes, stage_pieces};
-
-/// What stands in front of a link's text in the file that is written for the link
-/// (`docs/commands.md`, "What a change does with files").
-const LINK_MARK: &[u8] = b"!<symlink>";
-
-/// The text of a link, without the two bytes `00 a0` in front of it (`docs/formats.md`,
-/// "The texts", field 406).
-fn link_text(target: &[u8]) -> &[u8]
-    ensures { result.now ≡ drop 2 target.now }
-{
-    if target.len() < 2 {
-        return &[];
-    }
-    &target[2..]
-}
 
 /// Stages a file of a package, whose bytes are read once more. The clauses are those of
 /// `stage_write`.
@@ -142,7 +128,7 @@ pub(crate) fn stage_write<T: Tree>(
 {
     match source {
         Source::Bytes(bytes) => Ok(stage_bytes(stage, tree, bytes)?),
-        Source::Link(target) => Ok(stage_pieces(stage, tree, LINK_MARK, link_text(target))?),
+        Source::Link(target) => Ok(stage_pieces(stage, tree, LINK_MARK, target_text(target))?),
         Source::File(f) => stage_packaged(stage, tree, f, piece),
     }
 }
