@@ -176,6 +176,19 @@ def package_of_overlapping_tags(count):
     return package_of(payload, info + [tags_that_overlap(payload, count)])
 
 
+def distant_tags(copies, count):
+    """A package with so many tags of 23 kB, which begin and end alike. Each stands at as many places as there are copies of one text, none near another."""
+    payload = Payload()
+    info = [payload.blob(b"a"), payload.blob(b"1")] + [0] * 18
+    payload.pad(2)
+    size = 0x5A5A  # the two bytes at the offset of a tag are its length, so both are b"Z"
+    text = b"Z" * (size + 2) + b"a" + b"Z" * (2 * count - 1)
+    at = len(payload.bytes)
+    payload.bytes += text * copies
+    words = [0x90000000 | at + len(text) * copy + 2 * i for copy in range(copies) for i in range(count)]
+    return package_of(payload, info + [payload.array(words)])
+
+
 def write(path, *pieces):
     """Writes a file of these pieces, and the folders above it."""
     os.makedirs(os.path.dirname(path), exist_ok=True)

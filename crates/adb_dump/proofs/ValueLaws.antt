@@ -1,5 +1,5 @@
 -- Reading back, for whole values of a table.
-use Rattle.std.proofs.Common.{◌≡◌, ◌≢◌, true, List, [], ◌∷◌, Some, Ok, refl, sym, ap, subst, ◌∙◌}
+use Rattle.std.proofs.Common.{◌≡◌, ◌≢◌, ℕ, true, List, [], ◌∷◌, Some, Ok, refl, sym, ap, subst, ◌∙◌}
 use Rattle.std.specs.Prelude.{option_map}
 use Rattle.hex.specs.Hex.{encode_with}
 use Rattle.adb_view.specs.Plain.{Plain, null, int, blob, arr, obj, Shape, IsNormal}
@@ -77,7 +77,7 @@ text_split which v a = lines_of-text (dump_lines which v) (both _ _ (schema_end 
 same_lines : (x y : Line) (xs ys : List Line) → option_map (λ (ls : List Line). ls) (Some (x ∷ xs)) ≡ option_map (λ (ls : List Line). ls) (Some (y ∷ ys)) → xs ≡ ys
 same_lines x y xs ys e = cc
 
-same_value : (x y : Plain) → and_then (Ok x) (λ (v : Plain). Ok v) ≡ and_then (Ok y) (λ (v : Plain). Ok v) → x ≡ y
+same_value : (x y : Plain) → and_then {E = ℕ} (Ok x) (λ (v : Plain). Ok v) ≡ and_then {E = ℕ} (Ok y) (λ (v : Plain). Ok v) → x ≡ y
 same_value x y e = cc
 
 pub one_text_one_value : (which : Which) (v u : Plain) → IsValueOf which v → IsOfBytes v → IsValueOf which u → IsOfBytes u → dump_text which v ≡ dump_text which u → v ≡ u

@@ -13,3 +13,4 @@ pub mod CandidateLists
 pub mod ReadWords
 pub mod PackageLists
 pub mod ProvidedVersions
+pub mod WantedVersions

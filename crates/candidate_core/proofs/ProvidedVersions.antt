@@ -60,7 +60,7 @@ module _ (p : Dependency → Bool) where
     | inr t ↦ rw t (found_last xs d (rw t at n) e)
   ]
 
-  next_of : (n : ℕ) (values : Plains) (value : Plain) (o : Option Dependency) → n < count_of values → value ≡ nth values ((n + 1) - 1) → o ≡ dependency_in value → dependencies_to (n + 1) values ≡ dependencies_to n values ++ option_to_list o
+  pub next_of : (n : ℕ) (values : Plains) (value : Plain) (o : Option Dependency) → n < count_of values → value ≡ nth values ((n + 1) - 1) → o ≡ dependency_in value → dependencies_to (n + 1) values ≡ dependencies_to n values ++ option_to_list o
   next_of n values value o h at is =
       let e : (n + 1) - 1 ≡ n = omega arith in
       let found : dependency_in (nth values n) ≡ o = sym (is ∙ ap dependency_in (at ∙ ap (nth values) e)) in

@@ -12,3 +12,4 @@ pub mod PackageWords
 pub mod Packages
 pub mod CandidateList
 pub mod VersionTexts
+pub mod Matches

@@ -6,6 +6,7 @@ ghost use Rattle.candidate_core.specs.Candidates.{need_name};
 ghost use Rattle.candidate_core.specs.Values.{need_by};
 
 use crate::candidate::CandId;
+use crate::matches::is_long;
 use base_core::Words;
 use dep_core::Dep;
 use std::marker::Model;
@@ -36,6 +37,14 @@ impl<'a> NeedRef<'a> {
         match self {
             NeedRef::Entry(dep) => dep.name,
             NeedRef::Named(name) => name,
+        }
+    }
+
+    /// Whether the need names a long version, so that it may take long to compare others with it.
+    pub fn has_long_version(&self) -> bool {
+        match self {
+            NeedRef::Entry(dep) => is_long(&dep.version),
+            NeedRef::Named(_) => false,
         }
     }
 }

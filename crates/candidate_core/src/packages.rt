@@ -7,8 +7,9 @@ ghost use Rattle.std.specs.Prelude.{All};
 ghost use Rattle.candidate_core.specs.PackageWords.{IsPackageAmong};
 
 use crate::candidate::Details;
+use crate::matches::KnownMatches;
 use crate::need::NeedRef;
-use crate::versions::{RankedVersion, own_version, version_under};
+use crate::versions::{RankedVersion, meets_need, own_version, version_under};
 use adb_view::{Adb, Val};
 use std::alloc::{AllocError, Global};
 
@@ -48,7 +49,8 @@ pub struct Packages<'a> {
 }
 
 impl<'a> Packages<'a> {
-    ghost use Rattle.candidate_core.specs.Candidates.{Candidate, version_under};
+    ghost use Rattle.candidate_core.specs.Candidates.{Candidate, meets_need, version_under};
+    ghost use Rattle.candidate_core.specs.Matches.{AreMatchesFor};
     ghost use Rattle.candidate_core.specs.Values.{need_by};
     ghost use Rattle.candidate_core.specs.VersionTexts.{IsReadBy, source_text};
     ghost use Rattle.std.specs.Prelude.{◌≡◌, ◌<◌, ◌∷◌, [], ◌++◌, length, Some, slice_get, IfOk, OnOk, OnErr};
@@ -96,9 +98,17 @@ impl<'a> Packages<'a> {
     }
 
     /// The version under which the package at a place, counted from 0, meets a need: its own, else
-    /// that of the first entry of its provides that meets it.
-    pub fn version_under(&self, place: usize, need: &NeedRef<'_>) -> RankedVersion<'a>
-        requires { place < length (candidates_of_packages self.now) }
+    /// that of the first entry of its provides that meets it. What is known of long versions is
+    /// not compared anew.
+    pub fn version_under(
+        &self,
+        place: usize,
+        need: &NeedRef<'_>,
+        known: &KnownMatches,
+    ) -> RankedVersion<'a>
+        requires within { place < length (candidates_of_packages self.now) }
+        requires known { AreMatchesFor (source_text self.now.sources.items) (need_by need.now)
+            known.now }
         ensures version { (c : Candidate)
             → slice_get (candidates_of_packages self.now) place ≡ Some c
             → result.version ≡ version_under (need_by need.now) c }
@@ -106,7 +116,33 @@ impl<'a> Packages<'a> {
     {
         let package = self.words[place];
         let source = self.sources[package.source as usize];
-        version_under(&source, package, need)
+        version_under(&source, package, need, known)
+    }
+
+    /// Whether the package at a place, counted from 0, meets a need. What is learnt of long
+    /// versions is kept.
+    ///
+    /// # Errors
+    ///
+    /// Want of memory.
+    pub fn meets_need(
+        &self,
+        place: usize,
+        need: &NeedRef<'_>,
+        known: &mut KnownMatches,
+    ) -> Result<bool, AllocError>
+        requires within { place < length (candidates_of_packages self.now) }
+        requires known { AreMatchesFor (source_text self.now.sources.items) (need_by need.now)
+            known.old }
+        ensures meets { IfOk result (λ meets. (c : Candidate)
+            → slice_get (candidates_of_packages self.now) place ≡ Some c
+            → meets ≡ meets_need (need_by need.now) c) }
+        ensures known { IfOk result (λ _.
+            AreMatchesFor (source_text self.now.sources.items) (need_by need.now) known.new) }
+    {
+        let package = self.words[place];
+        let source = self.sources[package.source as usize];
+        meets_need(&source, package, need, known)
     }
 
     /// Adds a source, and answers its place, counted from 0. After an error the packages are as

@@ -2,9 +2,10 @@
 //! that a text which many packages share is known to be one.
 //! The rule stands in `docs/selection.md`, "Which selection is taken", the last paragraph (the
 //! version of key 5) and key 8.
-ghost use Rattle.std.specs.Prelude.{◌≡◌, ◌<◌, true, IfSome, length, option_copied, Some};
+ghost use Rattle.std.specs.Prelude.{◌≡◌, ◌<◌, ℕ, List, true, IfOk, IfSome, length, option_copied, option_to_list, Some};
 ghost use Rattle.std.specs.Option.{option_and_then, option_map};
-ghost use Rattle.std.specs.List.{find};
+ghost use Rattle.std.specs.List.{find, list_any};
+ghost use Rattle.std.specs.Str.{bytes_eq};
 ghost use Rattle.adb_rules.specs.SoundValues.{IsSoundDependency};
 ghost use Rattle.adb_tables.specs.Values.{entry_in, is_sound, text_in, value_at};
 ghost use Rattle.adb_tables.specs.declared.tables.Kind.TheVariants as Kinds;
@@ -12,13 +13,15 @@ ghost use Rattle.adb_tables.specs.declared.tables.Which.TheVariants as Tables;
 ghost use Rattle.adb_view.specs.Adb.{payload_of};
 ghost use Rattle.dep_core.specs.Dependency.{Dependency};
 ghost use Rattle.dep_core.specs.Meets.{dependency};
-ghost use Rattle.candidate_core.specs.Candidates.{candidate_of, dependencies_in, dependency_in, entry, is_met_by_entry, version_of_text, version_under};
+ghost use Rattle.candidate_core.specs.Candidates.{candidate_of, dependencies_in, dependency_in, entry, is_met_by_entry, meets_by_own_name, meets_dependency, meets_need, version_of_text, version_under};
+ghost use Rattle.candidate_core.specs.Matches.{AreMatchesFor, AreMatchesIn, AreMatchesOf, IsTextOf};
 ghost use Rattle.candidate_core.specs.PackageWords.{IsPackageOf, info_in_source};
 ghost use Rattle.candidate_core.specs.Values.{need_by};
 
-use crate::candidate::{Details, is_met_by_entry};
+use crate::candidate::Details;
 use crate::dependencies::{read_if_sound, read_sound};
 use crate::judging::{PACKAGE_VERSION, PROVIDES, VERSION};
+use crate::matches::KnownMatches;
 use crate::need::NeedRef;
 use crate::packages::{PackageWord, Source};
 use adb_fields::{View, field_word, objects_field};
@@ -26,6 +29,7 @@ use adb_schema::DepView;
 use adb_tables::{Which, entry_word};
 use adb_view::Val;
 use dep_core::Dep;
+use std::alloc::AllocError;
 use version_core::Version;
 
 /// A version that an option is ranked by.
@@ -71,13 +75,16 @@ pub(crate) fn own_version<'a>(source: &Source<'a>, kept: PackageWord) -> RankedV
 }
 
 /// The version under which the package with a word in a source meets a need: its own, else that of
-/// the first entry of provides that meets the need.
-pub fn version_under<'a>(
+/// the first entry of provides that meets the need. What is known of long versions is not compared
+/// anew.
+pub(crate) fn version_under<'a>(
     source: &Source<'a>,
     kept: PackageWord,
     need: &NeedRef<'_>,
+    known: &KnownMatches,
 ) -> RankedVersion<'a>
-    requires { IsPackageOf source.now kept.word }
+    requires package { IsPackageOf source.now kept.word }
+    requires known { AreMatchesIn source.now kept.source (need_by need.now) known.now }
     ensures version { result.version ≡ version_under (need_by need.now)
         (candidate_of (info_in_source source.now kept.word) source.now.repo
         (option_copied source.now.tag) kept.installed) }
@@ -87,13 +94,19 @@ pub fn version_under<'a>(
 {
     match need {
         NeedRef::Named(_) => own_version(source, kept),
-        NeedRef::Entry(dep) => version_meeting(source, kept, dep),
+        NeedRef::Entry(dep) => version_meeting(source, kept, dep, known),
     }
 }
 
 /// The version under which the package with a word in a source meets a dependency.
-fn version_meeting<'a>(source: &Source<'a>, kept: PackageWord, dep: &Dep<'_>) -> RankedVersion<'a>
-    requires { IsPackageOf source.now kept.word }
+fn version_meeting<'a>(
+    source: &Source<'a>,
+    kept: PackageWord,
+    dep: &Dep<'_>,
+    known: &KnownMatches,
+) -> RankedVersion<'a>
+    requires package { IsPackageOf source.now kept.word }
+    requires known { AreMatchesIn source.now kept.source (entry (dependency dep.now)) known.now }
     ensures version { result.version ≡ version_under (entry (dependency dep.now))
         (candidate_of (info_in_source source.now kept.word) source.now.repo
         (option_copied source.now.tag) kept.installed) }
@@ -101,17 +114,42 @@ fn version_meeting<'a>(source: &Source<'a>, kept: PackageWord, dep: &Dep<'_>) ->
     ensures text { IfSome result.version (λ version. version
         ≡ text_in (value_at (payload_of source.now.adb) Kinds.Text result.word)) }
 {
-    let details = Details::of(source, Val::of(kept.word), kept.installed);
-    if details.meets_by_own_name(dep) {
+    if meets_by_own_name_as_known(source, kept, dep, known) {
         return own_version(source, kept);
     }
-    provided_version(source, kept, dep)
+    provided_version(source, kept, dep, known)
+}
+
+// Whether the package with a word in a source meets a dependency by its own name and version.
+fn meets_by_own_name_as_known(
+    source: &Source<'_>,
+    kept: PackageWord,
+    dep: &Dep<'_>,
+    known: &KnownMatches,
+) -> bool
+    requires package { IsPackageOf source.now kept.word }
+    requires known { AreMatchesIn source.now kept.source (entry (dependency dep.now)) known.now }
+    ensures { result ≡ meets_by_own_name (dependency dep.now)
+        (candidate_of (info_in_source source.now kept.word) source.now.repo
+        (option_copied source.now.tag) kept.installed) }
+{
+    let details = Details::of(source, Val::of(kept.word), kept.installed);
+    if !is_named_as(dep, details.name()) {
+        return false;
+    }
+    known.is_wanted_as_known(dep, &own_version(source, kept))
 }
 
 // The version of the first entry of a package's provides that meets a dependency; none where no
 // entry does. In the clause, 15 is the index of `provides` (`PROVIDES`).
-fn provided_version<'a>(source: &Source<'a>, kept: PackageWord, dep: &Dep<'_>) -> RankedVersion<'a>
-    requires { IsPackageOf source.now kept.word }
+fn provided_version<'a>(
+    source: &Source<'a>,
+    kept: PackageWord,
+    dep: &Dep<'_>,
+    known: &KnownMatches,
+) -> RankedVersion<'a>
+    requires package { IsPackageOf source.now kept.word }
+    requires known { AreMatchesIn source.now kept.source (entry (dependency dep.now)) known.now }
     ensures version { result.version ≡ option_and_then (λ (p : Dependency). p.version)
         (find (is_met_by_entry (dependency dep.now))
         (dependencies_in (entry_in (info_in_source source.now kept.word) 15))) }
@@ -124,8 +162,8 @@ fn provided_version<'a>(source: &Source<'a>, kept: PackageWord, dep: &Dep<'_>) -
     for i in 0..entries.len() {
         let entry = entry_word(entries, i);
         if let Some(found) = read_entry(source, entry) {
-            if is_met_by_entry(dep, &found) {
-                return version_of_entry(source, kept.source, entry, found);
+            if is_met_as_known(source, kept.source, entry, &found, dep, known) {
+                return version_of_entry(source, kept.source, entry, &found);
             }
         }
     }
@@ -138,18 +176,43 @@ fn provided_version<'a>(source: &Source<'a>, kept: PackageWord, dep: &Dep<'_>) -
     }
 }
 
+// Whether an entry of provides, which is the dependency `found`, in the source at a place meets a
+// dependency.
+fn is_met_as_known<'a>(
+    source: &Source<'a>,
+    place: u32,
+    word: Val,
+    found: &Dep<'a>,
+    dep: &Dep<'_>,
+    known: &KnownMatches,
+) -> bool
+    requires sound { is_sound (payload_of source.now.adb) (Kinds.Obj Tables.Dep) word ≡ true }
+    requires found { Some (dependency found.now)
+        ≡ dependency_in (value_at (payload_of source.now.adb) (Kinds.Obj Tables.Dep) word) }
+    requires known { AreMatchesIn source.now place (entry (dependency dep.now)) known.now }
+    ensures { result ≡ is_met_by_entry (dependency dep.now) (dependency found.now) }
+{
+    if found.conflict {
+        return false;
+    }
+    if !is_named_as(dep, found.name) {
+        return false;
+    }
+    known.is_wanted_as_known(dep, &version_of_entry(source, place, word, found))
+}
+
 // The version of an entry of provides, which is the dependency `found`, in the source at a place.
 // Where the entry has no version, the word is 0.
 fn version_of_entry<'a>(
     source: &Source<'a>,
     place: u32,
     entry: Val,
-    found: Dep<'a>,
+    found: &Dep<'a>,
 ) -> RankedVersion<'a>
     requires sound { is_sound (payload_of source.now.adb) (Kinds.Obj Tables.Dep) entry ≡ true }
-    requires found { Some (dependency found)
+    requires found { Some (dependency found.now)
         ≡ dependency_in (value_at (payload_of source.now.adb) (Kinds.Obj Tables.Dep) entry) }
-    ensures version { result.version ≡ (dependency found.entry).version }
+    ensures version { result.version ≡ (dependency found.now).version }
     ensures source { result.source ≡ place }
     ensures text { IfSome result.version (λ version. version
         ≡ text_in (value_at (payload_of source.now.adb) Kinds.Text result.word)) }
@@ -160,10 +223,20 @@ fn version_of_entry<'a>(
         0
     };
     RankedVersion {
-        version: found.version,
+        version: same_version(&found.version),
         source: place,
         word,
         rank: 0,
+    }
+}
+
+/// A copy of a version; its text stays borrowed.
+pub fn same_version<'a>(version: &Option<Version<'a>>) -> Option<Version<'a>>
+    ensures { result ≡ version.entry.now }
+{
+    match version {
+        Some(version) => Some(Version::of(version.text())),
+        None => None,
     }
 }
 
@@ -181,4 +254,154 @@ fn read_entry<'a>(source: &Source<'a>, entry: Val) -> Option<Dep<'a>>
         return Some(read_sound(&view));
     }
     read_if_sound(&view)
+}
+
+/// Whether a package of a source meets a need. What is learnt of long versions is kept.
+pub(crate) fn meets_need(
+    source: &Source<'_>,
+    kept: PackageWord,
+    need: &NeedRef<'_>,
+    known: &mut KnownMatches,
+) -> Result<bool, AllocError>
+    requires { IsPackageOf source.now kept.word }
+    ensures { IfOk result (λ meets. (text : ℕ → ℕ → List ℕ) → IsTextOf source.now kept.source text
+        → AreMatchesFor text (need_by need.now) known.old
+        → (meets ≡ meets_need (need_by need.now)
+        (candidate_of (info_in_source source.now kept.word) source.now.repo
+        (option_copied source.now.tag) kept.installed))
+        × AreMatchesFor text (need_by need.now) known.new) }
+{
+    match need {
+        NeedRef::Named(name) => {
+            let details = Details::of(source, Val::of(kept.word), kept.installed);
+            Ok(*name == details.name())
+        }
+        NeedRef::Entry(dep) => meets(source, kept, dep, known),
+    }
+}
+
+// Whether a package of a source meets a dependency.
+fn meets(
+    source: &Source<'_>,
+    kept: PackageWord,
+    dep: &Dep<'_>,
+    known: &mut KnownMatches,
+) -> Result<bool, AllocError>
+    requires { IsPackageOf source.now kept.word }
+    ensures { IfOk result (λ meets. (text : ℕ → ℕ → List ℕ) → IsTextOf source.now kept.source text
+        → AreMatchesOf text (dependency dep.now) known.old
+        → (meets ≡ meets_dependency (dependency dep.now)
+        (candidate_of (info_in_source source.now kept.word) source.now.repo
+        (option_copied source.now.tag) kept.installed))
+        × AreMatchesOf text (dependency dep.now) known.new) }
+{
+    let by_own = own_version_meets(source, kept, dep, known)?;
+    if by_own {
+        return Ok(true);
+    }
+    any_entry_meets(source, kept, dep, known)
+}
+
+// Whether its own name and version meet it.
+fn own_version_meets(
+    source: &Source<'_>,
+    kept: PackageWord,
+    dep: &Dep<'_>,
+    known: &mut KnownMatches,
+) -> Result<bool, AllocError>
+    requires { IsPackageOf source.now kept.word }
+    ensures { IfOk result (λ meets. (text : ℕ → ℕ → List ℕ) → IsTextOf source.now kept.source text
+        → AreMatchesOf text (dependency dep.now) known.old
+        → (meets ≡ meets_by_own_name (dependency dep.now)
+        (candidate_of (info_in_source source.now kept.word) source.now.repo
+        (option_copied source.now.tag) kept.installed))
+        × AreMatchesOf text (dependency dep.now) known.new) }
+{
+    let details = Details::of(source, Val::of(kept.word), kept.installed);
+    if !is_named_as(dep, details.name()) {
+        return Ok(false);
+    }
+    known.is_wanted(dep, &own_version(source, kept))
+}
+
+// Whether an entry of what it provides meets it.
+fn any_entry_meets(
+    source: &Source<'_>,
+    kept: PackageWord,
+    dep: &Dep<'_>,
+    known: &mut KnownMatches,
+) -> Result<bool, AllocError>
+    requires { IsPackageOf source.now kept.word }
+    ensures { IfOk result (λ meets. (text : ℕ → ℕ → List ℕ) → IsTextOf source.now kept.source text
+        → AreMatchesOf text (dependency dep.now) known.old
+        → (meets ≡ list_any (is_met_by_entry (dependency dep.now))
+        (dependencies_in (entry_in (info_in_source source.now kept.word) 15)))
+        × AreMatchesOf text (dependency dep.now) known.new) }
+{
+    let word = Val::of(kept.word);
+    let entries = objects_field(source.adb, Which::PkgInfo, word, PROVIDES, Which::Dep);
+    for i in 0..entries.len() {
+        let entry = entry_word(entries, i);
+        let by_entry = entry_meets(source, kept.source, entry, dep, known)?;
+        if by_entry {
+            return Ok(true);
+        }
+    }
+    Ok(false)
+}
+
+// Whether an entry of what a package of the source at a place provides meets it.
+fn entry_meets<'a>(
+    source: &Source<'a>,
+    place: u32,
+    entry: Val,
+    dep: &Dep<'_>,
+    known: &mut KnownMatches,
+) -> Result<bool, AllocError>
+    requires sound { is_sound (payload_of source.now.adb) (Kinds.Obj Tables.Dep) entry ≡ true }
+    requires texts { source.now.has_sound_texts ≡ true → IsSoundDependency
+        (value_at (payload_of source.now.adb) (Kinds.Obj Tables.Dep) entry) }
+    ensures { IfOk result (λ meets. (text : ℕ → ℕ → List ℕ) → IsTextOf source.now place text
+        → AreMatchesOf text (dependency dep.now) known.old
+        → (meets ≡ list_any (is_met_by_entry (dependency dep.now)) (option_to_list (dependency_in
+        (value_at (payload_of source.now.adb) (Kinds.Obj Tables.Dep) entry))))
+        × AreMatchesOf text (dependency dep.now) known.new) }
+{
+    match read_entry(source, entry) {
+        Some(found) => found_entry_meets(source, place, entry, found, dep, known),
+        None => Ok(false),
+    }
+}
+
+// Whether the dependency that such an entry is meets it.
+fn found_entry_meets<'a>(
+    source: &Source<'a>,
+    place: u32,
+    entry: Val,
+    found: Dep<'a>,
+    dep: &Dep<'_>,
+    known: &mut KnownMatches,
+) -> Result<bool, AllocError>
+    requires sound { is_sound (payload_of source.now.adb) (Kinds.Obj Tables.Dep) entry ≡ true }
+    requires found { Some (dependency found)
+        ≡ dependency_in (value_at (payload_of source.now.adb) (Kinds.Obj Tables.Dep) entry) }
+    ensures { IfOk result (λ meets. (text : ℕ → ℕ → List ℕ) → IsTextOf source.now place text
+        → AreMatchesOf text (dependency dep.now) known.old
+        → (meets ≡ is_met_by_entry (dependency dep.now) (dependency found.entry))
+        × AreMatchesOf text (dependency dep.now) known.new) }
+{
+    if found.conflict {
+        return Ok(false);
+    }
+    if !is_named_as(dep, found.name) {
+        return Ok(false);
+    }
+    known.is_wanted(dep, &version_of_entry(source, place, entry, &found))
+}
+
+// Whether a dependency asks for this name.
+fn is_named_as(dep: &Dep<'_>, name: &[u8]) -> bool
+    ensures { result ≡ bytes_eq (dependency dep.now).name name.now }
+{
+    dep.name == name
 }

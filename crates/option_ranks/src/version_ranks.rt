@@ -10,15 +10,10 @@ ghost use Rattle.option_ranks.specs.VersionRanks.{AreRankedFrom, AreReadAlike, A
 ghost use Rattle.candidate_core.specs.declared.versions.VersionKind.TheVariants as Kinds;
 
 use crate::rank::{RankedOption, VersionKey, compare_versions};
-use candidate_core::{RankedVersion, VersionKind};
+use candidate_core::{RankedVersion, VersionKind, is_long, same_version};
 use std::alloc::{AllocError, Global};
 use std::cmp::Ordering;
 use version_core::{Version, order_is_total};
-
-/// How many bytes a version has at most that is compared as it is read, in each comparison of two
-/// options. Any number is right: a greater one lets more options share long comparisons, a lesser
-/// one ranks versions that are sooner compared.
-const SHORT: usize = 64;
 
 /// Ranks the versions of options if one of them is long, and answers by what they are to be
 /// compared. The options may come into another order. It takes time in proportion to k log k in the
@@ -52,14 +47,6 @@ fn has_long_version(options: &[RankedOption<'_>]) -> bool {
         }
     }
     false
-}
-
-// Whether a version is long; a version that is none is not.
-fn is_long(version: &Option<Version<'_>>) -> bool {
-    match version {
-        Some(version) => version.text().len() > SHORT,
-        None => false,
-    }
 }
 
 // Ranks one version of each option, that of a kind, among those of all, and may put the options
@@ -105,16 +92,6 @@ fn distinct_versions<'a>(
         }
     }
     Ok(versions)
-}
-
-// A copy of a version; its text stays borrowed.
-fn same_version<'a>(version: &Option<Version<'a>>) -> Option<Version<'a>>
-    ensures { result ≡ version.entry.now }
-{
-    match version {
-        Some(version) => Some(Version::of(version.text())),
-        None => None,
-    }
 }
 
 // Whether the version of an option is read from the same text as that of the option before it.

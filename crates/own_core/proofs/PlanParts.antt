@@ -40,7 +40,7 @@ use Rattle.file_fates.proofs.Endings.{aside_is_name}
 use Rattle.file_fates.proofs.FoundFiles.{by_tree}
 use Rattle.file_fates.proofs.Listings.{are_claims, each_both}
 use Rattle.own_core.proofs.NameChanges.{all_written, same_names}
-use Rattle.file_fates.proofs.MarkedClaims.{found_from}
+use Rattle.file_fates.proofs.MarkedClaims.{files_kept, found_from}
 use Rattle.own_core.proofs.PartsMeaning.{each_at}
 use Rattle.own_core.proofs.WritesMeaning.{each_finds_itself}
 

@@ -12,11 +12,13 @@ ghost use Rattle.dep_core.specs.Dependency.{Dependency};
 ghost use Rattle.dep_core.specs.Meets.{dependency};
 ghost use Rattle.candidate_core.specs.Candidates.{Candidate as CandidateValue, has_usable_install_if, is_allowed, is_eligible, is_barred_by, meets_dependency, uses_tag};
 ghost use Rattle.candidate_core.specs.CandidateList.{IsCandidateList};
+ghost use Rattle.candidate_core.specs.Matches.{AreMatchesFor};
 ghost use Rattle.candidate_core.specs.Options.{may_meet, places_offering, options_for, places_from};
 ghost use Rattle.candidate_core.specs.Packages.{candidates_of_packages};
 ghost use Rattle.candidate_core.specs.Rank.{candidate_at, candidate_cmp, is_at, is_eligible_at, is_kept_installed, is_pinned, is_pinned_at, is_pinned_to, rank_cmp, sealed_pool_by};
 ghost use Rattle.option_ranks.specs.Ranking.{IsRankingIn};
 ghost use Rattle.candidate_core.specs.Values.{candidate_value, names_upgraded_by, need_by, need_of};
+ghost use Rattle.candidate_core.specs.VersionTexts.{source_text};
 ghost use Rattle.option_ranks.specs.VersionRanks.{AreReadAlike, IsReadFrom};
 ghost use Rattle.candidate_core.specs.declared.versions.VersionKind.TheVariants as Kinds;
 ghost use Rattle.candidate_core.specs.PositiveInstallIfs.{has_positive_install_if, places_marked};
@@ -26,7 +28,8 @@ use crate::keeping::kept_marks;
 use crate::laws::rank_is_total;
 use crate::marks::{eligible_marks, pinned_marks};
 use candidate_core::{
-    CandId, Candidate, CandidateList, Details, Need, NeedRef, Options, Packages, Table, Upgrade,
+    CandId, Candidate, CandidateList, Details, KnownMatches, Need, NeedRef, Options, Packages,
+    Table, Upgrade,
 };
 use dep_core::{Dep, World};
 use option_ranks::{RankedOption, rank_long_versions};
@@ -158,12 +161,27 @@ impl<'a> Sealed<'a> {
     pub fn options_for(&self, alloc: Global, need: &NeedRef<'_>) -> Result<Options, AllocError>
         ensures { IfOk result (λ options. options ≡ options_for self.now (need_by need.now)) }
     {
-        let ids = self.fitting(alloc, need)?;
+        self.options_among(alloc, need, &self.packages)
+    }
+
+    // The options of a need. `packages` are the pool's own: the proof reads the texts of all
+    // versions from one value of them.
+    fn options_among(
+        &self,
+        alloc: Global,
+        need: &NeedRef<'_>,
+        packages: &Packages<'a>,
+    ) -> Result<Options, AllocError>
+        requires { candidates_of_packages packages.now ≡ self.now.candidates }
+        ensures { IfOk result (λ options. options ≡ options_for self.now (need_by need.now)) }
+    {
+        let mut known = KnownMatches::new(alloc);
+        let ids = self.fitting(alloc, need, packages, &mut known)?;
         // None and one are in order already.
         if ids.len() < 2 {
             return Ok(Options::of(ids));
         }
-        self.ranked(alloc, need, &ids)
+        self.ranked(alloc, need, &ids, packages, &known)
     }
 
     // The options of a need, which have these places, best first. What each is ranked by is read
@@ -173,32 +191,39 @@ impl<'a> Sealed<'a> {
         alloc: Global,
         need: &NeedRef<'_>,
         ids: &[CandId],
+        packages: &Packages<'a>,
+        known: &KnownMatches,
     ) -> Result<Options, AllocError>
-        requires { ids.now
+        requires those { ids.now
             ≡ places_from 0 (may_meet self.now (need_by need.now)) self.now.candidates }
+        requires own { candidates_of_packages packages.now ≡ self.now.candidates }
+        requires known { AreMatchesFor (source_text packages.now.sources.items) (need_by need.now)
+            known.now }
         ensures { IfOk result (λ options. options ≡ options_for self.now (need_by need.now)) }
     {
         rank_is_total();
         order_is_total();
-        let mut rankings = self.rankings(alloc, need, ids, &self.packages)?;
+        let mut rankings = self.rankings(alloc, need, ids, packages, known)?;
         let key = rank_long_versions(alloc, &mut rankings)?;
         rankings.sort_by(|one, other| one.compare(other, key))?;
         let ids = places_of(alloc, &rankings)?;
         Ok(Options::of(ids))
     }
 
-    // What each of some candidates is ranked by. `packages` are the pool's own: the proof reads the
-    // texts of all versions from one value of them.
+    // What each of some candidates is ranked by.
     fn rankings(
         &self,
         alloc: Global,
         need: &NeedRef<'_>,
         ids: &[CandId],
         packages: &Packages<'a>,
+        known: &KnownMatches,
     ) -> Result<Vec<RankedOption<'a>>, AllocError>
         requires those { ids.now
             ≡ places_from 0 (may_meet self.now (need_by need.now)) self.now.candidates }
         requires own { candidates_of_packages packages.now ≡ self.now.candidates }
+        requires known { AreMatchesFor (source_text packages.now.sources.items) (need_by need.now)
+            known.now }
         ensures each { IfOk result (λ rankings.
             All (IsRankingIn self.now (need_by need.now)) rankings.items) }
         ensures places { IfOk result (λ rankings. map (λ r. r.place) rankings.items ≡ ids.now) }
@@ -207,16 +232,24 @@ impl<'a> Sealed<'a> {
     {
         let mut rankings = Vec::with_capacity(alloc, ids.len())?;
         for id in ids {
-            rankings.push(self.ranking(need, *id, packages))?;
+            rankings.push(self.ranking(need, *id, packages, known))?;
         }
         Ok(rankings)
     }
 
     // What the candidate at a place is ranked by. Its two versions have rank 0 until all are
     // ranked.
-    fn ranking(&self, need: &NeedRef<'_>, id: CandId, packages: &Packages<'a>) -> RankedOption<'a>
+    fn ranking(
+        &self,
+        need: &NeedRef<'_>,
+        id: CandId,
+        packages: &Packages<'a>,
+        known: &KnownMatches,
+    ) -> RankedOption<'a>
         requires within { id < length self.now.candidates }
         requires own { candidates_of_packages packages.now ≡ self.now.candidates }
+        requires known { AreMatchesFor (source_text packages.now.sources.items) (need_by need.now)
+            known.now }
         ensures place { result.place ≡ id }
         ensures ranking { IsRankingIn self.now (need_by need.now) result }
         ensures texts { IsReadFrom packages.now.sources.items result }
@@ -228,7 +261,7 @@ impl<'a> Sealed<'a> {
             untagged: details.is_untagged(),
             named: need.name() == details.name(),
             kept: self.is_kept(id),
-            under: packages.version_under(place, need),
+            under: packages.version_under(place, need, known),
             priority: details.priority(),
             name: details.name(),
             version: packages.version(place),
@@ -237,12 +270,25 @@ impl<'a> Sealed<'a> {
         }
     }
 
-    // The places of the candidates that may be selected and meet a need, in rising order.
-    fn fitting(&self, alloc: Global, need: &NeedRef<'_>) -> Result<Vec<CandId>, AllocError>
-        ensures { IfOk result (λ ids. ids.items
+    // The places of the candidates that may be selected and meet a need, in rising order. What is
+    // learnt of long versions is kept.
+    fn fitting(
+        &self,
+        alloc: Global,
+        need: &NeedRef<'_>,
+        packages: &Packages<'a>,
+        known: &mut KnownMatches,
+    ) -> Result<Vec<CandId>, AllocError>
+        requires own { candidates_of_packages packages.now ≡ self.now.candidates }
+        requires known { AreMatchesFor (source_text packages.now.sources.items) (need_by need.now)
+            known.old }
+        ensures places { IfOk result (λ ids. ids.items
             ≡ places_from 0 (may_meet self.now (need_by need.now)) self.now.candidates) }
+        ensures known { IfOk result (λ _.
+            AreMatchesFor (source_text packages.now.sources.items) (need_by need.now) known.new) }
     {
-        let ids = self.fitting_among(alloc, need, self.offers(need.name()))?;
+        let places = self.offers(need.name());
+        let ids = self.fitting_among(alloc, need, places, packages, known)?;
         Ok(ids)
     }
 
@@ -252,29 +298,53 @@ impl<'a> Sealed<'a> {
         alloc: Global,
         need: &NeedRef<'_>,
         places: &[CandId],
+        packages: &Packages<'a>,
+        known: &mut KnownMatches,
     ) -> Result<Vec<CandId>, AllocError>
-        ensures { IfOk result (λ ids. ids.items
+        requires own { candidates_of_packages packages.now ≡ self.now.candidates }
+        requires known { AreMatchesFor (source_text packages.now.sources.items) (need_by need.now)
+            known.old }
+        ensures places { IfOk result (λ ids. ids.items
             ≡ filter (λ id. is_at self.now (may_meet self.now (need_by need.now)) id) places.now) }
+        ensures known { IfOk result (λ _.
+            AreMatchesFor (source_text packages.now.sources.items) (need_by need.now) known.new) }
     {
-        places
-            .iter()
-            .copied()
-            .filter(|id| self.fits(need, *id))
-            .collect(alloc)
+        let mut ids = Vec::new(alloc);
+        for id in places {
+            let fits = self.fits(need, *id, packages, known)?;
+            push_if_fitting(&mut ids, *id, fits)?;
+        }
+        Ok(ids)
     }
 
-    // Whether the candidate at a place may be selected and meets a need.
-    fn fits(&self, need: &NeedRef<'_>, id: CandId) -> bool
-        ensures { result ≡ is_at self.now (may_meet self.now (need_by need.now)) id }
+    // Whether the candidate at a place may be selected and meets a need. A long version that many
+    // candidates share is compared once.
+    fn fits(
+        &self,
+        need: &NeedRef<'_>,
+        id: CandId,
+        packages: &Packages<'a>,
+        known: &mut KnownMatches,
+    ) -> Result<bool, AllocError>
+        requires own { candidates_of_packages packages.now ≡ self.now.candidates }
+        requires known { AreMatchesFor (source_text packages.now.sources.items) (need_by need.now)
+            known.old }
+        ensures fits { IfOk result (λ fits. fits
+            ≡ is_at self.now (may_meet self.now (need_by need.now)) id) }
+        ensures known { IfOk result (λ _.
+            AreMatchesFor (source_text packages.now.sources.items) (need_by need.now) known.new) }
     {
         let place = id.place as usize;
-        if place >= self.packages.len() {
-            return false;
+        if place >= packages.len() {
+            return Ok(false);
         }
         if !self.eligible[place] {
-            return false;
+            return Ok(false);
         }
-        self.packages.get(place).meets_need(need)
+        if !need.has_long_version() {
+            return Ok(packages.get(place).meets_need(need));
+        }
+        packages.meets_need(place, need, known)
     }
 
     // Whether world pins the name of the candidate at a place to its tag.
@@ -298,6 +368,17 @@ impl<'a> Sealed<'a> {
         }
         self.kept[place]
     }
+}
+
+// Adds a place where its candidate fits.
+fn push_if_fitting(ids: &mut Vec<CandId>, id: CandId, fits: bool) -> Result<(), AllocError>
+    ensures { OnOk result
+        (ids.new.items ≡ ids.old.items ++ (if fits then id ∷ [] else [])) }
+{
+    if fits {
+        ids.push(id)?;
+    }
+    Ok(())
 }
 
 // The places of ranked options.

@@ -19,13 +19,19 @@ use Rattle.candidate_core.proofs.DependencyLists.{all_dependencies, dependencies
 use Rattle.candidate_core.proofs.ProvidedVersions.{first_found, no_dependency, passed_over}
 use Rattle.candidate_core.proofs.ReadWords.{word_sound, word_value, word_within}
 use Rattle.candidate_core.proofs.versions.provided_version.Goals as goal
-use Rattle.candidate_core.proofs.versions.provided_version.Goals.{in-Some+else-is_met_by_entry, in_default}
+use Rattle.candidate_core.proofs.versions.provided_version.Goals.{in-Some+else-is_met_as_known, in_default}
 
 abbrev version_of : Option Dependency → Option (List ℕ)
 version_of = option_and_then (λ (p : Dependency). p.version)
 
 pub read_entry-requires-clause-sound : goal.read_entry-requires-clause-sound
 read_entry-requires-clause-sound c =
+    let ws : List ℕ = array_entries c.objects_field-entries.result in
+    let within : c.loop-i.i < length ws = omega (arith, c.len-i-end.ensures.value, c.loop-i-test.true) in
+    word_sound (payload_of c.args.source.now.adb) (Kinds.Obj Tables.Dep) ws c.loop-i.i c.entry_word-entry.result c.objects_field-entries.ensures.sound within c.entry_word-entry.ensures
+
+pub is_met_as_known-requires-clause-sound : goal.is_met_as_known-requires-clause-sound
+is_met_as_known-requires-clause-sound c =
     let ws : List ℕ = array_entries c.objects_field-entries.result in
     let within : c.loop-i.i < length ws = omega (arith, c.len-i-end.ensures.value, c.loop-i-test.true) in
     word_sound (payload_of c.args.source.now.adb) (Kinds.Obj Tables.Dep) ws c.loop-i.i c.entry_word-entry.result c.objects_field-entries.ensures.sound within c.entry_word-entry.ensures
@@ -52,10 +58,10 @@ read_entry-requires-clause-texts c = λ known.
     let value : value_at p (Kinds.Obj Tables.Dep) word ≡ entry_in list i =
     word_value p (Kinds.Obj Tables.Dep) ws i word sound within c.entry_word-entry.ensures
     ∙ (ap (λ (l : Plain). nth (entries_in l) ((i + 1) - 1)) same ∙ ap (nth (entries_in list)) z) in
-    subst IsSoundDependency (sym value) ((c.requires.texts known).provides i there)
+    subst IsSoundDependency (sym value) ((c.requires.package.texts known).provides i there)
 
-pub returns-then-is_met_by_entry-clause-version : goal.returns-then-is_met_by_entry-clause-version
-returns-then-is_met_by_entry-clause-version c =
+pub returns-then-is_met_as_known-clause-version : goal.returns-then-is_met_as_known-clause-version
+returns-then-is_met_as_known-clause-version c =
     let p : List ℕ = payload_of c.args.source.now.adb in
     let ws : List ℕ = array_entries c.objects_field-entries.result in
     let i : ℕ = c.loop-i.i in
@@ -71,7 +77,7 @@ returns-then-is_met_by_entry-clause-version c =
     ∙ ap (λ (l : Plain). nth (entries_in l) ((i + 1) - 1)) same in
     c.version_of_entry.ensures.version
     ∙ sym (ap version_of (first_found (is_met_by_entry (dependency c.args.dep.now)) i (entries_in list) (value_at p (Kinds.Obj Tables.Dep) word) (dependency c.in-Some.found) there value
-    c.in-Some.ensures c.loop-i.invariant (sym c.is_met_by_entry.ensures ∙ c.if-is_met_by_entry.true)))
+    c.in-Some.ensures c.loop-i.invariant (sym c.is_met_as_known.ensures ∙ c.if-is_met_as_known.true)))
 
 pub loop-i-preserved : goal.loop-i-preserved
 loop-i-preserved c =
@@ -90,9 +96,9 @@ loop-i-preserved c =
     ∙ ap (λ (l : Plain). nth (entries_in l) ((i + 1) - 1)) same in
     let meets : Dependency → Bool = is_met_by_entry (dependency c.args.dep.now) in
     elim c.match-read_entry.branch [
-      | in-Some+else-is_met_by_entry w ↦
+      | in-Some+else-is_met_as_known w ↦
           passed_over meets i (entries_in list) (value_at p (Kinds.Obj Tables.Dep) word) (dependency w.in-Some.found) there value w.in-Some.ensures c.loop-i.invariant
-          (sym w.is_met_by_entry.ensures ∙ w.if-is_met_by_entry.false)
+          (sym w.is_met_as_known.ensures ∙ w.if-is_met_as_known.false)
       | in_default w ↦ no_dependency meets i (entries_in list) (value_at p (Kinds.Obj Tables.Dep) word) there value w.in_default.ensures c.loop-i.invariant
     ]
 

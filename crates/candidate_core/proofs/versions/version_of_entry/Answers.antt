@@ -1,4 +1,5 @@
-use Rattle.std.proofs.Common.{◌≡◌, ◌∙◌, List, ℕ, refl, ap, sym}
+use Rattle.std.proofs.Common.{◌≡◌, ◌∙◌, List, ℕ, refl, ap, subst, sym}
+use Rattle.std.specs.Prelude.{IfSome, Option}
 use Rattle.adb_view.specs.Adb.{payload_of}
 use Rattle.adb_view.specs.Plain.{Plain}
 use Rattle.adb_tables.specs.Values.{entry_in, text_in, value_at}
@@ -14,10 +15,10 @@ returns-clause-text c =
     let p : List ℕ = payload_of c.args.source.now.adb in
     let value : Plain = value_at p (Kinds.Obj Tables.Dep) c.args.entry in
     let text : List ℕ = text_in (value_at p Kinds.Text c.if-is_some.word) in
-    elim c.if-is_some.branch [
+    subst (λ (o : Option (List ℕ)). IfSome o (λ v. v ≡ text)) (sym c.same_version.ensures) (elim c.if-is_some.branch [
       | then-is_some w ↦
           let same : text ≡ text_in (entry_in value 1) =
           ap (λ (word : ℕ). text_in (value_at p Kinds.Text word)) (w.word-is ∙ w.word-word.ensures) ∙ ap text_in (w.field_word.ensures Kinds.Text refl).1 in
-          provided_text value (dependency c.args.found) text c.requires.found same
-      | else-is_some w ↦ none_read c.args.found.version text (sym c.is_some.ensures ∙ w.if-is_some.false)
-    ]
+          provided_text value (dependency c.args.found.now) text c.requires.found same
+      | else-is_some w ↦ none_read c.args.found.now.version text (sym c.is_some.ensures ∙ w.if-is_some.false)
+    ])

@@ -6,8 +6,8 @@ use Rattle.candidate_core.specs.Values.{need_by}
 use Rattle.pool_core.proofs.Filtered.{fitting_places}
 use Rattle.pool_core.proofs.sealed.Sealed.fitting.Goals as goal
 
-pub returns : goal.returns
-returns c =
+pub returns-clause-places : goal.returns-clause-places
+returns-clause-places c =
     let pool = c.args.self.now in
     let need = need_by c.args.need.now in
-    c.in_ok-ids.ensures ∙ (ap (filter (λ (k : ℕ). is_at pool (may_meet pool need) k)) (c.offers.ensures ∙ ap (λ (name : List ℕ). places_offering name pool.candidates) c.name.ensures) ∙ fitting_places pool need)
+    c.in_ok-ids.ensures.places ∙ (ap (filter (λ (k : ℕ). is_at pool (may_meet pool need) k)) (c.offers-places.ensures ∙ ap (λ (name : List ℕ). places_offering name pool.candidates) c.name.ensures) ∙ fitting_places pool need)

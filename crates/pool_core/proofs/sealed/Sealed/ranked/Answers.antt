@@ -33,7 +33,7 @@ returns c =
     let up : IsSortedBy better (map place_of sorted) =
     sorted_by_key versions pool need read c.in_ok-rankings.ensures.each key ready sorted c.in_ok-key.ensures permutation
     (c.in_ok-sort_by.ensures.sorted (comes_before key) order (compares_by _ (ranking_cmp key) _ (λ a r q k. search rules))) in
-    let was : map place_of read ≡ places = c.in_ok-rankings.ensures.places ∙ c.requires in
+    let was : map place_of read ≡ places = c.in_ok-rankings.ensures.places ∙ c.requires.those in
     let moved : IsPermutation (map place_of read) (map place_of sorted) =
     IsPermutation-trans (map place_of read) (map place_of ready) (map place_of sorted)
     (places_ready versions pool need read c.in_ok-rankings.ensures.each key ready c.in_ok-key.ensures) (IsPermutation-map place_of ready sorted permutation) in

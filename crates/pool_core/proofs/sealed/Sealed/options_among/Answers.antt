@@ -2,8 +2,14 @@ use Rattle.std.proofs.Common.{◌≡◌, ◌∙◌, List, ℕ, Bool, ap, sym, ar
 use Rattle.candidate_core.specs.Options.{options_for, rank_order_of}
 use Rattle.candidate_core.specs.Rank.{is_better}
 use Rattle.candidate_core.specs.Values.{need_by}
+use Rattle.candidate_core.specs.VersionTexts.{source_text}
+use Rattle.candidate_core.proofs.WantedVersions.{known_of_nothing}
 use Rattle.option_ranks.proofs.RankedOptions.{few_ranked}
-use Rattle.pool_core.proofs.sealed.Sealed.options_for.Goals as goal
+use Rattle.pool_core.proofs.sealed.Sealed.options_among.Goals as goal
+
+pub fitting-requires-clause-known : goal.fitting-requires-clause-known
+fitting-requires-clause-known c =
+    known_of_nothing (source_text c.args.packages.now.sources.items) (need_by c.args.need.now) c.new-known.result c.new-known.ensures
 
 pub returns-then-len-lt2 : goal.returns-then-len-lt2
 unfolding options_for
@@ -11,4 +17,4 @@ returns-then-len-lt2 c =
     let better : ℕ → ℕ → Bool = is_better c.args.self.now (need_by c.args.need.now) in
     let ids : List ℕ = c.in_ok-ids.ids.items in
     let few : rank_order_of better ids ≡ ids = few_ranked better ids (omega arith) in
-    c.of.ensures ∙ (sym few ∙ ap (rank_order_of better) c.in_ok-ids.ensures)
+    c.of.ensures ∙ (sym few ∙ ap (rank_order_of better) c.in_ok-ids.ensures.places)

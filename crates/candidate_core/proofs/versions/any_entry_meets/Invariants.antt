@@ -1,0 +1,16 @@
+-- No entry so far meets the dependency, and what is kept is right.
+use Rattle.std.proofs.Common.{◌≡◌, ℕ, List, false}
+use Rattle.std.specs.List.{list_any}
+use Rattle.adb_tables.specs.Values.{entries_in, entry_in}
+use Rattle.dep_core.specs.Meets.{dependency}
+use Rattle.candidate_core.specs.Candidates.{is_met_by_entry}
+use Rattle.candidate_core.specs.Matches.{AreMatchesOf, IsTextOf}
+use Rattle.candidate_core.specs.PackageWords.{info_in_source}
+use Rattle.candidate_core.proofs.DependencyLists.{dependencies_to}
+use Rattle.candidate_core.proofs.versions.any_entry_meets.Given as goal
+
+abbrev pub invariant-loop-i : goal.invariant-loop-i
+invariant-loop-i l =
+    (text : ℕ → ℕ → List ℕ) → IsTextOf l.source l.kept.source text → AreMatchesOf text (dependency l.dep) l.initial.known
+    → (list_any (is_met_by_entry (dependency l.dep)) (dependencies_to l.i (entries_in (entry_in (info_in_source l.source l.kept.word) 15))) ≡ false)
+    × AreMatchesOf text (dependency l.dep) l.known

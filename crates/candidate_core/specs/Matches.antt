@@ -1,0 +1,47 @@
+-- What is known of the versions that one dependency wants.
+-- No rule of a document: serves the contracts of `src/matches.rt` and `src/versions.rt`, where
+-- answers are kept.
+use Rattle.std.specs.Prelude.{◌≡◌, ℕ, Bool, List, Option, Some}
+use Rattle.std.specs.BTreeMap.{get}
+use Rattle.std.specs.Ordering.{nat_cmp, ordering_then}
+use Rattle.std.specs.declared.cmp.Ordering.{Ordering}
+use Rattle.dep_core.specs.Dependency.{Dependency}
+use Rattle.dep_core.specs.Meets.{is_wanted}
+use Rattle.adb_view.specs.Adb.{payload_of}
+use Rattle.adb_tables.specs.Values.{text_in, value_at}
+use Rattle.adb_tables.specs.declared.tables.Kind.TheVariants.{Text}
+use Rattle.candidate_core.specs.Candidates.{Need, entry, named}
+use Rattle.candidate_core.specs.declared.matches.KnownMatches.{KnownMatches}
+use Rattle.candidate_core.specs.declared.packages.Source.{Source}
+
+-- whether a dependency wants a version, if there is one
+abbrev pub is_wanted_by : Dependency → Option (List ℕ) → Bool
+is_wanted_by d version = is_wanted d.version d.bits version
+
+-- the order of the places of texts: by their sources, and in one source by their words
+abbrev pub place_cmp : ℕ × ℕ → ℕ × ℕ → Ordering
+place_cmp one other = ordering_then (nat_cmp one.0 other.0) (nat_cmp one.1 other.1)
+
+-- this answer is kept for the version that has a word in a source
+abbrev pub IsMatchOf : KnownMatches → ℕ → ℕ → Bool → Type 0
+IsMatchOf known source word answer = get place_cmp known.answers (source, word) ≡ Some answer
+
+-- each answer that is kept is whether the dependency wants the text at its place
+abbrev pub AreMatchesOf : (ℕ → ℕ → List ℕ) → Dependency → KnownMatches → Type 0
+AreMatchesOf text d known = (source word : ℕ) (answer : Bool)
+    → IsMatchOf known source word answer → answer ≡ is_wanted_by d (Some (text source word))
+
+-- the same for a need; where a name is needed nothing is asked of versions
+abbrev pub AreMatchesFor : (ℕ → ℕ → List ℕ) → Need → KnownMatches → Type 0
+AreMatchesFor text (entry d) known = AreMatchesOf text d known
+AreMatchesFor text (named name) known = Unit {0}
+
+-- at this place it gives the texts of a source
+abbrev pub IsTextOf : Source → ℕ → (ℕ → ℕ → List ℕ) → Type 0
+IsTextOf source place text = (word : ℕ)
+    → text place word ≡ text_in (value_at (payload_of source.adb) Text word)
+
+-- what is kept for a need is right, by texts among which are those of the source at this place
+abbrev pub AreMatchesIn : Source → ℕ → Need → KnownMatches → Type 0
+AreMatchesIn source place need known = (text : ℕ → ℕ → List ℕ)
+    × IsTextOf source place text × AreMatchesFor text need known
