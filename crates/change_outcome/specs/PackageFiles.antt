@@ -18,6 +18,7 @@ use Rattle.package_files.specs.Folders.{is_slash}
 use Rattle.pkg_core.specs.Contents.{Contents, contents_in}
 use Rattle.pkg_core.specs.Whole.{files_in_file, package_fault, package_id}
 use Rattle.candidate_core.specs.Candidates.{Candidate, is_same_id}
+use Rattle.report_core.specs.Numbers.{PRE_INSTALL_SCRIPT, POST_INSTALL_SCRIPT, PRE_DEINSTALL_SCRIPT, POST_DEINSTALL_SCRIPT, PRE_UPGRADE_SCRIPT, POST_UPGRADE_SCRIPT}
 use Rattle.report_core.specs.Reports.{Change, Downgrade, Install, Purge, Reinstall, Replace, Upgrade, name_version}
 use Rattle.report_core.specs.declared.refusal.Refusal.{Refusal}
 use Rattle.report_core.specs.declared.refusal.Refusal.TheVariants.{PackageBad, PackageDiffers, PackageMissing, ScriptNeeded}
@@ -127,21 +128,17 @@ first_script_of pkg [] = None
 first_script_of pkg (number ∷ numbers) =
     if has_script_of pkg number then Some number else first_script_of pkg numbers
 
--- the number of the trigger script in the table of scripts (table 6)
-abbrev pub trigger_script : ℕ
-trigger_script = 1
-
 -- the numbers of pre-install and post-install
 abbrev pub install_scripts : List ℕ
-install_scripts = 2 ∷ 3 ∷ []
+install_scripts = PRE_INSTALL_SCRIPT ∷ POST_INSTALL_SCRIPT ∷ []
 
 -- the numbers of pre-deinstall and post-deinstall
 abbrev pub deinstall_scripts : List ℕ
-deinstall_scripts = 4 ∷ 5 ∷ []
+deinstall_scripts = PRE_DEINSTALL_SCRIPT ∷ POST_DEINSTALL_SCRIPT ∷ []
 
 -- the numbers of pre-upgrade and post-upgrade
 abbrev pub upgrade_scripts : List ℕ
-upgrade_scripts = 6 ∷ 7 ∷ []
+upgrade_scripts = PRE_UPGRADE_SCRIPT ∷ POST_UPGRADE_SCRIPT ∷ []
 
 -- the scripts that the change of a package would run
 abbrev pub scripts_of_change : Change → List ℕ

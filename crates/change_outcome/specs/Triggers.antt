@@ -14,7 +14,8 @@ use Rattle.package_files.specs.Folders.{folder_of}
 use Rattle.report_core.specs.Reports.{report_line, trigger_text}
 use Rattle.report_core.specs.declared.refusal.Refusal.{Refusal}
 use Rattle.report_core.specs.declared.refusal.Refusal.TheVariants.{TriggerNeeded}
-use Rattle.change_outcome.specs.PackageFiles.{has_script_of, trigger_script}
+use Rattle.change_outcome.specs.PackageFiles.{has_script_of}
+use Rattle.report_core.specs.Numbers.{TRIGGER_SCRIPT}
 
 -- ---- patterns
 
@@ -67,7 +68,7 @@ is_watched pkg folder = list_any (is_folder_matched folder) (patterns_of pkg)
 -- whether the trigger of a package is due for a folder: it watches the folder and has a trigger
 -- script
 abbrev pub is_due : Plain → List ℕ → Bool
-is_due pkg folder = has_script_of pkg trigger_script && is_watched pkg folder
+is_due pkg folder = has_script_of pkg TRIGGER_SCRIPT && is_watched pkg folder
 
 -- the folders of files, in byte order, each once; folders further up do not count
 abbrev pub folders_of_paths : List (List ℕ) → List (List ℕ)

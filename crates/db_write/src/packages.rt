@@ -105,8 +105,8 @@ fn write_package_scripts<'a>(
 
 /// Writes the triggers of a package: the patterns of folders that its trigger watches.
 fn write_triggers(alloc: Global, draft: &mut Draft, pkg: &PackageView<'_>) -> Result<(), AllocError>
-    ensures { OnOk result (draft.new
-        ≡ draft_with (without_zeros (entry_in (package_value pkg.now) PACKAGE_TRIGGERS)) draft.old) }
+    ensures { OnOk result (draft.new ≡ draft_with
+        (without_zeros (entry_in (package_value pkg.now) PACKAGE_TRIGGERS)) draft.old) }
 {
     let adb = pkg.adb();
     let mut known = KnownTexts::new(alloc);

@@ -7,7 +7,8 @@ ghost use Rattle.adb_fields.specs.ListValue.{list_value};
 ghost use Rattle.adb_fields.specs.Repeated.{package_name};
 ghost use Rattle.adb_schema.specs.Views.{package_value};
 ghost use Rattle.adb_tables.specs.Values.{count_of, entries_in, entry_in, text_in};
-ghost use Rattle.change_outcome.specs.PackageFiles.{has_script_of, trigger_script};
+ghost use Rattle.change_outcome.specs.PackageFiles.{has_script_of};
+ghost use Rattle.report_core.specs.Numbers.{TRIGGER_SCRIPT};
 ghost use Rattle.change_outcome.specs.Triggers.{is_folder_matched, is_watched};
 ghost use Rattle.std.specs.Prelude.{◌≡◌, ◌<◌};
 
@@ -28,7 +29,7 @@ pub(crate) fn has_trigger_script<'a>(
     pkg: &PackageView<'a>,
     _mark: PhantomData<PackageView<'a>>,
 ) -> bool
-    ensures { result ≡ has_script_of (package_value pkg.now) trigger_script }
+    ensures { result ≡ has_script_of (package_value pkg.now) TRIGGER_SCRIPT }
 {
     let scripts = pkg.scripts();
     !scripts.trigger().is_empty()

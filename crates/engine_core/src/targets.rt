@@ -3,6 +3,7 @@
 //! text.
 ghost use Rattle.adb_fields.specs.ListValue.{list_value};
 ghost use Rattle.adb_schema.specs.Views.{package_value};
+ghost use Rattle.adb_tables.specs.FieldIndexes.{PACKAGE_PATHS};
 ghost use Rattle.adb_tables.specs.Values.{count_of, entries_in, entry_in};
 ghost use Rattle.db_core.specs.Seen.{members_of};
 ghost use Rattle.engine_core.specs.Writing.{entry_of_write};
@@ -28,9 +29,9 @@ pub(crate) fn target_of<'c>(members: &Members<'c>, write: &Write) -> &'c [u8]
 
 /// The target of a package's file; positions of folder and file count from 1.
 fn target_in<'c>(pkg: &PackageView<'c>, folder: u32, file: u32) -> &'c [u8]
-    requires { HasFileAt (entry_in (package_value pkg.now) 1) folder file }
+    requires { HasFileAt (entry_in (package_value pkg.now) PACKAGE_PATHS) folder file }
     ensures { result.now
-        ≡ file_target (listed_file_at (entry_in (package_value pkg.now) 1) folder file) }
+        ≡ file_target (listed_file_at (entry_in (package_value pkg.now) PACKAGE_PATHS) folder file) }
 {
     target_in_folders(&pkg.paths(), folder, file)
 }

@@ -13,7 +13,8 @@ use Rattle.change_inputs.specs.Chains.{and_then}
 use Rattle.change_inputs.specs.Inputs.{Inputs}
 use Rattle.change_outcome.specs.ChangeOutcome.{ChangeDone, ChangeWishes, IsClashFound, IsClashOfChange, actions_of, change_done, change_members, change_or_refusal, change_with_members, file_change, name_at_place, new_records, touched_paths, unless_clash, unless_contested, unless_large, unless_overflow, unless_reserved_path, unless_too_large}
 use Rattle.change_outcome.specs.MembersAfter.{MemberFound}
-use Rattle.change_outcome.specs.PackageFiles.{has_script_of, trigger_script}
+use Rattle.change_outcome.specs.PackageFiles.{has_script_of}
+use Rattle.report_core.specs.Numbers.{TRIGGER_SCRIPT}
 use Rattle.change_outcome.specs.Triggers.{folders_of_paths, has_due_trigger, is_due, is_folder_matched, is_watched, patterns_of, unless_trigger}
 use Rattle.db_core.specs.Members.{Member, member_name}
 use Rattle.db_write.specs.NewDatabase.{database_container, database_of, database_value}
@@ -80,10 +81,10 @@ trigger_of paths (m ∷ members) refusal e = by_test (has_due_trigger (folders_o
     by_test true due e more = (m, inl refl, due, (let same : TriggerNeeded (member_name m) ≡ refusal = cc in same))
     by_test false due e more = let other = more e in (other.0, inr other.1, other.2, other.3)
 
-watches : (change : FileChange) (files : Files) (pkg : Plain) → has_due_trigger (folders_of_paths (touched_paths change files)) pkg ≡ true → (has_script_of pkg trigger_script ≡ true) × IsWatchedFor change files pkg
+watches : (change : FileChange) (files : Files) (pkg : Plain) → has_due_trigger (folders_of_paths (touched_paths change files)) pkg ≡ true → (has_script_of pkg TRIGGER_SCRIPT ≡ true) × IsWatchedFor change files pkg
 watches change files pkg due =
     let folder = any_in (is_due pkg) (folders_of_paths (touched_paths change files)) due in
-    let both = and_parts (has_script_of pkg trigger_script) (is_watched pkg folder.0) folder.2 in
+    let both = and_parts (has_script_of pkg TRIGGER_SCRIPT) (is_watched pkg folder.0) folder.2 in
     let pattern = any_in (is_folder_matched folder.0) (patterns_of pkg) both.1 in
     let path = mapped_in folder_of (touched_paths change files) folder.0 (from_order folder.0 (map folder_of (touched_paths change files)) (in_names folder.0 (folders_of_paths (touched_paths change files)) folder.1)) in (
       both.0,

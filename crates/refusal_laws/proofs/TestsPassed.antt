@@ -11,7 +11,8 @@ use Rattle.change_inputs.specs.Chains.{and_then}
 use Rattle.change_inputs.specs.Inputs.{Inputs}
 use Rattle.change_outcome.specs.ChangeOutcome.{ChangeDone, ChangeWishes, IsClashFound, IsClashOfChange, change_members, change_or_refusal, change_with_members, file_change, name_at_place, touched_paths, unless_clash, unless_contested, unless_reserved_path, unless_too_large}
 use Rattle.change_outcome.specs.MembersAfter.{MemberFound}
-use Rattle.change_outcome.specs.PackageFiles.{has_script_of, trigger_script}
+use Rattle.change_outcome.specs.PackageFiles.{has_script_of}
+use Rattle.report_core.specs.Numbers.{TRIGGER_SCRIPT}
 use Rattle.change_outcome.specs.Triggers.{folders_of_paths, has_due_trigger, is_due, is_folder_matched, is_watched, patterns_of, unless_trigger}
 use Rattle.db_core.specs.Members.{Member, member_name}
 use Rattle.file_owners.specs.Owners.{contested_of}
@@ -33,13 +34,13 @@ use Rattle.refusal_laws.proofs.Paths.{are_unreserved, have_owners}
 both_hold : (a b : Bool) → a ≡ true → b ≡ true → (a && b) ≡ true
 both_hold a b h g = ap (λ x. x && b) h ∙ g
 
-is_due_where : (change : FileChange) (files : Files) (pkg : Plain) → has_script_of pkg trigger_script ≡ true → IsWatchedFor change files pkg → has_due_trigger (folders_of_paths (touched_paths change files)) pkg ≡ true
+is_due_where : (change : FileChange) (files : Files) (pkg : Plain) → has_script_of pkg TRIGGER_SCRIPT ≡ true → IsWatchedFor change files pkg → has_due_trigger (folders_of_paths (touched_paths change files)) pkg ≡ true
 is_due_where change files pkg has watched =
     let folders : List (List ℕ) = map folder_of (touched_paths change files) in
     let folder : List ℕ = folder_of watched.path in
     in_any (is_due pkg) (folders_of_paths (touched_paths change files)) folder
     (name_in folder (folders_of_paths (touched_paths change files)) (in_order folder folders (in_mapped folder_of (touched_paths change files) watched.path watched.touched)))
-    (both_hold (has_script_of pkg trigger_script) (is_watched pkg folder) has (in_any (is_folder_matched folder) (patterns_of pkg) watched.pattern watched.is_pattern watched.matched))
+    (both_hold (has_script_of pkg TRIGGER_SCRIPT) (is_watched pkg folder) has (in_any (is_folder_matched folder) (patterns_of pkg) watched.pattern watched.is_pattern watched.matched))
 
 none_due : (paths : List (List ℕ)) (members : List Member) (is_allowed : Bool) → unless_trigger false paths members ≡ Ok is_allowed → (m : Member) → IsIn m members → has_due_trigger (folders_of_paths paths) m.pkg ≡ true → ⊥
 none_due paths [] is_allowed e m here due = here

@@ -12,7 +12,8 @@ use Rattle.change_files.specs.NamesAfter.{coming_paths, name_change}
 use Rattle.change_inputs.specs.Inputs.{Inputs}
 use Rattle.change_outcome.specs.ChangeOutcome.{ChangeWishes, actions_of, change_members, file_change, new_records, touched_paths}
 use Rattle.change_outcome.specs.MembersAfter.{MemberFound, members_found}
-use Rattle.change_outcome.specs.PackageFiles.{has_script_of, trigger_script}
+use Rattle.change_outcome.specs.PackageFiles.{has_script_of}
+use Rattle.report_core.specs.Numbers.{TRIGGER_SCRIPT}
 use Rattle.change_outcome.specs.Triggers.{is_folder_matched, patterns_of}
 use Rattle.db_core.specs.Members.{Listing, Member, member_listings, member_name}
 use Rattle.db_write.specs.NewDatabase.{database_of, database_value}
@@ -78,7 +79,7 @@ pub record IsTriggerNeeded (wishes : ChangeWishes) (change : FileChange) (files 
   pub member : Member
   pub stands : IsIn member change.members
   pub named : member_name member ≡ name
-  pub has : has_script_of member.pkg trigger_script ≡ true
+  pub has : has_script_of member.pkg TRIGGER_SCRIPT ≡ true
   pub watches : IsWatchedFor change files member.pkg
 
 -- ---- limits

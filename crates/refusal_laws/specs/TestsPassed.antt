@@ -8,7 +8,8 @@ use Rattle.base_core.specs.Files.{Files}
 use Rattle.change_files.specs.FileChange.{FileChange}
 use Rattle.change_files.specs.NamesAfter.{coming_paths, name_change}
 use Rattle.change_outcome.specs.ChangeOutcome.{ChangeWishes}
-use Rattle.change_outcome.specs.PackageFiles.{has_script_of, trigger_script}
+use Rattle.change_outcome.specs.PackageFiles.{has_script_of}
+use Rattle.report_core.specs.Numbers.{TRIGGER_SCRIPT}
 use Rattle.db_core.specs.Members.{Listing, Member, member_listings}
 use Rattle.file_owners.specs.Owners.{owner_of_path}
 use Rattle.path_clashes.specs.Clash.{HasNoClash}
@@ -31,7 +32,7 @@ HaveOwners members =
 abbrev pub HasNoTrigger : ChangeWishes → FileChange → Files → Type 0
 HasNoTrigger wishes change files =
     wishes.no_scripts ≡ false → (m : Member) → IsIn m change.members
-    → has_script_of m.pkg trigger_script ≡ true → IsWatchedFor change files m.pkg → ⊥
+    → has_script_of m.pkg TRIGGER_SCRIPT ≡ true → IsWatchedFor change files m.pkg → ⊥
 
 -- the first two tests of files passed: no path is reserved and no name clashes
 abbrev pub HasNamesOfItsOwn : FileChange → Files → Type 0

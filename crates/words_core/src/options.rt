@@ -60,10 +60,17 @@ static EARLY_WORDS: [&[u8]; 5] = [
 ];
 
 // The options of every applet.
-#[rattlefmt::skip]
 static COMMON: [OptionRow; 2] = [
-    OptionRow { long: b"--allow-untrusted", short: b"", meaning: Meaning::Flag(Flag::AllowUntrusted) },
-    OptionRow { long: b"--no-scripts", short: b"", meaning: Meaning::Flag(Flag::NoScripts) },
+    OptionRow {
+        long: b"--allow-untrusted",
+        short: b"",
+        meaning: Meaning::Flag(Flag::AllowUntrusted),
+    },
+    OptionRow {
+        long: b"--no-scripts",
+        short: b"",
+        meaning: Meaning::Flag(Flag::NoScripts),
+    },
 ];
 
 // The option of `add` that begins a database where there is none.

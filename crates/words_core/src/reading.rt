@@ -232,8 +232,8 @@ impl OptionState {
         held: Option<&[u8]>,
         rule: ValueRule,
     ) -> Result<bool, AllocError>
-        ensures { IfOk result (λ good. IsReadingStep good self.old self.new (with_rule self.old place
-            (option_map (λ text. text.now) held.entry) rule)) }
+        ensures { IfOk result (λ good. IsReadingStep good self.old self.new
+            (with_rule self.old place (option_map (λ text. text.now) held.entry) rule)) }
     {
         if self.values.are_spent(rule) {
             return Ok(false);
