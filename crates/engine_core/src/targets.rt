@@ -30,8 +30,8 @@ pub(crate) fn target_of<'c>(members: &Members<'c>, write: &Write) -> &'c [u8]
 /// The target of a package's file; positions of folder and file count from 1.
 fn target_in<'c>(pkg: &PackageView<'c>, folder: u32, file: u32) -> &'c [u8]
     requires { HasFileAt (entry_in (package_value pkg.now) PACKAGE_PATHS) folder file }
-    ensures { result.now
-        ≡ file_target (listed_file_at (entry_in (package_value pkg.now) PACKAGE_PATHS) folder file) }
+    ensures { result.now ≡ file_target
+        (listed_file_at (entry_in (package_value pkg.now) PACKAGE_PATHS) folder file) }
 {
     target_in_folders(&pkg.paths(), folder, file)
 }

@@ -44,29 +44,29 @@ pub(crate) fn put(
     Ok(())
 }
 
-/// Adds each name with the bytes of its file, as `NAME=BYTES`.
+/// The files of a tree in words: each name with the bytes of its file, as `NAME=BYTES`.
+pub(crate) fn text_of(alloc: Global, tree: &MemoryTree) -> Result<Vec<u8>, AllocError> {
+    let names = tree.names(alloc)?;
+    let mut text = Vec::new(alloc);
+    for i in 0..names.len() {
+        let name = names.get(i);
+        let bytes = tree.file(name).unwrap_or(b"absent");
+        add_named(&mut text, name.as_bytes(), bytes)?;
+    }
+    Ok(text)
+}
+
+/// Adds the files of a tree in words, if it has any.
 pub(crate) fn add_tree(
     alloc: Global,
     tree: &MemoryTree,
     answer: &mut Vec<u8>,
 ) -> Result<(), AllocError> {
-    let names = tree.names(alloc)?;
-    for i in 0..names.len() {
-        let name = names.get(i);
-        add_named(
-            answer,
-            name.as_bytes(),
-            tree.file(name).unwrap_or(b"absent"),
-        )?;
+    let text = text_of(alloc, tree)?;
+    if text.is_empty() {
+        return Ok(());
     }
-    Ok(())
-}
-
-/// Each name with the bytes of its file.
-pub(crate) fn text_of(alloc: Global, tree: &MemoryTree) -> Result<Vec<u8>, AllocError> {
-    let mut text = Vec::new(alloc);
-    add_tree(alloc, tree, &mut text)?;
-    Ok(text)
+    add_word(answer, &text)
 }
 
 /// Adds a count, and what is counted before it.
