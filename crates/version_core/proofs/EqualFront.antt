@@ -2,7 +2,7 @@
 use Rattle.std.proofs.Common.{◌≡◌, ℕ, zero, suc, ◌+◌, ◌-◌, ◌<◌, ◌≤◌, Bool, true, false, ◌&&◌, ◌||◌, cond, eqb, ltb, List, [], ◌∷◌, ◌++◌, take, drop, get_or, length, Option, Some, None, refl, ap, sym, ◌∙◌, subst, arith, Ordering}
 use Rattle.std.specs.Prelude.{not}
 use Rattle.std.specs.Char.{is_ascii_digit, is_ascii_lowercase}
-use Rattle.std.specs.List.{take_while, list_all}
+use Rattle.std.specs.List.{take_while}
 use Rattle.std.specs.Ordering.{nat_cmp, ordering_then}
 use Rattle.std.specs.Cmp.Lexicographic.{slice_cmp}
 use Rattle.std.proofs.lemmas.Bool.{false≢true}
@@ -15,7 +15,7 @@ use Rattle.version_core.specs.declared.token.Class.{Class}
 use Rattle.version_core.specs.declared.token.Class.TheVariants.{Revision, Hash, SuffixNumber, Letter, Component}
 use Rattle.version_core.specs.Token.{Token, Lexeme, number_token, text_token, lexeme, stray_lexeme, is_component, is_suffix, is_before_hash, is_before_revision, is_hex_digit, leading_digits, leading_hex_digits, leading_letters, number_lexeme, component_lexeme, suffix_lexeme, hash_lexeme, revision_lexeme, next_lexeme, lexeme_at}
 use Rattle.version_core.specs.Order.{are_in_grammar, is_last, is_stray, is_version, token_cmp, tokens, tokens_behind, version_cmp}
-use Rattle.version_core.specs.Reading.{AreEqualUpTo, IsLastMark, begins_with_mark, hash_cmp, is_token_mark}
+use Rattle.version_core.specs.Reading.{AreEqualUpTo, IsLastMark, begins_with_mark, hash_cmp, is_token_mark, is_unmarked}
 use Rattle.version_core.proofs.OrderLaws.{token_cmp-total}
 use Rattle.version_core.proofs.Places.{NoEnd, number_no_end, some_no_end, stray_first}
 use Rattle.version_core.proofs.Walk.{lexeme_at_within}
@@ -26,7 +26,7 @@ or_cases : {P : Type 0} (a b : Bool) → (a || b) ≡ true → (a ≡ true → P
 or_cases true b h f g = f refl
 or_cases false b h f g = g h
 
-by_mark : (P : ℕ → Type 0) (m : ℕ) → is_token_mark m ≡ true → P 46 → P 95 → P 126 → P 45 → P m
+pub by_mark : (P : ℕ → Type 0) (m : ℕ) → is_token_mark m ≡ true → P 46 → P 95 → P 126 → P 45 → P m
 by_mark P m h dot line tilde dash =
     let at : (n : ℕ) → P n → eqb m n ≡ true → P m = λ n p e. subst P (sym ((Decides-eqb m n).0 e)) p in
     or_cases (eqb m 46 || eqb m 95 || eqb m 126) (eqb m 45) h
@@ -95,7 +95,7 @@ mark_lexeme (Some last) m x mark h =
 
 -- ---- the tokens of a text that is in the grammar
 
-abbrev IsGood : Option Class → ℕ → List ℕ → Type 0
+abbrev pub IsGood : Option Class → ℕ → List ℕ → Type 0
 IsGood last inside text = are_in_grammar (tokens_behind last inside text) ≡ true
 
 no_end : (last : Option Class) (b : ℕ) (rest : List ℕ) → NoEnd (lexeme_at last (b ∷ rest))
@@ -106,14 +106,14 @@ bool_by : (b : Bool) → (b ≡ true → false ≡ true) → b ≡ false
 bool_by true f = sym (f refl)
 bool_by false f = refl
 
-goes_on : (last : Option Class) (b : ℕ) (rest : List ℕ) → IsGood last 0 (b ∷ rest) → is_last (lexeme_at last (b ∷ rest)).token.class ≡ false
+pub goes_on : (last : Option Class) (b : ℕ) (rest : List ℕ) → IsGood last 0 (b ∷ rest) → is_last (lexeme_at last (b ∷ rest)).token.class ≡ false
 goes_on last b rest good = bool_by _ (λ h. sym (stray_first last (b ∷ rest) (no_end last b rest) h) ∙ good)
 
 -- the tokens behind a token, where it begins a text of which so much stands behind its first byte
 abbrev tokens_by : List ℕ → Lexeme → List Token
 tokens_by rest found = found.token ∷ cond (is_last found.token.class) [] (tokens_behind (Some found.token.class) (found.width - 1) rest)
 
-good_behind : (rest : List ℕ) (found : Lexeme) (stray : Bool) (last : Bool) → last ≡ false → (not stray && are_in_grammar (cond last [] (tokens_behind (Some found.token.class) (found.width - 1) rest))) ≡ true → IsGood (Some found.token.class) (found.width - 1) rest
+pub good_behind : (rest : List ℕ) (found : Lexeme) (stray : Bool) (last : Bool) → last ≡ false → (not stray && are_in_grammar (cond last [] (tokens_behind (Some found.token.class) (found.width - 1) rest))) ≡ true → IsGood (Some found.token.class) (found.width - 1) rest
 good_behind rest found true last e h = absurd (false≢true h)
 good_behind rest found false true e h = absurd (false≢true (sym e))
 good_behind rest found false false e h = h
@@ -146,7 +146,7 @@ cmp_front last zero (b ∷ a) m x y mark room left right =
     (good_behind (a ++ m ∷ y) found (is_stray found.token.class) (is_last found.token.class) on (ap (λ (l : Lexeme). are_in_grammar (tokens_by (a ++ m ∷ y) l)) (sym f) ∙ right))
 
 -- and each is in the grammar from the mark on
-good_front : (last : Option Class) (inside : ℕ) (a : List ℕ) (m : ℕ) (x : List ℕ) → is_token_mark m ≡ true → inside ≤ length a → IsGood last inside (a ++ m ∷ x) → IsGood (Some Component) 0 (m ∷ x)
+pub good_front : (last : Option Class) (inside : ℕ) (a : List ℕ) (m : ℕ) (x : List ℕ) → is_token_mark m ≡ true → inside ≤ length a → IsGood last inside (a ++ m ∷ x) → IsGood (Some Component) 0 (m ∷ x)
 good_front last zero [] m x mark room good =
     ap (λ (l : Lexeme). are_in_grammar (tokens_by x l)) (sym (mark_lexeme last m x mark (goes_on last m x good))) ∙ good
 good_front last (suc inside) [] m x mark room good = absurd (omega arith)
@@ -161,18 +161,15 @@ good_front last zero (b ∷ a) m x mark room good =
 
 -- ---- within the hash of both
 
-abbrev is_unmarked : List ℕ → Bool
-is_unmarked text = list_all (λ b. not (is_token_mark b)) text
-
 and_false : (b : Bool) → (b && false) ≡ false
 and_false true = refl
 and_false false = refl
 
-and_left : (a b : Bool) → (a && b) ≡ true → a ≡ true
+pub and_left : (a b : Bool) → (a && b) ≡ true → a ≡ true
 and_left true b h = refl
 and_left false b h = absurd (false≢true h)
 
-and_right : (a b : Bool) → (a && b) ≡ true → b ≡ true
+pub and_right : (a b : Bool) → (a && b) ≡ true → b ≡ true
 and_right true b h = h
 and_right false b h = absurd (false≢true h)
 
@@ -242,11 +239,11 @@ hash_front digits x y plain left right =
 -- ---- what the code passes over
 
 -- a text with the mark at which it is cut, and what stands up to the place that was compared
-record IsCut (text front : List ℕ) (len at m : ℕ) (plain : List ℕ) : Type 0 where
-  whole : text ≡ take at front ++ m ∷ (plain ++ drop len text)
-  rest : drop at text ≡ m ∷ (plain ++ drop len text)
+pub record IsCut (text front : List ℕ) (len at m : ℕ) (plain : List ℕ) : Type 0 where
+  pub whole : text ≡ take at front ++ m ∷ (plain ++ drop len text)
+  pub rest : drop at text ≡ m ∷ (plain ++ drop len text)
 
-cut_text : (text front : List ℕ) (len at m : ℕ) (plain : List ℕ) → front ≡ take len text → drop at front ≡ m ∷ plain → IsCut text front len at m plain
+pub cut_text : (text front : List ℕ) (len at m : ℕ) (plain : List ℕ) → front ≡ take len text → drop at front ≡ m ∷ plain → IsCut text front len at m plain
 cut_text text front len at m plain e h =
     let joined : front ++ drop len text ≡ text = ap (λ f. f ++ drop len text) e ∙ take-append-drop len text in
     let some : at ≤ length front = omega (arith, length-drop at front, ap length h) in
@@ -256,7 +253,7 @@ cut_text text front len at m plain e h =
     }
 
 -- the mark and what stands behind it in a front
-with_mark : (P : Type 0) (text : List ℕ) → begins_with_mark text ≡ true → ((m : ℕ) (rest : List ℕ) → text ≡ m ∷ rest → is_token_mark m ≡ true → P) → P
+pub with_mark : (P : Type 0) (text : List ℕ) → begins_with_mark text ≡ true → ((m : ℕ) (rest : List ℕ) → text ≡ m ∷ rest → is_token_mark m ≡ true → P) → P
 with_mark P [] h f = absurd (false≢true h)
 with_mark P (m ∷ rest) h f = f m rest refl h
 
@@ -274,7 +271,7 @@ cmp_behind : (left right : List ℕ) → version_cmp left right ≡ compare_at N
 unfolding version_cmp tokens
 cmp_behind left right = refl
 
-good_whole : (text : List ℕ) → is_version text ≡ true → IsGood None 0 text
+pub good_whole : (text : List ℕ) → is_version text ≡ true → IsGood None 0 text
 unfolding is_version tokens
 good_whole text h = h
 

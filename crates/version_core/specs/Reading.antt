@@ -1,7 +1,7 @@
 -- What the tokens stand for that the code reads one by one, and how much of a text it has passed
 -- over. Serves the contracts of `src/lexeme.rt`, `src/token.rt` and `src/order.rt`; the rules stand
 -- in `docs/formats.md`, "Versions".
-use Rattle.std.specs.Prelude.{◌≡◌, ℕ, ◌+◌, ◌≤◌, ◌==◌, ◌||◌, Bool, true, false, not, if◌then◌else◌, List, [], ◌∷◌, length, take, drop, slice_get, slice_index, EachIndex, IsTrue, Option, Some, None}
+use Rattle.std.specs.Prelude.{◌≡◌, ℕ, ◌+◌, ◌-◌, ◌≤◌, ◌==◌, ◌||◌, Bool, true, false, not, if◌then◌else◌, List, [], ◌∷◌, length, take, drop, slice_get, slice_index, EachIndex, IsTrue, Option, Some, None}
 use Rattle.std.specs.Char.{is_ascii_digit}
 use Rattle.std.specs.List.{list_all}
 use Rattle.std.specs.Ordering.{nat_cmp, ordering_then}
@@ -73,10 +73,23 @@ abbrev pub begins_with_mark : List ℕ → Bool
 begins_with_mark [] = false
 begins_with_mark (b ∷ rest) = is_token_mark b
 
+-- whether no byte of a text begins a token wherever it stands
+abbrev pub is_unmarked : List ℕ → Bool
+is_unmarked text = list_all (λ b. not (is_token_mark b)) text
+
 -- the last byte of a text that begins a token wherever it stands has this index
 pub record IsLastMark (text : List ℕ) (at : ℕ) : Type 0 where
   pub mark : begins_with_mark (drop at text) ≡ true
-  pub last : list_all (λ b. not (is_token_mark b)) (drop (at + 1) text) ≡ true
+  pub last : is_unmarked (drop (at + 1) text) ≡ true
+
+-- how many bytes of a version stand in a row at most of which none begins a token wherever it
+-- stands, but in a hash: the word `alpha` and 18 digits
+abbrev pub MOST_UNMARKED : ℕ
+MOST_UNMARKED = 23
+
+-- none of the last bytes of a text, one more than that, begins a token wherever it stands
+abbrev pub HasUnmarkedEnd : List ℕ → Type 0
+HasUnmarkedEnd text = is_unmarked (drop (length text - (MOST_UNMARKED + 1)) text) ≡ true
 
 -- the first `len` bytes of two texts are the same
 pub record AreEqualUpTo (left right : List ℕ) (len : ℕ) : Type 0 where

@@ -1,12 +1,13 @@
 //! The order of two versions. What both begin with is passed over as plain bytes, whole blocks
-//! first, and the tokens are read from the last mark in it on. The rule stands in
-//! `docs/formats.md`, "Versions" ("A version is compared by its tokens").
+//! first, and the tokens are read from the last mark in it on. That mark is not looked for in a
+//! hash: outside of it marks stand near each other. The rule stands in `docs/formats.md`,
+//! "Versions" ("A version is compared by its tokens").
 
-ghost use Rattle.std.specs.Prelude.{◌≡◌, ◌≤◌, ◌<◌, IsTrue, IfSome, Some, length, drop};
+ghost use Rattle.std.specs.Prelude.{◌≡◌, ◌≤◌, ◌<◌, IsTrue, IfSome, IfNone, Some, length, take, drop};
 ghost use Rattle.std.specs.Cmp.Lexicographic.{slice_cmp};
 ghost use Rattle.version_core.specs.declared.token.Class.TheVariants.{Component};
 ghost use Rattle.version_core.specs.Order.{is_version, token_cmp, tokens_behind, version_cmp};
-ghost use Rattle.version_core.specs.Reading.{AreEqualUpTo, IsLastMark, hash_cmp, is_token_mark, tokens_left};
+ghost use Rattle.version_core.specs.Reading.{AreEqualUpTo, HasUnmarkedEnd, IsLastMark, hash_cmp, is_token_mark, tokens_left};
 
 use crate::lexeme::{behind, compare_hex_digits};
 use crate::token::{Class, Tokens};
@@ -16,20 +17,50 @@ use std::cmp::Ordering;
 /// order.
 const BYTES_PER_COMPARISON: usize = 128;
 
+/// How many bytes of a version stand in a row at most of which none begins a token wherever it
+/// stands, but in a hash: the word `alpha` behind its mark, and the 18 digits of its number.
+const MOST_UNMARKED: usize = 23;
+
 /// The order of two versions: the first tokens that differ decide.
 pub fn compare(left: &[u8], right: &[u8]) -> Ordering
     requires left { IsTrue (is_version left.now) }
     requires right { IsTrue (is_version right.now) }
     ensures { result ≡ version_cmp left.now right.now }
 {
-    let len = equal_len(left, right);
+    compare_behind(left, right, 0)
+}
+
+/// The order of two versions that are known to begin with the same `known` bytes. Of these no more
+/// than the last ones are looked at, as many as a token has at most that is no hash.
+pub fn compare_behind(left: &[u8], right: &[u8], known: usize) -> Ordering
+    requires left { IsTrue (is_version left.now) }
+    requires right { IsTrue (is_version right.now) }
+    requires known { AreEqualUpTo left.now right.now known }
+    ensures { result ≡ version_cmp left.now right.now }
+{
+    let len = equal_len(left, right, known);
     let Some(at) = last_mark(&left[..len]) else {
-        return compare_tokens(Tokens::of(left), Tokens::of(right));
+        return compare_unmarked(left, right, len);
     };
     if left[at] == b'~' {
         return compare_within_hash(behind(left, len), behind(right, len));
     }
     compare_tokens(tokens_from_mark(left, at), tokens_from_mark(right, at))
+}
+
+/// The order of two versions that begin with the same `len` bytes, of which the last ones have no
+/// mark: then they are few, or end within the hash of both.
+fn compare_unmarked(left: &[u8], right: &[u8], len: usize) -> Ordering
+    requires left { IsTrue (is_version left.now) }
+    requires right { IsTrue (is_version right.now) }
+    requires equal { AreEqualUpTo left.now right.now len }
+    requires unmarked { HasUnmarkedEnd (take len left.now) }
+    ensures { result ≡ version_cmp left.now right.now }
+{
+    if len <= MOST_UNMARKED {
+        return compare_tokens(Tokens::of(left), Tokens::of(right));
+    }
+    compare_within_hash(behind(left, len), behind(right, len))
 }
 
 /// The tokens of a version from a mark on. Which token stands before makes no difference.
@@ -68,25 +99,27 @@ fn compare_tokens(left: Tokens<'_>, right: Tokens<'_>) -> Ordering
     }
 }
 
-/// How many bytes two texts begin with in common.
-fn equal_len(left: &[u8], right: &[u8]) -> usize
+/// How many bytes two texts begin with in common, where `known` are known to be.
+fn equal_len(left: &[u8], right: &[u8], known: usize) -> usize
+    requires { AreEqualUpTo left.now right.now known }
     ensures { AreEqualUpTo left.now right.now result }
 {
     let most = left.len().min(right.len());
-    let mut len = equal_blocks(left, right);
+    let mut len = equal_blocks(left, right, known);
     while len < most && left[len] == right[len] {
         len += 1;
     }
     len
 }
 
-/// How many of these bytes stand in whole blocks that are equal, from the front on. Comparing
+/// How many of these bytes are known or stand in whole blocks behind them that are equal. Comparing
 /// slices is faster than byte after byte.
-fn equal_blocks(left: &[u8], right: &[u8]) -> usize
+fn equal_blocks(left: &[u8], right: &[u8], known: usize) -> usize
+    requires { AreEqualUpTo left.now right.now known }
     ensures { AreEqualUpTo left.now right.now result }
 {
     let most = left.len().min(right.len());
-    let mut len = 0;
+    let mut len = known;
     while most - len >= BYTES_PER_COMPARISON
         && left[len..len + BYTES_PER_COMPARISON] == right[len..len + BYTES_PER_COMPARISON]
     {
@@ -95,12 +128,15 @@ fn equal_blocks(left: &[u8], right: &[u8]) -> usize
     len
 }
 
-/// The place of the last byte that begins a token wherever it stands.
+/// The place of the last byte that begins a token wherever it stands; None where none of the last
+/// bytes does, which are one more than a version has in a row outside of a hash.
 fn last_mark(text: &[u8]) -> Option<usize>
-    ensures { IfSome result (IsLastMark text.now) }
+    ensures some { IfSome result (IsLastMark text.now) }
+    ensures none { IfNone result (HasUnmarkedEnd text.now) }
 {
+    let least = text.len().saturating_sub(MOST_UNMARKED + 1);
     let mut at = text.len();
-    while at > 0 {
+    while at > least {
         at -= 1;
         if is_token_mark(text[at]) {
             return Some(at);

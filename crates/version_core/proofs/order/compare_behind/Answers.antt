@@ -2,12 +2,8 @@ use Rattle.std.proofs.Common.{sym, ◌∙◌}
 use Rattle.std.specs.Cmp.Lexicographic.{slice_cmp}
 use Rattle.version_core.specs.Order.{token_cmp}
 use Rattle.version_core.specs.Reading.{hash_cmp}
-use Rattle.version_core.proofs.EqualFront.{cmp_from_hash, cmp_from_mark, cmp_whole, mark_within}
-use Rattle.version_core.proofs.order.compare.Goals as goal
-
-pub returns-in_default : goal.returns-in_default
-returns-in_default c =
-    c.compare_tokens.ensures ∙ (λ i. slice_cmp token_cmp (c.of.ensures i) (c.of-in_default.ensures i)) ∙ cmp_whole c.args.left.now c.args.right.now
+use Rattle.version_core.proofs.EqualFront.{cmp_from_hash, cmp_from_mark, mark_within}
+use Rattle.version_core.proofs.order.compare_behind.Goals as goal
 
 pub returns-then-left-at-eq126 : goal.returns-then-left-at-eq126
 returns-then-left-at-eq126 c =
@@ -22,6 +18,6 @@ pub returns : goal.returns
 returns c =
     let known = c.equal_len-len.ensures in
     let found = c.in-Some.ensures in
-    c.compare_tokens-2.ensures
+    c.compare_tokens.ensures
     ∙ (λ i. slice_cmp token_cmp (c.tokens_from_mark.ensures i) (c.tokens_from_mark-2.ensures i))
     ∙ sym (cmp_from_mark c.args.left.now c.args.right.now c.equal_len-len.result c.in-Some.at known found c.requires.left c.requires.right)
