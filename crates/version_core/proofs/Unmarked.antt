@@ -12,9 +12,9 @@ use Rattle.std.proofs.lemmas.Slice.Eq.{bytes_eq-Decides}
 use Rattle.version_core.specs.declared.token.Class.{Class}
 use Rattle.version_core.specs.declared.token.Class.TheVariants.{PreRelease, Revision, SuffixNumber, Suffix, Letter, ZeroComponent, Component}
 use Rattle.version_core.specs.Token.{Lexeme, number_token, text_token, lexeme, stray_lexeme, is_number, is_component, is_suffix, is_before_hash, is_before_revision, begins_with_zero, leading_digits, leading_hex_digits, leading_letters, number_lexeme, component_lexeme, suffix_class, suffix_rank, suffix_lexeme_by, hash_lexeme, revision_lexeme, next_lexeme, lexeme_at}
-use Rattle.version_core.specs.Order.{is_last, is_stray, is_version, version_cmp}
-use Rattle.version_core.specs.Reading.{AreEqualUpTo, HasUnmarkedEnd, IsLastMark, begins_with_mark, hash_cmp, is_token_mark, is_unmarked}
-use Rattle.version_core.proofs.EqualFront.{IsGood, and_left, and_right, by_mark, cmp_from_hash, cut_text, good_behind, good_front, good_whole, goes_on, mark_within, with_mark}
+use Rattle.version_core.specs.Order.{is_last, is_stray, is_version}
+use Rattle.version_core.specs.Reading.{AreEqualUpTo, ArePartedInHash, HasUnmarkedEnd, IsLastMark, begins_with_mark, is_token_mark, is_unmarked}
+use Rattle.version_core.proofs.EqualFront.{IsGood, and_left, and_right, by_mark, cut_text, good_behind, good_front, good_whole, goes_on, mark_within, with_mark}
 use Rattle.version_core.proofs.Walk.{lexeme_at_within}
 
 -- ---- one token
@@ -210,7 +210,7 @@ before_end_by text at end false h bare mark =
 before_end : (text : List ℕ) (at end : ℕ) → is_unmarked (drop end text) ≡ true → begins_with_mark (drop at text) ≡ true → at < end
 before_end text at end = before_end_by text at end (ltb at end) refl
 
--- ---- two versions
+-- ---- what two versions begin with
 
 -- what stands at the last mark of the front that two versions have in common
 tilde_at : (left : List ℕ) (len at : ℕ) → IsLastMark (take len left) at → HasUnmarkedEnd (take len left) → is_version left ≡ true → get_or left at 0 ≡ 126
@@ -226,12 +226,12 @@ tilde_at left len at found end one =
     sym (ap (λ t. get_or t 0 0) (sym l.rest ∙ drop_more left at 0 (mark_within left len at found))) ∙ is)
 
 -- where the front that they have in common ends without a mark, both are within their hash
-pub cmp_unmarked : (left right : List ℕ) (len : ℕ) → AreEqualUpTo left right len → 23 < len → HasUnmarkedEnd (take len left) → is_version left ≡ true → is_version right ≡ true → version_cmp left right ≡ hash_cmp (drop len left) (drop len right)
-cmp_unmarked left right len equal many end one two =
+pub parted_in_hash : (left right : List ℕ) (len : ℕ) → AreEqualUpTo left right len → 23 < len → HasUnmarkedEnd (take len left) → is_version left ≡ true → ArePartedInHash left right len
+parted_in_hash left right len equal many end one =
     let front = take len left in
     let size : length front ≡ len = length-take-le len left equal.within.0 in
-    by_last_mark (version_cmp left right ≡ hash_cmp (drop len left) (drop len right)) front
+    by_last_mark (ArePartedInHash left right len) front
     (λ bare.
     let few : length front ≤ 23 = few_at_front front (drop len left) bare (subst (IsGood None 0) (sym (take-append-drop len left)) (good_whole left one)) in
     absurd (omega (arith, few, size, many)))
-    (λ at found. cmp_from_hash left right len at equal found one two (mark_within left len at found) (tilde_at left len at found end one))
+    (λ at found. record { at = at; equal = equal; last = found; tilde = tilde_at left len at found end one })

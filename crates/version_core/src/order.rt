@@ -1,13 +1,13 @@
-//! The order of two versions. What both begin with is passed over as plain bytes, whole blocks
-//! first, and the tokens are read from the last mark in it on. That mark is not looked for in a
-//! hash: outside of it marks stand near each other. The rule stands in `docs/formats.md`,
-//! "Versions" ("A version is compared by its tokens").
+//! The order of two versions, and from where on two of them are read. What both begin with is passed
+//! over as plain bytes, whole blocks first, and the tokens are read from the last mark in it on. That
+//! mark is not looked for in a hash: outside of it marks stand near each other. The rule stands in
+//! `docs/formats.md`, "Versions" ("A version is compared by its tokens").
 
 ghost use Rattle.std.specs.Prelude.{◌≡◌, ◌≤◌, ◌<◌, IsTrue, IfSome, IfNone, Some, length, take, drop};
 ghost use Rattle.std.specs.Cmp.Lexicographic.{slice_cmp};
 ghost use Rattle.version_core.specs.declared.token.Class.TheVariants.{Component};
 ghost use Rattle.version_core.specs.Order.{is_version, token_cmp, tokens_behind, version_cmp};
-ghost use Rattle.version_core.specs.Reading.{AreEqualUpTo, HasUnmarkedEnd, IsLastMark, hash_cmp, is_token_mark, tokens_left};
+ghost use Rattle.version_core.specs.Reading.{AreEqualUpTo, ArePartedBy, HasUnmarkedEnd, IsLastMark, hash_cmp, is_token_mark, tokens_left};
 
 use crate::lexeme::{behind, compare_hex_digits};
 use crate::token::{Class, Tokens};
@@ -21,50 +21,63 @@ const BYTES_PER_COMPARISON: usize = 128;
 /// stands, but in a hash: the word `alpha` behind its mark, and the 18 digits of its number.
 const MOST_UNMARKED: usize = 23;
 
+/// Where two versions are read from on, which are equal before.
+#[derive(Clone, Copy)]
+pub enum Parting {
+    /// At the front of both.
+    AtFront,
+    /// At a mark, which has this offset in both.
+    AtMark(usize),
+    /// Within the hash of both, at this offset.
+    InHash(usize),
+}
+
 /// The order of two versions: the first tokens that differ decide.
 pub fn compare(left: &[u8], right: &[u8]) -> Ordering
     requires left { IsTrue (is_version left.now) }
     requires right { IsTrue (is_version right.now) }
     ensures { result ≡ version_cmp left.now right.now }
 {
-    compare_behind(left, right, 0)
+    match parting(left, right) {
+        Parting::AtFront => compare_tokens(Tokens::of(left), Tokens::of(right)),
+        Parting::AtMark(at) => {
+            compare_tokens(tokens_from_mark(left, at), tokens_from_mark(right, at))
+        }
+        Parting::InHash(len) => compare_within_hash(behind(left, len), behind(right, len)),
+    }
 }
 
-/// The order of two versions that are known to begin with the same `known` bytes. Of these no more
-/// than the last ones are looked at, as many as a token has at most that is no hash.
-pub fn compare_behind(left: &[u8], right: &[u8], known: usize) -> Ordering
-    requires left { IsTrue (is_version left.now) }
-    requires right { IsTrue (is_version right.now) }
-    requires known { AreEqualUpTo left.now right.now known }
-    ensures { result ≡ version_cmp left.now right.now }
+/// Where two versions are to be read from on. What both begin with is passed over.
+pub fn parting(left: &[u8], right: &[u8]) -> Parting
+    requires { IsTrue (is_version left.now) }
+    ensures { ArePartedBy left.now right.now result }
 {
-    let len = equal_len(left, right, known);
+    let len = equal_len(left, right);
     let Some(at) = last_mark(&left[..len]) else {
-        return compare_unmarked(left, right, len);
+        return parting_without_mark(left, right, len);
     };
     if left[at] == b'~' {
-        return compare_within_hash(behind(left, len), behind(right, len));
+        return Parting::InHash(len);
     }
-    compare_tokens(tokens_from_mark(left, at), tokens_from_mark(right, at))
+    Parting::AtMark(at)
 }
 
-/// The order of two versions that begin with the same `len` bytes, of which the last ones have no
-/// mark: then they are few, or end within the hash of both.
-fn compare_unmarked(left: &[u8], right: &[u8], len: usize) -> Ordering
-    requires left { IsTrue (is_version left.now) }
-    requires right { IsTrue (is_version right.now) }
+/// The same where both begin with the same `len` bytes, of which the last ones have no mark: then
+/// they are few, or end within the hash of both.
+fn parting_without_mark(left: &[u8], right: &[u8], len: usize) -> Parting
+    requires version { IsTrue (is_version left.now) }
     requires equal { AreEqualUpTo left.now right.now len }
     requires unmarked { HasUnmarkedEnd (take len left.now) }
-    ensures { result ≡ version_cmp left.now right.now }
+    ensures { ArePartedBy left.now right.now result }
 {
     if len <= MOST_UNMARKED {
-        return compare_tokens(Tokens::of(left), Tokens::of(right));
+        return Parting::AtFront;
     }
-    compare_within_hash(behind(left, len), behind(right, len))
+    Parting::InHash(len)
 }
 
 /// The tokens of a version from a mark on. Which token stands before makes no difference.
-fn tokens_from_mark(text: &[u8], at: usize) -> Tokens<'_>
+pub fn tokens_from_mark(text: &[u8], at: usize) -> Tokens<'_>
     requires { at ≤ length text.now }
     ensures { tokens_left result
         ≡ tokens_behind (Some Component) 0 (drop at text.now) }
@@ -99,27 +112,25 @@ fn compare_tokens(left: Tokens<'_>, right: Tokens<'_>) -> Ordering
     }
 }
 
-/// How many bytes two texts begin with in common, where `known` are known to be.
-fn equal_len(left: &[u8], right: &[u8], known: usize) -> usize
-    requires { AreEqualUpTo left.now right.now known }
+/// How many bytes two texts begin with in common.
+fn equal_len(left: &[u8], right: &[u8]) -> usize
     ensures { AreEqualUpTo left.now right.now result }
 {
     let most = left.len().min(right.len());
-    let mut len = equal_blocks(left, right, known);
+    let mut len = equal_blocks(left, right);
     while len < most && left[len] == right[len] {
         len += 1;
     }
     len
 }
 
-/// How many of these bytes are known or stand in whole blocks behind them that are equal. Comparing
+/// How many of these bytes stand in whole blocks that are equal, from the front on. Comparing
 /// slices is faster than byte after byte.
-fn equal_blocks(left: &[u8], right: &[u8], known: usize) -> usize
-    requires { AreEqualUpTo left.now right.now known }
+fn equal_blocks(left: &[u8], right: &[u8]) -> usize
     ensures { AreEqualUpTo left.now right.now result }
 {
     let most = left.len().min(right.len());
-    let mut len = known;
+    let mut len = 0;
     while most - len >= BYTES_PER_COMPARISON
         && left[len..len + BYTES_PER_COMPARISON] == right[len..len + BYTES_PER_COMPARISON]
     {
