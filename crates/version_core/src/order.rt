@@ -1,5 +1,5 @@
-//! The order of two versions, and from where on two of them are read. What both begin with is passed
-//! over as plain bytes, whole blocks first, and the tokens are read from the last mark in it on. That
+//! The order of two versions, and from where on two are read. What both begin with is passed over
+//! as plain bytes, whole blocks first, and the tokens are read from the last mark in it on. That
 //! mark is not looked for in a hash: outside of it marks stand near each other. The rule stands in
 //! `docs/formats.md`, "Versions" ("A version is compared by its tokens").
 
