@@ -1,6 +1,6 @@
 -- What the tokens stand for that the code reads one by one, and how much of a text it has passed
--- over. Serves the contracts of `src/lexeme.rt`, `src/token.rt`, `src/order.rt` and `src/fuzzy.rt`; the rules stand
--- in `docs/formats.md`, "Versions".
+-- over. Serves the contracts of `src/lexeme.rt`, `src/token.rt`, `src/order.rt` and `src/fuzzy.rt`;
+-- the rules stand in `docs/formats.md`, "Versions".
 use Rattle.std.specs.Prelude.{◌≡◌, ℕ, ◌+◌, ◌-◌, ◌≤◌, ◌==◌, ◌&&◌, ◌||◌, Bool, true, false, not, if◌then◌else◌, List, [], ◌∷◌, length, take, drop, slice_get, slice_index, slice_index_or, EachIndex, IsTrue, Option, Some, None}
 use Rattle.std.specs.Char.{is_ascii_digit}
 use Rattle.std.specs.List.{list_all}
