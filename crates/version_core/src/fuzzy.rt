@@ -39,8 +39,8 @@ fn fits_within_hash(wanted: &[u8], found: &[u8]) -> bool
 fn all_fit(wanted: Tokens<'_>, found: Tokens<'_>) -> bool
     ensures { result ≡ all_fit (tokens_left wanted.entry) (tokens_left found.entry) }
 {
-    let mut wanted_tokens = wanted;
     let mut found_tokens = found;
+    let mut wanted_tokens = wanted;
     loop {
         let token = wanted_tokens.next();
         if token.class.is_last() {
