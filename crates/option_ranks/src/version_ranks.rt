@@ -19,9 +19,9 @@ use std::cmp::Ordering;
 use version_core::{Version, order_is_total};
 
 /// Ranks the versions of options if one of them is long, and answers by what they are to be
-/// compared. The options may come into another order. It takes time in proportion to k log k in the
-/// k options, and sorts the n texts that they read, which takes n log n comparisons, or n where they
-/// stand in order, and n more; short texts are sooner compared than ranked.
+/// compared. The options may come into another order. It takes time in proportion to k log k in
+/// the k options, and sorts the n texts that they read, which takes n log n comparisons, or n where
+/// they stand in order, and some n more; short texts are sooner compared than ranked.
 ///
 /// # Errors
 ///
@@ -66,6 +66,8 @@ fn rank_versions<'a>(
     // Then options that read one text stand together.
     options.sort_by(|one, other| by_place(one.version_of(kind), other.version_of(kind)))?;
     let mut versions = distinct_versions(alloc, options, kind)?;
+    // Where ranks are known, they are nearly the order, and few versions are compared then.
+    versions.sort_by(|one, other| one.rank.cmp(&other.rank))?;
     versions.sort_by(|one, other| compare_versions(kind, &one.version, &other.version))?;
     rank_sorted(&mut versions, kind);
     // Then a version is found by its place.
@@ -98,21 +100,25 @@ fn distinct_versions<'a>(
     let mut versions = Vec::new(alloc);
     for i in 0..options.len() {
         if !reads_the_text_before(options, i, kind) {
-            versions.push(same_ranked(options[i].version_of(kind)))?;
+            versions.push(version_to_rank(&options[i], kind))?;
         }
     }
     Ok(versions)
 }
 
-// A copy of a version with its place and rank; its text stays borrowed.
-fn same_ranked<'a>(ranked: &RankedVersion<'a>) -> RankedVersion<'a>
-    ensures { result ≡ ranked.entry.now }
+// A copy of the version of an option that a kind names; its text stays borrowed. Its rank is that
+// of the version under which the option meets the need, which is mostly the same one: 0 until
+// these are ranked. Nothing rests on it but time.
+fn version_to_rank<'a>(option: &RankedOption<'a>, kind: VersionKind) -> RankedVersion<'a>
+    ensures { result
+        ≡ version_with_rank option.entry.now.under.rank (version_of kind option.entry.now) }
 {
+    let ranked = option.version_of(kind);
     RankedVersion {
         version: same_version(&ranked.version),
         source: ranked.source,
         word: ranked.word,
-        rank: ranked.rank,
+        rank: option.under.rank,
     }
 }
 

@@ -5,7 +5,7 @@ use Rattle.std.proofs.lemmas.List.{map-append, take_all}
 use Rattle.std.proofs.lemmas.List.Elements.{All-push}
 use Rattle.candidate_core.specs.VersionTexts.{IsReadBy}
 use Rattle.option_ranks.specs.Ranking.{Ranking}
-use Rattle.option_ranks.specs.VersionRanks.{IsListed, version_of, versions_in}
+use Rattle.option_ranks.specs.VersionRanks.{IsListed, version_of, version_with_rank, versions_in}
 use Rattle.candidate_core.specs.declared.versions.RankedVersion.{RankedVersion}
 use Rattle.candidate_core.specs.declared.versions.VersionKind.{VersionKind}
 use Rattle.option_ranks.proofs.RankedVersions.{all_at, all_next, last_listed, listed_before, still_listed}
@@ -23,10 +23,10 @@ loop-i-preserved c =
     let here : i < length rs = omega arith in
     elim c.if-not-reads_the_text_before.branch [
       | then-not-reads_the_text_before+in_ok-push w ↦
-          let v : RankedVersion = w.same_ranked.result in
+          let v : RankedVersion = w.version_to_rank.result in
           let x : Ranking = w.index-options-i.result in
           let at : slice_get rs i ≡ Some x = get_at rs i x here ∙ ap Some (sym w.index-options-i.is) in
-          let is : version_of kind x ≡ v = sym (w.same_ranked.ensures ∙ w.version_of.ensures) in
+          let is : version_with_rank x.under.rank (version_of kind x) ≡ v = sym w.version_to_rank.ensures in
           let grown : c.if-not-reads_the_text_before.versions.items ≡ was ++ v ∷ [] = ap (λ (vs : Vec RankedVersion Global). vs.items) w.versions-is ∙ w.in_ok-push.ensures.items in
           let texts_grown : versions_in (was ++ v ∷ []) ≡ texts ++ v.version ∷ [] = map-append (λ (v : RankedVersion). v.version) was (v ∷ []) in
           record {

@@ -25,13 +25,13 @@ pub rank_sorted-requires : goal.rank_sorted-requires
 rank_sorted-requires c =
     let kind : VersionKind = c.args.kind in
     let weak = ranks_by (order_of_kind c.order_is_total.ensures kind) (λ (v : RankedVersion). v.version) in
-    c.in_ok-sort_by-2.ensures.sorted (λ x y. is_lt (version_order kind x.version y.version)) weak
+    c.in_ok-sort_by-3.ensures.sorted (λ x y. is_lt (version_order kind x.version y.version)) weak
     (compares_by _ (on (λ (v : RankedVersion). v.version) (version_order kind)) _ (λ a r q k. search rules))
 
 pub set_ranks-requires-clause-ranked : goal.set_ranks-requires-clause-ranked
 set_ranks-requires-clause-ranked c =
     subst (λ (vs : List RankedVersion). All (HasRankAmong c.args.kind (versions_in vs)) vs) (sym c.deref-2.ensures.value)
-    (all_have_ranks c.args.kind c.sort_by-2.new.self.items c.rank_sorted.new.versions.items c.sort_by-3.new.self.items c.rank_sorted.ensures c.in_ok-sort_by-3.ensures.permutation)
+    (all_have_ranks c.args.kind c.sort_by-3.new.self.items c.rank_sorted.new.versions.items c.sort_by-4.new.self.items c.rank_sorted.ensures c.in_ok-sort_by-4.ensures.permutation)
 
 pub set_ranks-requires-clause-alike : goal.set_ranks-requires-clause-alike
 set_ranks-requires-clause-alike c =
@@ -42,23 +42,26 @@ set_ranks-requires-clause-alike c =
     All-permutation (λ (r : Ranking). IsReadBy text (version_of kind r)) c.args.options.now.items moved c.in_ok-sort_by.ensures.permutation c.requires.1 in
     let found : All (IsReadBy text) c.in_ok-versions.versions.items =
     c.in_ok-versions.ensures.read text (subst (λ (rs : List Ranking). All (λ (r : Ranking). IsReadBy text (version_of kind r)) rs) (sym c.deref.ensures.value) each) in
-    let sorted : All (IsReadBy text) c.sort_by-2.new.self.items =
+    let guessed : All (IsReadBy text) c.sort_by-2.new.self.items =
     All-permutation (IsReadBy text) c.in_ok-versions.versions.items c.sort_by-2.new.self.items c.in_ok-sort_by-2.ensures.permutation found in
-    let placed : All (IsReadBy text) c.sort_by-3.new.self.items =
-    all_are_read kind c.sort_by-2.new.self.items c.rank_sorted.new.versions.items c.sort_by-3.new.self.items c.rank_sorted.ensures c.in_ok-sort_by-3.ensures.permutation text sorted in
+    let sorted : All (IsReadBy text) c.sort_by-3.new.self.items =
+    All-permutation (IsReadBy text) c.sort_by-2.new.self.items c.sort_by-3.new.self.items c.in_ok-sort_by-3.ensures.permutation guessed in
+    let placed : All (IsReadBy text) c.sort_by-4.new.self.items =
+    all_are_read kind c.sort_by-3.new.self.items c.rank_sorted.new.versions.items c.sort_by-4.new.self.items c.rank_sorted.ensures c.in_ok-sort_by-4.ensures.permutation text sorted in
     (text, (subst (λ (vs : List RankedVersion). All (IsReadBy text) vs) (sym c.deref-2.ensures.value) placed, each))
 
 pub returns : goal.returns
 returns c =
     let kind : VersionKind = c.args.kind in
     let found : List RankedVersion = c.in_ok-versions.versions.items in
-    let sorted : List RankedVersion = c.sort_by-2.new.self.items in
+    let sorted : List RankedVersion = c.sort_by-3.new.self.items in
     let placed : List RankedVersion = c.deref-2.result.now in
     let again : IsPermutation (versions_in sorted) (versions_in placed) =
     subst (λ (vs : List RankedVersion). IsPermutation (versions_in sorted) (versions_in vs)) (sym c.deref-2.ensures.value)
-    (moved_versions kind sorted c.rank_sorted.new.versions.items c.sort_by-3.new.self.items c.rank_sorted.ensures c.in_ok-sort_by-3.ensures.permutation) in
+    (moved_versions kind sorted c.rank_sorted.new.versions.items c.sort_by-4.new.self.items c.rank_sorted.ensures c.in_ok-sort_by-4.ensures.permutation) in
+    let before : IsPermutation found sorted = IsPermutation-trans found c.sort_by-2.new.self.items sorted c.in_ok-sort_by-2.ensures.permutation c.in_ok-sort_by-3.ensures.permutation in
     let moved : IsPermutation (versions_in found) (versions_in placed) =
-    IsPermutation-trans (versions_in found) (versions_in sorted) (versions_in placed) (IsPermutation-map (λ (v : RankedVersion). v.version) found sorted c.in_ok-sort_by-2.ensures.permutation) again in
+    IsPermutation-trans (versions_in found) (versions_in sorted) (versions_in placed) (IsPermutation-map (λ (v : RankedVersion). v.version) found sorted before) again in
     let listed : All (IsListed kind (versions_in found)) c.sort_by.new.self.items = subst (λ (rs : List Ranking). All (IsListed kind (versions_in found)) rs) c.deref.ensures.value c.in_ok-versions.ensures.listed in
     record {
       versions = versions_in placed;
