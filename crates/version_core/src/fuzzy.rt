@@ -8,7 +8,7 @@ ghost use Rattle.version_core.specs.Order.{is_version};
 ghost use Rattle.version_core.specs.Reading.{hash_fits, tokens_left};
 
 use crate::lexeme::{behind, compare_hex_digits};
-use crate::order::{Parting, parting, tokens_from_mark};
+use crate::order::{Parting, parting_of, tokens_from_mark};
 use crate::token::{Class, Tokens};
 
 /// Whether a version begins with the tokens of the wanted one.
@@ -17,7 +17,7 @@ pub fn is_fuzzy_match(found: &[u8], wanted: &[u8]) -> bool
     requires wanted { IsTrue (is_version wanted.now) }
     ensures { result ≡ is_fuzzy_match found.now wanted.now }
 {
-    match parting(wanted, found) {
+    match parting_of(wanted, found) {
         Parting::AtFront => all_fit(Tokens::of(wanted), Tokens::of(found)),
         Parting::AtMark(at) => all_fit(tokens_from_mark(wanted, at), tokens_from_mark(found, at)),
         Parting::InHash(len) => fits_within_hash(behind(wanted, len), behind(found, len)),

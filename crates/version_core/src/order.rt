@@ -38,7 +38,7 @@ pub fn compare(left: &[u8], right: &[u8]) -> Ordering
     requires right { IsTrue (is_version right.now) }
     ensures { result ≡ version_cmp left.now right.now }
 {
-    match parting(left, right) {
+    match parting_of(left, right) {
         Parting::AtFront => compare_tokens(Tokens::of(left), Tokens::of(right)),
         Parting::AtMark(at) => {
             compare_tokens(tokens_from_mark(left, at), tokens_from_mark(right, at))
@@ -48,7 +48,7 @@ pub fn compare(left: &[u8], right: &[u8]) -> Ordering
 }
 
 /// Where two versions are to be read from on. What both begin with is passed over.
-pub fn parting(left: &[u8], right: &[u8]) -> Parting
+pub fn parting_of(left: &[u8], right: &[u8]) -> Parting
     requires { IsTrue (is_version left.now) }
     ensures { ArePartedBy left.now right.now result }
 {

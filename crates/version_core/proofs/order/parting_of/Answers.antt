@@ -1,4 +1,4 @@
-use Rattle.version_core.proofs.order.parting.Goals as goal
+use Rattle.version_core.proofs.order.parting_of.Goals as goal
 
 pub returns-then-left-at-eq126 : goal.returns-then-left-at-eq126
 returns-then-left-at-eq126 c = record {
