@@ -89,7 +89,7 @@ suffix_room true = refl
 suffix_room false = refl
 
 suffix_short_by : (word : List ℕ) (rank : Option ℕ) → (is_some rank ≡ true → length word ≤ 5) → IsShort 24 (suffix_lexeme_by word rank)
-suffix_short_by word None few = stray_short 24
+suffix_short_by word None few token = stray_short 24 token
 suffix_short_by word (Some rank) few token =
     let after : room (suffix_class rank) ≡ 18 = suffix_room (ltb rank 4) in
     let whole : 1 + length word + room (suffix_class rank) ≤ 24 = omega (arith, few refl, after) in

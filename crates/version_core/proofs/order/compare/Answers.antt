@@ -10,8 +10,8 @@ tokens_from_mark-requires c =
     let parted : ArePartedAtMark c.args.left.now c.args.right.now c.in-AtMark.at = subst (ArePartedBy c.args.left.now c.args.right.now) c.in-AtMark.is c.parting_of.ensures in
     omega (arith, mark_within c.args.left.now parted.len c.in-AtMark.at parted.last)
 
-pub tokens_from_mark-in-AtMark-requires : goal.tokens_from_mark-in-AtMark-requires
-tokens_from_mark-in-AtMark-requires c =
+pub tokens_from_mark-requires-in-AtMark : goal.tokens_from_mark-requires-in-AtMark
+tokens_from_mark-requires-in-AtMark c =
     let parted : ArePartedAtMark c.args.left.now c.args.right.now c.in-AtMark.at = subst (ArePartedBy c.args.left.now c.args.right.now) c.in-AtMark.is c.parting_of.ensures in
     omega (arith, mark_before c.args.left.now parted.len c.in-AtMark.at parted.last, parted.equal.within.1)
 
@@ -20,8 +20,8 @@ behind-requires c =
     let parted : ArePartedInHash c.args.left.now c.args.right.now c.in-InHash.len = subst (ArePartedBy c.args.left.now c.args.right.now) c.in-InHash.is c.parting_of.ensures in
     parted.equal.within.0
 
-pub behind-in-InHash-requires : goal.behind-in-InHash-requires
-behind-in-InHash-requires c =
+pub behind-requires-in-InHash : goal.behind-requires-in-InHash
+behind-requires-in-InHash c =
     let parted : ArePartedInHash c.args.left.now c.args.right.now c.in-InHash.len = subst (ArePartedBy c.args.left.now c.args.right.now) c.in-InHash.is c.parting_of.ensures in
     parted.equal.within.1
 

@@ -4,7 +4,7 @@ pub returns-then-left-at-eq126 : goal.returns-then-left-at-eq126
 returns-then-left-at-eq126 c = record {
   at = c.in-Some.at;
   equal = c.equal_len-len.ensures;
-  last = c.in-Some.ensures;
+  last = c.in-Some.ensures.some;
   tilde = c.if-left-at-eq126.true;
 }
 
@@ -12,5 +12,5 @@ pub returns : goal.returns
 returns c = record {
   len = c.equal_len-len.result;
   equal = c.equal_len-len.ensures;
-  last = c.in-Some.ensures;
+  last = c.in-Some.ensures.some;
 }
