@@ -115,7 +115,7 @@ counted_in f p (x ∷ xs) = elim (bool_cases (p (f x))) [
   | inr e ↦ rw e (counted_in f p xs)
 ]
 
-here_is : {X : Type 0} (xs : List X) (i : ℕ) (d x : X) → i < length xs → slice_get xs i ≡ Some x → get_or xs i d ≡ x
+pub here_is : {X : Type 0} (xs : List X) (i : ℕ) (d x : X) → i < length xs → slice_get xs i ≡ Some x → get_or xs i d ≡ x
 here_is xs i d x within at =
     let both : Some (get_or xs i d) ≡ Some x = sym (get_at xs i d within) ∙ at in
     cc

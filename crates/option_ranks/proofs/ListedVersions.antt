@@ -1,5 +1,5 @@
 -- Versions of a list that are ranked: what stays of them in any order, and which rank each gets.
-use Rattle.std.proofs.Common.{◌≡◌, All, inl, inr, ℕ, zero, suc, ◌-◌, ◌<◌, Bool, true, false, List, [], ◌∷◌, length, map, get_or, refl, sym, subst, ap, ◌∙◌, arith, Ordering}
+use Rattle.std.proofs.Common.{◌≡◌, All, inl, inr, ℕ, zero, suc, ◌-◌, ◌<◌, true, false, List, [], ◌∷◌, length, map, get_or, refl, sym, subst, ap, ◌∙◌, arith, Ordering}
 use Rattle.std.specs.Prelude.{Option, Some, slice_get}
 use Rattle.std.specs.Cmp.{IsTotalOrder, on_total}
 use Rattle.std.specs.List.Sorted.{IsPermutation, IsSorted}

@@ -1,4 +1,4 @@
-use Rattle.std.proofs.Common.{◌≡◌, ◌∙◌, ◌+◌, ◌≤◌, ◌<◌, ℕ, Bool, true, false, cond, List, length, take, get_or, ap, sym, arith}
+use Rattle.std.proofs.Common.{◌≡◌, ◌∙◌, ◌+◌, ◌≤◌, ◌<◌, ℕ, Bool, cond, List, length, take, get_or, ap, sym, arith}
 use Rattle.std.specs.List.{filter}
 use Rattle.std.specs.Ordering.{is_lt}
 use Rattle.std.proofs.lemmas.List.{take_all}
@@ -17,7 +17,7 @@ loop-i-preserved c =
     let x : RankedVersion = c.index-versions-i.result in
     let here : i < length vs = omega arith in
     let more = length-filter_more comes vs i x here in
-    let test : comes (get_or vs i x) ≡ c.is_lt.result = ap comes (sym c.index-versions-i.is) ∙ sym (c.is_lt.ensures ∙ ap is_lt c.compare_versions.ensures) in
+    let test : comes (get_or vs i x) ≡ c.is_lt.result = sym (c.is_lt.ensures ∙ ap is_lt c.compare_versions.ensures) in
     elim c.if-is_lt.branch [
       | then-is_lt w ↦
           let one : length (filter comes (take (i + 1) vs)) ≡ length (filter comes (take i vs)) + 1 = more ∙ ap (λ (b : Bool). length (filter comes (take i vs)) + cond b 1 0) (test ∙ w.if-is_lt.true) in

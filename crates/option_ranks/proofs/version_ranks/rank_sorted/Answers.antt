@@ -5,7 +5,7 @@ use Rattle.candidate_core.specs.declared.versions.RankedVersion.{RankedVersion}
 use Rattle.candidate_core.specs.declared.versions.VersionKind.{VersionKind}
 use Rattle.option_ranks.proofs.ListedVersions.{rank_of_equal, rank_of_first}
 use Rattle.option_ranks.proofs.RankOrder.{order_of_kind}
-use Rattle.option_ranks.proofs.RankedVersions.{first_all, first_here, first_length, map_first, one_more_changed}
+use Rattle.option_ranks.proofs.RankedVersions.{first_all, first_here, first_length, one_more_changed}
 use Rattle.candidate_core.proofs.Steps.{get_at}
 use Rattle.option_ranks.proofs.version_ranks.rank_sorted.Goals as goal
 use Rattle.option_ranks.proofs.version_ranks.rank_sorted.Goals.{then-equals_the_one_before, else-equals_the_one_before}

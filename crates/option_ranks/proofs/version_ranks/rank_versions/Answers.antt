@@ -1,7 +1,6 @@
-use Rattle.std.proofs.Common.{◌≡◌, ◌∙◌, All, ℕ, List, ap, sym, subst, rules}
-use Rattle.std.specs.Prelude.{Option}
+use Rattle.std.proofs.Common.{All, ℕ, List, sym, subst, rules}
 use Rattle.std.specs.Ordering.{is_lt, on}
-use Rattle.std.specs.List.Sorted.{IsPermutation, IsSorted}
+use Rattle.std.specs.List.Sorted.{IsPermutation}
 use Rattle.std.proofs.lemmas.List.Sorted.{All-permutation, IsPermutation-map, IsPermutation-trans, ranks_by}
 use Rattle.option_ranks.specs.Ranking.{Ranking, version_order}
 use Rattle.candidate_core.specs.VersionTexts.{IsReadBy}

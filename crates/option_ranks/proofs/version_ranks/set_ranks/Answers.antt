@@ -9,8 +9,8 @@ use Rattle.option_ranks.proofs.RankedVersions.{all_at, first_all, first_here, fi
 use Rattle.candidate_core.proofs.Steps.{get_at}
 use Rattle.option_ranks.proofs.version_ranks.set_ranks.Goals as goal
 
-pub rank_of-requires-clause-alike : goal.rank_of-requires-clause-alike
-rank_of-requires-clause-alike c =
+pub rank_of-rank-requires-clause-alike : goal.rank_of-rank-requires-clause-alike
+rank_of-rank-requires-clause-alike c =
     let kind : VersionKind = c.args.kind in
     let f : Ranking → Ranking = with_rank_among kind (versions_in c.args.versions.now) in
     let rs : List Ranking = c.args.options.now.items in
