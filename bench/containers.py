@@ -130,6 +130,24 @@ def overlapping_versions(text, starts):
     return index_of_one(payload, 1, [payload.object([name, 0x90000000 | at + start]) for start in starts])
 
 
+def options_that_overlap(text, starts):
+    """An index of packages of one name, each of the version behind one of these offsets of one text, as above."""
+    payload = Payload()
+    name, digest = payload.blob(b"a"), payload.blob(bytes(32))
+    at = len(payload.bytes)
+    payload.bytes += text
+    packages = payload.array([payload.object([name, 0x90000000 | at + start, digest]) for start in starts])
+    return b"ADB.indx" + block(0, payload.done(payload.object([0, packages])))
+
+
+def equal_in_other_bytes(count):
+    """Of half of so many packages of one name the version is `1_p01_p01..`, of the others `1_p1_p1..`: in pairs their tokens are equal, and
+    no byte behind the third. All have 12 kB at least, and overlap."""
+    half = count // 2
+    first, second = b"_p01" * (half + 3200), b"_p1" * (half + 9700)
+    return options_that_overlap(first + second, [4 * i + 1 for i in range(half)] + [len(first) + 3 * i for i in range(half)])
+
+
 def overlapping_names(text, starts):
     """A package whose one folder has a file with a name behind each of these offsets of one text, as with versions."""
     payload = Payload()

@@ -1,8 +1,9 @@
 -- How many of a list come before an element orders the elements of the list.
-use Rattle.std.proofs.Common.{◌≡◌, inl, inr, ℕ, zero, suc, ◌≤◌, ◌<◌, Bool, true, false, List, [], ◌∷◌, length, get_or, refl, sym, subst, ap, ◌∙◌, arith}
+use Rattle.std.proofs.Common.{◌≡◌, inl, inr, ℕ, zero, suc, ◌≤◌, ◌<◌, Bool, true, false, List, [], ◌∷◌, length, map, get_or, refl, sym, subst, ap, ◌∙◌, ◌-◌, arith}
+use Rattle.std.specs.Prelude.{Some, slice_get}
 use Rattle.std.specs.List.{filter}
 use Rattle.std.specs.List.Sorted.{IsSorted, IsPartitionedBy, IsPartitionPoint}
-use Rattle.std.specs.Ordering.{is_lt, nat_cmp, ordering_reverse}
+use Rattle.std.specs.Ordering.{is_eq, is_lt, nat_cmp, ordering_reverse}
 use Rattle.std.specs.Cmp.{IsTotalOrder, alike_right, tied_itself}
 use Rattle.std.specs.declared.cmp.Ordering.{Ordering}
 use Rattle.std.specs.declared.cmp.Ordering.TheVariants.{Less, Equal, Greater}
@@ -10,6 +11,7 @@ use Rattle.std.proofs.lemmas.Bool.Decides.{nat_tests}
 use Rattle.std.proofs.lemmas.List.Sorted.{ranks_by, sorted_far}
 use Rattle.candidate_core.specs.Options.{IsIn}
 use Rattle.candidate_core.proofs.OptionLists.{bool_cases}
+use Rattle.candidate_core.proofs.Steps.{get_at}
 
 lt_less : (r : Ordering) → is_lt r ≡ true → r ≡ Less
 lt_less Less e = refl
@@ -29,7 +31,7 @@ module _ {X : Type 0} (cmp : X → X → Ordering) (total : IsTotalOrder cmp) wh
   abbrev count : List X → X → ℕ
   count xs y = length (filter (λ x. is_lt (cmp x y)) xs)
 
-  same_count : (a b : X) → cmp a b ≡ Equal → (xs : List X) → count xs a ≡ count xs b
+  pub same_count : (a b : X) → cmp a b ≡ Equal → (xs : List X) → count xs a ≡ count xs b
   same_count a b e [] = refl
   same_count a b e (x ∷ xs) =
       let t : is_lt (cmp x a) ≡ is_lt (cmp x b) = ap is_lt (alike_right total a b x e) in
@@ -104,3 +106,44 @@ front_count p (x ∷ xs) (suc i) h point =
       (λ k d low high. point.0 (suc k) d (omega arith) (omega (arith, high))),
       (λ k d low high. point.1 (suc k) d (omega (arith, low)) (omega (arith, high))),
     )))
+
+-- as many of a list pass as of what a function makes of it
+pub counted_in : {X Y : Type 0} (f : X → Y) (p : Y → Bool) (xs : List X) → length (filter (λ x. p (f x)) xs) ≡ length (filter p (map f xs))
+counted_in f p [] = refl
+counted_in f p (x ∷ xs) = elim (bool_cases (p (f x))) [
+  | inl e ↦ rw e (ap suc (counted_in f p xs))
+  | inr e ↦ rw e (counted_in f p xs)
+]
+
+pub here_is : {X : Type 0} (xs : List X) (i : ℕ) (d x : X) → i < length xs → slice_get xs i ≡ Some x → get_or xs i d ≡ x
+here_is xs i d x within at =
+    let both : Some (get_or xs i d) ≡ Some x = sym (get_at xs i d within) ∙ at in
+    cc
+
+module _ {X : Type 0} (cmp : X → X → Ordering) (total : IsTotalOrder cmp) where
+  -- what is not equal and does not come behind comes before
+  less_by : (x y : X) → is_lt (cmp y x) ≡ false → is_eq (cmp x y) ≡ false → is_lt (cmp x y) ≡ true
+  less_by x y back apart = by (cmp x y) refl
+    where
+      by : (o : Ordering) → o ≡ cmp x y → is_lt (cmp x y) ≡ true
+      by Less e = ap is_lt (sym e)
+      by Equal e = let bad : true ≡ false = ap is_eq e ∙ apart in absurd (cc)
+      by Greater e =
+          let less : cmp y x ≡ Less = total.antisymm y x ∙ ap ordering_reverse (sym e) in
+          let bad : true ≡ false = sym (ap is_lt less) ∙ back in
+          absurd (cc)
+
+  -- in a list in order, as many come before an element as stand before it, unless it is equal to the last of these
+  pub place_counts : (xs : List X) (i : ℕ) (x : X) → IsSorted cmp xs → slice_get xs i ≡ Some x → i < length xs → (0 < i → (y : X) → slice_get xs (i - 1) ≡ Some y → is_eq (cmp y x) ≡ false) → i ≡ length (filter (λ y. is_lt (cmp y x)) xs)
+  place_counts xs i x up at within apart =
+      let weak = ranks_by total (λ (y : X). y) in
+      front_count (λ y. is_lt (cmp y x)) xs i (omega (arith, within)) (
+        (λ k d low high.
+            let last : X = get_or xs (i - 1) d in
+            let there : slice_get xs (i - 1) ≡ Some last = get_at xs (i - 1) d (omega (arith, within)) in
+            let back : is_lt (cmp x last) ≡ false = subst (λ (z : X). is_lt (cmp z last) ≡ false) (here_is xs i d x within at) (sorted_far (λ x y. is_lt (cmp x y)) weak xs up (i - 1) i d (omega arith) within) in
+            let less : is_lt (cmp last x) ≡ true = less_by last x back (apart (omega (arith, high)) last there) in
+            a_front_comes_before cmp total xs x up k (i - 1) d (omega (arith, high)) (omega (arith, within)) less),
+        (λ k d low high.
+            subst (λ (z : X). is_lt (cmp (get_or xs k d) z) ≡ false) (here_is xs i d x within at) (sorted_far (λ x y. is_lt (cmp x y)) weak xs up i k d low high)),
+      )

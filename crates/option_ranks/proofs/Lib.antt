@@ -3,3 +3,4 @@ pub mod MovedMembers
 pub mod CountedRanks
 pub mod RankedVersions
 pub mod RankedOptions
+pub mod ListedVersions

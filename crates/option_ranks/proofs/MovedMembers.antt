@@ -17,7 +17,7 @@ module _ {X : Type 0} where
   members_of [] = λ i d h. absurd (omega (arith, h))
   members_of (x ∷ xs) = at_each x xs (members_of xs)
 
-  member_of_all : (P : X → Type 0) (xs : List X) (c : X) → All P xs → IsIn c xs → P c
+  pub member_of_all : (P : X → Type 0) (xs : List X) (c : X) → All P xs → IsIn c xs → P c
   member_of_all P [] c all m = absurd m
   member_of_all P (x ∷ xs) c all (inl e) = subst P (sym e) (all 0 x (omega arith))
   member_of_all P (x ∷ xs) c all (inr m) = member_of_all P xs c (λ i d h. all (suc i) d (omega (arith, h))) m

@@ -111,33 +111,6 @@ module _ {X : Type 0} (f : X → X) where
 
 -- ---- ranks
 
-pub kept_version : (kind : VersionKind) (n : ℕ) (r : Ranking) → (version_of kind (with_rank kind n r)).version ≡ (version_of kind r).version
-kept_version Under n r = refl
-kept_version Own n r = refl
-
-pub given_rank : (kind : VersionKind) (n : ℕ) (r : Ranking) → (version_of kind (with_rank kind n r)).rank ≡ n
-given_rank Under n r = refl
-given_rank Own n r = refl
-
-pub same_place_before : (kind : VersionKind) (n : ℕ) (one : Ranking) (other : RankedVersion) → HaveSamePlace (version_of kind (with_rank kind n one)) other → HaveSamePlace (version_of kind one) other
-same_place_before Under n one other same = record { version = same.version; source = same.source; word = same.word }
-same_place_before Own n one other same = record { version = same.version; source = same.source; word = same.word }
-
--- the rank that the one before it got, where both are read from one text
-pub rank_before : (kind : VersionKind) (vs : List (Option (List ℕ))) (rs : List Ranking) (i : ℕ) (one x : Ranking) → AreReadAlike kind rs → 0 < i → i < length rs → slice_get (map_first (with_rank_among kind vs) i rs) (i - 1) ≡ Some one → slice_get rs i ≡ Some x → HaveSamePlace (version_of kind one) (version_of kind x) → (version_of kind one).rank ≡ rank_among kind vs (version_of kind x).version
-rank_before kind vs rs i one x alike low within h at same =
-    let before : Ranking = get_or rs (i - 1) x in
-    let there : slice_get rs (i - 1) ≡ Some before = get_at rs (i - 1) x (omega (arith, low, within)) in
-    let below : slice_get (map_first (with_rank_among kind vs) i rs) (i - 1) ≡ Some (with_rank_among kind vs before) =
-    first_below (with_rank_among kind vs) i (i - 1) rs before (omega (arith, low)) there in
-    let is : Some one ≡ Some (with_rank_among kind vs before) = sym h ∙ below in
-    let s : one ≡ with_rank_among kind vs before = cc in
-    let place : HaveSamePlace (version_of kind (with_rank_among kind vs before)) (version_of kind x) =
-    subst (λ (r : Ranking). HaveSamePlace (version_of kind r) (version_of kind x)) s same in
-    ap (λ (r : Ranking). (version_of kind r).rank) s
-    ∙ (given_rank kind _ before
-    ∙ ap (rank_among kind vs) (alike_at kind rs (i - 1) i before x alike there at (same_place_before kind _ before (version_of kind x) place)))
-
 -- its version has the rank that it has among some, and is one of them
 pub record HasRank (kind : VersionKind) (versions : List (Option (List ℕ))) (r : Ranking) : Type 0 where
   pub rank : (version_of kind r).rank ≡ rank_among kind versions (version_of kind r).version

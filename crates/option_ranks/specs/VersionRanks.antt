@@ -52,6 +52,28 @@ abbrev pub with_rank_among : VersionKind → List (Option (List ℕ)) → Rankin
 with_rank_among kind versions r =
     with_rank kind (rank_among kind versions (version_of kind r).version) r
 
+-- the versions of a list, without their places and ranks
+abbrev pub versions_in : List RankedVersion → List (Option (List ℕ))
+versions_in versions = map (λ (v : RankedVersion). v.version) versions
+
+-- a version with this rank
+abbrev pub version_with_rank : ℕ → RankedVersion → RankedVersion
+version_with_rank n v = record v { rank = n }
+
+-- a version with its rank among these
+abbrev pub version_with_rank_among :
+    VersionKind → List (Option (List ℕ)) → RankedVersion → RankedVersion
+version_with_rank_among kind versions v = version_with_rank (rank_among kind versions v.version) v
+
+-- a version has its rank among these
+abbrev pub HasRankAmong : VersionKind → List (Option (List ℕ)) → RankedVersion → Type 0
+HasRankAmong kind versions v = v.rank ≡ rank_among kind versions v.version
+
+-- one of the versions stands at the place of another, and has this rank
+abbrev pub IsRankAt : List RankedVersion → RankedVersion → ℕ → Type 0
+IsRankAt versions other rank = (v : RankedVersion)
+    × (IsIn v versions × (HaveSamePlace v other × (v.rank ≡ rank)))
+
 -- the ranking's version of a kind is one of the list
 abbrev pub IsListed : VersionKind → List (Option (List ℕ)) → Ranking → Type 0
 IsListed kind versions r = IsIn (version_of kind r).version versions
@@ -60,6 +82,17 @@ IsListed kind versions r = IsIn (version_of kind r).version versions
 abbrev pub AreReadAlike : VersionKind → List Ranking → Type 0
 AreReadAlike kind rankings = (text : ℕ → ℕ → List ℕ)
     × All (λ r. IsReadBy text (version_of kind r)) rankings
+
+-- one function of places gives the texts of these versions and of one more
+abbrev pub IsReadTogether : List RankedVersion → RankedVersion → Type 0
+IsReadTogether versions v = (text : ℕ → ℕ → List ℕ)
+    × (IsReadBy text v × All (IsReadBy text) versions)
+
+-- one function of places gives the texts of these versions, and of the versions of a kind of all
+-- these rankings
+abbrev pub AreReadTogether : VersionKind → List RankedVersion → List Ranking → Type 0
+AreReadTogether kind versions rankings = (text : ℕ → ℕ → List ℕ)
+    × (All (IsReadBy text) versions × All (λ r. IsReadBy text (version_of kind r)) rankings)
 
 -- the rankings `after` are those `before` in some order, each with the rank of its version among
 -- some that hold the versions of all

@@ -209,7 +209,19 @@ pub(crate) fn compare_versions(
 {
     match kind {
         VersionKind::Under => by_version(one, other),
-        VersionKind::Own => by_version(one, other).then(by_version_text(one, other)),
+        VersionKind::Own => by_version_and_text(one, other),
+    }
+}
+
+// The order of two versions: the greater first, and of equal ones the byte-lesser text. Texts are
+// looked at only then, since they may be long.
+fn by_version_and_text(one: &Option<Version<'_>>, other: &Option<Version<'_>>) -> Ordering
+    ensures { result ≡ then_cmp greater_version (option_cmp bytes_cmp) one.now other.now }
+{
+    match by_version(one, other) {
+        Ordering::Less => Ordering::Less,
+        Ordering::Greater => Ordering::Greater,
+        Ordering::Equal => by_version_text(one, other),
     }
 }
 

@@ -3,10 +3,13 @@
 //! The rule stands in `docs/selection.md`, "Which selection is taken", keys 5, 8 and 9 of the
 //! table; how versions are compared says `docs/formats.md`, "Versions". That texts are told apart
 //! by where they stand saves time alone, as the README of this crate says.
-ghost use Rattle.std.specs.Prelude.{◌≡◌, ◌<◌, ◌-◌, true, All, OnOk, IfOk, Some, length, map, slice_get};
+ghost use Rattle.std.specs.Prelude.{◌≡◌, ◌<◌, ◌-◌, ℕ, List, true, All, OnOk, IfOk, IfSome, Some, length, map, slice_get};
 ghost use Rattle.std.specs.List.Sorted.{IsSorted};
+ghost use Rattle.std.specs.Ordering.{is_eq, on};
+ghost use Rattle.candidate_core.specs.VersionTexts.{IsReadBy};
+ghost use Rattle.candidate_core.specs.declared.versions.RankedVersion.{RankedVersion};
 ghost use Rattle.option_ranks.specs.Ranking.{Ranking, version_order};
-ghost use Rattle.option_ranks.specs.VersionRanks.{AreRankedFrom, AreReadAlike, AreReadyFor, HaveSamePlace, IsListed, rank_among, version_of, with_rank_among};
+ghost use Rattle.option_ranks.specs.VersionRanks.{AreRankedFrom, AreReadAlike, AreReadTogether, AreReadyFor, HasRankAmong, HaveSamePlace, IsListed, IsRankAt, IsReadTogether, rank_among, version_of, version_with_rank, version_with_rank_among, versions_in, with_rank_among};
 ghost use Rattle.candidate_core.specs.declared.versions.VersionKind.TheVariants as Kinds;
 
 use crate::rank::{RankedOption, VersionKey, compare_versions};
@@ -16,9 +19,9 @@ use std::cmp::Ordering;
 use version_core::{Version, order_is_total};
 
 /// Ranks the versions of options if one of them is long, and answers by what they are to be
-/// compared. The options may come into another order. It takes time in proportion to k log k in the
-/// k options, and compares each text that they read with log n others of the n texts; short texts
-/// are sooner compared than ranked.
+/// compared. The options may come into another order. It takes time in proportion to k log k in
+/// the k options, and sorts the n texts that they read, which takes n log n comparisons, or n where
+/// they stand in order, and some n more; short texts are sooner compared than ranked.
 ///
 /// # Errors
 ///
@@ -63,7 +66,12 @@ fn rank_versions<'a>(
     // Then options that read one text stand together.
     options.sort_by(|one, other| by_place(one.version_of(kind), other.version_of(kind)))?;
     let mut versions = distinct_versions(alloc, options, kind)?;
-    versions.sort_by(|one, other| compare_versions(kind, one, other))?;
+    // Where ranks are known, they are nearly the order, and few versions are compared then.
+    versions.sort_by(|one, other| one.rank.cmp(&other.rank))?;
+    versions.sort_by(|one, other| compare_versions(kind, &one.version, &other.version))?;
+    rank_sorted(&mut versions, kind);
+    // Then a version is found by its place.
+    versions.sort_by(|one, other| by_place(one, other))?;
     set_ranks(options, kind, &versions);
     Ok(())
 }
@@ -81,17 +89,37 @@ fn distinct_versions<'a>(
     alloc: Global,
     options: &[RankedOption<'a>],
     kind: VersionKind,
-) -> Result<Vec<Option<Version<'a>>>, AllocError>
+) -> Result<Vec<RankedVersion<'a>>, AllocError>
     requires { AreReadAlike kind options.now }
-    ensures { IfOk result (λ versions. All (IsListed kind versions.items) options.now) }
+    ensures listed { IfOk result
+        (λ versions. All (IsListed kind (versions_in versions.items)) options.now) }
+    ensures read { IfOk result (λ versions. (text : ℕ → ℕ → List ℕ)
+        → All (λ r. IsReadBy text (version_of kind r)) options.now
+        → All (IsReadBy text) versions.items) }
 {
     let mut versions = Vec::new(alloc);
     for i in 0..options.len() {
         if !reads_the_text_before(options, i, kind) {
-            versions.push(same_version(&options[i].version_of(kind).version))?;
+            versions.push(version_to_rank(&options[i], kind))?;
         }
     }
     Ok(versions)
+}
+
+// A copy of the version of an option that a kind names; its text stays borrowed. Its rank is that
+// of the version under which the option meets the need, which is mostly the same one: 0 until
+// these are ranked. Nothing rests on it but time.
+fn version_to_rank<'a>(option: &RankedOption<'a>, kind: VersionKind) -> RankedVersion<'a>
+    ensures { result
+        ≡ version_with_rank option.entry.now.under.rank (version_of kind option.entry.now) }
+{
+    let ranked = option.version_of(kind);
+    RankedVersion {
+        version: same_version(&ranked.version),
+        source: ranked.source,
+        word: ranked.word,
+        rank: option.under.rank,
+    }
 }
 
 // Whether the version of an option is read from the same text as that of the option before it.
@@ -117,37 +145,104 @@ fn is_same_place(one: &RankedVersion<'_>, other: &RankedVersion<'_>) -> bool
         && one.word == other.word
 }
 
-// Gives each option the rank of its version among some, which are sorted. An option that reads the
-// text of the one before it has the rank of that one.
+// Gives each of some sorted versions its rank among them: how many stand before it and the equal
+// ones beside it. Each is compared with the one before it alone.
+fn rank_sorted(versions: &mut Vec<RankedVersion<'_>>, kind: VersionKind)
+    requires { IsSorted (on (λ (v : RankedVersion). v.version) (version_order kind))
+        versions.old.items }
+    ensures { versions.new.items
+        ≡ map (version_with_rank_among kind (versions_in versions.old.items)) versions.old.items }
+{
+    order_is_total();
+    for i in 0..versions.len() {
+        let rank = if equals_the_one_before(versions, i, kind) {
+            versions[i - 1].rank
+        } else {
+            i
+        };
+        set_own_rank(&mut versions[i], rank);
+    }
+}
+
+// Whether a version is equal to the one before it.
+fn equals_the_one_before(versions: &[RankedVersion<'_>], i: usize, kind: VersionKind) -> bool
+    requires { i < length versions.now }
+    ensures first { result ≡ true → 0 < i }
+    ensures equal { 0 < i → (one other : RankedVersion) → slice_get versions.now (i - 1) ≡ Some one
+        → slice_get versions.now i ≡ Some other
+        → result ≡ is_eq (version_order kind one.version other.version) }
+{
+    if i == 0 {
+        return false;
+    }
+    compare_versions(kind, &versions[i - 1].version, &versions[i].version).is_eq()
+}
+
+// Sets the rank of a version.
+fn set_own_rank(version: &mut RankedVersion<'_>, rank: usize)
+    ensures { version.new ≡ version_with_rank rank version.old }
+{
+    version.rank = rank;
+}
+
+// Gives each option the rank of its version among some, which have theirs.
 fn set_ranks<'a>(
     options: &mut Vec<RankedOption<'a>>,
     kind: VersionKind,
-    versions: &[Option<Version<'_>>],
+    versions: &[RankedVersion<'_>],
 )
-    requires alike { AreReadAlike kind options.old.items }
-    requires sorted { IsSorted (version_order kind) versions.now }
-    ensures { options.new.items ≡ map (with_rank_among kind versions.now) options.old.items }
+    requires ranked { All (HasRankAmong kind (versions_in versions.now)) versions.now }
+    requires alike { AreReadTogether kind versions.now options.old.items }
+    ensures { options.new.items
+        ≡ map (with_rank_among kind (versions_in versions.now)) options.old.items }
 {
     for i in 0..options.len() {
-        // One search among the versions for each text.
-        let rank = if reads_the_text_before(options, i, kind) {
-            options[i - 1].version_of(kind).rank
-        } else {
-            rank_among(kind, versions, &options[i].version_of(kind).version)
-        };
+        let rank = rank_of(options[i].version_of(kind), versions, kind);
         options[i].set_rank(kind, rank);
     }
 }
 
-// How many of some sorted versions come before one, found by halving.
+// The rank of a version among some, which have theirs. Each of an option stands among them, so that
+// none is counted anew; but the contract need not say so.
+fn rank_of(version: &RankedVersion<'_>, versions: &[RankedVersion<'_>], kind: VersionKind) -> usize
+    requires ranked { All (HasRankAmong kind (versions_in versions.now)) versions.now }
+    requires alike { IsReadTogether versions.now version.now }
+    ensures { result ≡ rank_among kind (versions_in versions.now) version.now.version }
+{
+    match rank_at_place(version, versions) {
+        Some(rank) => rank,
+        None => rank_among(kind, versions, &version.version),
+    }
+}
+
+// The rank of the version that stands at the place of another, found by halving where versions
+// stand by their places.
+fn rank_at_place(version: &RankedVersion<'_>, versions: &[RankedVersion<'_>]) -> Option<usize>
+    ensures { IfSome result (IsRankAt versions.now version.now) }
+{
+    let at = versions.partition_point(|one| by_place(one, version).is_lt());
+    if at >= versions.len() {
+        return None;
+    }
+    if is_same_place(&versions[at], version) {
+        return Some(versions[at].rank);
+    }
+    None
+}
+
+// How many of some versions come before one; each is compared with it.
 fn rank_among(
     kind: VersionKind,
-    versions: &[Option<Version<'_>>],
+    versions: &[RankedVersion<'_>],
     version: &Option<Version<'_>>,
 ) -> usize
-    requires { IsSorted (version_order kind) versions.now }
-    ensures { result ≡ rank_among kind versions.now version.now }
+    ensures { result ≡ rank_among kind (versions_in versions.now) version.now }
 {
-    order_is_total();
-    versions.partition_point(|one| compare_versions(kind, one, version).is_lt())
+    let mut rank = 0;
+    for i in 0..versions.len() {
+        if compare_versions(kind, &versions[i].version, version).is_lt() {
+            rank += 1;
+        }
+    }
+    rank
 }

@@ -1,21 +1,23 @@
--- Two versions that are equal up to a mark compare by what stands from the mark on.
-use Rattle.std.proofs.Common.{◌≡◌, ℕ, zero, suc, ◌+◌, ◌-◌, ◌<◌, ◌≤◌, Bool, true, false, ◌&&◌, ◌||◌, cond, eqb, ltb, List, [], ◌∷◌, ◌++◌, take, drop, get_or, length, Option, Some, None, refl, ap, sym, ◌∙◌, subst, arith, Ordering}
+-- Two versions that are equal up to a mark compare by what stands from the mark on, and match by it.
+use Rattle.std.proofs.Common.{◌≡◌, ℕ, zero, suc, ◌+◌, ◌-◌, ◌<◌, ◌≤◌, Bool, true, false, ◌&&◌, ◌||◌, cond, eqb, ltb, List, [], ◌∷◌, ◌++◌, take, drop, get_or, length, Option, Some, None, refl, ap, sym, ◌∙◌, subst, arith}
 use Rattle.std.specs.Prelude.{not}
 use Rattle.std.specs.Char.{is_ascii_digit, is_ascii_lowercase}
-use Rattle.std.specs.List.{take_while, list_all}
-use Rattle.std.specs.Ordering.{nat_cmp, ordering_then}
+use Rattle.std.specs.List.{take_while}
+use Rattle.std.specs.Ordering.{is_eq, nat_cmp, ordering_then}
 use Rattle.std.specs.Cmp.Lexicographic.{slice_cmp}
 use Rattle.std.proofs.lemmas.Bool.{false≢true}
 use Rattle.std.proofs.lemmas.Bool.Decides.{Decides-eqb}
 use Rattle.std.proofs.lemmas.Cmp.{tied_itself, nat_cmp_total}
-use Rattle.std.proofs.lemmas.List.{append_assoc, drop-append-le, drop-drop, drop_more, length-drop, length-take, take-append-drop}
+use Rattle.std.proofs.lemmas.Slice.Eq.{bytes_eq-Decides}
+use Rattle.std.proofs.lemmas.List.{append_assoc, drop-append-le, drop-drop, drop_more, length-drop, length-take, take-append-drop, take_all}
 use Rattle.std.proofs.Math.Seq.{take-add}
 use Rattle.std.proofs.lemmas.List.Sums.{take_while-cons}
 use Rattle.version_core.specs.declared.token.Class.{Class}
 use Rattle.version_core.specs.declared.token.Class.TheVariants.{Revision, Hash, SuffixNumber, Letter, Component}
 use Rattle.version_core.specs.Token.{Token, Lexeme, number_token, text_token, lexeme, stray_lexeme, is_component, is_suffix, is_before_hash, is_before_revision, is_hex_digit, leading_digits, leading_hex_digits, leading_letters, number_lexeme, component_lexeme, suffix_lexeme, hash_lexeme, revision_lexeme, next_lexeme, lexeme_at}
 use Rattle.version_core.specs.Order.{are_in_grammar, is_last, is_stray, is_version, token_cmp, tokens, tokens_behind, version_cmp}
-use Rattle.version_core.specs.Reading.{AreEqualUpTo, IsLastMark, begins_with_mark, hash_cmp, is_token_mark}
+use Rattle.version_core.specs.Matching.{all_fit, begins_with, fits, is_fuzzy_match, is_zero_component}
+use Rattle.version_core.specs.Reading.{AreEqualUpTo, IsLastMark, begins_with_mark, hash_cmp, hash_fits, is_token_mark, is_unmarked}
 use Rattle.version_core.proofs.OrderLaws.{token_cmp-total}
 use Rattle.version_core.proofs.Places.{NoEnd, number_no_end, some_no_end, stray_first}
 use Rattle.version_core.proofs.Walk.{lexeme_at_within}
@@ -26,7 +28,7 @@ or_cases : {P : Type 0} (a b : Bool) → (a || b) ≡ true → (a ≡ true → P
 or_cases true b h f g = f refl
 or_cases false b h f g = g h
 
-by_mark : (P : ℕ → Type 0) (m : ℕ) → is_token_mark m ≡ true → P 46 → P 95 → P 126 → P 45 → P m
+pub by_mark : (P : ℕ → Type 0) (m : ℕ) → is_token_mark m ≡ true → P 46 → P 95 → P 126 → P 45 → P m
 by_mark P m h dot line tilde dash =
     let at : (n : ℕ) → P n → eqb m n ≡ true → P m = λ n p e. subst P (sym ((Decides-eqb m n).0 e)) p in
     or_cases (eqb m 46 || eqb m 95 || eqb m 126) (eqb m 45) h
@@ -95,7 +97,7 @@ mark_lexeme (Some last) m x mark h =
 
 -- ---- the tokens of a text that is in the grammar
 
-abbrev IsGood : Option Class → ℕ → List ℕ → Type 0
+abbrev pub IsGood : Option Class → ℕ → List ℕ → Type 0
 IsGood last inside text = are_in_grammar (tokens_behind last inside text) ≡ true
 
 no_end : (last : Option Class) (b : ℕ) (rest : List ℕ) → NoEnd (lexeme_at last (b ∷ rest))
@@ -106,47 +108,53 @@ bool_by : (b : Bool) → (b ≡ true → false ≡ true) → b ≡ false
 bool_by true f = sym (f refl)
 bool_by false f = refl
 
-goes_on : (last : Option Class) (b : ℕ) (rest : List ℕ) → IsGood last 0 (b ∷ rest) → is_last (lexeme_at last (b ∷ rest)).token.class ≡ false
+pub goes_on : (last : Option Class) (b : ℕ) (rest : List ℕ) → IsGood last 0 (b ∷ rest) → is_last (lexeme_at last (b ∷ rest)).token.class ≡ false
 goes_on last b rest good = bool_by _ (λ h. sym (stray_first last (b ∷ rest) (no_end last b rest) h) ∙ good)
 
 -- the tokens behind a token, where it begins a text of which so much stands behind its first byte
 abbrev tokens_by : List ℕ → Lexeme → List Token
 tokens_by rest found = found.token ∷ cond (is_last found.token.class) [] (tokens_behind (Some found.token.class) (found.width - 1) rest)
 
-good_behind : (rest : List ℕ) (found : Lexeme) (stray : Bool) (last : Bool) → last ≡ false → (not stray && are_in_grammar (cond last [] (tokens_behind (Some found.token.class) (found.width - 1) rest))) ≡ true → IsGood (Some found.token.class) (found.width - 1) rest
+pub good_behind : (rest : List ℕ) (found : Lexeme) (stray : Bool) (last : Bool) → last ≡ false → (not stray && are_in_grammar (cond last [] (tokens_behind (Some found.token.class) (found.width - 1) rest))) ≡ true → IsGood (Some found.token.class) (found.width - 1) rest
 good_behind rest found true last e h = absurd (false≢true h)
 good_behind rest found false true e h = absurd (false≢true (sym e))
 good_behind rest found false false e h = h
 
--- two texts that begin with one token compare by what stands behind it
-same_token : (found : Lexeme) (x y : List ℕ) → is_last found.token.class ≡ false → slice_cmp token_cmp (tokens_by x found) (tokens_by y found) ≡ slice_cmp token_cmp (tokens_behind (Some found.token.class) (found.width - 1) x) (tokens_behind (Some found.token.class) (found.width - 1) y)
-same_token found x y h =
-    ap (λ b. ordering_then (token_cmp found.token found.token) (slice_cmp token_cmp (cond b [] (tokens_behind (Some found.token.class) (found.width - 1) x)) (cond b [] (tokens_behind (Some found.token.class) (found.width - 1) y)))) h
-    ∙ ap (λ o. ordering_then o (slice_cmp token_cmp (tokens_behind (Some found.token.class) (found.width - 1) x) (tokens_behind (Some found.token.class) (found.width - 1) y))) (tied_itself token_cmp-total found.token)
+-- what is made of two lists of tokens, where a token that both begin with makes no difference
+abbrev pub PassesEqual : {X : Type 0} → (List Token → List Token → X) → Type 0
+PassesEqual make = (token : Token) (ts us : List Token) → is_last token.class ≡ false → make (token ∷ ts) (token ∷ us) ≡ make ts us
 
-abbrev compare_at : Option Class → ℕ → List ℕ → List ℕ → Ordering
-compare_at last inside left right = slice_cmp token_cmp (tokens_behind last inside left) (tokens_behind last inside right)
+-- what is made of the tokens of two texts behind a token of some class
+abbrev made_at : {X : Type 0} → (List Token → List Token → X) → Option Class → ℕ → List ℕ → List ℕ → X
+made_at make last inside left right = make (tokens_behind last inside left) (tokens_behind last inside right)
 
--- the same with an equal front, behind which both go on with a mark
-cmp_front : (last : Option Class) (inside : ℕ) (a : List ℕ) (m : ℕ) (x y : List ℕ) → is_token_mark m ≡ true → inside ≤ length a → IsGood last inside (a ++ m ∷ x) → IsGood last inside (a ++ m ∷ y) → compare_at last inside (a ++ m ∷ x) (a ++ m ∷ y) ≡ compare_at (Some Component) 0 (m ∷ x) (m ∷ y)
-cmp_front last zero [] m x y mark room left right = λ i.
-    slice_cmp token_cmp (tokens_by x (mark_lexeme last m x mark (goes_on last m x left) i)) (tokens_by y (mark_lexeme last m y mark (goes_on last m y right) i))
-cmp_front last (suc inside) [] m x y mark room left right = absurd (omega arith)
-cmp_front last (suc inside) (b ∷ a) m x y mark room left right = cmp_front last inside a m x y mark (omega arith) left right
-cmp_front last zero (b ∷ a) m x y mark room left right =
-    let found = lexeme_at last (b ∷ a) in
-    let e = lexeme_front last b a m x mark in
-    let f = lexeme_front last b a m y mark in
-    let on : is_last found.token.class ≡ false = ap (λ (l : Lexeme). is_last l.token.class) (sym e) ∙ goes_on last b (a ++ m ∷ x) left in
-    let most = (lexeme_at_within last (b ∷ a)).most in
-    (λ i. slice_cmp token_cmp (tokens_by (a ++ m ∷ x) (e i)) (tokens_by (a ++ m ∷ y) (f i)))
-    ∙ same_token found (a ++ m ∷ x) (a ++ m ∷ y) on
-    ∙ cmp_front (Some found.token.class) (found.width - 1) a m x y mark (omega arith)
-    (good_behind (a ++ m ∷ x) found (is_stray found.token.class) (is_last found.token.class) on (ap (λ (l : Lexeme). are_in_grammar (tokens_by (a ++ m ∷ x) l)) (sym e) ∙ left))
-    (good_behind (a ++ m ∷ y) found (is_stray found.token.class) (is_last found.token.class) on (ap (λ (l : Lexeme). are_in_grammar (tokens_by (a ++ m ∷ y) l)) (sym f) ∙ right))
+module _ {X : Type 0} (make : List Token → List Token → X) (passes : PassesEqual make) where
+  -- of two texts that begin with one token the same is made as of what stands behind it
+  same_token : (found : Lexeme) (x y : List ℕ) → is_last found.token.class ≡ false → make (tokens_by x found) (tokens_by y found) ≡ made_at make (Some found.token.class) (found.width - 1) x y
+  same_token found x y h =
+      ap (λ b. make (found.token ∷ cond b [] (tokens_behind (Some found.token.class) (found.width - 1) x)) (found.token ∷ cond b [] (tokens_behind (Some found.token.class) (found.width - 1) y))) h
+      ∙ passes found.token (tokens_behind (Some found.token.class) (found.width - 1) x) (tokens_behind (Some found.token.class) (found.width - 1) y) h
+
+  -- the same with an equal front, behind which both go on with a mark
+  made_behind : (last : Option Class) (inside : ℕ) (a : List ℕ) (m : ℕ) (x y : List ℕ) → is_token_mark m ≡ true → inside ≤ length a → IsGood last inside (a ++ m ∷ x) → IsGood last inside (a ++ m ∷ y) → made_at make last inside (a ++ m ∷ x) (a ++ m ∷ y) ≡ made_at make (Some Component) 0 (m ∷ x) (m ∷ y)
+  made_behind last zero [] m x y mark room left right = λ i.
+      make (tokens_by x (mark_lexeme last m x mark (goes_on last m x left) i)) (tokens_by y (mark_lexeme last m y mark (goes_on last m y right) i))
+  made_behind last (suc inside) [] m x y mark room left right = absurd (omega arith)
+  made_behind last (suc inside) (b ∷ a) m x y mark room left right = made_behind last inside a m x y mark (omega arith) left right
+  made_behind last zero (b ∷ a) m x y mark room left right =
+      let found = lexeme_at last (b ∷ a) in
+      let e = lexeme_front last b a m x mark in
+      let f = lexeme_front last b a m y mark in
+      let on : is_last found.token.class ≡ false = ap (λ (l : Lexeme). is_last l.token.class) (sym e) ∙ goes_on last b (a ++ m ∷ x) left in
+      let most = (lexeme_at_within last (b ∷ a)).most in
+      (λ i. make (tokens_by (a ++ m ∷ x) (e i)) (tokens_by (a ++ m ∷ y) (f i)))
+      ∙ same_token found (a ++ m ∷ x) (a ++ m ∷ y) on
+      ∙ made_behind (Some found.token.class) (found.width - 1) a m x y mark (omega arith)
+      (good_behind (a ++ m ∷ x) found (is_stray found.token.class) (is_last found.token.class) on (ap (λ (l : Lexeme). are_in_grammar (tokens_by (a ++ m ∷ x) l)) (sym e) ∙ left))
+      (good_behind (a ++ m ∷ y) found (is_stray found.token.class) (is_last found.token.class) on (ap (λ (l : Lexeme). are_in_grammar (tokens_by (a ++ m ∷ y) l)) (sym f) ∙ right))
 
 -- and each is in the grammar from the mark on
-good_front : (last : Option Class) (inside : ℕ) (a : List ℕ) (m : ℕ) (x : List ℕ) → is_token_mark m ≡ true → inside ≤ length a → IsGood last inside (a ++ m ∷ x) → IsGood (Some Component) 0 (m ∷ x)
+pub good_front : (last : Option Class) (inside : ℕ) (a : List ℕ) (m : ℕ) (x : List ℕ) → is_token_mark m ≡ true → inside ≤ length a → IsGood last inside (a ++ m ∷ x) → IsGood (Some Component) 0 (m ∷ x)
 good_front last zero [] m x mark room good =
     ap (λ (l : Lexeme). are_in_grammar (tokens_by x l)) (sym (mark_lexeme last m x mark (goes_on last m x good))) ∙ good
 good_front last (suc inside) [] m x mark room good = absurd (omega arith)
@@ -161,18 +169,15 @@ good_front last zero (b ∷ a) m x mark room good =
 
 -- ---- within the hash of both
 
-abbrev is_unmarked : List ℕ → Bool
-is_unmarked text = list_all (λ b. not (is_token_mark b)) text
-
 and_false : (b : Bool) → (b && false) ≡ false
 and_false true = refl
 and_false false = refl
 
-and_left : (a b : Bool) → (a && b) ≡ true → a ≡ true
+pub and_left : (a b : Bool) → (a && b) ≡ true → a ≡ true
 and_left true b h = refl
 and_left false b h = absurd (false≢true h)
 
-and_right : (a b : Bool) → (a && b) ≡ true → b ≡ true
+pub and_right : (a b : Bool) → (a && b) ≡ true → b ≡ true
 and_right true b h = h
 and_right false b h = absurd (false≢true h)
 
@@ -226,27 +231,25 @@ same_digits : (a x y : List ℕ) → slice_cmp nat_cmp (a ++ x) (a ++ y) ≡ sli
 same_digits [] x y = refl
 same_digits (b ∷ a) x y = ap (λ o. ordering_then o (slice_cmp nat_cmp (a ++ x) (a ++ y))) (tied_itself nat_cmp_total b) ∙ same_digits a x y
 
-abbrev compare_behind_hash : List ℕ → List ℕ → Ordering
-compare_behind_hash x y = slice_cmp token_cmp (tokens_behind (Some Hash) (length (leading_hex_digits x)) x) (tokens_behind (Some Hash) (length (leading_hex_digits y)) y)
+-- the tokens from a hash on, whose digits are these and those that a text begins with
+abbrev hash_and_behind : List ℕ → List ℕ → List Token
+hash_and_behind digits rest =
+    text_token Hash (digits ++ leading_hex_digits rest) ∷ tokens_behind (Some Hash) (length (leading_hex_digits rest)) rest
 
-hash_front : (digits x y : List ℕ) → is_unmarked digits ≡ true → IsGood (Some Component) 0 (126 ∷ (digits ++ x)) → IsGood (Some Component) 0 (126 ∷ (digits ++ y)) → compare_at (Some Component) 0 (126 ∷ (digits ++ x)) (126 ∷ (digits ++ y)) ≡ hash_cmp x y
-hash_front digits x y plain left right =
-    let e = hash_first (digits ++ x) left in
-    let f = hash_first (digits ++ y) right in
-    let a = hash_digits digits x plain (ap are_in_grammar (sym e) ∙ left) in
-    let b = hash_digits digits y plain (ap are_in_grammar (sym f) ∙ right) in
-    (λ i. slice_cmp token_cmp (e i) (f i))
-    ∙ (λ i. ordering_then (slice_cmp nat_cmp (a.text i) (b.text i)) (slice_cmp token_cmp (a.behind i) (b.behind i)))
-    ∙ ap (λ o. ordering_then o (compare_behind_hash x y)) (same_digits digits (leading_hex_digits x) (leading_hex_digits y))
+hash_tokens : (digits rest : List ℕ) → is_unmarked digits ≡ true → IsGood (Some Component) 0 (126 ∷ (digits ++ rest)) → tokens_behind (Some Component) 0 (126 ∷ (digits ++ rest)) ≡ hash_and_behind digits rest
+hash_tokens digits rest plain good =
+    let first = hash_first (digits ++ rest) good in
+    let inner = hash_digits digits rest plain (ap are_in_grammar (sym first) ∙ good) in
+    first ∙ (λ i. text_token Hash (inner.text i) ∷ inner.behind i)
 
 -- ---- what the code passes over
 
 -- a text with the mark at which it is cut, and what stands up to the place that was compared
-record IsCut (text front : List ℕ) (len at m : ℕ) (plain : List ℕ) : Type 0 where
-  whole : text ≡ take at front ++ m ∷ (plain ++ drop len text)
-  rest : drop at text ≡ m ∷ (plain ++ drop len text)
+pub record IsCut (text front : List ℕ) (len at m : ℕ) (plain : List ℕ) : Type 0 where
+  pub whole : text ≡ take at front ++ m ∷ (plain ++ drop len text)
+  pub rest : drop at text ≡ m ∷ (plain ++ drop len text)
 
-cut_text : (text front : List ℕ) (len at m : ℕ) (plain : List ℕ) → front ≡ take len text → drop at front ≡ m ∷ plain → IsCut text front len at m plain
+pub cut_text : (text front : List ℕ) (len at m : ℕ) (plain : List ℕ) → front ≡ take len text → drop at front ≡ m ∷ plain → IsCut text front len at m plain
 cut_text text front len at m plain e h =
     let joined : front ++ drop len text ≡ text = ap (λ f. f ++ drop len text) e ∙ take-append-drop len text in
     let some : at ≤ length front = omega (arith, length-drop at front, ap length h) in
@@ -256,7 +259,7 @@ cut_text text front len at m plain e h =
     }
 
 -- the mark and what stands behind it in a front
-with_mark : (P : Type 0) (text : List ℕ) → begins_with_mark text ≡ true → ((m : ℕ) (rest : List ℕ) → text ≡ m ∷ rest → is_token_mark m ≡ true → P) → P
+pub with_mark : (P : Type 0) (text : List ℕ) → begins_with_mark text ≡ true → ((m : ℕ) (rest : List ℕ) → text ≡ m ∷ rest → is_token_mark m ≡ true → P) → P
 with_mark P [] h f = absurd (false≢true h)
 with_mark P (m ∷ rest) h f = f m rest refl h
 
@@ -270,43 +273,96 @@ pub cmp_whole : (left right : List ℕ) → slice_cmp token_cmp (tokens left) (t
 unfolding version_cmp
 cmp_whole left right = refl
 
-cmp_behind : (left right : List ℕ) → version_cmp left right ≡ compare_at None 0 left right
-unfolding version_cmp tokens
-cmp_behind left right = refl
+tokens_whole : (text : List ℕ) → tokens text ≡ tokens_behind None 0 text
+unfolding tokens
+tokens_whole text = refl
 
-good_whole : (text : List ℕ) → is_version text ≡ true → IsGood None 0 text
+pub good_whole : (text : List ℕ) → is_version text ≡ true → IsGood None 0 text
 unfolding is_version tokens
 good_whole text h = h
 
-pub cmp_from_mark : (left right : List ℕ) (len at : ℕ) → AreEqualUpTo left right len → IsLastMark (take len left) at → is_version left ≡ true → is_version right ≡ true → version_cmp left right ≡ compare_at (Some Component) 0 (drop at left) (drop at right)
+module _ {X : Type 0} (make : List Token → List Token → X) (passes : PassesEqual make) (left right : List ℕ) (len at : ℕ) (equal : AreEqualUpTo left right len) (found : IsLastMark (take len left) at) (one : is_version left ≡ true) (two : is_version right ≡ true) where
+  pub made_from_mark : make (tokens left) (tokens right) ≡ make (tokens_behind (Some Component) 0 (drop at left)) (tokens_behind (Some Component) 0 (drop at right))
+  made_from_mark =
+      let front = take len left in
+      with_mark _ (drop at front) found.mark (λ m plain h mark.
+      let l = cut_text left front len at m plain refl h in
+      let r = cut_text right front len at m plain equal.same h in
+      let x = plain ++ drop len left in
+      let y = plain ++ drop len right in
+      (λ i. make (tokens_whole left i) (tokens_whole right i))
+      ∙ (λ i. made_at make None 0 (l.whole i) (r.whole i))
+      ∙ made_behind make passes None 0 (take at front) m x y mark (omega arith) (subst (IsGood None 0) l.whole (good_whole left one)) (subst (IsGood None 0) r.whole (good_whole right two))
+      ∙ (λ i. made_at make (Some Component) 0 (sym l.rest i) (sym r.rest i)))
+
+  pub made_from_hash : (inner : List ℕ → List ℕ → X) → ((digits x y : List ℕ) → make (hash_and_behind digits x) (hash_and_behind digits y) ≡ inner x y) → at < length left → get_or left at 0 ≡ 126 → make (tokens left) (tokens right) ≡ inner (drop len left) (drop len right)
+  made_from_hash inner drops within tilde =
+      let front = take len left in
+      with_mark _ (drop at front) found.mark (λ m plain h mark.
+      let l = cut_text left front len at m plain refl h in
+      let r = cut_text right front len at m plain equal.same h in
+      let x = plain ++ drop len left in
+      let y = plain ++ drop len right in
+      let is : m ≡ 126 = ap (λ t. get_or t 0 0) (sym l.rest ∙ drop_more left at 0 within) ∙ tilde in
+      let digits : is_unmarked plain ≡ true = ap is_unmarked (sym (sym (drop-drop 1 at front) ∙ ap (drop 1) h)) ∙ found.last in
+      let good_l = subst (λ m. IsGood (Some Component) 0 (m ∷ x)) is (good_front None 0 (take at front) m x mark (omega arith) (subst (IsGood None 0) l.whole (good_whole left one))) in
+      let good_r = subst (λ m. IsGood (Some Component) 0 (m ∷ y)) is (good_front None 0 (take at front) m y mark (omega arith) (subst (IsGood None 0) r.whole (good_whole right two))) in
+      made_from_mark
+      ∙ (λ i. made_at make (Some Component) 0 (l.rest i) (r.rest i))
+      ∙ (λ i. made_at make (Some Component) 0 (is i ∷ x) (is i ∷ y))
+      ∙ (λ i. make (hash_tokens plain (drop len left) digits good_l i) (hash_tokens plain (drop len right) digits good_r i))
+      ∙ drops plain (drop len left) (drop len right))
+
+-- ---- the order
+
+cmp_passes : PassesEqual (slice_cmp token_cmp)
+cmp_passes token ts us h = ap (λ o. ordering_then o (slice_cmp token_cmp ts us)) (tied_itself token_cmp-total token)
+
+cmp_drops : (digits x y : List ℕ) → slice_cmp token_cmp (hash_and_behind digits x) (hash_and_behind digits y) ≡ hash_cmp x y
+cmp_drops digits x y =
+    ap (λ o. ordering_then o (slice_cmp token_cmp (tokens_behind (Some Hash) (length (leading_hex_digits x)) x) (tokens_behind (Some Hash) (length (leading_hex_digits y)) y)))
+    (same_digits digits (leading_hex_digits x) (leading_hex_digits y))
+
+pub cmp_from_mark : (left right : List ℕ) (len at : ℕ) → AreEqualUpTo left right len → IsLastMark (take len left) at → is_version left ≡ true → is_version right ≡ true → version_cmp left right ≡ slice_cmp token_cmp (tokens_behind (Some Component) 0 (drop at left)) (tokens_behind (Some Component) 0 (drop at right))
 cmp_from_mark left right len at equal found one two =
-    let front = take len left in
-    with_mark _ (drop at front) found.mark (λ m plain h mark.
-    let l = cut_text left front len at m plain refl h in
-    let r = cut_text right front len at m plain equal.same h in
-    let x = plain ++ drop len left in
-    let y = plain ++ drop len right in
-    cmp_behind left right
-    ∙ (λ i. compare_at None 0 (l.whole i) (r.whole i))
-    ∙ cmp_front None 0 (take at front) m x y mark (omega arith) (subst (IsGood None 0) l.whole (good_whole left one)) (subst (IsGood None 0) r.whole (good_whole right two))
-    ∙ (λ i. compare_at (Some Component) 0 (sym l.rest i) (sym r.rest i)))
+    sym (cmp_whole left right) ∙ made_from_mark (slice_cmp token_cmp) cmp_passes left right len at equal found one two
 
 pub cmp_from_hash : (left right : List ℕ) (len at : ℕ) → AreEqualUpTo left right len → IsLastMark (take len left) at → is_version left ≡ true → is_version right ≡ true → at < length left → get_or left at 0 ≡ 126 → version_cmp left right ≡ hash_cmp (drop len left) (drop len right)
 cmp_from_hash left right len at equal found one two within tilde =
-    let front = take len left in
-    with_mark _ (drop at front) found.mark (λ m plain h mark.
-    let l = cut_text left front len at m plain refl h in
-    let r = cut_text right front len at m plain equal.same h in
-    let x = plain ++ drop len left in
-    let y = plain ++ drop len right in
-    let is : m ≡ 126 = ap (λ t. get_or t 0 0) (sym l.rest ∙ drop_more left at 0 within) ∙ tilde in
-    let digits : is_unmarked plain ≡ true = ap is_unmarked (sym (sym (drop-drop 1 at front) ∙ ap (drop 1) h)) ∙ found.last in
-    let good_l = subst (λ m. IsGood (Some Component) 0 (m ∷ x)) is (good_front None 0 (take at front) m x mark (omega arith) (subst (IsGood None 0) l.whole (good_whole left one))) in
-    let good_r = subst (λ m. IsGood (Some Component) 0 (m ∷ y)) is (good_front None 0 (take at front) m y mark (omega arith) (subst (IsGood None 0) r.whole (good_whole right two))) in
-    cmp_from_mark left right len at equal found one two
-    ∙ (λ i. compare_at (Some Component) 0 (l.rest i) (r.rest i))
-    ∙ (λ i. compare_at (Some Component) 0 (is i ∷ x) (is i ∷ y))
-    ∙ hash_front plain (drop len left) (drop len right) digits good_l good_r)
+    sym (cmp_whole left right) ∙ made_from_hash (slice_cmp token_cmp) cmp_passes left right len at equal found one two hash_cmp cmp_drops within tilde
+
+-- ---- the fuzzy match
+
+fits_by_itself : (both : Bool) (token : Token) → cond both (begins_with token.text token.text) (is_eq (token_cmp token token)) ≡ true
+fits_by_itself true token =
+    (bytes_eq-Decides token.text (take (length token.text) token.text)).1 (sym (take_all (length token.text) token.text (omega arith)))
+fits_by_itself false token = ap is_eq (tied_itself token_cmp-total token)
+
+equal_fits : (token : Token) → fits token token ≡ true
+unfolding fits
+equal_fits token = fits_by_itself (is_zero_component token.class && is_zero_component token.class) token
+
+pub fit_passes : PassesEqual all_fit
+fit_passes token ts us h =
+    (λ i. h i || (fits token token && all_fit ts us)) ∙ ap (λ b. b && all_fit ts us) (equal_fits token)
+
+fit_drops : (digits x y : List ℕ) → all_fit (hash_and_behind digits x) (hash_and_behind digits y) ≡ hash_fits x y
+unfolding fits
+fit_drops digits x y =
+    ap (λ o. is_eq o && all_fit (tokens_behind (Some Hash) (length (leading_hex_digits x)) x) (tokens_behind (Some Hash) (length (leading_hex_digits y)) y))
+    (same_digits digits (leading_hex_digits y) (leading_hex_digits x))
+
+pub fit_whole : (wanted found : List ℕ) → all_fit (tokens wanted) (tokens found) ≡ is_fuzzy_match found wanted
+unfolding is_fuzzy_match
+fit_whole wanted found = refl
+
+pub fit_from_mark : (wanted found : List ℕ) (len at : ℕ) → AreEqualUpTo wanted found len → IsLastMark (take len wanted) at → is_version wanted ≡ true → is_version found ≡ true → is_fuzzy_match found wanted ≡ all_fit (tokens_behind (Some Component) 0 (drop at wanted)) (tokens_behind (Some Component) 0 (drop at found))
+fit_from_mark wanted found len at equal last one two =
+    sym (fit_whole wanted found) ∙ made_from_mark all_fit fit_passes wanted found len at equal last one two
+
+pub fit_from_hash : (wanted found : List ℕ) (len at : ℕ) → AreEqualUpTo wanted found len → IsLastMark (take len wanted) at → is_version wanted ≡ true → is_version found ≡ true → at < length wanted → get_or wanted at 0 ≡ 126 → is_fuzzy_match found wanted ≡ hash_fits (drop len wanted) (drop len found)
+fit_from_hash wanted found len at equal last one two within tilde =
+    sym (fit_whole wanted found) ∙ made_from_hash all_fit fit_passes wanted found len at equal last one two hash_fits fit_drops within tilde
 
 pub mark_within : (text : List ℕ) (len at : ℕ) → IsLastMark (take len text) at → at < length text
 mark_within text len at found =
@@ -314,3 +370,7 @@ mark_within text len at found =
   where
     length-take-most : (n : ℕ) (xs : List ℕ) → length (take n xs) ≤ length xs
     length-take-most n xs = omega (arith, length-take n xs)
+
+pub mark_before : (text : List ℕ) (len at : ℕ) → IsLastMark (take len text) at → at < len
+mark_before text len at found =
+    with_mark _ (drop at (take len text)) found.mark (λ m plain h mark. omega (arith, length-drop at (take len text), ap length h, length-take len text))

@@ -11,5 +11,6 @@ pub mod ReadBack
 pub mod Rows
 pub mod Runs
 pub mod Spelled
+pub mod Unmarked
 pub mod Walk
 pub mod VersionBytes

@@ -1,6 +1,6 @@
 -- What `is_ne` tells of an order that is followed by another.
 use Rattle.std.proofs.Common.{◌≡◌, Ordering, true, false, refl, sym}
-use Rattle.std.specs.Ordering.{ordering_then, is_ne}
+use Rattle.std.specs.Ordering.{ordering_then, is_eq, is_ne}
 use Rattle.std.specs.declared.cmp.Ordering.TheVariants.{Less, Equal, Greater}
 use Rattle.std.proofs.lemmas.Bool.{false≢true}
 
@@ -18,3 +18,8 @@ pub tied : (o : Ordering) → is_ne o ≡ false → o ≡ Equal
 tied Less h = absurd (false≢true (sym h))
 tied Equal h = refl
 tied Greater h = absurd (false≢true (sym h))
+
+pub not_equal : (o : Ordering) → is_ne o ≡ true → is_eq o ≡ false
+not_equal Less h = refl
+not_equal Equal h = absurd (false≢true h)
+not_equal Greater h = refl

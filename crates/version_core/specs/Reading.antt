@@ -1,18 +1,21 @@
 -- What the tokens stand for that the code reads one by one, and how much of a text it has passed
--- over. Serves the contracts of `src/lexeme.rt`, `src/token.rt` and `src/order.rt`; the rules stand
--- in `docs/formats.md`, "Versions".
-use Rattle.std.specs.Prelude.{◌≡◌, ℕ, ◌+◌, ◌≤◌, ◌==◌, ◌||◌, Bool, true, false, not, if◌then◌else◌, List, [], ◌∷◌, length, take, drop, slice_get, slice_index, EachIndex, IsTrue, Option, Some, None}
+-- over. Serves the contracts of `src/lexeme.rt`, `src/token.rt`, `src/order.rt` and `src/fuzzy.rt`;
+-- the rules stand in `docs/formats.md`, "Versions".
+use Rattle.std.specs.Prelude.{◌≡◌, ℕ, ◌+◌, ◌-◌, ◌≤◌, ◌==◌, ◌&&◌, ◌||◌, Bool, true, false, not, if◌then◌else◌, List, [], ◌∷◌, length, take, drop, slice_get, slice_index, slice_index_or, EachIndex, IsTrue, Option, Some, None}
 use Rattle.std.specs.Char.{is_ascii_digit}
 use Rattle.std.specs.List.{list_all}
-use Rattle.std.specs.Ordering.{nat_cmp, ordering_then}
+use Rattle.std.specs.Ordering.{is_eq, nat_cmp, ordering_then}
 use Rattle.std.specs.declared.cmp.Ordering.{Ordering}
 use Rattle.std.specs.Cmp.Lexicographic.{slice_cmp}
 use Rattle.version_core.specs.declared.token.Class.{Class}
 use Rattle.version_core.specs.declared.token.Class.TheVariants.{Hash}
+use Rattle.version_core.specs.declared.order.Parting.{Parting}
+use Rattle.version_core.specs.declared.order.Parting.TheVariants.{AtFront, AtMark, InHash}
 use Rattle.version_core.specs.declared.token.TokenAt.{TokenAt}
 use Rattle.version_core.specs.declared.token.Tokens.{Tokens}
 use Rattle.version_core.specs.declared.lexeme.Lexeme.{Lexeme as LexemeAt}
 use Rattle.version_core.specs.Token.{Token, Lexeme, lexeme, is_hex_digit, leading_hex_digits}
+use Rattle.version_core.specs.Matching.{all_fit}
 use Rattle.version_core.specs.Order.{token_cmp, tokens_behind}
 
 -- the token that a token of the code stands for: its text ends before the first byte that is no
@@ -73,15 +76,47 @@ abbrev pub begins_with_mark : List ℕ → Bool
 begins_with_mark [] = false
 begins_with_mark (b ∷ rest) = is_token_mark b
 
+-- whether no byte of a text begins a token wherever it stands
+abbrev pub is_unmarked : List ℕ → Bool
+is_unmarked text = list_all (λ b. not (is_token_mark b)) text
+
 -- the last byte of a text that begins a token wherever it stands has this index
 pub record IsLastMark (text : List ℕ) (at : ℕ) : Type 0 where
   pub mark : begins_with_mark (drop at text) ≡ true
-  pub last : list_all (λ b. not (is_token_mark b)) (drop (at + 1) text) ≡ true
+  pub last : is_unmarked (drop (at + 1) text) ≡ true
+
+-- how many bytes of a version stand in a row at most of which none begins a token wherever it
+-- stands, but in a hash: the word `alpha` and 18 digits
+abbrev pub MOST_UNMARKED : ℕ
+MOST_UNMARKED = 23
+
+-- none of the last bytes of a text, one more than that, begins a token wherever it stands
+abbrev pub HasUnmarkedEnd : List ℕ → Type 0
+HasUnmarkedEnd text = is_unmarked (drop (length text - (MOST_UNMARKED + 1)) text) ≡ true
 
 -- the first `len` bytes of two texts are the same
 pub record AreEqualUpTo (left right : List ℕ) (len : ℕ) : Type 0 where
   pub within : (len ≤ length left) × (len ≤ length right)
   pub same : take len left ≡ take len right
+
+-- two texts are equal up to a place, in front of which the last mark stands at this offset
+pub record ArePartedAtMark (left right : List ℕ) (at : ℕ) : Type 0 where
+  pub len : ℕ
+  pub equal : AreEqualUpTo left right len
+  pub last : IsLastMark (take len left) at
+
+-- two texts are equal up to this offset, and the last mark before it is that of a hash, `~`
+pub record ArePartedInHash (left right : List ℕ) (len : ℕ) : Type 0 where
+  pub at : ℕ
+  pub equal : AreEqualUpTo left right len
+  pub last : IsLastMark (take len left) at
+  pub tilde : slice_index_or left at 0 ≡ 126
+
+-- two texts are equal before the place from which on they are read
+abbrev pub ArePartedBy : List ℕ → List ℕ → Parting → Type 0
+ArePartedBy left right AtFront = Unit {0}
+ArePartedBy left right (AtMark at) = ArePartedAtMark left right at
+ArePartedBy left right (InHash len) = ArePartedInHash left right len
 
 -- the order of two versions by what is left of them from a place within the hash of both on
 abbrev pub hash_cmp : List ℕ → List ℕ → Ordering
@@ -89,3 +124,11 @@ hash_cmp left right =
     ordering_then (slice_cmp nat_cmp (leading_hex_digits left) (leading_hex_digits right))
     (slice_cmp token_cmp (tokens_behind (Some Hash) (length (leading_hex_digits left)) left)
     (tokens_behind (Some Hash) (length (leading_hex_digits right)) right))
+
+-- whether a version matches a wanted one fuzzily, by what is left of them from a place within the
+-- hash of both on
+abbrev pub hash_fits : List ℕ → List ℕ → Bool
+hash_fits wanted found =
+    is_eq (slice_cmp nat_cmp (leading_hex_digits found) (leading_hex_digits wanted))
+    && all_fit (tokens_behind (Some Hash) (length (leading_hex_digits wanted)) wanted)
+    (tokens_behind (Some Hash) (length (leading_hex_digits found)) found)

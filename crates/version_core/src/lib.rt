@@ -9,6 +9,7 @@
 //! The rules stand in `docs/formats.md`, "Versions".
 #![tactic(auto)]
 
+mod fuzzy;
 mod laws;
 mod lexeme;
 mod order;

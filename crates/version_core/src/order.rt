@@ -1,12 +1,13 @@
-//! The order of two versions. What both begin with is passed over as plain bytes, whole blocks
-//! first, and the tokens are read from the last mark in it on. The rule stands in
+//! The order of two versions, and from where on two are read. What both begin with is passed over
+//! as plain bytes, whole blocks first, and the tokens are read from the last mark in it on. That
+//! mark is not looked for in a hash: outside of it marks stand near each other. The rule stands in
 //! `docs/formats.md`, "Versions" ("A version is compared by its tokens").
 
-ghost use Rattle.std.specs.Prelude.{◌≡◌, ◌≤◌, ◌<◌, IsTrue, IfSome, Some, length, drop};
+ghost use Rattle.std.specs.Prelude.{◌≡◌, ◌≤◌, ◌<◌, IsTrue, IfSome, IfNone, Some, length, take, drop};
 ghost use Rattle.std.specs.Cmp.Lexicographic.{slice_cmp};
 ghost use Rattle.version_core.specs.declared.token.Class.TheVariants.{Component};
 ghost use Rattle.version_core.specs.Order.{is_version, token_cmp, tokens_behind, version_cmp};
-ghost use Rattle.version_core.specs.Reading.{AreEqualUpTo, IsLastMark, hash_cmp, is_token_mark, tokens_left};
+ghost use Rattle.version_core.specs.Reading.{AreEqualUpTo, ArePartedBy, HasUnmarkedEnd, IsLastMark, hash_cmp, is_token_mark, tokens_left};
 
 use crate::lexeme::{behind, compare_hex_digits};
 use crate::token::{Class, Tokens};
@@ -16,24 +17,67 @@ use std::cmp::Ordering;
 /// order.
 const BYTES_PER_COMPARISON: usize = 128;
 
+/// How many bytes of a version stand in a row at most of which none begins a token wherever it
+/// stands, but in a hash: the word `alpha` behind its mark, and the 18 digits of its number.
+const MOST_UNMARKED: usize = 23;
+
+/// Where two versions are read from on, which are equal before.
+#[derive(Clone, Copy)]
+pub enum Parting {
+    /// At the front of both.
+    AtFront,
+    /// At a mark, which has this offset in both.
+    AtMark(usize),
+    /// Within the hash of both, at this offset.
+    InHash(usize),
+}
+
 /// The order of two versions: the first tokens that differ decide.
 pub fn compare(left: &[u8], right: &[u8]) -> Ordering
     requires left { IsTrue (is_version left.now) }
     requires right { IsTrue (is_version right.now) }
     ensures { result ≡ version_cmp left.now right.now }
 {
+    match parting_of(left, right) {
+        Parting::AtFront => compare_tokens(Tokens::of(left), Tokens::of(right)),
+        Parting::AtMark(at) => {
+            compare_tokens(tokens_from_mark(left, at), tokens_from_mark(right, at))
+        }
+        Parting::InHash(len) => compare_within_hash(behind(left, len), behind(right, len)),
+    }
+}
+
+/// Where two versions are to be read from on. What both begin with is passed over.
+pub fn parting_of(left: &[u8], right: &[u8]) -> Parting
+    requires { IsTrue (is_version left.now) }
+    ensures { ArePartedBy left.now right.now result }
+{
     let len = equal_len(left, right);
     let Some(at) = last_mark(&left[..len]) else {
-        return compare_tokens(Tokens::of(left), Tokens::of(right));
+        return parting_without_mark(left, right, len);
     };
     if left[at] == b'~' {
-        return compare_within_hash(behind(left, len), behind(right, len));
+        return Parting::InHash(len);
     }
-    compare_tokens(tokens_from_mark(left, at), tokens_from_mark(right, at))
+    Parting::AtMark(at)
+}
+
+/// The same where both begin with the same `len` bytes, of which the last ones have no mark: then
+/// they are few, or end within the hash of both.
+fn parting_without_mark(left: &[u8], right: &[u8], len: usize) -> Parting
+    requires version { IsTrue (is_version left.now) }
+    requires equal { AreEqualUpTo left.now right.now len }
+    requires unmarked { HasUnmarkedEnd (take len left.now) }
+    ensures { ArePartedBy left.now right.now result }
+{
+    if len <= MOST_UNMARKED {
+        return Parting::AtFront;
+    }
+    Parting::InHash(len)
 }
 
 /// The tokens of a version from a mark on. Which token stands before makes no difference.
-fn tokens_from_mark(text: &[u8], at: usize) -> Tokens<'_>
+pub fn tokens_from_mark(text: &[u8], at: usize) -> Tokens<'_>
     requires { at ≤ length text.now }
     ensures { tokens_left result
         ≡ tokens_behind (Some Component) 0 (drop at text.now) }
@@ -95,12 +139,15 @@ fn equal_blocks(left: &[u8], right: &[u8]) -> usize
     len
 }
 
-/// The place of the last byte that begins a token wherever it stands.
+/// The place of the last byte that begins a token wherever it stands; None where none of the last
+/// bytes does, which are one more than a version has in a row outside of a hash.
 fn last_mark(text: &[u8]) -> Option<usize>
-    ensures { IfSome result (IsLastMark text.now) }
+    ensures some { IfSome result (IsLastMark text.now) }
+    ensures none { IfNone result (HasUnmarkedEnd text.now) }
 {
+    let least = text.len().saturating_sub(MOST_UNMARKED + 1);
     let mut at = text.len();
-    while at > 0 {
+    while at > least {
         at -= 1;
         if is_token_mark(text[at]) {
             return Some(at);

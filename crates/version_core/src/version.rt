@@ -4,8 +4,9 @@
 ghost use Rattle.std.specs.Prelude.{◌≡◌, IfSome, IsTrue, is_some};
 ghost use Rattle.version_core.specs.Op.{is_op};
 ghost use Rattle.version_core.specs.Order.{is_version, tokens, version_cmp};
-ghost use Rattle.version_core.specs.Matching.{has_bit, op_of, all_fit, is_fuzzy_match, matches};
+ghost use Rattle.version_core.specs.Matching.{has_bit, op_of, matches};
 
+use crate::fuzzy::is_fuzzy_match;
 use crate::order::compare;
 use crate::token::{Class, Tokens};
 use std::cmp::Ordering;
@@ -159,24 +160,6 @@ fn is_version(text: &[u8]) -> bool
             Class::End => return true,
             Class::Stray => return false,
             _ => {}
-        }
-    }
-}
-
-/// Whether a version begins with the tokens of the wanted one.
-#[tactic(auto, unfolding(crate::specs::Matching::is_fuzzy_match))]
-fn is_fuzzy_match(found: &[u8], wanted: &[u8]) -> bool
-    ensures { result ≡ is_fuzzy_match found.now wanted.now }
-{
-    let mut found_tokens = Tokens::of(found);
-    let mut wanted_tokens = Tokens::of(wanted);
-    loop {
-        let token = wanted_tokens.next();
-        if token.class.is_last() {
-            return true;
-        }
-        if !token.fits(&found_tokens.next()) {
-            return false;
         }
     }
 }

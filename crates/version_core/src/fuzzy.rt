@@ -1,0 +1,53 @@
+//! The fuzzy match: whether a version begins with the tokens of a wanted one. What both begin with
+//! is passed over as plain bytes, as in a comparison. The rule stands in `docs/formats.md`,
+//! "Versions", below "An operator has four bits".
+
+ghost use Rattle.std.specs.Prelude.{◌≡◌, IsTrue};
+ghost use Rattle.version_core.specs.Matching.{all_fit, is_fuzzy_match};
+ghost use Rattle.version_core.specs.Order.{is_version};
+ghost use Rattle.version_core.specs.Reading.{hash_fits, tokens_left};
+
+use crate::lexeme::{behind, compare_hex_digits};
+use crate::order::{Parting, parting_of, tokens_from_mark};
+use crate::token::{Class, Tokens};
+
+/// Whether a version begins with the tokens of the wanted one.
+pub fn is_fuzzy_match(found: &[u8], wanted: &[u8]) -> bool
+    requires found { IsTrue (is_version found.now) }
+    requires wanted { IsTrue (is_version wanted.now) }
+    ensures { result ≡ is_fuzzy_match found.now wanted.now }
+{
+    match parting_of(wanted, found) {
+        Parting::AtFront => all_fit(Tokens::of(wanted), Tokens::of(found)),
+        Parting::AtMark(at) => all_fit(tokens_from_mark(wanted, at), tokens_from_mark(found, at)),
+        Parting::InHash(len) => fits_within_hash(behind(wanted, len), behind(found, len)),
+    }
+}
+
+/// The same of two versions from a place within the hash of both on, up to which they are equal.
+fn fits_within_hash(wanted: &[u8], found: &[u8]) -> bool
+    ensures { result ≡ hash_fits wanted.now found.now }
+{
+    if compare_hex_digits(found, wanted).is_ne() {
+        return false;
+    }
+    let class = Class::Hash;
+    all_fit(Tokens::behind(class, wanted), Tokens::behind(class, found))
+}
+
+/// Whether each token that is left of a wanted text, up to its end, fits the one at its place.
+fn all_fit(wanted: Tokens<'_>, found: Tokens<'_>) -> bool
+    ensures { result ≡ all_fit (tokens_left wanted.entry) (tokens_left found.entry) }
+{
+    let mut found_tokens = found;
+    let mut wanted_tokens = wanted;
+    loop {
+        let token = wanted_tokens.next();
+        if token.class.is_last() {
+            return true;
+        }
+        if !token.fits(&found_tokens.next()) {
+            return false;
+        }
+    }
+}
