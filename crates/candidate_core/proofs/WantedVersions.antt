@@ -1,6 +1,6 @@
 -- What is kept of the versions that a dependency wants, and what that tells of packages.
 use Rattle.std.proofs.Common.{◌≡◌, ℕ, ◌+◌, ◌-◌, ◌<◌, Bool, true, false, cond, List, refl, ap, sym, ◌∙◌, arith, true≢false, zero, suc, inl, inr}
-use Rattle.std.specs.Prelude.{◌&&◌, ◌||◌, IfOk, IfSome, Option, Some, None, Result, Ok, Err, is_some, option_to_list, slice_get}
+use Rattle.std.specs.Prelude.{◌&&◌, ◌||◌, IfOk, IfSome, Option, Some, None, Result, Ok, Err, is_some, option_to_list}
 use Rattle.std.specs.BTreeMap.{BTreeMap, get}
 use Rattle.std.specs.Cmp.Lexicographic.{bytes_decides}
 use Rattle.std.specs.List.{cons_option, list_any}
@@ -16,7 +16,7 @@ use Rattle.dep_core.specs.Dependency.{Dependency}
 use Rattle.dep_core.specs.Meets.{meets}
 use Rattle.candidate_core.specs.Candidates.{Need, dependencies_of, dependency_in, entry, named}
 use Rattle.candidate_core.specs.Matches.{AreMatchesFor, AreMatchesOf, IsTextOf, is_wanted_by, place_cmp}
-use Rattle.candidate_core.specs.VersionTexts.{IsReadBy, source_text, text_in_source}
+use Rattle.candidate_core.specs.VersionTexts.{IsReadBy}
 use Rattle.candidate_core.specs.declared.matches.KnownMatches.{KnownMatches}
 use Rattle.candidate_core.specs.declared.packages.Source.{Source}
 use Rattle.candidate_core.specs.declared.versions.RankedVersion.{RankedVersion}
@@ -52,10 +52,6 @@ text_moved (Some v) t u e h = h ∙ sym e
 pub read_by : (text : ℕ → ℕ → List ℕ) (r : RankedVersion) (source : Source) (place : ℕ) → IsTextOf source place text → r.source ≡ place → IfSome r.version (λ v. v ≡ text_in (value_at (payload_of source.adb) Text r.word)) → IsReadBy text r
 read_by text r source place of is read =
     text_moved r.version (text_in (value_at (payload_of source.adb) Text r.word)) (text r.source r.word) (ap (λ (k : ℕ). text k r.word) is ∙ of r.word) read
-
--- the texts of sources give those of each source at its place
-pub texts_of_sources : (sources : List Source) (place : ℕ) (source : Source) → slice_get sources place ≡ Some source → IsTextOf source place (source_text sources)
-texts_of_sources sources place source at = λ word. ap (λ (o : Option Source). text_in_source o word) at
 
 same_place : (a b : ℕ × ℕ) → is_eq (place_cmp a b) ≡ true → (a.0 ≡ b.0) × (a.1 ≡ b.1)
 same_place a b h = go (nat_cmp a.0 b.0) refl

@@ -13,6 +13,7 @@ mod marks;
 mod pool;
 mod sealed;
 mod sorted;
+mod world_marks;
 
 pub use candidate_core::{
     CandId, Candidate, Deps, Details, MOST_CANDIDATES, Need, NeedRef, Options, PoolFault, Upgrade,
