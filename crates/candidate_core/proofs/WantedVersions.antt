@@ -37,14 +37,14 @@ or_none false = refl
 pub wanted_by_name : (d : Dependency) (version : Option (List ℕ)) → meets d d.name version ≡ is_wanted_by d version
 wanted_by_name d version = ap (λ b. b && is_wanted_by d version) ((bytes_decides d.name d.name).1 refl)
 
-some_text : (o : Option (List ℕ)) (t : List ℕ) → is_some o ≡ true → IfSome o (λ v. v ≡ t) → Some t ≡ o
+pub some_text : (o : Option (List ℕ)) (t : List ℕ) → is_some o ≡ true → IfSome o (λ v. v ≡ t) → Some t ≡ o
 some_text None t e h = absurd (true≢false (sym e))
 some_text (Some v) t e h = ap Some (sym h)
 
 pub read_text : (text : ℕ → ℕ → List ℕ) (r : RankedVersion) → is_some r.version ≡ true → IsReadBy text r → Some (text r.source r.word) ≡ r.version
 read_text text r some read = some_text r.version (text r.source r.word) some read
 
-text_moved : (o : Option (List ℕ)) (t u : List ℕ) → u ≡ t → IfSome o (λ v. v ≡ t) → IfSome o (λ v. v ≡ u)
+pub text_moved : (o : Option (List ℕ)) (t u : List ℕ) → u ≡ t → IfSome o (λ v. v ≡ t) → IfSome o (λ v. v ≡ u)
 text_moved None t u e h = tt
 text_moved (Some v) t u e h = h ∙ sym e
 
@@ -53,7 +53,7 @@ pub read_by : (text : ℕ → ℕ → List ℕ) (r : RankedVersion) (source : So
 read_by text r source place of is read =
     text_moved r.version (text_in (value_at (payload_of source.adb) Text r.word)) (text r.source r.word) (ap (λ (k : ℕ). text k r.word) is ∙ of r.word) read
 
-same_place : (a b : ℕ × ℕ) → is_eq (place_cmp a b) ≡ true → (a.0 ≡ b.0) × (a.1 ≡ b.1)
+pub same_place : (a b : ℕ × ℕ) → is_eq (place_cmp a b) ≡ true → (a.0 ≡ b.0) × (a.1 ≡ b.1)
 same_place a b h = go (nat_cmp a.0 b.0) refl
   where
     go : (o : Ordering) → nat_cmp a.0 b.0 ≡ o → (a.0 ≡ b.0) × (a.1 ≡ b.1)

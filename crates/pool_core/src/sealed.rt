@@ -122,6 +122,13 @@ impl<'a> Sealed<'a> {
         Some(self.packages.get(place))
     }
 
+    /// The packages that the candidates are, in the order of their places.
+    pub fn packages(&self) -> &Packages<'a>
+        ensures { candidates_of_packages result.now ≡ self.now.candidates }
+    {
+        &self.packages
+    }
+
     /// The places of the candidates that are named so or have an entry of provides of that name
     /// without conflict bit, in rising order and each once.
     pub fn offers(&self, name: &[u8]) -> &[CandId]
