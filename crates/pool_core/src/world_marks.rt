@@ -1,5 +1,5 @@
-//! What world says of each candidate: whether it may be selected, whether world pins its name to its
-//! tag, and which install-if can come to apply.
+//! What world says of each candidate: whether it may be selected, whether world pins its name to
+//! its tag, and which install-if can come to apply.
 //! The rules stand in `docs/selection.md`: "What there is to choose from" (which candidates may be
 //! selected), "What satisfies world", 4 (install-if), and "Which selection is taken", key 1 (pins).
 ghost use Rattle.std.specs.Prelude.{◌≡◌, ◌<◌, ◌^◌, ◌++◌, ◌∷◌, [], map, length, IfOk, OnOk, ◌&&◌, not, if◌then◌else◌};
@@ -29,7 +29,7 @@ enum EntryKind {
 /// What world says of each candidate of a list.
 #[derive(Drop)]
 pub(crate) struct WorldMarks {
-    /// Whether each candidate may be selected.
+    /// Whether each candidate may be selected: it is allowed, and not barred.
     pub eligible: Vec<bool>,
     /// Whether world pins each candidate's name to its tag.
     pub pinned: Vec<bool>,

@@ -87,13 +87,14 @@ impl<'p> Search<'p> {
             AreMatchesAmong (pool_of search.chosen).candidates search.matches) }
     {
         let chosen = Choices::new(alloc, pool, world)?;
+        let matches = PackageMatches::new(alloc, pool.packages());
         Ok(Search {
             alloc,
             chosen,
             turns: Vec::new(alloc),
             hints: Vec::new(alloc),
             reason: CandidateSet::new(alloc),
-            matches: PackageMatches::new(alloc, pool.packages()),
+            matches,
         })
     }
 

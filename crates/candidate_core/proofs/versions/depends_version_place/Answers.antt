@@ -15,8 +15,8 @@ use Rattle.candidate_core.proofs.ReadWords.{word_sound, word_value, word_within}
 use Rattle.candidate_core.proofs.WantedVersions.{text_moved}
 use Rattle.candidate_core.proofs.versions.depends_version_place.Goals as goal
 
-pub field_word-requires : goal.field_word-requires
-field_word-requires c =
+pub field_word-text-requires : goal.field_word-text-requires
+field_word-text-requires c =
     let ws : List ℕ = array_entries c.objects_field-entries.result in
     let within : c.args.index < length ws = omega (arith, c.len.ensures.value, c.if-index-len.false) in
     word_sound (payload_of c.args.source.now.adb) (Kinds.Obj Tables.Dep) ws c.args.index c.entry_word-entry.result c.objects_field-entries.ensures.sound within c.entry_word-entry.ensures

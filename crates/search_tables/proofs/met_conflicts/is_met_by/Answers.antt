@@ -23,7 +23,7 @@ pub returns-clause-meets : goal.returns-clause-meets
 returns-clause-meets c =
     let d = dependency c.args.held.now.dep.now in
     let cs : List Candidate = c.args.pool.now.candidates in
-    let within : c.args.id < length cs = omega arith in
+    let within : c.args.id < length cs = omega (arith, c.id.view_is) in
     if_ok_map _ _ (λ answer h. told_at (meets_dependency d) cs c.args.id answer within (λ one at.
     h one (subst (λ (z : List Candidate). slice_get z c.id.inside.place ≡ Some one) (sym c.requires.matches.0) (subst (λ (n : ℕ). slice_get cs n ≡ Some one) (sym c.id.view_is) at))))
     c.meets.result c.meets.ensures.meets

@@ -12,7 +12,9 @@ told P true m there is = (there, sym is)
 told P false m there is = λ h. sym is
 
 pub returns-then-not-has-clause-met : goal.returns-then-not-has-clause-met
-returns-then-not-has-clause-met c = λ there. absurd ((rw c.if-not-has.true at c.has.ensures) there)
+returns-then-not-has-clause-met c =
+    let out = rw c.if-not-has.true at c.has.ensures in
+    λ there. absurd (out there)
 
 pub returns-clause-met : goal.returns-clause-met
 returns-clause-met c =
