@@ -1,8 +1,9 @@
 -- What is kept of the versions that dependencies name, as one more is kept or one is taken out.
-use Rattle.std.proofs.Common.{◌≡◌, ℕ, zero, suc, ◌+◌, ◌-◌, ◌<◌, Bool, true, false, cond, List, [], ◌∷◌, length, refl, ap, sym, subst, ◌∙◌, arith, true≢false}
+use Rattle.std.proofs.Common.{◌≡◌, ℕ, zero, suc, ◌<◌, Bool, true, false, cond, List, [], ◌∷◌, length, refl, ap, sym, subst, ◌∙◌, arith, true≢false}
 use Rattle.std.specs.Prelude.{Option, Some, None, slice_get}
 use Rattle.std.specs.Borrow.{Bor}
 use Rattle.std.specs.BTreeMap.{BTreeMap, get}
+use Rattle.std.specs.Map.{lookup}
 use Rattle.std.specs.Option.{option_map_or}
 use Rattle.std.specs.Ordering.{is_eq, nat_cmp, ordering_then}
 use Rattle.std.specs.declared.cmp.Ordering.{Ordering}
@@ -67,12 +68,27 @@ module _ (text : ℕ → ℕ → List ℕ) (old new : BTreeMap (ℕ × ℕ × �
           absurd (cc)
       go false h = right source word b known e (sym (updates (source, word, b) ∙ ap (λ (t : Bool). cond t None (get wanted_version_cmp old (source, word, b))) h) ∙ at) named same
 
--- what is kept among some candidates is right still, where the packages stay
-pub matches_among : (candidates : List Candidate) (old new : PackageMatches) → candidates_of_packages old.packages.now ≡ candidates → new.packages ≡ old.packages → AreMatchesByVersion (source_text old.packages.now.sources.items) new.by_version → AreMatchesAmong candidates new
-matches_among candidates old new own same right = (
-  ap (λ (p : Bor Packages). candidates_of_packages p.now) same ∙ own,
+-- what is kept is right among the candidates that the packages are
+pub own_matches : (candidates : List Candidate) (matches : PackageMatches) → AreMatchesAmong candidates matches → AreMatchesAmong (candidates_of_packages matches.packages.now) matches
+own_matches candidates matches right = (refl, right.1)
+
+-- what is right among the candidates that the packages were is right among these
+pub matches_among : (candidates : List Candidate) (old new : PackageMatches) → AreMatchesAmong candidates old → AreMatchesAmong (candidates_of_packages old.packages.now) new → AreMatchesAmong candidates new
+matches_among candidates old new before right = (right.0 ∙ before.0, right.1)
+
+-- the same, where the packages stay
+pub matches_after : (old new : PackageMatches) → new.packages ≡ old.packages → AreMatchesByVersion (source_text old.packages.now.sources.items) new.by_version → AreMatchesAmong (candidates_of_packages old.packages.now) new
+matches_after old new same right = (
+  ap (λ (p : Bor Packages). candidates_of_packages p.now) same,
   subst (λ (p : Bor Packages). AreMatchesByVersion (source_text p.now.sources.items) new.by_version) (sym same) right,
 )
+
+-- nothing is kept
+pub matches_of_nothing : (text : ℕ → ℕ → List ℕ) (by_version : BTreeMap (ℕ × ℕ × ℕ) KnownMatches) → by_version.entries ≡ [] → AreMatchesByVersion text by_version
+matches_of_nothing text by_version none source word bits known d at version same =
+    let gone : get wanted_version_cmp by_version (source, word, bits) ≡ None = ap (lookup (λ (q : ℕ × ℕ × ℕ). is_eq (wanted_version_cmp (source, word, bits) q))) none in
+    let bad : ◌≡◌ {A = Option KnownMatches} None (Some known) = sym gone ∙ at in
+    absurd (cc)
 
 -- what holds of the candidate at a place is what a test says at the place
 pub told_at : (p : Candidate → Bool) (cs : List Candidate) (k : ℕ) (b : Bool) → k < length cs → ((c : Candidate) → slice_get cs k ≡ Some c → b ≡ p c) → b ≡ option_map_or p (slice_get cs k) false

@@ -8,7 +8,7 @@ ghost use Rattle.dep_core.specs.Dependency.{Dependency};
 ghost use Rattle.dep_core.specs.Meets.{dependency};
 ghost use Rattle.candidate_core.specs.Candidates.{Candidate, meets_dependency};
 ghost use Rattle.candidate_core.specs.Matches.{AreMatchesOf};
-ghost use Rattle.candidate_core.specs.PackageMatches.{AreMatchesByVersion, IsDepOf};
+ghost use Rattle.candidate_core.specs.PackageMatches.{AreMatchesAmong, AreMatchesByVersion, IsDepOf};
 ghost use Rattle.candidate_core.specs.Packages.{candidates_of_packages};
 ghost use Rattle.candidate_core.specs.VersionTexts.{source_text};
 
@@ -46,8 +46,7 @@ pub struct PackageMatches<'p> {
 impl<'p> PackageMatches<'p> {
     /// Nothing is known of the dependencies of some packages.
     pub fn new(alloc: Global, packages: &'p Packages<'p>) -> PackageMatches<'p>
-        ensures packages { result.packages ≡ packages.entry }
-        ensures matches { (text : ℕ → ℕ → List ℕ) → AreMatchesByVersion text result.by_version }
+        ensures { AreMatchesAmong (candidates_of_packages packages.entry.now) result }
     {
         PackageMatches {
             alloc,
@@ -67,14 +66,13 @@ impl<'p> PackageMatches<'p> {
     pub fn meets(&mut self, place: usize, held: &PackageDep<'_>) -> Result<bool, AllocError>
         requires within { place < length (candidates_of_packages self.old.packages.now) }
         requires held { IsDepOf (candidates_of_packages self.old.packages.now) held.now }
-        requires matches { AreMatchesByVersion (source_text self.old.packages.now.sources.items)
-            self.old.by_version }
+        requires matches { AreMatchesAmong (candidates_of_packages self.old.packages.now)
+            self.old }
         ensures meets { IfOk result (λ meets. (c : Candidate)
             → slice_get (candidates_of_packages self.old.packages.now) place ≡ Some c
             → meets ≡ meets_dependency (dependency held.now.dep.now) c) }
-        ensures packages { self.new.packages ≡ self.old.packages }
-        ensures matches { OnOk result (AreMatchesByVersion
-            (source_text self.old.packages.now.sources.items) self.new.by_version) }
+        ensures matches { OnOk result (AreMatchesAmong
+            (candidates_of_packages self.old.packages.now) self.new) }
     {
         let packages = self.packages;
         if !is_long(&held.dep.version) {

@@ -7,9 +7,8 @@ ghost use Rattle.std.specs.Option.{option_map};
 ghost use Rattle.dep_core.specs.Dependency.{Dependency};
 ghost use Rattle.dep_core.specs.Meets.{dependency};
 ghost use Rattle.candidate_core.specs.Candidates.{Candidate, meets_dependency};
-ghost use Rattle.candidate_core.specs.PackageMatches.{AreMatchesByVersion};
+ghost use Rattle.candidate_core.specs.PackageMatches.{AreMatchesAmong};
 ghost use Rattle.candidate_core.specs.Packages.{candidates_of_packages};
-ghost use Rattle.candidate_core.specs.VersionTexts.{source_text};
 ghost use Rattle.search_tables.specs.Conflicts.{AreConflictsOf, HasDepends, IsConflictOf, conflicts_in, conflicts_named};
 
 use crate::name_table::NameTable;
@@ -51,14 +50,13 @@ impl<'p> ListedConflict<'p> {
     fn is_met_by(&self, id: CandId, matches: &mut PackageMatches<'_>) -> Result<bool, AllocError>
         requires within { id < length (candidates_of_packages matches.old.packages.now) }
         requires listed { IsConflictOf (candidates_of_packages matches.old.packages.now) self.now }
-        requires matches { AreMatchesByVersion (source_text matches.old.packages.now.sources.items)
-            matches.old.by_version }
+        requires matches { AreMatchesAmong (candidates_of_packages matches.old.packages.now)
+            matches.old }
         ensures meets { IfOk result (λ meets. (c : Candidate)
             → slice_get (candidates_of_packages matches.old.packages.now) id ≡ Some c
             → meets ≡ meets_dependency self.now.1 c) }
-        ensures packages { matches.new.packages ≡ matches.old.packages }
-        ensures matches { OnOk result (AreMatchesByVersion
-            (source_text matches.old.packages.now.sources.items) matches.new.by_version) }
+        ensures matches { OnOk result (AreMatchesAmong
+            (candidates_of_packages matches.old.packages.now) matches.new) }
     {
         let held = PackageDep {
             dep: &self.dep,
@@ -166,16 +164,15 @@ impl<'p> Conflicts<'p> {
         requires within { id < length (candidates_of_packages matches.old.packages.now) }
         requires listed { AreConflictsOf (candidates_of_packages matches.old.packages.now)
             self.now.by_name }
-        requires matches { AreMatchesByVersion (source_text matches.old.packages.now.sources.items)
-            matches.old.by_version }
+        requires matches { AreMatchesAmong (candidates_of_packages matches.old.packages.now)
+            matches.old }
         ensures found { IfOk result (λ found. (details : Candidate)
             → slice_get (candidates_of_packages matches.old.packages.now) id ≡ Some details
             → found ≡ option_map (λ (c : ℕ × Dependency). c.0)
             (find (λ (c : ℕ × Dependency). meets_dependency c.1 details)
             (conflicts_in self.now.by_name name.now))) }
-        ensures packages { matches.new.packages ≡ matches.old.packages }
-        ensures matches { OnOk result (AreMatchesByVersion
-            (source_text matches.old.packages.now.sources.items) matches.new.by_version) }
+        ensures matches { OnOk result (AreMatchesAmong
+            (candidates_of_packages matches.old.packages.now) matches.new) }
     {
         for listed in self.by_name.get(name) {
             let is_met = listed.is_met_by(id, matches)?;

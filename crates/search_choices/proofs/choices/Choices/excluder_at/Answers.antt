@@ -2,7 +2,7 @@ use Rattle.std.proofs.Common.{◌≡◌, ◌<◌, ◌∙◌, ℕ, List, length, 
 use Rattle.std.specs.Prelude.{None, Option, Some, slice_get}
 use Rattle.candidate_core.specs.Candidates.{Candidate}
 use Rattle.candidate_core.specs.Packages.{candidates_of_packages}
-use Rattle.candidate_core.proofs.NamedVersions.{matches_among}
+use Rattle.candidate_core.proofs.NamedVersions.{matches_among, own_matches}
 use Rattle.search_choices.specs.Choices.{choices_of, pool_of}
 use Rattle.search_tables.specs.Conflicts.{AreConflictsOf}
 use Rattle.search_tables.proofs.Excluders.{found_against, found_occupant, match_both, none_against}
@@ -17,7 +17,7 @@ pub choice_against-requires-clause-listed : goal.choice_against-requires-clause-
 choice_against-requires-clause-listed c = subst (λ (cs : List Candidate). AreConflictsOf cs c.args.self.now.conflicts.by_name) (sym c.requires.matches.0) c.requires.conflicts
 
 pub choice_against-requires-clause-matches : goal.choice_against-requires-clause-matches
-choice_against-requires-clause-matches c = c.requires.matches.1
+choice_against-requires-clause-matches c = own_matches (pool_of c.args.self.now).candidates c.args.matches.now c.requires.matches
 
 pub returns-in-Some-clause-found : goal.returns-in-Some-clause-found
 returns-in-Some-clause-found c =
@@ -27,7 +27,7 @@ returns-in-Some-clause-found c =
 
 pub returns-in-Some-clause-matches : goal.returns-in-Some-clause-matches
 returns-in-Some-clause-matches c =
-    matches_among (pool_of c.args.self.now).candidates c.args.matches.now c.choice_against.new.matches c.requires.matches.0 c.choice_against.ensures.packages c.in_ok-against.ensures.matches
+    matches_among (pool_of c.args.self.now).candidates c.args.matches.now c.choice_against.new.matches c.requires.matches c.in_ok-against.ensures.matches
 
 pub returns-in-None-clause-found : goal.returns-in-None-clause-found
 returns-in-None-clause-found c =
@@ -42,4 +42,4 @@ returns-in-None-clause-found c =
 
 pub returns-in-None-clause-matches : goal.returns-in-None-clause-matches
 returns-in-None-clause-matches c =
-    matches_among (pool_of c.args.self.now).candidates c.args.matches.now c.choice_against.new.matches c.requires.matches.0 c.choice_against.ensures.packages c.in_ok-against.ensures.matches
+    matches_among (pool_of c.args.self.now).candidates c.args.matches.now c.choice_against.new.matches c.requires.matches c.in_ok-against.ensures.matches

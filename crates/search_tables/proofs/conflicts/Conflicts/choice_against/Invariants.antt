@@ -3,16 +3,14 @@ use Rattle.std.proofs.Common.{◌≡◌, ℕ, map, take}
 use Rattle.std.specs.Prelude.{None, Some, find, slice_get}
 use Rattle.dep_core.specs.Dependency.{Dependency}
 use Rattle.candidate_core.specs.Candidates.{Candidate, meets_dependency}
-use Rattle.candidate_core.specs.PackageMatches.{AreMatchesByVersion}
+use Rattle.candidate_core.specs.PackageMatches.{AreMatchesAmong}
 use Rattle.candidate_core.specs.Packages.{candidates_of_packages}
-use Rattle.candidate_core.specs.VersionTexts.{source_text}
 use Rattle.search_tables.specs.Conflicts.{without_index}
 use Rattle.search_tables.proofs.conflicts.Conflicts.choice_against.Given as goal
 
 abbrev pub invariant-loop-listed : goal.invariant-loop-listed
 invariant-loop-listed l = record {
-  packages : l.matches.packages ≡ l.initial.matches.packages;
-  matches : AreMatchesByVersion (source_text l.initial.matches.packages.now.sources.items) l.matches.by_version;
+  matches : AreMatchesAmong (candidates_of_packages l.initial.matches.packages.now) l.matches;
   none : (details : Candidate) → slice_get (candidates_of_packages l.initial.matches.packages.now) l.id ≡ Some details
       → find (λ (c : ℕ × Dependency). meets_dependency c.1 details) (map without_index (take l.listed-index l.listed-items)) ≡ None;
 }
