@@ -14,3 +14,4 @@ pub mod ReadWords
 pub mod PackageLists
 pub mod ProvidedVersions
 pub mod WantedVersions
+pub mod NamedVersions

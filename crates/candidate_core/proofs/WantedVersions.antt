@@ -1,6 +1,6 @@
 -- What is kept of the versions that a dependency wants, and what that tells of packages.
 use Rattle.std.proofs.Common.{◌≡◌, ℕ, ◌+◌, ◌-◌, ◌<◌, Bool, true, false, cond, List, refl, ap, sym, ◌∙◌, arith, true≢false, zero, suc, inl, inr}
-use Rattle.std.specs.Prelude.{◌&&◌, ◌||◌, IfOk, IfSome, Option, Some, None, Result, Ok, Err, is_some, option_to_list, slice_get}
+use Rattle.std.specs.Prelude.{◌&&◌, ◌||◌, IfOk, IfSome, Option, Some, None, Result, Ok, Err, is_some, option_to_list}
 use Rattle.std.specs.BTreeMap.{BTreeMap, get}
 use Rattle.std.specs.Cmp.Lexicographic.{bytes_decides}
 use Rattle.std.specs.List.{cons_option, list_any}
@@ -16,7 +16,7 @@ use Rattle.dep_core.specs.Dependency.{Dependency}
 use Rattle.dep_core.specs.Meets.{meets}
 use Rattle.candidate_core.specs.Candidates.{Need, dependencies_of, dependency_in, entry, named}
 use Rattle.candidate_core.specs.Matches.{AreMatchesFor, AreMatchesOf, IsTextOf, is_wanted_by, place_cmp}
-use Rattle.candidate_core.specs.VersionTexts.{IsReadBy, source_text, text_in_source}
+use Rattle.candidate_core.specs.VersionTexts.{IsReadBy}
 use Rattle.candidate_core.specs.declared.matches.KnownMatches.{KnownMatches}
 use Rattle.candidate_core.specs.declared.packages.Source.{Source}
 use Rattle.candidate_core.specs.declared.versions.RankedVersion.{RankedVersion}
@@ -37,14 +37,14 @@ or_none false = refl
 pub wanted_by_name : (d : Dependency) (version : Option (List ℕ)) → meets d d.name version ≡ is_wanted_by d version
 wanted_by_name d version = ap (λ b. b && is_wanted_by d version) ((bytes_decides d.name d.name).1 refl)
 
-some_text : (o : Option (List ℕ)) (t : List ℕ) → is_some o ≡ true → IfSome o (λ v. v ≡ t) → Some t ≡ o
+pub some_text : (o : Option (List ℕ)) (t : List ℕ) → is_some o ≡ true → IfSome o (λ v. v ≡ t) → Some t ≡ o
 some_text None t e h = absurd (true≢false (sym e))
 some_text (Some v) t e h = ap Some (sym h)
 
 pub read_text : (text : ℕ → ℕ → List ℕ) (r : RankedVersion) → is_some r.version ≡ true → IsReadBy text r → Some (text r.source r.word) ≡ r.version
 read_text text r some read = some_text r.version (text r.source r.word) some read
 
-text_moved : (o : Option (List ℕ)) (t u : List ℕ) → u ≡ t → IfSome o (λ v. v ≡ t) → IfSome o (λ v. v ≡ u)
+pub text_moved : (o : Option (List ℕ)) (t u : List ℕ) → u ≡ t → IfSome o (λ v. v ≡ t) → IfSome o (λ v. v ≡ u)
 text_moved None t u e h = tt
 text_moved (Some v) t u e h = h ∙ sym e
 
@@ -53,11 +53,7 @@ pub read_by : (text : ℕ → ℕ → List ℕ) (r : RankedVersion) (source : So
 read_by text r source place of is read =
     text_moved r.version (text_in (value_at (payload_of source.adb) Text r.word)) (text r.source r.word) (ap (λ (k : ℕ). text k r.word) is ∙ of r.word) read
 
--- the texts of sources give those of each source at its place
-pub texts_of_sources : (sources : List Source) (place : ℕ) (source : Source) → slice_get sources place ≡ Some source → IsTextOf source place (source_text sources)
-texts_of_sources sources place source at = λ word. ap (λ (o : Option Source). text_in_source o word) at
-
-same_place : (a b : ℕ × ℕ) → is_eq (place_cmp a b) ≡ true → (a.0 ≡ b.0) × (a.1 ≡ b.1)
+pub same_place : (a b : ℕ × ℕ) → is_eq (place_cmp a b) ≡ true → (a.0 ≡ b.0) × (a.1 ≡ b.1)
 same_place a b h = go (nat_cmp a.0 b.0) refl
   where
     go : (o : Ordering) → nat_cmp a.0 b.0 ≡ o → (a.0 ≡ b.0) × (a.1 ≡ b.1)

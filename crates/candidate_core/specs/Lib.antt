@@ -13,3 +13,4 @@ pub mod Packages
 pub mod CandidateList
 pub mod VersionTexts
 pub mod Matches
+pub mod PackageMatches

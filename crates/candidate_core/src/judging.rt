@@ -30,7 +30,7 @@ use std::alloc::{AllocError, Global};
 pub(crate) const PACKAGE_VERSION: usize = 1;
 
 /// The index of `depends`, in the same table (table 3, which has it as 15).
-const DEPENDS: usize = 14;
+pub(crate) const DEPENDS: usize = 14;
 
 /// The index of `provides` (16 in table 3).
 pub(crate) const PROVIDES: usize = 15;

@@ -9,7 +9,10 @@ ghost use Rattle.candidate_core.specs.PackageWords.{IsPackageAmong};
 use crate::candidate::Details;
 use crate::matches::KnownMatches;
 use crate::need::NeedRef;
-use crate::versions::{RankedVersion, meets_need, own_version, version_under};
+use crate::package_matches::PackageDep;
+use crate::versions::{
+    RankedVersion, VersionPlace, depends_version_place, meets_need, own_version, version_under,
+};
 use adb_view::{Adb, Val};
 use std::alloc::{AllocError, Global};
 
@@ -53,7 +56,9 @@ impl<'a> Packages<'a> {
     ghost use Rattle.candidate_core.specs.Matches.{AreMatchesFor};
     ghost use Rattle.candidate_core.specs.Values.{need_by};
     ghost use Rattle.candidate_core.specs.VersionTexts.{IsReadBy, source_text};
-    ghost use Rattle.std.specs.Prelude.{◌≡◌, ◌<◌, ◌∷◌, [], ◌++◌, length, Some, slice_get, IfOk, OnOk, OnErr};
+    ghost use Rattle.dep_core.specs.Meets.{dependency};
+    ghost use Rattle.candidate_core.specs.PackageMatches.{IsDepOf};
+    ghost use Rattle.std.specs.Prelude.{◌≡◌, ◌<◌, ◌∷◌, [], ◌++◌, length, Some, slice_get, IfOk, IfSome, OnOk, OnErr};
     ghost use Rattle.candidate_core.specs.PackageWords.{IsPackageAt};
     ghost use Rattle.candidate_core.specs.Packages.{candidate_in_source, candidates_of_packages, installed_at};
 
@@ -143,6 +148,22 @@ impl<'a> Packages<'a> {
         let package = self.words[place];
         let source = self.sources[package.source as usize];
         meets_need(&source, package, need, known)
+    }
+
+    /// Where the text stands of the version that a dependency of a package names, if the dependency
+    /// names one; none where that is not known.
+    pub(crate) fn version_place(&self, held: &PackageDep<'_>) -> Option<VersionPlace>
+        requires { IsDepOf (candidates_of_packages self.now) held.now }
+        ensures { IfSome result (λ place. IfSome (dependency held.now.dep.now).version
+            (λ version. version
+            ≡ source_text self.now.sources.items place.source place.word)) }
+    {
+        if held.package >= self.words.len() {
+            return None;
+        }
+        let package = self.words[held.package];
+        let source = self.sources[package.source as usize];
+        depends_version_place(&source, package, held.index)
     }
 
     /// Adds a source, and answers its place, counted from 0. After an error the packages are as

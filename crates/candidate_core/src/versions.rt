@@ -2,7 +2,7 @@
 //! that a text which many packages share is known to be one.
 //! The rule stands in `docs/selection.md`, "Which selection is taken", the last paragraph (the
 //! version of key 5) and key 8.
-ghost use Rattle.std.specs.Prelude.{◌≡◌, ◌<◌, ℕ, List, true, IfOk, IfSome, length, option_copied, option_to_list, Some};
+ghost use Rattle.std.specs.Prelude.{◌≡◌, ◌<◌, ℕ, List, true, IfOk, IfSome, length, option_copied, option_to_list, slice_get, Some};
 ghost use Rattle.std.specs.Option.{option_and_then, option_map};
 ghost use Rattle.std.specs.List.{find, list_any};
 ghost use Rattle.std.specs.Str.{bytes_eq};
@@ -20,7 +20,7 @@ ghost use Rattle.candidate_core.specs.Values.{need_by};
 
 use crate::candidate::Details;
 use crate::dependencies::{read_if_sound, read_sound};
-use crate::judging::{PACKAGE_VERSION, PROVIDES, VERSION};
+use crate::judging::{DEPENDS, PACKAGE_VERSION, PROVIDES, VERSION};
 use crate::matches::KnownMatches;
 use crate::need::NeedRef;
 use crate::packages::{PackageWord, Source};
@@ -44,6 +44,15 @@ pub struct RankedVersion<'a> {
     pub word: u32,
     /// How many of the versions that are ranked come before this one; 0 until they are ranked.
     pub rank: usize,
+}
+
+/// Where the text of a version stands.
+#[derive(Clone, Copy)]
+pub(crate) struct VersionPlace {
+    /// The place of the source that the text is read from, counted from 0.
+    pub source: u32,
+    /// The word of the text in that source.
+    pub word: u32,
 }
 
 /// Which of the two versions of an option is ranked.
@@ -228,6 +237,37 @@ fn version_of_entry<'a>(
         word,
         rank: 0,
     }
+}
+
+/// Where the text stands of the version that a dependency names which the package with a word in a
+/// source has at an index, counted from 0. None where the texts of the source are not known to keep
+/// their rules: then an entry may be none, and the index is not that of the entry. In the clause, 14
+/// is the index of `depends` (`DEPENDS`).
+pub(crate) fn depends_version_place(
+    source: &Source<'_>,
+    kept: PackageWord,
+    index: usize,
+) -> Option<VersionPlace>
+    requires { IsPackageOf source.now kept.word }
+    ensures { (text : ℕ → ℕ → List ℕ) (d : Dependency) → IsTextOf source.now kept.source text
+        → slice_get (dependencies_in (entry_in (info_in_source source.now kept.word) 14)) index
+        ≡ Some d → IfSome result (λ place. IfSome d.version (λ version. version
+        ≡ text place.source place.word)) }
+{
+    if !source.has_sound_texts {
+        return None;
+    }
+    let word = Val::of(kept.word);
+    let entries = objects_field(source.adb, Which::PkgInfo, word, DEPENDS, Which::Dep);
+    if index >= entries.len() {
+        return None;
+    }
+    let entry = entry_word(entries, index);
+    let text = field_word(source.adb, Which::Dep, entry, VERSION);
+    Some(VersionPlace {
+        source: kept.source,
+        word: text.word(),
+    })
 }
 
 /// A copy of a version; its text stays borrowed.

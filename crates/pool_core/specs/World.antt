@@ -1,11 +1,11 @@
 -- The entries of world, parted by what they do.
 -- The rule stands in `docs/selection.md`, "What there is to choose from" (conflicts bar, tags allow).
--- Serves the contracts of `src/sealed.rt`, which reads world once.
+-- Serves the contracts of `src/world_marks.rt`, which reads world once.
 use Rattle.std.specs.Prelude.{Bool, is_some, List}
 use Rattle.std.specs.List.{filter}
 use Rattle.dep_core.specs.Dependency.{Dependency}
-use Rattle.pool_core.specs.declared.sealed.EntryKind.{EntryKind}
-use Rattle.pool_core.specs.declared.sealed.EntryKind.TheVariants.{Conflict, Tagged}
+use Rattle.pool_core.specs.declared.world_marks.EntryKind.{EntryKind}
+use Rattle.pool_core.specs.declared.world_marks.EntryKind.TheVariants.{Conflict, Tagged}
 
 -- whether an entry of world is of a kind: it is a conflict, or it has a tag
 abbrev pub is_entry_of_kind : EntryKind → Dependency → Bool

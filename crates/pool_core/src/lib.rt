@@ -13,9 +13,11 @@ mod marks;
 mod pool;
 mod sealed;
 mod sorted;
+mod world_marks;
 
 pub use candidate_core::{
-    CandId, Candidate, Deps, Details, MOST_CANDIDATES, Need, NeedRef, Options, PoolFault, Upgrade,
+    CandId, Candidate, Deps, Details, MOST_CANDIDATES, Need, NeedRef, Options, PackageDep,
+    PackageMatches, PoolFault, Upgrade,
 };
 pub use laws::{
     a_candidate_is_read_by_field_names, an_installed_package_is_known_by_text_and_id,

@@ -3,19 +3,21 @@
 //! to the candidates, the entries and the offers of their names.
 //! The rules stand in `docs/selection.md`: "What there is to choose from" (*allowed* and *barred*),
 //! and "Which selection is taken", key 1 of the table (what is pinned).
-ghost use Rattle.std.specs.Prelude.{◌≡◌, ◌<◌, ◌&&◌, false, length, map, not, IfOk};
+ghost use Rattle.std.specs.Prelude.{◌≡◌, ◌<◌, ◌&&◌, false, length, map, not, IfOk, OnOk, Some, slice_get};
 ghost use Rattle.std.specs.Option.{option_map_or};
 ghost use Rattle.std.specs.List.{list_any};
 ghost use Rattle.std.specs.Str.{bytes_eq};
 ghost use Rattle.dep_core.specs.Meets.{dependency};
-ghost use Rattle.candidate_core.specs.Candidates.{is_allowed, is_barred_by, uses_tag};
+ghost use Rattle.candidate_core.specs.Candidates.{is_allowed, is_barred_by, meets_dependency, uses_tag};
+ghost use Rattle.candidate_core.specs.Matches.{AreMatchesOf};
 ghost use Rattle.pool_core.specs.Marks.{affects, is_affected, mark_at, marks_with};
 ghost use Rattle.candidate_core.specs.Options.{places_offering};
 ghost use Rattle.candidate_core.specs.Packages.{candidates_of_packages};
 ghost use Rattle.candidate_core.specs.Rank.{is_pinned};
 ghost use Rattle.candidate_core.specs.Table.{LeadsToOffers};
+ghost use Rattle.candidate_core.specs.VersionTexts.{source_text};
 
-use candidate_core::{CandId, Details, Packages, Table};
+use candidate_core::{CandId, Details, KnownMatches, NeedRef, Packages, Table, is_long};
 use dep_core::Dep;
 use std::alloc::{AllocError, Global};
 
@@ -44,7 +46,14 @@ pub(crate) fn eligible_marks(
         (candidates_of_packages packages.now)) }
 {
     let mut ineligible = disallowed_marks(alloc, packages, tagged)?;
-    mark_affected(&mut ineligible, packages, table, conflicts, Effect::Bar);
+    mark_affected(
+        alloc,
+        &mut ineligible,
+        packages,
+        table,
+        conflicts,
+        Effect::Bar,
+    )?;
     opposite_marks(alloc, &ineligible)
 }
 
@@ -62,7 +71,7 @@ pub(crate) fn pinned_marks(
         (candidates_of_packages packages.now)) }
 {
     let mut marks = no_marks(alloc, packages)?;
-    mark_affected(&mut marks, packages, table, tagged, Effect::Pin);
+    mark_affected(alloc, &mut marks, packages, table, tagged, Effect::Pin)?;
     Ok(marks)
 }
 
@@ -106,70 +115,128 @@ fn opposite_marks(alloc: Global, marks: &[bool]) -> Result<Vec<bool>, AllocError
 // Sets the mark of each candidate on which one of some entries of world has an effect. Other marks
 // stay.
 fn mark_affected(
+    alloc: Global,
     marks: &mut Vec<bool>,
     packages: &Packages<'_>,
     table: &Table<'_>,
     entries: &[Dep<'_>],
     effect: Effect,
-)
+) -> Result<(), AllocError>
     requires leads { LeadsToOffers table.now (candidates_of_packages packages.now) }
     requires each { length marks.old.items ≡ length (candidates_of_packages packages.now) }
-    ensures { marks.new.items ≡ marks_with (is_affected effect (map dependency entries.now))
-        marks.old.items (candidates_of_packages packages.now) }
+    ensures { OnOk result (marks.new.items
+        ≡ marks_with (is_affected effect (map dependency entries.now))
+        marks.old.items (candidates_of_packages packages.now)) }
 {
     for entry in entries {
-        mark_among(marks, packages, table.get(entry.name), entry, effect);
+        mark_among(alloc, marks, packages, table.get(entry.name), entry, effect)?;
     }
+    Ok(())
 }
 
 // Sets the mark of each candidate on which an entry of world has an effect. `ids` are the places of
-// those that offer the entry's name: it has none on the others.
+// those that offer the entry's name: it has none on the others. A long version that many candidates
+// share is compared once with the entry's.
 fn mark_among(
+    alloc: Global,
     marks: &mut Vec<bool>,
     packages: &Packages<'_>,
     ids: &[CandId],
     entry: &Dep<'_>,
     effect: Effect,
-)
+) -> Result<(), AllocError>
     requires offers { ids.now
         ≡ places_offering (dependency entry.now).name (candidates_of_packages packages.now) }
     requires each { length marks.old.items ≡ length (candidates_of_packages packages.now) }
-    ensures { marks.new.items ≡ marks_with (affects effect (dependency entry.now))
-        marks.old.items (candidates_of_packages packages.now) }
+    ensures { OnOk result (marks.new.items ≡ marks_with (affects effect (dependency entry.now))
+        marks.old.items (candidates_of_packages packages.now)) }
 {
+    let mut known = KnownMatches::new(alloc);
     for id in ids {
-        mark_one(marks, packages, *id, entry, effect);
+        mark_one(marks, packages, *id, entry, effect, &mut known)?;
     }
+    Ok(())
 }
 
-// Sets the mark of the candidate at a place if the entry has this effect on the candidate.
+// Sets the mark of the candidate at a place if the entry has this effect on the candidate. What is
+// learnt of long versions is kept.
 fn mark_one(
     marks: &mut Vec<bool>,
     packages: &Packages<'_>,
     id: CandId,
     entry: &Dep<'_>,
     effect: Effect,
-)
+    known: &mut KnownMatches,
+) -> Result<(), AllocError>
     requires within { id < length (candidates_of_packages packages.now) }
     requires each { length marks.old.items ≡ length (candidates_of_packages packages.now) }
-    ensures { marks.new.items ≡ mark_at (affects effect (dependency entry.now)) id
-        marks.old.items (candidates_of_packages packages.now) }
+    requires known { AreMatchesOf (source_text packages.now.sources.items)
+        (dependency entry.now) known.old }
+    ensures marks { OnOk result (marks.new.items
+        ≡ mark_at (affects effect (dependency entry.now)) id
+        marks.old.items (candidates_of_packages packages.now)) }
+    ensures known { OnOk result (AreMatchesOf (source_text packages.now.sources.items)
+        (dependency entry.now) known.new) }
 {
     let place = id.place as usize;
-    if !affects(effect, entry, &packages.get(place)) {
-        return;
+    let one = packages.get(place);
+    let is_affected = affects(effect, entry, &one, packages, place, known)?;
+    if !is_affected {
+        return Ok(());
     }
     marks[place] = true;
+    Ok(())
 }
 
-// Whether an entry of world has this effect on a candidate.
-fn affects(effect: Effect, entry: &Dep<'_>, one: &Details<'_>) -> bool
-    ensures { result ≡ affects effect (dependency entry.now) one.now }
+// Whether an entry of world has this effect on a candidate, which stands at a place.
+fn affects(
+    effect: Effect,
+    entry: &Dep<'_>,
+    one: &Details<'_>,
+    packages: &Packages<'_>,
+    place: usize,
+    known: &mut KnownMatches,
+) -> Result<bool, AllocError>
+    requires within { place < length (candidates_of_packages packages.now) }
+    requires here { slice_get (candidates_of_packages packages.now) place ≡ Some one.now }
+    requires known { AreMatchesOf (source_text packages.now.sources.items)
+        (dependency entry.now) known.old }
+    ensures affects { IfOk result (λ answer. answer
+        ≡ affects effect (dependency entry.now) one.now) }
+    ensures known { OnOk result (AreMatchesOf (source_text packages.now.sources.items)
+        (dependency entry.now) known.new) }
 {
     match effect {
-        Effect::Bar => entry.conflict && one.meets(entry),
-        Effect::Pin => pins(entry, one),
+        Effect::Bar => bars(entry, one, packages, place, known),
+        Effect::Pin => Ok(pins(entry, one)),
     }
+}
+
+// Whether an entry of world bars a candidate, which stands at a place: the entry is a conflict, and
+// the candidate meets it.
+fn bars(
+    entry: &Dep<'_>,
+    one: &Details<'_>,
+    packages: &Packages<'_>,
+    place: usize,
+    known: &mut KnownMatches,
+) -> Result<bool, AllocError>
+    requires within { place < length (candidates_of_packages packages.now) }
+    requires here { slice_get (candidates_of_packages packages.now) place ≡ Some one.now }
+    requires known { AreMatchesOf (source_text packages.now.sources.items)
+        (dependency entry.now) known.old }
+    ensures bars { IfOk result (λ answer. answer ≡ ((dependency entry.now).conflict
+        && meets_dependency (dependency entry.now) one.now)) }
+    ensures known { OnOk result (AreMatchesOf (source_text packages.now.sources.items)
+        (dependency entry.now) known.new) }
+{
+    if !entry.conflict {
+        return Ok(false);
+    }
+    if !is_long(&entry.version) {
+        return Ok(one.meets(entry));
+    }
+    packages.meets_need(place, &NeedRef::Entry(entry), known)
 }
 
 // Whether an entry of world pins a candidate's name to its tag: it has both. It may be a conflict.

@@ -3,35 +3,28 @@
 //! The rules stand in `docs/selection.md`: "What there is to choose from" (which candidates may be
 //! selected, and what meets a dependency), "What satisfies world", 4 (install-if), and "Which
 //! selection is taken" (the rank of options).
-ghost use Rattle.std.specs.Prelude.{◌≡◌, ◌<◌, ◌^◌, ◌==◌, ◌++◌, ◌∷◌, [], map, length, slice_get, All, Some, IfOk, OnOk, filter, ◌&&◌, not, if◌then◌else◌, true, false};
-ghost use Rattle.std.specs.Option.{option_cmp, option_map_or};
-ghost use Rattle.std.specs.List.{list_all, list_any};
-ghost use Rattle.std.specs.Ordering.{bool_cmp, flip_args};
-ghost use Rattle.std.specs.Str.{bytes_eq};
-ghost use Rattle.dep_core.specs.Dependency.{Dependency};
+ghost use Rattle.std.specs.Prelude.{◌≡◌, ◌<◌, ◌==◌, ◌++◌, ◌∷◌, [], map, length, slice_get, All, Some, IfOk, OnOk, filter, not, if◌then◌else◌, false};
 ghost use Rattle.dep_core.specs.Meets.{dependency};
-ghost use Rattle.candidate_core.specs.Candidates.{Candidate as CandidateValue, has_usable_install_if, is_allowed, is_eligible, is_barred_by, meets_dependency, uses_tag};
+ghost use Rattle.candidate_core.specs.Candidates.{has_usable_install_if, is_eligible};
 ghost use Rattle.candidate_core.specs.CandidateList.{IsCandidateList};
 ghost use Rattle.candidate_core.specs.Matches.{AreMatchesFor};
 ghost use Rattle.candidate_core.specs.Options.{may_meet, places_offering, options_for, places_from};
 ghost use Rattle.candidate_core.specs.Packages.{candidates_of_packages};
-ghost use Rattle.candidate_core.specs.Rank.{candidate_at, candidate_cmp, is_at, is_eligible_at, is_kept_installed, is_pinned, is_pinned_at, is_pinned_to, rank_cmp, sealed_pool_by};
+ghost use Rattle.candidate_core.specs.Rank.{candidate_at, is_at, is_kept_installed, is_pinned, is_pinned_at, sealed_pool_by};
 ghost use Rattle.option_ranks.specs.Ranking.{IsRankingIn};
 ghost use Rattle.candidate_core.specs.Values.{candidate_value, names_upgraded_by, need_by, need_of};
 ghost use Rattle.candidate_core.specs.VersionTexts.{source_text};
 ghost use Rattle.option_ranks.specs.VersionRanks.{AreReadAlike, IsReadFrom};
 ghost use Rattle.candidate_core.specs.declared.versions.VersionKind.TheVariants as Kinds;
-ghost use Rattle.candidate_core.specs.PositiveInstallIfs.{has_positive_install_if, places_marked};
-ghost use Rattle.pool_core.specs.World.{entries_of_kind, is_entry_of_kind};
 
 use crate::keeping::kept_marks;
 use crate::laws::rank_is_total;
-use crate::marks::{eligible_marks, pinned_marks};
+use crate::world_marks::marks_by_world;
 use candidate_core::{
     CandId, Candidate, CandidateList, Details, KnownMatches, Need, NeedRef, Options, Packages,
     Table, Upgrade,
 };
-use dep_core::{Dep, World};
+use dep_core::World;
 use option_ranks::{RankedOption, rank_long_versions};
 use std::alloc::{AllocError, Global};
 use std::marker::Model;
@@ -127,6 +120,13 @@ impl<'a> Sealed<'a> {
             return None;
         }
         Some(self.packages.get(place))
+    }
+
+    /// The packages that the candidates are, in the order of their places.
+    pub fn packages(&self) -> &Packages<'a>
+        ensures { candidates_of_packages result.now ≡ self.now.candidates }
+    {
+        &self.packages
     }
 
     /// The places of the candidates that are named so or have an entry of provides of that name
@@ -388,15 +388,6 @@ fn places_of(alloc: Global, rankings: &[RankedOption<'_>]) -> Result<Vec<CandId>
     rankings.iter().map(|ranking| ranking.id).collect(alloc)
 }
 
-/// What an entry of world is that bears on each candidate; an entry can be both.
-#[derive(Clone, Copy)]
-enum EntryKind {
-    /// The entry is a conflict: it bars what meets it.
-    Conflict,
-    /// The entry has a tag: it allows the candidates of that tag, and pins its name to it.
-    Tagged,
-}
-
 /// Joins a list of candidates to a world.
 pub(crate) fn seal_list<'a>(
     alloc: Global,
@@ -421,119 +412,4 @@ pub(crate) fn seal_list<'a>(
         kept,
         install_ifs: marks.install_ifs,
     })
-}
-
-/// What world says of each candidate of a list.
-#[derive(Drop)]
-struct WorldMarks {
-    /// Whether each candidate may be selected.
-    eligible: Vec<bool>,
-    /// Whether world pins each candidate's name to its tag.
-    pinned: Vec<bool>,
-    /// The places of the candidates whose install-if can come to apply, in rising order.
-    install_ifs: Vec<CandId>,
-}
-
-/// Reads what world says of each candidate of a list.
-fn marks_by_world(
-    alloc: Global,
-    list: &CandidateList<'_>,
-    world: &World,
-) -> Result<WorldMarks, AllocError>
-    requires { IsCandidateList list.now }
-    ensures eligible { IfOk result (λ marks. marks.eligible.items
-        ≡ map (is_eligible world.now) (candidates_of_packages list.now.packages)) }
-    ensures pinned { IfOk result (λ marks. marks.pinned.items
-        ≡ map (is_pinned world.now) (candidates_of_packages list.now.packages)) }
-    ensures install_ifs { IfOk result (λ marks. marks.install_ifs.items
-        ≡ places_from 0 (has_usable_install_if world.now)
-        (candidates_of_packages list.now.packages)) }
-{
-    let conflicts = entries_of_kind(alloc, world, EntryKind::Conflict)?;
-    let tagged = entries_of_kind(alloc, world, EntryKind::Tagged)?;
-    let eligible = eligible_marks(alloc, &list.packages, &list.table, &tagged, &conflicts)?;
-    let pinned = pinned_marks(alloc, &list.packages, &list.table, &tagged)?;
-    let install_ifs = install_ifs_among(alloc, &list.packages, &eligible)?;
-    Ok(WorldMarks {
-        eligible,
-        pinned,
-        install_ifs,
-    })
-}
-
-// The entries of world that are of one kind, in their order.
-fn entries_of_kind<'a>(
-    alloc: Global,
-    world: &'a World,
-    kind: EntryKind,
-) -> Result<Vec<Dep<'a>>, AllocError>
-    ensures { IfOk result (λ deps. map dependency deps.items
-        ≡ entries_of_kind kind world.entry.now) }
-{
-    let mut deps = Vec::new(alloc);
-    for i in 0..world.len() {
-        push_if(&mut deps, world.entry(i), kind)?;
-    }
-    Ok(deps)
-}
-
-// Adds an entry of world to a list where the entry is of a kind.
-fn push_if<'a>(deps: &mut Vec<Dep<'a>>, dep: Dep<'a>, kind: EntryKind) -> Result<(), AllocError>
-    ensures { OnOk result (map dependency deps.new.items ≡ map dependency deps.old.items
-        ++ (if is_entry_of_kind kind (dependency dep.entry) then dependency dep.entry ∷ []
-        else [])) }
-{
-    if is_entry_of_kind(kind, &dep) {
-        deps.push(dep)?;
-    }
-    Ok(())
-}
-
-/// Whether an entry of world is of this kind.
-fn is_entry_of_kind(kind: EntryKind, dep: &Dep<'_>) -> bool
-    ensures { result ≡ is_entry_of_kind kind (dependency dep.now) }
-{
-    match kind {
-        EntryKind::Conflict => dep.conflict,
-        EntryKind::Tagged => dep.tag.is_some(),
-    }
-}
-
-// The places, rising, of the candidates that may be selected, as their marks in `eligible` say, and
-// have an install-if that is not empty and has no conflict.
-fn install_ifs_among(
-    alloc: Global,
-    packages: &Packages<'_>,
-    eligible: &[bool],
-) -> Result<Vec<CandId>, AllocError>
-    requires few { length (candidates_of_packages packages.now) < 2 ^ 32 }
-    requires marked { length eligible.now ≡ length (candidates_of_packages packages.now) }
-    ensures { IfOk result (λ ids. ids.items
-        ≡ places_marked 0 eligible.now
-        (candidates_of_packages packages.now)) }
-{
-    let mut ids = Vec::new(alloc);
-    for place in 0..packages.len() {
-        push_if_marked(&mut ids, place, eligible[place], &packages.get(place))?;
-    }
-    Ok(ids)
-}
-
-// Adds the place of a candidate that has a mark and an install-if without conflict.
-fn push_if_marked(
-    ids: &mut Vec<CandId>,
-    place: usize,
-    is_marked: bool,
-    one: &Details<'_>,
-) -> Result<(), AllocError>
-    requires { place < 2 ^ 32 }
-    ensures { OnOk result (ids.new.items ≡ ids.old.items
-        ++ (if is_marked && has_positive_install_if one.now then place ∷ [] else [])) }
-{
-    if is_marked && one.has_positive_install_if() {
-        ids.push(CandId {
-            place: place as u32,
-        })?;
-    }
-    Ok(())
 }

@@ -15,7 +15,7 @@ use Rattle.search_tables.specs.Selection.{AreMembers, names_by_install_if, depen
 use Rattle.search_tables.specs.Reasons.{FrameValue, IsFrameOf}
 use Rattle.search_tables.specs.InstallIf.{AreInstallIfs, AreUnasked}
 use Rattle.search_tables.specs.Queue.{AreMet, RaisedDepValue, is_unmet_dep, queue_of, raised_deps_at, raised_deps}
-use Rattle.search_tables.specs.Conflicts.{conflicts_among, conflicts_named}
+use Rattle.search_tables.specs.Conflicts.{AreConflictsOf, HasDepends, ListedValue, conflicts_among, conflicts_in, conflicts_named}
 use Rattle.search_tables.specs.Excluders.{AreListed}
 use Rattle.search_tables.specs.NameTable.{items_of}
 use Rattle.search_tables.specs.Reasons.{HasOptions}
@@ -86,9 +86,10 @@ pub consistent_by : (old new : Choices) (t : List ℕ) → IsStep old new t
     → AreMet (pool_of old) t new.cursor
     → AreUnasked (pool_of old) t (install_ifs_of old) new.asking_cursor
     → AreListed (pool_of old) t new.conflicts
+    → AreConflictsOf (pool_of old).candidates new.conflicts.by_name
     → AreCheckpoints (pool_of old) (install_ifs_of old) [] t new.checkpoints.items
     → IsConsistent new
-consistent_by old new t step are within queue met unasked listed checkpoints =
+consistent_by old new t step are within queue met unasked listed conflicts checkpoints =
     let p = sym step.pool in
     let s = sym step.choices in
     let i : install_ifs_of old ≡ install_ifs_of new = ap (λ (z : InstallIfs). z.by_name.items) (sym step.install_ifs) in
@@ -103,13 +104,15 @@ consistent_by old new t step are within queue met unasked listed checkpoints =
       unasked = subst (λ (q : SealedPool). AreUnasked q (choices_of new) (install_ifs_of new) new.asking_cursor) p
           (subst (λ (z : List ℕ). AreUnasked (pool_of old) z (install_ifs_of new) new.asking_cursor) s (subst (λ (z : List ℕ). AreUnasked (pool_of old) t z new.asking_cursor) i unasked));
       listed = subst (λ (q : SealedPool). AreListed q (choices_of new) new.conflicts) p (subst (λ (z : List ℕ). AreListed (pool_of old) z new.conflicts) s listed);
+      conflicts = subst (λ (q : SealedPool). AreConflictsOf q.candidates new.conflicts.by_name) p conflicts;
       checkpoints = subst (λ (q : SealedPool). AreCheckpoints q (install_ifs_of new) [] (choices_of new) new.checkpoints.items) p
           (subst (λ (z : List ℕ). AreCheckpoints (pool_of old) (install_ifs_of new) [] z new.checkpoints.items) s (subst (λ (z : List ℕ). AreCheckpoints (pool_of old) z [] t new.checkpoints.items) i checkpoints));
     }
 
 pub consistent_more : (old new : Choices) (c : ℕ) (deps : List Dependency) (b : Checkpoint) → IsConsistent old → c < length (pool_of old).candidates → deps ≡ depends_at (pool_of old) c → IsStep old new (choices_of old ++ c ∷ []) → new.queue.items ≡ old.queue.items ++ raised_deps (Some c) deps → new.cursor ≡ old.cursor → new.checkpoints.items ≡ old.checkpoints.items ++ b ∷ [] → b.queue_len ≡ length old.queue.items → b.cursor ≡ old.cursor → b.asking_cursor ≡ old.asking_cursor
-    → AreUnasked (pool_of old) (choices_of old ++ c ∷ []) (install_ifs_of old) new.asking_cursor → ((name : List ℕ) → items_of new.conflicts.by_name name ≡ items_of old.conflicts.by_name name ++ conflicts_named name c deps) → IsConsistent new
-consistent_more old new c deps b consistent small is step queue at checkpoints b_queue b_at b_asking unasked conflicts =
+    → AreUnasked (pool_of old) (choices_of old ++ c ∷ []) (install_ifs_of old) new.asking_cursor → ((name : List ℕ) → conflicts_in new.conflicts.by_name name ≡ conflicts_in old.conflicts.by_name name ++ conflicts_named name c deps)
+    → ((candidates : List Candidate) → HasDepends candidates c deps → AreConflictsOf candidates old.conflicts.by_name → AreConflictsOf candidates new.conflicts.by_name) → IsConsistent new
+consistent_more old new c deps b consistent small is step queue at checkpoints b_queue b_at b_asking unasked conflicts listed =
     let p = pool_of old in
     let t = choices_of old in
     let t' = t ++ c ∷ [] in
@@ -124,7 +127,8 @@ consistent_more old new c deps b consistent small is step queue at checkpoints b
       | inl a ↦ consistent.within k a
       | inr d ↦ elim d [ inl e ↦ subst (λ (z : ℕ). z < length p.candidates) (sym e) small | inr bad ↦ absurd bad ]
     ] in
-    consistent_by old new t' step consistent.install_ifs all_within all_queue all_met unasked (listed_more p t c deps old.conflicts new.conflicts is consistent.listed conflicts) all_saved
+    let has : HasDepends p.candidates c deps = λ k there. sym (is ∙ ap (λ (o : Option Candidate). option_map_or (λ (e : Candidate). e.depends) o []) there) in
+    consistent_by old new t' step consistent.install_ifs all_within all_queue all_met unasked (listed_more p t c deps old.conflicts new.conflicts is consistent.listed conflicts) (listed p.candidates has consistent.conflicts) all_saved
 
 take_none : {X : Type 0} (xs : List X) → take 0 xs ≡ []
 take_none [] = refl
@@ -148,7 +152,8 @@ consistent_start chosen none queue at asking are conflicts checkpoints =
       met = subst (λ (k : ℕ). AreMet p (choices_of chosen) k) (sym at) (met_start p (choices_of chosen));
       install_ifs = are;
       unasked = subst (λ (k : ℕ). AreUnasked p (choices_of chosen) (install_ifs_of chosen) k) (sym asking) (λ rank low. absurd (none_below rank low));
-      listed = λ name. ap (λ (z : List (List ℕ × List (ℕ × Dependency))). items_of z name) conflicts ∙ ap (λ (z : List ℕ). conflicts_among p z name) (sym none);
+      listed = λ name. ap (λ (z : List (List ℕ × List ListedValue)). conflicts_in z name) conflicts ∙ ap (λ (z : List ℕ). conflicts_among p z name) (sym none);
+      conflicts = λ name listed h. absurd (subst (λ (z : List (List ℕ × List ListedValue)). IsIn listed (items_of z name)) conflicts h);
       checkpoints = subst (λ (z : List ℕ). AreCheckpoints p (install_ifs_of chosen) [] z chosen.checkpoints.items) (sym none) (subst (λ (z : List Checkpoint). AreCheckpoints p (install_ifs_of chosen) [] [] z) (sym checkpoints) tt);
     }
 
@@ -158,6 +163,7 @@ pub consistent_on : (old new : Choices) → IsConsistent old → IsStep old new 
 consistent_on old new consistent step queue conflicts checkpoints met unasked =
     consistent_by old new (choices_of old) step consistent.install_ifs consistent.within (queue ∙ consistent.queue) met unasked
     (subst (λ (z : Conflicts). AreListed (pool_of old) (choices_of old) z) (sym conflicts) consistent.listed)
+    (subst (λ (z : Conflicts). AreConflictsOf (pool_of old).candidates z.by_name) (sym conflicts) consistent.conflicts)
     (subst (λ (z : List Checkpoint). AreCheckpoints (pool_of old) (install_ifs_of old) [] (choices_of old) z) (sym checkpoints) consistent.checkpoints)
 
 get_within : {X : Type 0} (xs : List X) (i : ℕ) (x : X) → slice_get xs i ≡ Some x → i < length xs

@@ -4,6 +4,7 @@
 use Rattle.std.specs.Prelude.{◌≡◌, ◌<◌, length, ℕ, List, [], ◌∷◌, ◌++◌}
 use Rattle.candidate_core.specs.Rank.{SealedPool}
 use Rattle.candidate_core.specs.Options.{IsIn}
+use Rattle.search_tables.specs.Conflicts.{AreConflictsOf}
 use Rattle.search_tables.specs.Excluders.{AreListed}
 use Rattle.search_tables.specs.InstallIf.{AreInstallIfs, AreUnasked}
 use Rattle.search_tables.specs.Queue.{AreMet, queue_of}
@@ -35,8 +36,8 @@ AreCheckpoints pool install_ifs u (c ∷ cs) (b ∷ bs) =
     × AreCheckpoints pool install_ifs (u ++ c ∷ []) cs bs
 
 -- the queue is that of the choices, what stands in front of its cursor is met, what stands in front
--- of the cursor of the install-ifs does not ask, the conflicts of the choices are listed, and each
--- choice can be taken back to its checkpoint
+-- of the cursor of the install-ifs does not ask, the conflicts of the choices are listed, each at its
+-- index, and each choice can be taken back to its checkpoint
 pub record IsConsistent (chosen : Choices) : Type 0 where
   pub within : (c : ℕ) → IsIn c (choices_of chosen) → c < length (pool_of chosen).candidates
   pub queue : chosen.queue.items ≡ queue_of (pool_of chosen) (choices_of chosen)
@@ -46,6 +47,7 @@ pub record IsConsistent (chosen : Choices) : Type 0 where
   pub unasked :
       AreUnasked (pool_of chosen) (choices_of chosen) (install_ifs_of chosen) chosen.asking_cursor
   pub listed : AreListed (pool_of chosen) (choices_of chosen) chosen.conflicts
+  pub conflicts : AreConflictsOf (pool_of chosen).candidates chosen.conflicts.by_name
   pub checkpoints :
       AreCheckpoints (pool_of chosen) (install_ifs_of chosen) [] (choices_of chosen)
       chosen.checkpoints.items

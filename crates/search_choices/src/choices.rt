@@ -5,7 +5,7 @@ ghost use Rattle.std.specs.Prelude.{◌≡◌, ◌≤◌, ℕ, List, [], ◌∷�
 ghost use Rattle.std.specs.List.{find};
 ghost use Rattle.dep_core.specs.Dependency.{Dependency};
 ghost use Rattle.dep_core.specs.Meets.{dependency};
-ghost use Rattle.candidate_core.specs.Candidates.{entry};
+ghost use Rattle.candidate_core.specs.Candidates.{Candidate, entry};
 ghost use Rattle.candidate_core.specs.Candidates.{offers_name};
 ghost use Rattle.candidate_core.specs.Options.{IsIn, options_for};
 ghost use Rattle.search_tables.specs.InstallIf.{AreUnasked, IsLeastAsking, IsNoneAsking, rank_asks};
@@ -14,6 +14,7 @@ ghost use Rattle.search_tables.specs.Queue.{AreMet, is_unmet_dep, queue_of};
 ghost use Rattle.search_tables.specs.Selection.{next_need};
 ghost use Rattle.search_tables.specs.Reasons.{IsFrameOf};
 ghost use Rattle.search_choices.specs.Choices.{IsConsistent, choices_of, install_ifs_of, pool_of};
+ghost use Rattle.search_tables.specs.Conflicts.{AreConflictsOf};
 ghost use Rattle.search_tables.specs.Excluders.{AreListed};
 
 mod excluders;
@@ -131,6 +132,9 @@ impl<'p> Choices<'p> {
         ensures others { self.new ≡ record self.old { conflicts = self.new.conflicts } }
         ensures listed { (rest : List ℕ) (last : ℕ) → choices_of self.old ≡ rest ++ last ∷ [] →
             AreListed (pool_of self.old) rest self.new.conflicts }
+        ensures conflicts { (candidates : List Candidate)
+            → AreConflictsOf candidates self.old.conflicts.by_name
+            → AreConflictsOf candidates self.new.conflicts.by_name }
     {
         if let Some(id) = self.choices.last() {
             if let Some(details) = self.pool.at(id) {

@@ -11,9 +11,8 @@ use Rattle.candidate_core.specs.Candidates.{Candidate, entry, meets_dependency, 
 use Rattle.candidate_core.specs.Rank.{SealedPool, candidate_at, is_at, meets_at}
 use Rattle.candidate_core.specs.Options.{IsIn}
 use Rattle.search_tables.specs.Selection.{exclude_each_other, depends_at, conflicts_with, is_met, occupied_names_at, occupied_names, keeps_out, share_a_name}
-use Rattle.search_tables.specs.Conflicts.{conflicts_named}
+use Rattle.search_tables.specs.Conflicts.{conflicts_in, conflicts_named}
 use Rattle.search_tables.specs.Excluders.{AreListed, IsExcluder, IsFreeAt}
-use Rattle.search_tables.specs.NameTable.{items_of}
 use Rattle.search_tables.specs.declared.conflicts.Conflicts.{Conflicts}
 use Rattle.search_tables.proofs.Theory.{in_append, in_left, in_right}
 use Rattle.search_tables.proofs.PoolFacts.{bool_cases, filter_in, in_filter, in_map, map_in}
@@ -85,9 +84,9 @@ module _ (pool : SealedPool) (t : List ℕ) (id : ℕ) (details : Candidate) whe
   names_of_id here = ap (λ (o : Option Candidate). option_map_or occupied_names o []) here
 
   -- a choice whose conflict is found excludes it
-  pub found_against : (conflicts : Conflicts) (name : List ℕ) (k : ℕ) → AreListed pool t conflicts → candidate_at pool id ≡ Some details → (IsIn id t → ⊥) → Some k ≡ option_map (λ (c : Listed). c.0) (find (λ (c : Listed). meets_dependency c.1 details) (items_of conflicts.by_name name)) → IsExcluder pool t id k
+  pub found_against : (conflicts : Conflicts) (name : List ℕ) (k : ℕ) → AreListed pool t conflicts → candidate_at pool id ≡ Some details → (IsIn id t → ⊥) → Some k ≡ option_map (λ (c : Listed). c.0) (find (λ (c : Listed). meets_dependency c.1 details) (conflicts_in conflicts.by_name name)) → IsExcluder pool t id k
   found_against conflicts name k listed here once found =
-      let items = items_of conflicts.by_name name in
+      let items = conflicts_in conflicts.by_name name in
       let one = some_of (find (λ (c : Listed). meets_dependency c.1 details) items) found in
       let f = find_in (λ (c : Listed). meets_dependency c.1 details) items one.0 one.1 in
       let g = flat_in (λ c. conflicts_named name c (depends_at pool c)) one.0 t (subst (λ (z : List Listed). IsIn one.0 z) (listed name) f.0) in
@@ -105,9 +104,9 @@ module _ (pool : SealedPool) (t : List ℕ) (id : ℕ) (details : Candidate) whe
       some_of (Some c) e = (c, refl, cc)
 
   -- where none is found, it meets no conflict of this name
-  pub none_against : (conflicts : Conflicts) (name : List ℕ) → AreListed pool t conflicts → ((k : ℕ) → option_map (λ (c : Listed). c.0) (find (λ (c : Listed). meets_dependency c.1 details) (items_of conflicts.by_name name)) ≡ Some k → ⊥) → (k : ℕ) (d : Dependency) → IsIn k t → IsIn d (depends_at pool k) → d.conflict ≡ true → d.name ≡ name → meets_dependency d details ≡ false
+  pub none_against : (conflicts : Conflicts) (name : List ℕ) → AreListed pool t conflicts → ((k : ℕ) → option_map (λ (c : Listed). c.0) (find (λ (c : Listed). meets_dependency c.1 details) (conflicts_in conflicts.by_name name)) ≡ Some k → ⊥) → (k : ℕ) (d : Dependency) → IsIn k t → IsIn d (depends_at pool k) → d.conflict ≡ true → d.name ≡ name → meets_dependency d details ≡ false
   none_against conflicts name listed never k d there has conflict is =
-      let items = items_of conflicts.by_name name in
+      let items = conflicts_in conflicts.by_name name in
       let same : bytes_eq name d.name ≡ true = (bytes_decides name d.name).1 (sym is) in
       let p : Dependency → Bool = λ (e : Dependency). e.conflict && bytes_eq name e.name in
       let member : IsIn (k, d) (conflicts_named name k (depends_at pool k)) = in_map (λ (e : Dependency). (k, e)) d (filter p (depends_at pool k)) (in_filter p d (depends_at pool k) has (rw conflict same)) in

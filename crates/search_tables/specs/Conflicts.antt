@@ -1,11 +1,14 @@
 -- The conflicts of the choices, by their names.
 -- The rule stands in `docs/selection.md`, "What satisfies world", 2. Serves the contracts of
 -- `src/conflicts.rt`.
-use Rattle.std.specs.Prelude.{ℕ, ◌&&◌, List, map}
+use Rattle.std.specs.Prelude.{◌≡◌, ℕ, ◌&&◌, List, map, Some, slice_get}
 use Rattle.std.specs.List.{filter, flat_map}
 use Rattle.std.specs.Str.{bytes_eq}
 use Rattle.dep_core.specs.Dependency.{Dependency}
+use Rattle.candidate_core.specs.Candidates.{Candidate}
+use Rattle.candidate_core.specs.Options.{IsIn}
 use Rattle.candidate_core.specs.Rank.{SealedPool}
+use Rattle.search_tables.specs.NameTable.{items_of}
 use Rattle.search_tables.specs.Selection.{depends_at}
 
 -- the conflicts of a name among some dependencies, each with the choice that has it
@@ -17,3 +20,31 @@ conflicts_named name by deps =
 -- the conflicts of a name that some choices have, in the order of the choices
 abbrev pub conflicts_among : SealedPool → List ℕ → List ℕ → List (ℕ × Dependency)
 conflicts_among pool chosen name = flat_map (λ c. conflicts_named name c (depends_at pool c)) chosen
+
+-- a conflict that is listed: the choice that has it, the conflict, and its index among the
+-- dependencies of the choice
+abbrev pub ListedValue : Type 0
+ListedValue = ℕ × Dependency × ℕ
+
+-- a listed conflict, with the choice that has it
+abbrev pub without_index : ListedValue → ℕ × Dependency
+without_index listed = (listed.0, listed.1)
+
+-- the conflicts of a name that a table lists, each with the choice that has it
+abbrev pub conflicts_in : List (List ℕ × List ListedValue) → List ℕ → List (ℕ × Dependency)
+conflicts_in table name = map without_index (items_of table name)
+
+-- the candidate at this place has these dependencies
+abbrev pub HasDepends : List Candidate → ℕ → List Dependency → Type 0
+HasDepends candidates by deps =
+    (c : Candidate) → slice_get candidates by ≡ Some c → c.depends ≡ deps
+
+-- the candidate that is listed has the conflict at its index
+abbrev pub IsConflictOf : List Candidate → ListedValue → Type 0
+IsConflictOf candidates listed = (c : Candidate) → slice_get candidates listed.0 ≡ Some c
+    → slice_get c.depends listed.2 ≡ Some listed.1
+
+-- each conflict that a table lists is one of its candidate, at its index
+abbrev pub AreConflictsOf : List Candidate → List (List ℕ × List ListedValue) → Type 0
+AreConflictsOf candidates table = (name : List ℕ) (listed : ListedValue)
+    → IsIn listed (items_of table name) → IsConflictOf candidates listed

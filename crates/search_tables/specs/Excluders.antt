@@ -7,15 +7,14 @@ use Rattle.dep_core.specs.Dependency.{Dependency}
 use Rattle.candidate_core.specs.Candidates.{Candidate, meets_dependency, occupies_name}
 use Rattle.candidate_core.specs.Options.{IsIn}
 use Rattle.candidate_core.specs.Rank.{SealedPool, is_at}
-use Rattle.search_tables.specs.Conflicts.{conflicts_among}
-use Rattle.search_tables.specs.NameTable.{items_of}
+use Rattle.search_tables.specs.Conflicts.{conflicts_among, conflicts_in}
 use Rattle.search_tables.specs.Selection.{depends_at, exclude_each_other}
 use Rattle.search_tables.specs.declared.conflicts.Conflicts.{Conflicts}
 
 -- the table has for each name just the conflicts of the choices
 abbrev pub AreListed : SealedPool → List ℕ → Conflicts → Type 0
 AreListed pool chosen conflicts =
-    (name : List ℕ) → items_of conflicts.by_name name ≡ conflicts_among pool chosen name
+    (name : List ℕ) → conflicts_in conflicts.by_name name ≡ conflicts_among pool chosen name
 
 -- the candidate at place `k` is a choice, and it and the candidate at place `id` exclude each other
 abbrev pub IsExcluder : SealedPool → List ℕ → ℕ → ℕ → Type 0

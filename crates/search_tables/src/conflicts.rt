@@ -2,37 +2,40 @@
 //! which a further candidate meets.
 //! The rule stands in `docs/selection.md`, "What satisfies world", 2: no conflict of a selected
 //! package is met by another one.
-ghost use Rattle.std.specs.Prelude.{◌≡◌, ◌∷◌, ◌++◌, ℕ, List, [], OnOk, find};
+ghost use Rattle.std.specs.Prelude.{◌≡◌, ◌<◌, ◌∷◌, ◌++◌, ℕ, List, [], IfOk, OnOk, Some, find, length, slice_get};
 ghost use Rattle.std.specs.Option.{option_map};
 ghost use Rattle.dep_core.specs.Dependency.{Dependency};
 ghost use Rattle.dep_core.specs.Meets.{dependency};
-ghost use Rattle.candidate_core.specs.Candidates.{meets_dependency};
-ghost use Rattle.search_tables.specs.Conflicts.{conflicts_named};
-ghost use Rattle.search_tables.specs.NameTable.{items_of};
+ghost use Rattle.candidate_core.specs.Candidates.{Candidate, meets_dependency};
+ghost use Rattle.candidate_core.specs.PackageMatches.{AreMatchesAmong};
+ghost use Rattle.candidate_core.specs.Packages.{candidates_of_packages};
+ghost use Rattle.search_tables.specs.Conflicts.{AreConflictsOf, HasDepends, IsConflictOf, conflicts_in, conflicts_named};
 
 use crate::name_table::NameTable;
 use dep_core::Dep;
-use pool_core::{CandId, Deps, Details, Sealed};
+use pool_core::{CandId, Deps, PackageDep, PackageMatches};
 use std::alloc::{AllocError, Global};
 use std::marker::Model;
 
-/// A conflict, and the choice that has it.
+/// A conflict, and where the choice that has it has it.
 #[derive(Drop)]
 pub struct ListedConflict<'p> {
     /// The choice that has the conflict.
     by: CandId,
     /// The conflict.
     dep: Dep<'p>,
+    /// The index of the conflict among the dependencies of the choice, counted from 0.
+    index: usize,
 }
 
 impl<'p> Model for ListedConflict<'p> {
-    ghost use Rattle.std.specs.Prelude.{ℕ};
-    ghost use Rattle.dep_core.specs.Dependency.{Dependency};
     ghost use Rattle.dep_core.specs.Meets.{dependency};
+    ghost use Rattle.search_tables.specs.Conflicts.{ListedValue};
 
-    ghost Value = { ℕ × Dependency };
+    ghost Value = { ListedValue };
 
-    ghost view = { λ listed. (listed.by, dependency listed.dep) };
+    // In this order: the choice, the conflict, and its index.
+    ghost view = { λ listed. (listed.by, dependency listed.dep, listed.index) };
 }
 
 impl<'p> ListedConflict<'p> {
@@ -43,11 +46,24 @@ impl<'p> ListedConflict<'p> {
         self.by
     }
 
-    // Whether a candidate meets the conflict.
-    fn is_met_by(&self, details: &Details<'_>) -> bool
-        ensures { result ≡ meets_dependency self.now.1 details.now }
+    // Whether a candidate meets the conflict. What is learnt of long versions is kept.
+    fn is_met_by(&self, id: CandId, matches: &mut PackageMatches<'_>) -> Result<bool, AllocError>
+        requires within { id < length (candidates_of_packages matches.old.packages.now) }
+        requires listed { IsConflictOf (candidates_of_packages matches.old.packages.now) self.now }
+        requires matches { AreMatchesAmong (candidates_of_packages matches.old.packages.now)
+            matches.old }
+        ensures meets { IfOk result (λ meets. (c : Candidate)
+            → slice_get (candidates_of_packages matches.old.packages.now) id ≡ Some c
+            → meets ≡ meets_dependency self.now.1 c) }
+        ensures matches { OnOk result (AreMatchesAmong
+            (candidates_of_packages matches.old.packages.now) matches.new) }
     {
-        details.meets(&self.dep)
+        let held = PackageDep {
+            dep: &self.dep,
+            package: self.by.place as usize,
+            index: self.index,
+        };
+        matches.meets(id.place as usize, &held)
     }
 }
 
@@ -71,35 +87,45 @@ impl<'p> Conflicts<'p> {
     /// Adds the conflicts that are among a candidate's dependencies, behind the others of their
     /// names.
     pub fn add(&mut self, depends: &Deps<'p>, by: CandId) -> Result<(), AllocError>
-        ensures { OnOk result ((name : List ℕ) → items_of self.new.by_name name
-            ≡ items_of self.old.by_name name ++ conflicts_named name by depends.now) }
+        ensures conflicts { OnOk result ((name : List ℕ) → conflicts_in self.new.by_name name
+            ≡ conflicts_in self.old.by_name name ++ conflicts_named name by depends.now) }
+        ensures listed { OnOk result ((candidates : List Candidate)
+            → HasDepends candidates by depends.now → AreConflictsOf candidates self.old.by_name
+            → AreConflictsOf candidates self.new.by_name) }
     {
         for i in 0..depends.len() {
-            self.add_one(depends.get(i), by)?;
+            self.add_one(depends.get(i), by, i)?;
         }
         Ok(())
     }
 
-    // Adds a dependency of a candidate to the list, if it is a conflict.
-    fn add_one(&mut self, dep: Dep<'p>, by: CandId) -> Result<(), AllocError>
-        ensures { OnOk result ((name : List ℕ) → items_of self.new.by_name name
-            ≡ items_of self.old.by_name name
+    // Adds the dependency that a candidate has at an index to the list, if it is a conflict.
+    fn add_one(&mut self, dep: Dep<'p>, by: CandId, index: usize) -> Result<(), AllocError>
+        ensures conflicts { OnOk result ((name : List ℕ) → conflicts_in self.new.by_name name
+            ≡ conflicts_in self.old.by_name name
             ++ conflicts_named name by (dependency dep.entry ∷ [])) }
+        ensures listed { OnOk result ((candidates : List Candidate)
+            → IsConflictOf candidates (by, dependency dep.entry, index)
+            → AreConflictsOf candidates self.old.by_name
+            → AreConflictsOf candidates self.new.by_name) }
     {
         if !dep.conflict {
             return Ok(());
         }
-        self.by_name.add(dep.name, ListedConflict { by, dep })?;
+        self.by_name
+            .add(dep.name, ListedConflict { by, dep, index })?;
         Ok(())
     }
 
     /// Takes the conflicts of the candidate out that was added last. In the clause, `front` is what
     /// the list had for each name before that candidate was added.
     pub fn take_away(&mut self, depends: &Deps<'_>)
-        ensures { (by : ℕ) (front : List ℕ → List (ℕ × Dependency)) →
-            ((name : List ℕ) → items_of self.old.by_name name
+        ensures conflicts { (by : ℕ) (front : List ℕ → List (ℕ × Dependency)) →
+            ((name : List ℕ) → conflicts_in self.old.by_name name
             ≡ front name ++ conflicts_named name by depends.now) →
-            (name : List ℕ) → items_of self.new.by_name name ≡ front name }
+            (name : List ℕ) → conflicts_in self.new.by_name name ≡ front name }
+        ensures listed { (candidates : List Candidate) → AreConflictsOf candidates self.old.by_name
+            → AreConflictsOf candidates self.new.by_name }
     {
         let mut left = depends.len();
         // From the last on, so that each is then the last one of its name.
@@ -111,30 +137,49 @@ impl<'p> Conflicts<'p> {
 
     // Takes the last conflict of the dependency's name out, if the dependency is a conflict.
     fn take_one_away(&mut self, dep: &Dep<'_>)
-        ensures { (by : ℕ) (front : List ℕ → List (ℕ × Dependency)) →
-            ((name : List ℕ) → items_of self.old.by_name name
+        ensures conflicts { (by : ℕ) (front : List ℕ → List (ℕ × Dependency)) →
+            ((name : List ℕ) → conflicts_in self.old.by_name name
             ≡ front name ++ conflicts_named name by (dependency dep.now ∷ [])) →
-            (name : List ℕ) → items_of self.new.by_name name ≡ front name }
+            (name : List ℕ) → conflicts_in self.new.by_name name ≡ front name }
+        ensures listed { (candidates : List Candidate) → AreConflictsOf candidates self.old.by_name
+            → AreConflictsOf candidates self.new.by_name }
     {
         if dep.conflict {
             self.by_name.pop(dep.name);
         }
     }
 
-    /// The first choice that has a conflict of a name which a candidate meets.
-    pub fn choice_against(&self, name: &[u8], details: &Details<'_>) -> Option<CandId>
-        ensures { result ≡ option_map (λ (c : ℕ × Dependency). c.0)
-            (find (λ (c : ℕ × Dependency). meets_dependency c.1 details.now)
-            (items_of self.now.by_name name.now)) }
+    /// The first choice that has a conflict of a name which a candidate meets. What is learnt of
+    /// long versions is kept.
+    ///
+    /// # Errors
+    ///
+    /// Want of memory.
+    pub fn choice_against(
+        &self,
+        name: &[u8],
+        id: CandId,
+        matches: &mut PackageMatches<'_>,
+    ) -> Result<Option<CandId>, AllocError>
+        requires within { id < length (candidates_of_packages matches.old.packages.now) }
+        requires listed { AreConflictsOf (candidates_of_packages matches.old.packages.now)
+            self.now.by_name }
+        requires matches { AreMatchesAmong (candidates_of_packages matches.old.packages.now)
+            matches.old }
+        ensures found { IfOk result (λ found. (details : Candidate)
+            → slice_get (candidates_of_packages matches.old.packages.now) id ≡ Some details
+            → found ≡ option_map (λ (c : ℕ × Dependency). c.0)
+            (find (λ (c : ℕ × Dependency). meets_dependency c.1 details)
+            (conflicts_in self.now.by_name name.now))) }
+        ensures matches { OnOk result (AreMatchesAmong
+            (candidates_of_packages matches.old.packages.now) matches.new) }
     {
-        let found = self
-            .by_name
-            .get(name)
-            .iter()
-            .find(|listed| listed.is_met_by(details));
-        match found {
-            None => None,
-            Some(listed) => Some(listed.by()),
+        for listed in self.by_name.get(name) {
+            let is_met = listed.is_met_by(id, matches)?;
+            if is_met {
+                return Ok(Some(listed.by()));
+            }
         }
+        Ok(None)
     }
 }

@@ -2,6 +2,7 @@
 //! The rule stands in `docs/selection.md`, "How the search works".
 ghost use Rattle.std.specs.Prelude.{◌≡◌, ◌<◌, ◌^◌, ◌≤◌, ◌==◌, not, filter, ℕ, [], ◌∷◌, ◌++◌, false, true, length, IfOk, OnOk, IfSome, MatchOption, None, Some, slice_get};
 ghost use Rattle.candidate_core.specs.Options.{IsIn};
+ghost use Rattle.candidate_core.specs.PackageMatches.{AreMatchesAmong};
 ghost use Rattle.search_tables.specs.Selection.{AreMembers, exclude_each_other, next_need};
 ghost use Rattle.search_tables.specs.Reasons.{AreCompatible, FrameValue, IsReason, HasSameMembers, RulesOut, IsFrameOf, IsSpentFrame, IsFrameTaking, dead_end_reason};
 ghost use Rattle.solve_core.specs.Measure.{weight_of};
@@ -9,7 +10,7 @@ ghost use Rattle.search_choices.specs.Choices.{IsSearch, choices_of, pool_of};
 
 use crate::selection::options_are_as_promised;
 use dep_core::World;
-use pool_core::{CandId, Sealed};
+use pool_core::{CandId, PackageMatches, Sealed};
 use search_choices::{Choices, Trace};
 use search_tables::{CandidateSet, Frame, RuledOutOption};
 use std::alloc::{AllocError, Global};
@@ -67,6 +68,8 @@ pub(crate) struct Search<'p> {
     hints: Vec<Option<Hint>>,
     /// The members of the reason of the latest dead end; the set is used again for the next one.
     reason: CandidateSet,
+    /// What is known of the long versions that conflicts name.
+    matches: PackageMatches<'p>,
 }
 
 impl<'p> Search<'p> {
@@ -80,14 +83,18 @@ impl<'p> Search<'p> {
         ensures search { IfOk result (λ search. IsSearch search.chosen search.turns.items) }
         ensures pool { IfOk result (λ search. pool_of search.chosen ≡ pool.entry.now) }
         ensures none { IfOk result (λ search. search.turns.items ≡ []) }
+        ensures matches { IfOk result (λ search.
+            AreMatchesAmong (pool_of search.chosen).candidates search.matches) }
     {
         let chosen = Choices::new(alloc, pool, world)?;
+        let matches = PackageMatches::new(alloc, pool.packages());
         Ok(Search {
             alloc,
             chosen,
             turns: Vec::new(alloc),
             hints: Vec::new(alloc),
             reason: CandidateSet::new(alloc),
+            matches,
         })
     }
 
@@ -97,6 +104,7 @@ impl<'p> Search<'p> {
         ensures search { IsSearch self.new.chosen self.new.turns.items }
         ensures pool { pool_of self.new.chosen ≡ pool_of self.old.chosen }
         ensures turns { self.new.turns.items ≡ self.old.turns.items }
+        ensures matches { self.new.matches ≡ self.old.matches }
         // The options that are left are fewer than a digit of the measure counts (*base* of
         // `Measure`).
         ensures few { IfOk result (λ found. IfSome found (λ frame. length frame.1 < 2 ^ 64)) }
@@ -118,22 +126,28 @@ impl<'p> Search<'p> {
     }
 
     // The reason against an option, which is no choice yet, if there is one. (A choice would
-    // exclude itself by the names that it occupies.)
-    fn reason_against(&self, id: CandId) -> Result<Option<Vec<CandId>>, AllocError>
-        requires search { IsSearch self.now.chosen self.now.turns.items }
-        requires within { id < length (pool_of self.now.chosen).candidates }
-        requires once { IsIn id (choices_of self.now.chosen) → ⊥ }
-        ensures { IfOk result (λ found. MatchOption found ((other : ℕ) →
-            IsIn other (choices_of self.now.chosen) →
-            exclude_each_other (pool_of self.now.chosen) other id ≡ false)
-            (λ others. RulesOut (pool_of self.now.chosen) (choices_of self.now.chosen) id
+    // exclude itself by the names that it occupies.) What is learnt of long versions is kept.
+    fn reason_against(&mut self, id: CandId) -> Result<Option<Vec<CandId>>, AllocError>
+        requires search { IsSearch self.old.chosen self.old.turns.items }
+        requires within { id < length (pool_of self.old.chosen).candidates }
+        requires once { IsIn id (choices_of self.old.chosen) → ⊥ }
+        requires matches { AreMatchesAmong (pool_of self.old.chosen).candidates self.old.matches }
+        ensures found { IfOk result (λ found. MatchOption found ((other : ℕ) →
+            IsIn other (choices_of self.old.chosen) →
+            exclude_each_other (pool_of self.old.chosen) other id ≡ false)
+            (λ others. RulesOut (pool_of self.old.chosen) (choices_of self.old.chosen) id
             others.items)) }
+        ensures chosen { self.new.chosen ≡ self.old.chosen }
+        ensures turns { self.new.turns.items ≡ self.old.turns.items }
+        ensures matches { OnOk result
+            (AreMatchesAmong (pool_of self.old.chosen).candidates self.new.matches) }
     {
         if let Some(others) = self.ruled_out_with(id) {
             let copy = Vec::from_slice(self.alloc, others)?;
             return Ok(Some(copy));
         }
-        match self.chosen.excluder(id) {
+        let found = self.chosen.excluder(id, &mut self.matches)?;
+        match found {
             None => Ok(None),
             Some(excluder) => {
                 let mut others = Vec::new(self.alloc);
@@ -177,8 +191,11 @@ impl<'p> Search<'p> {
         requires search { IsSearch self.old.chosen self.old.turns.items }
         requires open_now { IsFrameOf (pool_of self.old.chosen)
             (choices_of self.old.chosen) top.old }
+        requires matches { AreMatchesAmong (pool_of self.old.chosen).candidates self.old.matches }
         ensures chosen { self.new.chosen ≡ self.old.chosen }
         ensures turns { self.new.turns.items ≡ self.old.turns.items }
+        ensures matches { OnOk result
+            (AreMatchesAmong (pool_of self.old.chosen).candidates self.new.matches) }
         ensures found { IfOk result (λ found. MatchOption found (IsSpentFrame
             (pool_of self.old.chosen) (choices_of self.old.chosen) top.new)
             (λ id. IsFrameTaking (pool_of self.old.chosen) (choices_of self.old.chosen) top.new id
@@ -216,6 +233,7 @@ impl<'p> Search<'p> {
         ensures pool { pool_of self.new.chosen ≡ pool_of self.old.chosen }
         ensures turns { OnOk result (self.new.turns.items ≡ self.old.turns.items
             ++ (frame, choice) ∷ []) }
+        ensures matches { self.new.matches ≡ self.old.matches }
     {
         self.chosen.push(choice)?;
         self.turns.push(Turn { frame, choice })?;
@@ -229,6 +247,7 @@ impl<'p> Search<'p> {
         requires search { IsSearch self.old.chosen self.old.turns.items }
         requires spent { IsSpentFrame (pool_of self.old.chosen) (choices_of self.old.chosen) spent }
         ensures pool { pool_of self.new.chosen ≡ pool_of self.old.chosen }
+        ensures matches { self.new.matches ≡ self.old.matches }
         ensures found { IfOk result (λ found. MatchOption found (IsReason
             (pool_of self.old.chosen) [])
             (λ frame. IsSearch self.new.chosen self.new.turns.items
@@ -251,6 +270,7 @@ impl<'p> Search<'p> {
         requires within { AreMembers self.old.reason (choices_of self.old.chosen) }
         requires dead { IsReason (pool_of self.old.chosen) self.old.reason }
         ensures pool { pool_of self.new.chosen ≡ pool_of self.old.chosen }
+        ensures matches { self.new.matches ≡ self.old.matches }
         ensures found { IfOk result (λ found. MatchOption found (IsReason
             (pool_of self.old.chosen) [])
             (λ frame. IsSearch self.new.chosen self.new.turns.items

@@ -3,6 +3,7 @@
 //! "How the search works" for the loop.
 ghost use Rattle.std.specs.Prelude.{◌≡◌, ◌<◌, Some, IfOk, length, slice_get, [], List, ℕ, MatchOption};
 ghost use Rattle.candidate_core.specs.Candidates.{Need};
+ghost use Rattle.candidate_core.specs.PackageMatches.{AreMatchesAmong};
 ghost use Rattle.candidate_core.specs.Rank.{SealedPool};
 ghost use Rattle.search_tables.specs.Reasons.{HasOptions};
 ghost use Rattle.search_choices.specs.Choices.{IsSearch, pool_of};
@@ -39,7 +40,8 @@ pub fn solve(alloc: Global, pool: &Sealed<'_>, world: &World) -> Result<Option<T
 // steps back where none is left. The search is borrowed, so that nothing of it has to be given back
 // where the loop ends early.
 fn first_selection(alloc: Global, search: &mut Search<'_>) -> Result<Option<Trace>, AllocError>
-    requires { IsSearch search.old.chosen search.old.turns.items }
+    requires search { IsSearch search.old.chosen search.old.turns.items }
+    requires matches { AreMatchesAmong (pool_of search.old.chosen).candidates search.old.matches }
     ensures { IfOk result (λ found. MatchOption found ((selection : List ℕ) →
         IsSatisfying (pool_of search.old.chosen) selection → ⊥)
         (λ trace. IsFirstSelection (pool_of search.old.chosen) trace)) }

@@ -3,39 +3,82 @@
 //! The rules stand in `docs/selection.md`, "What satisfies world", 2 and 3. In the contracts, None
 //! says for which names or entries no choice excludes the candidate, and all of these together that
 //! none does.
-ghost use Rattle.std.specs.Prelude.{◌≡◌, ◌<◌, ℕ, length, true, false, MatchOption, Some, is_some};
+ghost use Rattle.std.specs.Prelude.{◌≡◌, ◌<◌, ℕ, length, true, false, IfOk, MatchOption, OnOk, Some, is_some, slice_get};
 ghost use Rattle.dep_core.specs.Dependency.{Dependency};
 ghost use Rattle.dep_core.specs.Meets.{dependency};
-ghost use Rattle.candidate_core.specs.Candidates.{entry};
+ghost use Rattle.candidate_core.specs.Candidates.{entry, occupies_name};
 ghost use Rattle.candidate_core.specs.Options.{IsIn};
-ghost use Rattle.candidate_core.specs.Rank.{candidate_at};
+ghost use Rattle.candidate_core.specs.PackageMatches.{AreMatchesAmong};
+ghost use Rattle.candidate_core.specs.Rank.{candidate_at, is_at};
 ghost use Rattle.search_choices.specs.Choices.{IsConsistent, choices_of, pool_of};
+ghost use Rattle.search_tables.specs.Conflicts.{AreConflictsOf};
 ghost use Rattle.search_tables.specs.Excluders.{AreListed, IsExcluder, IsFreeAt};
 ghost use Rattle.search_tables.specs.Selection.{exclude_each_other, is_met, occupied_names};
 
 use super::Choices;
 use dep_core::Dep;
-use pool_core::{CandId, Details, NeedRef};
-use search_tables::{choice_meeting, occupant};
+use pool_core::{CandId, Details, PackageDep, PackageMatches};
+use search_tables::{choice_meeting_held, occupant};
+use std::alloc::AllocError;
 
 impl<'p> Choices<'p> {
-    /// A choice that no satisfying selection holds beside a candidate that is no choice.
-    pub fn excluder(&self, id: CandId) -> Option<CandId>
+    /// A choice that no satisfying selection holds beside a candidate that is no choice. What is
+    /// learnt of long versions is kept.
+    ///
+    /// # Errors
+    ///
+    /// Want of memory.
+    pub fn excluder(
+        &self,
+        id: CandId,
+        matches: &mut PackageMatches<'_>,
+    ) -> Result<Option<CandId>, AllocError>
         requires consistent { IsConsistent self.now }
         requires within { id < length (pool_of self.now).candidates }
         requires once { IsIn id (choices_of self.now) → ⊥ }
-        ensures { MatchOption result ((k : ℕ) → IsIn k (choices_of self.now) →
+        requires matches { AreMatchesAmong (pool_of self.now).candidates matches.old }
+        ensures found { IfOk result (λ found. MatchOption found
+            ((k : ℕ) → IsIn k (choices_of self.now) →
             exclude_each_other (pool_of self.now) k id ≡ false)
-            (λ k. IsExcluder (pool_of self.now) (choices_of self.now) id k) }
+            (λ k. IsExcluder (pool_of self.now) (choices_of self.now) id k)) }
+        ensures matches { OnOk result (AreMatchesAmong (pool_of self.now).candidates matches.new) }
     {
         let details = self.pool.details(id);
-        if let Some(excluder) = self.excluder_at(details.name(), true, &details, id) {
-            return Some(excluder);
+        let by_name = self.excluder_at(details.name(), true, &details, id, matches)?;
+        match by_name {
+            Some(excluder) => Ok(Some(excluder)),
+            None => self.other_excluder(&details, id, matches),
         }
-        if let Some(excluder) = self.excluder_provided(&details, id) {
-            return Some(excluder);
+    }
+
+    // A choice that excludes the candidate, looked for at the names that it provides and among its
+    // conflicts.
+    fn other_excluder(
+        &self,
+        details: &Details<'_>,
+        id: CandId,
+        matches: &mut PackageMatches<'_>,
+    ) -> Result<Option<CandId>, AllocError>
+        requires listed { AreListed (pool_of self.now) (choices_of self.now) self.now.conflicts }
+        requires conflicts { AreConflictsOf (pool_of self.now).candidates
+            self.now.conflicts.by_name }
+        requires here { candidate_at (pool_of self.now) id ≡ Some details.now }
+        requires once { IsIn id (choices_of self.now) → ⊥ }
+        requires matches { AreMatchesAmong (pool_of self.now).candidates matches.old }
+        ensures found { IfOk result (λ found. MatchOption found
+            (((p : Dependency) → IsIn p details.now.provides →
+            p.conflict ≡ false → IsFreeAt (pool_of self.now) (choices_of self.now) details.now
+            p.name (is_some p.version))
+            × ((d : Dependency) → IsIn d details.now.depends →
+            d.conflict ≡ true → is_met (pool_of self.now) (choices_of self.now) (entry d) ≡ false))
+            (λ k. IsExcluder (pool_of self.now) (choices_of self.now) id k)) }
+        ensures matches { OnOk result (AreMatchesAmong (pool_of self.now).candidates matches.new) }
+    {
+        let provided = self.excluder_provided(details, id, matches)?;
+        match provided {
+            Some(excluder) => Ok(Some(excluder)),
+            None => self.excluder_meeting(details, id, matches),
         }
-        self.excluder_meeting(&details, id)
     }
 
     // A choice that has a conflict of a name which the candidate meets, or that occupies the name
@@ -46,18 +89,34 @@ impl<'p> Choices<'p> {
         is_occupied: bool,
         details: &Details<'_>,
         id: CandId,
-    ) -> Option<CandId>
+        matches: &mut PackageMatches<'_>,
+    ) -> Result<Option<CandId>, AllocError>
         requires listed { AreListed (pool_of self.now) (choices_of self.now) self.now.conflicts }
+        requires conflicts { AreConflictsOf (pool_of self.now).candidates
+            self.now.conflicts.by_name }
         requires here { candidate_at (pool_of self.now) id ≡ Some details.now }
         requires once { IsIn id (choices_of self.now) → ⊥ }
         requires occupied { is_occupied ≡ true → IsIn name.now (occupied_names details.now) }
-        ensures { MatchOption result
+        requires matches { AreMatchesAmong (pool_of self.now).candidates matches.old }
+        ensures found { IfOk result (λ found. MatchOption found
             (IsFreeAt (pool_of self.now) (choices_of self.now) details.now name.now is_occupied)
-            (λ k. IsExcluder (pool_of self.now) (choices_of self.now) id k) }
+            (λ k. IsExcluder (pool_of self.now) (choices_of self.now) id k)) }
+        ensures matches { OnOk result (AreMatchesAmong (pool_of self.now).candidates matches.new) }
     {
-        if let Some(excluder) = self.conflicts.choice_against(name, details) {
-            return Some(excluder);
+        let against = self.conflicts.choice_against(name, id, matches)?;
+        match against {
+            Some(excluder) => Ok(Some(excluder)),
+            None => Ok(self.occupant_at(name, is_occupied)),
         }
+    }
+
+    // A choice that occupies a name, where `is_occupied`.
+    fn occupant_at(&self, name: &[u8], is_occupied: bool) -> Option<CandId>
+        ensures { MatchOption result (is_occupied ≡ true → (k : ℕ) →
+            IsIn k (choices_of self.now) → is_at (pool_of self.now) (occupies_name name.now) k
+            ≡ false) (λ k. (is_occupied ≡ true) × IsIn k (choices_of self.now)
+            × (is_at (pool_of self.now) (occupies_name name.now) k ≡ true)) }
+    {
         if is_occupied {
             return occupant(self.pool, &self.choices, name);
         }
@@ -66,23 +125,34 @@ impl<'p> Choices<'p> {
 
     // A choice that excludes the candidate at the name of one of its entries of provides: that has
     // a conflict which the entry meets, or that occupies the name where the entry has a version.
-    fn excluder_provided(&self, details: &Details<'_>, id: CandId) -> Option<CandId>
+    fn excluder_provided(
+        &self,
+        details: &Details<'_>,
+        id: CandId,
+        matches: &mut PackageMatches<'_>,
+    ) -> Result<Option<CandId>, AllocError>
         requires listed { AreListed (pool_of self.now) (choices_of self.now) self.now.conflicts }
+        requires conflicts { AreConflictsOf (pool_of self.now).candidates
+            self.now.conflicts.by_name }
         requires here { candidate_at (pool_of self.now) id ≡ Some details.now }
         requires once { IsIn id (choices_of self.now) → ⊥ }
-        ensures { MatchOption result ((p : Dependency) → IsIn p details.now.provides →
+        requires matches { AreMatchesAmong (pool_of self.now).candidates matches.old }
+        ensures found { IfOk result (λ found. MatchOption found
+            ((p : Dependency) → IsIn p details.now.provides →
             p.conflict ≡ false → IsFreeAt (pool_of self.now) (choices_of self.now) details.now
             p.name (is_some p.version))
-            (λ k. IsExcluder (pool_of self.now) (choices_of self.now) id k) }
+            (λ k. IsExcluder (pool_of self.now) (choices_of self.now) id k)) }
+        ensures matches { OnOk result (AreMatchesAmong (pool_of self.now).candidates matches.new) }
     {
         let provides = details.provides();
         for i in 0..provides.len() {
-            match self.excluder_of_entry(&provides.get(i), details, id) {
-                Some(excluder) => return Some(excluder),
+            let found = self.excluder_of_entry(&provides.get(i), details, id, matches)?;
+            match found {
+                Some(excluder) => return Ok(Some(excluder)),
                 None => {}
             }
         }
-        None
+        Ok(None)
     }
 
     // A choice that excludes the candidate at the name of this entry of its provides; an entry that
@@ -92,57 +162,83 @@ impl<'p> Choices<'p> {
         entry: &Dep<'_>,
         details: &Details<'_>,
         id: CandId,
-    ) -> Option<CandId>
+        matches: &mut PackageMatches<'_>,
+    ) -> Result<Option<CandId>, AllocError>
         requires listed { AreListed (pool_of self.now) (choices_of self.now) self.now.conflicts }
+        requires conflicts { AreConflictsOf (pool_of self.now).candidates
+            self.now.conflicts.by_name }
         requires here { candidate_at (pool_of self.now) id ≡ Some details.now }
         requires once { IsIn id (choices_of self.now) → ⊥ }
         requires provided { IsIn (dependency entry.now) details.now.provides }
-        ensures { MatchOption result ((dependency entry.now).conflict ≡ false →
+        requires matches { AreMatchesAmong (pool_of self.now).candidates matches.old }
+        ensures found { IfOk result (λ found. MatchOption found
+            ((dependency entry.now).conflict ≡ false →
             IsFreeAt (pool_of self.now) (choices_of self.now) details.now
             (dependency entry.now).name (is_some (dependency entry.now).version))
-            (λ k. IsExcluder (pool_of self.now) (choices_of self.now) id k) }
+            (λ k. IsExcluder (pool_of self.now) (choices_of self.now) id k)) }
+        ensures matches { OnOk result (AreMatchesAmong (pool_of self.now).candidates matches.new) }
     {
         if entry.conflict {
-            return None;
+            return Ok(None);
         }
-        self.excluder_at(entry.name, entry.version.is_some(), details, id)
+        self.excluder_at(entry.name, entry.version.is_some(), details, id, matches)
     }
 
     // A choice that meets a conflict which the candidate has.
-    fn excluder_meeting(&self, details: &Details<'_>, id: CandId) -> Option<CandId>
+    fn excluder_meeting(
+        &self,
+        details: &Details<'_>,
+        id: CandId,
+        matches: &mut PackageMatches<'_>,
+    ) -> Result<Option<CandId>, AllocError>
         requires here { candidate_at (pool_of self.now) id ≡ Some details.now }
         requires once { IsIn id (choices_of self.now) → ⊥ }
-        ensures { MatchOption result ((d : Dependency) → IsIn d details.now.depends →
+        requires matches { AreMatchesAmong (pool_of self.now).candidates matches.old }
+        ensures found { IfOk result (λ found. MatchOption found
+            ((d : Dependency) → IsIn d details.now.depends →
             d.conflict ≡ true → is_met (pool_of self.now) (choices_of self.now) (entry d) ≡ false)
-            (λ k. IsExcluder (pool_of self.now) (choices_of self.now) id k) }
+            (λ k. IsExcluder (pool_of self.now) (choices_of self.now) id k)) }
+        ensures matches { OnOk result (AreMatchesAmong (pool_of self.now).candidates matches.new) }
     {
         let depends = details.depends();
         for i in 0..depends.len() {
-            match self.excluder_meeting_one(&depends.get(i), details, id) {
-                Some(excluder) => return Some(excluder),
+            let found = self.excluder_meeting_one(&depends.get(i), i, details, id, matches)?;
+            match found {
+                Some(excluder) => return Ok(Some(excluder)),
                 None => {}
             }
         }
-        None
+        Ok(None)
     }
 
-    // A choice that meets this dependency of the candidate, where the dependency is a conflict.
+    // A choice that meets the dependency which the candidate has at an index, where the dependency
+    // is a conflict.
     fn excluder_meeting_one(
         &self,
         dep: &Dep<'_>,
+        index: usize,
         details: &Details<'_>,
         id: CandId,
-    ) -> Option<CandId>
+        matches: &mut PackageMatches<'_>,
+    ) -> Result<Option<CandId>, AllocError>
         requires here { candidate_at (pool_of self.now) id ≡ Some details.now }
         requires once { IsIn id (choices_of self.now) → ⊥ }
-        requires depends { IsIn (dependency dep.now) details.now.depends }
-        ensures { MatchOption result ((dependency dep.now).conflict ≡ true →
+        requires depends { slice_get details.now.depends index ≡ Some (dependency dep.now) }
+        requires matches { AreMatchesAmong (pool_of self.now).candidates matches.old }
+        ensures found { IfOk result (λ found. MatchOption found
+            ((dependency dep.now).conflict ≡ true →
             is_met (pool_of self.now) (choices_of self.now) (entry (dependency dep.now)) ≡ false)
-            (λ k. IsExcluder (pool_of self.now) (choices_of self.now) id k) }
+            (λ k. IsExcluder (pool_of self.now) (choices_of self.now) id k)) }
+        ensures matches { OnOk result (AreMatchesAmong (pool_of self.now).candidates matches.new) }
     {
         if !dep.conflict {
-            return None;
+            return Ok(None);
         }
-        choice_meeting(self.pool, &self.choices, &NeedRef::Entry(dep))
+        let held = PackageDep {
+            dep,
+            package: id.place as usize,
+            index,
+        };
+        choice_meeting_held(self.pool, &self.choices, &held, matches)
     }
 }

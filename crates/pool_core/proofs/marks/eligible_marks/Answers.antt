@@ -16,5 +16,5 @@ returns c =
     let conflicts : List Dependency = map dependency c.args.conflicts.now in
     if_ok c.opposite_marks.result (λ (marks : Vec Bool Global). marks.items ≡ map not c.deref.result.now)
     (λ (marks : Vec Bool Global). marks.items ≡ map (λ (one : Candidate). is_allowed tagged one && not (is_barred_by conflicts one)) cs)
-    (λ marks h. h ∙ (ap (map not) c.deref.ensures.value ∙ eligible_by_marks tagged conflicts cs c.in_ok-ineligible.ineligible.items c.mark_affected.new.marks.items c.in_ok-ineligible.ensures c.mark_affected.ensures))
+    (λ marks h. h ∙ (ap (map not) c.deref.ensures.value ∙ eligible_by_marks tagged conflicts cs c.in_ok-ineligible.ineligible.items c.mark_affected.new.marks.items c.in_ok-ineligible.ensures c.in_ok-mark_affected.ensures))
     c.opposite_marks.ensures

@@ -25,7 +25,7 @@ loop-entry-preserved c =
     let before : List Dependency = map dependency (take i c.args.entries.now) in
     let more : map dependency (take (i + 1) c.args.entries.now) ≡ before ++ d ∷ [] =
     ap (map dependency) (take_more c.args.entries.now i c.entry-item.result (omega arith)) ∙ (map-snoc dependency (take i c.args.entries.now) _ ∙ ap (λ (e : Dependency). before ++ e ∷ []) (sym (ap dependency c.entry-item.is))) in
-    c.mark_among.ensures
+    c.in_ok-mark_among.ensures
     ∙ (ap (λ (z : List Bool). marks_with (affects c.args.effect d) z cs) c.loop-entry.invariant
     ∙ (one_entry_more c.args.effect before d ms cs
     ∙ ap (λ (ds : List Dependency). marks_with (is_affected c.args.effect ds) ms cs) (sym more)))

@@ -1,4 +1,4 @@
-use Rattle.std.proofs.Common.{◌≡◌, ◌∙◌, ◌≤◌, ◌+◌, ◌++◌, ◌∷◌, [], List, ℕ, Bool, length, take, sym, ap, subst, arith}
+use Rattle.std.proofs.Common.{◌≡◌, ◌∙◌, ◌≤◌, ◌+◌, ◌++◌, ◌∷◌, [], List, ℕ, Bool, length, take, refl, sym, ap, subst, arith}
 use Rattle.std.proofs.lemmas.List.{take_all, take_more}
 use Rattle.dep_core.specs.Dependency.{Dependency}
 use Rattle.dep_core.specs.Meets.{dependency}
@@ -6,10 +6,17 @@ use Rattle.candidate_core.specs.Candidates.{Candidate, offers_name}
 use Rattle.pool_core.specs.Marks.{affects, mark_at}
 use Rattle.candidate_core.specs.Options.{IsIn}
 use Rattle.candidate_core.specs.Packages.{candidates_of_packages}
+use Rattle.candidate_core.specs.VersionTexts.{source_text}
 use Rattle.pool_core.proofs.MarksThroughTable.{length-marks_among, marks_among, marks_among-snoc, marks_at_offers}
 use Rattle.candidate_core.proofs.OfferLists.{places_below}
 use Rattle.candidate_core.proofs.Steps.{member_at}
 use Rattle.pool_core.proofs.marks.mark_among.Goals as goal
+
+pub loop-id-init : goal.loop-id-init
+loop-id-init c = record {
+  marks = refl;
+  known = c.new-known.ensures (source_text c.args.packages.now.sources.items) (dependency c.args.entry.now);
+}
 
 pub mark_one-requires-clause-within : goal.mark_one-requires-clause-within
 mark_one-requires-clause-within c =
@@ -22,7 +29,7 @@ mark_one-requires-clause-within c =
 pub mark_one-requires-clause-each : goal.mark_one-requires-clause-each
 mark_one-requires-clause-each c =
     let d : Dependency = dependency c.args.entry.now in
-    ap length c.loop-id.invariant ∙ (length-marks_among (affects c.args.effect d) (take c.loop-id.id-index c.args.ids.now) c.args.marks.now.items (candidates_of_packages c.args.packages.now) ∙ c.requires.each)
+    ap length c.loop-id.invariant.marks ∙ (length-marks_among (affects c.args.effect d) (take c.loop-id.id-index c.args.ids.now) c.args.marks.now.items (candidates_of_packages c.args.packages.now) ∙ c.requires.each)
 
 pub loop-id-preserved : goal.loop-id-preserved
 loop-id-preserved c =
@@ -32,16 +39,19 @@ loop-id-preserved c =
     let i : ℕ = c.loop-id.id-index in
     let id : ℕ = c.id-item.result in
     let more : take (i + 1) ids ≡ take i ids ++ id ∷ [] = take_more ids i id (omega arith) ∙ ap (λ (k : ℕ). take i ids ++ k ∷ []) (sym c.id-item.is) in
-    c.mark_one.ensures
-    ∙ (ap (λ (ms : List Bool). mark_at (affects c.args.effect d) id ms cs) c.loop-id.invariant
-    ∙ (sym (marks_among-snoc (affects c.args.effect d) (take i ids) id c.args.marks.now.items cs)
-    ∙ ap (λ (ks : List ℕ). marks_among (affects c.args.effect d) ks c.args.marks.now.items cs) (sym more)))
+    record {
+      marks = c.in_ok-mark_one.ensures.marks
+          ∙ (ap (λ (ms : List Bool). mark_at (affects c.args.effect d) id ms cs) c.loop-id.invariant.marks
+          ∙ (sym (marks_among-snoc (affects c.args.effect d) (take i ids) id c.args.marks.now.items cs)
+          ∙ ap (λ (ks : List ℕ). marks_among (affects c.args.effect d) ks c.args.marks.now.items cs) (sym more)));
+      known = c.in_ok-mark_one.ensures.known;
+    }
 
 pub returns : goal.returns
 returns c =
     let cs : List Candidate = candidates_of_packages c.args.packages.now in
     let d : Dependency = dependency c.args.entry.now in
     let past : length c.args.ids.now ≤ c.loop-id.id-index = omega arith in
-    c.loop-id.invariant
+    c.loop-id.invariant.marks
     ∙ (ap (λ (ks : List ℕ). marks_among (affects c.args.effect d) ks c.args.marks.now.items cs) (take_all c.loop-id.id-index c.args.ids.now past ∙ c.requires.offers)
     ∙ marks_at_offers c.args.effect d c.args.marks.now.items cs c.requires.each)

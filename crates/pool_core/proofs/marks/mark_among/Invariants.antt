@@ -1,10 +1,15 @@
+-- The marks so far, and what is kept of versions is right.
 use Rattle.std.proofs.Common.{◌≡◌, take}
 use Rattle.dep_core.specs.Meets.{dependency}
 use Rattle.pool_core.specs.Marks.{affects}
+use Rattle.candidate_core.specs.Matches.{AreMatchesOf}
 use Rattle.candidate_core.specs.Packages.{candidates_of_packages}
+use Rattle.candidate_core.specs.VersionTexts.{source_text}
 use Rattle.pool_core.proofs.MarksThroughTable.{marks_among}
 use Rattle.pool_core.proofs.marks.mark_among.Given as goal
 
 abbrev pub invariant-loop-id : goal.invariant-loop-id
-invariant-loop-id l =
-    l.marks.items ≡ marks_among (affects l.effect (dependency l.entry)) (take l.id-index l.ids) l.initial.marks.items (candidates_of_packages l.packages)
+invariant-loop-id l = record {
+  marks : l.marks.items ≡ marks_among (affects l.effect (dependency l.entry)) (take l.id-index l.ids) l.initial.marks.items (candidates_of_packages l.packages);
+  known : AreMatchesOf (source_text l.packages.sources.items) (dependency l.entry) l.known;
+}

@@ -8,19 +8,17 @@ use Rattle.candidate_core.specs.Packages.{candidates_of_packages}
 use Rattle.pool_core.proofs.MarksThroughTable.{mark_at-failed, mark_at-passed}
 use Rattle.pool_core.proofs.marks.mark_one.Goals as goal
 
-pub returns-then-not-affects : goal.returns-then-not-affects
-returns-then-not-affects c =
+pub returns-then-not-is_affected-clause-marks : goal.returns-then-not-is_affected-clause-marks
+returns-then-not-is_affected-clause-marks c =
     let cs : List Candidate = candidates_of_packages c.args.packages.now in
-    let place : ℕ = c.id.inside.place in
-    let one : Candidate = c.get.result in
-    let there : slice_get cs c.args.id ≡ Some one = subst (λ (n : ℕ). slice_get cs n ≡ Some one) c.id.view_is c.get.ensures in
-    sym (mark_at-failed (affects c.args.effect (dependency c.args.entry.now)) c.args.id c.args.marks.now.items cs one there (sym c.affects.ensures ∙ c.if-not-affects.true))
+    let one : Candidate = c.get-one.result in
+    let there : slice_get cs c.args.id ≡ Some one = subst (λ (n : ℕ). slice_get cs n ≡ Some one) c.id.view_is c.get-one.ensures in
+    sym (mark_at-failed (affects c.args.effect (dependency c.args.entry.now)) c.args.id c.args.marks.now.items cs one there (sym c.in_ok-is_affected.ensures.affects ∙ c.if-not-is_affected.true))
 
-pub returns : goal.returns
-returns c =
+pub returns-clause-marks : goal.returns-clause-marks
+returns-clause-marks c =
     let cs : List Candidate = candidates_of_packages c.args.packages.now in
     let ms : List Bool = c.args.marks.now.items in
-    let place : ℕ = c.id.inside.place in
-    let one : Candidate = c.get.result in
-    let there : slice_get cs c.args.id ≡ Some one = subst (λ (n : ℕ). slice_get cs n ≡ Some one) c.id.view_is c.get.ensures in
-    ap (λ (n : ℕ). set ms n true) c.id.view_is ∙ sym (mark_at-passed (affects c.args.effect (dependency c.args.entry.now)) c.args.id ms cs one there (sym c.affects.ensures ∙ c.if-not-affects.false) c.requires.each)
+    let one : Candidate = c.get-one.result in
+    let there : slice_get cs c.args.id ≡ Some one = subst (λ (n : ℕ). slice_get cs n ≡ Some one) c.id.view_is c.get-one.ensures in
+    ap (λ (n : ℕ). set ms n true) c.id.view_is ∙ sym (mark_at-passed (affects c.args.effect (dependency c.args.entry.now)) c.args.id ms cs one there (sym c.in_ok-is_affected.ensures.affects ∙ c.if-not-is_affected.false) c.requires.each)

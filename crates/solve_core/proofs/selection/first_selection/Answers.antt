@@ -1,5 +1,7 @@
-use Rattle.std.proofs.Common.{◌≡◌, ◌<◌, ◌≤◌, ◌^◌, ◌∙◌, ◌∷◌, ◌++◌, [], ℕ, List, length, subst, sym, ap, arith}
+use Rattle.std.proofs.Common.{◌≡◌, ◌<◌, ◌≤◌, ◌^◌, ◌∙◌, ◌∷◌, ◌++◌, [], ℕ, List, length, refl, subst, sym, ap, arith}
+use Rattle.candidate_core.specs.PackageMatches.{AreMatchesAmong}
 use Rattle.candidate_core.specs.Rank.{SealedPool}
+use Rattle.candidate_core.specs.declared.package_matches.PackageMatches.{PackageMatches}
 use Rattle.search_tables.specs.Selection.{IsFirstSelection}
 use Rattle.search_choices.specs.Choices.{choices_of, pool_of}
 use Rattle.search_choices.specs.declared.choices.Choices.{Choices}
@@ -62,3 +64,40 @@ loop-top-smaller c =
     subst (λ (z : List (FrameValue × ℕ)). weight_of c.step_back.new.self.turns.items c.in-Some-4.frame < weight_of z c.next_option.new.top) c.next_option.ensures.turns back in
     let top : weight_of turns c.next_option.new.top ≤ weight_of turns c.loop-top.top = not_heavier turns c.next_option.new.top c.loop-top.top (few_turns (length turns) few) fewer in
     omega (arith, lighter, top)
+
+pub loop-top-init : goal.loop-top-init
+loop-top-init c = record {
+  pool = refl;
+  matches = subst (λ (p : SealedPool). AreMatchesAmong p.candidates c.next_frame.new.self.matches) (sym c.next_frame.ensures.pool)
+      (subst (λ (m : PackageMatches). AreMatchesAmong (pool_of c.args.search.now.chosen).candidates m) (sym c.next_frame.ensures.matches) c.requires.matches);
+  search = c.next_frame.ensures.search;
+  open_now = rw c.in-Some.is at c.in_ok-frame.ensures.frame;
+}
+
+pub next_option-requires-clause-matches : goal.next_option-requires-clause-matches
+next_option-requires-clause-matches c =
+    subst (λ (p : SealedPool). AreMatchesAmong p.candidates c.loop-top.search.matches) (sym c.loop-top.invariant.pool) c.loop-top.invariant.matches
+
+pub loop-top-preserved-in-Some-2 : goal.loop-top-preserved-in-Some-2
+loop-top-preserved-in-Some-2 c =
+    let same : c.next_frame-in-Some-2.new.self.matches ≡ c.next_option.new.self.matches = c.next_frame-in-Some-2.ensures.matches ∙ c.choose.ensures.matches in
+    let initial : SealedPool = pool_of c.next_frame.new.self.chosen in
+    record {
+      pool = c.next_frame-in-Some-2.ensures.pool ∙ (c.choose.ensures.pool ∙ (ap pool_of c.next_option.ensures.chosen ∙ c.loop-top.invariant.pool));
+      matches = subst (λ (m : PackageMatches). AreMatchesAmong initial.candidates m) (sym same)
+          (subst (λ (p : SealedPool). AreMatchesAmong p.candidates c.next_option.new.self.matches) c.loop-top.invariant.pool c.in_ok-id.ensures.matches);
+      search = c.next_frame-in-Some-2.ensures.search;
+      open_now = rw c.in-Some-3.is at c.in_ok-frame-in-Some-2.ensures.frame;
+    }
+
+pub loop-top-preserved : goal.loop-top-preserved
+loop-top-preserved c =
+    let initial : SealedPool = pool_of c.next_frame.new.self.chosen in
+    let back = rw c.in-Some-4.is at c.in_ok-frame-in-None.ensures.found in
+    record {
+      pool = c.step_back.ensures.pool ∙ (ap pool_of c.next_option.ensures.chosen ∙ c.loop-top.invariant.pool);
+      matches = subst (λ (m : PackageMatches). AreMatchesAmong initial.candidates m) (sym c.step_back.ensures.matches)
+          (subst (λ (p : SealedPool). AreMatchesAmong p.candidates c.next_option.new.self.matches) c.loop-top.invariant.pool c.in_ok-id.ensures.matches);
+      search = back.0;
+      open_now = back.1;
+    }

@@ -1,4 +1,5 @@
 use Rattle.std.proofs.Common.{◌≡◌}
+use Rattle.candidate_core.specs.PackageMatches.{AreMatchesAmong}
 use Rattle.search_choices.specs.Choices.{IsSearch, choices_of, pool_of}
 use Rattle.search_tables.specs.Reasons.{IsFrameOf}
 use Rattle.solve_core.specs.Measure.{weight_of}
@@ -7,6 +8,7 @@ use Rattle.solve_core.proofs.selection.first_selection.Given as goal
 abbrev pub invariant-loop-top : goal.invariant-loop-top
 invariant-loop-top l = record {
   pool : pool_of l.search.chosen ≡ pool_of l.initial.search.chosen;
+  matches : AreMatchesAmong (pool_of l.initial.search.chosen).candidates l.search.matches;
   search : IsSearch l.search.chosen l.search.turns.items;
   open_now : IsFrameOf (pool_of l.search.chosen) (choices_of l.search.chosen) l.top;
 }

@@ -1,5 +1,4 @@
 use Rattle.std.proofs.Common.{◌∙◌, ap}
-use Rattle.dep_core.specs.Dependency.{Dependency}
 use Rattle.dep_core.specs.Meets.{dependency}
 use Rattle.candidate_core.specs.Matches.{is_wanted_by}
 use Rattle.candidate_core.proofs.WantedVersions.{read_text, wanted_by_name}

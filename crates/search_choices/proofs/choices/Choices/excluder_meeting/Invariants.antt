@@ -1,10 +1,15 @@
+-- No choice meets a conflict so far, and what is kept of versions is right.
 use Rattle.std.proofs.Common.{◌≡◌, false, true, take}
 use Rattle.dep_core.specs.Dependency.{Dependency}
 use Rattle.candidate_core.specs.Candidates.{entry}
 use Rattle.candidate_core.specs.Options.{IsIn}
+use Rattle.candidate_core.specs.PackageMatches.{AreMatchesAmong}
 use Rattle.search_choices.specs.Choices.{choices_of, pool_of}
 use Rattle.search_tables.specs.Selection.{is_met}
 use Rattle.search_choices.proofs.choices.Choices.excluder_meeting.Given as goal
 
 abbrev pub invariant-loop-i : goal.invariant-loop-i
-invariant-loop-i l = (d : Dependency) → IsIn d (take l.i l.depends) → d.conflict ≡ true → is_met (pool_of l.self) (choices_of l.self) (entry d) ≡ false
+invariant-loop-i l = record {
+  unmet : (d : Dependency) → IsIn d (take l.i l.depends) → d.conflict ≡ true → is_met (pool_of l.self) (choices_of l.self) (entry d) ≡ false;
+  matches : AreMatchesAmong (pool_of l.self).candidates l.matches;
+}

@@ -10,7 +10,10 @@ use Rattle.search_tables.proofs.Offered.{each_all, each_on}
 use Rattle.search_choices.proofs.choices.Choices.excluder_provided.Goals as goal
 
 pub loop-i-init : goal.loop-i-init
-loop-i-init c = λ p h. absurd h
+loop-i-init c = record {
+  free = λ p h. absurd h;
+  matches = c.requires.matches;
+}
 
 pub excluder_of_entry-requires-clause-provided : goal.excluder_of_entry-requires-clause-provided
 excluder_of_entry-requires-clause-provided c =
@@ -19,11 +22,18 @@ excluder_of_entry-requires-clause-provided c =
 pub loop-i-preserved : goal.loop-i-preserved
 loop-i-preserved c =
     let P : Dependency → Type 0 = λ p. p.conflict ≡ false → IsFreeAt (pool_of c.args.self.now) (choices_of c.args.self.now) c.args.details.now p.name (is_some p.version) in
-    each_on P c.provides-provides.result c.loop-i.i (dependency c.get.result) c.get.ensures c.loop-i.invariant c.in-None.ensures
+    let one : P (dependency c.get.result) = rw c.in-None.is at c.in_ok-found.ensures.found in
+    record {
+      free = each_on P c.provides-provides.result c.loop-i.i (dependency c.get.result) c.get.ensures c.loop-i.invariant.free one;
+      matches = c.in_ok-found.ensures.matches;
+    }
 
-pub returns : goal.returns
-returns c =
+pub returns-in-Some-clause-found : goal.returns-in-Some-clause-found
+returns-in-Some-clause-found c = rw c.in-Some.is at c.in_ok-found.ensures.found
+
+pub returns-clause-found : goal.returns-clause-found
+returns-clause-found c =
     let P : Dependency → Type 0 = λ p. p.conflict ≡ false → IsFreeAt (pool_of c.args.self.now) (choices_of c.args.self.now) c.args.details.now p.name (is_some p.version) in
     let deps : List Dependency = c.provides-provides.result in
     let past : length deps ≤ c.loop-i.i = omega arith in
-    λ p h. each_all P deps c.loop-i.i past c.loop-i.invariant p (subst (λ (z : List Dependency). IsIn p z) (sym c.provides-provides.ensures) h)
+    λ p h. each_all P deps c.loop-i.i past c.loop-i.invariant.free p (subst (λ (z : List Dependency). IsIn p z) (sym c.provides-provides.ensures) h)

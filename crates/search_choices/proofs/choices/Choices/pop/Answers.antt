@@ -24,7 +24,7 @@ returns-in-Some-clause-consistent c =
     c.truncate.ensures.items ∙ (ap (take before.queue_len) (ap (λ (z : Choices). z.queue.items) others ∙ (c.requires.queue ∙ (ap (queue_of pool) less.2 ∙ queue_more pool rest less.1))) ∙ take_front (queue_of pool rest) (raised_deps_at pool less.1) before.queue_len less.4.0) in
     let front : (k : ℕ) → IsIn k rest → IsIn k old = λ k h. subst (λ (z : List ℕ). IsIn k z) (sym less.2) (in_left k rest (less.1 ∷ []) h) in
     consistent_by c.args.self.now _ rest (record { pool = ap pool_of others; choices = is; install_ifs = ap (λ (z : Choices). z.install_ifs) others }) c.requires.install_ifs
-    (λ k h. c.requires.within k (front k h)) queue less.4.1 less.4.2 (c.take_conflicts_away.ensures.listed rest less.1 less.2)
+    (λ k h. c.requires.within k (front k h)) queue less.4.1 less.4.2 (c.take_conflicts_away.ensures.listed rest less.1 less.2) (c.take_conflicts_away.ensures.conflicts pool.candidates c.requires.conflicts)
     (subst (λ (z : List Checkpoint). AreCheckpoints pool order [] rest z) (sym (ap (λ (z : Choices). z.checkpoints.items) others)) less.3)
 
 pub returns-in-Some-clause-pool : goal.returns-in-Some-clause-pool

@@ -21,4 +21,4 @@ returns-clause-consistent c =
     c.requires.consistent.install_ifs c.details-details.ensures c.requires.consistent.unasked c.least_rank_asking-self.ensures.less
     (λ name rank offers waits low. subst (λ (z : List ℕ). rank_asks pool z order rank ≡ false) c.in_ok-push-2.ensures (c.least_rank_asking-self.ensures.unasked name rank offers waits low)) in
     consistent_more c.args.self.now _ c.args.id deps _ c.requires.consistent c.requires.within is (record { pool = refl; choices = c.in_ok-push-2.ensures; install_ifs = refl }) c.in_ok-queue_all.ensures refl c.in_ok-push.ensures.items
-    (omega (arith, c.len.ensures, c.args.self.now.queue.ok)) refl refl unasked c.in_ok-add.ensures
+    (omega (arith, c.len.ensures, c.args.self.now.queue.ok)) refl refl unasked c.in_ok-add.ensures.conflicts c.in_ok-add.ensures.listed

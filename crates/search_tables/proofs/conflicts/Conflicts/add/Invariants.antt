@@ -1,7 +1,10 @@
 use Rattle.std.proofs.Common.{◌≡◌, ◌++◌, ℕ, List, take}
-use Rattle.search_tables.specs.Conflicts.{conflicts_named}
-use Rattle.search_tables.specs.NameTable.{items_of}
+use Rattle.candidate_core.specs.Candidates.{Candidate}
+use Rattle.search_tables.specs.Conflicts.{AreConflictsOf, HasDepends, conflicts_in, conflicts_named}
 use Rattle.search_tables.proofs.conflicts.Conflicts.add.Given as goal
 
 abbrev pub invariant-loop-i : goal.invariant-loop-i
-invariant-loop-i l = (name : List ℕ) → items_of l.self.by_name name ≡ items_of l.initial.self.by_name name ++ conflicts_named name l.by (take l.i l.depends)
+invariant-loop-i l = record {
+  conflicts : (name : List ℕ) → conflicts_in l.self.by_name name ≡ conflicts_in l.initial.self.by_name name ++ conflicts_named name l.by (take l.i l.depends);
+  listed : (candidates : List Candidate) → HasDepends candidates l.by l.depends → AreConflictsOf candidates l.initial.self.by_name → AreConflictsOf candidates l.self.by_name;
+}

@@ -1,13 +1,14 @@
 use Rattle.std.proofs.Common.{◌≡◌, ◌≤◌, ◌++◌, ℕ, List, length, take}
 use Rattle.dep_core.specs.Dependency.{Dependency}
-use Rattle.search_tables.specs.Conflicts.{conflicts_named}
-use Rattle.search_tables.specs.NameTable.{items_of}
+use Rattle.candidate_core.specs.Candidates.{Candidate}
+use Rattle.search_tables.specs.Conflicts.{AreConflictsOf, conflicts_in, conflicts_named}
 use Rattle.search_tables.proofs.conflicts.Conflicts.take_away.Given as goal
 
 abbrev pub invariant-loop-left : goal.invariant-loop-left
 invariant-loop-left l = record {
   within : l.left ≤ length l.depends;
-  front : (by : ℕ) (front : List ℕ → List (ℕ × Dependency)) → ((name : List ℕ) → items_of l.initial.self.by_name name ≡ front name ++ conflicts_named name by l.depends) → (name : List ℕ) → items_of l.self.by_name name ≡ front name ++ conflicts_named name by (take l.left l.depends);
+  front : (by : ℕ) (front : List ℕ → List (ℕ × Dependency)) → ((name : List ℕ) → conflicts_in l.initial.self.by_name name ≡ front name ++ conflicts_named name by l.depends) → (name : List ℕ) → conflicts_in l.self.by_name name ≡ front name ++ conflicts_named name by (take l.left l.depends);
+  listed : (candidates : List Candidate) → AreConflictsOf candidates l.initial.self.by_name → AreConflictsOf candidates l.self.by_name;
 }
 
 abbrev pub decreases-loop-left : goal.decreases-loop-left

@@ -1,4 +1,5 @@
 use Rattle.std.proofs.Common.{◌≡◌, ◌≤◌, length}
+use Rattle.candidate_core.specs.PackageMatches.{AreMatchesAmong}
 use Rattle.search_choices.specs.Choices.{IsSearch, choices_of, pool_of}
 use Rattle.search_tables.specs.Reasons.{IsFrameOf}
 use Rattle.solve_core.proofs.search.Search.next_option.Given as goal
@@ -9,6 +10,7 @@ invariant-loop-id l = record {
   turns : l.self.turns.items ≡ l.initial.self.turns.items;
   search : IsSearch l.self.chosen l.self.turns.items;
   open_now : IsFrameOf (pool_of l.self.chosen) (choices_of l.self.chosen) l.top;
+  matches : AreMatchesAmong (pool_of l.initial.self.chosen).candidates l.self.matches;
   fewer : length l.top.1 ≤ length l.initial.top.1;
 }
 

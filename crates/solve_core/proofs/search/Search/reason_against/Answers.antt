@@ -3,5 +3,5 @@ use Rattle.search_tables.specs.Reasons.{RulesOut}
 use Rattle.search_choices.specs.Choices.{pool_of, choices_of}
 use Rattle.solve_core.proofs.search.Search.reason_against.Goals as goal
 
-pub returns-in-Some : goal.returns-in-Some
-returns-in-Some c = subst (λ (z : List ℕ). RulesOut (pool_of c.args.self.now.chosen) (choices_of c.args.self.now.chosen) c.args.id z) (sym c.in_ok-copy.ensures.items) c.in-Some.ensures
+pub returns-in-Some-clause-found : goal.returns-in-Some-clause-found
+returns-in-Some-clause-found c = subst (λ (z : List ℕ). RulesOut (pool_of c.args.self.now.chosen) (choices_of c.args.self.now.chosen) c.args.id z) (sym c.in_ok-copy.ensures.items) c.in-Some.ensures

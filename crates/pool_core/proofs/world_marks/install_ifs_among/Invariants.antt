@@ -1,7 +1,7 @@
 use Rattle.std.proofs.Common.{◌≡◌, take}
 use Rattle.candidate_core.specs.PositiveInstallIfs.{places_marked}
 use Rattle.candidate_core.specs.Packages.{candidates_of_packages}
-use Rattle.pool_core.proofs.sealed.install_ifs_among.Given as goal
+use Rattle.pool_core.proofs.world_marks.install_ifs_among.Given as goal
 
 abbrev pub invariant-loop-place : goal.invariant-loop-place
 invariant-loop-place l = l.ids.items ≡ places_marked 0 (take l.place l.eligible) (take l.place (candidates_of_packages l.packages))

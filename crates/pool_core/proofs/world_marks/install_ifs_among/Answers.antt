@@ -4,7 +4,7 @@ use Rattle.candidate_core.specs.Candidates.{Candidate}
 use Rattle.candidate_core.specs.PositiveInstallIfs.{places_marked}
 use Rattle.candidate_core.specs.Packages.{candidates_of_packages}
 use Rattle.candidate_core.proofs.Steps.{marked_step, get_at}
-use Rattle.pool_core.proofs.sealed.install_ifs_among.Goals as goal
+use Rattle.pool_core.proofs.world_marks.install_ifs_among.Goals as goal
 
 pub loop-place-preserved : goal.loop-place-preserved
 loop-place-preserved c =

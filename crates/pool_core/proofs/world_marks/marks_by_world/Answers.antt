@@ -5,7 +5,7 @@ use Rattle.candidate_core.specs.Candidates.{Candidate}
 use Rattle.candidate_core.specs.PositiveInstallIfs.{places_marked}
 use Rattle.candidate_core.specs.Packages.{candidates_of_packages}
 use Rattle.pool_core.proofs.Sealing.{eligible_marked, pinned_marked, install_ifs_marked}
-use Rattle.pool_core.proofs.sealed.marks_by_world.Goals as goal
+use Rattle.pool_core.proofs.world_marks.marks_by_world.Goals as goal
 
 pub returns-clause-eligible : goal.returns-clause-eligible
 returns-clause-eligible c =

@@ -1,0 +1,41 @@
+-- What is known of the versions that the dependencies of packages want.
+-- No rule of a document: serves the contracts of `src/package_matches.rt`, where answers are kept.
+use Rattle.std.specs.Prelude.{◌≡◌, ℕ, List, Some, slice_get}
+use Rattle.std.specs.BTreeMap.{BTreeMap, get}
+use Rattle.std.specs.Ordering.{nat_cmp, ordering_then}
+use Rattle.std.specs.declared.cmp.Ordering.{Ordering}
+use Rattle.dep_core.specs.Dependency.{Dependency}
+use Rattle.dep_core.specs.Meets.{dependency}
+use Rattle.candidate_core.specs.Candidates.{Candidate}
+use Rattle.candidate_core.specs.Matches.{AreMatchesOf}
+use Rattle.candidate_core.specs.Packages.{candidates_of_packages}
+use Rattle.candidate_core.specs.VersionTexts.{source_text}
+use Rattle.candidate_core.specs.declared.matches.KnownMatches.{KnownMatches}
+use Rattle.candidate_core.specs.declared.package_matches.PackageDep.{PackageDep}
+use Rattle.candidate_core.specs.declared.package_matches.PackageMatches.{PackageMatches}
+
+-- the candidate at the place of the package has the dependency at its index
+abbrev pub IsDepOf : List Candidate → PackageDep → Type 0
+IsDepOf candidates held = (c : Candidate) → slice_get candidates held.package ≡ Some c
+    → slice_get c.depends held.index ≡ Some (dependency held.dep.now)
+
+-- the order of versions that are wanted: by their sources, their words there, and the match bits of
+-- the operators
+abbrev pub wanted_version_cmp : ℕ × ℕ × ℕ → ℕ × ℕ × ℕ → Ordering
+wanted_version_cmp one other = ordering_then
+    (ordering_then (nat_cmp one.0 other.0) (nat_cmp one.1 other.1)) (nat_cmp one.2 other.2)
+
+-- what is kept under the place of a version's text and some match bits is right for each dependency
+-- that names the version with them
+abbrev pub AreMatchesByVersion :
+    (ℕ → ℕ → List ℕ) → BTreeMap (ℕ × ℕ × ℕ) KnownMatches → Type 0
+AreMatchesByVersion text by_version =
+    (source word bits : ℕ) (known : KnownMatches) (d : Dependency)
+    → get wanted_version_cmp by_version (source, word, bits) ≡ Some known
+    → d.version ≡ Some (text source word) → d.bits ≡ bits → AreMatchesOf text d known
+
+-- the packages are these candidates, and what is kept of their dependencies is right
+abbrev pub AreMatchesAmong : List Candidate → PackageMatches → Type 0
+AreMatchesAmong candidates matches =
+    (candidates_of_packages matches.packages.now ≡ candidates)
+    × AreMatchesByVersion (source_text matches.packages.now.sources.items) matches.by_version

@@ -1,0 +1,132 @@
+//! Which long versions the dependencies of packages want, as far as that was asked. Many packages
+//! may share the texts of the versions that they have, and of those that they name, so two long
+//! ones are compared once, as long as the answers are kept.
+//! What a dependency wants says `docs/selection.md`, "What there is to choose from". That answers
+//! are kept saves time alone, as the README of this crate says.
+ghost use Rattle.std.specs.Prelude.{◌≡◌, ◌<◌, ℕ, List, IfOk, OnOk, Some, length, slice_get};
+ghost use Rattle.dep_core.specs.Dependency.{Dependency};
+ghost use Rattle.dep_core.specs.Meets.{dependency};
+ghost use Rattle.candidate_core.specs.Candidates.{Candidate, meets_dependency};
+ghost use Rattle.candidate_core.specs.Matches.{AreMatchesOf};
+ghost use Rattle.candidate_core.specs.PackageMatches.{AreMatchesAmong, AreMatchesByVersion, IsDepOf};
+ghost use Rattle.candidate_core.specs.Packages.{candidates_of_packages};
+ghost use Rattle.candidate_core.specs.VersionTexts.{source_text};
+
+use crate::matches::{KnownMatches, is_long};
+use crate::need::NeedRef;
+use crate::packages::Packages;
+use crate::versions::VersionPlace;
+use dep_core::Dep;
+use std::alloc::{AllocError, Global};
+use std::collections::BTreeMap;
+
+/// A dependency of a package, and where the package has it.
+#[derive(Clone, Copy)]
+pub struct PackageDep<'d> {
+    /// The dependency.
+    pub dep: &'d Dep<'d>,
+    /// The place of the package that has it, counted from 0.
+    pub package: usize,
+    /// The index of the dependency among those of the package, counted from 0.
+    pub index: usize,
+}
+
+/// Whether dependencies of packages want long versions.
+#[derive(Drop)]
+pub struct PackageMatches<'p> {
+    /// What memory comes from.
+    alloc: Global,
+    /// The packages.
+    pub packages: &'p Packages<'p>,
+    /// What is known of each version that a dependency names: by the place of the version's source,
+    /// the word of its text there, and the match bits of the operator.
+    by_version: BTreeMap<(u32, u32, u8), KnownMatches>,
+}
+
+impl<'p> PackageMatches<'p> {
+    /// Nothing is known of the dependencies of some packages.
+    pub fn new(alloc: Global, packages: &'p Packages<'p>) -> PackageMatches<'p>
+        ensures { AreMatchesAmong (candidates_of_packages packages.entry.now) result }
+    {
+        PackageMatches {
+            alloc,
+            packages,
+            by_version: BTreeMap::new(alloc),
+        }
+    }
+
+    /// Whether the package at a place, counted from 0, meets a dependency of another by its own name
+    /// and version, or by an entry of its provides. Whether the dependency is a conflict is not
+    /// looked at. What is learnt of long versions is kept, in memory in proportion to the pairs of
+    /// long texts that were compared.
+    ///
+    /// # Errors
+    ///
+    /// Want of memory.
+    pub fn meets(&mut self, place: usize, held: &PackageDep<'_>) -> Result<bool, AllocError>
+        requires within { place < length (candidates_of_packages self.old.packages.now) }
+        requires held { IsDepOf (candidates_of_packages self.old.packages.now) held.now }
+        requires matches { AreMatchesAmong (candidates_of_packages self.old.packages.now)
+            self.old }
+        ensures meets { IfOk result (λ meets. (c : Candidate)
+            → slice_get (candidates_of_packages self.old.packages.now) place ≡ Some c
+            → meets ≡ meets_dependency (dependency held.now.dep.now) c) }
+        ensures matches { OnOk result (AreMatchesAmong
+            (candidates_of_packages self.old.packages.now) self.new) }
+    {
+        let packages = self.packages;
+        if !is_long(&held.dep.version) {
+            return Ok(packages.get(place).meets(held.dep));
+        }
+        match packages.version_place(held) {
+            None => Ok(packages.get(place).meets(held.dep)),
+            Some(version) => self.meets_as_known(place, held.dep, version),
+        }
+    }
+
+    // Whether the package at a place meets a dependency that names the version whose text stands at
+    // a place.
+    fn meets_as_known(
+        &mut self,
+        place: usize,
+        dep: &Dep<'_>,
+        version: VersionPlace,
+    ) -> Result<bool, AllocError>
+        requires within { place < length (candidates_of_packages self.old.packages.now) }
+        requires named { (dependency dep.now).version ≡ Some
+            (source_text self.old.packages.now.sources.items version.source version.word) }
+        requires matches { AreMatchesByVersion (source_text self.old.packages.now.sources.items)
+            self.old.by_version }
+        ensures meets { IfOk result (λ meets. (c : Candidate)
+            → slice_get (candidates_of_packages self.old.packages.now) place ≡ Some c
+            → meets ≡ meets_dependency (dependency dep.now) c) }
+        ensures packages { self.new.packages ≡ self.old.packages }
+        ensures matches { OnOk result (AreMatchesByVersion
+            (source_text self.old.packages.now.sources.items) self.new.by_version) }
+    {
+        let packages = self.packages;
+        let key = (version.source, version.word, dep.op.bits());
+        let mut known = take_known(self.alloc, &mut self.by_version, key);
+        let meets = packages.meets_need(place, &NeedRef::Entry(dep), &mut known)?;
+        self.by_version.insert(key, known)?;
+        Ok(meets)
+    }
+}
+
+// What is known of the version that has a key, taken out; nothing is, where the version has none.
+fn take_known(
+    alloc: Global,
+    by_version: &mut BTreeMap<(u32, u32, u8), KnownMatches>,
+    key: (u32, u32, u8),
+) -> KnownMatches
+    ensures taken { (text : ℕ → ℕ → List ℕ) (d : Dependency)
+        → AreMatchesByVersion text by_version.old → d.version ≡ Some (text key.0 key.1)
+        → d.bits ≡ key.2 → AreMatchesOf text d result }
+    ensures others { (text : ℕ → ℕ → List ℕ)
+        → AreMatchesByVersion text by_version.old → AreMatchesByVersion text by_version.new }
+{
+    match by_version.remove(&key) {
+        Some(known) => known,
+        None => KnownMatches::new(alloc),
+    }
+}

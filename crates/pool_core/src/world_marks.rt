@@ -1,0 +1,142 @@
+//! What world says of each candidate: whether it may be selected, whether world pins its name to
+//! its tag, and which install-if can come to apply.
+//! The rules stand in `docs/selection.md`: "What there is to choose from" (which candidates may be
+//! selected), "What satisfies world", 4 (install-if), and "Which selection is taken", key 1 (pins).
+ghost use Rattle.std.specs.Prelude.{◌≡◌, ◌<◌, ◌^◌, ◌++◌, ◌∷◌, [], map, length, IfOk, OnOk, ◌&&◌, not, if◌then◌else◌};
+ghost use Rattle.dep_core.specs.Meets.{dependency};
+ghost use Rattle.candidate_core.specs.Candidates.{has_usable_install_if, is_eligible};
+ghost use Rattle.candidate_core.specs.CandidateList.{IsCandidateList};
+ghost use Rattle.candidate_core.specs.Options.{places_from};
+ghost use Rattle.candidate_core.specs.Packages.{candidates_of_packages};
+ghost use Rattle.candidate_core.specs.Rank.{is_pinned};
+ghost use Rattle.candidate_core.specs.PositiveInstallIfs.{has_positive_install_if, places_marked};
+ghost use Rattle.pool_core.specs.World.{entries_of_kind, is_entry_of_kind};
+
+use crate::marks::{eligible_marks, pinned_marks};
+use candidate_core::{CandId, CandidateList, Details, Packages};
+use dep_core::{Dep, World};
+use std::alloc::{AllocError, Global};
+
+/// What an entry of world is that bears on each candidate; an entry can be both.
+#[derive(Clone, Copy)]
+enum EntryKind {
+    /// The entry is a conflict: it bars what meets it.
+    Conflict,
+    /// The entry has a tag: it allows the candidates of that tag, and pins its name to it.
+    Tagged,
+}
+
+/// What world says of each candidate of a list.
+#[derive(Drop)]
+pub(crate) struct WorldMarks {
+    /// Whether each candidate may be selected: it is allowed, and not barred.
+    pub eligible: Vec<bool>,
+    /// Whether world pins each candidate's name to its tag.
+    pub pinned: Vec<bool>,
+    /// The places of the candidates whose install-if can come to apply, in rising order.
+    pub install_ifs: Vec<CandId>,
+}
+
+/// Reads what world says of each candidate of a list.
+pub(crate) fn marks_by_world(
+    alloc: Global,
+    list: &CandidateList<'_>,
+    world: &World,
+) -> Result<WorldMarks, AllocError>
+    requires { IsCandidateList list.now }
+    ensures eligible { IfOk result (λ marks. marks.eligible.items
+        ≡ map (is_eligible world.now) (candidates_of_packages list.now.packages)) }
+    ensures pinned { IfOk result (λ marks. marks.pinned.items
+        ≡ map (is_pinned world.now) (candidates_of_packages list.now.packages)) }
+    ensures install_ifs { IfOk result (λ marks. marks.install_ifs.items
+        ≡ places_from 0 (has_usable_install_if world.now)
+        (candidates_of_packages list.now.packages)) }
+{
+    let conflicts = entries_of_kind(alloc, world, EntryKind::Conflict)?;
+    let tagged = entries_of_kind(alloc, world, EntryKind::Tagged)?;
+    let eligible = eligible_marks(alloc, &list.packages, &list.table, &tagged, &conflicts)?;
+    let pinned = pinned_marks(alloc, &list.packages, &list.table, &tagged)?;
+    let install_ifs = install_ifs_among(alloc, &list.packages, &eligible)?;
+    Ok(WorldMarks {
+        eligible,
+        pinned,
+        install_ifs,
+    })
+}
+
+// The entries of world that are of one kind, in their order.
+fn entries_of_kind<'a>(
+    alloc: Global,
+    world: &'a World,
+    kind: EntryKind,
+) -> Result<Vec<Dep<'a>>, AllocError>
+    ensures { IfOk result (λ deps. map dependency deps.items
+        ≡ entries_of_kind kind world.entry.now) }
+{
+    let mut deps = Vec::new(alloc);
+    for i in 0..world.len() {
+        push_if(&mut deps, world.entry(i), kind)?;
+    }
+    Ok(deps)
+}
+
+// Adds an entry of world to a list where the entry is of a kind.
+fn push_if<'a>(deps: &mut Vec<Dep<'a>>, dep: Dep<'a>, kind: EntryKind) -> Result<(), AllocError>
+    ensures { OnOk result (map dependency deps.new.items ≡ map dependency deps.old.items
+        ++ (if is_entry_of_kind kind (dependency dep.entry) then dependency dep.entry ∷ []
+        else [])) }
+{
+    if is_entry_of_kind(kind, &dep) {
+        deps.push(dep)?;
+    }
+    Ok(())
+}
+
+/// Whether an entry of world is of this kind.
+fn is_entry_of_kind(kind: EntryKind, dep: &Dep<'_>) -> bool
+    ensures { result ≡ is_entry_of_kind kind (dependency dep.now) }
+{
+    match kind {
+        EntryKind::Conflict => dep.conflict,
+        EntryKind::Tagged => dep.tag.is_some(),
+    }
+}
+
+// The places, rising, of the candidates that may be selected, as their marks in `eligible` say, and
+// have an install-if that is not empty and has no conflict.
+fn install_ifs_among(
+    alloc: Global,
+    packages: &Packages<'_>,
+    eligible: &[bool],
+) -> Result<Vec<CandId>, AllocError>
+    requires few { length (candidates_of_packages packages.now) < 2 ^ 32 }
+    requires marked { length eligible.now ≡ length (candidates_of_packages packages.now) }
+    ensures { IfOk result (λ ids. ids.items
+        ≡ places_marked 0 eligible.now
+        (candidates_of_packages packages.now)) }
+{
+    let mut ids = Vec::new(alloc);
+    for place in 0..packages.len() {
+        push_if_marked(&mut ids, place, eligible[place], &packages.get(place))?;
+    }
+    Ok(ids)
+}
+
+// Adds the place of a candidate that has a mark and an install-if without conflict.
+fn push_if_marked(
+    ids: &mut Vec<CandId>,
+    place: usize,
+    is_marked: bool,
+    one: &Details<'_>,
+) -> Result<(), AllocError>
+    requires { place < 2 ^ 32 }
+    ensures { OnOk result (ids.new.items ≡ ids.old.items
+        ++ (if is_marked && has_positive_install_if one.now then place ∷ [] else [])) }
+{
+    if is_marked && one.has_positive_install_if() {
+        ids.push(CandId {
+            place: place as u32,
+        })?;
+    }
+    Ok(())
+}

@@ -1,0 +1,16 @@
+-- No conflict so far is met, and what is kept of versions is right.
+use Rattle.std.proofs.Common.{◌≡◌, ℕ, map, take}
+use Rattle.std.specs.Prelude.{None, Some, find, slice_get}
+use Rattle.dep_core.specs.Dependency.{Dependency}
+use Rattle.candidate_core.specs.Candidates.{Candidate, meets_dependency}
+use Rattle.candidate_core.specs.PackageMatches.{AreMatchesAmong}
+use Rattle.candidate_core.specs.Packages.{candidates_of_packages}
+use Rattle.search_tables.specs.Conflicts.{without_index}
+use Rattle.search_tables.proofs.conflicts.Conflicts.choice_against.Given as goal
+
+abbrev pub invariant-loop-listed : goal.invariant-loop-listed
+invariant-loop-listed l = record {
+  matches : AreMatchesAmong (candidates_of_packages l.initial.matches.packages.now) l.matches;
+  none : (details : Candidate) → slice_get (candidates_of_packages l.initial.matches.packages.now) l.id ≡ Some details
+      → find (λ (c : ℕ × Dependency). meets_dependency c.1 details) (map without_index (take l.listed-index l.listed-items)) ≡ None;
+}

@@ -1,0 +1,116 @@
+//! Which choice meets a conflict of a further candidate.
+//! The rules stand in `docs/selection.md`: "What satisfies world", 2 (no conflict of a selected
+//! package is met by another one), and "What there is to choose from" (what meets a dependency).
+//! That long versions are compared once saves time alone.
+ghost use Rattle.std.specs.Prelude.{◌≡◌, ℕ, false, true, IfOk, MatchBool, MatchOption, OnOk};
+ghost use Rattle.dep_core.specs.Meets.{dependency};
+ghost use Rattle.candidate_core.specs.Candidates.{entry};
+ghost use Rattle.candidate_core.specs.Options.{IsIn};
+ghost use Rattle.candidate_core.specs.PackageMatches.{AreMatchesAmong, IsDepOf};
+ghost use Rattle.candidate_core.specs.Rank.{meets_at};
+ghost use Rattle.search_tables.specs.Selection.{is_met};
+
+use crate::candidate_set::CandidateSet;
+use crate::needs::choice_meeting;
+use candidate_core::is_long;
+use pool_core::{CandId, NeedRef, PackageDep, PackageMatches, Sealed};
+use std::alloc::AllocError;
+
+/// A choice that meets a dependency of a candidate, be that a conflict or not. It is looked for among
+/// all choices where these are fewer than the candidates that offer the dependency's name. What is
+/// learnt of long versions is kept.
+///
+/// # Errors
+///
+/// Want of memory.
+pub fn choice_meeting_held(
+    pool: &Sealed<'_>,
+    choices: &CandidateSet,
+    held: &PackageDep<'_>,
+    matches: &mut PackageMatches<'_>,
+) -> Result<Option<CandId>, AllocError>
+    requires held { IsDepOf pool.now.candidates held.now }
+    requires matches { AreMatchesAmong pool.now.candidates matches.old }
+    ensures found { IfOk result (λ found. MatchOption found
+        (is_met pool.now choices.now (entry (dependency held.now.dep.now)) ≡ false)
+        (λ id. IsIn id choices.now
+        × (meets_at pool.now id (entry (dependency held.now.dep.now)) ≡ true))) }
+    ensures matches { OnOk result (AreMatchesAmong pool.now.candidates matches.new) }
+{
+    if !is_long(&held.dep.version) {
+        return Ok(choice_meeting(pool, choices, &NeedRef::Entry(held.dep)));
+    }
+    let offers = pool.offers(held.dep.name);
+    if choices.as_slice().len() < offers.len() {
+        return choice_among(pool, choices, choices.as_slice(), held, matches);
+    }
+    choice_among(pool, choices, offers, held, matches)
+}
+
+// A choice among some candidates that meets a dependency of a candidate.
+fn choice_among(
+    pool: &Sealed<'_>,
+    choices: &CandidateSet,
+    ids: &[CandId],
+    held: &PackageDep<'_>,
+    matches: &mut PackageMatches<'_>,
+) -> Result<Option<CandId>, AllocError>
+    requires held { IsDepOf pool.now.candidates held.now }
+    requires matches { AreMatchesAmong pool.now.candidates matches.old }
+    ensures found { IfOk result (λ found. MatchOption found
+        ((k : ℕ) → IsIn k ids.now → IsIn k choices.now →
+        meets_at pool.now k (entry (dependency held.now.dep.now)) ≡ false)
+        (λ id. IsIn id choices.now
+        × (meets_at pool.now id (entry (dependency held.now.dep.now)) ≡ true))) }
+    ensures matches { OnOk result (AreMatchesAmong pool.now.candidates matches.new) }
+{
+    for id in ids {
+        let is_met = is_met_by_choice(pool, choices, *id, held, matches)?;
+        if is_met {
+            return Ok(Some(*id));
+        }
+    }
+    Ok(None)
+}
+
+// Whether the candidate at a place is a choice, and meets a dependency of another.
+fn is_met_by_choice(
+    pool: &Sealed<'_>,
+    choices: &CandidateSet,
+    id: CandId,
+    held: &PackageDep<'_>,
+    matches: &mut PackageMatches<'_>,
+) -> Result<bool, AllocError>
+    requires held { IsDepOf pool.now.candidates held.now }
+    requires matches { AreMatchesAmong pool.now.candidates matches.old }
+    ensures met { IfOk result (λ met. MatchBool met (IsIn id choices.now
+        × (meets_at pool.now id (entry (dependency held.now.dep.now)) ≡ true))
+        (IsIn id choices.now →
+        meets_at pool.now id (entry (dependency held.now.dep.now)) ≡ false)) }
+    ensures matches { OnOk result (AreMatchesAmong pool.now.candidates matches.new) }
+{
+    if !choices.has(id) {
+        return Ok(false);
+    }
+    is_met_by(pool, id, held, matches)
+}
+
+// Whether the candidate at a place meets a dependency of another.
+fn is_met_by(
+    pool: &Sealed<'_>,
+    id: CandId,
+    held: &PackageDep<'_>,
+    matches: &mut PackageMatches<'_>,
+) -> Result<bool, AllocError>
+    requires held { IsDepOf pool.now.candidates held.now }
+    requires matches { AreMatchesAmong pool.now.candidates matches.old }
+    ensures meets { IfOk result (λ meets. meets
+        ≡ meets_at pool.now id (entry (dependency held.now.dep.now))) }
+    ensures matches { OnOk result (AreMatchesAmong pool.now.candidates matches.new) }
+{
+    let place = id.place as usize;
+    if place >= pool.len() {
+        return Ok(false);
+    }
+    matches.meets(place, held)
+}

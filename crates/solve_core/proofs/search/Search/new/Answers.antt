@@ -1,0 +1,9 @@
+use Rattle.std.proofs.Common.{◌∙◌, List, ap, sym, subst}
+use Rattle.candidate_core.specs.Candidates.{Candidate}
+use Rattle.candidate_core.specs.PackageMatches.{AreMatchesAmong}
+use Rattle.candidate_core.specs.Rank.{SealedPool}
+use Rattle.solve_core.proofs.search.Search.new.Goals as goal
+
+pub returns-clause-matches : goal.returns-clause-matches
+returns-clause-matches c =
+    subst (λ (cs : List Candidate). AreMatchesAmong cs c.new-matches.result) (c.packages.ensures ∙ sym (ap (λ (p : SealedPool). p.candidates) c.in_ok-chosen.ensures.pool)) c.new-matches.ensures
