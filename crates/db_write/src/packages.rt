@@ -1,33 +1,34 @@
 //! The packages of a database.
 //! The rule stands in `docs/formats.md`, "The database after a change": what a database has of each
-//! package; the fields in "Schemas", table 7, which counts from 1. The constant here counts from 0.
+//! package; the fields in "Schemas", table 7.
+ghost use Rattle.adb_copy.specs.Known.{AreBlobsOf};
 ghost use Rattle.adb_copy.specs.Zeros.{without_zeros};
 ghost use Rattle.adb_schema.specs.Views.{package_value};
 ghost use Rattle.adb_tables.specs.FieldIndexes.{PACKAGE_INFO, PACKAGE_SCRIPTS, PACKAGE_TRIGGERS};
 ghost use Rattle.adb_tables.specs.Values.{entry_in};
 ghost use Rattle.adb_values.specs.Drafts.{draft_with};
+ghost use Rattle.adb_view.specs.Adb.{payload_of};
 ghost use Rattle.adb_view.specs.Plain.{arr_value};
 ghost use Rattle.db_core.specs.Members.{Member};
 ghost use Rattle.db_core.specs.Seen.{members_of};
 ghost use Rattle.db_write.specs.NewDatabase.{file_count, info_after, member_file_count, package_after, packages_after, total_of};
-ghost use Rattle.std.specs.Prelude.{◌≡◌, ◌<◌, ◌≤◌, OnOk, Some, drop, length, slice_get};
+ghost use Rattle.std.specs.Prelude.{◌≡◌, ◌<◌, ◌≤◌, OnOk, Some, drop, length, slice_get, unwrap_or};
 
 use crate::folders::{flags_behind, write_folders};
 use adb_copy::{KnownTexts, write_info, write_int, write_scripts, write_text_list};
-use adb_fields::texts_field;
+use adb_fields::{field_word, hash_field, int_field, texts_field};
 use adb_schema::PackageView;
 use adb_tables::Which;
+use adb_tables::field_indexes::{
+    INFO_FILE_SIZE, INFO_HASHES, PACKAGE_INFO, PACKAGE_SCRIPTS, PACKAGE_TRIGGERS,
+};
 use adb_values::Draft;
 use db_core::Members;
 use std::alloc::{AllocError, Global};
-use std::marker::PhantomData;
-
-/// The index of `triggers`, the patterns of folders that a package's trigger watches (4 in table
-/// 7).
-const TRIGGERS: usize = 3;
 
 /// Writes the packages of members with the files whose flag is set, by one flag for each file of
-/// all members, in order.
+/// all members, in order. Many places of a package may share a long text, so those that were
+/// written are kept.
 pub(crate) fn write_packages(
     alloc: Global,
     draft: &mut Draft,
@@ -41,7 +42,8 @@ pub(crate) fn write_packages(
     let mut left = flags;
     for i in 0..members.len() {
         let pkg = members.view(i);
-        write_package(alloc, draft, pkg, members.id(i), left)?;
+        let mut known = KnownTexts::new(alloc);
+        write_package(draft, pkg, &mut known, members.id(i), left)?;
         // The next package takes the flags behind those of this one.
         left = flags_behind(pkg, left);
     }
@@ -50,22 +52,24 @@ pub(crate) fn write_packages(
 
 /// Writes a package with the files whose flag is set, by the flags from its first file on; a
 /// package that comes has an id.
-fn write_package<'a>(
-    alloc: Global,
+fn write_package(
     draft: &mut Draft,
-    pkg: &PackageView<'a>,
+    pkg: &PackageView<'_>,
+    known: &mut KnownTexts,
     id: Option<[u8; 32]>,
     flags: &[bool],
 ) -> Result<(), AllocError>
-    ensures { OnOk result (draft.new
+    requires { AreBlobsOf (payload_of pkg.now.adb) draft.old known.old }
+    ensures value { OnOk result (draft.new
         ≡ draft_with (package_after (record { pkg = package_value pkg.now; id = id }) flags.now)
         draft.old) }
+    ensures known { OnOk result (AreBlobsOf (payload_of pkg.now.adb) draft.new known.new) }
 {
     draft.open_list()?;
-    write_member_info(alloc, draft, pkg, id)?;
-    write_folders(alloc, draft, pkg, flags)?;
-    write_package_scripts(draft, pkg, PhantomData)?;
-    write_triggers(alloc, draft, pkg)?;
+    write_member_info(draft, pkg, known, id)?;
+    write_folders(draft, pkg, known, flags)?;
+    write_package_scripts(draft, pkg, known)?;
+    write_triggers(draft, pkg, known)?;
     write_int(draft, pkg.replaces_priority())?;
     draft.close_object()
 }
@@ -73,43 +77,62 @@ fn write_package<'a>(
 /// Writes the information of a package, with the id of one that comes as its hash; one that stays
 /// keeps its own.
 fn write_member_info(
-    alloc: Global,
     draft: &mut Draft,
     pkg: &PackageView<'_>,
+    known: &mut KnownTexts,
     id: Option<[u8; 32]>,
 ) -> Result<(), AllocError>
-    ensures { OnOk result (draft.new
+    requires { AreBlobsOf (payload_of pkg.now.adb) draft.old known.old }
+    ensures info { OnOk result (draft.new
         ≡ draft_with (info_after id (entry_in (package_value pkg.now) PACKAGE_INFO)) draft.old) }
+    ensures known { OnOk result (AreBlobsOf (payload_of pkg.now.adb) draft.new known.new) }
 {
-    let info = pkg.info();
-    match &id {
-        Some(id) => write_info(alloc, draft, &info, id, info.file_size()),
-        None => write_info(alloc, draft, &info, info.hashes(), info.file_size()),
+    let adb = pkg.adb();
+    let info = field_word(adb, Which::Package, pkg.word(), PACKAGE_INFO);
+    let own = hash_field(adb, Which::PkgInfo, info, INFO_HASHES);
+    let len = int_field(adb, Which::PkgInfo, info, INFO_FILE_SIZE);
+    write_info(draft, adb, known, info, hash_after(&id, own), len)
+}
+
+/// The hash of a package in the new database: the id of one that comes, and its own of one that
+/// stays.
+fn hash_after<'a>(id: &'a Option<[u8; 32]>, own: &'a [u8]) -> &'a [u8]
+    ensures { result.now ≡ unwrap_or id.entry.now own.entry.now }
+{
+    match id {
+        Some(id) => id,
+        None => own,
     }
 }
 
-/// Writes the scripts of a package. The mark serves the borrow checker alone, which does not know
-/// the parts of a view that is made and lent here unless the signature names the view as an
-/// argument.
-fn write_package_scripts<'a>(
+/// Writes the scripts of a package.
+fn write_package_scripts(
     draft: &mut Draft,
-    pkg: &PackageView<'a>,
-    _mark: PhantomData<PackageView<'a>>,
+    pkg: &PackageView<'_>,
+    known: &mut KnownTexts,
 ) -> Result<(), AllocError>
-    ensures { OnOk result (draft.new
+    requires { AreBlobsOf (payload_of pkg.now.adb) draft.old known.old }
+    ensures scripts { OnOk result (draft.new
         ≡ draft_with (without_zeros (entry_in (package_value pkg.now) PACKAGE_SCRIPTS)) draft.old) }
+    ensures known { OnOk result (AreBlobsOf (payload_of pkg.now.adb) draft.new known.new) }
 {
-    let scripts = pkg.scripts();
-    write_scripts(draft, &scripts)
+    let adb = pkg.adb();
+    let scripts = field_word(adb, Which::Package, pkg.word(), PACKAGE_SCRIPTS);
+    write_scripts(draft, adb, known, scripts)
 }
 
 /// Writes the triggers of a package: the patterns of folders that its trigger watches.
-fn write_triggers(alloc: Global, draft: &mut Draft, pkg: &PackageView<'_>) -> Result<(), AllocError>
-    ensures { OnOk result (draft.new
+fn write_triggers(
+    draft: &mut Draft,
+    pkg: &PackageView<'_>,
+    known: &mut KnownTexts,
+) -> Result<(), AllocError>
+    requires { AreBlobsOf (payload_of pkg.now.adb) draft.old known.old }
+    ensures triggers { OnOk result (draft.new
         ≡ draft_with (without_zeros (entry_in (package_value pkg.now) PACKAGE_TRIGGERS)) draft.old) }
+    ensures known { OnOk result (AreBlobsOf (payload_of pkg.now.adb) draft.new known.new) }
 {
     let adb = pkg.adb();
-    let mut known = KnownTexts::new(alloc);
-    let triggers = texts_field(adb, Which::Package, pkg.word(), TRIGGERS);
-    write_text_list(draft, adb, &mut known, triggers)
+    let triggers = texts_field(adb, Which::Package, pkg.word(), PACKAGE_TRIGGERS);
+    write_text_list(draft, adb, known, triggers)
 }

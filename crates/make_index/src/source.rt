@@ -3,6 +3,7 @@
 //! information alone passes a limit of the writer is kept to the end. What an entry has, says
 //! `docs/commands.md`, "`mkndx PACKAGE..`".
 ghost use Rattle.adb_schema.specs.Soundness.{first_fault, root_value};
+ghost use Rattle.adb_schema.specs.Views.{info_value};
 ghost use Rattle.adb_tables.specs.FieldIndexes.{PACKAGE_INFO};
 ghost use Rattle.adb_tables.specs.Values.{is_sound, entry_in};
 ghost use Rattle.adb_view.specs.Head.{head_fault, root_of};
@@ -16,7 +17,7 @@ ghost use Rattle.std.specs.Prelude.{◌≡◌, true, is_none, ◌<◌, ◌^◌, 
 ghost use Rattle.adb_tables.specs.declared.tables.Kind.TheVariants as Kinds;
 ghost use Rattle.adb_tables.specs.declared.tables.Which.TheVariants as Tables;
 
-use adb_copy::write_info;
+use adb_copy::{KnownTexts, write_info};
 use adb_schema::{PkgInfo, View};
 use adb_values::Draft;
 use adb_view::Adb;
@@ -82,7 +83,7 @@ impl EntryPayload {
             unreachable!()
         };
         let info = PkgInfo::of(adb, adb.root());
-        write_info(alloc, draft, &info, info.hashes(), info.file_size())
+        write_entry_info(alloc, draft, &info, info.hashes(), info.file_size())
     }
 }
 
@@ -114,7 +115,23 @@ fn write_package(
 {
     let id = pkg.id();
     let info = pkg.view().info();
-    write_info(alloc, draft, &info, &id, len)
+    write_entry_info(alloc, draft, &info, &id, len)
+}
+
+/// Writes the information that a view shows, with `id` as its hash and `len` as the size of the
+/// package's file. Each entry is written from a payload of its own, so no text is known before.
+fn write_entry_info(
+    alloc: Global,
+    draft: &mut Draft,
+    info: &PkgInfo<'_>,
+    id: &[u8],
+    len: u64,
+) -> Result<(), AllocError>
+    ensures { OnOk result
+        (draft.new ≡ draft_with (info_with (info_value info.now) id.now len) draft.old) }
+{
+    let mut known = KnownTexts::new(alloc);
+    write_info(draft, info.adb(), &mut known, info.word(), id, len)
 }
 
 /// The entry of a package in a payload of its own, or None where the entry passes a limit of the
