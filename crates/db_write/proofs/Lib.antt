@@ -1,6 +1,5 @@
 pub mod Container
 pub mod KeptParts
-pub mod KnownIn
 pub mod Listed
 pub mod Marking
 pub mod OneOwner

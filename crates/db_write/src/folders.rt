@@ -5,7 +5,6 @@
 ghost use Rattle.adb_copy.specs.Known.{AreBlobsOf};
 ghost use Rattle.adb_fields.specs.Fields.{are_all_sound, array_at};
 ghost use Rattle.adb_fields.specs.Repeated.{folders_in, list_of};
-ghost use Rattle.adb_schema.specs.Views.{package_value};
 ghost use Rattle.adb_tables.specs.Values.{entries_in, is_sound, value_at};
 ghost use Rattle.adb_tables.specs.declared.tables.Kind.TheVariants as Kinds;
 ghost use Rattle.adb_tables.specs.declared.tables.Which.TheVariants as Tables;
@@ -18,7 +17,6 @@ ghost use Rattle.std.specs.Prelude.{◌≡◌, ◌<◌, true, false, OnOk, Some,
 
 use adb_copy::{KnownTexts, write_acl, write_file};
 use adb_fields::{field_word, objects_field};
-use adb_schema::PackageView;
 use adb_tables::field_indexes::{DIR_ACL, DIR_FILES, DIR_NAME, PACKAGE_PATHS};
 use adb_tables::{Which, entry_word};
 use adb_values::Draft;
@@ -29,27 +27,28 @@ use std::alloc::AllocError;
 /// the package, in order.
 pub(crate) fn write_folders(
     draft: &mut Draft,
-    pkg: &PackageView<'_>,
+    adb: Adb<'_>,
     known: &mut KnownTexts,
+    pkg: Val,
     flags: &[bool],
 ) -> Result<(), AllocError>
-    requires { AreBlobsOf (payload_of pkg.now.adb) draft.old known.old }
-    ensures folders { OnOk result (draft.new ≡ draft_with
-        (arr_value (folders_after (folders_in (package_value pkg.now)) flags.now)) draft.old) }
-    ensures known { OnOk result (AreBlobsOf (payload_of pkg.now.adb) draft.new known.new) }
+    requires sound { is_sound (payload_of adb) (Kinds.Obj Tables.Package) pkg ≡ true }
+    requires known { AreBlobsOf (payload_of adb) draft.old known.old }
+    ensures folders { OnOk result (draft.new ≡ draft_with (arr_value (folders_after (folders_in
+        (value_at (payload_of adb.entry) (Kinds.Obj Tables.Package) pkg)) flags.now)) draft.old) }
+    ensures known { OnOk result (AreBlobsOf (payload_of adb.entry) draft.new known.new) }
 {
-    let adb = pkg.adb();
-    let folders = objects_field(adb, Which::Package, pkg.word(), PACKAGE_PATHS, Which::Dir);
+    let folders = objects_field(adb, Which::Package, pkg, PACKAGE_PATHS, Which::Dir);
     write_folder_list(draft, adb, known, folders, flags)
 }
 
 /// The flags behind those of the files of a package: the next package's.
-pub(crate) fn flags_behind<'f>(pkg: &PackageView<'_>, flags: &'f [bool]) -> &'f [bool]
-    ensures { result.now
-        ≡ drop (total_of file_count (folders_in (package_value pkg.now))) flags.entry.now }
+pub(crate) fn flags_behind<'f>(adb: Adb<'_>, pkg: Val, flags: &'f [bool]) -> &'f [bool]
+    requires { is_sound (payload_of adb) (Kinds.Obj Tables.Package) pkg ≡ true }
+    ensures { result.now ≡ drop (total_of file_count (folders_in
+        (value_at (payload_of adb.entry) (Kinds.Obj Tables.Package) pkg))) flags.entry.now }
 {
-    let adb = pkg.adb();
-    let folders = objects_field(adb, Which::Package, pkg.word(), PACKAGE_PATHS, Which::Dir);
+    let folders = objects_field(adb, Which::Package, pkg, PACKAGE_PATHS, Which::Dir);
     flags_behind_folders(adb, folders, flags)
 }
 

@@ -2,27 +2,27 @@
 //! The rule stands in `docs/formats.md`, "The database after a change": what a database has of each
 //! package; the fields in "Schemas", table 7.
 ghost use Rattle.adb_copy.specs.Known.{AreBlobsOf};
-ghost use Rattle.adb_copy.specs.Zeros.{without_zeros};
-ghost use Rattle.adb_schema.specs.Views.{package_value};
-ghost use Rattle.adb_tables.specs.FieldIndexes.{PACKAGE_INFO, PACKAGE_SCRIPTS, PACKAGE_TRIGGERS};
-ghost use Rattle.adb_tables.specs.Values.{entry_in};
+ghost use Rattle.adb_tables.specs.FieldIndexes.{PACKAGE_INFO};
+ghost use Rattle.adb_tables.specs.Values.{entry_in, is_sound, value_at};
+ghost use Rattle.adb_tables.specs.declared.tables.Kind.TheVariants as Kinds;
+ghost use Rattle.adb_tables.specs.declared.tables.Which.TheVariants as Tables;
 ghost use Rattle.adb_values.specs.Drafts.{draft_with};
 ghost use Rattle.adb_view.specs.Adb.{payload_of};
 ghost use Rattle.adb_view.specs.Plain.{arr_value};
-ghost use Rattle.db_core.specs.Members.{Member};
 ghost use Rattle.db_core.specs.Seen.{members_of};
-ghost use Rattle.db_write.specs.NewDatabase.{file_count, info_after, member_file_count, package_after, packages_after, total_of};
-ghost use Rattle.std.specs.Prelude.{◌≡◌, ◌<◌, ◌≤◌, OnOk, Some, drop, length, slice_get, unwrap_or};
+ghost use Rattle.db_write.specs.NewDatabase.{info_after, package_after, packages_after};
+ghost use Rattle.std.specs.Prelude.{◌≡◌, true, OnOk, unwrap_or};
 
 use crate::folders::{flags_behind, write_folders};
 use adb_copy::{KnownTexts, write_info, write_int, write_scripts, write_text_list};
 use adb_fields::{field_word, hash_field, int_field, texts_field};
-use adb_schema::PackageView;
 use adb_tables::Which;
 use adb_tables::field_indexes::{
-    INFO_FILE_SIZE, INFO_HASHES, PACKAGE_INFO, PACKAGE_SCRIPTS, PACKAGE_TRIGGERS,
+    INFO_FILE_SIZE, INFO_HASHES, PACKAGE_INFO, PACKAGE_REPLACES_PRIORITY, PACKAGE_SCRIPTS,
+    PACKAGE_TRIGGERS,
 };
 use adb_values::Draft;
+use adb_view::{Adb, Val};
 use db_core::Members;
 use std::alloc::{AllocError, Global};
 
@@ -41,36 +41,43 @@ pub(crate) fn write_packages(
     draft.open_list()?;
     let mut left = flags;
     for i in 0..members.len() {
-        let pkg = members.view(i);
+        let view = members.view(i);
+        let adb = view.adb();
+        let pkg = view.word();
         let mut known = KnownTexts::new(alloc);
-        write_package(draft, pkg, &mut known, members.id(i), left)?;
+        write_package(draft, adb, &mut known, pkg, members.id(i), left)?;
         // The next package takes the flags behind those of this one.
-        left = flags_behind(pkg, left);
+        left = flags_behind(adb, pkg, left);
     }
     draft.close_array()
 }
 
-/// Writes a package with the files whose flag is set, by the flags from its first file on; a
-/// package that comes has an id.
+/// Writes the package with a word of a payload, with the files whose flag is set, by the flags from
+/// its first file on; a package that comes has an id.
 fn write_package(
     draft: &mut Draft,
-    pkg: &PackageView<'_>,
+    adb: Adb<'_>,
     known: &mut KnownTexts,
+    pkg: Val,
     id: Option<[u8; 32]>,
     flags: &[bool],
 ) -> Result<(), AllocError>
-    requires { AreBlobsOf (payload_of pkg.now.adb) draft.old known.old }
-    ensures value { OnOk result (draft.new
-        ≡ draft_with (package_after (record { pkg = package_value pkg.now; id = id }) flags.now)
-        draft.old) }
-    ensures known { OnOk result (AreBlobsOf (payload_of pkg.now.adb) draft.new known.new) }
+    requires sound { is_sound (payload_of adb) (Kinds.Obj Tables.Package) pkg ≡ true }
+    requires known { AreBlobsOf (payload_of adb) draft.old known.old }
+    ensures value { OnOk result (draft.new ≡ draft_with (package_after
+        (record { pkg = value_at (payload_of adb.entry) (Kinds.Obj Tables.Package) pkg; id = id })
+        flags.now) draft.old) }
+    ensures known { OnOk result (AreBlobsOf (payload_of adb.entry) draft.new known.new) }
 {
     draft.open_list()?;
-    write_member_info(draft, pkg, known, id)?;
-    write_folders(draft, pkg, known, flags)?;
-    write_package_scripts(draft, pkg, known)?;
-    write_triggers(draft, pkg, known)?;
-    write_int(draft, pkg.replaces_priority())?;
+    write_member_info(draft, adb, known, pkg, id)?;
+    write_folders(draft, adb, known, pkg, flags)?;
+    let scripts = field_word(adb, Which::Package, pkg, PACKAGE_SCRIPTS);
+    write_scripts(draft, adb, known, scripts)?;
+    let triggers = texts_field(adb, Which::Package, pkg, PACKAGE_TRIGGERS);
+    write_text_list(draft, adb, known, triggers)?;
+    let priority = int_field(adb, Which::Package, pkg, PACKAGE_REPLACES_PRIORITY);
+    write_int(draft, priority)?;
     draft.close_object()
 }
 
@@ -78,17 +85,19 @@ fn write_package(
 /// keeps its own.
 fn write_member_info(
     draft: &mut Draft,
-    pkg: &PackageView<'_>,
+    adb: Adb<'_>,
     known: &mut KnownTexts,
+    pkg: Val,
     id: Option<[u8; 32]>,
 ) -> Result<(), AllocError>
-    requires { AreBlobsOf (payload_of pkg.now.adb) draft.old known.old }
-    ensures info { OnOk result (draft.new
-        ≡ draft_with (info_after id (entry_in (package_value pkg.now) PACKAGE_INFO)) draft.old) }
-    ensures known { OnOk result (AreBlobsOf (payload_of pkg.now.adb) draft.new known.new) }
+    requires sound { is_sound (payload_of adb) (Kinds.Obj Tables.Package) pkg ≡ true }
+    requires known { AreBlobsOf (payload_of adb) draft.old known.old }
+    ensures info { OnOk result (draft.new ≡ draft_with (info_after id (entry_in
+        (value_at (payload_of adb.entry) (Kinds.Obj Tables.Package) pkg) PACKAGE_INFO))
+        draft.old) }
+    ensures known { OnOk result (AreBlobsOf (payload_of adb.entry) draft.new known.new) }
 {
-    let adb = pkg.adb();
-    let info = field_word(adb, Which::Package, pkg.word(), PACKAGE_INFO);
+    let info = field_word(adb, Which::Package, pkg, PACKAGE_INFO);
     let own = hash_field(adb, Which::PkgInfo, info, INFO_HASHES);
     let len = int_field(adb, Which::PkgInfo, info, INFO_FILE_SIZE);
     write_info(draft, adb, known, info, hash_after(&id, own), len)
@@ -103,36 +112,4 @@ fn hash_after<'a>(id: &'a Option<[u8; 32]>, own: &'a [u8]) -> &'a [u8]
         Some(id) => id,
         None => own,
     }
-}
-
-/// Writes the scripts of a package.
-fn write_package_scripts(
-    draft: &mut Draft,
-    pkg: &PackageView<'_>,
-    known: &mut KnownTexts,
-) -> Result<(), AllocError>
-    requires { AreBlobsOf (payload_of pkg.now.adb) draft.old known.old }
-    ensures scripts { OnOk result (draft.new
-        ≡ draft_with (without_zeros (entry_in (package_value pkg.now) PACKAGE_SCRIPTS)) draft.old) }
-    ensures known { OnOk result (AreBlobsOf (payload_of pkg.now.adb) draft.new known.new) }
-{
-    let adb = pkg.adb();
-    let scripts = field_word(adb, Which::Package, pkg.word(), PACKAGE_SCRIPTS);
-    write_scripts(draft, adb, known, scripts)
-}
-
-/// Writes the triggers of a package: the patterns of folders that its trigger watches.
-fn write_triggers(
-    draft: &mut Draft,
-    pkg: &PackageView<'_>,
-    known: &mut KnownTexts,
-) -> Result<(), AllocError>
-    requires { AreBlobsOf (payload_of pkg.now.adb) draft.old known.old }
-    ensures triggers { OnOk result (draft.new
-        ≡ draft_with (without_zeros (entry_in (package_value pkg.now) PACKAGE_TRIGGERS)) draft.old) }
-    ensures known { OnOk result (AreBlobsOf (payload_of pkg.now.adb) draft.new known.new) }
-{
-    let adb = pkg.adb();
-    let triggers = texts_field(adb, Which::Package, pkg.word(), PACKAGE_TRIGGERS);
-    write_text_list(draft, adb, known, triggers)
 }
