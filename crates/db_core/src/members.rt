@@ -4,24 +4,29 @@
 //! "The installed database".
 
 ghost use Rattle.adb_fields.specs.Repeated.{package_name};
-ghost use Rattle.adb_schema.specs.Views.{package_value};
+ghost use Rattle.adb_schema.specs.Views.{idb_value, package_value};
+ghost use Rattle.adb_tables.specs.Values.{is_sound, value_at};
+ghost use Rattle.adb_tables.specs.declared.tables.Kind.TheVariants as Kinds;
+ghost use Rattle.adb_tables.specs.declared.tables.Which.TheVariants as Tables;
+ghost use Rattle.adb_view.specs.Adb.{payload_of};
 ghost use Rattle.adb_view.specs.Plain.{Plain};
 ghost use Rattle.base_core.specs.Listed.{IsRising};
-ghost use Rattle.db_core.specs.EntrySeen.{member_by};
+ghost use Rattle.db_core.specs.EntrySeen.{comes_or_is_in, member_by, payload_of_database};
 ghost use Rattle.db_core.specs.Members.{Member, comes_behind, coming_member, is_coming, is_place, member_name, staying_member, Listing, member_listings};
 ghost use Rattle.list_order.specs.ByteOrder.{precedes};
 ghost use Rattle.std.specs.List.Sorted.{IsPartitionPoint};
-ghost use Rattle.db_core.specs.Packages.{comes_or_lists_no_reserved, lists_names};
-ghost use Rattle.db_core.specs.SoundMembers.{AreOfSoundContainers};
+ghost use Rattle.db_core.specs.Packages.{comes_or_lists_no_reserved, lists_names, lists_no_reserved, packages_by};
+ghost use Rattle.db_core.specs.SoundMembers.{AreOfSoundContainers, IsSoundDatabaseIfAny};
 ghost use Rattle.db_core.specs.declared.members.TheConstants.{MOST_MEMBERS};
 ghost use Rattle.pkg_pieces.specs.Values.{payload_of_contents, value_of_contents};
 ghost use Rattle.sha2.specs.Sha256.{sha256};
 ghost use Rattle.std.specs.List.{list_all};
-ghost use Rattle.std.specs.Prelude.{◌≡◌, ◌<◌, ◌≤◌, ◌++◌, ◌∷◌, [], true, false, ◌==◌, ℕ, All, Some, None, IfSome, bytes_eq, length, map, slice_get, IfOk, OnOk, OnErr, List};
+ghost use Rattle.std.specs.Prelude.{◌≡◌, ◌<◌, ◌≤◌, ◌++◌, ◌∷◌, [], true, false, ◌==◌, ℕ, All, Some, None, IfSome, bytes_eq, length, map, option_map, slice_get, IfOk, OnOk, OnErr, List};
 ghost use Rattle.db_core.specs.ListedAt.{IsListedAt};
 
-use crate::db::Db;
-use adb_schema::PackageView;
+use crate::db::{Db, package_count, package_of_database};
+use adb_schema::{IdbView, PackageView};
+use adb_view::{Adb, Val};
 use pkg_pieces::Contents;
 use std::alloc::{AllocError, Global};
 use std::marker::Model;
@@ -58,6 +63,8 @@ impl<'a> Model for PackageWithId<'a> {
 /// The packages after a change, in byte order of names: those that stay and those that come.
 #[derive(Drop)]
 pub struct Members<'a> {
+    /// The view of the database from which packages stay; none where there is no file.
+    pub(crate) idb: Option<IdbView<'a>>,
     /// The packages, in byte order of their names.
     pub(crate) entries: Vec<PackageWithId<'a>>,
     // The packages stand in byte order of their names, each name once.
@@ -69,6 +76,13 @@ pub struct Members<'a> {
     ghost free: { list_all (λ e. comes_or_lists_no_reserved (member_by e)) entries.items ≡ true },
     // The packages come out of sound containers.
     ghost sound: { ∥ AreOfSoundContainers (map member_by entries.items) ∥₁ },
+    // A package that stays is read from the payload of the database.
+    ghost lent: { list_all (comes_or_is_in (payload_of_database idb)) entries.items ≡ true },
+    // Each path that the database lists is a name, and none is reserved; its value is sound.
+    ghost named_before: { list_all lists_names (packages_by (option_map idb_value idb)) ≡ true },
+    ghost free_before: { list_all lists_no_reserved (packages_by (option_map idb_value idb))
+        ≡ true },
+    ghost sound_before: { ∥ IsSoundDatabaseIfAny (option_map idb_value idb) ∥₁ },
 }
 
 /// Whether the name of a package comes before another one in byte order.
@@ -83,33 +97,51 @@ impl<'a> Members<'a> {
     ghost use Rattle.adb_rules.specs.Reserved.{is_reserved};
     ghost use Rattle.base_core.specs.Name.{IsName};
     ghost use Rattle.db_core.specs.Members.{AreInOrder, member_listings};
-    ghost use Rattle.db_core.specs.Seen.{members_of, packages_of};
+    ghost use Rattle.db_core.specs.Seen.{members_of, packages_before, packages_of, payload_before};
 
-    /// A list without packages.
-    pub fn new(alloc: Global) -> Members<'a>
-        ensures { members_of result ≡ [] }
+    /// A list without packages, for the packages that stay of a database and those that come.
+    pub fn new(alloc: Global, db: &Db<'a>) -> Members<'a>
+        ensures none { members_of result ≡ [] }
+        ensures before { packages_before result ≡ packages_of db.now }
     {
         Members {
+            idb: db.idb,
             entries: Vec::new(alloc),
         }
     }
 
-    /// Adds the package at a place of a database, counted from 0, which stays. A refused call
+    /// How many packages the database has from which packages stay.
+    pub fn len_before(&self) -> usize
+        ensures { result ≡ length (packages_before self.now) }
+    {
+        package_count(&self.idb)
+    }
+
+    /// The package at a place of the database from which packages stay, counted from 0.
+    pub fn package_before(&self, i: usize) -> PackageView<'a>
+        requires { i < length (packages_before self.now) }
+        ensures { slice_get (packages_before self.now) i ≡ Some (package_value result) }
+    {
+        package_of_database(&self.idb, i)
+    }
+
+    /// Adds the package at a place of the database, counted from 0, which stays. A refused call
     /// changes nothing.
     ///
     /// # Errors
     ///
     /// Want of memory.
-    pub fn stays(&mut self, db: &Db<'a>, i: usize) -> Result<(), AllocError>
-        requires at { i < length (packages_of db.now) }
-        requires behind { (pkg : Plain) → slice_get (packages_of db.now) i ≡ Some pkg
+    pub fn stays(&mut self, i: usize) -> Result<(), AllocError>
+        requires at { i < length (packages_before self.old) }
+        requires behind { (pkg : Plain) → slice_get (packages_before self.old) i ≡ Some pkg
             → comes_behind (package_name pkg) (members_of self.old) ≡ true }
         requires few { length (members_of self.old) < MOST_MEMBERS }
-        ensures ok { OnOk result ((pkg : Plain) → slice_get (packages_of db.now) i ≡ Some pkg
+        ensures ok { OnOk result ((pkg : Plain) → slice_get (packages_before self.old) i ≡ Some pkg
             → members_of self.new ≡ members_of self.old ++ staying_member pkg ∷ []) }
         ensures err { OnErr result (members_of self.new ≡ members_of self.old) }
+        ensures before { packages_before self.new ≡ packages_before self.old }
     {
-        let view = db.package(i);
+        let view = package_of_database(&self.idb, i);
         self.entries.push(PackageWithId { view, id: None })?;
         Ok(())
     }
@@ -127,6 +159,7 @@ impl<'a> Members<'a> {
             ++ coming_member (value_of_contents contents.now)
             (sha256 (payload_of_contents contents.now)) ∷ []) }
         ensures err { OnErr result (members_of self.new ≡ members_of self.old) }
+        ensures before { packages_before self.new ≡ packages_before self.old }
     {
         contents.values_keep_their_rules();
         contents.values_are_sound();
@@ -198,6 +231,20 @@ impl<'a> Members<'a> {
             → package_value result.now ≡ m.pkg }
     {
         &self.entries[i].view
+    }
+
+    /// The payload from which the package at a place, counted from 0, is read, and its word there:
+    /// of each package that stays the payload of the database.
+    pub fn source(&self, i: usize) -> (Adb<'a>, Val)
+        requires { i < length (members_of self.now) }
+        ensures sound { is_sound (payload_of result.0) (Kinds.Obj Tables.Package) result.1 ≡ true }
+        ensures value { (m : Member) → slice_get (members_of self.now) i ≡ Some m
+            → value_at (payload_of result.0) (Kinds.Obj Tables.Package) result.1 ≡ m.pkg }
+        ensures stays { (m : Member) → slice_get (members_of self.now) i ≡ Some m
+            → is_coming m ≡ false → payload_of result.0 ≡ payload_before self.now }
+    {
+        let view = &self.entries[i].view;
+        (view.adb(), view.word())
     }
 
     /// The id of the package at a place, counted from 0; none where the package stays.

@@ -9,9 +9,10 @@ ghost use Rattle.adb_tables.specs.declared.tables.Which.TheVariants as Tables;
 ghost use Rattle.adb_values.specs.Drafts.{draft_with};
 ghost use Rattle.adb_view.specs.Adb.{payload_of};
 ghost use Rattle.adb_view.specs.Plain.{arr_value};
-ghost use Rattle.db_core.specs.Seen.{members_of};
-ghost use Rattle.db_write.specs.NewDatabase.{info_after, package_after, packages_after};
-ghost use Rattle.std.specs.Prelude.{◌≡◌, true, OnOk, unwrap_or};
+ghost use Rattle.db_core.specs.Members.{Member};
+ghost use Rattle.db_core.specs.Seen.{members_of, payload_before};
+ghost use Rattle.db_write.specs.NewDatabase.{info_after, member_file_count, package_after, packages_after};
+ghost use Rattle.std.specs.Prelude.{◌≡◌, ◌<◌, true, OnOk, Some, drop, length, slice_get, unwrap_or};
 
 use crate::folders::{flags_behind, write_folders};
 use adb_copy::{KnownTexts, write_info, write_int, write_scripts, write_text_list};
@@ -27,8 +28,8 @@ use db_core::Members;
 use std::alloc::{AllocError, Global};
 
 /// Writes the packages of members with the files whose flag is set, by one flag for each file of
-/// all members, in order. Many places of a package may share a long text, so those that were
-/// written are kept.
+/// all members, in order. Packages that stay may share long texts, so those of the database that
+/// were written are kept.
 pub(crate) fn write_packages(
     alloc: Global,
     draft: &mut Draft,
@@ -38,18 +39,52 @@ pub(crate) fn write_packages(
     ensures { OnOk result (draft.new
         ≡ draft_with (arr_value (packages_after (members_of members.now) flags.now)) draft.old) }
 {
+    let mut known = KnownTexts::new(alloc);
     draft.open_list()?;
     let mut left = flags;
     for i in 0..members.len() {
-        let view = members.view(i);
-        let adb = view.adb();
-        let pkg = view.word();
-        let mut known = KnownTexts::new(alloc);
-        write_package(draft, adb, &mut known, pkg, members.id(i), left)?;
+        write_member(alloc, draft, members, &mut known, i, left)?;
         // The next package takes the flags behind those of this one.
-        left = flags_behind(adb, pkg, left);
+        left = flags_behind_member(members, i, left);
     }
     draft.close_array()
+}
+
+/// The flags behind those of the files of the member at a place, counted from 0.
+fn flags_behind_member<'f>(members: &Members<'_>, i: usize, flags: &'f [bool]) -> &'f [bool]
+    requires { i < length (members_of members.now) }
+    ensures { (m : Member) → slice_get (members_of members.now) i ≡ Some m
+        → result.now ≡ drop (member_file_count m) flags.entry.now }
+{
+    let (adb, pkg) = members.source(i);
+    flags_behind(adb, pkg, flags)
+}
+
+/// Writes the member at a place, counted from 0, with the files whose flag is set, by the flags
+/// from its first file on. `known` has the long texts of the database that the draft has already; a
+/// package that comes is read from a payload of its own.
+fn write_member(
+    alloc: Global,
+    draft: &mut Draft,
+    members: &Members<'_>,
+    known: &mut KnownTexts,
+    i: usize,
+    flags: &[bool],
+) -> Result<(), AllocError>
+    requires within { i < length (members_of members.now) }
+    requires known { AreBlobsOf (payload_before members.now) draft.old known.old }
+    ensures value { OnOk result ((m : Member) → slice_get (members_of members.now) i ≡ Some m
+        → draft.new ≡ draft_with (package_after m flags.now) draft.old) }
+    ensures known { OnOk result (AreBlobsOf (payload_before members.now) draft.new known.new) }
+{
+    let (adb, pkg) = members.source(i);
+    match members.id(i) {
+        None => write_package(draft, adb, known, pkg, None, flags),
+        Some(id) => {
+            let mut own = KnownTexts::new(alloc);
+            write_package(draft, adb, &mut own, pkg, Some(id), flags)
+        }
+    }
 }
 
 /// Writes the package with a word of a payload, with the files whose flag is set, by the flags from
