@@ -247,7 +247,7 @@ impl<'a> IdbView<'a> {
     }
 
     /// The package at a place, counted from 0, which is read from the payload of the database.
-    pub fn package(&self, i: usize) -> PackageView<'a>
+    pub fn package_at(&self, i: usize) -> PackageView<'a>
         requires { i < count_of (entries_in (entry_in (idb_value self.now) IDB_PACKAGES)) }
         ensures value { package_value result
             ≡ entry_in (entry_in (idb_value self.now) IDB_PACKAGES) i }

@@ -184,7 +184,7 @@ pub(crate) fn package_of_database<'a>(idb: &Option<IdbView<'a>>, i: usize) -> Pa
     ensures lent { payload_of result.adb ≡ payload_of_database idb.now }
 {
     match idb {
-        Some(idb) => idb.package(i),
+        Some(idb) => idb.package_at(i),
         // A database without a view has no package.
         None => unreachable!(),
     }

@@ -8,8 +8,8 @@ use Rattle.db_core.specs.Packages.{packages_by}
 use Rattle.db_core.proofs.Places.{count_listed, nth_listed}
 use Rattle.db_core.proofs.db.package_of_database.Goals as goal
 
-pub package-requires : goal.package-requires
-package-requires c =
+pub package_at-requires : goal.package_at-requires
+package_at-requires c =
     let vs : Plains = entries_in (entry_in (idb_value c.in-Some.idb) 0) in
     subst (λ (n : ℕ). c.args.i < n) (ap (λ o. length (packages_by (option_map idb_value o))) c.in-Some.is ∙ sym (count_listed vs)) c.requires
 
@@ -20,6 +20,6 @@ returns c =
     record {
       value =
           ap (λ o. slice_get (packages_by (option_map idb_value o)) c.args.i) c.in-Some.is
-          ∙ (nth_listed vs c.args.i within ∙ ap (λ (v : Plain). Some v) (sym c.package.ensures.value));
-      lent = c.package.ensures.lent ∙ sym (ap payload_of_database c.in-Some.is);
+          ∙ (nth_listed vs c.args.i within ∙ ap (λ (v : Plain). Some v) (sym c.package_at.ensures.value));
+      lent = c.package_at.ensures.lent ∙ sym (ap payload_of_database c.in-Some.is);
     }

@@ -5,4 +5,4 @@ use Rattle.db_write.specs.NewDatabase.{file_count, total_of}
 use Rattle.db_write.proofs.packages.flags_behind_member.Goals as goal
 
 pub returns : goal.returns
-returns c = λ m here. c.flags_behind.ensures ∙ ap (λ (v : Plain). drop (total_of file_count (folders_in v)) c.args.flags.now) (c.source.ensures.value m here)
+returns c = λ m here. c.flags_behind.ensures ∙ ap (λ (v : Plain). drop (total_of file_count (folders_in v)) c.args.flags.now) (c.source-adb.ensures.value m here)

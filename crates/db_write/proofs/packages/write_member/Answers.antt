@@ -20,18 +20,18 @@ use Rattle.db_write.proofs.packages.write_member.Goals as goal
 pub write_package-requires-clause-known : goal.write_package-requires-clause-known
 write_package-requires-clause-known c =
     let at = member_there (members_of c.args.members.now) c.args.i c.requires.within in
-    let same : payload_of c.source.result.0 ≡ payload_before c.args.members.now =
-    c.source.ensures.stays at.0 at.1 (ap (λ (o : Option (List ℕ)). is_some o) (sym (c.id.ensures at.0 at.1) ∙ c.in-None.is)) in
+    let same : payload_of c.source-adb.result.0 ≡ payload_before c.args.members.now =
+    c.source-adb.ensures.stays at.0 at.1 (ap (λ (o : Option (List ℕ)). is_some o) (sym (c.id.ensures at.0 at.1) ∙ c.in-None.is)) in
     subst (λ (p : List ℕ). AreBlobsOf p c.args.draft.now c.args.known.now) (sym same) c.requires.known
 
 pub returns-in-None : goal.returns-in-None
 returns-in-None c =
     let at = member_there (members_of c.args.members.now) c.args.i c.requires.within in
-    let same : payload_of c.source.result.0 ≡ payload_before c.args.members.now =
-    c.source.ensures.stays at.0 at.1 (ap (λ (o : Option (List ℕ)). is_some o) (sym (c.id.ensures at.0 at.1) ∙ c.in-None.is)) in
+    let same : payload_of c.source-adb.result.0 ≡ payload_before c.args.members.now =
+    c.source-adb.ensures.stays at.0 at.1 (ap (λ (o : Option (List ℕ)). is_some o) (sym (c.id.ensures at.0 at.1) ∙ c.in-None.is)) in
     record {
       value =
-          on_ok _ _ (λ e m here. e ∙ (λ j. draft_with (package_after (record { pkg = c.source.ensures.value m here j; id = (sym c.in-None.is ∙ c.id.ensures m here) j }) c.args.flags.now) c.args.draft.now))
+          on_ok _ _ (λ e m here. e ∙ (λ j. draft_with (package_after (record { pkg = c.source-adb.ensures.value m here j; id = (sym c.in-None.is ∙ c.id.ensures m here) j }) c.args.flags.now) c.args.draft.now))
           c.write_package.result c.write_package.ensures.value;
       known =
           on_ok _ _ (λ known. subst (λ (p : List ℕ). AreBlobsOf p c.write_package.new.draft c.write_package.new.known) same known)
@@ -41,14 +41,14 @@ returns-in-None c =
 -- one that comes
 
 pub write_package-requires-2-clause-known : goal.write_package-requires-2-clause-known
-write_package-requires-2-clause-known c = c.new-own.ensures (payload_of c.source.result.0) c.args.draft.now
+write_package-requires-2-clause-known c = c.new-own.ensures (payload_of c.source-adb.result.0) c.args.draft.now
 
 pub returns-in-Some : goal.returns-in-Some
 returns-in-Some c =
-    let v : Plain = value_at (payload_of c.source.result.0) (Kinds.Obj Tables.Package) c.source.result.1 in
+    let v : Plain = value_at (payload_of c.source-adb.result.0) (Kinds.Obj Tables.Package) c.source-adb.result.1 in
     record {
       value =
-          on_ok _ _ (λ e m here. e ∙ (λ j. draft_with (package_after (record { pkg = c.source.ensures.value m here j; id = (sym c.in-Some.is ∙ c.id.ensures m here) j }) c.args.flags.now) c.args.draft.now))
+          on_ok _ _ (λ e m here. e ∙ (λ j. draft_with (package_after (record { pkg = c.source-adb.ensures.value m here j; id = (sym c.in-Some.is ∙ c.id.ensures m here) j }) c.args.flags.now) c.args.draft.now))
           c.write_package-2.result c.write_package-2.ensures.value;
       known =
           on_ok _ _ (λ e. known_more (payload_before c.args.members.now) c.args.known.now c.args.draft.now c.write_package-2.new.draft c.requires.known

@@ -6,7 +6,7 @@ use Rattle.adb_tables.specs.Values.{count_of, entries_in, entry_in, is_sound, va
 use Rattle.adb_tables.specs.declared.tables.Kind.TheVariants as Kinds
 use Rattle.adb_tables.specs.declared.tables.Which.TheVariants as Tables
 use Rattle.adb_fields.proofs.FieldReads.{entry_count, entry_sound, entry_value}
-use Rattle.adb_schema.proofs.checked.IdbView.package.Goals as goal
+use Rattle.adb_schema.proofs.checked.IdbView.package_at.Goals as goal
 
 pub entry_word-requires : goal.entry_word-requires
 entry_word-requires c =
