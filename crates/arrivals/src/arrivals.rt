@@ -224,12 +224,12 @@ fn test_leaving(
 /// database, and each that comes from what was read of its file.
 pub fn members_of_change<'a>(
     alloc: Global,
-    db: &Db<'a>,
+    db: &'a Db<'a>,
     arrivals: &'a Arrivals,
 ) -> Result<Members<'a>, AllocError>
     requires { CanBeMembers (packages_of db.now) (arrivals_seen arrivals.now) }
     ensures { IfOk result (λ members. members_of members
-        ≡ members_read (packages_of db.now) (arrivals_seen arrivals.entry.now)) }
+        ≡ members_read (packages_of db.entry.now) (arrivals_seen arrivals.entry.now)) }
 {
     let mut members = Members::new(alloc, db);
     for read in &arrivals.members {

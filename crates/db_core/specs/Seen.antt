@@ -19,8 +19,8 @@ members_of members = map member_by members.entries.items
 
 -- the packages of the database from which members stay, in its order
 abbrev pub packages_before : Members → List Plain
-packages_before members = packages_by (option_map idb_value members.idb)
+packages_before members = packages_of members.db.now
 
 -- the payload from which the packages of that database are read
 abbrev pub payload_before : Members → List ℕ
-payload_before members = payload_of_database members.idb
+payload_before members = payload_of_database members.db.now.idb

@@ -110,7 +110,10 @@ impl<'a> Db<'a> {
         ensures value { result ≡ length (packages_of self.now) }
         ensures small { result < 2 ^ 32 }
     {
-        package_count(&self.idb)
+        match &self.idb {
+            Some(idb) => idb.packages().len(),
+            None => 0,
+        }
     }
 
     /// Whether the database has no package.
@@ -163,17 +166,6 @@ impl<'a> Db<'a> {
         ensures { All (λ l. is_reserved l.path ≡ false)
             (member_listings (map staying_member (packages_of self.now))) }
     {}
-}
-
-/// How many packages a database has.
-pub(crate) fn package_count(idb: &Option<IdbView<'_>>) -> usize
-    ensures value { result ≡ length (packages_by (option_map idb_value idb.now)) }
-    ensures small { result < 2 ^ 32 }
-{
-    match idb {
-        Some(idb) => idb.packages().len(),
-        None => 0,
-    }
 }
 
 /// The package at a place of a database, counted from 0, which is read from the database's payload.

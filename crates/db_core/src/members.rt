@@ -4,10 +4,7 @@
 //! "The installed database".
 
 ghost use Rattle.adb_fields.specs.Repeated.{package_name};
-ghost use Rattle.adb_schema.specs.Views.{idb_value, package_value};
-ghost use Rattle.adb_tables.specs.Values.{is_sound, value_at};
-ghost use Rattle.adb_tables.specs.declared.tables.Kind.TheVariants as Kinds;
-ghost use Rattle.adb_tables.specs.declared.tables.Which.TheVariants as Tables;
+ghost use Rattle.adb_schema.specs.Views.{package_value};
 ghost use Rattle.adb_view.specs.Adb.{payload_of};
 ghost use Rattle.adb_view.specs.Plain.{Plain};
 ghost use Rattle.base_core.specs.Listed.{IsRising};
@@ -15,18 +12,17 @@ ghost use Rattle.db_core.specs.EntrySeen.{comes_or_is_in, member_by, payload_of_
 ghost use Rattle.db_core.specs.Members.{Member, comes_behind, coming_member, is_coming, is_place, member_name, staying_member, Listing, member_listings};
 ghost use Rattle.list_order.specs.ByteOrder.{precedes};
 ghost use Rattle.std.specs.List.Sorted.{IsPartitionPoint};
-ghost use Rattle.db_core.specs.Packages.{comes_or_lists_no_reserved, lists_names, lists_no_reserved, packages_by};
-ghost use Rattle.db_core.specs.SoundMembers.{AreOfSoundContainers, IsSoundDatabaseIfAny};
+ghost use Rattle.db_core.specs.Packages.{comes_or_lists_no_reserved, lists_names};
+ghost use Rattle.db_core.specs.SoundMembers.{AreOfSoundContainers};
 ghost use Rattle.db_core.specs.declared.members.TheConstants.{MOST_MEMBERS};
 ghost use Rattle.pkg_pieces.specs.Values.{payload_of_contents, value_of_contents};
 ghost use Rattle.sha2.specs.Sha256.{sha256};
 ghost use Rattle.std.specs.List.{list_all};
-ghost use Rattle.std.specs.Prelude.{◌≡◌, ◌<◌, ◌≤◌, ◌++◌, ◌∷◌, [], true, false, ◌==◌, ℕ, All, Some, None, IfSome, bytes_eq, length, map, option_map, slice_get, IfOk, OnOk, OnErr, List};
+ghost use Rattle.std.specs.Prelude.{◌≡◌, ◌<◌, ◌≤◌, ◌++◌, ◌∷◌, [], true, false, ◌==◌, ℕ, All, Some, None, IfSome, bytes_eq, length, map, slice_get, IfOk, OnOk, OnErr, List};
 ghost use Rattle.db_core.specs.ListedAt.{IsListedAt};
 
-use crate::db::{Db, package_count, package_of_database};
-use adb_schema::{IdbView, PackageView};
-use adb_view::{Adb, Val};
+use crate::db::{Db, package_of_database};
+use adb_schema::PackageView;
 use pkg_pieces::Contents;
 use std::alloc::{AllocError, Global};
 use std::marker::Model;
@@ -63,8 +59,8 @@ impl<'a> Model for PackageWithId<'a> {
 /// The packages after a change, in byte order of names: those that stay and those that come.
 #[derive(Drop)]
 pub struct Members<'a> {
-    /// The view of the database from which packages stay; none where there is no file.
-    pub(crate) idb: Option<IdbView<'a>>,
+    /// The database from which packages stay.
+    pub(crate) db: &'a Db<'a>,
     /// The packages, in byte order of their names.
     pub(crate) entries: Vec<PackageWithId<'a>>,
     // The packages stand in byte order of their names, each name once.
@@ -77,12 +73,8 @@ pub struct Members<'a> {
     // The packages come out of sound containers.
     ghost sound: { ∥ AreOfSoundContainers (map member_by entries.items) ∥₁ },
     // A package that stays is read from the payload of the database.
-    ghost lent: { list_all (comes_or_is_in (payload_of_database idb)) entries.items ≡ true },
-    // Each path that the database lists is a name, and none is reserved; its value is sound.
-    ghost named_before: { list_all lists_names (packages_by (option_map idb_value idb)) ≡ true },
-    ghost free_before: { list_all lists_no_reserved (packages_by (option_map idb_value idb))
+    ghost lent: { list_all (comes_or_is_in (payload_of_database db.now.idb)) entries.items
         ≡ true },
-    ghost sound_before: { ∥ IsSoundDatabaseIfAny (option_map idb_value idb) ∥₁ },
 }
 
 /// Whether the name of a package comes before another one in byte order.
@@ -99,30 +91,22 @@ impl<'a> Members<'a> {
     ghost use Rattle.db_core.specs.Members.{AreInOrder, member_listings};
     ghost use Rattle.db_core.specs.Seen.{members_of, packages_before, packages_of, payload_before};
 
-    /// A list without packages, for the packages that stay of a database and those that come.
-    pub fn new(alloc: Global, db: &Db<'a>) -> Members<'a>
+    /// A list without packages, for those that stay of a database and those that come.
+    pub fn new(alloc: Global, db: &'a Db<'a>) -> Members<'a>
         ensures none { members_of result ≡ [] }
-        ensures before { packages_before result ≡ packages_of db.now }
+        ensures before { packages_before result ≡ packages_of db.entry.now }
     {
         Members {
-            idb: db.idb,
+            db,
             entries: Vec::new(alloc),
         }
     }
 
-    /// How many packages the database has from which packages stay.
-    pub fn len_before(&self) -> usize
-        ensures { result ≡ length (packages_before self.now) }
+    /// The database from which packages stay.
+    pub fn db(&self) -> &'a Db<'a>
+        ensures { packages_of result.now ≡ packages_before self.now }
     {
-        package_count(&self.idb)
-    }
-
-    /// The package at a place of the database from which packages stay, counted from 0.
-    pub fn package_before(&self, i: usize) -> PackageView<'a>
-        requires { i < length (packages_before self.now) }
-        ensures { slice_get (packages_before self.now) i ≡ Some (package_value result) }
-    {
-        package_of_database(&self.idb, i)
+        self.db
     }
 
     /// Adds the package at a place of the database, counted from 0, which stays. A refused call
@@ -141,7 +125,7 @@ impl<'a> Members<'a> {
         ensures err { OnErr result (members_of self.new ≡ members_of self.old) }
         ensures before { packages_before self.new ≡ packages_before self.old }
     {
-        let view = package_of_database(&self.idb, i);
+        let view = package_of_database(&self.db.idb, i);
         self.entries.push(PackageWithId { view, id: None })?;
         Ok(())
     }
@@ -224,27 +208,16 @@ impl<'a> Members<'a> {
         self.entries.is_empty()
     }
 
-    /// The package at a place, counted from 0.
+    /// The package at a place, counted from 0. One that stays is read from the payload of the
+    /// database.
     pub fn view(&self, i: usize) -> &PackageView<'a>
         requires { i < length (members_of self.now) }
-        ensures { (m : Member) → slice_get (members_of self.now) i ≡ Some m
+        ensures value { (m : Member) → slice_get (members_of self.now) i ≡ Some m
             → package_value result.now ≡ m.pkg }
+        ensures stays { (m : Member) → slice_get (members_of self.now) i ≡ Some m
+            → is_coming m ≡ false → payload_of result.now.adb ≡ payload_before self.now }
     {
         &self.entries[i].view
-    }
-
-    /// The payload from which the package at a place, counted from 0, is read, and its word there:
-    /// of each package that stays the payload of the database.
-    pub fn source(&self, i: usize) -> (Adb<'a>, Val)
-        requires { i < length (members_of self.now) }
-        ensures sound { is_sound (payload_of result.0) (Kinds.Obj Tables.Package) result.1 ≡ true }
-        ensures value { (m : Member) → slice_get (members_of self.now) i ≡ Some m
-            → value_at (payload_of result.0) (Kinds.Obj Tables.Package) result.1 ≡ m.pkg }
-        ensures stays { (m : Member) → slice_get (members_of self.now) i ≡ Some m
-            → is_coming m ≡ false → payload_of result.0 ≡ payload_before self.now }
-    {
-        let view = &self.entries[i].view;
-        (view.adb(), view.word())
     }
 
     /// The id of the package at a place, counted from 0; none where the package stays.

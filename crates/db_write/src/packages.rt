@@ -56,8 +56,8 @@ fn flags_behind_member<'f>(members: &Members<'_>, i: usize, flags: &'f [bool]) -
     ensures { (m : Member) → slice_get (members_of members.now) i ≡ Some m
         → result.now ≡ drop (member_file_count m) flags.entry.now }
 {
-    let (adb, pkg) = members.source(i);
-    flags_behind(adb, pkg, flags)
+    let view = members.view(i);
+    flags_behind(view.adb(), view.word(), flags)
 }
 
 /// Writes the member at a place, counted from 0, with the files whose flag is set, by the flags
@@ -77,7 +77,9 @@ fn write_member(
         → draft.new ≡ draft_with (package_after m flags.now) draft.old) }
     ensures known { OnOk result (AreBlobsOf (payload_before members.now) draft.new known.new) }
 {
-    let (adb, pkg) = members.source(i);
+    let view = members.view(i);
+    let adb = view.adb();
+    let pkg = view.word();
     match members.id(i) {
         None => write_package(draft, adb, known, pkg, None, flags),
         Some(id) => {

@@ -122,7 +122,7 @@ fn fronts_of(alloc: Global, rows: &[Words]) -> Result<Vec<Front>, AllocError> {
 /// absent or not in order.
 fn members_of<'a>(
     alloc: Global,
-    db: &Db<'a>,
+    db: &'a Db<'a>,
     rows: &[Words],
     fronts: &'a [Front],
 ) -> Result<Option<Members<'a>>, AllocError> {

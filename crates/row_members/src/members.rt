@@ -3,7 +3,7 @@
 
 ghost use Rattle.adb_fields.specs.Repeated.{package_name};
 ghost use Rattle.adb_view.specs.Plain.{Plain};
-ghost use Rattle.db_core.specs.Seen.{packages_before, packages_of};
+ghost use Rattle.db_core.specs.Seen.{packages_of};
 ghost use Rattle.pkg_pieces.specs.Values.{value_of_contents};
 ghost use Rattle.std.specs.Prelude.{◌≡◌, ◌<◌, Some, length, slice_get};
 
@@ -45,28 +45,13 @@ pub fn name_at<'a>(db: &Db<'a>, i: usize, _mark: PhantomData<PackageView<'a>>) -
     package.info().name()
 }
 
-/// The name of the package at a place of the database from which members stay, counted from 0; the
-/// mark serves as in `name_at`.
-fn installed_name<'a>(
-    members: &Members<'a>,
-    i: usize,
-    _mark: PhantomData<PackageView<'a>>,
-) -> &'a [u8]
-    requires { i < length (packages_before members.now) }
-    ensures { (pkg : Plain) → slice_get (packages_before members.now) i ≡ Some pkg
-        → result.now ≡ package_name pkg }
-{
-    let package = members.package_before(i);
-    package.info().name()
-}
-
 /// Adds the package at a place of the database from which members stay, and tells whether there is
 /// one and it is in order.
 pub fn add_installed(members: &mut Members<'_>, i: usize) -> Result<bool, AllocError> {
-    if members.len() >= MOST_MEMBERS || i >= members.len_before() {
+    if members.len() >= MOST_MEMBERS || i >= members.db().len() {
         return Ok(false);
     }
-    if !members.comes_behind(installed_name(members, i, PhantomData)) {
+    if !members.comes_behind(name_at(members.db(), i, PhantomData)) {
         return Ok(false);
     }
     members.stays(i)?;

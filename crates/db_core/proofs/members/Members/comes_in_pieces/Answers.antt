@@ -20,8 +20,5 @@ invariant_of-self c = record {
   free = passed_more (λ e. comes_or_lists_no_reserved (member_by e)) c.push.result _ _ _ c.push.ensures.items c.args.self.now.free refl;
   sound = sound_more c.push.result _ _ _ c.push.ensures.items c.args.self.now.sound
       (comes_sound _ (value_of_contents c.args.contents.now) c.id-id.result (payload_of_contents c.args.contents.now) c.view-view.ensures c.id-id.ensures c.values_are_sound.ensures.sound c.values_are_sound.ensures.normal);
-  lent = passed_more (comes_or_is_in (payload_of_database c.args.self.now.idb)) c.push.result _ _ _ c.push.ensures.items c.args.self.now.lent refl;
-  named_before = c.args.self.now.named_before;
-  free_before = c.args.self.now.free_before;
-  sound_before = c.args.self.now.sound_before;
+  lent = passed_more (comes_or_is_in (payload_of_database c.args.self.now.db.now.idb)) c.push.result _ _ _ c.push.ensures.items c.args.self.now.lent refl;
 }

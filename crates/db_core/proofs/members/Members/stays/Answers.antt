@@ -15,15 +15,12 @@ invariant_of-self c =
     let before = packages_before c.args.self.now in
     let pkg = package_value c.package_of_database-view.result in
     let there = c.package_of_database-view.ensures.value in
-    let payload = payload_of_database c.args.self.now.idb in
+    let payload = payload_of_database c.args.self.now.db.now.idb in
     record {
       in_order = kept_more c.push.result _ _ _ c.push.ensures.items c.args.self.now.in_order (c.requires.behind pkg there);
       few = few_more c.push.result _ _ _ _ c.push.ensures.items c.args.self.now.few c.requires.few;
-      named = passed_more (λ e. lists_names (member_by e).pkg) c.push.result _ _ _ c.push.ensures.items c.args.self.now.named (named_at lists_names before c.args.i pkg there c.args.self.now.named_before);
-      free = passed_more (λ e. comes_or_lists_no_reserved (member_by e)) c.push.result _ _ _ c.push.ensures.items c.args.self.now.free (named_at lists_no_reserved before c.args.i pkg there c.args.self.now.free_before);
-      sound = sound_more c.push.result _ _ _ c.push.ensures.items c.args.self.now.sound (stays_sound (option_map idb_value c.args.self.now.idb) c.args.i pkg there c.args.self.now.sound_before);
+      named = passed_more (λ e. lists_names (member_by e).pkg) c.push.result _ _ _ c.push.ensures.items c.args.self.now.named (named_at lists_names before c.args.i pkg there c.args.self.now.db.now.named);
+      free = passed_more (λ e. comes_or_lists_no_reserved (member_by e)) c.push.result _ _ _ c.push.ensures.items c.args.self.now.free (named_at lists_no_reserved before c.args.i pkg there c.args.self.now.db.now.free);
+      sound = sound_more c.push.result _ _ _ c.push.ensures.items c.args.self.now.sound (stays_sound (option_map idb_value c.args.self.now.db.now.idb) c.args.i pkg there c.args.self.now.db.now.sound);
       lent = passed_more (comes_or_is_in payload) c.push.result _ _ _ c.push.ensures.items c.args.self.now.lent ((bytes_eq-Decides (payload_of c.package_of_database-view.result.adb) payload).1 c.package_of_database-view.ensures.lent);
-      named_before = c.args.self.now.named_before;
-      free_before = c.args.self.now.free_before;
-      sound_before = c.args.self.now.sound_before;
     }

@@ -4,7 +4,7 @@ use Rattle.adb_schema.specs.Views.{idb_value}
 use Rattle.adb_tables.specs.Values.{entries_in, count_of}
 use Rattle.db_core.specs.Packages.{packages_by}
 use Rattle.db_core.proofs.Places.{count_listed}
-use Rattle.db_core.proofs.db.package_count.Goals as goal
+use Rattle.db_core.proofs.db.Db.len.Goals as goal
 
 pub returns-in-Some-clause-value : goal.returns-in-Some-clause-value
 returns-in-Some-clause-value c =
