@@ -146,7 +146,7 @@ fn hash_after<'a>(id: &'a Option<[u8; 32]>, own: &'a [u8]) -> &'a [u8]
     ensures { result.now ≡ unwrap_or id.entry.now own.entry.now }
 {
     match id {
-        Some(id) => id,
+        Some(id) => id.as_slice(),
         None => own,
     }
 }

@@ -47,7 +47,11 @@ returns c =
       info =
           closed_as obj_value (info_with v c.args.id.now c.args.len) vs c.args.draft.now _ _ c.close_object.result
           (info_written v c.args.id.now c.args.len (value_shape c.values_have_their_shape.ensures.word p (Kinds.Obj Tables.PkgInfo) c.args.info)
-          _ _ _ _ _ _ _ _ _ _ _ _ _ _ _ _ _ _ _ _
+          (text_in (entry_in v 0)) (text_in (entry_in v 1)) (text_in (entry_in v 3)) (text_in (entry_in v 4)) (text_in (entry_in v 5))
+          (text_in (entry_in v 6)) (text_in (entry_in v 7)) (text_in (entry_in v 8)) (text_in (entry_in v 9))
+          c.int_field.result c.int_field-2.result c.int_field-3.result
+          (entry_in v 14) (entry_in v 15) (entry_in v 16) (entry_in v 17) (entry_in v 18)
+          c.int_field-4.result (entry_in v 20) c.int_field-5.result
           refl refl refl refl refl refl refl refl refl
           c.int_field.ensures c.int_field-2.ensures c.int_field-3.ensures
           refl refl refl refl refl
