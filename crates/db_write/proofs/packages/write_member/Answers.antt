@@ -42,8 +42,8 @@ returns-in-None c =
 
 -- one that comes
 
-pub write_package-requires-2-clause-known : goal.write_package-requires-2-clause-known
-write_package-requires-2-clause-known c = c.new-own.ensures (payload_of c.adb-adb.result) c.args.draft.now
+pub write_package-requires-in-Some-clause-known : goal.write_package-requires-in-Some-clause-known
+write_package-requires-in-Some-clause-known c = c.new-own.ensures (payload_of c.adb-adb.result) c.args.draft.now
 
 pub returns-in-Some : goal.returns-in-Some
 returns-in-Some c =
@@ -53,9 +53,9 @@ returns-in-Some c =
     record {
       value =
           on_ok _ _ (λ e m here. e ∙ (λ j. draft_with (package_after (record { pkg = (seen ∙ c.view-view.ensures.value m here) j; id = (sym c.in-Some.is ∙ c.id.ensures m here) j }) c.args.flags.now) c.args.draft.now))
-          c.write_package-2.result c.write_package-2.ensures.value;
+          c.write_package-in-Some.result c.write_package-in-Some.ensures.value;
       known =
-          on_ok _ _ (λ e. known_more (payload_before c.args.members.now) c.args.known.now c.args.draft.now c.write_package-2.new.draft c.requires.known
+          on_ok _ _ (λ e. known_more (payload_before c.args.members.now) c.args.known.now c.args.draft.now c.write_package-in-Some.new.draft c.requires.known
           (package_after (record { pkg = v; id = Some c.in-Some.id }) c.args.flags.now) e)
-          c.write_package-2.result c.write_package-2.ensures.value;
+          c.write_package-in-Some.result c.write_package-in-Some.ensures.value;
     }
