@@ -3,9 +3,9 @@
 //! information alone passes a limit of the writer is kept to the end. What an entry has, says
 //! `docs/commands.md`, "`mkndx PACKAGE..`".
 ghost use Rattle.adb_schema.specs.Soundness.{first_fault, root_value};
-ghost use Rattle.adb_schema.specs.Views.{info_value};
 ghost use Rattle.adb_tables.specs.FieldIndexes.{PACKAGE_INFO};
-ghost use Rattle.adb_tables.specs.Values.{is_sound, entry_in};
+ghost use Rattle.adb_tables.specs.Values.{entry_in, is_sound, value_at};
+ghost use Rattle.adb_view.specs.Adb.{payload_of};
 ghost use Rattle.adb_view.specs.Head.{head_fault, root_of};
 ghost use Rattle.adb_values.specs.Drafts.{draft_with};
 ghost use Rattle.adb_write.specs.Canonical.{written_of};
@@ -20,7 +20,7 @@ ghost use Rattle.adb_tables.specs.declared.tables.Which.TheVariants as Tables;
 use adb_copy::{KnownTexts, write_info};
 use adb_schema::{PkgInfo, View};
 use adb_values::Draft;
-use adb_view::Adb;
+use adb_view::{Adb, Val};
 use adb_write::WriteFault;
 use pkg_core::{Package, PackageFault};
 use std::alloc::{AllocError, Global};
@@ -83,7 +83,8 @@ impl EntryPayload {
             unreachable!()
         };
         let info = PkgInfo::of(adb, adb.root());
-        write_entry_info(alloc, draft, &info, info.hashes(), info.file_size())
+        let id = info.hashes();
+        write_entry_info(alloc, draft, adb, adb.root(), id, info.file_size())
     }
 }
 
@@ -115,23 +116,25 @@ fn write_package(
 {
     let id = pkg.id();
     let info = pkg.view().info();
-    write_entry_info(alloc, draft, &info, &id, len)
+    write_entry_info(alloc, draft, info.adb(), info.word(), &id, len)
 }
 
-/// Writes the information that a view shows, with `id` as its hash and `len` as the size of the
-/// package's file. Each entry is written from a payload of its own, so no text is known before.
+/// Writes the information with a word of a payload, with `id` as its hash and `len` as the size of
+/// the package's file. Each entry is written from a payload of its own, so no text is known before.
 fn write_entry_info(
     alloc: Global,
     draft: &mut Draft,
-    info: &PkgInfo<'_>,
+    adb: Adb<'_>,
+    info: Val,
     id: &[u8],
     len: u64,
 ) -> Result<(), AllocError>
-    ensures { OnOk result
-        (draft.new ≡ draft_with (info_with (info_value info.now) id.now len) draft.old) }
+    requires { is_sound (payload_of adb) (Kinds.Obj Tables.PkgInfo) info ≡ true }
+    ensures { OnOk result (draft.new ≡ draft_with (info_with
+        (value_at (payload_of adb.entry) (Kinds.Obj Tables.PkgInfo) info) id.now len) draft.old) }
 {
     let mut known = KnownTexts::new(alloc);
-    write_info(draft, info.adb(), &mut known, info.word(), id, len)
+    write_info(draft, adb, &mut known, info, id, len)
 }
 
 /// The entry of a package in a payload of its own, or None where the entry passes a limit of the
