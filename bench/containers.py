@@ -106,6 +106,20 @@ def database(packages, files):
     return b"ADB.idb\0" + block(0, payload.done(payload.object([payload.array(entries)])))
 
 
+def sharing_database(packages, size):
+    """A database of so many packages, whose description, whose script and the version of what they replace are three texts of this size."""
+    payload = Payload()
+    description, script = payload.blob(b"d" * size), payload.blob(b"s" * size)
+    replaced = payload.array([payload.object([payload.blob(b"a"), payload.blob(b"1" + b".1" * (size // 2))])])
+    scripts = payload.object([0, 0, script])
+    entries = []
+    for i in range(packages):
+        name = b"package-%05d" % i
+        first = [payload.blob(name), payload.blob(b"1"), payload.blob(hashlib.sha256(name).digest()), description]
+        entries.append(payload.object([payload.object(first + [0] * 12 + [replaced]), 0, scripts]))
+    return b"ADB.idb\0" + block(0, payload.done(payload.object([payload.array(entries)])))
+
+
 def index_of_one(payload, packages, provides):
     """An index in which one package, which provides all this, stands at so many places."""
     info = [payload.blob(b"a"), payload.blob(b"1"), payload.blob(bytes(32))] + [0] * 12 + [payload.array(provides)]

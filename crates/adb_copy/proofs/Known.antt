@@ -2,7 +2,7 @@
 use Rattle.std.proofs.Common.{◌≡◌, ℕ, Bool, true, false, cond, List, Option, Some, refl, sym, ap, subst, ◌∙◌, arith}
 use Rattle.std.specs.Ordering.{nat_cmp, is_eq}
 use Rattle.std.specs.BTreeMap.{BTreeMap, get}
-use Rattle.adb_view.specs.Plain.{Plain, Plains, obj_value, arr_value}
+use Rattle.adb_view.specs.Plain.{Plain, Plains, none, more, obj_value, arr_value}
 use Rattle.adb_tables.specs.Values.{text_in, value_at}
 use Rattle.adb_tables.specs.declared.tables.Kind.TheVariants.{Text}
 use Rattle.adb_values.specs.Drafts.{DraftState, draft_with, draft_with_all, draft_with_open_list}
@@ -23,6 +23,12 @@ module _ (payload : List ℕ) (texts : KnownTexts) (d later : DraftState) (known
 
   pub known_closed_object : (vs : Plains) (before : DraftState) → d ≡ draft_with_all vs (draft_with_open_list before) → later ≡ draft_with (obj_value vs) before → AreBlobsOf payload later texts
   known_closed_object vs before is e = record { known = λ word x at. has_closed_object vs before d later _ x (known.known word x at) is e; periodic = known.periodic }
+
+-- some values more
+pub known_all : (payload : List ℕ) (texts : KnownTexts) (vs : Plains) (d later : DraftState) → AreBlobsOf payload d texts → later ≡ draft_with_all vs d → AreBlobsOf payload later texts
+known_all payload texts none d later known e = subst (λ (x : DraftState). AreBlobsOf payload x texts) (sym e) known
+known_all payload texts (more v vs) d later known e =
+    known_all payload texts vs (draft_with v d) later (known_more payload texts d (draft_with v d) known v refl) e
 
 -- a text for which a word is kept
 pub known_blob : (payload : List ℕ) (texts : KnownTexts) (d : DraftState) → AreBlobsOf payload d texts → (word x : ℕ) → IsKnownFor payload texts.words word x → HasBlob d (text_in (value_at payload Text word)) x

@@ -1,7 +1,7 @@
 -- The values of a list are given one after another.
-use Rattle.std.proofs.Common.{◌≡◌, ℕ, suc, zero, ◌+◌, ◌<◌, ◌≤◌, List, [], ◌∷◌, map, drop, length, get_or, refl, ap, sym, ◌∙◌, arith}
+use Rattle.std.proofs.Common.{◌≡◌, ℕ, suc, zero, ◌+◌, ◌<◌, ◌≤◌, List, [], ◌∷◌, drop, length, get_or, refl, ap, sym, ◌∙◌, arith}
 use Rattle.std.proofs.lemmas.Option.{slice_get-get_or}
-use Rattle.adb_view.specs.Plain.{Plain, Plains, none, more, blob_value, text_plains}
+use Rattle.adb_view.specs.Plain.{Plain, Plains, none, more, blob_value}
 use Rattle.adb_tables.specs.Values.{nth, count_of}
 use Rattle.adb_values.specs.Drafts.{DraftState, draft_with_open_list, draft_with, draft_with_all}
 use Rattle.adb_values.proofs.Lists.{left_more, left_none}
@@ -48,15 +48,7 @@ unfolding without_zeros
 blob_zeros [] = refl
 blob_zeros (x ∷ xs) = refl
 
--- ---- texts and integers
-
-pub texts_left : {X : Type 0} (f : X → List ℕ) (xs : List X) (i : ℕ) (d : X) (old new whole : DraftState) → i < length xs → draft_with_all (text_plains (map f (drop i xs))) old ≡ whole → new ≡ draft_with (blob_value (f (get_or xs i d))) old
-    → draft_with_all (text_plains (map f (drop (i + 1) xs))) new ≡ whole
-texts_left f xs i d old new whole h left one =
-    left_more (λ ys. text_plains (map f ys)) (λ x. blob_value (f x)) xs whole (λ y ys. refl) i (get_or xs i d) old new (slice_get-get_or xs i d h) left one
-
-pub texts_given : {X : Type 0} (f : X → List ℕ) (xs : List X) (i : ℕ) (d whole : DraftState) → length xs ≤ i → draft_with_all (text_plains (map f (drop i xs))) d ≡ whole → d ≡ whole
-texts_given f xs i d whole h left = left_none (λ ys. text_plains (map f ys)) (λ x. blob_value (f x)) xs whole refl i d h left
+-- ---- integers
 
 pub ints_left : (ns : List ℕ) (i : ℕ) (old new whole : DraftState) → i < length ns → draft_with_all (int_plains (drop i ns)) old ≡ whole → new ≡ draft_with (int_value (get_or ns i 0)) old
     → draft_with_all (int_plains (drop (i + 1) ns)) new ≡ whole

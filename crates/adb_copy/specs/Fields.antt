@@ -1,11 +1,24 @@
 -- Fields of an object that stand side by side.
--- No rule of a document: serves the contract of `write_ints` in `src/copy.rt`; that 0 is Null says
--- `docs/formats.md`, "The database after a change".
+-- No rule of a document: serves the contracts of `write_ints` and `write_info_texts` in
+-- `src/copy.rt`; that 0 is Null says `docs/formats.md`, "The database after a change", and which
+-- fields an information has, "Schemas", table 3.
 use Rattle.std.specs.Prelude.{ℕ, List, [], ◌∷◌}
-use Rattle.adb_view.specs.Plain.{Plains, none, more}
+use Rattle.adb_view.specs.Plain.{Plain, Plains, none, more}
+use Rattle.adb_tables.specs.FieldIndexes.{INFO_ARCH, INFO_DESCRIPTION, INFO_LICENSE, INFO_MAINTAINER, INFO_NAME, INFO_ORIGIN, INFO_REPO_COMMIT, INFO_URL, INFO_VERSION}
+use Rattle.adb_tables.specs.Values.{entry_in, text_in}
 use Rattle.adb_copy.specs.Zeros.{int_value}
 
 -- the values of some integers, in their order: each is an integer, or Null for 0
 abbrev pub int_plains : List ℕ → Plains
 int_plains [] = none
 int_plains (n ∷ ns) = more (int_value n) (int_plains ns)
+
+-- the texts and hashes with which an information begins: its first ten fields, with `id` as its
+-- hash
+abbrev pub info_texts : Plain → List ℕ → List (List ℕ)
+info_texts info id =
+    text_in (entry_in info INFO_NAME) ∷ text_in (entry_in info INFO_VERSION) ∷ id
+    ∷ text_in (entry_in info INFO_DESCRIPTION) ∷ text_in (entry_in info INFO_ARCH)
+    ∷ text_in (entry_in info INFO_LICENSE) ∷ text_in (entry_in info INFO_ORIGIN)
+    ∷ text_in (entry_in info INFO_MAINTAINER) ∷ text_in (entry_in info INFO_URL)
+    ∷ text_in (entry_in info INFO_REPO_COMMIT) ∷ []

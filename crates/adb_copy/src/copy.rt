@@ -1,120 +1,101 @@
 //! The information of a package, written value by value.
 //! The rules stand in `docs/formats.md`: "The database after a change" (which id and which length
 //! it has; an integer 0 is NULL) and "Schemas", table 3 (its fields in their order) and table 1
-//! (those of a dependency). The tables count fields from 1, and the constants here from 0.
-ghost use Rattle.std.specs.Prelude.{◌≡◌, map, true, Some, OnOk};
-ghost use Rattle.adb_schema.specs.Views.{info_value};
+//! (those of a dependency).
+ghost use Rattle.std.specs.Prelude.{◌≡◌, true, Some, OnOk};
 ghost use Rattle.adb_fields.specs.Fields.{are_all_sound, array_at};
 ghost use Rattle.adb_tables.specs.Values.{entry_in, is_sound, kind_at, value_at};
 ghost use Rattle.adb_tables.specs.declared.tables.Kind.TheVariants as Kinds;
 ghost use Rattle.adb_tables.specs.declared.tables.Which.TheVariants as Tables;
 ghost use Rattle.adb_values.specs.Drafts.{draft_with, draft_with_all};
 ghost use Rattle.adb_copy.specs.Zeros.{int_value, without_zeros, info_with};
-ghost use Rattle.adb_copy.specs.Fields.{int_plains};
+ghost use Rattle.adb_copy.specs.Fields.{info_texts, int_plains};
 ghost use Rattle.adb_copy.specs.Known.{AreBlobsOf};
 ghost use Rattle.adb_view.specs.Adb.{payload_of};
 ghost use Rattle.adb_view.specs.Entries.{array_entries};
 ghost use Rattle.adb_view.specs.Plain.{text_plains};
 
 use crate::known_texts::KnownTexts;
-use adb_fields::{int_field, objects_field, texts_field};
-use adb_schema::PkgInfo;
+use adb_fields::{hash_field, int_field, objects_field, texts_field};
+use adb_tables::field_indexes::{
+    DEP_MATCH, DEP_NAME, DEP_VERSION, INFO_ARCH, INFO_BUILD_TIME, INFO_DEPENDS, INFO_DESCRIPTION,
+    INFO_INSTALL_IF, INFO_INSTALLED_SIZE, INFO_LAYER, INFO_LICENSE, INFO_MAINTAINER, INFO_NAME,
+    INFO_ORIGIN, INFO_PROVIDER_PRIORITY, INFO_PROVIDES, INFO_RECOMMENDS, INFO_REPLACES,
+    INFO_REPO_COMMIT, INFO_TAGS, INFO_UNUSED, INFO_URL, INFO_VERSION,
+};
 use adb_tables::{Which, entry_word};
 use adb_values::Draft;
 use adb_view::{Adb, Arr, Val, values_have_their_shape};
-use std::alloc::{AllocError, Global};
+use std::alloc::AllocError;
 
-/// The index of `depends` among the fields of a package's information (15 in table 3).
-const DEPENDS: usize = 14;
-
-/// The index of `provides` (16 in table 3).
-const PROVIDES: usize = 15;
-
-/// The index of `replaces` (17 in table 3).
-const REPLACES: usize = 16;
-
-/// The index of `install-if` (18 in table 3).
-const INSTALL_IF: usize = 17;
-
-/// The index of `recommends` (19 in table 3).
-const RECOMMENDS: usize = 18;
-
-/// The index of `tags` (21 in table 3).
-const TAGS: usize = 20;
-
-/// The index of the name among the fields of a dependency (1 in table 1).
-const NAME: usize = 0;
-
-/// The index of the version of a dependency (2 in table 1).
-const VERSION: usize = 1;
-
-/// The index of the match number of a dependency (3 in table 1).
-const MATCHING: usize = 2;
-
-/// Writes the information that a view shows, with `id` as its hash and `len` as the size of the
-/// package's file. An integer 0 is NULL.
-pub fn write_info<'a>(
-    alloc: Global,
+/// Writes the information with a word of a payload once more, with `id` as its hash and `len` as
+/// the size of the package's file. An integer 0 is NULL.
+pub fn write_info(
     draft: &mut Draft,
-    info: &PkgInfo<'a>,
-    id: &'a [u8],
+    adb: Adb<'_>,
+    known: &mut KnownTexts,
+    info: Val,
+    id: &[u8],
     len: u64,
 ) -> Result<(), AllocError>
-    ensures { OnOk result
-        (draft.new ≡ draft_with (info_with (info_value info.now) id.now len) draft.old) }
+    requires sound { is_sound (payload_of adb) (Kinds.Obj Tables.PkgInfo) info ≡ true }
+    requires known { AreBlobsOf (payload_of adb) draft.old known.old }
+    ensures info { OnOk result (draft.new ≡ draft_with (info_with
+        (value_at (payload_of adb.entry) (Kinds.Obj Tables.PkgInfo) info) id.now len) draft.old) }
+    ensures known { OnOk result (AreBlobsOf (payload_of adb.entry) draft.new known.new) }
 {
     values_have_their_shape();
     draft.open_list()?;
-    // The fields of table 3 in their order, the first of which are texts and hashes.
-    write_texts(
-        draft,
-        &[
-            info.name(),
-            info.version(),
-            id,
-            info.description(),
-            info.arch(),
-        ],
-    )?;
-    write_texts(
-        draft,
-        &[
-            info.license(),
-            info.origin(),
-            info.maintainer(),
-            info.url(),
-            info.repo_commit(),
-        ],
-    )?;
+    write_info_texts(draft, adb, known, info, id)?;
     write_ints(
         draft,
         &[
-            info.build_time(),
-            info.installed_size(),
+            int_field(adb, Which::PkgInfo, info, INFO_BUILD_TIME),
+            int_field(adb, Which::PkgInfo, info, INFO_INSTALLED_SIZE),
             len,
-            info.provider_priority(),
+            int_field(adb, Which::PkgInfo, info, INFO_PROVIDER_PRIORITY),
         ],
     )?;
-    write_deps(alloc, draft, info, DEPENDS)?;
-    write_deps(alloc, draft, info, PROVIDES)?;
-    write_deps(alloc, draft, info, REPLACES)?;
-    write_deps(alloc, draft, info, INSTALL_IF)?;
-    write_deps(alloc, draft, info, RECOMMENDS)?;
-    write_int(draft, info.layer())?;
-    write_info_tags(alloc, draft, info)?;
-    write_int(draft, info.unused())?;
+    write_deps(draft, adb, known, info, INFO_DEPENDS)?;
+    write_deps(draft, adb, known, info, INFO_PROVIDES)?;
+    write_deps(draft, adb, known, info, INFO_REPLACES)?;
+    write_deps(draft, adb, known, info, INFO_INSTALL_IF)?;
+    write_deps(draft, adb, known, info, INFO_RECOMMENDS)?;
+    write_int(draft, int_field(adb, Which::PkgInfo, info, INFO_LAYER))?;
+    write_text_list(
+        draft,
+        adb,
+        known,
+        texts_field(adb, Which::PkgInfo, info, INFO_TAGS),
+    )?;
+    write_int(draft, int_field(adb, Which::PkgInfo, info, INFO_UNUSED))?;
     draft.close_object()
 }
 
-/// Writes texts one behind another; an empty one is NULL.
-fn write_texts(draft: &mut Draft, texts: &[&[u8]]) -> Result<(), AllocError>
-    ensures { OnOk result
-        (draft.new ≡ draft_with_all (text_plains (map (λ t. t.now) texts.now)) draft.old) }
+/// Writes the first fields of an information, which are texts and hashes, with `id` as its hash.
+fn write_info_texts(
+    draft: &mut Draft,
+    adb: Adb<'_>,
+    known: &mut KnownTexts,
+    info: Val,
+    id: &[u8],
+) -> Result<(), AllocError>
+    requires sound { is_sound (payload_of adb) (Kinds.Obj Tables.PkgInfo) info ≡ true }
+    requires known { AreBlobsOf (payload_of adb) draft.old known.old }
+    ensures texts { OnOk result (draft.new ≡ draft_with_all (text_plains (info_texts
+        (value_at (payload_of adb.entry) (Kinds.Obj Tables.PkgInfo) info) id.now)) draft.old) }
+    ensures known { OnOk result (AreBlobsOf (payload_of adb.entry) draft.new known.new) }
 {
-    for text in texts {
-        draft.blob(text)?;
-    }
-    Ok(())
+    known.write_field(draft, adb, Which::PkgInfo, info, INFO_NAME)?;
+    known.write_field(draft, adb, Which::PkgInfo, info, INFO_VERSION)?;
+    draft.blob(id)?;
+    known.write_field(draft, adb, Which::PkgInfo, info, INFO_DESCRIPTION)?;
+    known.write_field(draft, adb, Which::PkgInfo, info, INFO_ARCH)?;
+    known.write_field(draft, adb, Which::PkgInfo, info, INFO_LICENSE)?;
+    known.write_field(draft, adb, Which::PkgInfo, info, INFO_ORIGIN)?;
+    known.write_field(draft, adb, Which::PkgInfo, info, INFO_MAINTAINER)?;
+    known.write_field(draft, adb, Which::PkgInfo, info, INFO_URL)?;
+    draft.blob(hash_field(adb, Which::PkgInfo, info, INFO_REPO_COMMIT))
 }
 
 /// Writes integers one behind another; 0 is NULL.
@@ -135,17 +116,6 @@ pub fn write_int(draft: &mut Draft, n: u64) -> Result<(), AllocError>
         return draft.null();
     }
     draft.int(n)
-}
-
-/// Writes the tags of a package's information. In the clause, 20 is the index of `tags` (`TAGS`).
-fn write_info_tags(alloc: Global, draft: &mut Draft, info: &PkgInfo<'_>) -> Result<(), AllocError>
-    ensures { OnOk result
-        (draft.new ≡ draft_with (without_zeros (entry_in (info_value info.now) 20)) draft.old) }
-{
-    let adb = info.adb();
-    let mut known = KnownTexts::new(alloc);
-    let tags = texts_field(adb, Which::PkgInfo, info.word(), TAGS);
-    write_text_list(draft, adb, &mut known, tags)
 }
 
 /// Writes an array of texts of a payload. `known` has the long ones that the draft has already.
@@ -171,36 +141,41 @@ pub fn write_text_list<'a>(
 
 /// Writes the array of dependencies that is a field of a package's information.
 fn write_deps(
-    alloc: Global,
     draft: &mut Draft,
-    info: &PkgInfo<'_>,
+    adb: Adb<'_>,
+    known: &mut KnownTexts,
+    info: Val,
     field: usize,
 ) -> Result<(), AllocError>
-    requires { kind_at Tables.PkgInfo field ≡ Some (Kinds.ObjArr Tables.Dep) }
-    ensures { OnOk result (draft.new
-        ≡ draft_with (without_zeros (entry_in (info_value info.now) field)) draft.old) }
+    requires sound { is_sound (payload_of adb) (Kinds.Obj Tables.PkgInfo) info ≡ true }
+    requires kind { kind_at Tables.PkgInfo field ≡ Some (Kinds.ObjArr Tables.Dep) }
+    requires known { AreBlobsOf (payload_of adb) draft.old known.old }
+    ensures deps { OnOk result (draft.new ≡ draft_with (without_zeros (entry_in
+        (value_at (payload_of adb.entry) (Kinds.Obj Tables.PkgInfo) info) field)) draft.old) }
+    ensures known { OnOk result (AreBlobsOf (payload_of adb.entry) draft.new known.new) }
 {
-    let adb = info.adb();
-    let deps = objects_field(adb, Which::PkgInfo, info.word(), field, Which::Dep);
-    write_dep_list(alloc, draft, adb, deps)
+    let deps = objects_field(adb, Which::PkgInfo, info, field, Which::Dep);
+    write_dep_list(draft, adb, known, deps)
 }
 
 /// Writes an array of dependencies of a payload.
 fn write_dep_list<'a>(
-    alloc: Global,
     draft: &mut Draft,
     adb: Adb<'a>,
+    known: &mut KnownTexts,
     deps: Arr<'a>,
 ) -> Result<(), AllocError>
-    requires { are_all_sound (payload_of adb) (Kinds.Obj Tables.Dep) (array_entries deps) ≡ true }
-    ensures { OnOk result (draft.new ≡ draft_with (without_zeros (array_at
+    requires sound { are_all_sound (payload_of adb) (Kinds.Obj Tables.Dep) (array_entries deps)
+        ≡ true }
+    requires known { AreBlobsOf (payload_of adb) draft.old known.old }
+    ensures deps { OnOk result (draft.new ≡ draft_with (without_zeros (array_at
         (payload_of adb.entry) (Kinds.Obj Tables.Dep) (array_entries deps.entry))) draft.old) }
+    ensures known { OnOk result (AreBlobsOf (payload_of adb.entry) draft.new known.new) }
 {
     values_have_their_shape();
-    let mut known = KnownTexts::new(alloc);
     draft.open_list()?;
     for i in 0..deps.len() {
-        write_dep(draft, adb, &mut known, entry_word(deps, i))?;
+        write_dep(draft, adb, known, entry_word(deps, i))?;
     }
     draft.close_array()
 }
@@ -220,8 +195,8 @@ fn write_dep(
 {
     values_have_their_shape();
     draft.open_list()?;
-    known.write_field(draft, adb, Which::Dep, dep, NAME)?;
-    known.write_field(draft, adb, Which::Dep, dep, VERSION)?;
-    write_int(draft, int_field(adb, Which::Dep, dep, MATCHING))?;
+    known.write_field(draft, adb, Which::Dep, dep, DEP_NAME)?;
+    known.write_field(draft, adb, Which::Dep, dep, DEP_VERSION)?;
+    write_int(draft, int_field(adb, Which::Dep, dep, DEP_MATCH))?;
     draft.close_object()
 }

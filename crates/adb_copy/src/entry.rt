@@ -1,10 +1,8 @@
 //! Files and their access lists, and scripts, written value by value.
 //! The rules stand in `docs/formats.md`: "The database after a change" (what a database has of a
-//! file; an integer 0 is NULL) and "Schemas", tables 2, 4 and 6 (the fields in their order). The
-//! tables count fields from 1, and the constants here from 0.
+//! file; an integer 0 is NULL) and "Schemas", tables 2, 4 and 6 (the fields in their order).
 ghost use Rattle.adb_copy.specs.Known.{AreBlobsOf};
 ghost use Rattle.adb_copy.specs.Zeros.{without_zeros};
-ghost use Rattle.adb_schema.specs.Views.{scripts_value};
 ghost use Rattle.adb_tables.specs.Values.{is_sound, value_at};
 ghost use Rattle.adb_tables.specs.declared.tables.Kind.TheVariants as Kinds;
 ghost use Rattle.adb_tables.specs.declared.tables.Which.TheVariants as Tables;
@@ -15,44 +13,16 @@ ghost use Rattle.std.specs.Prelude.{◌≡◌, true, OnOk};
 use crate::copy::{write_int, write_text_list};
 use crate::known_texts::KnownTexts;
 use adb_fields::{field_word, hash_field, int_field, texts_field};
-use adb_schema::ScriptsView;
 use adb_tables::Which;
+use adb_tables::field_indexes::{
+    ACL_GROUP, ACL_MODE, ACL_USER, ACL_XATTRS, FILE_ACL, FILE_HASHES, FILE_MTIME, FILE_NAME,
+    FILE_SIZE, FILE_TARGET, FILE_UNUSED, SCRIPTS_POST_DEINSTALL, SCRIPTS_POST_INSTALL,
+    SCRIPTS_POST_UPGRADE, SCRIPTS_PRE_DEINSTALL, SCRIPTS_PRE_INSTALL, SCRIPTS_PRE_UPGRADE,
+    SCRIPTS_TRIGGER,
+};
 use adb_values::Draft;
 use adb_view::{Adb, Val, values_have_their_shape};
 use std::alloc::AllocError;
-
-/// The index of the mode among the fields of an access list (1 in table 2).
-const MODE: usize = 0;
-
-/// The index of the user (2 in table 2).
-const USER: usize = 1;
-
-/// The index of the group (3 in table 2).
-const GROUP: usize = 2;
-
-/// The index of the extended attributes (4 in table 2).
-const XATTRS: usize = 3;
-
-/// The index of the name among the fields of a file (1 in table 4).
-const NAME: usize = 0;
-
-/// The index of the access list (2 in table 4).
-const ACL: usize = 1;
-
-/// The index of the size (3 in table 4).
-const SIZE: usize = 2;
-
-/// The index of the time of the last change (4 in table 4).
-const MTIME: usize = 3;
-
-/// The index of the hash (5 in table 4).
-const HASHES: usize = 4;
-
-/// The index of the target (6 in table 4).
-const TARGET: usize = 5;
-
-/// The index of the field that is kept free (7 in table 4).
-const UNUSED: usize = 6;
 
 /// Writes the access list with a word of a payload once more.
 pub fn write_acl(
@@ -69,10 +39,15 @@ pub fn write_acl(
 {
     values_have_their_shape();
     draft.open_list()?;
-    write_int(draft, int_field(adb, Which::Acl, acl, MODE))?;
-    known.write_field(draft, adb, Which::Acl, acl, USER)?;
-    known.write_field(draft, adb, Which::Acl, acl, GROUP)?;
-    write_text_list(draft, adb, known, texts_field(adb, Which::Acl, acl, XATTRS))?;
+    write_int(draft, int_field(adb, Which::Acl, acl, ACL_MODE))?;
+    known.write_field(draft, adb, Which::Acl, acl, ACL_USER)?;
+    known.write_field(draft, adb, Which::Acl, acl, ACL_GROUP)?;
+    write_text_list(
+        draft,
+        adb,
+        known,
+        texts_field(adb, Which::Acl, acl, ACL_XATTRS),
+    )?;
     draft.close_object()
 }
 
@@ -92,29 +67,42 @@ pub fn write_file(
 {
     values_have_their_shape();
     draft.open_list()?;
-    known.write_field(draft, adb, Which::File, file, NAME)?;
-    write_acl(draft, adb, known, field_word(adb, Which::File, file, ACL))?;
-    write_int(draft, int_field(adb, Which::File, file, SIZE))?;
-    write_int(draft, int_field(adb, Which::File, file, MTIME))?;
-    draft.blob(hash_field(adb, Which::File, file, HASHES))?;
-    known.write_field(draft, adb, Which::File, file, TARGET)?;
-    write_int(draft, int_field(adb, Which::File, file, UNUSED))?;
+    known.write_field(draft, adb, Which::File, file, FILE_NAME)?;
+    write_acl(
+        draft,
+        adb,
+        known,
+        field_word(adb, Which::File, file, FILE_ACL),
+    )?;
+    write_int(draft, int_field(adb, Which::File, file, FILE_SIZE))?;
+    write_int(draft, int_field(adb, Which::File, file, FILE_MTIME))?;
+    draft.blob(hash_field(adb, Which::File, file, FILE_HASHES))?;
+    known.write_field(draft, adb, Which::File, file, FILE_TARGET)?;
+    write_int(draft, int_field(adb, Which::File, file, FILE_UNUSED))?;
     draft.close_object()
 }
 
-/// Writes the scripts that a view shows once more, in the order of table 6.
-pub fn write_scripts(draft: &mut Draft, scripts: &ScriptsView<'_>) -> Result<(), AllocError>
-    ensures { OnOk result
-        (draft.new ≡ draft_with (without_zeros (scripts_value scripts.now)) draft.old) }
+/// Writes the scripts with a word of a payload once more, in the order of table 6.
+pub fn write_scripts(
+    draft: &mut Draft,
+    adb: Adb<'_>,
+    known: &mut KnownTexts,
+    scripts: Val,
+) -> Result<(), AllocError>
+    requires sound { is_sound (payload_of adb) (Kinds.Obj Tables.Scripts) scripts ≡ true }
+    requires known { AreBlobsOf (payload_of adb) draft.old known.old }
+    ensures scripts { OnOk result (draft.new ≡ draft_with (without_zeros
+        (value_at (payload_of adb.entry) (Kinds.Obj Tables.Scripts) scripts)) draft.old) }
+    ensures known { OnOk result (AreBlobsOf (payload_of adb.entry) draft.new known.new) }
 {
     values_have_their_shape();
     draft.open_list()?;
-    draft.blob(scripts.trigger())?;
-    draft.blob(scripts.pre_install())?;
-    draft.blob(scripts.post_install())?;
-    draft.blob(scripts.pre_deinstall())?;
-    draft.blob(scripts.post_deinstall())?;
-    draft.blob(scripts.pre_upgrade())?;
-    draft.blob(scripts.post_upgrade())?;
+    known.write_field(draft, adb, Which::Scripts, scripts, SCRIPTS_TRIGGER)?;
+    known.write_field(draft, adb, Which::Scripts, scripts, SCRIPTS_PRE_INSTALL)?;
+    known.write_field(draft, adb, Which::Scripts, scripts, SCRIPTS_POST_INSTALL)?;
+    known.write_field(draft, adb, Which::Scripts, scripts, SCRIPTS_PRE_DEINSTALL)?;
+    known.write_field(draft, adb, Which::Scripts, scripts, SCRIPTS_POST_DEINSTALL)?;
+    known.write_field(draft, adb, Which::Scripts, scripts, SCRIPTS_PRE_UPGRADE)?;
+    known.write_field(draft, adb, Which::Scripts, scripts, SCRIPTS_POST_UPGRADE)?;
     draft.close_object()
 }

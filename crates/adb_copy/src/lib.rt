@@ -1,9 +1,9 @@
 //! Values of a container, written once more into another one (apk-v3(5)): the information of a
 //! package, its files and their access lists, and its scripts.
 //!
-//! Views or words of a payload go in, and what they show goes into a draft. An integer 0 becomes
-//! NULL, at every depth. Many places may share a long text: `KnownTexts` has those that the draft
-//! has already. The contracts cite `Zeros` of `specs/` (values in which no integer is 0, and an
+//! Words of a payload go in, and what they mean goes into a draft. An integer 0 becomes NULL, at
+//! every depth. Many places may share a long text: `KnownTexts` has those of one payload that the
+//! draft has already. The contracts cite `Zeros` of `specs/` (values in which no integer is 0, and an
 //! information with another id and length) and `Known` (the texts that a draft has).
 //! The rules stand in `docs/formats.md`: "The database after a change" (the zeros, and the
 //! information of a package that comes), "Canonical layout" (how a draft writes values, and that a

@@ -2,7 +2,7 @@
 //! texts"; the fields of the roots in "Schemas", tables 7 to 10. In the clauses of `Checked::new`
 //! `bad` says which cause a refusal has, and `sound` that no text is bad.
 
-ghost use Rattle.std.specs.Prelude.{◌≡◌, true, is_none, None, IfErr, IfOk};
+ghost use Rattle.std.specs.Prelude.{◌≡◌, ◌<◌, true, is_none, None, IfErr, IfOk};
 ghost use Rattle.adb_view.specs.Adb.{payload_of};
 ghost use Rattle.adb_tables.specs.Values.{is_sound, value_at};
 ghost use Rattle.adb_tables.specs.Shaped.{shaped_value, table_of};
@@ -19,7 +19,7 @@ use adb_tables::field_indexes::{
     IDB_PACKAGES, INDEX_DESCRIPTION, INDEX_PACKAGES, INDEX_PKGNAME_SPEC, INTENT_REMOVALS,
     INTENT_WRITES,
 };
-use adb_tables::{Shaped, Which};
+use adb_tables::{Shaped, Which, entry_word};
 use adb_view::{Adb, Val};
 use std::alloc::Global;
 
@@ -228,8 +228,8 @@ impl<'a> View<'a> for IdbView<'a> {
 
 impl<'a> IdbView<'a> {
     ghost use Rattle.adb_tables.specs.FieldIndexes.{IDB_PACKAGES};
-    ghost use Rattle.adb_tables.specs.Values.{entry_in};
-    ghost use Rattle.adb_schema.specs.Views.{idb_value};
+    ghost use Rattle.adb_tables.specs.Values.{count_of, entries_in, entry_in};
+    ghost use Rattle.adb_schema.specs.Views.{idb_value, package_value};
     ghost use Rattle.adb_fields.specs.ListValue.{list_value};
 
     /// The packages that are installed, in their order.
@@ -244,6 +244,23 @@ impl<'a> IdbView<'a> {
             Which::Package,
         );
         List::of(self.adb, entries)
+    }
+
+    /// The package at a place, counted from 0, which is read from the payload of the database.
+    pub fn package_at(&self, i: usize) -> PackageView<'a>
+        requires { i < count_of (entries_in (entry_in (idb_value self.now) IDB_PACKAGES)) }
+        ensures value { package_value result
+            ≡ entry_in (entry_in (idb_value self.now) IDB_PACKAGES) i }
+        ensures lent { payload_of result.adb ≡ payload_of self.now.adb }
+    {
+        let entries = objects_field(
+            self.adb,
+            Which::Idb,
+            self.word,
+            IDB_PACKAGES,
+            Which::Package,
+        );
+        PackageView::at(self.adb, entry_word(entries, i))
     }
 }
 

@@ -318,6 +318,16 @@ impl<'a> PackageView<'a> {
     ghost use Rattle.adb_schema.specs.Views.{info_value, package_value, scripts_value};
     ghost use Rattle.adb_fields.specs.ListValue.{list_value};
 
+    /// The view of a word that is sound as a package, which is read from this payload.
+    pub(crate) fn at(adb: Adb<'a>, word: Val) -> PackageView<'a>
+        requires { is_sound (payload_of adb) (Kinds.Obj Tables.Package) word ≡ true }
+        ensures value { package_value result
+            ≡ value_at (payload_of adb.entry) (Kinds.Obj Tables.Package) word }
+        ensures lent { payload_of result.adb ≡ payload_of adb.entry }
+    {
+        PackageView { adb, word }
+    }
+
     /// The payload that the package is read from.
     pub fn adb(&self) -> Adb<'a>
         ensures { result ≡ self.now.adb }

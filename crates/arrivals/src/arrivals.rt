@@ -9,7 +9,7 @@ ghost use Rattle.arrivals.specs.NameReads.{IsAnswerByRead, IsNameRead, IsStaying
 ghost use Rattle.base_core.specs.Read.{OnlyReads};
 ghost use Rattle.change_inputs.specs.Answers.{Agrees};
 ghost use Rattle.change_outcome.specs.MembersAfter.{members_after, name_that_goes, MemberFound, members_found};
-ghost use Rattle.db_core.specs.Seen.{packages_of, members_of};
+ghost use Rattle.db_core.specs.Seen.{packages_before, packages_of, members_of};
 ghost use Rattle.db_core.specs.declared.members.TheConstants.{MOST_MEMBERS};
 ghost use Rattle.package_files.specs.Runs.{Explains};
 ghost use Rattle.package_changes.specs.Placed.{old_package, placed_names_of, replacement_of};
@@ -224,35 +224,32 @@ fn test_leaving(
 /// database, and each that comes from what was read of its file.
 pub fn members_of_change<'a>(
     alloc: Global,
-    db: &Db<'a>,
+    db: &'a Db<'a>,
     arrivals: &'a Arrivals,
 ) -> Result<Members<'a>, AllocError>
     requires { CanBeMembers (packages_of db.now) (arrivals_seen arrivals.now) }
     ensures { IfOk result (λ members. members_of members
-        ≡ members_read (packages_of db.now) (arrivals_seen arrivals.entry.now)) }
+        ≡ members_read (packages_of db.entry.now) (arrivals_seen arrivals.entry.now)) }
 {
-    let mut members = Members::new(alloc);
+    let mut members = Members::new(alloc, db);
     for read in &arrivals.members {
-        push_read(&mut members, db, read)?;
+        push_read(&mut members, read)?;
     }
     Ok(members)
 }
 
 /// Adds a package that was read to the members, behind the others.
-fn push_read<'a>(
-    members: &mut Members<'a>,
-    db: &Db<'a>,
-    read: &'a MemberRead,
-) -> Result<(), AllocError>
-    requires behind { (m : Member) → member_read (packages_of db.now) read.now ≡ Some m
+fn push_read<'a>(members: &mut Members<'a>, read: &'a MemberRead) -> Result<(), AllocError>
+    requires behind { (m : Member) → member_read (packages_before members.old) read.now ≡ Some m
         → comes_behind (member_name m) (members_of members.old) ≡ true }
-    requires placed { IsPlaced (packages_of db.now) read.now }
+    requires placed { IsPlaced (packages_before members.old) read.now }
     requires few { length (members_of members.old) < MOST_MEMBERS }
-    ensures { OnOk result (members_of members.new ≡ members_of members.old
-        ++ option_to_list (member_read (packages_of db.now) read.entry.now)) }
+    ensures added { OnOk result (members_of members.new ≡ members_of members.old
+        ++ option_to_list (member_read (packages_before members.old) read.entry.now)) }
+    ensures before { packages_before members.new ≡ packages_before members.old }
 {
     match read {
-        MemberRead::Stays(place) => members.stays(db, *place),
+        MemberRead::Stays(place) => members.stays(*place),
         MemberRead::Comes(pkg) => members.comes_in_pieces(&pkg.contents()),
     }
 }

@@ -52,10 +52,10 @@ fn change_of<'a>(
     coming: &'a [Front],
     words: &Words,
 ) -> Result<Option<Vec<u8>>, AllocError> {
-    let mut members = Members::new(alloc);
+    let mut members = Members::new(alloc, db);
     for i in 0..db.len() {
         let stays = !is_among(words, name_at(db, i, PhantomData));
-        if stays && !add_installed(&mut members, db, i)? {
+        if stays && !add_installed(&mut members, i)? {
             return Ok(None);
         }
     }
@@ -79,9 +79,9 @@ pub(crate) fn unchanged_database(alloc: Global, file: &[u8]) -> Result<bool, All
 /// Whether the database with the same packages is the same bytes; it may list 100 files, each of
 /// which is owned.
 fn is_written_again(alloc: Global, db: &Db<'_>, file: &[u8]) -> Result<bool, AllocError> {
-    let mut members = Members::new(alloc);
+    let mut members = Members::new(alloc, db);
     for i in 0..db.len() {
-        if !add_installed(&mut members, db, i)? {
+        if !add_installed(&mut members, i)? {
             return Ok(false);
         }
     }

@@ -1,4 +1,5 @@
 pub mod AnyOf
+mod Lent
 mod ListedNames
 pub mod ListingPlaces
 mod MemberPlaces

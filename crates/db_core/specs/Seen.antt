@@ -1,9 +1,9 @@
 -- What a database and the members of the program stand for.
 -- No rule of a document: contracts speak of a database and of members by these.
-use Rattle.std.specs.Prelude.{List, option_map, map}
+use Rattle.std.specs.Prelude.{ℕ, List, option_map, map}
 use Rattle.adb_view.specs.Plain.{Plain}
 use Rattle.adb_schema.specs.Views.{idb_value}
-use Rattle.db_core.specs.EntrySeen.{member_by}
+use Rattle.db_core.specs.EntrySeen.{member_by, payload_of_database}
 use Rattle.db_core.specs.Members.{Member}
 use Rattle.db_core.specs.Packages.{packages_by}
 use Rattle.db_core.specs.declared.db.Db.{Db}
@@ -16,3 +16,11 @@ packages_of db = packages_by (option_map idb_value db.idb)
 -- the members of the program, in their order
 abbrev pub members_of : Members → List Member
 members_of members = map member_by members.entries.items
+
+-- the packages of the database from which members stay, in its order
+abbrev pub packages_before : Members → List Plain
+packages_before members = packages_of members.db.now
+
+-- the payload from which the packages of that database are read
+abbrev pub payload_before : Members → List ℕ
+payload_before members = payload_of_database members.db.now.idb

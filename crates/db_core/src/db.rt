@@ -11,7 +11,9 @@ ghost use Rattle.adb_tables.specs.FieldIndexes.{IDB_PACKAGES};
 ghost use Rattle.adb_tables.specs.Values.{count_of, entries_in, entry_in, is_sound};
 ghost use Rattle.adb_tables.specs.declared.tables.Kind.TheVariants as Kinds;
 ghost use Rattle.adb_tables.specs.declared.tables.Which.TheVariants as Tables;
+ghost use Rattle.adb_view.specs.Adb.{payload_of};
 ghost use Rattle.adb_view.specs.Head.{head_fault, root_of};
+ghost use Rattle.db_core.specs.EntrySeen.{payload_of_database};
 ghost use Rattle.db_core.specs.NamePlaces.{placed_names_in_order};
 ghost use Rattle.db_core.specs.NameSeen.{name_seen};
 ghost use Rattle.db_core.specs.Packages.{is_package_named, lists_names, lists_no_reserved, lists_path, packages_by};
@@ -126,11 +128,7 @@ impl<'a> Db<'a> {
         requires { i < length (packages_of self.now) }
         ensures { slice_get (packages_of self.now) i ≡ Some (package_value result) }
     {
-        match &self.idb {
-            Some(idb) => package_at(&idb.packages(), i),
-            // A database without a view has no package.
-            None => unreachable!(),
-        }
+        package_of_database(&self.idb, i)
     }
 
     /// The place of the package with this name, counted from 0; of several the first. None comes
@@ -168,6 +166,20 @@ impl<'a> Db<'a> {
         ensures { All (λ l. is_reserved l.path ≡ false)
             (member_listings (map staying_member (packages_of self.now))) }
     {}
+}
+
+/// The package at a place of a database, counted from 0, which is read from the database's payload.
+pub(crate) fn package_of_database<'a>(idb: &Option<IdbView<'a>>, i: usize) -> PackageView<'a>
+    requires { i < length (packages_by (option_map idb_value idb.now)) }
+    ensures value { slice_get (packages_by (option_map idb_value idb.now)) i
+        ≡ Some (package_value result) }
+    ensures lent { payload_of result.adb ≡ payload_of_database idb.now }
+{
+    match idb {
+        Some(idb) => idb.package_at(i),
+        // A database without a view has no package.
+        None => unreachable!(),
+    }
 }
 
 /// The payload of the first block of a database's file, which passes all tests.

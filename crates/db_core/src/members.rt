@@ -5,9 +5,10 @@
 
 ghost use Rattle.adb_fields.specs.Repeated.{package_name};
 ghost use Rattle.adb_schema.specs.Views.{package_value};
+ghost use Rattle.adb_view.specs.Adb.{payload_of};
 ghost use Rattle.adb_view.specs.Plain.{Plain};
 ghost use Rattle.base_core.specs.Listed.{IsRising};
-ghost use Rattle.db_core.specs.EntrySeen.{member_by};
+ghost use Rattle.db_core.specs.EntrySeen.{comes_or_is_in, member_by, payload_of_database};
 ghost use Rattle.db_core.specs.Members.{Member, comes_behind, coming_member, is_coming, is_place, member_name, staying_member, Listing, member_listings};
 ghost use Rattle.list_order.specs.ByteOrder.{precedes};
 ghost use Rattle.std.specs.List.Sorted.{IsPartitionPoint};
@@ -20,7 +21,7 @@ ghost use Rattle.std.specs.List.{list_all};
 ghost use Rattle.std.specs.Prelude.{◌≡◌, ◌<◌, ◌≤◌, ◌++◌, ◌∷◌, [], true, false, ◌==◌, ℕ, All, Some, None, IfSome, bytes_eq, length, map, slice_get, IfOk, OnOk, OnErr, List};
 ghost use Rattle.db_core.specs.ListedAt.{IsListedAt};
 
-use crate::db::Db;
+use crate::db::{Db, package_of_database};
 use adb_schema::PackageView;
 use pkg_pieces::Contents;
 use std::alloc::{AllocError, Global};
@@ -58,6 +59,8 @@ impl<'a> Model for PackageWithId<'a> {
 /// The packages after a change, in byte order of names: those that stay and those that come.
 #[derive(Drop)]
 pub struct Members<'a> {
+    /// The database from which packages stay.
+    pub(crate) db: &'a Db<'a>,
     /// The packages, in byte order of their names.
     pub(crate) entries: Vec<PackageWithId<'a>>,
     // The packages stand in byte order of their names, each name once.
@@ -69,6 +72,9 @@ pub struct Members<'a> {
     ghost free: { list_all (λ e. comes_or_lists_no_reserved (member_by e)) entries.items ≡ true },
     // The packages come out of sound containers.
     ghost sound: { ∥ AreOfSoundContainers (map member_by entries.items) ∥₁ },
+    // A package that stays is read from the payload of the database.
+    ghost lent: { list_all (comes_or_is_in (payload_of_database db.now.idb)) entries.items
+        ≡ true },
 }
 
 /// Whether the name of a package comes before another one in byte order.
@@ -83,33 +89,43 @@ impl<'a> Members<'a> {
     ghost use Rattle.adb_rules.specs.Reserved.{is_reserved};
     ghost use Rattle.base_core.specs.Name.{IsName};
     ghost use Rattle.db_core.specs.Members.{AreInOrder, member_listings};
-    ghost use Rattle.db_core.specs.Seen.{members_of, packages_of};
+    ghost use Rattle.db_core.specs.Seen.{members_of, packages_before, packages_of, payload_before};
 
-    /// A list without packages.
-    pub fn new(alloc: Global) -> Members<'a>
-        ensures { members_of result ≡ [] }
+    /// A list without packages, for those that stay of a database and those that come.
+    pub fn new(alloc: Global, db: &'a Db<'a>) -> Members<'a>
+        ensures none { members_of result ≡ [] }
+        ensures before { packages_before result ≡ packages_of db.entry.now }
     {
         Members {
+            db,
             entries: Vec::new(alloc),
         }
     }
 
-    /// Adds the package at a place of a database, counted from 0, which stays. A refused call
+    /// The database from which packages stay.
+    pub fn db(&self) -> &'a Db<'a>
+        ensures { packages_of result.now ≡ packages_before self.now }
+    {
+        self.db
+    }
+
+    /// Adds the package at a place of the database, counted from 0, which stays. A refused call
     /// changes nothing.
     ///
     /// # Errors
     ///
     /// Want of memory.
-    pub fn stays(&mut self, db: &Db<'a>, i: usize) -> Result<(), AllocError>
-        requires at { i < length (packages_of db.now) }
-        requires behind { (pkg : Plain) → slice_get (packages_of db.now) i ≡ Some pkg
+    pub fn stays(&mut self, i: usize) -> Result<(), AllocError>
+        requires at { i < length (packages_before self.old) }
+        requires behind { (pkg : Plain) → slice_get (packages_before self.old) i ≡ Some pkg
             → comes_behind (package_name pkg) (members_of self.old) ≡ true }
         requires few { length (members_of self.old) < MOST_MEMBERS }
-        ensures ok { OnOk result ((pkg : Plain) → slice_get (packages_of db.now) i ≡ Some pkg
+        ensures ok { OnOk result ((pkg : Plain) → slice_get (packages_before self.old) i ≡ Some pkg
             → members_of self.new ≡ members_of self.old ++ staying_member pkg ∷ []) }
         ensures err { OnErr result (members_of self.new ≡ members_of self.old) }
+        ensures before { packages_before self.new ≡ packages_before self.old }
     {
-        let view = db.package(i);
+        let view = package_of_database(&self.db.idb, i);
         self.entries.push(PackageWithId { view, id: None })?;
         Ok(())
     }
@@ -127,6 +143,7 @@ impl<'a> Members<'a> {
             ++ coming_member (value_of_contents contents.now)
             (sha256 (payload_of_contents contents.now)) ∷ []) }
         ensures err { OnErr result (members_of self.new ≡ members_of self.old) }
+        ensures before { packages_before self.new ≡ packages_before self.old }
     {
         contents.values_keep_their_rules();
         contents.values_are_sound();
@@ -191,11 +208,14 @@ impl<'a> Members<'a> {
         self.entries.is_empty()
     }
 
-    /// The package at a place, counted from 0.
+    /// The package at a place, counted from 0. One that stays is read from the payload of the
+    /// database.
     pub fn view(&self, i: usize) -> &PackageView<'a>
         requires { i < length (members_of self.now) }
-        ensures { (m : Member) → slice_get (members_of self.now) i ≡ Some m
+        ensures value { (m : Member) → slice_get (members_of self.now) i ≡ Some m
             → package_value result.now ≡ m.pkg }
+        ensures stays { (m : Member) → slice_get (members_of self.now) i ≡ Some m
+            → is_coming m ≡ false → payload_of result.now.adb ≡ payload_before self.now }
     {
         &self.entries[i].view
     }

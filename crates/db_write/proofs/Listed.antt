@@ -1,5 +1,5 @@
 -- How many files members list.
-use Rattle.std.proofs.Common.{◌≡◌, ℕ, suc, zero, ◌+◌, ◌<◌, List, [], ◌∷◌, length, Option, Some, refl, ap, sym, ◌∙◌, arith, length-append}
+use Rattle.std.proofs.Common.{◌≡◌, ℕ, suc, zero, ◌+◌, ◌<◌, List, [], ◌∷◌, length, Some, refl, ap, ◌∙◌, arith, length-append}
 use Rattle.std.specs.Prelude.{slice_get}
 use Rattle.adb_view.specs.Plain.{Plain}
 use Rattle.adb_fields.specs.Repeated.{files_in, name_of}
@@ -16,10 +16,9 @@ in_folders m place i (d ∷ folders) =
     length-append (listings_in_folder m place i 1 (name_of d) (files_in d)) (listings_in_folders m place (i + 1) folders)
     ∙ (λ j. in_folder m place i 1 (name_of d) (files_in d) j + in_folders m place (i + 1) folders j)
 
--- ---- a member by its parts
+-- ---- a member at each place
 
-pub member_there : (members : List Member) (i : ℕ) (v : Plain) (id : Option (List ℕ)) → i < length members → ((m : Member) → slice_get members i ≡ Some m → v ≡ m.pkg) → ((m : Member) → slice_get members i ≡ Some m → id ≡ m.id)
-    → slice_get members i ≡ Some (record { pkg = v; id = id })
-member_there [] i v id h f g = absurd (omega arith)
-member_there (m ∷ members) zero v id h f g = λ j. Some (record { pkg = sym (f m refl) j; id = sym (g m refl) j })
-member_there (m ∷ members) (suc i) v id h f g = member_there members i v id (omega arith) f g
+pub member_there : (members : List Member) (i : ℕ) → i < length members → (m : Member) × (slice_get members i ≡ Some m)
+member_there [] i h = absurd (omega arith)
+member_there (m ∷ members) zero h = (m, refl)
+member_there (m ∷ members) (suc i) h = member_there members i (omega arith)

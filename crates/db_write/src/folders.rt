@@ -1,11 +1,10 @@
 //! The folders of a package, and of their files those that it owns.
 //! The rule stands in `docs/formats.md`, "The database after a change": "each folder with its name
 //! and its access list, also where it is empty, and of its files those that the package owns"; the
-//! fields in "Schemas", tables 5 and 7, which count from 1, and the constants here from 0.
+//! fields in "Schemas", tables 5 and 7.
 ghost use Rattle.adb_copy.specs.Known.{AreBlobsOf};
 ghost use Rattle.adb_fields.specs.Fields.{are_all_sound, array_at};
 ghost use Rattle.adb_fields.specs.Repeated.{folders_in, list_of};
-ghost use Rattle.adb_schema.specs.Views.{package_value};
 ghost use Rattle.adb_tables.specs.Values.{entries_in, is_sound, value_at};
 ghost use Rattle.adb_tables.specs.declared.tables.Kind.TheVariants as Kinds;
 ghost use Rattle.adb_tables.specs.declared.tables.Which.TheVariants as Tables;
@@ -18,71 +17,62 @@ ghost use Rattle.std.specs.Prelude.{◌≡◌, ◌<◌, true, false, OnOk, Some,
 
 use adb_copy::{KnownTexts, write_acl, write_file};
 use adb_fields::{field_word, objects_field};
-use adb_schema::PackageView;
+use adb_tables::field_indexes::{DIR_ACL, DIR_FILES, DIR_NAME, PACKAGE_PATHS};
 use adb_tables::{Which, entry_word};
 use adb_values::Draft;
 use adb_view::{Adb, Arr, Val};
-use std::alloc::{AllocError, Global};
-
-/// The index of `paths` among the fields of a package (2 in table 7).
-const PATHS: usize = 1;
-
-/// The index of the name among the fields of a folder (1 in table 5).
-const NAME: usize = 0;
-
-/// The index of the access list of a folder (2 in table 5).
-const ACL: usize = 1;
-
-/// The index of the files of a folder (3 in table 5).
-const FILES: usize = 2;
+use std::alloc::AllocError;
 
 /// Writes the folders of a package with the files whose flag is set, by one flag for each file of
 /// the package, in order.
 pub(crate) fn write_folders(
-    alloc: Global,
     draft: &mut Draft,
-    pkg: &PackageView<'_>,
+    adb: Adb<'_>,
+    known: &mut KnownTexts,
+    pkg: Val,
     flags: &[bool],
 ) -> Result<(), AllocError>
-    ensures { OnOk result (draft.new ≡ draft_with
-        (arr_value (folders_after (folders_in (package_value pkg.now)) flags.now)) draft.old) }
+    requires sound { is_sound (payload_of adb) (Kinds.Obj Tables.Package) pkg ≡ true }
+    requires known { AreBlobsOf (payload_of adb) draft.old known.old }
+    ensures folders { OnOk result (draft.new ≡ draft_with (arr_value (folders_after (folders_in
+        (value_at (payload_of adb.entry) (Kinds.Obj Tables.Package) pkg)) flags.now)) draft.old) }
+    ensures known { OnOk result (AreBlobsOf (payload_of adb.entry) draft.new known.new) }
 {
-    let adb = pkg.adb();
-    let folders = objects_field(adb, Which::Package, pkg.word(), PATHS, Which::Dir);
-    write_folder_list(alloc, draft, adb, folders, flags)
+    let folders = objects_field(adb, Which::Package, pkg, PACKAGE_PATHS, Which::Dir);
+    write_folder_list(draft, adb, known, folders, flags)
 }
 
 /// The flags behind those of the files of a package: the next package's.
-pub(crate) fn flags_behind<'f>(pkg: &PackageView<'_>, flags: &'f [bool]) -> &'f [bool]
-    ensures { result.now
-        ≡ drop (total_of file_count (folders_in (package_value pkg.now))) flags.entry.now }
+pub(crate) fn flags_behind<'f>(adb: Adb<'_>, pkg: Val, flags: &'f [bool]) -> &'f [bool]
+    requires { is_sound (payload_of adb) (Kinds.Obj Tables.Package) pkg ≡ true }
+    ensures { result.now ≡ drop (total_of file_count (folders_in
+        (value_at (payload_of adb.entry) (Kinds.Obj Tables.Package) pkg))) flags.entry.now }
 {
-    let adb = pkg.adb();
-    let folders = objects_field(adb, Which::Package, pkg.word(), PATHS, Which::Dir);
+    let folders = objects_field(adb, Which::Package, pkg, PACKAGE_PATHS, Which::Dir);
     flags_behind_folders(adb, folders, flags)
 }
 
-/// Writes folders with the files whose flag is set. Many places in them may share a long text, so
-/// the texts that were written are kept.
+/// Writes folders with the files whose flag is set.
 fn write_folder_list<'a>(
-    alloc: Global,
     draft: &mut Draft,
     adb: Adb<'a>,
+    known: &mut KnownTexts,
     folders: Arr<'a>,
     flags: &[bool],
 ) -> Result<(), AllocError>
-    requires { are_all_sound (payload_of adb) (Kinds.Obj Tables.Dir) (array_entries folders)
+    requires sound { are_all_sound (payload_of adb) (Kinds.Obj Tables.Dir) (array_entries folders)
         ≡ true }
-    ensures { OnOk result (draft.new ≡ draft_with (arr_value (folders_after (list_of (entries_in
-        (array_at (payload_of adb.entry) (Kinds.Obj Tables.Dir) (array_entries folders.entry))))
-        flags.now)) draft.old) }
+    requires known { AreBlobsOf (payload_of adb) draft.old known.old }
+    ensures folders { OnOk result (draft.new ≡ draft_with (arr_value (folders_after (list_of
+        (entries_in (array_at (payload_of adb.entry) (Kinds.Obj Tables.Dir)
+        (array_entries folders.entry)))) flags.now)) draft.old) }
+    ensures known { OnOk result (AreBlobsOf (payload_of adb.entry) draft.new known.new) }
 {
-    let mut known = KnownTexts::new(alloc);
     draft.open_list()?;
     let mut left = flags;
     for i in 0..folders.len() {
         let folder = entry_word(folders, i);
-        write_folder(draft, adb, &mut known, folder, left)?;
+        write_folder(draft, adb, known, folder, left)?;
         // The next folder takes the flags behind those of this one.
         left = flags_behind_folder(adb, folder, left);
     }
@@ -112,7 +102,7 @@ fn flags_behind_folder<'f>(adb: Adb<'_>, folder: Val, flags: &'f [bool]) -> &'f 
         (file_count (value_at (payload_of adb.entry) (Kinds.Obj Tables.Dir) folder))
         flags.entry.now }
 {
-    let files = objects_field(adb, Which::Dir, folder, FILES, Which::File);
+    let files = objects_field(adb, Which::Dir, folder, DIR_FILES, Which::File);
     let count = files.len();
     if count >= flags.len() {
         return &flags[..0];
@@ -135,9 +125,14 @@ fn write_folder(
     ensures known { OnOk result (AreBlobsOf (payload_of adb.entry) draft.new known.new) }
 {
     draft.open_list()?;
-    known.write_field(draft, adb, Which::Dir, folder, NAME)?;
-    write_acl(draft, adb, known, field_word(adb, Which::Dir, folder, ACL))?;
-    let files = objects_field(adb, Which::Dir, folder, FILES, Which::File);
+    known.write_field(draft, adb, Which::Dir, folder, DIR_NAME)?;
+    write_acl(
+        draft,
+        adb,
+        known,
+        field_word(adb, Which::Dir, folder, DIR_ACL),
+    )?;
+    let files = objects_field(adb, Which::Dir, folder, DIR_FILES, Which::File);
     write_files(draft, adb, known, files, flags)?;
     draft.close_object()
 }

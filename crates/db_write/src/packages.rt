@@ -1,33 +1,35 @@
 //! The packages of a database.
 //! The rule stands in `docs/formats.md`, "The database after a change": what a database has of each
-//! package; the fields in "Schemas", table 7, which counts from 1. The constant here counts from 0.
-ghost use Rattle.adb_copy.specs.Zeros.{without_zeros};
-ghost use Rattle.adb_schema.specs.Views.{package_value};
-ghost use Rattle.adb_tables.specs.FieldIndexes.{PACKAGE_INFO, PACKAGE_SCRIPTS, PACKAGE_TRIGGERS};
-ghost use Rattle.adb_tables.specs.Values.{entry_in};
+//! package; the fields in "Schemas", table 7.
+ghost use Rattle.adb_copy.specs.Known.{AreBlobsOf};
+ghost use Rattle.adb_tables.specs.FieldIndexes.{PACKAGE_INFO};
+ghost use Rattle.adb_tables.specs.Values.{entry_in, is_sound, value_at};
+ghost use Rattle.adb_tables.specs.declared.tables.Kind.TheVariants as Kinds;
+ghost use Rattle.adb_tables.specs.declared.tables.Which.TheVariants as Tables;
 ghost use Rattle.adb_values.specs.Drafts.{draft_with};
+ghost use Rattle.adb_view.specs.Adb.{payload_of};
 ghost use Rattle.adb_view.specs.Plain.{arr_value};
 ghost use Rattle.db_core.specs.Members.{Member};
-ghost use Rattle.db_core.specs.Seen.{members_of};
-ghost use Rattle.db_write.specs.NewDatabase.{file_count, info_after, member_file_count, package_after, packages_after, total_of};
-ghost use Rattle.std.specs.Prelude.{◌≡◌, ◌<◌, ◌≤◌, OnOk, Some, drop, length, slice_get};
+ghost use Rattle.db_core.specs.Seen.{members_of, payload_before};
+ghost use Rattle.db_write.specs.NewDatabase.{info_after, member_file_count, package_after, packages_after};
+ghost use Rattle.std.specs.Prelude.{◌≡◌, ◌<◌, true, OnOk, Some, drop, length, slice_get, unwrap_or};
 
 use crate::folders::{flags_behind, write_folders};
 use adb_copy::{KnownTexts, write_info, write_int, write_scripts, write_text_list};
-use adb_fields::texts_field;
-use adb_schema::PackageView;
+use adb_fields::{field_word, hash_field, int_field, texts_field};
 use adb_tables::Which;
+use adb_tables::field_indexes::{
+    INFO_FILE_SIZE, INFO_HASHES, PACKAGE_INFO, PACKAGE_REPLACES_PRIORITY, PACKAGE_SCRIPTS,
+    PACKAGE_TRIGGERS,
+};
 use adb_values::Draft;
+use adb_view::{Adb, Val};
 use db_core::Members;
 use std::alloc::{AllocError, Global};
-use std::marker::PhantomData;
-
-/// The index of `triggers`, the patterns of folders that a package's trigger watches (4 in table
-/// 7).
-const TRIGGERS: usize = 3;
 
 /// Writes the packages of members with the files whose flag is set, by one flag for each file of
-/// all members, in order.
+/// all members, in order. Packages that stay may share long texts, so those of the database that
+/// were written are kept.
 pub(crate) fn write_packages(
     alloc: Global,
     draft: &mut Draft,
@@ -37,79 +39,114 @@ pub(crate) fn write_packages(
     ensures { OnOk result (draft.new
         ≡ draft_with (arr_value (packages_after (members_of members.now) flags.now)) draft.old) }
 {
+    let mut known = KnownTexts::new(alloc);
     draft.open_list()?;
     let mut left = flags;
     for i in 0..members.len() {
-        let pkg = members.view(i);
-        write_package(alloc, draft, pkg, members.id(i), left)?;
+        write_member(alloc, draft, members, &mut known, i, left)?;
         // The next package takes the flags behind those of this one.
-        left = flags_behind(pkg, left);
+        left = flags_behind_member(members, i, left);
     }
     draft.close_array()
 }
 
-/// Writes a package with the files whose flag is set, by the flags from its first file on; a
-/// package that comes has an id.
-fn write_package<'a>(
+/// The flags behind those of the files of the member at a place, counted from 0.
+fn flags_behind_member<'f>(members: &Members<'_>, i: usize, flags: &'f [bool]) -> &'f [bool]
+    requires { i < length (members_of members.now) }
+    ensures { (m : Member) → slice_get (members_of members.now) i ≡ Some m
+        → result.now ≡ drop (member_file_count m) flags.entry.now }
+{
+    let view = members.view(i);
+    flags_behind(view.adb(), view.word(), flags)
+}
+
+/// Writes the member at a place, counted from 0, with the files whose flag is set, by the flags
+/// from its first file on. `known` has the long texts of the database that the draft has already; a
+/// package that comes is read from a payload of its own.
+fn write_member(
     alloc: Global,
     draft: &mut Draft,
-    pkg: &PackageView<'a>,
+    members: &Members<'_>,
+    known: &mut KnownTexts,
+    i: usize,
+    flags: &[bool],
+) -> Result<(), AllocError>
+    requires within { i < length (members_of members.now) }
+    requires known { AreBlobsOf (payload_before members.now) draft.old known.old }
+    ensures value { OnOk result ((m : Member) → slice_get (members_of members.now) i ≡ Some m
+        → draft.new ≡ draft_with (package_after m flags.now) draft.old) }
+    ensures known { OnOk result (AreBlobsOf (payload_before members.now) draft.new known.new) }
+{
+    let view = members.view(i);
+    let adb = view.adb();
+    let pkg = view.word();
+    match members.id(i) {
+        None => write_package(draft, adb, known, pkg, None, flags),
+        Some(id) => {
+            let mut own = KnownTexts::new(alloc);
+            write_package(draft, adb, &mut own, pkg, Some(id), flags)
+        }
+    }
+}
+
+/// Writes the package with a word of a payload, with the files whose flag is set, by the flags from
+/// its first file on; a package that comes has an id.
+fn write_package(
+    draft: &mut Draft,
+    adb: Adb<'_>,
+    known: &mut KnownTexts,
+    pkg: Val,
     id: Option<[u8; 32]>,
     flags: &[bool],
 ) -> Result<(), AllocError>
-    ensures { OnOk result (draft.new
-        ≡ draft_with (package_after (record { pkg = package_value pkg.now; id = id }) flags.now)
-        draft.old) }
+    requires sound { is_sound (payload_of adb) (Kinds.Obj Tables.Package) pkg ≡ true }
+    requires known { AreBlobsOf (payload_of adb) draft.old known.old }
+    ensures value { OnOk result (draft.new ≡ draft_with (package_after
+        (record { pkg = value_at (payload_of adb.entry) (Kinds.Obj Tables.Package) pkg; id = id })
+        flags.now) draft.old) }
+    ensures known { OnOk result (AreBlobsOf (payload_of adb.entry) draft.new known.new) }
 {
     draft.open_list()?;
-    write_member_info(alloc, draft, pkg, id)?;
-    write_folders(alloc, draft, pkg, flags)?;
-    write_package_scripts(draft, pkg, PhantomData)?;
-    write_triggers(alloc, draft, pkg)?;
-    write_int(draft, pkg.replaces_priority())?;
+    write_member_info(draft, adb, known, pkg, id)?;
+    write_folders(draft, adb, known, pkg, flags)?;
+    let scripts = field_word(adb, Which::Package, pkg, PACKAGE_SCRIPTS);
+    write_scripts(draft, adb, known, scripts)?;
+    let triggers = texts_field(adb, Which::Package, pkg, PACKAGE_TRIGGERS);
+    write_text_list(draft, adb, known, triggers)?;
+    let priority = int_field(adb, Which::Package, pkg, PACKAGE_REPLACES_PRIORITY);
+    write_int(draft, priority)?;
     draft.close_object()
 }
 
 /// Writes the information of a package, with the id of one that comes as its hash; one that stays
 /// keeps its own.
 fn write_member_info(
-    alloc: Global,
     draft: &mut Draft,
-    pkg: &PackageView<'_>,
+    adb: Adb<'_>,
+    known: &mut KnownTexts,
+    pkg: Val,
     id: Option<[u8; 32]>,
 ) -> Result<(), AllocError>
-    ensures { OnOk result (draft.new
-        ≡ draft_with (info_after id (entry_in (package_value pkg.now) PACKAGE_INFO)) draft.old) }
+    requires sound { is_sound (payload_of adb) (Kinds.Obj Tables.Package) pkg ≡ true }
+    requires known { AreBlobsOf (payload_of adb) draft.old known.old }
+    ensures info { OnOk result (draft.new ≡ draft_with (info_after id (entry_in
+        (value_at (payload_of adb.entry) (Kinds.Obj Tables.Package) pkg) PACKAGE_INFO))
+        draft.old) }
+    ensures known { OnOk result (AreBlobsOf (payload_of adb.entry) draft.new known.new) }
 {
-    let info = pkg.info();
-    match &id {
-        Some(id) => write_info(alloc, draft, &info, id, info.file_size()),
-        None => write_info(alloc, draft, &info, info.hashes(), info.file_size()),
+    let info = field_word(adb, Which::Package, pkg, PACKAGE_INFO);
+    let own = hash_field(adb, Which::PkgInfo, info, INFO_HASHES);
+    let len = int_field(adb, Which::PkgInfo, info, INFO_FILE_SIZE);
+    write_info(draft, adb, known, info, hash_after(&id, own), len)
+}
+
+/// The hash of a package in the new database: the id of one that comes, and its own of one that
+/// stays.
+fn hash_after<'a>(id: &'a Option<[u8; 32]>, own: &'a [u8]) -> &'a [u8]
+    ensures { result.now ≡ unwrap_or id.entry.now own.entry.now }
+{
+    match id {
+        Some(id) => id.as_slice(),
+        None => own,
     }
-}
-
-/// Writes the scripts of a package. The mark serves the borrow checker alone, which does not know
-/// the parts of a view that is made and lent here unless the signature names the view as an
-/// argument.
-fn write_package_scripts<'a>(
-    draft: &mut Draft,
-    pkg: &PackageView<'a>,
-    _mark: PhantomData<PackageView<'a>>,
-) -> Result<(), AllocError>
-    ensures { OnOk result (draft.new
-        ≡ draft_with (without_zeros (entry_in (package_value pkg.now) PACKAGE_SCRIPTS)) draft.old) }
-{
-    let scripts = pkg.scripts();
-    write_scripts(draft, &scripts)
-}
-
-/// Writes the triggers of a package: the patterns of folders that its trigger watches.
-fn write_triggers(alloc: Global, draft: &mut Draft, pkg: &PackageView<'_>) -> Result<(), AllocError>
-    ensures { OnOk result (draft.new ≡ draft_with
-        (without_zeros (entry_in (package_value pkg.now) PACKAGE_TRIGGERS)) draft.old) }
-{
-    let adb = pkg.adb();
-    let mut known = KnownTexts::new(alloc);
-    let triggers = texts_field(adb, Which::Package, pkg.word(), TRIGGERS);
-    write_text_list(draft, adb, &mut known, triggers)
 }

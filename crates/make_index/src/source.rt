@@ -4,7 +4,8 @@
 //! `docs/commands.md`, "`mkndx PACKAGE..`".
 ghost use Rattle.adb_schema.specs.Soundness.{first_fault, root_value};
 ghost use Rattle.adb_tables.specs.FieldIndexes.{PACKAGE_INFO};
-ghost use Rattle.adb_tables.specs.Values.{is_sound, entry_in};
+ghost use Rattle.adb_tables.specs.Values.{entry_in, is_sound, value_at};
+ghost use Rattle.adb_view.specs.Adb.{payload_of};
 ghost use Rattle.adb_view.specs.Head.{head_fault, root_of};
 ghost use Rattle.adb_values.specs.Drafts.{draft_with};
 ghost use Rattle.adb_write.specs.Canonical.{written_of};
@@ -16,10 +17,10 @@ ghost use Rattle.std.specs.Prelude.{◌≡◌, true, is_none, ◌<◌, ◌^◌, 
 ghost use Rattle.adb_tables.specs.declared.tables.Kind.TheVariants as Kinds;
 ghost use Rattle.adb_tables.specs.declared.tables.Which.TheVariants as Tables;
 
-use adb_copy::write_info;
+use adb_copy::{KnownTexts, write_info};
 use adb_schema::{PkgInfo, View};
 use adb_values::Draft;
-use adb_view::Adb;
+use adb_view::{Adb, Val};
 use adb_write::WriteFault;
 use pkg_core::{Package, PackageFault};
 use std::alloc::{AllocError, Global};
@@ -82,7 +83,8 @@ impl EntryPayload {
             unreachable!()
         };
         let info = PkgInfo::of(adb, adb.root());
-        write_info(alloc, draft, &info, info.hashes(), info.file_size())
+        let id = info.hashes();
+        write_entry_info(alloc, draft, adb, adb.root(), id, info.file_size())
     }
 }
 
@@ -114,7 +116,25 @@ fn write_package(
 {
     let id = pkg.id();
     let info = pkg.view().info();
-    write_info(alloc, draft, &info, &id, len)
+    write_entry_info(alloc, draft, info.adb(), info.word(), &id, len)
+}
+
+/// Writes the information with a word of a payload, with `id` as its hash and `len` as the size of
+/// the package's file. Each entry is written from a payload of its own, so no text is known before.
+fn write_entry_info(
+    alloc: Global,
+    draft: &mut Draft,
+    adb: Adb<'_>,
+    info: Val,
+    id: &[u8],
+    len: u64,
+) -> Result<(), AllocError>
+    requires { is_sound (payload_of adb) (Kinds.Obj Tables.PkgInfo) info ≡ true }
+    ensures { OnOk result (draft.new ≡ draft_with (info_with
+        (value_at (payload_of adb.entry) (Kinds.Obj Tables.PkgInfo) info) id.now len) draft.old) }
+{
+    let mut known = KnownTexts::new(alloc);
+    write_info(draft, adb, &mut known, info, id, len)
 }
 
 /// The entry of a package in a payload of its own, or None where the entry passes a limit of the

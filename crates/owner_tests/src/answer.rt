@@ -2,7 +2,7 @@
 //! "Files that several packages list".
 
 use adb_schema::FilePath;
-use db_core::{MOST_MEMBERS, Members};
+use db_core::{Db, MOST_MEMBERS, Members};
 use file_owners::{Contested, Owners, owners_of_files};
 use pkg_pieces::Front;
 use row_lines::{add_number, add_word};
@@ -29,7 +29,8 @@ pub(crate) fn add_owners(
 
 /// Adds who owns the files of the packages with these fronts.
 fn add_owners_of(alloc: Global, fronts: &[Front], answer: &mut Vec<u8>) -> Result<(), AllocError> {
-    let mut members = Members::new(alloc);
+    let db = Db::empty(alloc);
+    let mut members = Members::new(alloc, &db);
     for front in fronts {
         if !add_coming(alloc, &mut members, front)? {
             return answer.extend_from_slice(b"a package is bad or not in order");

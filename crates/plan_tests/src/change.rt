@@ -122,11 +122,11 @@ fn fronts_of(alloc: Global, rows: &[Words]) -> Result<Vec<Front>, AllocError> {
 /// absent or not in order.
 fn members_of<'a>(
     alloc: Global,
-    db: &Db<'a>,
+    db: &'a Db<'a>,
     rows: &[Words],
     fronts: &'a [Front],
 ) -> Result<Option<Members<'a>>, AllocError> {
-    let mut members = Members::new(alloc);
+    let mut members = Members::new(alloc, db);
     let mut left = fronts.iter();
     for row in rows {
         let added = if does_stay(row) {
@@ -145,7 +145,7 @@ fn members_of<'a>(
 fn add_named<'a>(members: &mut Members<'a>, db: &Db<'a>, name: &[u8]) -> Result<bool, AllocError> {
     for i in 0..db.len() {
         if name_at(db, i, PhantomData) == name {
-            return add_installed(members, db, i);
+            return add_installed(members, i);
         }
     }
     Ok(false)

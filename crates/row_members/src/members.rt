@@ -45,21 +45,16 @@ pub fn name_at<'a>(db: &Db<'a>, i: usize, _mark: PhantomData<PackageView<'a>>) -
     package.info().name()
 }
 
-/// Adds the package at a place of a database, and tells whether it is in order there.
-pub fn add_installed<'a>(
-    members: &mut Members<'a>,
-    db: &Db<'a>,
-    i: usize,
-) -> Result<bool, AllocError>
-    requires { i < length (packages_of db.now) }
-{
-    if members.len() >= MOST_MEMBERS {
+/// Adds the package at a place of the database from which members stay, and tells whether there is
+/// one and it is in order.
+pub fn add_installed(members: &mut Members<'_>, i: usize) -> Result<bool, AllocError> {
+    if members.len() >= MOST_MEMBERS || i >= members.db().len() {
         return Ok(false);
     }
-    if !members.comes_behind(name_at(db, i, PhantomData)) {
+    if !members.comes_behind(name_at(members.db(), i, PhantomData)) {
         return Ok(false);
     }
-    members.stays(db, i)?;
+    members.stays(i)?;
     Ok(true)
 }
 

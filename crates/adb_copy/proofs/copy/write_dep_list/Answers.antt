@@ -1,4 +1,4 @@
-use Rattle.std.proofs.Common.{◌<◌, ℕ, List, length, arith, refl}
+use Rattle.std.proofs.Common.{◌≡◌, ◌<◌, ℕ, List, length, arith, refl}
 use Rattle.adb_view.specs.Adb.{payload_of}
 use Rattle.adb_view.specs.Entries.{array_entries}
 use Rattle.adb_view.specs.Plain.{Plain, Plains, arr_value}
@@ -8,9 +8,10 @@ use Rattle.adb_tables.specs.declared.tables.Kind.TheVariants as Kinds
 use Rattle.adb_tables.specs.declared.tables.Which.TheVariants as Tables
 use Rattle.adb_fields.specs.Fields.{array_at}
 use Rattle.adb_fields.proofs.FieldReads.{entry_count}
-use Rattle.adb_values.proofs.Lists.{closed_as}
+use Rattle.adb_values.specs.Drafts.{draft_with_all, draft_with_open_list}
+use Rattle.adb_values.proofs.Lists.{closed_as, on_ok}
 use Rattle.adb_copy.specs.Zeros.{all_without_zeros, without_zeros}
-use Rattle.adb_copy.proofs.Known.{known_opened}
+use Rattle.adb_copy.proofs.Known.{known_closed_array, known_opened}
 use Rattle.adb_copy.proofs.Lists.{zeros_given, zeros_left}
 use Rattle.adb_copy.proofs.ReadWords.{word_sound, word_value, word_within}
 use Rattle.adb_copy.proofs.Shapes.{array_shape}
@@ -22,15 +23,15 @@ write_dep-requires-clause-sound c =
     let p : List ℕ = payload_of c.args.adb in
     let ws : List ℕ = array_entries c.args.deps in
     let within : c.loop-i.i < length ws = omega (arith, c.len-i-end.ensures.value, c.loop-i-test.true) in
-    word_sound p (Kinds.Obj Tables.Dep) ws c.loop-i.i c.entry_word.result c.requires within c.entry_word.ensures
+    word_sound p (Kinds.Obj Tables.Dep) ws c.loop-i.i c.entry_word.result c.requires.sound within c.entry_word.ensures
 
 pub write_dep-requires-clause-known : goal.write_dep-requires-clause-known
 write_dep-requires-clause-known c = c.loop-i.invariant.known
 
 pub loop-i-init : goal.loop-i-init
-loop-i-init c = let p : List ℕ = payload_of c.args.adb in record {
+loop-i-init c = record {
   left = refl;
-  known = known_opened p c.new-known.result c.args.draft.now c.open_list.new.self (c.new-known.ensures p c.args.draft.now) c.in_ok-open_list.ensures.ok;
+  known = known_opened (payload_of c.args.adb) c.args.known.now c.args.draft.now c.open_list.new.self c.requires.known c.in_ok-open_list.ensures.ok;
 }
 
 pub loop-i-preserved : goal.loop-i-preserved
@@ -43,17 +44,27 @@ loop-i-preserved c =
     let within : c.loop-i.i < length ws = omega (arith, c.len-i-end.ensures.value, c.loop-i-test.true) in
     record {
       left =
-          zeros_left c.loop-i.i values (value_at p k word) _ _ _ (word_within p k ws c.loop-i.i word c.requires within c.entry_word.ensures)
-          (word_value p k ws c.loop-i.i word c.requires within c.entry_word.ensures) c.loop-i.invariant.left
+          zeros_left c.loop-i.i values (value_at p k word) _ _ _ (word_within p k ws c.loop-i.i word c.requires.sound within c.entry_word.ensures)
+          (word_value p k ws c.loop-i.i word c.requires.sound within c.entry_word.ensures) c.loop-i.invariant.left
           (c.in_ok-write_dep.ensures.dep);
       known = c.in_ok-write_dep.ensures.known;
     }
 
-pub returns : goal.returns
-returns c =
+pub returns-clause-deps : goal.returns-clause-deps
+returns-clause-deps c =
     let p : List ℕ = payload_of c.args.adb in
     let ws : List ℕ = array_entries c.args.deps in
     let v : Plain = array_at p (Kinds.Obj Tables.Dep) ws in
     closed_as arr_value (without_zeros v) (all_without_zeros (entries_in v)) c.args.draft.now _ _ c.close_array.result
     (zeros_array _ v (array_shape c.values_have_their_shape.ensures.word p (Kinds.Obj Tables.Dep) ws)) c.close_array.ensures.ok
-    (zeros_given c.loop-i.i (entries_in v) _ _ _ (omega (arith, c.len-i-end.ensures.value, c.loop-i-test.false, c.loop-i.auto.i-end, entry_count p (Kinds.Obj Tables.Dep) ws c.requires)) c.loop-i.invariant.left c.in_ok-open_list.ensures.ok)
+    (zeros_given c.loop-i.i (entries_in v) _ _ _ (omega (arith, c.len-i-end.ensures.value, c.loop-i-test.false, c.loop-i.auto.i-end, entry_count p (Kinds.Obj Tables.Dep) ws c.requires.sound)) c.loop-i.invariant.left c.in_ok-open_list.ensures.ok)
+
+pub returns-clause-known : goal.returns-clause-known
+returns-clause-known c =
+    let p : List ℕ = payload_of c.args.adb in
+    let ws : List ℕ = array_entries c.args.deps in
+    let v : Plain = array_at p (Kinds.Obj Tables.Dep) ws in
+    let given : c.loop-i.draft ≡ draft_with_all (all_without_zeros (entries_in v)) (draft_with_open_list c.args.draft.now) =
+    zeros_given c.loop-i.i (entries_in v) _ _ _ (omega (arith, c.len-i-end.ensures.value, c.loop-i-test.false, c.loop-i.auto.i-end, entry_count p (Kinds.Obj Tables.Dep) ws c.requires.sound)) c.loop-i.invariant.left c.in_ok-open_list.ensures.ok in
+    on_ok _ _ (λ closed. known_closed_array p c.loop-i.known c.loop-i.draft c.close_array.new.self c.loop-i.invariant.known (all_without_zeros (entries_in v)) c.args.draft.now given (closed (all_without_zeros (entries_in v)) c.args.draft.now given))
+    c.close_array.result c.close_array.ensures.ok

@@ -1,34 +1,66 @@
-use Rattle.std.proofs.Common.{refl}
-use Rattle.adb_view.specs.Plain.{Plain, obj_value}
+use Rattle.std.proofs.Common.{◌≡◌, ℕ, List, [], ◌∷◌, refl, ap, ◌∙◌}
 use Rattle.adb_view.specs.Adb.{payload_of}
-use Rattle.adb_schema.specs.Views.{info_value}
-use Rattle.adb_tables.specs.Values.{entry_in}
+use Rattle.adb_view.specs.Plain.{Plain, Plains, obj_value}
+use Rattle.adb_tables.specs.Values.{entry_in, text_in, value_at}
 use Rattle.adb_tables.specs.declared.tables.Which.TheVariants as Tables
 use Rattle.adb_tables.specs.declared.tables.Kind.TheVariants as Kinds
-use Rattle.adb_values.proofs.Lists.{closed_as}
-use Rattle.adb_copy.specs.Zeros.{info_with}
+use Rattle.adb_values.specs.Drafts.{draft_with, draft_with_all, draft_with_open_list}
+use Rattle.adb_values.proofs.Lists.{closed_as, on_ok}
+use Rattle.adb_copy.specs.Fields.{int_plains}
+use Rattle.adb_copy.specs.Zeros.{info_with, int_value, without_zeros}
+use Rattle.adb_copy.proofs.Known.{known_all, known_closed_object, known_more, known_opened}
 use Rattle.adb_copy.proofs.Shapes.{value_shape}
 use Rattle.adb_copy.proofs.Fields.{info_fields, info_written}
 use Rattle.adb_copy.proofs.copy.write_info.Goals as goal
 
+pub write_info_texts-requires-clause-known : goal.write_info_texts-requires-clause-known
+write_info_texts-requires-clause-known c =
+    known_opened (payload_of c.args.adb) c.args.known.now c.args.draft.now c.open_list.new.self c.requires.known c.in_ok-open_list.ensures.ok
+
+pub write_deps-requires-clause-known : goal.write_deps-requires-clause-known
+write_deps-requires-clause-known c =
+    known_all (payload_of c.args.adb) c.write_info_texts.new.known
+    (int_plains (c.int_field.result ∷ c.int_field-2.result ∷ c.args.len ∷ c.int_field-3.result ∷ []))
+    c.write_info_texts.new.draft c.write_ints.new.draft c.in_ok-write_info_texts.ensures.known c.in_ok-write_ints.ensures
+
+pub write_text_list-requires-clause-known : goal.write_text_list-requires-clause-known
+write_text_list-requires-clause-known c =
+    known_more (payload_of c.args.adb) c.write_deps-5.new.known c.write_deps-5.new.draft c.write_int.new.draft c.in_ok-write_deps-5.ensures.known (int_value c.int_field-4.result) c.in_ok-write_int.ensures
+
 pub returns : goal.returns
 returns c =
-    let info : Plain = info_value c.args.info.now in
-    closed_as obj_value (info_with info c.args.id.now c.args.len)
-    (info_fields c.args.id.now c.args.len
-    c.name.result.now c.version.result.now c.description.result.now c.arch.result.now c.license.result.now c.origin.result.now c.maintainer.result.now c.url.result.now c.repo_commit.result.now
-    c.build_time.result c.installed_size.result c.provider_priority.result
-    (entry_in info 14) (entry_in info 15) (entry_in info 16) (entry_in info 17) (entry_in info 18)
-    c.layer.result (entry_in info 20) c.unused.result)
-    c.args.draft.now _ _ c.close_object.result
-    (info_written info c.args.id.now c.args.len (value_shape c.values_have_their_shape.ensures.word (payload_of c.args.info.now.adb) (Kinds.Obj Tables.PkgInfo) c.args.info.now.word)
-    c.name.result.now c.version.result.now c.description.result.now c.arch.result.now c.license.result.now c.origin.result.now c.maintainer.result.now c.url.result.now c.repo_commit.result.now
-    c.build_time.result c.installed_size.result c.provider_priority.result
-    (entry_in info 14) (entry_in info 15) (entry_in info 16) (entry_in info 17) (entry_in info 18)
-    c.layer.result (entry_in info 20) c.unused.result
-    c.name.ensures c.version.ensures c.description.ensures c.arch.ensures c.license.ensures c.origin.ensures c.maintainer.ensures c.url.ensures c.repo_commit.ensures
-    c.build_time.ensures c.installed_size.ensures c.provider_priority.ensures
-    refl refl refl refl refl
-    c.layer.ensures refl c.unused.ensures)
-    c.close_object.ensures.ok
-    (rw (c.in_ok-write_int-2.ensures, c.in_ok-write_info_tags.ensures, c.in_ok-write_int.ensures, c.in_ok-write_deps-5.ensures, c.in_ok-write_deps-4.ensures, c.in_ok-write_deps-3.ensures, c.in_ok-write_deps-2.ensures, c.in_ok-write_deps.ensures, c.in_ok-write_ints.ensures, c.in_ok-write_texts-2.ensures, c.in_ok-write_texts.ensures, c.in_ok-open_list.ensures.ok) refl)
+    let p : List ℕ = payload_of c.args.adb in
+    let v : Plain = value_at p (Kinds.Obj Tables.PkgInfo) c.args.info in
+    let vs : Plains =
+    info_fields c.args.id.now c.args.len
+    (text_in (entry_in v 0)) (text_in (entry_in v 1)) (text_in (entry_in v 3)) (text_in (entry_in v 4)) (text_in (entry_in v 5))
+    (text_in (entry_in v 6)) (text_in (entry_in v 7)) (text_in (entry_in v 8)) (text_in (entry_in v 9))
+    c.int_field.result c.int_field-2.result c.int_field-3.result
+    (entry_in v 14) (entry_in v 15) (entry_in v 16) (entry_in v 17) (entry_in v 18)
+    c.int_field-4.result (entry_in v 20) c.int_field-5.result in
+    let tags : c.write_text_list.new.draft ≡ draft_with (without_zeros (entry_in v 20)) c.write_int.new.draft =
+    c.in_ok-write_text_list.ensures.texts ∙ ap (λ (u : Plain). draft_with (without_zeros u) c.write_int.new.draft) c.texts_field.ensures.value in
+    let given : c.write_int-2.new.draft ≡ draft_with_all vs (draft_with_open_list c.args.draft.now) =
+    rw (c.in_ok-write_int-2.ensures, tags, c.in_ok-write_int.ensures, c.in_ok-write_deps-5.ensures.deps, c.in_ok-write_deps-4.ensures.deps, c.in_ok-write_deps-3.ensures.deps, c.in_ok-write_deps-2.ensures.deps, c.in_ok-write_deps.ensures.deps, c.in_ok-write_ints.ensures, c.in_ok-write_info_texts.ensures.texts, c.in_ok-open_list.ensures.ok) refl in
+    let texts = c.write_text_list.new.known in
+    record {
+      info =
+          closed_as obj_value (info_with v c.args.id.now c.args.len) vs c.args.draft.now _ _ c.close_object.result
+          (info_written v c.args.id.now c.args.len (value_shape c.values_have_their_shape.ensures.word p (Kinds.Obj Tables.PkgInfo) c.args.info)
+          (text_in (entry_in v 0)) (text_in (entry_in v 1)) (text_in (entry_in v 3)) (text_in (entry_in v 4)) (text_in (entry_in v 5))
+          (text_in (entry_in v 6)) (text_in (entry_in v 7)) (text_in (entry_in v 8)) (text_in (entry_in v 9))
+          c.int_field.result c.int_field-2.result c.int_field-3.result
+          (entry_in v 14) (entry_in v 15) (entry_in v 16) (entry_in v 17) (entry_in v 18)
+          c.int_field-4.result (entry_in v 20) c.int_field-5.result
+          refl refl refl refl refl refl refl refl refl
+          c.int_field.ensures c.int_field-2.ensures c.int_field-3.ensures
+          refl refl refl refl refl
+          c.int_field-4.ensures refl c.int_field-5.ensures)
+          c.close_object.ensures.ok given;
+      known =
+          on_ok _ _
+          (λ closed. known_closed_object p texts c.write_int-2.new.draft c.close_object.new.self
+          (known_more p texts c.write_text_list.new.draft c.write_int-2.new.draft c.in_ok-write_text_list.ensures.known (int_value c.int_field-5.result) c.in_ok-write_int-2.ensures)
+          vs c.args.draft.now given (closed vs c.args.draft.now given))
+          c.close_object.result c.close_object.ensures.ok;
+    }

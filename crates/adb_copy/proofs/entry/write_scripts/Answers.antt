@@ -1,22 +1,37 @@
-use Rattle.std.proofs.Common.{refl}
+use Rattle.std.proofs.Common.{◌≡◌, ℕ, List, refl}
 use Rattle.adb_view.specs.Adb.{payload_of}
-use Rattle.adb_view.specs.Plain.{Plain, none, more, blob_value, obj_value}
-use Rattle.adb_copy.specs.Zeros.{without_zeros}
-use Rattle.adb_schema.specs.Views.{scripts_value}
+use Rattle.adb_view.specs.Plain.{Plain, Plains, none, more, blob_value, obj_value}
+use Rattle.adb_tables.specs.Values.{entry_in, text_in, value_at}
 use Rattle.adb_tables.specs.declared.tables.Which.TheVariants as Tables
 use Rattle.adb_tables.specs.declared.tables.Kind.TheVariants as Kinds
-use Rattle.adb_values.proofs.Lists.{closed_as}
-use Rattle.adb_copy.proofs.Shapes.{value_shape}
+use Rattle.adb_values.specs.Drafts.{draft_with_all, draft_with_open_list}
+use Rattle.adb_values.proofs.Lists.{closed_as, on_ok}
+use Rattle.adb_copy.specs.Zeros.{without_zeros}
 use Rattle.adb_copy.proofs.Entries.{scripts_written}
+use Rattle.adb_copy.proofs.Known.{known_closed_object, known_opened}
+use Rattle.adb_copy.proofs.Shapes.{value_shape}
 use Rattle.adb_copy.proofs.entry.write_scripts.Goals as goal
+
+pub write_field-requires-clause-known : goal.write_field-requires-clause-known
+write_field-requires-clause-known c =
+    known_opened (payload_of c.args.adb) c.args.known.now c.args.draft.now c.open_list.new.self c.requires.known c.in_ok-open_list.ensures.ok
 
 pub returns : goal.returns
 returns c =
-    let v : Plain = scripts_value c.args.scripts.now in
-    closed_as obj_value (without_zeros v)
-    (more (blob_value c.trigger.result.now) (more (blob_value c.pre_install.result.now) (more (blob_value c.post_install.result.now) (more (blob_value c.pre_deinstall.result.now) (more (blob_value c.post_deinstall.result.now) (more (blob_value c.pre_upgrade.result.now) (more (blob_value c.post_upgrade.result.now) none)))))))
-    c.args.draft.now _ _ c.close_object.result
-    (scripts_written v c.trigger.result.now c.pre_install.result.now c.post_install.result.now c.pre_deinstall.result.now c.post_deinstall.result.now c.pre_upgrade.result.now c.post_upgrade.result.now (value_shape c.values_have_their_shape.ensures.word (payload_of c.args.scripts.now.adb) (Kinds.Obj Tables.Scripts) c.args.scripts.now.word)
-    c.trigger.ensures c.pre_install.ensures c.post_install.ensures c.pre_deinstall.ensures c.post_deinstall.ensures c.pre_upgrade.ensures c.post_upgrade.ensures)
-    c.close_object.ensures.ok
-    (rw (c.in_ok-blob-7.ensures.ok, c.in_ok-blob-6.ensures.ok, c.in_ok-blob-5.ensures.ok, c.in_ok-blob-4.ensures.ok, c.in_ok-blob-3.ensures.ok, c.in_ok-blob-2.ensures.ok, c.in_ok-blob.ensures.ok, c.in_ok-open_list.ensures.ok) refl)
+    let p : List ℕ = payload_of c.args.adb in
+    let v : Plain = value_at p (Kinds.Obj Tables.Scripts) c.args.scripts in
+    let vs : Plains =
+    more (blob_value (text_in (entry_in v 0))) (more (blob_value (text_in (entry_in v 1))) (more (blob_value (text_in (entry_in v 2))) (more (blob_value (text_in (entry_in v 3)))
+    (more (blob_value (text_in (entry_in v 4))) (more (blob_value (text_in (entry_in v 5))) (more (blob_value (text_in (entry_in v 6))) none)))))) in
+    let given : c.write_field-7.new.draft ≡ draft_with_all vs (draft_with_open_list c.args.draft.now) =
+    rw (c.in_ok-write_field-7.ensures.text, c.in_ok-write_field-6.ensures.text, c.in_ok-write_field-5.ensures.text, c.in_ok-write_field-4.ensures.text, c.in_ok-write_field-3.ensures.text, c.in_ok-write_field-2.ensures.text, c.in_ok-write_field.ensures.text, c.in_ok-open_list.ensures.ok) refl in
+    record {
+      scripts =
+          closed_as obj_value (without_zeros v) vs c.args.draft.now _ _ c.close_object.result
+          (scripts_written v _ _ _ _ _ _ _ (value_shape c.values_have_their_shape.ensures.word p (Kinds.Obj Tables.Scripts) c.args.scripts) refl refl refl refl refl refl refl)
+          c.close_object.ensures.ok given;
+      known =
+          on_ok _ _
+          (λ closed. known_closed_object p c.write_field-7.new.self c.write_field-7.new.draft c.close_object.new.self c.in_ok-write_field-7.ensures.known vs c.args.draft.now given (closed vs c.args.draft.now given))
+          c.close_object.result c.close_object.ensures.ok;
+    }

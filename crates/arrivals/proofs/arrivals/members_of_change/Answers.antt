@@ -1,38 +1,55 @@
 use Rattle.std.proofs.Common.{◌≡◌, ◌<◌, ◌≤◌, ◌∙◌, ◌++◌, length, take, ap, sym, subst, arith, List}
 use Rattle.std.specs.Prelude.{option_to_list}
 use Rattle.db_core.specs.Members.{comes_behind, member_name}
-use Rattle.db_core.specs.Seen.{packages_of}
+use Rattle.adb_view.specs.Plain.{Plain}
+use Rattle.db_core.specs.Seen.{members_of, packages_before, packages_of}
 use Rattle.db_core.specs.declared.members.TheConstants.{MOST_MEMBERS}
 use Rattle.arrivals.specs.Arrivals.{ArePlaced, CanBeMembers, IsPlaced, member_read, members_read}
 use Rattle.arrivals.specs.declared.arrivals.MemberRead.{MemberRead}
 use Rattle.arrivals.proofs.Behind.{all_taken, next_behind, next_few, next_placed, one_more}
 use Rattle.arrivals.proofs.arrivals.members_of_change.Goals as goal
 
+pub loop-read-init : goal.loop-read-init
+loop-read-init c = record {
+  read = c.new-members.ensures.none;
+  before = c.new-members.ensures.before;
+}
+
 pub push_read-requires : goal.push_read-requires
 push_read-requires c =
     let before = packages_of c.args.db.now in
     let reads = c.deref-read-items.result.now in
     let i = c.loop-read.read-index in
+    let read = c.read-item.result in
+    let same : packages_before c.loop-read.members ≡ before = c.loop-read.invariant.before in
     let can : CanBeMembers before reads = subst (CanBeMembers before) (sym c.deref-read-items.ensures.value) c.requires in
     record {
-      behind = λ m is. ap (comes_behind (member_name m)) c.loop-read.invariant ∙ next_behind before reads i c.read-item.result c.loop-read-test.true can m (ap (member_read before) (sym c.read-item.is) ∙ is);
-      placed = subst (IsPlaced before) (sym c.read-item.is) (next_placed before reads i c.read-item.result c.loop-read-test.true can.placed);
+      behind = λ m is. ap (comes_behind (member_name m)) c.loop-read.invariant.read
+          ∙ next_behind before reads i read c.loop-read-test.true can m
+          (ap (member_read before) (sym c.read-item.is) ∙ (sym (ap (λ (b : List Plain). member_read b read) same) ∙ is));
+      placed = subst (λ (b : List Plain). IsPlaced b read) (sym same) (subst (IsPlaced before) (sym c.read-item.is) (next_placed before reads i read c.loop-read-test.true can.placed));
       few =
           (let few = next_few before reads i c.loop-read-test.true can.few in
-          let same = ap (λ z. length z) c.loop-read.invariant in
-          omega (arith, few, same));
+          let count = ap (λ z. length z) c.loop-read.invariant.read in
+          omega (arith, few, count));
     }
 
 pub loop-read-preserved : goal.loop-read-preserved
 loop-read-preserved c =
     let before = packages_of c.args.db.now in
-    c.in_ok-push_read.ensures
-    ∙ (ap (λ z. z ++ option_to_list (member_read before c.read-item.result)) c.loop-read.invariant
-    ∙ (ap (λ r. members_read before (take c.loop-read.read-index c.deref-read-items.result.now) ++ option_to_list (member_read before r)) c.read-item.is
-    ∙ sym (one_more before c.deref-read-items.result.now c.loop-read.read-index c.read-item.result c.loop-read-test.true)))
+    let same : packages_before c.loop-read.members ≡ before = c.loop-read.invariant.before in
+    record {
+      read =
+          c.in_ok-push_read.ensures.added
+          ∙ (ap (λ (b : List Plain). members_of c.loop-read.members ++ option_to_list (member_read b c.read-item.result)) same
+          ∙ (ap (λ z. z ++ option_to_list (member_read before c.read-item.result)) c.loop-read.invariant.read
+          ∙ (ap (λ r. members_read before (take c.loop-read.read-index c.deref-read-items.result.now) ++ option_to_list (member_read before r)) c.read-item.is
+          ∙ sym (one_more before c.deref-read-items.result.now c.loop-read.read-index c.read-item.result c.loop-read-test.true))));
+      before = c.in_ok-push_read.ensures.before ∙ same;
+    }
 
 pub returns : goal.returns
 returns c =
-    c.loop-read.invariant
+    c.loop-read.invariant.read
     ∙ (all_taken (packages_of c.args.db.now) c.deref-read-items.result.now c.loop-read.read-index c.loop-read-test.false
     ∙ ap (members_read (packages_of c.args.db.now)) c.deref-read-items.ensures.value)

@@ -1,12 +1,12 @@
-use Rattle.db_core.specs.Seen.{members_of, packages_of}
+use Rattle.db_core.specs.Seen.{members_of, packages_before}
 use Rattle.arrivals.proofs.Behind.{comes_next, stays_added, stays_behind}
 use Rattle.arrivals.proofs.arrivals.push_read.Goals as goal
 
 pub stays-requires-clause-behind : goal.stays-requires-clause-behind
-stays-requires-clause-behind c = stays_behind (packages_of c.args.db.now) (members_of c.args.members.now) c.args.read.now _ c.in-Stays.is c.requires.behind
+stays-requires-clause-behind c = stays_behind (packages_before c.args.members.now) (members_of c.args.members.now) c.args.read.now _ c.in-Stays.is c.requires.behind
 
-pub returns-in-Stays : goal.returns-in-Stays
-returns-in-Stays c = stays_added (packages_of c.args.db.now) _ _ c.args.read.now _ c.stays.result c.in-Stays.is c.requires.placed c.stays.ensures.ok
+pub returns-in-Stays-clause-added : goal.returns-in-Stays-clause-added
+returns-in-Stays-clause-added c = stays_added (packages_before c.args.members.now) _ _ c.args.read.now _ c.stays.result c.in-Stays.is c.requires.placed c.stays.ensures.ok
 
 pub comes_in_pieces-requires-clause-behind : goal.comes_in_pieces-requires-clause-behind
-comes_in_pieces-requires-clause-behind c = comes_next (packages_of c.args.db.now) (members_of c.args.members.now) c.args.read.now c.in-Comes.pkg _ c.in-Comes.is c.contents.ensures.value c.requires.behind
+comes_in_pieces-requires-clause-behind c = comes_next (packages_before c.args.members.now) (members_of c.args.members.now) c.args.read.now c.in-Comes.pkg _ c.in-Comes.is c.contents.ensures.value c.requires.behind

@@ -1,4 +1,4 @@
-use Rattle.std.proofs.Common.{ℕ, List, ◌<◌, length, arith, refl}
+use Rattle.std.proofs.Common.{◌≡◌, ℕ, List, ◌<◌, length, arith, refl}
 use Rattle.adb_view.specs.Adb.{payload_of}
 use Rattle.adb_view.specs.Entries.{array_entries}
 use Rattle.adb_fields.specs.Fields.{array_at}
@@ -7,8 +7,9 @@ use Rattle.adb_tables.specs.declared.tables.Which.TheVariants as Tables
 use Rattle.adb_view.specs.Plain.{Plains, arr_value}
 use Rattle.adb_fields.specs.Repeated.{list_of}
 use Rattle.adb_tables.specs.Values.{entries_in, value_at}
-use Rattle.adb_values.proofs.Lists.{closed}
-use Rattle.adb_copy.proofs.Known.{known_opened}
+use Rattle.adb_values.specs.Drafts.{draft_with_all, draft_with_open_list}
+use Rattle.adb_values.proofs.Lists.{closed, on_ok}
+use Rattle.adb_copy.proofs.Known.{known_closed_array, known_opened}
 use Rattle.adb_copy.proofs.ReadWords.{word_sound}
 use Rattle.db_write.specs.NewDatabase.{file_count, folder_after, folders_after}
 use Rattle.db_write.proofs.Segments.{all_given, given_more}
@@ -19,7 +20,7 @@ pub write_folder-requires-clause-sound : goal.write_folder-requires-clause-sound
 write_folder-requires-clause-sound c =
     let ws : List ℕ = array_entries c.args.folders in
     let within : c.loop-i.i < length ws = omega (arith, c.len-i-end.ensures.value, c.loop-i-test.true) in
-    word_sound (payload_of c.args.adb) (Kinds.Obj Tables.Dir) ws c.loop-i.i c.entry_word-folder.result c.requires within c.entry_word-folder.ensures
+    word_sound (payload_of c.args.adb) (Kinds.Obj Tables.Dir) ws c.loop-i.i c.entry_word-folder.result c.requires.sound within c.entry_word-folder.ensures
 
 pub write_folder-requires-clause-known : goal.write_folder-requires-clause-known
 write_folder-requires-clause-known c = c.loop-i.invariant.known
@@ -28,15 +29,13 @@ pub flags_behind_folder-left-requires : goal.flags_behind_folder-left-requires
 flags_behind_folder-left-requires c =
     let ws : List ℕ = array_entries c.args.folders in
     let within : c.loop-i.i < length ws = omega (arith, c.len-i-end.ensures.value, c.loop-i-test.true) in
-    word_sound (payload_of c.args.adb) (Kinds.Obj Tables.Dir) ws c.loop-i.i c.entry_word-folder.result c.requires within c.entry_word-folder.ensures
+    word_sound (payload_of c.args.adb) (Kinds.Obj Tables.Dir) ws c.loop-i.i c.entry_word-folder.result c.requires.sound within c.entry_word-folder.ensures
 
 pub loop-i-init : goal.loop-i-init
-loop-i-init c =
-    let p : List ℕ = payload_of c.args.adb in
-    record {
-      left = refl;
-      known = known_opened p c.new-known.result c.args.draft.now c.open_list.new.self (c.new-known.ensures p c.args.draft.now) c.in_ok-open_list.ensures.ok;
-    }
+loop-i-init c = record {
+  left = refl;
+  known = known_opened (payload_of c.args.adb) c.args.known.now c.args.draft.now c.open_list.new.self c.requires.known c.in_ok-open_list.ensures.ok;
+}
 
 pub loop-i-preserved : goal.loop-i-preserved
 loop-i-preserved c =
@@ -47,7 +46,7 @@ loop-i-preserved c =
     record {
       left =
           given_more file_count folder_after (list_of vs) c.loop-i.i (value_at p (Kinds.Obj Tables.Dir) c.entry_word-folder.result) c.loop-i.left.now _ _ _ _
-          (word_listed p (Kinds.Obj Tables.Dir) ws c.requires c.loop-i.i c.entry_word-folder.result within c.entry_word-folder.ensures) c.loop-i.invariant.left c.in_ok-write_folder.ensures.folder c.flags_behind_folder-left.ensures;
+          (word_listed p (Kinds.Obj Tables.Dir) ws c.requires.sound c.loop-i.i c.entry_word-folder.result within c.entry_word-folder.ensures) c.loop-i.invariant.left c.in_ok-write_folder.ensures.folder c.flags_behind_folder-left.ensures;
       known = c.in_ok-write_folder.ensures.known;
     }
 
@@ -56,6 +55,13 @@ returns c =
     let p : List ℕ = payload_of c.args.adb in
     let ws : List ℕ = array_entries c.args.folders in
     let vs : Plains = entries_in (array_at p (Kinds.Obj Tables.Dir) ws) in
-    closed arr_value (folders_after (list_of vs) c.args.flags.now) c.args.draft.now _ _ c.close_array.result c.close_array.ensures.ok
-    (all_given file_count folder_after (list_of vs) c.args.flags.now c.loop-i.left.now c.loop-i.i _ _ _
-    (omega (arith, words_listed p (Kinds.Obj Tables.Dir) ws c.requires, c.len-i-end.ensures.value, c.loop-i-test.false, c.loop-i.auto.i-end)) c.loop-i.invariant.left c.in_ok-open_list.ensures.ok)
+    let folders : Plains = folders_after (list_of vs) c.args.flags.now in
+    let given : c.loop-i.draft ≡ draft_with_all folders (draft_with_open_list c.args.draft.now) =
+    all_given file_count folder_after (list_of vs) c.args.flags.now c.loop-i.left.now c.loop-i.i _ _ _
+    (omega (arith, words_listed p (Kinds.Obj Tables.Dir) ws c.requires.sound, c.len-i-end.ensures.value, c.loop-i-test.false, c.loop-i.auto.i-end)) c.loop-i.invariant.left c.in_ok-open_list.ensures.ok in
+    record {
+      folders = closed arr_value folders c.args.draft.now _ _ c.close_array.result c.close_array.ensures.ok given;
+      known =
+          on_ok _ _ (λ closed. known_closed_array p c.loop-i.known c.loop-i.draft c.close_array.new.self c.loop-i.invariant.known folders c.args.draft.now given (closed folders c.args.draft.now given))
+          c.close_array.result c.close_array.ensures.ok;
+    }

@@ -1,24 +1,37 @@
-use Rattle.std.proofs.Common.{arith}
+use Rattle.std.proofs.Common.{arith, refl}
 use Rattle.adb_view.specs.Plain.{arr_value}
-use Rattle.adb_schema.specs.Views.{package_value}
 use Rattle.adb_values.proofs.Lists.{closed}
-use Rattle.db_core.specs.Members.{Member}
-use Rattle.db_core.specs.Seen.{members_of}
+use Rattle.adb_copy.proofs.Known.{known_opened}
+use Rattle.db_core.specs.Seen.{members_of, payload_before}
 use Rattle.db_write.specs.NewDatabase.{member_file_count, package_after, packages_after}
 use Rattle.db_write.proofs.Listed.{member_there}
 use Rattle.db_write.proofs.Segments.{all_given, given_more}
 use Rattle.db_write.proofs.packages.write_packages.Goals as goal
 
+pub loop-i-init : goal.loop-i-init
+loop-i-init c =
+    let p = payload_before c.args.members.now in
+    record {
+      left = refl;
+      known = known_opened p c.new-known.result c.args.draft.now c.open_list.new.self (c.new-known.ensures p c.args.draft.now) c.in_ok-open_list.ensures.ok;
+    }
+
+pub write_member-requires-clause-known : goal.write_member-requires-clause-known
+write_member-requires-clause-known c = c.loop-i.invariant.known
+
 pub loop-i-preserved : goal.loop-i-preserved
 loop-i-preserved c =
-    let m : Member = record { pkg = package_value c.view-pkg.result.now; id = c.id.result } in
-    let at = member_there (members_of c.args.members.now) c.loop-i.i (package_value c.view-pkg.result.now) c.id.result (omega (arith, c.len-i-end.ensures.value, c.loop-i-test.true)) c.view-pkg.ensures c.id.ensures in
-    given_more member_file_count package_after (members_of c.args.members.now) c.loop-i.i m c.loop-i.left.now _ _ _ _
-    at c.loop-i.invariant c.in_ok-write_package.ensures
-    c.flags_behind-left.ensures
+    let members = members_of c.args.members.now in
+    let at = member_there members c.loop-i.i (omega (arith, c.len-i-end.ensures.value, c.loop-i-test.true)) in
+    record {
+      left =
+          given_more member_file_count package_after members c.loop-i.i at.0 c.loop-i.left.now _ _ _ _
+          at.1 c.loop-i.invariant.left (c.in_ok-write_member.ensures.value at.0 at.1) (c.flags_behind_member-left.ensures at.0 at.1);
+      known = c.in_ok-write_member.ensures.known;
+    }
 
 pub returns : goal.returns
 returns c =
     closed arr_value (packages_after (members_of c.args.members.now) c.args.flags.now) c.args.draft.now _ _ c.close_array.result c.close_array.ensures.ok
     (all_given member_file_count package_after (members_of c.args.members.now) c.args.flags.now c.loop-i.left.now c.loop-i.i _ _ _
-    (omega (arith, c.len-i-end.ensures.value, c.loop-i-test.false, c.loop-i.auto.i-end)) c.loop-i.invariant c.in_ok-open_list.ensures.ok)
+    (omega (arith, c.len-i-end.ensures.value, c.loop-i-test.false, c.loop-i.auto.i-end)) c.loop-i.invariant.left c.in_ok-open_list.ensures.ok)

@@ -13,12 +13,12 @@ pub returns-then-has_due_trigger-clause-needed : goal.returns-then-has_due_trigg
 returns-then-has_due_trigger-clause-needed c = λ paths are.
     let here = placed_at (members_of c.args.members.now) c.loop-i.i (omega (arith, c.len-i-end.ensures.value, c.loop-i-test.true)) in
     trigger_due paths (members_of c.args.members.now) c.loop-i.i here.item c.has_due_trigger.result here.is
-    (is_due_of paths _ _ here.item.pkg c.has_due_trigger.result are (c.view.ensures here.item here.is) c.has_due_trigger.ensures)
+    (is_due_of paths _ _ here.item.pkg c.has_due_trigger.result are (c.view.ensures.value here.item here.is) c.has_due_trigger.ensures)
     c.if-has_due_trigger.true (c.loop-i.invariant paths are)
 
 pub loop-i-preserved : goal.loop-i-preserved
 loop-i-preserved c = λ paths are.
     let here = placed_at (members_of c.args.members.now) c.loop-i.i (omega (arith, c.len-i-end.ensures.value, c.loop-i-test.true)) in
     trigger_not_due paths (members_of c.args.members.now) c.loop-i.i here.item c.has_due_trigger.result here.is
-    (is_due_of paths _ _ here.item.pkg c.has_due_trigger.result are (c.view.ensures here.item here.is) c.has_due_trigger.ensures)
+    (is_due_of paths _ _ here.item.pkg c.has_due_trigger.result are (c.view.ensures.value here.item here.is) c.has_due_trigger.ensures)
     c.if-has_due_trigger.false (c.loop-i.invariant paths are)

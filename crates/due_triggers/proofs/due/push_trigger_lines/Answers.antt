@@ -19,6 +19,6 @@ loop-i-preserved c =
     let here = placed_at (members_of c.args.members.now) c.loop-i.i (omega (arith, c.len-i-end.ensures.value, c.loop-i-test.true)) in
     let folders : List (List ℕ) = map (λ (f : Bor (List ℕ)). f.now) c.args.folders.now in
     told _ _ _ _ (flat_map (λ (m : Member). due_lines folders m.pkg) (drop (c.loop-i.i + 1) (members_of c.args.members.now))) _
-    (c.in_ok-push_due_lines.ensures ∙ ap (λ z. c.loop-i.report ++ due_lines folders z) (c.view.ensures here.item here.is))
+    (c.in_ok-push_due_lines.ensures ∙ ap (λ z. c.loop-i.report ++ due_lines folders z) (c.view.ensures.value here.item here.is))
     (ap (flat_map (λ (m : Member). due_lines folders m.pkg)) (left_at (members_of c.args.members.now) c.loop-i.i here.item here.is))
     c.loop-i.invariant

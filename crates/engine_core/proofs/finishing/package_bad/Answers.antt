@@ -8,7 +8,7 @@ use Rattle.engine_core.proofs.finishing.package_bad.Goals as goal
 pub returns : goal.returns
 returns c =
     let (m, at) = at_place (members_of c.args.members.now) c.args.place c.requires in
-    let here = c.info-info.ensures ∙ ap (λ v. entry_in v 0) (c.view.ensures m at) in
+    let here = c.info-info.ensures ∙ ap (λ v. entry_in v 0) (c.view.ensures.value m at) in
     let name = c.in_ok-name.ensures ∙ (c.name.ensures ∙ ap (λ v. text_in (entry_in v 0)) here) in
     let version = c.in_ok-version.ensures ∙ (c.version.ensures ∙ ap (λ v. text_in (entry_in v 1)) here) in (
       m,

@@ -46,4 +46,4 @@ returns c =
     let there : slice_get named c.args.other ≡ Some c.deref-2.result.now = kept_at (λ v. v.items) c.args.named.now c.args.other _ back c.index-named-other.is ∙ ap Some (sym c.deref-2.ensures.value) in
     by_preference (members_of c.args.members.now) named c.requires.each c.args.one c.args.other c.requires.one c.requires.other c.deref.result.now c.deref-2.result.now c.is_among.result c.is_among-2.result c.is_preferred.result
     (package_value c.view.result.now) (package_value c.view-2.result.now) at there
-    c.is_among.ensures c.if-not-is_among.false c.is_among-2.ensures c.if-not-is_among-2.false c.view.ensures c.view-2.ensures c.is_preferred.ensures
+    c.is_among.ensures c.if-not-is_among.false c.is_among-2.ensures c.if-not-is_among-2.false c.view.ensures.value c.view-2.ensures.value c.is_preferred.ensures

@@ -17,7 +17,7 @@ returns-then-is_named_by c = λ y m g.
     ap (λ b. cond b (q.place == y) false) (sym c.if-is_named_by.true)
     ∙ answered q.place y c.is_named_by.result (is_named_by entry m.pkg)
     (λ s. c.is_named_by.ensures ∙ (ap (λ (v : Plain). is_named_by v (package_value c.view.result.now)) c.of-entry.ensures
-    ∙ ap (is_named_by entry) (c.view.ensures m (ap (slice_get (members_of c.args.members.now)) s ∙ g))))
+    ∙ ap (is_named_by entry) (c.view.ensures.value m (ap (slice_get (members_of c.args.members.now)) s ∙ g))))
 
 pub returns-else-is_named_by : goal.returns-else-is_named_by
 returns-else-is_named_by c = λ y m g.
@@ -26,9 +26,9 @@ returns-else-is_named_by c = λ y m g.
     ap (λ b. cond b (q.place == y) false) (sym c.if-is_named_by.false)
     ∙ answered q.place y c.is_named_by.result (is_named_by entry m.pkg)
     (λ s. c.is_named_by.ensures ∙ (ap (λ (v : Plain). is_named_by v (package_value c.view.result.now)) c.of-entry.ensures
-    ∙ ap (is_named_by entry) (c.view.ensures m (ap (slice_get (members_of c.args.members.now)) s ∙ g))))
+    ∙ ap (is_named_by entry) (c.view.ensures.value m (ap (slice_get (members_of c.args.members.now)) s ∙ g))))
 
 pub is_named_by-requires-clause-version : goal.is_named_by-requires-clause-version
 is_named_by-requires-clause-version c =
     version_sound (members_of c.args.members.now) c.args.question.now.place (package_value c.view.result.now)
-    c.requires.within c.view.ensures c.packages_are_sound.ensures
+    c.requires.within c.view.ensures.value c.packages_are_sound.ensures

@@ -1,7 +1,7 @@
 use Rattle.std.proofs.Common.{◌∙◌, ap, refl}
 use Rattle.adb_fields.specs.Repeated.{package_name}
 use Rattle.adb_tables.specs.declared.tables.Which.TheVariants.{Package}
-use Rattle.db_core.specs.EntrySeen.{member_by}
+use Rattle.db_core.specs.EntrySeen.{comes_or_is_in, member_by, payload_of_database}
 use Rattle.db_core.specs.Members.{comes_behind}
 use Rattle.db_core.specs.Packages.{comes_or_lists_no_reserved, lists_names}
 use Rattle.db_core.specs.Seen.{members_of}
@@ -20,4 +20,5 @@ invariant_of-self c = record {
   free = passed_more (λ e. comes_or_lists_no_reserved (member_by e)) c.push.result _ _ _ c.push.ensures.items c.args.self.now.free refl;
   sound = sound_more c.push.result _ _ _ c.push.ensures.items c.args.self.now.sound
       (comes_sound _ (value_of_contents c.args.contents.now) c.id-id.result (payload_of_contents c.args.contents.now) c.view-view.ensures c.id-id.ensures c.values_are_sound.ensures.sound c.values_are_sound.ensures.normal);
+  lent = passed_more (comes_or_is_in (payload_of_database c.args.self.now.db.now.idb)) c.push.result _ _ _ c.push.ensures.items c.args.self.now.lent refl;
 }
