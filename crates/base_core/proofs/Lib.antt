@@ -4,3 +4,4 @@ pub mod Left
 pub mod Rising
 pub mod OneList
 pub mod NameParts
+pub mod ReadBehind

@@ -1,15 +1,26 @@
 -- What a call that reads a tree says. It leaves the tree as it is, as `docs/crash-safety.md`,
 -- "Misuses, faults and counts", says of the commands that only read.
-use Rattle.std.specs.Prelude.{◌≡◌, ℕ, List, Option, Result, OnOk, IfErr, IsErrOf, Vec}
+use Rattle.std.specs.Prelude.{◌≡◌, ◌++◌, ℕ, List, length, take, drop, Option, IfSome, Result, OnOk, IfErr, IsErrOf, Vec}
 use Rattle.std.specs.Option.{option_map}
 use Rattle.std.specs.declared.alloc.Global.{Global}
 use Rattle.base_core.specs.Calls.{IfObservable}
 use Rattle.base_core.specs.Faults.{Counts, GoesOn, HasCause, IsNoFault}
-use Rattle.base_core.specs.Tree.{TreeState}
+use Rattle.base_core.specs.Tree.{TreeState, files_of}
 
 -- the bytes that a read found, without where they lie in memory; None where it found no file
 abbrev pub bytes_in : Option (Vec ℕ Global) → Option (List ℕ)
 bytes_in found = option_map (λ bytes. bytes.items) found
+
+-- behind the bytes `before` stand so many more; where the tree tells its files, they are those that
+-- the file under the name has from the offset `at` on
+pub record HasReadBehind (history : List TreeState) (name : List ℕ) (at len : ℕ)
+    (before now : List ℕ) : Type 0 where
+  -- what was read
+  pub read : List ℕ
+  pub behind : now ≡ before ++ read
+  pub long : length read ≡ len
+  pub told : IfObservable history
+      (λ v. IfSome (files_of v name) (λ file. read ≡ take len (drop at file)))
 
 -- a call that only reads the tree; `disk_fault` is what it answers where the tree failed
 pub record OnlyReads {A E : Type 0} (disk_fault : E) (old new : List TreeState)

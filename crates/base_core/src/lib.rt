@@ -30,4 +30,4 @@ pub use laws::{
 pub use name::{Name, Names, is_folder_of, is_name};
 pub use sink::{Sink, SinkFault, write_all};
 pub use text::{Text, Words};
-pub use tree::{Disk, Tree, TreeFault, read_all};
+pub use tree::{Disk, Tree, TreeFault, read_all, read_behind};

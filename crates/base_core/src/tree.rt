@@ -1,13 +1,13 @@
-//! What holds files: the trait `Tree` with the meaning of its calls, and a read of a whole file.
+//! What holds files: the trait `Tree` with the meaning of its calls, and reads of a whole file.
 //! What each call does stands in `docs/crash-safety.md`, "What each call does"; where a call is a
 //! misuse, and what is counted, in "Misuses, faults and counts".
-ghost use Rattle.std.specs.Prelude.{◌≡◌, List, Option, length, take, drop, IfOk, OnOk, IfSome, IsErrOf, All};
+ghost use Rattle.std.specs.Prelude.{◌≡◌, List, Option, Some, length, take, drop, IfOk, OnOk, IfSome, IsErrOf, All};
 ghost use Rattle.std.specs.Option.{option_map};
 ghost use Rattle.base_core.specs.Tree.{TreeState, files_of, after_create, after_append, after_failed_append, after_sync, after_rename, after_remove, after_sync_names, same_state, Anywhere, HasName, CanRead, CanCreate, CanRename, IsWhole};
 ghost use Rattle.base_core.specs.Faults.{Counts, GoesOn, HasCause, IsNoFault};
 ghost use Rattle.base_core.specs.Calls.{IsCounted, Moves, IfObservable};
 ghost use Rattle.base_core.specs.Listed.{AreNamesBelow, IsListOf};
-ghost use Rattle.base_core.specs.Read.{OnlyReads, bytes_in};
+ghost use Rattle.base_core.specs.Read.{HasReadBehind, OnlyReads, bytes_in};
 ghost use Rattle.base_core.specs.declared.tree.TreeFault.TheVariants.{Memory, Disk as DiskFault};
 
 use crate::name::{Name, Names};
@@ -166,7 +166,65 @@ pub fn read_all<T: Tree>(
     let Some(size) = tree.size(name)? else {
         return Ok(None);
     };
-    let mut bytes = vec![in alloc; 0u8; size as usize]?;
-    tree.read_at(name, 0, &mut bytes)?;
+    let mut bytes = Vec::with_capacity(alloc, size as usize)?;
+    read_behind(tree, name, size, &mut bytes)?;
     Ok(Some(bytes))
+}
+
+/// How many bytes of a file one call reads at most: 128 KiB. Zeros are written where the bytes will
+/// stand, and are still in the processor's cache when these come; as many zeros as a long file has
+/// would go to memory and come back. Any number above 0 is right.
+const LONGEST_READ: u64 = 131_072;
+
+/// Reads a whole file, which has so many bytes, behind the bytes that stand there. The tree stays
+/// as it is, whatever the answer. It takes no memory where there is room for the file.
+///
+/// # Errors
+///
+/// `Disk` where the tree failed, `Memory` where there was no memory for the bytes; then some may
+/// stand behind the others.
+pub fn read_behind<T: Tree>(
+    tree: &mut T,
+    name: &Name,
+    size: u64,
+    bytes: &mut Vec<u8>,
+) -> Result<(), TreeFault>
+    requires { IfObservable (T.history tree.old) (λ v.
+        Some size ≡ option_map length (files_of v name.now)) }
+    ensures added { OnOk result (HasReadBehind (T.history tree.old) name.now 0 size
+        bytes.old.items bytes.new.items) }
+    ensures tree { OnlyReads TreeFault.Disk (T.history tree.old) (T.history tree.new)
+        (T.counts tree.old) (T.counts tree.new) result }
+{
+    let mut at = 0;
+    while size - at > LONGEST_READ {
+        read_some(tree, name, at, LONGEST_READ, bytes)?;
+        at += LONGEST_READ;
+    }
+    // A file without bytes is read too: it is there, and can be opened.
+    read_some(tree, name, at, size - at, bytes)?;
+    Ok(())
+}
+
+/// Reads so many bytes of a file, from an offset on, in one call, behind those that stand there.
+fn read_some<T: Tree>(
+    tree: &mut T,
+    name: &Name,
+    at: u64,
+    len: u64,
+    bytes: &mut Vec<u8>,
+) -> Result<(), TreeFault>
+    requires { IfObservable (T.history tree.old) (CanRead name.now at len) }
+    ensures added { OnOk result (HasReadBehind (T.history tree.old) name.now at len
+        bytes.old.items bytes.new.items) }
+    ensures tree { OnlyReads TreeFault.Disk (T.history tree.old) (T.history tree.new)
+        (T.counts tree.old) (T.counts tree.new) result }
+{
+    let start = bytes.len();
+    let Some(end) = start.checked_add(len as usize) else {
+        return Err(TreeFault::Memory);
+    };
+    bytes.resize(end, 0)?;
+    tree.read_at(name, at, &mut bytes[start..])?;
+    Ok(())
 }

@@ -1,5 +1,5 @@
 -- The block of a file whose bytes were read where they stand.
-use Rattle.std.proofs.Common.{◌≡◌, ℕ, ◌+◌, ◌-◌, ◌≤◌, Bool, true, false, if◌then◌else◌, List, [], ◌∷◌, ◌++◌, length, take, drop, take_all, drop_at, drop_of_length-le, length-take-le, Option, Some, None, IfSome, refl, ap, sym, subst, ◌∙◌, append_assoc, append-nil, arith}
+use Rattle.std.proofs.Common.{◌≡◌, ℕ, ◌+◌, ◌-◌, ◌≤◌, Bool, true, false, if◌then◌else◌, List, [], ◌∷◌, ◌++◌, length, take, drop, take_all, drop_at, Option, Some, None, refl, ap, sym, subst, ◌∙◌, append_assoc, append-nil, arith}
 use Rattle.std.specs.Option.{option_map}
 use Rattle.std.specs.Prelude.{replicate, slice_range}
 use Rattle.std.specs.Int.{w32, to_le_bytes}
@@ -7,7 +7,9 @@ use Rattle.std.proofs.Math.Seq.{take-append_seam}
 use Rattle.std.proofs.lemmas.List.{length-append, length-drop, take-append-drop}
 use Rattle.std.proofs.lemmas.List.Concat.{flat_map-cons}
 use Rattle.base_core.specs.Calls.{IfObservable}
+use Rattle.base_core.specs.Read.{HasReadBehind}
 use Rattle.base_core.specs.Tree.{TreeState, files_of}
+use Rattle.base_core.proofs.ReadBehind.{whole_read}
 use Rattle.adb_block.specs.Piece.{padding_of}
 use Rattle.adb_block.specs.Written.{head_bytes}
 use Rattle.adb_block.specs.declared.block.BlockKind.TheVariants as Kinds
@@ -18,12 +20,6 @@ use Rattle.package_files.specs.declared.file.FileKind.{FileKind}
 
 -- ---- what was read
 
-of_size : (file : Option (List ℕ)) (into : List ℕ) (n : ℕ) → Some n ≡ option_map length file → IfSome file (λ bytes. into ≡ take n (drop 0 bytes)) → Some into ≡ file
-of_size None into n e h = absurd (cc (e))
-of_size (Some bytes) into n e h =
-    let long : n ≡ length bytes = cc (e) in
-    ap Some (h ∙ take_all n bytes (omega arith))
-
 -- the bytes from a place on, as they are shown
 pub rest_is : (shown bytes : List ℕ) (at end : ℕ) → shown ≡ bytes → length shown ≤ end → slice_range shown at end ≡ drop at bytes
 rest_is shown bytes at end e le = take_all (end - at) (drop at shown) (let long = length-drop at shown in omega arith) ∙ ap (drop at) e
@@ -31,32 +27,32 @@ rest_is shown bytes at end e le = take_all (end - at) (drop at shown) (let long 
 pub kind_of_rest : (kind : FileKind) (shown bytes : List ℕ) (at end : ℕ) → kind ≡ kind_of_file (slice_range shown at end) → shown ≡ bytes → length shown ≤ end → kind ≡ kind_of_file (drop at bytes)
 kind_of_rest kind shown bytes at end k e le = k ∙ ap kind_of_file (rest_is shown bytes at end e le)
 
--- what was read into the bytes from a place on stands there, when they are given back
-pub put_back : (shown into items : List ℕ) (at n : ℕ) → at ≤ length shown → length into ≡ length shown - at → length shown ≡ n → length items ≡ n
-    → drop at (take n ((take at shown ++ (into ++ drop (length shown - at) (drop at shown))) ++ drop (length (take at shown ++ (into ++ drop (length shown - at) (drop at shown)))) items)) ≡ into
-put_back shown into items at n within some whole all =
-    let front = length-take-le at shown within in
-    let rest = length-drop at shown in
-    let none : drop (length shown - at) (drop at shown) ≡ [] = drop_of_length-le (drop at shown) (omega arith) in
-    let put : List ℕ = take at shown ++ into in
-    let long = length-append (take at shown) into in
-    let back : List ℕ → List ℕ = λ l. drop at (take n (l ++ drop (length l) items)) in
-    ap back (ap (λ (l : List ℕ). take at shown ++ (into ++ l)) none ∙ ap (λ (l : List ℕ). take at shown ++ l) (append-nil into))
-    ∙ ap (λ (l : List ℕ). drop at (take n (put ++ l))) (drop_of_length-le items (omega arith))
-    ∙ ap (λ (l : List ℕ). drop at (take n l)) (append-nil put)
-    ∙ ap (drop at) (take_all n put (omega arith))
-    ∙ drop_at (take at shown) into at (omega arith)
+-- what stands behind the front of a block
+read_placed : (mid later read : List ℕ) (at : ℕ) → at ≡ length mid → later ≡ mid ++ read → drop at later ≡ read
+read_placed mid later read at is behind = ap (drop at) behind ∙ drop_at mid read at (sym is)
 
--- a file's size, and then so many of its bytes, are the file
-pub read_is : (told later : List TreeState) (name : List ℕ) (size : Option ℕ) (n at : ℕ) (blocks before into : List ℕ)
-    → IfObservable told (λ v. size ≡ option_map length (files_of v name)) → size ≡ Some n → later ≡ told
-    → IfObservable later (λ v. IfSome (files_of v name) (λ bytes. into ≡ take (length before) (drop 0 bytes))) → length before ≡ n → drop at blocks ≡ into
-    → IfObservable told (λ v. Some (drop at blocks) ≡ files_of v name)
-read_is [] later name size n at blocks before into a is same h long e = tt
-read_is (v ∷ vs) later name size n at blocks before into a is same h long e =
-    let found : IfSome (files_of v name) (λ bytes. into ≡ take (length before) (drop 0 bytes)) =
-    subst (λ (t : List TreeState). IfObservable t (λ w. IfSome (files_of w name) (λ bytes. into ≡ take (length before) (drop 0 bytes)))) same h in
-    ap Some e ∙ of_size (files_of v name) into n (sym is ∙ a) (subst (λ (m : ℕ). IfSome (files_of v name) (λ bytes. into ≡ take m (drop 0 bytes))) long found)
+-- a file's size, and then so many of its bytes behind others, are the file
+pub file_placed : (told seen : List TreeState) (name : List ℕ) (size : Option ℕ) (n at : ℕ) (mid later : List ℕ)
+    → IfObservable told (λ v. size ≡ option_map length (files_of v name)) → size ≡ Some n → seen ≡ told → at ≡ length mid
+    → HasReadBehind seen name 0 n mid later → IfObservable told (λ v. Some (drop at later) ≡ files_of v name)
+file_placed told seen name size n at mid later sized some same is h =
+    subst (λ (bytes : List ℕ). IfObservable told (λ v. Some bytes ≡ files_of v name)) (sym (read_placed mid later h.read at is h.behind))
+    (whole_read told seen name size n mid later sized some same h)
+
+-- the front of a block stays in front of what is read behind it
+pub front_placed : (seen : List TreeState) (name : List ℕ) (folder file n at : ℕ) (before mid later : List ℕ)
+    → mid ≡ before ++ contents_front folder file n → at ≡ length mid → HasReadBehind seen name 0 n mid later → HasBlockFront folder file before later at
+front_placed seen name folder file n at before mid later begun is h =
+    let all : length later ≡ length mid + length h.read = ap length h.behind ∙ length-append mid h.read in
+    let rest : n ≡ length later - at = omega (arith, h.long) in
+    record {
+      within = omega arith;
+      front = ap (take at) h.behind
+          ∙ ap (λ (k : ℕ). take k (mid ++ h.read)) is
+          ∙ take-append_seam mid h.read
+          ∙ begun
+          ∙ ap (λ (k : ℕ). before ++ contents_front folder file k) rest;
+    }
 
 -- ---- a whole block
 

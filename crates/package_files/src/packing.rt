@@ -15,12 +15,12 @@ ghost use Rattle.package_files.specs.Packed.{IsPackedFile, ArePackedFiles, IsPac
 ghost use Rattle.package_files.specs.Runs.{Explains, IsAnswer};
 ghost use Rattle.package_files.specs.Sources.{found_at, file_at, sources_from, folder_at, source_folders_from};
 ghost use Rattle.std.specs.Option.{option_map};
-ghost use Rattle.std.specs.Prelude.{◌≡◌, ◌++◌, ◌<◌, ◌≤◌, ◌+◌, ◌-◌, ◌^◌, length, take, drop, replicate, OnOk, IfOk, IfSome, [], ◌∷◌, ℕ, map, true, false};
+ghost use Rattle.std.specs.Prelude.{◌≡◌, ◌++◌, ◌≤◌, ◌-◌, length, take, drop, replicate, OnOk, IfOk, IfSome, [], ◌∷◌, ℕ, map, true, false};
 
 use crate::file::{File, FileKind, Folder, Packing};
 use crate::folders::{FolderNames, folder_names, last_part_of, names_in_folders};
 use adb_block::{BlockKind, block_head};
-use base_core::{Name, Names, Tree, TreeFault, read_all};
+use base_core::{Name, Names, Tree, TreeFault, read_all, read_behind};
 use make_info::MakeFault;
 use std::alloc::{AllocError, Global};
 
@@ -28,15 +28,11 @@ use std::alloc::{AllocError, Global};
 const MOST_IN_MEMORY: u64 = isize::MAX as u64;
 
 /// Appends the front of the block with the contents of a file: its header, and the positions of its
-/// folder and of itself in it, which count from 1. Behind it stand zeros in place of the file's
-/// bytes. Gives where these begin. A position of more than 32 bits is cut: so many files pass the
-/// limits of a payload.
-fn begin_block(blocks: &mut Vec<u8>, position: (u64, u64), size: u64) -> Result<usize, AllocError>
-    // Eight bytes of the block are the two positions.
-    ensures small { IfOk result (λ _. size < 2 ^ 63) }
-    ensures at { IfOk result (λ at. at + size ≡ length blocks.new.items) }
-    ensures begun { IfOk result (λ at. blocks.new.items
-        ≡ (blocks.old.items ++ contents_front position.0 position.1 size) ++ replicate size 0) }
+/// folder and of itself in it, which count from 1. Behind it room is made for the file's bytes. A
+/// position of more than 32 bits is cut: so many files pass the limits of a payload.
+fn begin_block(blocks: &mut Vec<u8>, position: (u64, u64), size: u64) -> Result<(), AllocError>
+    ensures { OnOk result (blocks.new.items
+        ≡ blocks.old.items ++ contents_front position.0 position.1 size) }
 {
     if size > MOST_IN_MEMORY {
         return Err(AllocError);
@@ -46,12 +42,8 @@ fn begin_block(blocks: &mut Vec<u8>, position: (u64, u64), size: u64) -> Result<
     blocks.extend_from_slice(head.bytes())?;
     blocks.extend_from_slice(&position.0.to_le_bytes()[..4])?;
     blocks.extend_from_slice(&position.1.to_le_bytes()[..4])?;
-    let at = blocks.len();
-    let Some(end) = at.checked_add(size as usize) else {
-        return Err(AllocError);
-    };
-    blocks.resize(end, 0)?;
-    Ok(at)
+    blocks.reserve(size as usize)?;
+    Ok(())
 }
 
 /// Ends the block that begins at `start`, of a file of this kind whose bytes are the last ones, by
@@ -280,8 +272,9 @@ fn read_in_block<T: Tree>(
     let Some(size) = tree.size(name)? else {
         return Ok(None);
     };
-    let at = begin_block(blocks, position, size)?;
-    tree.read_at(name, 0, &mut blocks[at..])?;
+    begin_block(blocks, position, size)?;
+    let at = blocks.len();
+    read_behind(tree, name, size, blocks)?;
     Ok(Some(at))
 }
 
