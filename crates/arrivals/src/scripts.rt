@@ -2,6 +2,7 @@
 //! The rule stands in `docs/commands.md`, "`add` and `del`", the paragraph behind **What is
 //! refused**: which scripts a package has to run that comes, goes, or gets another version.
 ghost use Rattle.adb_schema.specs.Views.{package_value, scripts_value};
+ghost use Rattle.adb_tables.specs.FieldIndexes.{PACKAGE_SCRIPTS};
 ghost use Rattle.adb_tables.specs.Values.{entry_in};
 ghost use Rattle.adb_view.specs.Plain.{Plain};
 ghost use Rattle.arrivals.specs.Told.{IsRefusalTold};
@@ -71,8 +72,7 @@ fn script_needed(alloc: Global, name: &[u8], number: u16) -> Result<Refusal, All
 
 /// The number of the first script that a change would have to run, if there is one.
 fn first_script(change: &Change<'_>, scripts: &ScriptsView<'_>) -> Option<u16>
-    // 2 is the index of `scripts` among the fields of a package, counted from 0 (3 in table 7).
-    ensures { (pkg : Plain) → scripts_value scripts.now ≡ entry_in pkg 2
+    ensures { (pkg : Plain) → scripts_value scripts.now ≡ entry_in pkg PACKAGE_SCRIPTS
         → result ≡ first_script_of pkg (scripts_of_change (change_seen change.now)) }
 {
     match change {

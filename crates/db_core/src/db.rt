@@ -7,6 +7,7 @@ ghost use Rattle.adb_fields.specs.Repeated.{entries_at, list_of};
 ghost use Rattle.adb_schema.specs.ReadFaults.{IsReadFault};
 ghost use Rattle.adb_schema.specs.Soundness.{first_fault, payload_fault, payload_in, root_value};
 ghost use Rattle.adb_schema.specs.Views.{idb_value, package_value};
+ghost use Rattle.adb_tables.specs.FieldIndexes.{IDB_PACKAGES};
 ghost use Rattle.adb_tables.specs.Values.{count_of, entries_in, entry_in, is_sound};
 ghost use Rattle.adb_tables.specs.declared.tables.Kind.TheVariants as Kinds;
 ghost use Rattle.adb_tables.specs.declared.tables.Which.TheVariants as Tables;
@@ -72,10 +73,8 @@ impl<'a> Db<'a> {
         ensures bad { IfErr result
             (λ fault. IsReadFault fault (first_fault Tables.Idb bytes.entry.now)) }
         ensures sound { IfOk result (λ _. first_fault Tables.Idb bytes.entry.now ≡ None) }
-        // 0 is the index of `packages` among the fields of a database (1 in table 9 of
-        // `docs/formats.md`, "Schemas").
         ensures packages { IfOk result (λ db. packages_of db
-            ≡ entries_at 0 (root_value Tables.Idb (payload_in bytes.entry.now))) }
+            ≡ entries_at IDB_PACKAGES (root_value Tables.Idb (payload_in bytes.entry.now))) }
     {
         read_adb(alloc, bytes, Which::Idb)?;
         let db = Db::open(alloc, first_payload(bytes))?;
@@ -90,9 +89,8 @@ impl<'a> Db<'a> {
     /// Want of memory.
     pub fn open(alloc: Global, payload: &'a [u8]) -> Result<Db<'a>, AllocError>
         requires { payload_fault Tables.Idb payload.now ≡ None }
-        // 0 is the index of `packages`, as above.
         ensures { IfOk result (λ db. packages_of db
-            ≡ entries_at 0 (root_value Tables.Idb payload.entry.now)) }
+            ≡ entries_at IDB_PACKAGES (root_value Tables.Idb payload.entry.now)) }
     {
         no_text_is_bad_where_each_keeps_its_rule();
         bytes_are_small(payload);

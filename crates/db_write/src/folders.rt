@@ -1,7 +1,7 @@
 //! The folders of a package, and of their files those that it owns.
 //! The rule stands in `docs/formats.md`, "The database after a change": "each folder with its name
 //! and its access list, also where it is empty, and of its files those that the package owns"; the
-//! fields in "Schemas", tables 5 and 7, which count from 1, and the constants here from 0.
+//! fields in "Schemas", tables 5 and 7.
 ghost use Rattle.adb_copy.specs.Known.{AreBlobsOf};
 ghost use Rattle.adb_fields.specs.Fields.{are_all_sound, array_at};
 ghost use Rattle.adb_fields.specs.Repeated.{folders_in, list_of};
@@ -19,22 +19,11 @@ ghost use Rattle.std.specs.Prelude.{◌≡◌, ◌<◌, true, false, OnOk, Some,
 use adb_copy::{KnownTexts, write_acl, write_file};
 use adb_fields::{field_word, objects_field};
 use adb_schema::PackageView;
+use adb_tables::field_indexes::{DIR_ACL, DIR_FILES, DIR_NAME, PACKAGE_PATHS};
 use adb_tables::{Which, entry_word};
 use adb_values::Draft;
 use adb_view::{Adb, Arr, Val};
 use std::alloc::{AllocError, Global};
-
-/// The index of `paths` among the fields of a package (2 in table 7).
-const PATHS: usize = 1;
-
-/// The index of the name among the fields of a folder (1 in table 5).
-const NAME: usize = 0;
-
-/// The index of the access list of a folder (2 in table 5).
-const ACL: usize = 1;
-
-/// The index of the files of a folder (3 in table 5).
-const FILES: usize = 2;
 
 /// Writes the folders of a package with the files whose flag is set, by one flag for each file of
 /// the package, in order.
@@ -48,7 +37,7 @@ pub(crate) fn write_folders(
         (arr_value (folders_after (folders_in (package_value pkg.now)) flags.now)) draft.old) }
 {
     let adb = pkg.adb();
-    let folders = objects_field(adb, Which::Package, pkg.word(), PATHS, Which::Dir);
+    let folders = objects_field(adb, Which::Package, pkg.word(), PACKAGE_PATHS, Which::Dir);
     write_folder_list(alloc, draft, adb, folders, flags)
 }
 
@@ -58,7 +47,7 @@ pub(crate) fn flags_behind<'f>(pkg: &PackageView<'_>, flags: &'f [bool]) -> &'f 
         ≡ drop (total_of file_count (folders_in (package_value pkg.now))) flags.entry.now }
 {
     let adb = pkg.adb();
-    let folders = objects_field(adb, Which::Package, pkg.word(), PATHS, Which::Dir);
+    let folders = objects_field(adb, Which::Package, pkg.word(), PACKAGE_PATHS, Which::Dir);
     flags_behind_folders(adb, folders, flags)
 }
 
@@ -112,7 +101,7 @@ fn flags_behind_folder<'f>(adb: Adb<'_>, folder: Val, flags: &'f [bool]) -> &'f 
         (file_count (value_at (payload_of adb.entry) (Kinds.Obj Tables.Dir) folder))
         flags.entry.now }
 {
-    let files = objects_field(adb, Which::Dir, folder, FILES, Which::File);
+    let files = objects_field(adb, Which::Dir, folder, DIR_FILES, Which::File);
     let count = files.len();
     if count >= flags.len() {
         return &flags[..0];
@@ -135,9 +124,10 @@ fn write_folder(
     ensures known { OnOk result (AreBlobsOf (payload_of adb.entry) draft.new known.new) }
 {
     draft.open_list()?;
-    known.write_field(draft, adb, Which::Dir, folder, NAME)?;
-    write_acl(draft, adb, known, field_word(adb, Which::Dir, folder, ACL))?;
-    let files = objects_field(adb, Which::Dir, folder, FILES, Which::File);
+    known.write_field(draft, adb, Which::Dir, folder, DIR_NAME)?;
+    let acl = field_word(adb, Which::Dir, folder, DIR_ACL);
+    write_acl(draft, adb, known, acl)?;
+    let files = objects_field(adb, Which::Dir, folder, DIR_FILES, Which::File);
     write_files(draft, adb, known, files, flags)?;
     draft.close_object()
 }

@@ -1,10 +1,7 @@
 //! What a database that is written says when it is read, and that nothing changes where nothing was
 //! to be changed.
 //! The rules stand in `docs/formats.md`, "The database after a change", and in `docs/DECISIONS.md`,
-//! "The installed database" (what is asked of files that are owned). In the clauses numbers of
-//! fields count from 0: in `entries_at 0` of a database that of `packages`, in `entry_in` of a
-//! package 2 that of `scripts`, 3 of `triggers`, 4 of `replaces-priority`, and of a folder 1 that
-//! of its access list.
+//! "The installed database" (what is asked of files that are owned).
 ghost use Rattle.adb_copy.specs.Zeros.{without_zeros};
 ghost use Rattle.adb_fields.specs.FirstPair.{IsIn};
 ghost use Rattle.adb_fields.specs.Repeated.{entries_at, folders_in, list_of, name_of, paths_in};
@@ -13,6 +10,7 @@ ghost use Rattle.adb_schema.specs.SoundContainers.{IsSound};
 ghost use Rattle.adb_schema.specs.Soundness.{payload_in, root_value};
 ghost use Rattle.adb_schema.specs.declared.read.TheConstants.{IDB_WORD};
 ghost use Rattle.adb_sound.specs.Root.{IsRootOf};
+ghost use Rattle.adb_tables.specs.FieldIndexes.{DIR_ACL, IDB_PACKAGES, INFO_FILE_SIZE, INFO_HASHES, PACKAGE_INFO, PACKAGE_REPLACES_PRIORITY, PACKAGE_SCRIPTS, PACKAGE_TRIGGERS};
 ghost use Rattle.adb_tables.specs.Schema.{shape_of};
 ghost use Rattle.adb_tables.specs.Values.{entry_in, int_in};
 ghost use Rattle.adb_tables.specs.declared.tables.Kind.TheVariants as Kinds;
@@ -22,7 +20,6 @@ ghost use Rattle.adb_view.specs.Shaped.{HasShape};
 ghost use Rattle.adb_write.specs.Canonical.{written_of};
 ghost use Rattle.adb_write.specs.File.{file_of};
 ghost use Rattle.db_core.specs.Members.{AreInOrder, Member, coming_member, member_listings, staying_member};
-ghost use Rattle.adb_tables.specs.FieldIndexes.{INFO_FILE_SIZE, INFO_HASHES, PACKAGE_INFO};
 ghost use Rattle.db_core.specs.Packages.{installed_id};
 ghost use Rattle.db_write.specs.Information.{file_size_of};
 ghost use Rattle.db_write.specs.NewDatabase.{database_of, database_value, package_after, packages_after};
@@ -51,7 +48,7 @@ pub fn a_written_database_is_read_back()
         → container_fault bytes ≡ None }
     ensures packages { (members : List Member) (flags : List Bool) (bytes : List ℕ)
         → IsRootOf Tables.Idb (database_value members flags) → database_of members flags ≡ Ok bytes
-        → entries_at 0 (root_value Tables.Idb (payload_in bytes))
+        → entries_at IDB_PACKAGES (root_value Tables.Idb (payload_in bytes))
         ≡ list_of (packages_after members flags) }
 {
     a_file_is_spelled();
@@ -80,7 +77,7 @@ pub fn a_database_of_sound_packages_may_stand_at_the_root()
 pub fn packages_of_sound_containers_may_be_members()
     ensures stays { (file : List ℕ) (pkg : Plain)
         → IsSound Tables.Idb file → All (λ b. b < 256) (payload_in file)
-        → IsIn pkg (entries_at 0 (root_value Tables.Idb (payload_in file)))
+        → IsIn pkg (entries_at IDB_PACKAGES (root_value Tables.Idb (payload_in file)))
         → IsOfSoundContainer pkg None }
     ensures comes { (file id : List ℕ)
         → IsSound Tables.Package file → All (λ b. b < 256) (payload_in file)
@@ -102,13 +99,13 @@ pub fn a_database_lists_the_owned_files()
 /// bytes.
 pub fn a_database_without_changes_stays_the_same()
     ensures value { (v : Plain) → HasShape (shape_of (Kinds.Obj Tables.Idb)) v
-        → database_value (staying_members (entries_at 0 v))
-        (all_owned (staying_members (entries_at 0 v)))
+        → database_value (staying_members (entries_at IDB_PACKAGES v))
+        (all_owned (staying_members (entries_at IDB_PACKAGES v)))
         ≡ without_zeros v }
     ensures bytes { (v : Plain) (payload : List ℕ) → HasShape (shape_of (Kinds.Obj Tables.Idb)) v
         → without_zeros v ≡ v → written_of v ≡ Ok payload
-        → database_of (staying_members (entries_at 0 v))
-        (all_owned (staying_members (entries_at 0 v)))
+        → database_of (staying_members (entries_at IDB_PACKAGES v))
+        (all_owned (staying_members (entries_at IDB_PACKAGES v)))
         ≡ Ok (file_of IDB_WORD payload) }
 {}
 
@@ -133,10 +130,9 @@ pub fn a_package_keeps_its_information()
 pub fn a_package_keeps_its_folders()
     ensures names { (m : Member) (flags : List Bool)
         → map name_of (folders_in (package_after m flags)) ≡ map name_of (folders_in m.pkg) }
-    // 1 is the index of the access list of a folder.
     ensures acls { (m : Member) (flags : List Bool)
-        → map (λ folder. entry_in folder 1) (folders_in (package_after m flags))
-        ≡ map (λ folder. without_zeros (entry_in folder 1)) (folders_in m.pkg) }
+        → map (λ folder. entry_in folder DIR_ACL) (folders_in (package_after m flags))
+        ≡ map (λ folder. without_zeros (entry_in folder DIR_ACL)) (folders_in m.pkg) }
 {}
 
 /// The entries of files in a new database are those of the files that members list and own, in
@@ -151,15 +147,15 @@ pub fn a_database_keeps_the_entries_of_owned_files()
 /// A package in a new database has the scripts, the triggers and the priority in replacing that it
 /// had, where an integer 0 is Null.
 pub fn a_package_keeps_its_scripts_and_its_priority()
-    // 2 is the index of `scripts` among the fields of a package.
     ensures scripts { (m : Member) (flags : List Bool)
-        → entry_in (package_after m flags) 2 ≡ without_zeros (entry_in m.pkg 2) }
-    // 3 is that of `triggers`.
+        → entry_in (package_after m flags) PACKAGE_SCRIPTS
+        ≡ without_zeros (entry_in m.pkg PACKAGE_SCRIPTS) }
     ensures triggers { (m : Member) (flags : List Bool)
-        → entry_in (package_after m flags) 3 ≡ without_zeros (entry_in m.pkg 3) }
-    // 4 is that of `replaces-priority`.
+        → entry_in (package_after m flags) PACKAGE_TRIGGERS
+        ≡ without_zeros (entry_in m.pkg PACKAGE_TRIGGERS) }
     ensures priority { (m : Member) (flags : List Bool)
-        → int_in (entry_in (package_after m flags) 4) ≡ int_in (entry_in m.pkg 4) }
+        → int_in (entry_in (package_after m flags) PACKAGE_REPLACES_PRIORITY)
+        ≡ int_in (entry_in m.pkg PACKAGE_REPLACES_PRIORITY) }
 {}
 
 /// A database that was written, and whose value may stand at the root of a container, is written
@@ -168,8 +164,9 @@ pub fn a_written_database_is_written_again_alike()
     ensures { (members : List Member) (flags : List Bool) (bytes : List ℕ)
         → IsRootOf Tables.Idb (database_value members flags) → database_of members flags ≡ Ok bytes
         → database_of
-        (staying_members (entries_at 0 (root_value Tables.Idb (payload_in bytes))))
-        (all_owned (staying_members (entries_at 0 (root_value Tables.Idb (payload_in bytes)))))
+        (staying_members (entries_at IDB_PACKAGES (root_value Tables.Idb (payload_in bytes))))
+        (all_owned
+        (staying_members (entries_at IDB_PACKAGES (root_value Tables.Idb (payload_in bytes)))))
         ≡ Ok bytes }
 {
     what_a_container_is_made_of_is_read_back();

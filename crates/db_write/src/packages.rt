@@ -1,9 +1,9 @@
 //! The packages of a database.
 //! The rule stands in `docs/formats.md`, "The database after a change": what a database has of each
-//! package; the fields in "Schemas", table 7, which counts from 1. In the clauses and the constant
-//! here they count from 0: 0 is `info`, 2 `scripts`, 3 `triggers`.
+//! package; the fields in "Schemas", table 7.
 ghost use Rattle.adb_copy.specs.Zeros.{without_zeros};
 ghost use Rattle.adb_schema.specs.Views.{package_value};
+ghost use Rattle.adb_tables.specs.FieldIndexes.{PACKAGE_INFO, PACKAGE_SCRIPTS, PACKAGE_TRIGGERS};
 ghost use Rattle.adb_tables.specs.Values.{entry_in};
 ghost use Rattle.adb_values.specs.Drafts.{draft_with};
 ghost use Rattle.adb_view.specs.Plain.{arr_value};
@@ -17,14 +17,11 @@ use adb_copy::{KnownTexts, write_info, write_int, write_scripts, write_text_list
 use adb_fields::texts_field;
 use adb_schema::PackageView;
 use adb_tables::Which;
+use adb_tables::field_indexes::PACKAGE_TRIGGERS;
 use adb_values::Draft;
 use db_core::Members;
 use std::alloc::{AllocError, Global};
 use std::marker::PhantomData;
-
-/// The index of `triggers`, the patterns of folders that a package's trigger watches (4 in table
-/// 7).
-const TRIGGERS: usize = 3;
 
 /// Writes the packages of members with the files whose flag is set, by one flag for each file of
 /// all members, in order.
@@ -79,7 +76,7 @@ fn write_member_info(
     id: Option<[u8; 32]>,
 ) -> Result<(), AllocError>
     ensures { OnOk result (draft.new
-        ≡ draft_with (info_after id (entry_in (package_value pkg.now) 0)) draft.old) }
+        ≡ draft_with (info_after id (entry_in (package_value pkg.now) PACKAGE_INFO)) draft.old) }
 {
     let info = pkg.info();
     match &id {
@@ -97,7 +94,7 @@ fn write_package_scripts<'a>(
     _mark: PhantomData<PackageView<'a>>,
 ) -> Result<(), AllocError>
     ensures { OnOk result (draft.new
-        ≡ draft_with (without_zeros (entry_in (package_value pkg.now) 2)) draft.old) }
+        ≡ draft_with (without_zeros (entry_in (package_value pkg.now) PACKAGE_SCRIPTS)) draft.old) }
 {
     let scripts = pkg.scripts();
     write_scripts(draft, &scripts)
@@ -106,10 +103,10 @@ fn write_package_scripts<'a>(
 /// Writes the triggers of a package: the patterns of folders that its trigger watches.
 fn write_triggers(alloc: Global, draft: &mut Draft, pkg: &PackageView<'_>) -> Result<(), AllocError>
     ensures { OnOk result (draft.new
-        ≡ draft_with (without_zeros (entry_in (package_value pkg.now) 3)) draft.old) }
+        ≡ draft_with (without_zeros (entry_in (package_value pkg.now) PACKAGE_TRIGGERS)) draft.old) }
 {
     let adb = pkg.adb();
     let mut known = KnownTexts::new(alloc);
-    let triggers = texts_field(adb, Which::Package, pkg.word(), TRIGGERS);
+    let triggers = texts_field(adb, Which::Package, pkg.word(), PACKAGE_TRIGGERS);
     write_text_list(draft, adb, &mut known, triggers)
 }

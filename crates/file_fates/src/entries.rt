@@ -6,6 +6,7 @@
 ghost use Rattle.std.specs.Prelude.{◌-◌, ◌<◌, ◌≤◌};
 ghost use Rattle.adb_fields.specs.ListValue.{list_value};
 ghost use Rattle.adb_schema.specs.Views.{package_value};
+ghost use Rattle.adb_tables.specs.FieldIndexes.{PACKAGE_PATHS};
 ghost use Rattle.adb_tables.specs.Values.{count_of, entries_in, entry_in};
 ghost use Rattle.db_core.specs.Seen.{members_of};
 ghost use Rattle.file_guard.specs.Listed.{IsOfEntry};
@@ -38,13 +39,13 @@ fn listed_in_folders<'a>(folders: &List<'a, DirInfo<'a>>, folder: u32, file: u32
     listed_in_files(&folder.files(), file)
 }
 
-/// What the entry of a package's file says that a claim speaks of. In the clauses, 1 is the index
-/// of `paths` among the fields of a package, counted from 0 (2 in table 7 of `docs/formats.md`,
-/// "Schemas").
+/// What the entry of a package's file says that a claim speaks of.
 fn listed_in<'a>(pkg: &PackageView<'a>, claim: &Claim<'_>) -> ListedFile<'a>
-    requires { HasFileAt (entry_in (package_value pkg.now) 1) claim.now.folder claim.now.file }
+    requires { HasFileAt (entry_in (package_value pkg.now) PACKAGE_PATHS) claim.now.folder
+        claim.now.file }
     ensures { IsOfEntry result
-        (listed_file_at (entry_in (package_value pkg.now) 1) claim.now.folder claim.now.file) }
+        (listed_file_at (entry_in (package_value pkg.now) PACKAGE_PATHS) claim.now.folder
+        claim.now.file) }
 {
     listed_in_folders(&pkg.paths(), claim.folder, claim.file)
 }

@@ -29,14 +29,18 @@ pub record Script : Type 0 where
 
 -- ---- files
 
--- the text of a link: what stands behind its mark, `!<symlink>` of 10 bytes
+-- the mark of a link, with which its bytes begin
+abbrev pub link_mark : List ℕ
+link_mark = codes "!<symlink>"
+
+-- the text of a link: what stands behind its mark
 abbrev pub link_text : List ℕ → List ℕ
-link_text bytes = drop 10 bytes
+link_text bytes = drop (length link_mark) bytes
 
 -- whether the bytes of a file are those of a link: its mark, and a text of UTF-8 that is not empty
 unfoldable pub is_link_file : List ℕ → Bool
 is_link_file bytes =
-    bytes_eq (take 10 bytes) (codes "!<symlink>") && not (length bytes == 10)
+    bytes_eq (take (length link_mark) bytes) link_mark && not (length bytes == length link_mark)
     && is_utf8 (link_text bytes)
 
 -- what the bytes of a file are: a symbolic link with its target, which is the kind 0xa000,

@@ -10,6 +10,9 @@ use sha2::{Digest, Sha256};
 use std::alloc::{AllocError, Global};
 use std::str;
 
+/// The mark of a link, with which its bytes begin.
+const LINK_MARK: &[u8] = b"!<symlink>";
+
 /// The folders of a package with their files, and the contents blocks of these.
 #[derive(Drop)]
 pub struct Packing<'a> {
@@ -114,14 +117,13 @@ fn target(alloc: Global, text: &[u8]) -> Result<Text, AllocError>
     Ok(Text::from_vec(target))
 }
 
-/// The text behind the mark of a link, `!<symlink>`. None comes exactly where the bytes are no
-/// link.
+/// The text behind the mark of a link. None comes exactly where the bytes are no link.
 #[tactic(auto, unfolding(crate::specs::Package::is_link_file))]
 fn link_text(bytes: &[u8]) -> Option<&[u8]>
     ensures { MatchOption result (is_link_file bytes.now ≡ false) (λ text.
         (is_link_file bytes.now ≡ true) × (text.now ≡ link_text bytes.now)) }
 {
-    let text = bytes.strip_prefix(b"!<symlink>")?;
+    let text = bytes.strip_prefix(LINK_MARK)?;
     if text.is_empty() || !is_text(text) {
         return None;
     }
