@@ -3,5 +3,8 @@ mod OneOwner
 pub mod Gathering
 pub mod Claiming
 mod NamedPlaces
+mod ReadWords
+mod AnyOfFront
+mod AskedQuestions
 mod Staying
 mod SoundMembers

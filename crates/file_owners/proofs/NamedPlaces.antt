@@ -1,5 +1,5 @@
 -- A package names the members whose places were gathered.
-use Rattle.std.proofs.Common.{◌≡◌, ◌⊎◌, inl, inr, ℕ, suc, zero, ◌+◌, ◌<◌, ◌≤◌, Bool, true, false, cond, List, [], ◌∷◌, ◌++◌, map, length, drop, get_or, Option, Some, None, Result, Ok, Err, refl, ap, sym, ◌∙◌, subst, arith, true≢false}
+use Rattle.std.proofs.Common.{◌≡◌, ◌⊎◌, inl, inr, ℕ, suc, zero, ◌+◌, ◌<◌, ◌≤◌, Bool, true, false, List, [], ◌∷◌, ◌++◌, map, length, get_or, Option, Some, None, Result, Ok, Err, refl, ap, sym, ◌∙◌, subst, arith, true≢false}
 use Rattle.std.specs.Prelude.{◌%◌, ◌==◌, ◌&&◌, ◌||◌, not, bytes_eq, if◌then◌else◌, is_ok, nat_lt, slice_get, MatchResult}
 use Rattle.std.specs.Cmp.Lexicographic.{bytes_decides}
 use Rattle.std.specs.List.{list_any}
@@ -9,7 +9,7 @@ use Rattle.std.proofs.lemmas.Bool.{cases_lt}
 use Rattle.std.proofs.lemmas.Bool.Decides.{eqb_tells}
 use Rattle.std.proofs.lemmas.Cmp.{nat_cmp_total}
 use Rattle.std.proofs.lemmas.List.{get_or_default, length-append}
-use Rattle.std.proofs.lemmas.List.Folds.{list_any-append, list_any_at, list_any_none}
+use Rattle.std.proofs.lemmas.List.Folds.{list_any_at, list_any_none}
 use Rattle.std.proofs.lemmas.List.Sorted.{list_any-IsPermutation, ranks_by, searched, sorted_far}
 use Rattle.std.proofs.lemmas.Map.Keys.{ge_from_not_lt}
 use Rattle.dep_core.specs.Dependency.{Dependency}
@@ -18,11 +18,10 @@ use Rattle.dep_core.specs.Value.{is_matching, is_version_or_empty}
 use Rattle.dep_core.specs.ValueReading.{bits_of, dependency_of_value, on_version}
 use Rattle.dep_core.specs.Dependency.{is_dep_name}
 use Rattle.version_core.specs.Order.{is_version}
-use Rattle.adb_view.specs.Plain.{Plain, Plains}
-use Rattle.adb_fields.specs.Repeated.{entries_at, list_of, package_name}
-use Rattle.adb_tables.specs.Values.{count_of, entry_in, int_in, nth, text_in}
-use Rattle.db_core.specs.Members.{Member, is_place, member_name}
-use Rattle.db_core.proofs.AnyOf.{any_step, past_end}
+use Rattle.adb_view.specs.Plain.{Plain}
+use Rattle.adb_fields.specs.Repeated.{entries_at, package_name}
+use Rattle.adb_tables.specs.Values.{entry_in, int_in, text_in}
+use Rattle.db_core.specs.Members.{Member, member_name}
 use Rattle.file_owners.specs.NamedPlaces.{ArePlacesNamed, ArePlacesOfEach}
 use Rattle.file_owners.specs.Owners.{member_beats, takes_over_if_any}
 use Rattle.file_owners.specs.Replaces.{is_named_by, is_preferred_to, is_replaced_by, names_package, takes_over, version_text}
@@ -68,7 +67,7 @@ turned a b h = go (bytes_eq b a) refl
     go false e = refl
     go true e = absurd (true≢false (sym ((bytes_decides a b).1 (sym ((bytes_decides b a).0 e))) ∙ h))
 
-other_name : (entry y : Plain) → bytes_eq (package_name y) (text_in (entry_in entry 0)) ≡ false → is_named_by entry y ≡ false
+pub other_name : (entry y : Plain) → bytes_eq (package_name y) (text_in (entry_in entry 0)) ≡ false → is_named_by entry y ≡ false
 other_name entry y h =
     let name : List ℕ = text_in (entry_in entry 0) in
     ap (λ t. is_version (version_text y) && t)
@@ -85,74 +84,6 @@ other_name entry y h =
 pub none_found : (entry : Plain) (members : List Member) → ((i : ℕ) (m : Member) → slice_get members i ≡ Some m → false ≡ bytes_eq (member_name m) (text_in (entry_in entry 0)))
     → (y : ℕ) (m : Member) → slice_get members y ≡ Some m → false ≡ is_named_by entry m.pkg
 none_found entry members h y m g = sym (other_name entry m.pkg (sym (h y m g)))
-
-pub found_is : (entry : Plain) (members : List Member) (place : ℕ) (t : Bool)
-    → ((i : ℕ) (m : Member) → slice_get members i ≡ Some m → is_place i (Some place) ≡ bytes_eq (member_name m) (text_in (entry_in entry 0)))
-    → ((m : Member) → slice_get members place ≡ Some m → t ≡ is_named_by entry m.pkg)
-    → (y : ℕ) (m : Member) → slice_get members y ≡ Some m → cond t (place == y) false ≡ is_named_by entry m.pkg
-found_is entry members place t found test y m g = go (eqb_tells place y)
-  where
-    off : (t : Bool) → cond t false false ≡ false
-    off true = refl
-    off false = refl
-
-    on : (t : Bool) → cond t true false ≡ t
-    on true = refl
-    on false = refl
-
-    go : ((place == y) ≡ true) × (place ≡ y) ⊎ ((place == y) ≡ false) × (place ≡ y → ⊥) → cond t (place == y) false ≡ is_named_by entry m.pkg
-    go (inl (e, s)) = ap (λ b. cond t b false) e ∙ (on t ∙ test m (ap (slice_get members) s ∙ g))
-    go (inr (e, n)) = ap (λ b. cond t b false) e ∙ (off t ∙ sym (other_name entry m.pkg (sym (found y m g) ∙ e)))
-
--- ---- entry by entry
-
-abbrev pub AreSoFar : List Member → List ℕ → Plains → ℕ → Type 0
-AreSoFar members places vs i =
-    (y : ℕ) (m : Member) → slice_get members y ≡ Some m
-    → (list_any (λ place. place == y) places || list_any (λ entry. is_named_by entry m.pkg) (drop i (list_of vs)))
-    ≡ list_any (λ entry. is_named_by entry m.pkg) (list_of vs)
-
-grouped : (a b c : Bool) → ((a || b) || c) ≡ (a || (b || c))
-grouped true b c = refl
-grouped false b c = refl
-
-pub entry_read : (members : List Member) (old new : List ℕ) (place : Option ℕ) (vs : Plains) (i : ℕ) (entry : Plain) → i < count_of vs → entry ≡ nth vs i
-    → ((y : ℕ) → list_any (λ p. p == y) new ≡ (list_any (λ p. p == y) old || is_place y place))
-    → ((y : ℕ) (m : Member) → slice_get members y ≡ Some m → is_place y place ≡ is_named_by entry m.pkg)
-    → AreSoFar members old vs i → AreSoFar members new vs (i + 1)
-entry_read members old new place vs i entry l is added named inv y m g =
-    let s : i + 1 ≡ suc i = omega arith in
-    let p : Plain → Bool = λ entry. is_named_by entry m.pkg in
-    (λ j. added y j || list_any p (drop (s j) (list_of vs)))
-    ∙ (grouped (list_any (λ p. p == y) old) (is_place y place) (list_any p (drop (suc i) (list_of vs)))
-    ∙ (ap (λ b. list_any (λ p. p == y) old || (b || list_any p (drop (suc i) (list_of vs)))) (named y m g ∙ ap p is)
-    ∙ (ap (λ b. list_any (λ p. p == y) old || b) (sym (any_step p vs i l)) ∙ inv y m g)))
-
-pub all_read : (members : List Member) (places : List ℕ) (vs : Plains) (i : ℕ) → count_of vs ≤ i → AreSoFar members places vs i
-    → (y : ℕ) (m : Member) → slice_get members y ≡ Some m → list_any (λ p. p == y) places ≡ list_any (λ entry. is_named_by entry m.pkg) (list_of vs)
-all_read members places vs i l inv y m g =
-    let p : Plain → Bool = λ entry. is_named_by entry m.pkg in
-    sym (or_none (list_any (λ p. p == y) places)) ∙ (ap (λ b. list_any (λ p. p == y) places || b) (sym (past_end p vs i l)) ∙ inv y m g)
-  where
-    or_none : (a : Bool) → (a || false) ≡ a
-    or_none true = refl
-    or_none false = refl
-
--- one place more, if there is one
-pub place_added : (old new : List ℕ) (place y : ℕ) → new ≡ old ++ place ∷ [] → list_any (λ p. p == y) new ≡ (list_any (λ p. p == y) old || is_place y (Some place))
-place_added old new place y is =
-    ap (list_any (λ p. p == y)) is ∙ (list_any-append (λ p. p == y) old (place ∷ []) ∙ ap (λ b. list_any (λ p. p == y) old || b) (or_none (place == y)))
-  where
-    or_none : (a : Bool) → (a || false) ≡ a
-    or_none true = refl
-    or_none false = refl
-
-pub none_added : (old new : List ℕ) (y : ℕ) → new ≡ old → list_any (λ p. p == y) new ≡ (list_any (λ p. p == y) old || false)
-none_added old new y is = ap (list_any (λ p. p == y)) is ∙ sym (or_none (list_any (λ p. p == y) old))
-  where
-    or_none : (a : Bool) → (a || false) ≡ a
-    or_none true = refl
-    or_none false = refl
 
 -- ---- in rising order
 

@@ -7,3 +7,4 @@ pub mod Owners
 -- what only inner contracts and proofs use
 pub mod Gathered
 pub mod NamedPlaces
+pub mod Questions

@@ -12,6 +12,7 @@ mod database;
 mod gather;
 mod named;
 mod owner;
+mod questions;
 
 pub use database::claims_in_database;
 pub use owner::{

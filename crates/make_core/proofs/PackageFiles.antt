@@ -1,5 +1,5 @@
 -- The values of files and of folders, whatever their bytes, and what they say of contents.
-use Rattle.std.proofs.Common.{◌≡◌, ℕ, zero, suc, ◌^◌, ◌<◌, ◌≤◌, Bool, true, false, not, ◌&&◌, ◌==◌, eqb, ltb, nat_lt, if◌then◌else◌, List, [], ◌∷◌, length, take, map, codes, bytes_eq, refl, ap, sym, subst, ◌∙◌, arith, lit<, Option}
+use Rattle.std.proofs.Common.{◌≡◌, ℕ, zero, suc, ◌-◌, ◌^◌, ◌<◌, ◌≤◌, Bool, true, false, not, ◌&&◌, ◌==◌, eqb, ltb, nat_lt, if◌then◌else◌, List, [], ◌∷◌, length, take, map, codes, bytes_eq, refl, ap, sym, subst, ◌∙◌, arith, lit<, Option}
 use Rattle.std.specs.Str.{is_utf8}
 use Rattle.std.proofs.lemmas.Bool.{and_parts, eq-eqb, lt-ltb, ltb-false, ltb-true, ne_eqb}
 use Rattle.std.proofs.lemmas.List.{length-drop, take_all}
@@ -43,7 +43,8 @@ behind_mark bytes mark other = by_length (ltb (length bytes) 11) refl
         absurd (cc (other, same))
     by_length false e =
         let long : 11 ≤ length bytes = ltb-false (length bytes) 11 e in
-        omega (arith, length-drop 10 bytes)
+        let rest : length (link_text bytes) ≡ length bytes - 10 = length-drop 10 bytes in
+        omega (arith, long, rest)
 
 not_true : (b : Bool) → not b ≡ true → b ≡ false
 not_true true e = absurd (cc (e))

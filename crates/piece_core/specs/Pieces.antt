@@ -8,7 +8,7 @@ use Rattle.adb_block.specs.Reading.{Reading, done, fault, more}
 use Rattle.adb_block.specs.declared.block.BlockKind.{BlockKind}
 use Rattle.adb_block.specs.declared.block.BlockKind.TheVariants as Kinds
 use Rattle.adb_schema.specs.Soundness.{file_pair}
-use Rattle.pkg_core.specs.Contents.{Expected, FilesRead, no_more, refused, given, contents_bytes, has_positions_of, hash_fault, missing_fault}
+use Rattle.pkg_core.specs.Contents.{Expected, FilesRead, POSITIONS_LEN, no_more, refused, given, contents_bytes, has_positions_of, hash_fault, missing_fault}
 use Rattle.piece_core.specs.declared.file.Part.{Part}
 use Rattle.piece_core.specs.declared.file.TheConstants.{PIECE_LEN}
 
@@ -72,11 +72,11 @@ pieces_of_payload payload further (e ∷ es) =
     (pieces_of_bytes e (contents_bytes payload) (further es))
 
 -- the pieces from a block at an offset on, `further` being those behind it; a block that is no contents
--- is passed over, and one of contents has the 8 bytes of the positions
+-- is passed over, and one of contents has the bytes of the positions
 abbrev pub pieces_at_block : BlockKind → List ℕ → ℕ → (List Expected → PiecesRead) → List Expected
     → PiecesRead
 pieces_at_block Kinds.Contents payload at further es =
-    if nat_lt (length payload) 8 then refusal (Truncated at)
+    if nat_lt (length payload) POSITIONS_LEN then refusal (Truncated at)
     else pieces_of_payload payload further es
 pieces_at_block kind payload at further es = further es
 

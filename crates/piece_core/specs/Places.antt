@@ -10,7 +10,7 @@ use Rattle.adb_block.specs.Reading.{reading_of}
 use Rattle.adb_block.specs.Standing.{Standing}
 use Rattle.adb_block.specs.declared.block.BlockKind.TheVariants as Kinds
 use Rattle.adb_block.specs.declared.block.Frame.{Frame}
-use Rattle.pkg_core.specs.Contents.{contents_bytes}
+use Rattle.pkg_core.specs.Contents.{POSITIONS_LEN, contents_bytes}
 use Rattle.pkg_core.specs.Opened.{expected_of, left_in}
 use Rattle.pkg_core.specs.declared.walk.Walk.{Walk}
 use Rattle.piece_core.specs.Pieces.{PiecesRead, no_piece, refusal, pieces_by_blocks}
@@ -40,12 +40,11 @@ pieces_at place file =
 abbrev pub payload_at : Frame → BlockPlace → List ℕ → List ℕ
 payload_at frame place file = (framed_piece frame (drop place.at file)).payload
 
--- the positions that a reader hands in are the first eight bytes of the block's payload, where it has
--- as many
+-- the positions that a reader hands in are the first bytes of the block's payload, where it has as many
 abbrev pub HasPositions : Option Frame → List ℕ → BlockPlace → List ℕ → Type 0
 HasPositions None positions place file = Unit {0}
 HasPositions (Some frame) positions place file =
-    8 ≤ frame.payload_len → take 8 (payload_at frame place file) ≡ positions
+    POSITIONS_LEN ≤ frame.payload_len → take POSITIONS_LEN (payload_at frame place file) ≡ positions
 
 -- ---- a step
 
@@ -63,11 +62,11 @@ place_behind place frame = record {
 }
 
 -- of a file that a step opened all bytes are still to be handed in: those that the block's payload has
--- behind the 8 of the positions
+-- behind the positions
 abbrev pub HasAllLeft : Frame → Step → Type 0
 HasAllLeft frame End = Unit {0}
 HasAllLeft frame Passed = Unit {0}
-HasAllLeft frame (Opened f) = 8 + file_bytes_left f ≡ frame.payload_len
+HasAllLeft frame (Opened f) = POSITIONS_LEN + file_bytes_left f ≡ frame.payload_len
 
 -- a step opens a file only by a block of contents
 abbrev pub IsOfContents : Frame → Step → Type 0

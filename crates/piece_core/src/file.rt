@@ -5,7 +5,7 @@
 
 ghost use Rattle.std.specs.Prelude.{◌≡◌, ◌<◌, ◌≤◌, ◌+◌, ◌-◌, ℕ, List, [], ◌∷◌, ◌++◌, length, take, None, IfNone, IfOk, IfSome};
 ghost use Rattle.adb_schema.specs.Soundness.{file_pair};
-ghost use Rattle.pkg_core.specs.Contents.{Expected, contents_bytes, files_by_blocks};
+ghost use Rattle.pkg_core.specs.Contents.{Expected, POSITIONS_LEN, contents_bytes, files_by_blocks};
 ghost use Rattle.pkg_core.specs.Opened.{expected_of, left_in};
 ghost use Rattle.piece_core.specs.Pieces.{PiecesRead, part_of, pieces_of_payload, position_or_size_fault, files_joined, pieces_by_blocks};
 ghost use Rattle.piece_core.specs.Taking.{HasTaken, IsOpened, IsPartOf, IsTaken, IsTested, file_bytes_left, next_len};
@@ -14,11 +14,7 @@ ghost use Rattle.adb_block.specs.Reading.{Reading};
 use crate::hasher::Hasher;
 use adb_schema::file_pair;
 use base_core::Cause;
-use pkg_core::{Walk, Wanted};
-
-/// 8: the bytes in front of a file's own in its contents, which are the positions of its folder and
-/// of itself, four bytes each.
-const POSITIONS_LEN: u64 = 8;
+use pkg_core::{POSITIONS_LEN, Walk, Wanted};
 
 /// The check of a file whose contents are handed in: which one is due, and how many of its bytes
 /// were taken. Contracts see, by `Taking` of `specs/`, which bytes these were.
@@ -123,15 +119,15 @@ fn part_of(wanted: Wanted<'_>, last: bool) -> Part
 pub fn open_file<'a>(
     walk: &mut Walk<'a>,
     len: u64,
-    positions: &[u8; 8],
+    positions: &[u8; POSITIONS_LEN],
 ) -> Result<FileCheck<'a>, Cause>
-    requires { 8 ≤ len }
+    requires { POSITIONS_LEN ≤ len }
     // Of each payload of this length that begins with these positions.
     ensures opened { (payload : List ℕ) (further : List Expected → PiecesRead)
-        → length payload ≡ len → take 8 payload ≡ positions.now
+        → length payload ≡ len → take POSITIONS_LEN payload ≡ positions.now
         → IsOpened (pieces_of_payload payload further (left_in walk.old)) payload
         (further (left_in walk.new)) result }
-    ensures left { IfOk result (λ file. 8 + file_bytes_left file ≡ len) }
+    ensures left { IfOk result (λ file. POSITIONS_LEN + file_bytes_left file ≡ len) }
     ensures walk { IfOk result (λ file.
         left_in walk.old ≡ expected_of file.wanted ∷ left_in walk.new) }
 {
@@ -142,7 +138,7 @@ pub fn open_file<'a>(
             found,
         });
     };
-    match position_or_size_fault(found, len - POSITIONS_LEN, wanted) {
+    match position_or_size_fault(found, len - POSITIONS_LEN as u64, wanted) {
         Some(cause) => Err(cause),
         None => Ok(FileCheck::new(wanted)),
     }

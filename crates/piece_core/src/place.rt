@@ -11,11 +11,7 @@ ghost use Rattle.piece_core.specs.declared.place.Step.TheVariants.{End as Ended}
 use crate::file::{FileCheck, open_file};
 use adb_block::{BlockKind, Frame, padding_of};
 use base_core::Cause;
-use pkg_core::Walk;
-
-/// 8: the bytes in front of a file's own in its contents, which are the positions of its folder and
-/// of itself, four bytes each.
-const POSITIONS_LEN: u64 = 8;
+use pkg_core::{POSITIONS_LEN, Walk};
 
 /// Where a reader stands in the blocks of a package behind the first one: in a file of `len` bytes,
 /// behind a block of the kind `last`, at the offset of the next block; and the walk over the files
@@ -52,7 +48,11 @@ impl<'a> BlockPlace<'a> {
     ///
     /// `Truncated` where contents have fewer than eight bytes; those of `open_file`; and
     /// `DataOrder` with (0, 0) where no block is left and a file is due.
-    pub fn step(&mut self, framing: Option<Frame>, positions: &[u8; 8]) -> Result<Step<'a>, Cause>
+    pub fn step(
+        &mut self,
+        framing: Option<Frame>,
+        positions: &[u8; POSITIONS_LEN],
+    ) -> Result<Step<'a>, Cause>
         // The place, and the block that stands there, lie within the file.
         requires at { self.old.at ≤ self.old.len }
         requires fits { IfSome framing (λ frame. raw_size frame ≤ self.old.len - self.old.at) }
@@ -98,7 +98,11 @@ impl<'a> BlockPlace<'a> {
 
     /// Goes on behind a block that is there: one of contents opens a file, and another is passed.
     /// The clauses are those of `step`.
-    fn step_over(&mut self, frame: Frame, positions: &[u8; 8]) -> Result<Step<'a>, Cause>
+    fn step_over(
+        &mut self,
+        frame: Frame,
+        positions: &[u8; POSITIONS_LEN],
+    ) -> Result<Step<'a>, Cause>
         requires at { self.old.at ≤ self.old.len }
         requires fits { raw_size frame ≤ self.old.len - self.old.at }
         ensures step { (file : List ℕ) → length file ≡ self.old.len
@@ -123,7 +127,7 @@ impl<'a> BlockPlace<'a> {
     }
 
     /// Opens the file whose contents this block holds. The clauses are those of `step`.
-    fn open(&mut self, frame: Frame, positions: &[u8; 8]) -> Result<Step<'a>, Cause>
+    fn open(&mut self, frame: Frame, positions: &[u8; POSITIONS_LEN]) -> Result<Step<'a>, Cause>
         requires at { self.old.at ≤ self.old.len }
         requires fits { raw_size frame ≤ self.old.len - self.old.at }
         requires kind { frame.kind ≡ Kinds.Contents }
@@ -139,7 +143,7 @@ impl<'a> BlockPlace<'a> {
         ensures kind { IfOk result (IsOfContents frame) }
         ensures walk { IfOk result (λ step. WalksOn self.old.walk step self.new.walk) }
     {
-        if frame.payload_len < POSITIONS_LEN {
+        if frame.payload_len < POSITIONS_LEN as u64 {
             return Err(Cause::Truncated { at: self.at });
         }
         match open_file(&mut self.walk, frame.payload_len, positions) {

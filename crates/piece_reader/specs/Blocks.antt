@@ -4,6 +4,7 @@
 use Rattle.std.specs.Prelude.{◌≡◌, ◌≤◌, ◌<◌, ℕ, ◌+◌, min, List, [], ◌∷◌, length, drop, Option, Some, None, Result, Ok, Err}
 use Rattle.adb_block.specs.Frames.{IsFramed, raw_size}
 use Rattle.adb_block.specs.declared.block.Frame.{Frame}
+use Rattle.pkg_core.specs.Contents.{POSITIONS_LEN}
 use Rattle.pkg_core.specs.Opened.{expected_of, left_in}
 use Rattle.pkg_core.specs.declared.walk.Walk.{Walk}
 use Rattle.piece_core.specs.Pieces.{no_piece, refusal}
@@ -22,17 +23,17 @@ abbrev pub head_size : Option Frame → ℕ
 head_size None = 0
 head_size (Some frame) = frame.head_len
 
--- these bytes of a block's payload were seen: the positions, which are its first 8 bytes, where it has
--- as many, else no more than it has
+-- these bytes of a block's payload were seen: the positions, which are its first bytes, where it has as
+-- many, else no more than it has
 abbrev pub SeesPositions : Option Frame → List ℕ → List ℕ → Type 0
 SeesPositions None positions seen = seen ≡ []
 SeesPositions (Some frame) positions seen =
-    (length seen ≤ frame.payload_len) × (8 ≤ frame.payload_len → seen ≡ positions)
+    (length seen ≤ frame.payload_len) × (POSITIONS_LEN ≤ frame.payload_len → seen ≡ positions)
 
--- no more bytes of a block were seen than its header and the 8 of the positions
+-- no more bytes of a block were seen than its header and the positions
 abbrev pub IsInBlock : Option Frame → ℕ → Type 0
 IsInBlock None seen = Unit {0}
-IsInBlock (Some frame) seen = seen ≤ frame.head_len + min 8 frame.payload_len
+IsInBlock (Some frame) seen = seen ≤ frame.head_len + min POSITIONS_LEN frame.payload_len
 
 -- what was read of the block at a place of this file is what stands there; or it is the first failed
 -- test

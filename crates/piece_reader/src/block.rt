@@ -8,6 +8,7 @@ ghost use Rattle.pkg_pieces.specs.Seen.{HasAt, IsSeen, IsSeenIn, ReadsFile};
 ghost use Rattle.piece_reader.specs.Blocks.{EndsBefore, GoesFurther, GoesOnWith, IsBlockRead, IsInBlock, IsNextBlock, SeesPositions, head_size};
 ghost use Rattle.piece_reader.specs.declared.piece.PieceFault.TheVariants.{Disk as DiskFault};
 ghost use Rattle.piece_core.specs.Taking.{file_bytes_left};
+ghost use Rattle.pkg_core.specs.Contents.{POSITIONS_LEN};
 ghost use Rattle.piece_reader.specs.Readers.{FindsFile, IsFileFound};
 
 use crate::open::OpenFile;
@@ -15,11 +16,8 @@ use crate::piece::PieceFault;
 use adb_block::{Frame, frame_of};
 use base_core::{Name, Tree};
 use piece_core::{BlockPlace, FileCheck, Step};
+use pkg_core::POSITIONS_LEN;
 use pkg_pieces::HeadBytes;
-
-/// 8: the bytes in front of a file's own in its contents, which are the positions of its folder and
-/// of itself, four bytes each.
-const POSITIONS_LEN: u64 = 8;
 
 /// What was read of a block: what its header frames, and the first eight bytes of its payload,
 /// where it has as many.
@@ -28,7 +26,7 @@ pub(crate) struct BlockRead {
     /// What its header frames; None where no block is left.
     pub framing: Option<Frame>,
     /// The positions that its payload begins with; zeros where it has no eight bytes.
-    pub positions: [u8; 8],
+    pub positions: [u8; POSITIONS_LEN],
 }
 
 /// What a block of a package in a tree comes to.
@@ -84,10 +82,10 @@ pub(crate) fn next_block<'a, T: Tree>(
 
 /// The file that a block at an offset opens: its bytes stand behind the header and the positions.
 fn file_at<'a>(file: FileCheck<'a>, at: u64, framing: Option<Frame>) -> OpenFile<'a>
-    // Offsets have 64 bits; 8 bytes are the two positions.
-    requires { at + head_size framing + 8 < 2 ^ 64 }
+    // Offsets have 64 bits.
+    requires { at + head_size framing + POSITIONS_LEN < 2 ^ 64 }
     ensures file { result.file ≡ file.entry }
-    ensures at { result.at ≡ at + head_size framing + 8 }
+    ensures at { result.at ≡ at + head_size framing + POSITIONS_LEN }
 {
     let head_len = match framing {
         Some(frame) => frame.head_len,
@@ -95,7 +93,7 @@ fn file_at<'a>(file: FileCheck<'a>, at: u64, framing: Option<Frame>) -> OpenFile
     };
     OpenFile {
         file,
-        at: at + head_len + POSITIONS_LEN,
+        at: at + head_len + POSITIONS_LEN as u64,
     }
 }
 
@@ -135,7 +133,7 @@ fn read_positions<T: Tree>(
     name: &Name,
     at: u64,
     framing: Option<Frame>,
-) -> Result<[u8; 8], PieceFault>
+) -> Result<[u8; POSITIONS_LEN], PieceFault>
     requires { IfSome framing (λ frame. at + raw_size frame < 2 ^ 64) }
     ensures seen { IfOk result (λ positions. (seen : List ℕ) × SeesPositions framing positions seen
         × ((file_len : ℕ)
@@ -148,9 +146,9 @@ fn read_positions<T: Tree>(
         → ReadsFile name.now file_len DiskFault (T.history tree.old) (T.history tree.new)
         (T.counts tree.old) (T.counts tree.new) result }
 {
-    let mut positions = [0; 8];
+    let mut positions = [0; POSITIONS_LEN];
     if let Some(frame) = framing {
-        if frame.payload_len >= POSITIONS_LEN {
+        if frame.payload_len >= POSITIONS_LEN as u64 {
             tree.read_at(name, at + frame.head_len, &mut positions)?;
         }
     }

@@ -3,6 +3,7 @@
 
 ghost use Rattle.std.specs.Prelude.{◌≡◌, ◌≤◌, ◌+◌, ℕ, [], length, IfErr, OnOk};
 ghost use Rattle.pkg_pieces.specs.Seen.{IsSeen, ReadsFile};
+ghost use Rattle.piece_core.specs.declared.file.TheConstants.{PIECE_LEN};
 ghost use Rattle.piece_reader.specs.declared.piece.PieceFault.TheVariants.{Disk as DiskFault};
 
 use base_core::{Cause, Disk, Name, Tree};
@@ -21,12 +22,13 @@ pub struct Piece {
 
 impl Model for Piece {
     ghost use Rattle.std.specs.Prelude.{ℕ, ◌≤◌, List, take};
+    ghost use Rattle.piece_core.specs.declared.file.TheConstants.{PIECE_LEN};
 
     ghost Value = { List ℕ };
 
     ghost view = { λ piece. take piece.len piece.bytes };
 
-    ghost invariant = { λ piece. piece.len ≤ 65536 };
+    ghost invariant = { λ piece. piece.len ≤ PIECE_LEN };
 }
 
 impl Piece {
@@ -43,7 +45,7 @@ impl Piece {
     /// The bytes that the piece holds, at most 65,536 (`PIECE_LEN` of `piece_core`).
     pub fn bytes(&self) -> &[u8]
         ensures bytes { result.now ≡ self.now }
-        ensures few { length result.now ≤ 65536 }
+        ensures few { length result.now ≤ PIECE_LEN }
     {
         &self.bytes[..self.len]
     }
@@ -58,7 +60,7 @@ impl Piece {
         at: u64,
         len: usize,
     ) -> Result<(), PieceFault>
-        requires { len ≤ 65536 }
+        requires { len ≤ PIECE_LEN }
         ensures len { OnOk result (length self.new ≡ len) }
         ensures disk { IfErr result (λ fault. fault ≡ DiskFault) }
         ensures seen { OnOk result ((file_len : ℕ)

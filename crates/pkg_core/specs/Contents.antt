@@ -61,10 +61,14 @@ expected_contents pkg = expected_folders 1 (folders_in pkg)
 
 -- ---- one block of contents
 
--- the bytes of the file in the payload of a block of contents: what stands behind its two positions,
--- which are 8 bytes
+-- the bytes in front of a file's own in its contents: the positions of its folder and of itself, four
+-- bytes each
+abbrev pub POSITIONS_LEN : ℕ
+POSITIONS_LEN = 8
+
+-- the bytes of the file in the payload of a block of contents: what stands behind its two positions
 abbrev pub contents_bytes : List ℕ → List ℕ
-contents_bytes payload = drop 8 payload
+contents_bytes payload = drop POSITIONS_LEN payload
 
 -- the fault of a digest of some function that is not the wanted one; None where the two are equal
 abbrev pub digest_fault : (List ℕ → Digest) → List ℕ → List ℕ → Option Cause
@@ -101,11 +105,11 @@ abbrev pub next_fault : List ℕ → List Expected → Option Cause
 next_fault payload [] = Some (DataOrder (0, 0) (file_pair payload))
 next_fault payload (e ∷ es) = expected_fault payload e
 
--- the first failed test of a block of contents at an offset: it has the 8 bytes of the positions, and
--- its contents are those of the file that is expected next
+-- the first failed test of a block of contents at an offset: it has the bytes of the positions, and its
+-- contents are those of the file that is expected next
 abbrev pub contents_block_fault : List ℕ → ℕ → List Expected → Option Cause
 contents_block_fault payload at es =
-    if nat_lt (length payload) 8 then Some (Truncated at) else next_fault payload es
+    if nat_lt (length payload) POSITIONS_LEN then Some (Truncated at) else next_fault payload es
 
 -- the fault at the end of the blocks: a file is left, for which (0, 0) stands in the place of contents
 abbrev pub missing_fault : List Expected → Option Cause

@@ -19,4 +19,4 @@ pub use checks::{
     sha512_fault, the_first_fault_of_contents_is_reported, verify,
 };
 pub use pack::{Package, PackageFault};
-pub use walk::{FileContents, Walk, Wanted, wanted_file};
+pub use walk::{FileContents, POSITIONS_LEN, Walk, Wanted, wanted_file};

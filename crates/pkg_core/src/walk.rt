@@ -9,7 +9,7 @@ ghost use Rattle.adb_schema.specs.Views.{file_value, package_value};
 ghost use Rattle.adb_fields.specs.ListValue.{list_value};
 ghost use Rattle.adb_fields.specs.Repeated.{list_of};
 ghost use Rattle.adb_rules.specs.Texts.{is_with_contents};
-ghost use Rattle.pkg_core.specs.Contents.{expected_contents, expected_files, expected_folders, contents_bytes, expected_fault, missing_fault};
+ghost use Rattle.pkg_core.specs.Contents.{POSITIONS_LEN, expected_contents, expected_files, expected_folders, contents_bytes, expected_fault, missing_fault};
 ghost use Rattle.pkg_core.specs.Opened.{expected_of, expected_with_positions};
 
 use crate::checks::hash_fault;
@@ -165,9 +165,9 @@ fn has_contents(file: &FileInfo<'_>) -> bool
     file.target().is_empty() && file.size() > 0
 }
 
-/// 8: the bytes in front of a file's own in its contents, which are the positions of its folder and
-/// of itself, four bytes each.
-const HEAD: usize = 8;
+/// The bytes in front of a file's own in its contents: the positions of its folder and of itself,
+/// four bytes each.
+pub const POSITIONS_LEN: usize = 8;
 
 /// The contents of a file, with the positions of its folder (`path`) and of itself in it, which
 /// count from 1. The bytes are lent.
@@ -230,7 +230,7 @@ impl<'a> Walk<'a> {
     pub(crate) fn give(&mut self, payload: &'a [u8], at: u64) -> Result<FileContents<'a>, Cause>
         ensures { GivesContents payload.entry.now at (left_in self.old) result (left_in self.new) }
     {
-        if payload.len() < HEAD {
+        if payload.len() < POSITIONS_LEN {
             return Err(Cause::Truncated { at });
         }
         let Some(wanted) = self.next() else {
@@ -244,7 +244,7 @@ impl<'a> Walk<'a> {
             None => Ok(FileContents {
                 path: wanted.folder,
                 file: wanted.file,
-                bytes: &payload[HEAD..],
+                bytes: &payload[POSITIONS_LEN..],
             }),
         }
     }
@@ -253,7 +253,7 @@ impl<'a> Walk<'a> {
 /// Why contents are not those of a file, if they are not: first the positions are compared, then
 /// the size, then the digest.
 fn expected_fault(payload: &[u8], wanted: Wanted<'_>) -> Option<Cause>
-    requires { 8 ≤ length payload.now }
+    requires { POSITIONS_LEN ≤ length payload.now }
     ensures { result ≡ expected_fault payload.now (expected_of wanted.entry) }
 {
     let expected = (wanted.folder, wanted.file);
@@ -261,7 +261,7 @@ fn expected_fault(payload: &[u8], wanted: Wanted<'_>) -> Option<Cause>
     if found != expected {
         return Some(Cause::DataOrder { expected, found });
     }
-    let bytes = &payload[HEAD..];
+    let bytes = &payload[POSITIONS_LEN..];
     let size = bytes.len() as u64;
     if size != wanted.size {
         return Some(Cause::DataSize {

@@ -2,7 +2,6 @@
 //! The rules stand in `docs/commands.md`, "Words", the table of options and the paragraph of those
 //! before the applet.
 ghost use Rattle.std.specs.Prelude.{◌≡◌, ◌||◌, map};
-ghost use Rattle.std.specs.List.{list_any};
 ghost use Rattle.std.specs.Option.{option_and_then, option_map};
 ghost use Rattle.std.specs.Str.{bytes_eq};
 ghost use Rattle.words_core.specs.Grammar.{with_meaning, with_spec};
@@ -11,7 +10,7 @@ ghost use Rattle.words_core.specs.Rows.{option_spec};
 
 use command_core::{
     Applet, COMPRESSION, DESCRIPTION, FILES, Flag, Flags, INFO, OUTPUT, SCRIPT, TRIGGER, ValueKind,
-    ValueRule,
+    ValueRule, is_among,
 };
 
 /// An option, as the table of options has it.
@@ -243,13 +242,6 @@ pub(crate) fn is_early(word: &[u8]) -> bool
     ensures { result ≡ is_early word.now }
 {
     is_among(&EARLY_WORDS, word)
-}
-
-// Whether a word is one of some.
-fn is_among(words: &[&[u8]], word: &[u8]) -> bool
-    ensures { result ≡ list_any (λ one. bytes_eq one.now word.now) words.now }
-{
-    words.iter().any(|one| *one == word)
 }
 
 /// The option that a word spells, among those of an applet and those of every applet.

@@ -1,9 +1,14 @@
-use Rattle.std.proofs.Common.{◌∙◌, ap, subst, sym}
+use Rattle.std.proofs.Common.{◌≡◌, ◌∙◌, ap, subst, sym}
 use Rattle.std.specs.List.{list_any}
+use Rattle.adb_fields.specs.Fields.{array_at}
 use Rattle.adb_fields.specs.Repeated.{list_of}
 use Rattle.adb_rules.specs.SoundValues.{IsSoundDependency}
 use Rattle.adb_schema.specs.Views.{package_value}
 use Rattle.adb_tables.specs.Values.{entries_in, entry_in}
+use Rattle.adb_tables.specs.declared.tables.Kind.TheVariants as Kinds
+use Rattle.adb_tables.specs.declared.tables.Which.TheVariants as Tables
+use Rattle.adb_view.specs.Adb.{payload_of}
+use Rattle.adb_view.specs.Entries.{array_entries}
 use Rattle.adb_view.specs.Plain.{Plain}
 use Rattle.adb_view.specs.Shaped.{Each}
 use Rattle.db_core.specs.Seen.{members_of}
@@ -13,10 +18,17 @@ use Rattle.file_owners.proofs.named.places_named.Goals as goal
 
 pub returns : goal.returns
 returns c =
+    let ws = array_entries c.replaced_entries.result in
+    let same : array_at (payload_of c.adb.result) (Kinds.Obj Tables.Dep) ws ≡ entry_in (entry_in (package_value c.args.pkg.now) 0) 16 =
+    ap (λ a. array_at (payload_of a) (Kinds.Obj Tables.Dep) ws) c.adb.ensures
+    ∙ (c.replaced_entries.ensures.value ∙ ap (λ info. entry_in info 16) c.info-info.ensures) in
     in_order (members_of c.args.members.now) (package_value c.args.pkg.now) c.in_ok-places.places.items _ c.in_ok-sort.ensures.permutation c.in_ok-sort.ensures.sorted
-    (λ y m g. c.in_ok-places.ensures y m g
-    ∙ ap (λ v. list_any (λ entry. is_named_by entry m.pkg) (list_of (entries_in v))) (c.replaces.ensures ∙ ap (λ info. entry_in info 16) c.info-info.ensures))
+    (λ y m g. c.in_ok-places.ensures y m g ∙ ap (λ v. list_any (λ entry. is_named_by entry m.pkg) (list_of (entries_in v))) same)
 
-pub places_in-requires : goal.places_in-requires
-places_in-requires c =
-    subst (λ (v : Plain). Each IsSoundDependency (entries_in v)) (sym (c.replaces.ensures ∙ ap (λ info. entry_in info 16) c.info-info.ensures)) c.requires
+pub places_in-requires-clause-texts : goal.places_in-requires-clause-texts
+places_in-requires-clause-texts c =
+    let ws = array_entries c.replaced_entries.result in
+    let same : array_at (payload_of c.adb.result) (Kinds.Obj Tables.Dep) ws ≡ entry_in (entry_in (package_value c.args.pkg.now) 0) 16 =
+    ap (λ a. array_at (payload_of a) (Kinds.Obj Tables.Dep) ws) c.adb.ensures
+    ∙ (c.replaced_entries.ensures.value ∙ ap (λ info. entry_in info 16) c.info-info.ensures) in
+    subst (λ (v : Plain). Each IsSoundDependency (entries_in v)) (sym same) c.requires

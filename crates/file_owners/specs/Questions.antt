@@ -1,0 +1,49 @@
+-- The questions whether entries of what a package replaces name a member. Each asks by the word of a
+-- version's text, so that entries which share the text ask one question.
+use Rattle.std.specs.Prelude.{◌≡◌, ◌<◌, ℕ, Bool, true, false, ◌==◌, ◌&&◌, List, [], ◌∷◌, ◌++◌, length, Option, Some, None, slice_get}
+use Rattle.adb_view.specs.Plain.{Plain}
+use Rattle.adb_tables.specs.FieldIndexes.{DEP_MATCH, DEP_NAME, DEP_VERSION}
+use Rattle.adb_tables.specs.Values.{entry_in, int_in, is_sound, text_in, value_at}
+use Rattle.adb_tables.specs.declared.tables.Kind.TheVariants.{Obj, Text}
+use Rattle.adb_tables.specs.declared.tables.Which.TheVariants.{Dep}
+use Rattle.adb_rules.specs.SoundValues.{IsSoundDependency}
+use Rattle.db_core.specs.Members.{Member, member_name}
+use Rattle.file_owners.specs.Replaces.{is_named_by}
+use Rattle.file_owners.specs.declared.questions.Question.{Question}
+
+-- the entry that asks, in its payload
+abbrev pub entry_of_question : List ℕ → Question → Plain
+entry_of_question payload q = value_at payload (Obj Dep) q.word
+
+-- whether a question is about the member at a place, and its entry names that member's package
+abbrev pub question_names : List ℕ → ℕ → Plain → Question → Bool
+question_names payload place pkg q =
+    (q.place == place) && is_named_by (entry_of_question payload q) pkg
+
+-- the same of a question, if there is one
+abbrev pub question_names_if_any : List ℕ → ℕ → Plain → Option Question → Bool
+question_names_if_any payload place pkg None = false
+question_names_if_any payload place pkg (Some q) = question_names payload place pkg q
+
+-- the questions with one more behind them, if there is one
+abbrev pub with_question : List Question → Option Question → List Question
+with_question questions None = questions
+with_question questions (Some q) = questions ++ q ∷ []
+
+-- its entry is a sound dependency, with the name of the member at its place, the version to which
+-- its word leads, and its operator
+pub record IsQuestionIn (members : List Member) (payload : List ℕ) (q : Question) : Type 0 where
+  pub within : q.place < length members
+  pub shaped : is_sound payload (Obj Dep) q.word ≡ true
+  pub sound : IsSoundDependency (entry_of_question payload q)
+  pub name : (m : Member) → slice_get members q.place ≡ Some m
+      → text_in (entry_in (entry_of_question payload q) DEP_NAME) ≡ member_name m
+  pub version : text_in (entry_in (entry_of_question payload q) DEP_VERSION)
+      ≡ text_in (value_at payload Text q.version)
+  pub matching : int_in (entry_in (entry_of_question payload q) DEP_MATCH) ≡ q.matching
+
+-- both are about one member, and ask by one word and one operator
+pub record AreSameQuestion (one other : Question) : Type 0 where
+  pub place : one.place ≡ other.place
+  pub version : one.version ≡ other.version
+  pub matching : one.matching ≡ other.matching

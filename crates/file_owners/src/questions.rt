@@ -1,0 +1,232 @@
+//! The questions whether entries of what a package replaces name a member. Many entries may share
+//! the text of a version, so entries that ask the same of one member are answered once.
+//! When an entry names a package stands in `docs/commands.md`, "Files that several packages list".
+//! That a question is answered once is this crate's own choice, and saves time alone.
+
+ghost use Rattle.std.specs.Prelude.{◌≡◌, ◌<◌, ◌-◌, ◌+◌, ◌==◌, ◌||◌, ℕ, true, All, Some, IfOk, IfSome, length, slice_get, take};
+ghost use Rattle.std.specs.List.{list_any};
+ghost use Rattle.adb_view.specs.Adb.{payload_of};
+ghost use Rattle.adb_view.specs.Entries.{array_entries};
+ghost use Rattle.adb_view.specs.Shaped.{Each};
+ghost use Rattle.adb_tables.specs.Values.{entries_in, is_sound, value_at};
+ghost use Rattle.adb_tables.specs.declared.tables.Kind.TheVariants as Kinds;
+ghost use Rattle.adb_tables.specs.declared.tables.Which.TheVariants as Tables;
+ghost use Rattle.adb_fields.specs.Fields.{are_all_sound, array_at};
+ghost use Rattle.adb_fields.specs.Repeated.{list_of};
+ghost use Rattle.adb_rules.specs.SoundValues.{IsSoundDependency};
+ghost use Rattle.db_core.specs.Members.{Member, is_place};
+ghost use Rattle.db_core.specs.Seen.{members_of};
+ghost use Rattle.file_owners.specs.Questions.{AreSameQuestion, IsQuestionIn, question_names, question_names_if_any, with_question};
+ghost use Rattle.file_owners.specs.Replaces.{is_named_by};
+ghost use Rattle.file_owners.specs.declared.questions.Question.{Question as AskedQuestion};
+
+use crate::gather::place_of;
+use crate::owner::is_named_by;
+use adb_fields::field_word;
+use adb_schema::{DepView, View};
+use adb_tables::{Which, entry_word};
+use adb_view::{Adb, Arr, Val};
+use db_core::Members;
+use std::alloc::{AllocError, Global};
+use std::cmp::Ordering;
+
+/// The field of a dependency with its version.
+const VERSION: usize = 1;
+
+/// What an entry asks: whether it names the member that has its name.
+#[derive(Clone, Copy)]
+pub(crate) struct Question {
+    /// The member's place, counted from 0.
+    pub(crate) place: u32,
+    /// The word of the version that is asked for, in the payload of the entry.
+    pub(crate) version: u32,
+    /// How that version is compared.
+    pub(crate) matching: u64,
+    /// The word of the entry.
+    pub(crate) word: Val,
+}
+
+impl Question {
+    /// The order in which questions that are the same stand together.
+    fn compare(&self, other: &Question) -> Ordering {
+        let by_place = self.place.cmp(&other.place);
+        let by_version = self.version.cmp(&other.version);
+        let by_matching = self.matching.cmp(&other.matching);
+        by_place.then(by_version.then(by_matching))
+    }
+
+    /// Whether both ask the same of one member: the words tell, and not the bytes.
+    fn is_same(&self, other: &Question) -> bool
+        ensures { result ≡ true → AreSameQuestion self.now other.now }
+    {
+        self.place == other.place
+            && self.version == other.version
+            && self.matching == other.matching
+    }
+}
+
+/// The places of the members that the entries of a `replaces` name. It takes time in proportion to
+/// k log k in the k entries; a text that several of them share is compared once for each member and
+/// operator.
+pub(crate) fn places_in<'a>(
+    alloc: Global,
+    members: &Members<'_>,
+    adb: Adb<'a>,
+    entries: Arr<'a>,
+) -> Result<Vec<u32>, AllocError>
+    requires sound { are_all_sound (payload_of adb) (Kinds.Obj Tables.Dep) (array_entries entries)
+        ≡ true }
+    requires texts { Each IsSoundDependency (entries_in
+        (array_at (payload_of adb) (Kinds.Obj Tables.Dep) (array_entries entries))) }
+    ensures { IfOk result (λ places. (y : ℕ) (m : Member)
+        → slice_get (members_of members.now) y ≡ Some m
+        → list_any (λ place. place == y) places.items
+        ≡ list_any (λ entry. is_named_by entry m.pkg) (list_of (entries_in
+        (array_at (payload_of adb.entry) (Kinds.Obj Tables.Dep) (array_entries entries.entry))))) }
+{
+    let mut questions = questions_of(alloc, members, adb, entries)?;
+    questions.sort_by(|one, other| one.compare(other))?;
+    let places = places_asked(alloc, members, adb, &questions)?;
+    Ok(places)
+}
+
+/// The questions of entries, in their order; an entry whose name no member has asks none.
+fn questions_of<'a>(
+    alloc: Global,
+    members: &Members<'_>,
+    adb: Adb<'a>,
+    entries: Arr<'a>,
+) -> Result<Vec<Question>, AllocError>
+    requires sound { are_all_sound (payload_of adb) (Kinds.Obj Tables.Dep) (array_entries entries)
+        ≡ true }
+    requires texts { Each IsSoundDependency (entries_in
+        (array_at (payload_of adb) (Kinds.Obj Tables.Dep) (array_entries entries))) }
+    ensures asked { IfOk result (λ questions. (y : ℕ) (m : Member)
+        → slice_get (members_of members.now) y ≡ Some m
+        → list_any (question_names (payload_of adb.entry) y m.pkg) questions.items
+        ≡ list_any (λ entry. is_named_by entry m.pkg) (list_of (entries_in
+        (array_at (payload_of adb.entry) (Kinds.Obj Tables.Dep) (array_entries entries.entry))))) }
+    ensures questions { IfOk result (λ questions.
+        All (IsQuestionIn (members_of members.now) (payload_of adb.entry)) questions.items) }
+{
+    let mut questions = Vec::new(alloc);
+    for i in 0..entries.len() {
+        add_question(
+            &mut questions,
+            question_of(members, adb, entry_word(entries, i)),
+        )?;
+    }
+    Ok(questions)
+}
+
+/// Adds a question behind others, if there is one.
+fn add_question(questions: &mut Vec<Question>, question: Option<Question>) -> Result<(), AllocError>
+    ensures { IfOk result (λ _. questions.new.items
+        ≡ with_question questions.old.items question) }
+{
+    if let Some(question) = question {
+        questions.push(question)?;
+    }
+    Ok(())
+}
+
+/// The question of an entry, if a member has its name.
+fn question_of(members: &Members<'_>, adb: Adb<'_>, entry: Val) -> Option<Question>
+    requires sound { is_sound (payload_of adb) (Kinds.Obj Tables.Dep) entry ≡ true }
+    requires texts { IsSoundDependency (value_at (payload_of adb) (Kinds.Obj Tables.Dep) entry) }
+    ensures asked { (y : ℕ) (m : Member) → slice_get (members_of members.now) y ≡ Some m
+        → question_names_if_any (payload_of adb.entry) y m.pkg result
+        ≡ is_named_by (value_at (payload_of adb.entry) (Kinds.Obj Tables.Dep) entry) m.pkg }
+    ensures question { IfSome result
+        (IsQuestionIn (members_of members.now) (payload_of adb.entry)) }
+{
+    let view = DepView::of(adb, entry);
+    match members.find(view.name()) {
+        Some(place) => Some(Question {
+            place: place_of(members, place),
+            version: field_word(adb, Which::Dep, entry, VERSION).word(),
+            matching: view.matching(),
+            word: entry,
+        }),
+        None => None,
+    }
+}
+
+/// The places of the members for which questions are answered with yes, in the order of the
+/// questions. Those that are the same and stand together are answered once.
+fn places_asked(
+    alloc: Global,
+    members: &Members<'_>,
+    adb: Adb<'_>,
+    questions: &[Question],
+) -> Result<Vec<u32>, AllocError>
+    requires { All (IsQuestionIn (members_of members.now) (payload_of adb)) questions.now }
+    ensures { IfOk result (λ places. (y : ℕ) (m : Member)
+        → slice_get (members_of members.now) y ≡ Some m
+        → list_any (λ place. place == y) places.items
+        ≡ list_any (question_names (payload_of adb.entry) y m.pkg) questions.now) }
+{
+    let mut places = Vec::new(alloc);
+    for i in 0..questions.len() {
+        add_place(&mut places, place_asked(members, adb, questions, i))?;
+    }
+    Ok(places)
+}
+
+/// Adds a place to a list of places, if there is one.
+fn add_place(places: &mut Vec<u32>, place: Option<u32>) -> Result<(), AllocError>
+    ensures { IfOk result (λ _. (y : ℕ) → list_any (λ p. p == y) places.new.items
+        ≡ (list_any (λ p. p == y) places.old.items || is_place y place)) }
+{
+    if let Some(place) = place {
+        places.push(place)?;
+    }
+    Ok(())
+}
+
+/// The place of the member for which a question is answered with yes, unless the one before it is
+/// the same.
+fn place_asked(members: &Members<'_>, adb: Adb<'_>, questions: &[Question], i: usize) -> Option<u32>
+    requires within { i < length questions.now }
+    requires questions { All (IsQuestionIn (members_of members.now) (payload_of adb))
+        questions.now }
+    ensures { (y : ℕ) (m : Member) → slice_get (members_of members.now) y ≡ Some m
+        → (list_any (question_names (payload_of adb.entry) y m.pkg) (take i questions.now)
+        || is_place y result)
+        ≡ list_any (question_names (payload_of adb.entry) y m.pkg) (take (i + 1) questions.now) }
+{
+    if repeats_the_one_before(questions, i) {
+        return None;
+    }
+    place_if_named(members, adb, &questions[i])
+}
+
+/// Whether a question is the same as the one before it.
+fn repeats_the_one_before(questions: &[Question], i: usize) -> bool
+    requires { i < length questions.now }
+    ensures first { result ≡ true → 0 < i }
+    ensures same { result ≡ true → (one other : AskedQuestion)
+        → slice_get questions.now (i - 1) ≡ Some one → slice_get questions.now i ≡ Some other
+        → AreSameQuestion one other }
+{
+    if i == 0 {
+        return false;
+    }
+    questions[i - 1].is_same(&questions[i])
+}
+
+/// The place of the member that a question is about, if its entry names that member.
+fn place_if_named(members: &Members<'_>, adb: Adb<'_>, question: &Question) -> Option<u32>
+    requires { IsQuestionIn (members_of members.now) (payload_of adb) question.now }
+    ensures { (y : ℕ) (m : Member) → slice_get (members_of members.now) y ≡ Some m
+        → is_place y result ≡ question_names (payload_of adb.entry) y m.pkg question.now }
+{
+    members.packages_are_sound();
+    let place = question.place;
+    let entry = DepView::of(adb, question.word);
+    if is_named_by(&entry, members.view(place as usize)) {
+        Some(place)
+    } else {
+        None
+    }
+}
