@@ -18,6 +18,10 @@ pub record Member : Type 0 where
 abbrev pub staying_member : Plain → Member
 staying_member pkg = record { pkg = pkg; id = None }
 
+-- packages of the database that all stay, as members
+abbrev pub staying_members : List Plain → List Member
+staying_members packages = map staying_member packages
+
 -- the member that a package is which comes, with its container's id
 abbrev pub coming_member : Plain → List ℕ → Member
 coming_member pkg id = record { pkg = pkg; id = Some id }

@@ -53,7 +53,7 @@ pub struct Db<'a> {
 impl<'a> Db<'a> {
     ghost use Rattle.adb_rules.specs.Reserved.{is_reserved};
     ghost use Rattle.base_core.specs.Name.{IsName};
-    ghost use Rattle.db_core.specs.Members.{member_listings, staying_member};
+    ghost use Rattle.db_core.specs.Members.{member_listings, staying_members};
     ghost use Rattle.db_core.specs.Seen.{packages_of};
 
     /// A database without packages.
@@ -157,14 +157,14 @@ impl<'a> Db<'a> {
     /// under it.
     pub fn listed_paths_are_names(&self)
         ensures { All (λ l. IsName l.path)
-            (member_listings (map staying_member (packages_of self.now))) }
+            (member_listings (staying_members (packages_of self.now))) }
     {}
 
     /// No path that a package of the database lists is reserved: no change removes one of the
     /// package keeper's own files as a package's.
     pub fn no_listed_path_is_reserved(&self)
         ensures { All (λ l. is_reserved l.path ≡ false)
-            (member_listings (map staying_member (packages_of self.now))) }
+            (member_listings (staying_members (packages_of self.now))) }
     {}
 }
 

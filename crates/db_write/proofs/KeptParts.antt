@@ -13,12 +13,12 @@ use Rattle.adb_copy.specs.Zeros.{all_without_zeros, info_with, int_value, with_a
 use Rattle.adb_tables.proofs.ValueEntries.{nth_obj}
 use Rattle.adb_copy.proofs.WithoutZeros.{int_zeros, text_zeros}
 use Rattle.adb_copy.proofs.Zeros.{at_other, at_same, nth_zeros, zeros_arr, zeros_obj, zeros_twice}
-use Rattle.db_core.specs.Members.{Member}
+use Rattle.db_core.specs.Members.{Member, staying_members}
 use Rattle.adb_tables.specs.FieldIndexes.{INFO_FILE_SIZE, INFO_HASHES}
 use Rattle.db_core.specs.Packages.{installed_id}
 use Rattle.db_write.specs.Information.{file_size_of}
 use Rattle.db_write.specs.NewDatabase.{database_container, database_of, database_value, each_by_flags, file_count, folder_after, folders_after, info_after, member_file_count, owned_entries, package_after, packages_after}
-use Rattle.db_write.specs.Unchanged.{all_owned, staying_members}
+use Rattle.db_write.specs.Unchanged.{all_owned}
 use Rattle.db_write.proofs.ReadBack.{Back, is_file}
 use Rattle.db_write.proofs.RootNames.{info_entry, package_folders, package_info}
 use Rattle.db_write.proofs.RootParts.{fields_of_folder, fields_of_package}

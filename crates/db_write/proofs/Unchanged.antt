@@ -14,10 +14,10 @@ use Rattle.adb_copy.specs.Zeros.{all_without_zeros, int_value, without_zeros}
 use Rattle.adb_copy.proofs.Fields.{INFO, info_written, object_written}
 use Rattle.adb_copy.proofs.Shapes.{entries_shape, nth_shape}
 use Rattle.adb_copy.proofs.Zeros.{zeros_array}
-use Rattle.db_core.specs.Members.{Member, staying_member}
+use Rattle.db_core.specs.Members.{Member, staying_member, staying_members}
 use Rattle.db_core.proofs.Places.{count_listed}
 use Rattle.db_write.specs.NewDatabase.{database_container, database_of, database_value, each_by_flags, file_count, folder_after, folders_after, info_after, member_file_count, owned_entries, package_after, packages_after, total_of}
-use Rattle.db_write.specs.Unchanged.{all_owned, staying_members}
+use Rattle.db_write.specs.Unchanged.{all_owned}
 
 -- ---- flags that are all set
 

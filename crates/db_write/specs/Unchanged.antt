@@ -2,14 +2,9 @@
 -- The rule stands in `docs/formats.md`, "The database after a change", the last sentence. Serves
 -- the laws `a_database_without_changes_stays_the_same` and
 -- `a_written_database_is_written_again_alike`.
-use Rattle.std.specs.Prelude.{Bool, true, List, map, replicate}
-use Rattle.adb_view.specs.Plain.{Plain}
-use Rattle.db_core.specs.Members.{Member, staying_member}
+use Rattle.std.specs.Prelude.{Bool, true, List, replicate}
+use Rattle.db_core.specs.Members.{Member}
 use Rattle.db_write.specs.NewDatabase.{member_file_count, total_of}
-
--- packages that all stay, as members
-abbrev pub staying_members : List Plain → List Member
-staying_members packages = map staying_member packages
 
 -- a flag for each file that members list, all set
 abbrev pub all_owned : List Member → List Bool

@@ -19,13 +19,13 @@ ghost use Rattle.adb_view.specs.Plain.{Plain};
 ghost use Rattle.adb_view.specs.Shaped.{HasShape};
 ghost use Rattle.adb_write.specs.Canonical.{written_of};
 ghost use Rattle.adb_write.specs.File.{file_of};
-ghost use Rattle.db_core.specs.Members.{AreInOrder, Member, coming_member, member_listings, staying_member};
+ghost use Rattle.db_core.specs.Members.{AreInOrder, Member, coming_member, member_listings, staying_members};
 ghost use Rattle.db_core.specs.Packages.{installed_id};
 ghost use Rattle.db_write.specs.Information.{file_size_of};
 ghost use Rattle.db_write.specs.NewDatabase.{database_of, database_value, package_after, packages_after};
 ghost use Rattle.db_core.specs.OwnedListings.{owned_listings, owned_paths};
 ghost use Rattle.db_core.specs.SoundMembers.{AreOfSoundContainers, IsOfSoundContainer, MayBeListed};
-ghost use Rattle.db_write.specs.Unchanged.{all_owned, staying_members};
+ghost use Rattle.db_write.specs.Unchanged.{all_owned};
 ghost use Rattle.pkg_core.specs.Whole.{container_fault};
 ghost use Rattle.std.specs.List.{flat_map};
 ghost use Rattle.std.specs.Prelude.{◌≡◌, ◌≢◌, ◌<◌, ℕ, All, Bool, List, None, Ok, Some, length, map, true};
@@ -140,7 +140,7 @@ pub fn a_package_keeps_its_folders()
 pub fn a_database_keeps_the_entries_of_owned_files()
     ensures { (members : List Member) (flags : List Bool)
         → map (λ l. l.entry)
-        (member_listings (map staying_member (list_of (packages_after members flags))))
+        (member_listings (staying_members (list_of (packages_after members flags))))
         ≡ map (λ l. without_zeros l.entry) (owned_listings (member_listings members) flags) }
 {}
 

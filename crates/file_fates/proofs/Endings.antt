@@ -103,5 +103,7 @@ some_ending folder name front h f =
 ending_is : IsEnding ending
 ending_is = record { long = omega arith; ascii = refl; no_zero = refl; one_part = refl }
 
-pub aside_is_name : (name : List ℕ) → IsName name → length name + 8 ≤ 1024 → IsName (aside_name name)
-aside_is_name name is short = ending_makes_name ending name ending_is is (omega (arith, short))
+pub aside_is_name : (name : List ℕ) → IsName name → length (aside_name name) ≤ 1024 → IsName (aside_name name)
+aside_is_name name is short =
+    let n : length (aside_name name) ≡ length name + 8 = length-append name ending in
+    ending_makes_name ending name ending_is is (omega (arith, n, short))

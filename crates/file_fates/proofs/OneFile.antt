@@ -4,6 +4,7 @@ use Rattle.std.specs.Prelude.{◌&&◌, ◌||◌, not, if◌then◌else◌, IsSo
 use Rattle.adb_view.specs.Plain.{Plain}
 use Rattle.base_core.specs.Calls.{IfObservable}
 use Rattle.base_core.specs.Tree.{TreeState, files_of}
+use Rattle.db_core.specs.Members.{staying_members}
 use Rattle.path_claims.specs.Claims.{PathClaim}
 use Rattle.file_guard.specs.AsListed.{is_as_listed, is_as_listed_by}
 use Rattle.file_guard.specs.Listed.{IsOfEntry, comparison_of, is_as_told}
@@ -13,7 +14,7 @@ use Rattle.change_files.specs.Fate as Fates
 use Rattle.change_files.specs.Fate.{fate_beside, fate_by, goes_in, is_as_old, is_guarded}
 use Rattle.change_files.specs.FileChange.{FileChange, old_entry}
 use Rattle.change_files.specs.FilesAfter.{is_changed}
-use Rattle.file_fates.specs.ClaimEntries.{claim_entry, old_members}
+use Rattle.file_fates.specs.ClaimEntries.{claim_entry}
 use Rattle.file_fates.specs.Fates.{IsOfEntryIfAny, claim_fate}
 use Rattle.file_fates.specs.Found.{IsByFile}
 use Rattle.file_fates.specs.Going.{does_stay}
@@ -65,7 +66,7 @@ unguarded_fate change h c unguarded =
 pub no_stay : (change : FileChange) (h : List TreeState) (c : PathClaim) → (change.purge ≡ true) ⊎ (is_guarded c.path ≡ false) → IsByFile (does_stay change) h c false
 no_stay change h c goes =
     let (found, told) = found_there h c.path in
-    record { found = found; told = told; is = sym (by_case (is_changed (claim_entry (old_members change) c) found) goes) }
+    record { found = found; told = told; is = sym (by_case (is_changed (claim_entry (staying_members change.old) c) found) goes) }
   where
     off : (b : Bool) → (b && false) ≡ false
     off true = refl

@@ -2,18 +2,15 @@
 -- Claims and owners stand in `docs/commands.md`, "Files that several packages list"; folders, files
 -- and their entries in `docs/formats.md`, "Schemas", tables 4, 5 and 7. Serves the contracts of
 -- this crate and of `own_core`.
-use Rattle.std.specs.Prelude.{◌≡◌, ℕ, ◌-◌, ◌<◌, ◌≤◌, Bool, false, ◌&&◌, List, map, Option, Some, None, slice_get}
+use Rattle.std.specs.Prelude.{◌≡◌, ℕ, ◌-◌, ◌<◌, ◌≤◌, Bool, false, ◌&&◌, List, Option, Some, None, slice_get}
 use Rattle.base_core.specs.Name.{IsName}
 use Rattle.adb_view.specs.Plain.{Plain, null}
 use Rattle.adb_tables.specs.FieldIndexes.{DIR_FILES, PACKAGE_PATHS}
 use Rattle.adb_tables.specs.Values.{count_of, entries_in, entry_in}
 use Rattle.adb_rules.specs.Reserved.{is_reserved}
-use Rattle.db_core.specs.Members.{Member, is_coming, staying_member}
-use Rattle.db_core.specs.Seen.{packages_of}
-use Rattle.db_core.specs.declared.db.Db.{Db}
+use Rattle.db_core.specs.Members.{Member, is_coming}
 use Rattle.path_claims.specs.Claims.{PathClaim, is_member}
 use Rattle.file_owners.specs.Owners.{owner_of_path}
-use Rattle.change_files.specs.FileChange.{FileChange}
 
 -- ---- files
 
@@ -52,10 +49,6 @@ pub record IsClaimOf (members : List Member) (c : PathClaim) : Type 0 where
 abbrev pub AreClaimsOf : List Member → List PathClaim → Type 0
 AreClaimsOf members cs = (i : ℕ) (c : PathClaim) → slice_get cs i ≡ Some c → IsClaimOf members c
 
--- the packages of a database, as members none of which comes
-abbrev pub members_before : Db → List Member
-members_before db = map staying_member (packages_of db)
-
 -- ---- members that come
 
 -- whether a member comes; not where there is none
@@ -75,7 +68,3 @@ is_reserved_coming members c = is_reserved c.path && comes_at members c.member
 unfoldable pub is_of_coming_owner : List Member → PathClaim → Bool
 is_of_coming_owner members c =
     is_member c.member (owner_of_path members c.path) && comes_at members c.member
-
--- the packages before a change, as members none of which comes
-abbrev pub old_members : FileChange → List Member
-old_members change = map staying_member change.old

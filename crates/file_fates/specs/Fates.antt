@@ -7,7 +7,7 @@ use Rattle.path_claims.specs.Claims.{PathClaim}
 use Rattle.file_guard.specs.Listed.{IsOfEntry}
 use Rattle.file_guard.specs.declared.compare.ListedFile.{ListedFile}
 use Rattle.change_files.specs.Fate as Fates
-use Rattle.change_files.specs.Fate.{aside_name, fate_by, gives_way, goes_aside, goes_in}
+use Rattle.change_files.specs.Fate.{aside_name, fate_by, gives_way, goes_aside, goes_in, longest_name}
 use Rattle.change_files.specs.FileChange.{FileChange, is_claimed}
 use Rattle.file_fates.specs.ClaimEntries.{claim_entry}
 use Rattle.file_fates.specs.declared.fate.Fate.{Fate}
@@ -28,7 +28,7 @@ claim_fate change c found = fate_by change c.path (claim_entry change.members c)
 -- enough for a name
 abbrev pub is_free_beside : FileChange → List ℕ → Bool
 is_free_beside change path =
-    nat_le (length (aside_name path)) 1024 && not (is_claimed change (aside_name path))
+    nat_le (length (aside_name path)) longest_name && not (is_claimed change (aside_name path))
 
 -- what the code has read of an entry is that of the entry, or there is none
 abbrev pub IsOfEntryIfAny : Option ListedFile → Option Plain → Type 0

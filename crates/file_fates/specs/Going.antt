@@ -3,11 +3,12 @@
 -- and which of those below `etc/` stay.
 use Rattle.std.specs.Prelude.{ℕ, Bool, not, ◌&&◌, List, Option, option_and_then, is_some}
 use Rattle.std.specs.List.{find}
+use Rattle.db_core.specs.Members.{staying_members}
 use Rattle.path_claims.specs.Claims.{PathClaim, is_of_path}
 use Rattle.change_files.specs.Fate.{is_guarded}
 use Rattle.change_files.specs.FileChange.{FileChange, is_claimed}
 use Rattle.change_files.specs.FilesAfter.{is_changed, path_beside}
-use Rattle.file_fates.specs.ClaimEntries.{claim_entry, old_members}
+use Rattle.file_fates.specs.ClaimEntries.{claim_entry}
 
 -- whether a name is the one beside the path of one of these claims
 abbrev pub is_beside : List PathClaim → List ℕ → Bool
@@ -25,4 +26,4 @@ is_left change asides path = not (is_claimed change path) && not (is_beside asid
 abbrev pub does_stay : FileChange → PathClaim → Option (List ℕ) → Bool
 does_stay change c found =
     is_guarded c.path
-    && (not change.purge && is_changed (claim_entry (old_members change) c) found)
+    && (not change.purge && is_changed (claim_entry (staying_members change.old) c) found)

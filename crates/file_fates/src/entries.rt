@@ -8,10 +8,11 @@ ghost use Rattle.adb_fields.specs.ListValue.{list_value};
 ghost use Rattle.adb_schema.specs.Views.{package_value};
 ghost use Rattle.adb_tables.specs.FieldIndexes.{PACKAGE_PATHS};
 ghost use Rattle.adb_tables.specs.Values.{count_of, entries_in, entry_in};
-ghost use Rattle.db_core.specs.Seen.{members_of};
+ghost use Rattle.db_core.specs.Members.{staying_members};
+ghost use Rattle.db_core.specs.Seen.{members_of, packages_of};
 ghost use Rattle.file_guard.specs.Listed.{IsOfEntry};
 ghost use Rattle.path_claims.specs.Seen.{claim_seen};
-ghost use Rattle.file_fates.specs.ClaimEntries.{HasFileAt, IsClaimOf, claim_entry, listed_file_at, members_before};
+ghost use Rattle.file_fates.specs.ClaimEntries.{HasFileAt, IsClaimOf, claim_entry, listed_file_at};
 
 use adb_schema::{DirInfo, FileInfo, List, PackageView};
 use db_core::{Db, Members};
@@ -68,8 +69,9 @@ pub(crate) fn listed_before<'a>(
     claim: &Claim<'_>,
     _mark: PhantomData<PackageView<'a>>,
 ) -> ListedFile<'a>
-    requires { IsClaimOf (members_before db.now) (claim_seen claim.now) }
-    ensures { IsOfEntry result (claim_entry (members_before db.now) (claim_seen claim.now)) }
+    requires { IsClaimOf (staying_members (packages_of db.now)) (claim_seen claim.now) }
+    ensures { IsOfEntry result
+        (claim_entry (staying_members (packages_of db.now)) (claim_seen claim.now)) }
 {
     let pkg = db.package(claim.member as usize);
     listed_in(&pkg, claim)

@@ -18,7 +18,7 @@ ghost use Rattle.file_fates.specs.Sides.{HasClaims, file_change_of};
 
 use crate::change::Change;
 use crate::entries::{listed_after, listed_before};
-use crate::guarded::{aside_bytes, is_guarded};
+use crate::guarded::{LONGEST_NAME, aside_bytes, is_guarded};
 use adb_fields::FilePath;
 use base_core::{Name, Tree, TreeFault};
 use claim_lists::{find_claim, name_of_path};
@@ -59,8 +59,7 @@ fn is_free_beside(
     ensures { IfOk result (λ free. free ≡ is_free_beside (file_change_of change.now) name.now) }
 {
     let bytes = aside_bytes(alloc, name.as_bytes())?;
-    // A name has at most 1,024 bytes (`docs/commands.md`, "Words").
-    if bytes.len() > 1024 {
+    if bytes.len() > LONGEST_NAME {
         return Ok(false);
     }
     let beside = FilePath {

@@ -2,14 +2,17 @@
 //! The rule stands in `docs/commands.md`, "What a change does with files", **Files below `etc/` are
 //! the user's**.
 
-ghost use Rattle.std.specs.Prelude.{◌≡◌, ◌≤◌, ◌+◌, IfOk, length, option_map};
+ghost use Rattle.std.specs.Prelude.{◌≡◌, ◌≤◌, IfOk, length, option_map};
 ghost use Rattle.adb_fields.specs.JoinedPath.{joined_path};
-ghost use Rattle.change_files.specs.Fate.{aside_name, is_guarded};
+ghost use Rattle.change_files.specs.Fate.{aside_name, is_guarded, longest_name};
 ghost use Rattle.change_files.specs.FilesAfter.{path_beside};
 
 use adb_fields::FilePath;
 use base_core::Name;
 use std::alloc::{AllocError, Global};
+
+/// How many bytes a name may have at most (`docs/commands.md`, "Words").
+pub(crate) const LONGEST_NAME: usize = 1024;
 
 /// What stands behind the path in the name of a file that is laid beside another one.
 const ASIDE_ENDING: &[u8] = b".apk-new";
@@ -34,9 +37,9 @@ pub(crate) fn aside_bytes(alloc: Global, name: &[u8]) -> Result<Vec<u8>, AllocEr
     Ok(bytes)
 }
 
-/// The name beside a name, `NAME.apk-new`. The ending has eight bytes, and a name at most 1,024.
+/// The name beside a name, `NAME.apk-new`, where that is not too long for a name.
 pub fn name_beside(alloc: Global, name: &Name) -> Result<Name, AllocError>
-    requires { length name.now + 8 ≤ 1024 }
+    requires { length (aside_name name.now) ≤ longest_name }
     ensures { IfOk result (λ beside. beside ≡ aside_name name.now) }
 {
     let bytes = aside_bytes(alloc, name.as_bytes())?;

@@ -8,10 +8,11 @@ ghost use Rattle.std.specs.List.Sorted.{IsSorted};
 ghost use Rattle.adb_fields.specs.JoinedPath.{joined_path};
 ghost use Rattle.base_core.specs.Listed.{IsRising};
 ghost use Rattle.base_core.specs.Read.{OnlyReads};
-ghost use Rattle.db_core.specs.Seen.{members_of};
+ghost use Rattle.db_core.specs.Members.{staying_members};
+ghost use Rattle.db_core.specs.Seen.{members_of, packages_of};
 ghost use Rattle.path_claims.specs.Claims.{claim_cmp};
 ghost use Rattle.path_claims.specs.Seen.{claim_seen};
-ghost use Rattle.file_fates.specs.ClaimEntries.{AreClaimsOf, IsClaimOf, members_before};
+ghost use Rattle.file_fates.specs.ClaimEntries.{AreClaimsOf, IsClaimOf};
 ghost use Rattle.file_fates.specs.Fates.{fate_seen, is_fate, is_flag, marked_claims};
 ghost use Rattle.file_fates.specs.Found.{AreByFiles, IsByFile};
 ghost use Rattle.file_fates.specs.Going.{does_stay, is_beside, is_left};
@@ -126,7 +127,7 @@ fn does_stay<T: Tree>(
     change: &Change<'_, '_, '_>,
     claim: &Claim<'_>,
 ) -> Result<bool, TreeFault>
-    requires { IsClaimOf (members_before change.now.db.now) (claim_seen claim.now) }
+    requires { IsClaimOf (staying_members (packages_of change.now.db.now)) (claim_seen claim.now) }
     ensures stays { IfOk result (IsByFile (does_stay (file_change_of change.now))
         (T.history tree.old) (claim_seen claim.now)) }
     ensures tree { OnlyReads TreeFault.Disk (T.history tree.old) (T.history tree.new)
@@ -157,7 +158,8 @@ fn stays_of<T: Tree>(
     change: &Change<'_, '_, '_>,
     left: &[Claim<'_>],
 ) -> Result<Vec<bool>, TreeFault>
-    requires { AreClaimsOf (members_before change.now.db.now) (map claim_seen left.now) }
+    requires { AreClaimsOf (staying_members (packages_of change.now.db.now))
+        (map claim_seen left.now) }
     ensures stays { IfOk result (λ stays. AreByFiles (does_stay (file_change_of change.now))
         (T.history tree.old) (map claim_seen left.now) stays.items) }
     ensures tree { OnlyReads TreeFault.Disk (T.history tree.old) (T.history tree.new)

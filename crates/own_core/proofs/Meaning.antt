@@ -6,7 +6,7 @@ use Rattle.std.specs.List.{filter, find, list_any}
 use Rattle.base_core.specs.Files.{Files}
 use Rattle.base_core.proofs.Rising as Names
 use Rattle.list_order.specs.Sorted.{sorted_by}
-use Rattle.db_core.specs.Members.{Listing, claims_of, is_coming, member_listings}
+use Rattle.db_core.specs.Members.{Listing, claims_of, is_coming, member_listings, staying_members}
 use Rattle.path_claims.specs.Claims.{PathClaim, claim_cmp, is_of_path}
 use Rattle.path_claims.specs.Contest.{beats_each, winner}
 use Rattle.path_claims.proofs.Places.{no_some, value_or}
@@ -20,7 +20,7 @@ use Rattle.change_files.specs.FilesAfter.{if_aside, if_in, is_changed, is_kept, 
 use Rattle.std.specs.Option.{option_or}
 use Rattle.change_files.specs.NamesAfter.{coming_paths}
 use Rattle.change_files.specs.PlanLists.{aside_of, kept_of, old_paths, removals_of}
-use Rattle.file_fates.specs.ClaimEntries.{claim_entry, is_of_coming_owner, old_members}
+use Rattle.file_fates.specs.ClaimEntries.{claim_entry, is_of_coming_owner}
 use Rattle.file_fates.specs.Fates.{claim_fate, is_fate, is_flag}
 use Rattle.file_fates.specs.Going.{does_stay, is_beside, is_left}
 use Rattle.file_fates.proofs.Listings.{GoTogether, IsClaimFor, coming_is, coming_placed, entry_of, old_entry_is, same_found}
@@ -198,11 +198,11 @@ left_is change files q b e = go (is_claimed change q) refl
         ∙ ap not (sym e)
 
 module _ (change : FileChange) (files : Files) (before : List PathClaim) (up : Names.Rises (paths before))
-    (each : (q : List ℕ) → find (is_of_path q) before ≡ find (is_of_path q) (sorted_by claim_cmp (claims_in (old_members change))))
+    (each : (q : List ℕ) → find (is_of_path q) before ≡ find (is_of_path q) (sorted_by claim_cmp (claims_in (staying_members change.old))))
     (asides : List PathClaim) (beside : (q : List ℕ) → is_beside asides q ≡ is_some (option_and_then (laid_beside change files) (path_beside q))) where
-  pub entries_are : (q : List ℕ) → option_map (claim_entry (old_members change)) (find (is_of_path q) before) ≡ old_entry change q
+  pub entries_are : (q : List ℕ) → option_map (claim_entry (staying_members change.old)) (find (is_of_path q) before) ≡ old_entry change q
   unfolding old_listings
-  entries_are q = ap (option_map (claim_entry (old_members change))) (each q ∙ same_found (claims_in (old_members change)) q) ∙ old_entry_is change (old_members change) refl q
+  entries_are q = ap (option_map (claim_entry (staying_members change.old))) (each q ∙ same_found (claims_in (staying_members change.old)) q) ∙ old_entry_is change (staying_members change.old) refl q
 
   abbrev pub left_over : List PathClaim
   left_over = filter (λ c. is_left change asides c.path) before
@@ -228,12 +228,12 @@ module _ (change : FileChange) (files : Files) (before : List PathClaim) (up : N
       by_tests false s c = refl
 
       go : (o : Option PathClaim) → find (is_of_path q) before ≡ o → is_some (keep_if (λ c. is_flag stays (does_stay change c (files c.path))) (keep_if (λ c. is_left change asides c.path) o))
-          ≡ ((is_some (option_map (claim_entry (old_members change)) o) && (not (is_claimed change q) && not (is_written change files q))) && is_flag stays (may_stay change q (files q) (option_map (claim_entry (old_members change)) o)))
+          ≡ ((is_some (option_map (claim_entry (staying_members change.old)) o) && (not (is_claimed change q) && not (is_written change files q))) && is_flag stays (may_stay change q (files q) (option_map (claim_entry (staying_members change.old)) o)))
       go None e = refl
       go (Some c) e =
           let is : c.path ≡ q = (bytes_decides c.path q).0 (found_passes (is_of_path q) before c e) in
           by_tests (is_left change asides c.path) true c
-          ∙ (λ j. left c is j && is_flag stays (is_guarded (is j) && (not change.purge && is_changed (claim_entry (old_members change) c) (files (is j)))))
+          ∙ (λ j. left c is j && is_flag stays (is_guarded (is j) && (not change.purge && is_changed (claim_entry (staying_members change.old) c) (files (is j)))))
         where
           left : (c : PathClaim) (is : c.path ≡ q) → is_left change asides c.path ≡ (not (is_claimed change q) && not (is_written change files q))
           left c is = ap (is_left change asides) is ∙ sym (left_is change files q (is_beside asides q) (beside q))

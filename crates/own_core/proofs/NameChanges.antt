@@ -11,7 +11,7 @@ use Rattle.adb_view.specs.Plain.{Plain}
 use Rattle.list_order.specs.ByteOrder.{bytes_cmp}
 use Rattle.list_order.specs.Sorted.{sorted_by, with_element}
 use Rattle.list_order.proofs.Sorting.{Each}
-use Rattle.db_core.specs.Members.{Listing, Member, is_coming, member_listings}
+use Rattle.db_core.specs.Members.{Listing, Member, is_coming, member_listings, staying_members}
 use Rattle.db_core.specs.Seen.{members_of}
 use Rattle.path_claims.specs.Claims.{PathClaim, claim_cmp, is_of_path}
 use Rattle.claim_lists.specs.Once.{HasFirsts}
@@ -20,7 +20,7 @@ use Rattle.change_files.specs.Fate.{aside_name}
 use Rattle.change_files.specs.FileChange.{old_entry, was_listed}
 use Rattle.change_files.specs.FilesAfter.{database_name, is_kept, is_left_over, laid_beside, may_stay, path_beside, world_name}
 use Rattle.change_files.specs.NamesAfter.{coming_paths, is_let_go, counts_as_written, name_change}
-use Rattle.file_fates.specs.ClaimEntries.{claim_entry, comes_at, comes_if_any, is_of_coming_owner, old_members}
+use Rattle.file_fates.specs.ClaimEntries.{claim_entry, comes_at, comes_if_any, is_of_coming_owner}
 use Rattle.file_fates.specs.Fates.{claim_fate}
 use Rattle.file_fates.specs.Found.{said_of}
 use Rattle.file_fates.specs.Going.{does_stay, is_beside}
@@ -166,7 +166,7 @@ module _ (change : Change) (claims : HasClaims change) (coming : List PathClaim)
       (λ j. listed j && not (claimed_after change claims name j || kept j))
     where
       listed : is_some (find (is_of_path name) (claims_before change)) ≡ was_listed (file_change_of change) name
-      listed = sym (mapped_some (claim_entry (old_members (file_change_of change))) (find (is_of_path name) (claims_before change)))
+      listed = sym (mapped_some (claim_entry (staying_members (file_change_of change).old)) (find (is_of_path name) (claims_before change)))
           ∙ ap is_some (entries_are (file_change_of change) files (claims_before change) (before_up change claims coming firsts parts history are files fates_are stays_are) (before_each change claims coming firsts parts history are files fates_are stays_are) (asides_of parts) (beside_parts change claims coming firsts parts history are files fates_are stays_are) name)
 
       kept : is_some (find (is_of_path name) (kept_of_parts parts)) ≡ (is_left_over (file_change_of change) files name && may_stay (file_change_of change) name (files name) (old_entry (file_change_of change) name))

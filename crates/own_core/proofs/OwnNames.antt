@@ -1,5 +1,5 @@
 -- The names of a plan, and the files whose contents they get.
-use Rattle.std.proofs.Common.{◌≡◌, inl, inr, ℕ, zero, suc, ◌+◌, ◌≤◌, Bool, true, false, List, [], ◌∷◌, ◌++◌, length, length-append, map, All, Contains, Option, Some, None, Result, Ok, Err, refl, ap, sym, subst, arith, true≢false}
+use Rattle.std.proofs.Common.{◌≡◌, inl, inr, ℕ, zero, suc, ◌≤◌, Bool, true, false, List, [], ◌∷◌, length, map, All, Contains, Option, Some, None, Result, Ok, Err, refl, ap, sym, subst, arith, true≢false}
 use Rattle.std.specs.Prelude.{◌&&◌, ◌||◌, not, if◌then◌else◌, is_some, nat_le, IfOk}
 use Rattle.std.proofs.lemmas.Bool.{and_parts, leb-true}
 use Rattle.adb_rules.specs.Reserved.{is_reserved}
@@ -27,7 +27,7 @@ use Rattle.own_core.specs.Planned.{ArePlanLists, HasOwnNames, HasSources, IsOfCo
 use Rattle.own_core.specs.WritesSeen.{writes_in}
 use Rattle.own_core.specs.declared.fault.PlanFault.{PlanFault}
 use Rattle.own_core.specs.declared.planning.FilePlan.{FilePlan}
-use Rattle.file_fates.proofs.Endings.{aside_is_name, ending}
+use Rattle.file_fates.proofs.Endings.{aside_is_name}
 use Rattle.file_fates.proofs.Listings.{coming_placed}
 
 -- ---- all of a list
@@ -64,11 +64,8 @@ aside_free change path entry (Some bytes) e = by_tests (not (is_guarded path) ||
     by_tests true e = absurd (cc)
     by_tests false e = by_room (not (agrees_with_old (old_entry change path) entry)) (is_free_beside change path) e
 
-pub is_short : (change : FileChange) (path : List ℕ) → is_free_beside change path ≡ true → length path + 8 ≤ 1024
-is_short change path room =
-    let long : length (path ++ ending) ≡ length path + 8 = length-append path ending in
-    let short : length (aside_name path) ≤ 1024 = leb-true (length (aside_name path)) 1024 (and_parts (nat_le (length (aside_name path)) 1024) (not (is_claimed change (aside_name path))) room).0 in
-    omega (arith, long, short)
+pub is_short : (change : FileChange) (path : List ℕ) → is_free_beside change path ≡ true → length (aside_name path) ≤ 1024
+is_short change path room = leb-true (length (aside_name path)) 1024 (and_parts (nat_le (length (aside_name path)) 1024) (not (is_claimed change (aside_name path))) room).0
 
 named_beside : (change : FileChange) (files : Files) (l : Listing) → IsName l.path → laid_beside change files l.path ≡ Some l → IsName (aside_name l.path)
 unfolding fate_of

@@ -9,6 +9,7 @@ use Rattle.base_core.proofs.Rising as Names
 use Rattle.list_order.specs.Sorted.{sorted_by}
 use Rattle.list_order.proofs.Sorting.{Each}
 use Rattle.db_core.specs.Seen.{members_of}
+use Rattle.db_core.specs.Members.{staying_members}
 use Rattle.path_claims.specs.Claims.{PathClaim, claim_cmp, is_of_path}
 use Rattle.path_claims.proofs.Places.{no_some, value_or}
 use Rattle.claim_lists.specs.Named.{HaveNames}
@@ -19,7 +20,7 @@ use Rattle.change_files.specs.Fate as Fates
 use Rattle.change_files.specs.Fate.{gives_way, goes_aside, goes_in}
 use Rattle.change_files.specs.FileChange.{FileChange}
 use Rattle.change_files.specs.FilesAfter.{laid_beside, path_beside}
-use Rattle.file_fates.specs.ClaimEntries.{AreClaimsOf, claim_entry, is_of_coming_owner, old_members}
+use Rattle.file_fates.specs.ClaimEntries.{AreClaimsOf, claim_entry, is_of_coming_owner}
 use Rattle.file_fates.specs.Fates.{claim_fate, is_fate, is_flag, is_free_beside, marked_claims}
 use Rattle.file_fates.specs.Found.{AreByFiles, said_of}
 use Rattle.file_fates.specs.Going.{does_stay, is_beside, is_left}
@@ -128,7 +129,7 @@ module _ (change : Change) (claims : HasClaims change) (coming : List PathClaim)
   pub before_up : Names.Rises (paths (claims_before change))
   before_up = Names.rises_from_pairs (paths (claims_before change)) claims.before.rising
 
-  pub before_each : (q : List ℕ) → find (is_of_path q) (claims_before change) ≡ find (is_of_path q) (sorted_by claim_cmp (claims_in (old_members (file_change_of change))))
+  pub before_each : (q : List ℕ) → find (is_of_path q) (claims_before change) ≡ find (is_of_path q) (sorted_by claim_cmp (claims_in (staying_members (file_change_of change).old)))
   before_each q = claims.before.each q
 
   by_flag : (b : Bool) (xs : List PathClaim) → xs ≡ marked_claims (is_flag b) (left_claims_by change (asides_of parts)) are.stays

@@ -13,8 +13,8 @@ use Rattle.root_names.proofs.RootNamesAreNames.{database_named, world_named}
 use Rattle.list_order.specs.ByteOrder.{bytes_cmp}
 use Rattle.list_order.specs.Sorted.{sorted_by, with_element}
 use Rattle.list_order.proofs.Sorting.{Each, sorted_up}
-use Rattle.db_core.specs.Members.{Member, member_listings}
-use Rattle.db_core.specs.Seen.{members_of}
+use Rattle.db_core.specs.Members.{Member, member_listings, staying_members}
+use Rattle.db_core.specs.Seen.{members_of, packages_of}
 use Rattle.path_claims.specs.Claims.{PathClaim, claim_cmp, is_of_path}
 use Rattle.path_claims.proofs.ClaimOrder.{paths_total}
 use Rattle.path_clashes.specs.Clash.{NameChange}
@@ -27,7 +27,7 @@ use Rattle.file_owners.specs.Owners.{claims_in}
 use Rattle.change_files.specs.Fate.{aside_name}
 use Rattle.change_files.specs.FilesAfter.{database_name, world_name}
 use Rattle.change_files.specs.NamesAfter.{name_change}
-use Rattle.file_fates.specs.ClaimEntries.{AreClaimsOf, comes_at, is_of_coming_owner, members_before}
+use Rattle.file_fates.specs.ClaimEntries.{AreClaimsOf, comes_at, is_of_coming_owner}
 use Rattle.file_fates.specs.Fates.{claim_fate}
 use Rattle.file_fates.specs.Going.{does_stay}
 use Rattle.file_fates.specs.Parts.{AreParts, asides_of, kept_of_parts, left_claims_by}
@@ -118,12 +118,12 @@ files_first members all firsts h f i c g =
     let k = found_from (is_of_path c.path) all c (sym (f.each c.path) ∙ here) in
     h k.0 c k.1
 
-pub has_claims : (change : Change) → All (λ l. IsName l.path) (member_listings (members_before change.db.now)) → All (λ l. IsName l.path) (member_listings (members_of change.members.now))
-    → (listed : List PathClaim) → listed ≡ sorted_by claim_cmp (claims_in (members_before change.db.now)) → HasFirsts listed (claims_before change) → claims_after change ≡ sorted_by claim_cmp (claims_in (members_of change.members.now))
+pub has_claims : (change : Change) → All (λ l. IsName l.path) (member_listings (staying_members (packages_of change.db.now))) → All (λ l. IsName l.path) (member_listings (members_of change.members.now))
+    → (listed : List PathClaim) → listed ≡ sorted_by claim_cmp (claims_in (staying_members (packages_of change.db.now))) → HasFirsts listed (claims_before change) → claims_after change ≡ sorted_by claim_cmp (claims_in (members_of change.members.now))
     → HasClaims change
 has_claims change old new listed e firsts after = record {
   before = subst (λ (cs : List PathClaim). HasFirsts cs (claims_before change)) e firsts;
   after = after;
-  old_files = files_first (members_before change.db.now) listed (claims_before change) (are_claims (members_before change.db.now) listed old e) firsts;
+  old_files = files_first (staying_members (packages_of change.db.now)) listed (claims_before change) (are_claims (staying_members (packages_of change.db.now)) listed old e) firsts;
   new_files = are_claims (members_of change.members.now) (claims_after change) new after;
 }

@@ -1,13 +1,13 @@
 -- What writes of the program stand for.
 -- The rule stands in `docs/commands.md`, "What a change does with files": a file that is written
 -- takes its path, or is laid beside as `PATH.apk-new`.
-use Rattle.std.specs.Prelude.{◌≡◌, ℕ, ◌+◌, ◌≤◌, List, Some, length, map, slice_get}
+use Rattle.std.specs.Prelude.{◌≡◌, ℕ, ◌≤◌, List, Some, length, map, slice_get}
 use Rattle.std.specs.Ordering.{on}
 use Rattle.std.specs.declared.cmp.Ordering.{Ordering}
 use Rattle.base_core.specs.Name.{IsName}
 use Rattle.list_order.specs.ByteOrder.{bytes_cmp}
 use Rattle.path_claims.specs.Claims.{PathClaim}
-use Rattle.change_files.specs.Fate.{aside_name}
+use Rattle.change_files.specs.Fate.{aside_name, longest_name}
 use Rattle.change_files.specs.PlanLists.{FileWrite}
 use Rattle.own_core.specs.declared.writes.Write.{Write}
 use Rattle.own_core.specs.declared.writes.Writes.{Writes}
@@ -36,10 +36,10 @@ aside_write c = write_by (aside_name c.path) c
 abbrev pub write_cmp : FileWrite → FileWrite → Ordering
 write_cmp = on (λ w. w.name) bytes_cmp
 
--- the name beside the path of a claim is a name: `.apk-new` has 8 bytes, and a name at most 1,024
+-- the path of a claim is a name, and so is the name beside it, which is not too long for one
 pub record HasNameBeside (c : PathClaim) : Type 0 where
   pub name : IsName c.path
-  pub short : length c.path + 8 ≤ 1024
+  pub short : length (aside_name c.path) ≤ longest_name
 
 -- each of these claims has a name beside its path
 abbrev pub HaveNamesBeside : List PathClaim → Type 0

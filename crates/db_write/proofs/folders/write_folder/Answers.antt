@@ -22,7 +22,7 @@ returns c =
     let v : Plain = value_at p (Kinds.Obj Tables.Dir) c.args.folder in
     let vs : Plains = more (blob_value (name_of v)) (more (without_zeros (entry_in v 1)) (more (arr_value (owned_entries (files_in v) c.args.flags.now)) none)) in
     let acl : c.write_acl.new.draft ≡ draft_with (without_zeros (entry_in v 1)) c.write_field.new.draft =
-    c.in_ok-write_acl.ensures.acl ∙ ap (λ (u : Plain). draft_with (without_zeros u) c.write_field.new.draft) (c.field_word.ensures (Kinds.Obj Tables.Acl) refl).1 in
+    c.in_ok-write_acl.ensures.acl ∙ ap (λ (u : Plain). draft_with (without_zeros u) c.write_field.new.draft) (c.field_word-acl.ensures (Kinds.Obj Tables.Acl) refl).1 in
     let files : c.write_files.new.draft ≡ draft_with (arr_value (owned_entries (files_in v) c.args.flags.now)) c.write_acl.new.draft =
     c.in_ok-write_files.ensures.files ∙ ap (λ (u : Plain). draft_with (arr_value (owned_entries (list_of (entries_in u)) c.args.flags.now)) c.write_acl.new.draft) c.objects_field-files.ensures.value in
     let given : c.write_files.new.draft ≡ draft_with_all vs (draft_with_open_list c.args.draft.now) =

@@ -2,11 +2,12 @@ use Rattle.std.proofs.Common.{◌≡◌, ◌∙◌, List, true, false, ap, sym, 
 use Rattle.std.specs.List.{filter}
 use Rattle.base_core.specs.Tree.{TreeState}
 use Rattle.base_core.proofs.Rising.{rises_from_pairs}
+use Rattle.db_core.specs.Members.{staying_members}
+use Rattle.db_core.specs.Seen.{packages_of}
 use Rattle.change_files.specs.Fate.{goes_aside, goes_in}
 use Rattle.claim_lists.proofs.Firsts.{paths}
 use Rattle.path_claims.specs.Claims.{PathClaim}
 use Rattle.path_claims.specs.Seen.{claim_seen}
-use Rattle.file_fates.specs.ClaimEntries.{members_before}
 use Rattle.file_fates.specs.Fates.{claim_fate, fate_seen, is_fate, is_flag, marked_claims}
 use Rattle.file_fates.specs.Found.{AreByFiles}
 use Rattle.file_fates.specs.Going.{does_stay, is_left}
@@ -30,7 +31,7 @@ left_claims-requires-clause-sorted g c =
 
 pub stays_of-requires : goal.stays_of-requires
 stays_of-requires g c =
-    files_kept (members_before c.args.change.now.db.now) (λ d. is_left (file_change_of c.args.change.now) (map claim_seen c.deref-3.result.now) d.path) (claims_before c.args.change.now) (map claim_seen c.deref-4.result.now) c.requires.claims.old_files
+    files_kept (staying_members (packages_of c.args.change.now.db.now)) (λ d. is_left (file_change_of c.args.change.now) (map claim_seen c.deref-3.result.now) d.path) (claims_before c.args.change.now) (map claim_seen c.deref-4.result.now) c.requires.claims.old_files
     (ap (map claim_seen) c.deref-4.ensures.value ∙ c.in_ok-left.ensures)
 
 pub claims_where-requires : goal.claims_where-requires

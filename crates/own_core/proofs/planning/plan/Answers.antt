@@ -1,12 +1,13 @@
 use Rattle.std.proofs.Common.{◌∙◌, List, ap, sym, subst, map}
 use Rattle.std.specs.List.{filter}
 use Rattle.claim_lists.specs.Once.{HasFirsts}
-use Rattle.db_core.specs.Seen.{members_of}
+use Rattle.db_core.specs.Members.{staying_members}
+use Rattle.db_core.specs.Seen.{members_of, packages_of}
 use Rattle.file_owners.specs.Owners.{claims_in}
 use Rattle.path_claims.specs.Seen.{claim_seen}
 use Rattle.path_claims.specs.declared.claim.Claim.{Claim}
 use Rattle.path_claims.proofs.Whole.{is_sorted}
-use Rattle.file_fates.specs.ClaimEntries.{is_of_coming_owner, members_before}
+use Rattle.file_fates.specs.ClaimEntries.{is_of_coming_owner}
 use Rattle.file_fates.specs.Sides.{HasClaims}
 use Rattle.file_fates.specs.declared.change.Change.{Change}
 use Rattle.file_fates.proofs.Listings.{are_claims}
@@ -22,7 +23,7 @@ first_reserved-requires-clause-files g c =
 
 pub one_of_each_path-requires : goal.one_of_each_path-requires
 one_of_each_path-requires g c =
-    is_sorted (claims_in (members_before c.args.old.now)) (map claim_seen c.deref-2.result.now) (ap (map claim_seen) c.deref-2.ensures.value ∙ c.in_ok-listed.ensures)
+    is_sorted (claims_in (staying_members (packages_of c.args.old.now))) (map claim_seen c.deref-2.result.now) (ap (map claim_seen) c.deref-2.ensures.value ∙ c.in_ok-listed.ensures)
 
 pub coming_claims-requires-clause-files : goal.coming_claims-requires-clause-files
 coming_claims-requires-clause-files g c =

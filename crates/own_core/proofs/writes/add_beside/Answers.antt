@@ -1,4 +1,4 @@
-use Rattle.std.proofs.Common.{◌≤◌, ◌+◌, ℕ, List, ap, sym, subst, ◌∙◌, arith, length, map}
+use Rattle.std.proofs.Common.{◌≤◌, ℕ, List, ap, sym, subst, ◌∙◌, arith, length, map}
 use Rattle.change_files.specs.Fate.{aside_name}
 use Rattle.path_claims.specs.Seen.{claim_seen}
 use Rattle.path_claims.proofs.Places.{seen_at}
@@ -12,7 +12,7 @@ name_of_path-requires c =
 
 pub name_beside-requires : goal.name_beside-requires
 name_beside-requires c =
-    subst (λ (n : List ℕ). length n + 8 ≤ 1024) (sym c.in_ok-name.ensures)
+    subst (λ (n : List ℕ). length (aside_name n) ≤ 1024) (sym c.in_ok-name.ensures)
     (c.requires c.loop-claim.claim-index _ (seen_at claim_seen c.args.asides.now c.loop-claim.claim-index _ c.loop-claim-test.true)).short
 
 pub loop-claim-preserved : goal.loop-claim-preserved
