@@ -1,7 +1,7 @@
 //! A whole file is put in the place of another, so that a crash leaves the old one or the new one.
 //!
-//! The contract cites `Replacing`, `Reading` and `Recovery` (the state that files stand for) of
-//! `journal_core`.
+//! The contract cites `Lengths` of `specs/`, and `Replacing`, `Reading` and `Recovery` (the state
+//! that files stand for) of `journal_core`.
 //! The rules stand in `docs/crash-safety.md`, "A whole file replaced".
 #![tactic(auto)]
 

@@ -6,6 +6,7 @@ ghost use Rattle.base_core.specs.Calls.{HasNow, IfObservable};
 ghost use Rattle.base_core.specs.Crash.{Since, IsOrderly};
 ghost use Rattle.base_core.specs.Faults.{GoesOn, HasCause, IsNoFault};
 ghost use Rattle.base_core.specs.Tree.{TreeState, CanRename, files_of};
+ghost use Rattle.file_replacement.specs.Lengths.{longest_replaced};
 ghost use Rattle.journal_core.specs.Filling.{IsUntouched, IsFilling, IsMoving, IsLasting, HasOneMore, HasPlace, HasBothPlaces, synced_file};
 ghost use Rattle.journal_core.specs.Kept.{IsSyncedAt, KeepsMapsBut};
 ghost use Rattle.journal_core.specs.Reading.{IsReadAs};
@@ -16,7 +17,7 @@ use base_core::{
     Disk, Name, Tree, TreeFault, a_crash_may_leave_the_files_as_read, order_outlasts_a_crash,
 };
 use journal_core::Journal;
-use journal_core::calls::{append, remove, rename, sync_all_names, sync_file};
+use journal_core::calls::{append, create, remove, rename, sync_all_names, sync_file};
 use std::alloc::{AllocError, Global};
 
 /// Writes one whole file: after a crash at any moment its name has the old file or the new one, and
@@ -33,8 +34,8 @@ pub fn replace<T: Tree>(
     name: &Name,
     bytes: &[u8],
 ) -> Result<(), TreeFault>
-    // 1,016: the scratch name has eight bytes more, and a name at most 1,024.
-    requires length { length name.now ≤ 1016 }
+    // The scratch name, which is longer, has to be a name too.
+    requires length { length name.now ≤ longest_replaced }
     requires apart { name.now ≢ intent_name }
 
     // At each moment the tree is orderly, and a crash leaves a state from before or that of the new
@@ -92,10 +93,10 @@ pub fn replace<T: Tree>(
     Ok(())
 }
 
-/// The scratch name of an output, under which the new file is made: eight bytes longer, so that it
-/// is a name where the output's has at most 1,016.
+/// The scratch name of an output, under which the new file is made: `.apk-tmp` stands behind the
+/// output's own name.
 fn scratch_name(alloc: Global, name: &Name) -> Result<Name, AllocError>
-    requires { length name.now ≤ 1016 }
+    requires { length name.now ≤ longest_replaced }
     ensures { IfOk result (λ scratch. scratch ≡ scratch_of name.now) }
 {
     let mut bytes = Vec::from_slice(alloc, name.as_bytes())?;
@@ -162,7 +163,7 @@ fn fill<T: Tree>(tree: &mut T, name: &Name, bytes: &[u8]) -> Result<(), Disk>
     a_crash_may_leave_the_files_as_read();
     order_outlasts_a_crash::<Journal>();
     remove(tree, name)?;
-    tree.create(name)?;
+    create(tree, name)?;
     append(tree, name, bytes)?;
     sync_file(tree, name)
 }

@@ -1,0 +1,3 @@
+-- The definitions of this crate. Each file names the place of its rule.
+-- what the contract of `replace` says, beside definitions of `journal_core`
+pub mod Lengths
