@@ -1,5 +1,6 @@
 //! A table of names in byte order, each with the number of its file.
-//! Names and folders are those of `docs/crash-safety.md`, "A tree at one moment".
+//! Names, folders and the order of a listing are those of `docs/crash-safety.md`, "A tree at one
+//! moment".
 ghost use Rattle.std.specs.Prelude.{◌≡◌, ◌↔◌, ℕ, [], ◌∷◌, ◌++◌, false, List, IsTrue, IsSome, IfOk, IfErr, OnOk, OnErr};
 ghost use Rattle.std.specs.Ordering.{nat_cmp, is_lt};
 ghost use Rattle.std.specs.Str.{bytes_eq};
