@@ -82,9 +82,9 @@ impl NameTable {
         }
     }
 
-    /// Whether the name may be made: it is no folder of a name of the table other than `but`, and has
-    /// none of them as its folder. `but` is the name that a rename takes away; where a file is put it
-    /// is the name itself.
+    /// Whether the name may be made: it is no folder of a name of the table other than `but`, and
+    /// has none of them as its folder. `but` is the name that a rename takes away; where a file is
+    /// put it is the name itself.
     pub fn fits(&self, name: &[u8], but: &[u8]) -> bool
         ensures { IsTrue result ↔ IsFit self.now.entries.items name.now but.now }
     {
