@@ -1,6 +1,6 @@
 -- What a root may see: runs, stops, crashes and changes by others, and lists of them. The rules
--- stand in `docs/crash-safety.md`, "Recovery", its last two paragraphs, and the words in `docs/names.md`,
--- under *event*.
+-- stand in `docs/crash-safety.md`, "Recovery", its last two paragraphs, and the words in
+-- `docs/names.md`, under *event*.
 use Rattle.std.specs.Prelude.{◌≡◌, ◌≢◌, ◌⊎◌, ◌++◌, ◌||◌, ℕ, Bool, true, false, List, [], ◌∷◌, Option, Some, None, Contains, IsSome, IsTrue, is_some}
 use Rattle.std.specs.Str.{bytes_eq}
 use Rattle.apk_front.specs.Answers.{IsAnswerTo, LeavesFiles}

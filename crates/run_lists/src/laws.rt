@@ -1,5 +1,6 @@
 //! Laws on lists of runs, stops and crashes. The rules that they state stand in
-//! `docs/crash-safety.md`, "Recovery", its last two paragraphs; the sentence in the README of this crate.
+//! `docs/crash-safety.md`, "Recovery", its last two paragraphs; the sentence, in the README of this
+//! crate.
 ghost use Rattle.std.specs.Prelude.{◌≡◌, ℕ, Bool, false, true, List, None, Option, IsSome, IsTrue};
 ghost use Rattle.apk_front.specs.Moments.{AnswersOutcome, HasIdleOutcome, HidesScratchOf, IsAtRest};
 ghost use Rattle.base_core.specs.Calls.{HasNow};

@@ -313,7 +313,8 @@ fn hashes_differ(wanted: &[u8], found: &[u8]) -> Option<Cause> {
 }
 
 /// The digest that these bytes are, by their length: SHA-1 of 20, SHA-256 of 32 and SHA-512 of 64
-/// (`docs/formats.md`, "The other blocks"); None of another length, so that the row is `no refusal`.
+/// (`docs/formats.md`, "The other blocks"); None of another length, so that the row is `no
+/// refusal`.
 fn digest_of(bytes: &[u8]) -> Option<Digest> {
     if let Ok(bytes) = bytes.try_into() {
         return Some(Digest::Sha1(bytes));
