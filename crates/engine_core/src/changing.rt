@@ -135,6 +135,7 @@ fn change_selected<T: Tree>(
         (T.history tree.old) (T.history tree.new) (T.counts tree.old) (T.counts tree.new) result }
     ensures counts { IsRunCounted (T.counts tree.old) (T.counts tree.new) result }
 {
+    // A law that the proof needs; it computes nothing.
     a_change_has_a_first_clash_or_none();
     if command.flags().simulate {
         let report = simulate(alloc, command, selection)?;
