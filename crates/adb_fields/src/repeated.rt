@@ -57,6 +57,7 @@ pub fn repeated_names(alloc: Global, shaped: &Shaped<'_>) -> Result<Option<Cause
     ensures { IfOk result (λ cause. cause
         ≡ repeated_fault (table_of shaped.now) (shaped_value shaped.now)) }
 {
+    // A law that the proof needs; it computes nothing.
     values_of_few_visits_have_no_fault();
     let adb = shaped.adb();
     let root = adb.root();

@@ -473,8 +473,8 @@ pub fn no_text_is_bad_where_each_keeps_its_rule()
 {}
 
 /// A law: each entry of a list keeps the rule that all entries of the list keep, kind by kind of
-/// entries. Entries count from 0; `root` is the table of the container, and `folder` the name of the
-/// file's folder.
+/// entries. Entries count from 0; `root` is the table of the container, and `folder` the name of
+/// the file's folder.
 pub fn entries_keep_the_rule_of_their_list()
     ensures dependency { (list : Plain) (i : ℕ)
         → Each IsSoundDependency (entries_in list) → i < count_of (entries_in list)

@@ -68,6 +68,7 @@ pub fn shape(adb: Adb<'_>, which: Which) -> Result<Shaped<'_>, Cause>
     ensures walked { IfOk result (λ shaped. adb_of shaped ≡ adb.entry) }
     ensures table { IfOk result (λ shaped. table_of shaped ≡ which) }
 {
+    // A law that the proof needs; it computes nothing.
     value_is_found_where_visits_are_sound();
     match walk_value(adb, Kind::Obj(which), 0, adb.root()) {
         Ok(_) => Ok(Shaped::of(adb, which)),

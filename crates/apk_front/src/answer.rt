@@ -129,6 +129,7 @@ fn print_verdict<O: Sink, E: Sink>(verdict: Verdict, out: &mut O, err: &mut E) -
     ensures out_counts { IsProperUse (sink_change O.bytes O.counts out.old out.new) }
     ensures err_counts { IsProperUse (sink_change E.bytes E.counts err.old err.new) }
 {
+    // A law that the proof needs; it computes nothing.
     counts_of_calls_in_a_row_join();
     match print_report(verdict.report.as_bytes(), out) {
         Ok(()) => print_refusal(verdict.refusal, err),

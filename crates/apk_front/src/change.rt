@@ -49,6 +49,7 @@ pub(crate) fn change<T: Tree>(
         (output_if (effect_of command.now.applet) command.now) (files_of v))
         → (T.counts tree.new).misuses ≡ (T.counts tree.old).misuses) }
 {
+    // Laws that the proof needs; they compute nothing.
     an_outcome_over_files_is_unique();
     a_command_that_commits_nothing_leaves_the_files();
     let answer = engine_core::change(alloc, command, tree);

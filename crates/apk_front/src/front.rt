@@ -181,6 +181,7 @@ pub fn apk<T: Tree, O: Sink, E: Sink>(
         → AnswersOutcome result → LeavesAtRest (IsOutcome words.now (files_of v))
         (output words.now) ignored (T.history tree.new)) }
 {
+    // A law that the proof needs; it computes nothing.
     a_refusal_commits_nothing();
     let judged = judge(alloc, words, tree);
     show(judged, out, err)

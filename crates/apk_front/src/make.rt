@@ -71,6 +71,7 @@ pub(crate) fn mkpkg<T: Tree>(
         → outcome.commits ≡ true → HasRoomFor (output_name command.now) (files_of v))
         → (T.counts tree.new).misuses ≡ (T.counts tree.old).misuses) }
 {
+    // Laws that the proof needs; they compute nothing.
     counts_of_calls_in_a_row_join();
     files_have_one_list_of_names();
     a_package_with_information_has_an_output();
@@ -111,6 +112,7 @@ pub(crate) fn mkndx<T: Tree>(
         → outcome.commits ≡ true → HasRoomFor (output_name command.now) (files_of v))
         → (T.counts tree.new).misuses ≡ (T.counts tree.old).misuses) }
 {
+    // Laws that the proof needs; they compute nothing.
     counts_of_calls_in_a_row_join();
     an_index_has_an_output();
     let report = index_line(alloc, command.operands().len())?;
@@ -130,6 +132,7 @@ fn package<T: Tree>(alloc: Global, command: &Command, tree: &mut T) -> Result<Ve
     ensures tree { OnlyReads MakeFault.Disk (T.history tree.old) (T.history tree.new)
         (T.counts tree.old) (T.counts tree.new) result }
 {
+    // A law that the proof needs; it computes nothing.
     a_listing_of_a_tree_is_that_of_its_files();
     make_core::mkpkg(alloc, command, tree)
 }
@@ -230,6 +233,7 @@ fn write<T: Tree>(
         → HasRoomFor (output_name command.now) (files_of v))
         → (T.counts tree.new).misuses ≡ (T.counts tree.old).misuses) }
 {
+    // Laws that the proof needs; they compute nothing.
     an_output_is_short();
     an_image_has_the_state_of_its_map();
     // A command of which a container was made has an output.

@@ -57,6 +57,7 @@ pub(crate) fn recover_and_run<T: Tree>(
         (IsOutcomeOf (Ok command.now) (files_of v)) (files_of v)
         → (T.counts tree.new).misuses ≡ (T.counts tree.old).misuses) }
 {
+    // Laws that the proof needs; they compute nothing.
     counts_of_calls_in_a_row_join();
     still_moments_join();
     settled_then_quiet_is_settled();

@@ -76,6 +76,7 @@ fn first_refusal<T: Tree>(
     ensures tree { OnlyReads TreeFault.Disk (T.history tree.old) (T.history tree.new)
         (T.counts tree.old) (T.counts tree.new) result }
 {
+    // A law that the proof needs; it computes nothing.
     readings_in_a_row_join::<Option<Refusal>, Option<Refusal>, TreeFault>();
     for i in 0..operands.len() {
         let place = operands.get(i).place;
@@ -104,6 +105,7 @@ fn test_file<T: Tree>(
     ensures tree { OnlyReads TreeFault.Disk (T.history tree.old) (T.history tree.new)
         (T.counts tree.old) (T.counts tree.new) result }
 {
+    // A law that the proof needs; it computes nothing.
     readings_in_a_row_join::<PackageTest, Option<Refusal>, TreeFault>();
     match test_package(alloc, tree, file)? {
         PackageTest::Absent => Ok(Some(Refusal::FileMissing { place })),

@@ -123,6 +123,7 @@ pub fn read_arrivals<T: Tree>(
     ensures tree { OnlyReads Refused.Disk (T.history tree.old) (T.history tree.new)
         (T.counts tree.old) (T.counts tree.new) result }
 {
+    // Laws that the proof needs; they compute nothing.
     places_lead_to_packages_and_candidates();
     readings_in_a_row_join::<u8, Option<MemberRead>, Refused>();
     readings_in_a_row_join::<u8, Arrivals, Refused>();
@@ -164,6 +165,7 @@ fn read_name<T: Tree>(
     ensures tree { OnlyReads Refused.Disk (T.history tree.old) (T.history tree.new)
         (T.counts tree.old) (T.counts tree.new) result }
 {
+    // A law that the proof needs; it computes nothing.
     readings_in_a_row_join::<TestedPackage, Option<MemberRead>, Refused>();
     let Some(change) = name.change else {
         // Nothing becomes of the package: it stays, and no file is read.

@@ -67,6 +67,7 @@ impl IndexFiles {
         requires { i < length (indexes_seen self.now) }
         ensures { slice_get (indexes_seen self.now) i ≡ Some (index_value result) }
     {
+        // A law that the proof needs; it computes nothing.
         values_of_few_visits_have_no_fault();
         open_payload(payload_in(&self.files[i]))
     }

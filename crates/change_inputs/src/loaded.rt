@@ -56,6 +56,7 @@ impl Loaded {
         ensures tree { OnlyReads Refused.Disk (T.history tree.old) (T.history tree.new)
             (T.counts tree.old) (T.counts tree.new) result }
     {
+        // A law that the proof needs; it computes nothing.
         readings_in_a_row_join::<RootFiles, Loaded, Refused>();
         let files = read_root(alloc, tree)?;
         Loaded::of_files(alloc, command, files, tree)

@@ -62,6 +62,7 @@ pub(crate) fn read_root<T: Tree>(alloc: Global, tree: &mut T) -> Result<RootFile
     ensures tree { OnlyReads Refused.Disk (T.history tree.old) (T.history tree.new)
         (T.counts tree.old) (T.counts tree.new) result }
 {
+    // A law that the proof needs; it computes nothing.
     readings_in_a_row_join::<(Option<Vec<u8>>, Option<Vec<u8>>), Option<Vec<u8>>, Refused>();
     let world_name = world_name(alloc)?;
     let repositories_name = repositories_name(alloc)?;
@@ -92,6 +93,7 @@ pub(crate) fn read_databases<T: Tree>(
     ensures tree { OnlyReads Refused.Disk (T.history tree.old) (T.history tree.new)
         (T.counts tree.old) (T.counts tree.new) result }
 {
+    // A law that the proof needs; it computes nothing.
     readings_in_a_row_join::<Option<Vec<u8>>, Option<Vec<u8>>, Refused>();
     let name = database_name(alloc)?;
     let text_name = text_database_name(alloc)?;

@@ -94,6 +94,7 @@ impl<'a> Db<'a> {
         ensures { IfOk result (λ db. packages_of db
             ≡ entries_at IDB_PACKAGES (root_value Tables.Idb payload.entry.now)) }
     {
+        // Laws that the proof needs; they compute nothing.
         no_text_is_bad_where_each_keeps_its_rule();
         bytes_are_small(payload);
         tested_payloads_hold_sound_values();
@@ -203,6 +204,7 @@ pub fn open_idb(payload: &[u8]) -> IdbView<'_>
     requires { payload_fault Tables.Idb payload.now ≡ None }
     ensures { idb_value result ≡ root_value Tables.Idb payload.now }
 {
+    // A law that the proof needs; it computes nothing.
     values_of_few_visits_have_no_fault();
     open_root(payload)
 }

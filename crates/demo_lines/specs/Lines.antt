@@ -70,7 +70,7 @@ demo_packages (suc i) = demo_packages i ++ (demo_package (suc i) ∷ [])
 abbrev pub mkndx_words : ℕ → List (List ℕ)
 mkndx_words n = codes "mkndx" ∷ codes "-o" ∷ demo_index ∷ demo_packages n
 
--- the name of package i, if none of n depends on it
+-- the name of package i, if none of n depends on it: only packages 2i and 2i + 1 could
 abbrev pub top_name : ℕ → ℕ → List (List ℕ)
 top_name n i = if nat_lt n (2 * i) then demo_name i ∷ [] else []
 

@@ -53,6 +53,7 @@ fn carry_change<T: Tree>(
     // How the tree's counts explain the answer.
     ensures counts { IsRunCounted (T.counts tree.old) (T.counts tree.new) result }
 {
+    // A law that the proof needs; it computes nothing.
     a_package_that_was_read_is_that_of_its_file();
     let Planned { arrived, plan } = *planned;
     let loaded = arrived.selection.loaded;

@@ -47,6 +47,7 @@ pub fn change<T: Tree>(alloc: Global, command: &Command, tree: &mut T) -> Result
     // other answer hides none.
     ensures counts { IsRunCounted (T.counts tree.old) (T.counts tree.new) result }
 {
+    // Laws that the proof needs; they compute nothing.
     a_choice_exists();
     a_change_has_a_first_clash_or_none();
     inputs_rest_on_their_own_reads();
@@ -68,6 +69,7 @@ fn change_loaded<T: Tree>(
         (T.history tree.new) (T.counts tree.old) (T.counts tree.new) result }
     ensures counts { IsRunCounted (T.counts tree.old) (T.counts tree.new) result }
 {
+    // Laws that the proof needs; they compute nothing.
     a_choice_exists();
     a_change_has_a_first_clash_or_none();
     let again = names_to_reinstall(alloc, command)?;
@@ -97,6 +99,7 @@ fn change_in_pool<'a, T: Tree>(
         (T.history tree.new) (T.counts tree.old) (T.counts tree.new) result }
     ensures counts { IsRunCounted (T.counts tree.old) (T.counts tree.new) result }
 {
+    // Laws that the proof needs; they compute nothing.
     a_choice_exists();
     a_change_has_a_first_clash_or_none();
     let db = loaded.db(alloc)?;
@@ -132,6 +135,7 @@ fn change_selected<T: Tree>(
         (T.history tree.old) (T.history tree.new) (T.counts tree.old) (T.counts tree.new) result }
     ensures counts { IsRunCounted (T.counts tree.old) (T.counts tree.new) result }
 {
+    // A law that the proof needs; it computes nothing.
     a_change_has_a_first_clash_or_none();
     if command.flags().simulate {
         let report = simulate(alloc, command, selection)?;

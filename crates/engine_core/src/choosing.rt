@@ -30,6 +30,7 @@ pub(crate) fn choose<'a>(
     requires { pool.now.world ≡ (inputs_seen loaded.now).root.new_world }
     ensures { (chosen : Option (List ℕ)) × IsChoice pool.now chosen × IsChosen chosen result }
 {
+    // A law that the proof needs; it computes nothing.
     a_choice_exists();
     match solve(alloc, pool, loaded.new_world()) {
         Ok(Some(trace)) => Ok(trace),

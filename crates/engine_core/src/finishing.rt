@@ -107,6 +107,7 @@ pub(crate) fn report_of(
         (wishes_of command.now) (file_change (inputs_arrived planned.now.arrived.now)
         (wishes_of command.now) found) files) }
 {
+    // A law that the proof needs; it computes nothing.
     places_lead_to_packages_and_candidates();
     let arrived = planned.arrived;
     let selection = arrived.selection;

@@ -52,6 +52,7 @@ pub(crate) fn make_change<T: Tree>(
         (T.history tree.old) (T.history tree.new) (T.counts tree.old) (T.counts tree.new) result }
     ensures counts { IsRunCounted (T.counts tree.old) (T.counts tree.new) result }
 {
+    // A law that the proof needs; it computes nothing.
     a_change_has_a_first_clash_or_none();
     let Selection {
         db,
@@ -98,6 +99,7 @@ fn change_members<'a, 'm, T: Tree>(
         (T.history tree.old) (T.history tree.new) (T.counts tree.old) (T.counts tree.new) result }
     ensures counts { IsRunCounted (T.counts tree.old) (T.counts tree.new) result }
 {
+    // Laws that the proof needs; they compute nothing.
     a_change_has_a_first_clash_or_none();
     packages_that_were_read_are_those_found();
     let members = members_of_change(alloc, selection.db, arrivals)?;
@@ -127,6 +129,7 @@ fn plan_change<T: Tree>(
         (T.counts tree.old) (T.counts tree.new) result }
     ensures counts { IsRunCounted (T.counts tree.old) (T.counts tree.new) result }
 {
+    // Laws that the proof needs; they compute nothing.
     a_change_has_a_first_clash_or_none();
     counts_of_calls_in_a_row_join();
     let purge = command.flags().purge;

@@ -5,8 +5,8 @@
 //! the file under a name once, piece by piece, and compares it with the entry of the package that
 //! comes and with that of the package before. `LINK_MARK` and `target_text` are what is written for
 //! a link, one behind the other. No memory is taken. The contracts cite `AsListed` (which bytes are
-//! as an entry lists them), `Listed` (the same of a `ListedFile`) and `Watching` (what is known of a
-//! file that is not read whole yet) of `specs/`.
+//! as an entry lists them), `Listed` (the same of a `ListedFile`) and `Watching` (what is known of
+//! a file that is not read whole yet) of `specs/`.
 #![tactic(auto)]
 
 mod compare;

@@ -42,6 +42,7 @@ pub fn mkpkg<T: Tree>(alloc: Global, command: &Command, tree: &mut T) -> Result<
     ensures tree { OnlyReads MakeFault.Disk (T.history tree.old) (T.history tree.new)
         (T.counts tree.old) (T.counts tree.new) result }
 {
+    // A law that the proof needs; it computes nothing.
     a_made_package_is_sound();
     make_package::make(alloc, command, tree)
 }
@@ -68,6 +69,7 @@ pub fn mkndx<T: Tree>(alloc: Global, command: &Command, tree: &mut T) -> Result<
     ensures tree { OnlyReads MakeFault.Disk (T.history tree.old) (T.history tree.new)
         (T.counts tree.old) (T.counts tree.new) result }
 {
+    // A law that the proof needs; it computes nothing.
     a_made_index_is_sound();
     make_index::make(alloc, command, tree)
 }

@@ -35,6 +35,7 @@ pub fn make<T: Tree>(alloc: Global, command: &Command, tree: &mut T) -> Result<V
     // first refusal is told.
     ensures made { IsMadeRun (T.history tree.old) command.now result }
 {
+    // A law that the proof needs; it computes nothing.
     a_command_has_what_its_applet_may_have();
     let names = list_names(alloc, tree, command.values())?;
     pack(alloc, command, tree, &names)
@@ -54,6 +55,7 @@ fn pack<T: Tree>(
     ensures read { Explains (T.history tree.old) (λ read.
         IsAnswer IsBytes result (made_package command.now names.now read)) }
 {
+    // Laws that the proof needs; they compute nothing.
     a_command_has_what_its_applet_may_have();
     contents_stand_in_their_container();
     readings_in_a_row_join::<Vec<Script<'_>>, Packing<'_>, MakeFault>();

@@ -208,8 +208,8 @@ fn placed_names<'a>(
     Ok(list)
 }
 
-/// What becomes of the package with this name, whose selected candidate has the place `new`. `again`
-/// has the names of the packages that are to be installed again.
+/// What becomes of the package with this name, whose selected candidate has the place `new`.
+/// `again` has the names of the packages that are to be installed again.
 fn placed_name<'a>(
     db: &Db<'a>,
     pool: &Sealed<'a>,

@@ -1,6 +1,6 @@
 //! A package in a tree that was read and tested once.
-//! The rules stand in `docs/formats.md`, "The other blocks", the last two paragraphs (the front, and
-//! pieces); what is kept of a package, in the README of this crate and in `docs/DECISIONS.md`,
+//! The rules stand in `docs/formats.md`, "The other blocks", the last two paragraphs (the front,
+//! and pieces); what is kept of a package, in the README of this crate and in `docs/DECISIONS.md`,
 //! "Packages that are not held whole".
 
 ghost use Rattle.std.specs.Prelude.{◌≡◌, true, is_none};

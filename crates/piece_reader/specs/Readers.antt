@@ -190,8 +190,8 @@ IsPieceRead new pkg before bytes (Ok None) = before ≡ no_piece
 IsPieceRead new pkg before bytes (Err (Bad c)) = before ≡ refusal c
 IsPieceRead new pkg before bytes (Err Disk) = Unit {0}
 
--- the files that are due before a file was opened: it, and those that the walk has left; none where none was
--- opened
+-- the files that are due before a file was opened: it, and those that the walk has left; none where
+-- none was opened
 abbrev pub OpensDue : List Expected → Option OpenFile → BlockPlace → Type 0
 OpensDue before None place = before ≡ []
 OpensDue before (Some o) place =

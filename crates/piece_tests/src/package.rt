@@ -61,8 +61,8 @@ impl Reading<'_> {
     };
 }
 
-/// Answers what is asked of a package; a number stands before the sizes of its files where that
-/// takes one.
+/// Adds to `answer` what is asked of a package, as the README of this crate has it for each
+/// question; a number stands before the sizes of its files where the question takes one.
 pub(crate) fn add_asked(
     alloc: Global,
     asked: Asked,
@@ -82,7 +82,7 @@ pub(crate) fn add_asked(
     add_asked_of(alloc, asked, number, &sizes, &file, answer)
 }
 
-/// Answers what is asked of a package that was made.
+/// Adds to `answer` what is asked of a package that was made.
 fn add_asked_of(
     alloc: Global,
     asked: Asked,

@@ -148,8 +148,8 @@ fn content(alloc: Global, form: Form, line: u64) -> Content {
     }
 }
 
-/// Adds a line to the last file, in the file's form. A line behind no file, or behind one that is to
-/// be absent, is out of place.
+/// Adds a line to the last file, in the file's form. A line behind no file, or behind one that is
+/// to be absent, is out of place.
 fn add_to_last(files: &mut Vec<NamedFile>, form: Form, piece: &[u8]) -> Result<(), Trouble> {
     let Some(file) = files.last_mut() else {
         return Err(Trouble::OutOfPlace);

@@ -36,6 +36,7 @@ fn look_at_each<T: Tree>(tree: &mut T, writes: &[StagedWrite<'_>]) -> Result<(),
     ensures { OnlyReads (record {}) (T.history tree.old) (T.history tree.new)
         (T.counts tree.old) (T.counts tree.new) result }
 {
+    // A law that the proof needs; it computes nothing.
     readings_in_a_row_join::<u8, (), Disk>();
     for write in writes {
         look_at(tree, write.name)?;
@@ -149,6 +150,7 @@ pub fn carry_out<T: Tree>(
         → HasRoomBeside (after_actions stage.old.intent (with_staged 1 contents (files_of v)))
         → (T.counts tree.new).misuses ≡ (T.counts tree.old).misuses) }
 {
+    // Laws that the proof needs; they compute nothing.
     a_new_stage_is_staging();
     a_staging_run_is_a_stage_run();
     look_at_each(tree, writes)?;

@@ -89,8 +89,8 @@ pub(crate) fn stage_write<T: Tree>(
 ) -> Result<(), StageFault>
     requires closed { stage.old.is_open ≡ false }
     requires more { stage.old.staged < length stage.old.intent.writes }
-    // Whatever is answered, only what waits has changed at each moment. `first` is the tree's history
-    // as the staging began, `v` its newest state then, and `contents` what waits already.
+    // Whatever is answered, only what waits has changed at each moment. `first` is the tree's
+    // history as the staging began, `v` its newest state then, and `contents` what waits already.
     ensures run { (contents : List (List ℕ)) (v : TreeState) (first : List TreeState)
         → IsStaging stage.old contents None v first (T.history tree.old)
         → IsStagingRun v first (T.history tree.new) }

@@ -1,5 +1,6 @@
 //! A table of names in byte order, each with the number of its file.
-//! Names and folders are those of `docs/crash-safety.md`, "A tree at one moment".
+//! Names, folders and the order of a listing are those of `docs/crash-safety.md`, "A tree at one
+//! moment".
 ghost use Rattle.std.specs.Prelude.{◌≡◌, ◌↔◌, ℕ, [], ◌∷◌, ◌++◌, false, List, IsTrue, IsSome, IfOk, IfErr, OnOk, OnErr};
 ghost use Rattle.std.specs.Ordering.{nat_cmp, is_lt};
 ghost use Rattle.std.specs.Str.{bytes_eq};
@@ -81,9 +82,9 @@ impl NameTable {
         }
     }
 
-    /// Whether the name may be made: it is no folder of a name of the table other than `but`, and has
-    /// none of them as its folder. `but` is the name that a rename takes away; where a file is put it
-    /// is the name itself.
+    /// Whether the name may be made: it is no folder of a name of the table other than `but`, and
+    /// has none of them as its folder. `but` is the name that a rename takes away; where a file is
+    /// put it is the name itself.
     pub fn fits(&self, name: &[u8], but: &[u8]) -> bool
         ensures { IsTrue result ↔ IsFit self.now.entries.items name.now but.now }
     {

@@ -1,7 +1,8 @@
 -- The grammar of a version, after apk-package(5):
 -- `number{.number}{letter}{_suffix{number}}{~hash}{-r#}`. Here it is told as the parts of a version
--- and how they are spelled. The rule stands in `docs/formats.md`, "Versions" ("A version is a
--- number"). Byte values: 46 `.`, 95 `_`, 126 `~`, 45 `-`, 114 `r`.
+-- and how they are spelled, and which tokens they have. The rules stand in `docs/formats.md`,
+-- "Versions": of the grammar the paragraph "A version is a number", of the tokens "A version is
+-- compared by its tokens". Byte values: 46 `.`, 95 `_`, 126 `~`, 45 `-`, 114 `r`.
 use Rattle.std.specs.Prelude.{◌≡◌, ◌==◌, ℕ, Bool, true, false, ◌&&◌, ◌||◌, nat_lt, List, [], ◌∷◌, ◌++◌, length, Option, Some, None, is_some, if◌then◌else◌}
 use Rattle.std.specs.Char.{is_ascii_digit, is_ascii_lowercase}
 use Rattle.std.specs.List.{list_all}

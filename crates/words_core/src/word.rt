@@ -1,5 +1,6 @@
 //! What a single word is: an option or not, and the parts of an option's word.
-//! The rules stand in `docs/commands.md`, "Words", the first paragraphs and that of values.
+//! The rules stand in `docs/commands.md`, "Words": the first paragraphs, that of values, and of
+//! places that of a usage error.
 ghost use Rattle.std.specs.Prelude.{◌≡◌, ◌+◌, ◌==◌, ◌<◌, IsTrue, drop};
 ghost use Rattle.std.specs.List.{position};
 ghost use Rattle.std.specs.Option.{option_map};
