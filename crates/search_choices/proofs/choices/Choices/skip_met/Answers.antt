@@ -1,4 +1,4 @@
-use Rattle.std.proofs.Common.{◌≡◌, ℕ, List, refl, sym, subst}
+use Rattle.std.proofs.Common.{◌≡◌, ℕ, List, length, refl, sym, subst, ap, arith}
 use Rattle.std.specs.Prelude.{slice_get}
 use Rattle.std.specs.List.{find}
 use Rattle.candidate_core.specs.PackageMatches.{AreMatchesAmong}
@@ -27,3 +27,8 @@ returns-clause-front c =
 
 pub returns-clause-matches : goal.returns-clause-matches
 returns-clause-matches c = subst (λ (p : SealedPool). AreMatchesAmong p.candidates c.is_front_met.new.matches) c.met.invariant.pool c.in_ok-is_front_met.ensures.matches
+
+pub met-smaller : goal.met-smaller
+met-smaller c =
+    let past = rw c.if-branch.true at c.in_ok-is_front_met.ensures.met in
+    omega (arith, past.0, ap length c.met.invariant.consistent.queue, c.met.self.queue.ok)
