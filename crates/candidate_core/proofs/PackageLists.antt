@@ -34,3 +34,9 @@ marked_word ss (y ∷ ws) zero w h e =
     ap (λ (c : Candidate). c ∷ map (candidate_among ss) ws)
     (ap (λ (z : PackageWord). candidate_among ss (set_mark z)) e ∙ marked_there (slice_get ss y.source) y.word y.installed)
 marked_word ss (y ∷ ws) (suc k) w h e = ap (λ (cs : List Candidate). candidate_among ss y ∷ cs) (marked_word ss ws k w (omega (arith, h)) e)
+
+pub get_mapped : {X Y : Type 0} (f : X → Y) (xs : List X) (k : ℕ) (x : X) → slice_get xs k ≡ Some x → slice_get (map f xs) k ≡ Some (f x)
+get_mapped f [] zero x h = absurd (cc)
+get_mapped f [] (suc k) x h = absurd (cc)
+get_mapped f (y ∷ xs) zero x h = let s : y ≡ x = cc in ap (λ z. Some (f z)) s
+get_mapped f (y ∷ xs) (suc k) x h = get_mapped f xs k x h
