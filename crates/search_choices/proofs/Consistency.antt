@@ -14,7 +14,7 @@ use Rattle.candidate_core.specs.Options.{IsIn, options_for}
 use Rattle.search_tables.specs.Selection.{AreMembers, names_by_install_if, depends_at, is_met, is_unmet, needs, positive_needs, next_need, raised_needs}
 use Rattle.search_tables.specs.Reasons.{FrameValue, IsFrameOf}
 use Rattle.search_tables.specs.InstallIf.{AreInstallIfs, AreUnasked}
-use Rattle.search_tables.specs.Queue.{AreMet, RaisedDepValue, is_unmet_dep, queue_of, raised_deps_at, raised_deps}
+use Rattle.search_tables.specs.Queue.{AreMet, RaisedDepValue, is_unmet_dep, queue_of, raised_deps_at, raised_deps, raised_from}
 use Rattle.search_tables.specs.Conflicts.{AreConflictsOf, HasDepends, ListedValue, conflicts_among, conflicts_in, conflicts_named}
 use Rattle.search_tables.specs.Excluders.{AreListed}
 use Rattle.search_tables.specs.NameTable.{items_of}
@@ -190,9 +190,12 @@ get_none (x ∷ xs) (suc i) h = let r = get_none xs i h in omega arith
 abbrev pub need_in : RaisedDepValue → Need
 need_in r = entry r.0
 
-map_raised : (by : Option ℕ) (ds : List Dependency) → map entry ds ≡ map need_in (map (λ (d : Dependency). (d, by)) ds)
-map_raised by [] = refl
-map_raised by (d ∷ ds) = ap (λ (z : List Need). entry d ∷ z) (map_raised by ds)
+map_raised : (by : Option ℕ) (n : ℕ) (ds : List Dependency) → positive_needs ds ≡ map need_in (raised_from by n ds)
+map_raised by n [] = refl
+map_raised by n (d ∷ ds) = elim (bool_cases d.conflict) [
+  | inl t ↦ rw t (map_raised by (suc n) ds)
+  | inr t ↦ rw t (ap (λ (z : List Need). entry d ∷ z) (map_raised by (suc n) ds))
+]
 
 map_append : (f : RaisedDepValue → Need) (xs ys : List RaisedDepValue) → map f (xs ++ ys) ≡ map f xs ++ map f ys
 map_append f [] ys = refl
@@ -202,13 +205,13 @@ flat_raised : (pool : SealedPool) (t : List ℕ) → flat_map (λ c. positive_ne
 flat_raised pool [] = refl
 flat_raised pool (c ∷ t) =
     ap (λ (z : List Need). positive_needs (depends_at pool c) ++ z) (flat_raised pool t)
-    ∙ (ap (λ (z : List Need). z ++ map need_in (flat_map (raised_deps_at pool) t)) (map_raised (Some c) (filter (λ (d : Dependency). not d.conflict) (depends_at pool c)))
+    ∙ (ap (λ (z : List Need). z ++ map need_in (flat_map (raised_deps_at pool) t)) (map_raised (Some c) 0 (depends_at pool c))
     ∙ sym (map_append need_in (raised_deps_at pool c) (flat_map (raised_deps_at pool) t)))
 
 pub raised_queue : (pool : SealedPool) (t : List ℕ) → raised_needs pool t ≡ map need_in (queue_of pool t)
 raised_queue pool t =
     ap (λ (z : List Need). positive_needs pool.world ++ z) (flat_raised pool t)
-    ∙ (ap (λ (z : List Need). z ++ map need_in (flat_map (raised_deps_at pool) t)) (map_raised None (filter (λ (d : Dependency). not d.conflict) pool.world))
+    ∙ (ap (λ (z : List Need). z ++ map need_in (flat_map (raised_deps_at pool) t)) (map_raised None 0 pool.world)
     ∙ sym (map_append need_in (raised_deps None pool.world) (flat_map (raised_deps_at pool) t)))
 
 find_map : (p : Need → Bool) (xs : List RaisedDepValue) (o : Option RaisedDepValue) → find (λ r. p (need_in r)) xs ≡ o → MatchOption o (find p (map need_in xs) ≡ None) (λ r. find p (map need_in xs) ≡ Some (need_in r))
@@ -230,20 +233,50 @@ flat_in f q (x ∷ xs) h = elim (in_append q (f x) (flat_map f xs) h) [
   | inr b ↦ let r = flat_in f q xs b in (r.0, inr r.1, r.2)
 ]
 
-raised_in : (by : Option ℕ) (deps : List Dependency) (r : RaisedDepValue) → IsIn r (raised_deps by deps) → (r.1 ≡ by) × IsIn (entry r.0) (positive_needs deps)
-raised_in by deps r h =
-    let m = map_in (λ (d : Dependency). (d, by)) r (filter (λ (d : Dependency). not d.conflict) deps) h in
-    (ap (λ (z : RaisedDepValue). z.1) m.2, subst (λ (z : RaisedDepValue). IsIn (entry z.0) (positive_needs deps)) (sym m.2) (in_map entry m.0 (filter (λ (d : Dependency). not d.conflict) deps) m.1))
+raised_in : (by : Option ℕ) (n : ℕ) (deps : List Dependency) (r : RaisedDepValue) → IsIn r (raised_from by n deps) → (r.1 ≡ by) × IsIn (entry r.0) (positive_needs deps)
+raised_in by n [] r h = absurd h
+raised_in by n (d ∷ ds) r h = elim (bool_cases d.conflict) [
+  | inl t ↦ let k = raised_in by (suc n) ds r (rw t at h) in (k.0, rw t k.1)
+  | inr t ↦ elim (rw t at h) [
+    | inl e ↦ (ap (λ (z : RaisedDepValue). z.1) e, rw t (inl (ap (λ (z : RaisedDepValue). entry z.0) e)))
+    | inr g ↦ let k = raised_in by (suc n) ds r g in (k.0, rw t (inr k.1))
+  ]
+]
+
+-- what is raised stands at its index
+raised_at : (by : Option ℕ) (n : ℕ) (deps : List Dependency) (r : RaisedDepValue) → IsIn r (raised_from by n deps) → (k : ℕ) × (r.2 ≡ n + k) × (slice_get deps k ≡ Some r.0)
+raised_at by n [] r h = absurd h
+raised_at by n (d ∷ ds) r h = elim (bool_cases d.conflict) [
+  | inl t ↦ let g = raised_at by (suc n) ds r (rw t at h) in let e : r.2 ≡ n + suc g.0 = omega (arith, g.1) in (suc g.0, e, g.2)
+  | inr t ↦ elim (rw t at h) [
+    | inl same ↦ let e : r.2 ≡ n + 0 = ap (λ (z : RaisedDepValue). z.2) same ∙ omega arith in (0, e, ap (λ (z : RaisedDepValue). Some z.0) (sym same))
+    | inr there ↦ let g = raised_at by (suc n) ds r there in let e : r.2 ≡ n + suc g.0 = omega (arith, g.1) in (suc g.0, e, g.2)
+  ]
+]
+
+-- what a choice raises is the dependency that it has at that index
+pub raised_of_choice : (pool : SealedPool) (t : List ℕ) (r : RaisedDepValue) (c : ℕ) → IsIn r (queue_of pool t) → r.1 ≡ Some c → slice_get (depends_at pool c) r.2 ≡ Some r.0
+raised_of_choice pool t r c h by = elim (in_append r (raised_deps None pool.world) (flat_map (raised_deps_at pool) t) h) [
+  | inl a ↦ let k = raised_in None 0 pool.world r a in let bad : ◌≡◌ {A = Option ℕ} None (Some c) = sym k.0 ∙ by in absurd (cc)
+  | inr b ↦
+      let f = flat_in (raised_deps_at pool) r t b in
+      let k = raised_in (Some f.0) 0 (depends_at pool f.0) r f.2 in
+      let both : ◌≡◌ {A = Option ℕ} (Some f.0) (Some c) = sym k.0 ∙ by in
+      let same : f.0 ≡ c = cc in
+      let g = raised_at (Some f.0) 0 (depends_at pool f.0) r f.2 in
+      let at : g.0 ≡ r.2 = omega (arith, g.1) in
+      subst (λ (z : ℕ). slice_get (depends_at pool z) r.2 ≡ Some r.0) same (subst (λ (n : ℕ). slice_get (depends_at pool f.0) n ≡ Some r.0) at g.2)
+]
 
 in_needs : (pool : SealedPool) (t : List ℕ) (r : RaisedDepValue) → IsIn r (queue_of pool t) → AreMembers (option_to_list r.1) t × IsIn (entry r.0) (needs pool (option_to_list r.1))
 in_needs pool t r h = elim (in_append r (raised_deps None pool.world) (flat_map (raised_deps_at pool) t) h) [
   | inl a ↦
-      let k = raised_in None pool.world r a in
+      let k = raised_in None 0 pool.world r a in
       subst (λ (o : Option ℕ). AreMembers (option_to_list o) t × IsIn (entry r.0) (needs pool (option_to_list o))) (sym k.0)
       ((λ c g. absurd g), in_left (entry r.0) (raised_needs pool []) (map named (names_by_install_if pool [])) (in_left (entry r.0) (positive_needs pool.world) [] k.1))
   | inr b ↦
       let f = flat_in (raised_deps_at pool) r t b in
-      let k = raised_in (Some f.0) (depends_at pool f.0) r f.2 in
+      let k = raised_in (Some f.0) 0 (depends_at pool f.0) r f.2 in
       subst (λ (o : Option ℕ). AreMembers (option_to_list o) t × IsIn (entry r.0) (needs pool (option_to_list o))) (sym k.0) (
         (λ c g. elim g [ inl e ↦ subst (λ (z : ℕ). IsIn z t) (sym e) f.1 | inr bad ↦ absurd bad ]),
         in_left (entry r.0) (raised_needs pool (f.0 ∷ [])) (map named (names_by_install_if pool (f.0 ∷ []))) (in_right (entry r.0) (positive_needs pool.world) (positive_needs (depends_at pool f.0) ++ []) (in_left (entry r.0) (positive_needs (depends_at pool f.0)) [] k.1)),

@@ -8,10 +8,11 @@ ghost use Rattle.dep_core.specs.Meets.{dependency};
 ghost use Rattle.candidate_core.specs.Candidates.{Candidate, entry};
 ghost use Rattle.candidate_core.specs.Candidates.{offers_name};
 ghost use Rattle.candidate_core.specs.Options.{IsIn, options_for};
+ghost use Rattle.candidate_core.specs.PackageMatches.{AreMatchesAmong};
 ghost use Rattle.search_tables.specs.InstallIf.{AreUnasked, IsLeastAsking, IsNoneAsking, rank_asks};
 ghost use Rattle.search_tables.specs.NameTable.{items_of};
 ghost use Rattle.search_tables.specs.Queue.{AreMet, is_unmet_dep, queue_of};
-ghost use Rattle.search_tables.specs.Selection.{next_need};
+ghost use Rattle.search_tables.specs.Selection.{depends_at, is_met, next_need};
 ghost use Rattle.search_tables.specs.Reasons.{IsFrameOf};
 ghost use Rattle.search_choices.specs.Choices.{IsConsistent, choices_of, install_ifs_of, pool_of};
 ghost use Rattle.search_tables.specs.Conflicts.{AreConflictsOf};
@@ -21,9 +22,9 @@ mod excluders;
 
 use crate::trace::Trace;
 use dep_core::World;
-use pool_core::{CandId, Deps, Details, NeedRef, Sealed};
+use pool_core::{CandId, Deps, Details, NeedRef, PackageDep, PackageMatches, Sealed};
 use search_tables::{
-    CandidateSet, Checkpoint, Conflicts, Frame, InstallIfs, RaisedDep, asks_for_name,
+    CandidateSet, Checkpoint, Conflicts, Frame, InstallIfs, RaisedDep, asks_for_name, is_held_met,
     is_met_by_latest_or_other, queue_all, queue_world, raisers,
 };
 use std::alloc::{AllocError, Global};
@@ -144,9 +145,13 @@ impl<'p> Choices<'p> {
     }
 
     /// The frame of the first need that no choice meets; none where each need is met. The call
-    /// moves the cursors alone.
-    pub fn next_frame(&mut self) -> Result<Option<Frame>, AllocError>
-        requires { IsConsistent self.old }
+    /// moves the cursors alone. What is learnt of long versions is kept.
+    pub fn next_frame(
+        &mut self,
+        matches: &mut PackageMatches<'_>,
+    ) -> Result<Option<Frame>, AllocError>
+        requires consistent { IsConsistent self.old }
+        requires matches { AreMatchesAmong (pool_of self.old).candidates matches.old }
         ensures consistent { IsConsistent self.new }
         ensures pool { pool_of self.new ≡ pool_of self.old }
         ensures choices { choices_of self.new ≡ choices_of self.old }
@@ -156,8 +161,9 @@ impl<'p> Choices<'p> {
         ensures frame { IfOk result (λ found. MatchOption found (next_need (pool_of self.old)
             (choices_of self.old) ≡ None) (λ frame. IsFrameOf (pool_of self.old)
             (choices_of self.old) frame)) }
+        ensures matches { OnOk result (AreMatchesAmong (pool_of self.old).candidates matches.new) }
     {
-        self.skip_met();
+        self.skip_met(matches)?;
         match self.front() {
             Some(raised) => {
                 let frame = frame_of(self.alloc, self.pool, raised)?;
@@ -172,34 +178,68 @@ impl<'p> Choices<'p> {
 
     // Moves the cursor of the queue to the first raised dependency that no choice meets, or to the
     // end.
-    fn skip_met(&mut self)
-        requires { IsConsistent self.old }
+    fn skip_met(&mut self, matches: &mut PackageMatches<'_>) -> Result<(), AllocError>
+        requires consistent { IsConsistent self.old }
+        requires matches { AreMatchesAmong (pool_of self.old).candidates matches.old }
         ensures consistent { IsConsistent self.new }
         ensures pool { pool_of self.new ≡ pool_of self.old }
         ensures choices { choices_of self.new ≡ choices_of self.old }
-        ensures front { slice_get self.new.queue.items self.new.cursor
+        ensures front { OnOk result (slice_get self.new.queue.items self.new.cursor
             ≡ find (is_unmet_dep (pool_of self.old) (choices_of self.old)) (queue_of
-            (pool_of self.old) (choices_of self.old)) }
+            (pool_of self.old) (choices_of self.old))) }
+        ensures matches { OnOk result (AreMatchesAmong (pool_of self.old).candidates matches.new) }
     {
-        while self.is_front_met() {
+        'met: while self.is_front_met(matches)? {
             self.cursor += 1;
         }
+        Ok(())
     }
 
     // Whether the queue has a dependency at the cursor, and a choice meets that.
-    fn is_front_met(&self) -> bool
-        requires { IsConsistent self.now }
-        ensures { MatchBool result (AreMet (pool_of self.now) (choices_of self.now)
-            (self.now.cursor + 1)) (slice_get self.now.queue.items self.now.cursor
+    fn is_front_met(&self, matches: &mut PackageMatches<'_>) -> Result<bool, AllocError>
+        requires consistent { IsConsistent self.now }
+        requires matches { AreMatchesAmong (pool_of self.now).candidates matches.old }
+        ensures met { IfOk result (λ met. MatchBool met (AreMet (pool_of self.now)
+            (choices_of self.now) (self.now.cursor + 1))
+            (slice_get self.now.queue.items self.now.cursor
             ≡ find (is_unmet_dep (pool_of self.now) (choices_of self.now)) (queue_of
-            (pool_of self.now) (choices_of self.now))) }
+            (pool_of self.now) (choices_of self.now)))) }
+        ensures matches { OnOk result (AreMatchesAmong (pool_of self.now).candidates matches.new) }
     {
         match self.front() {
-            Some(raised) => {
-                let need = NeedRef::Entry(raised.dep());
-                is_met_by_latest_or_other(self.pool, &self.choices, &need)
+            Some(raised) => self.is_raised_met(raised, matches),
+            None => Ok(false),
+        }
+    }
+
+    // Whether a choice meets a raised dependency. A long version is compared once with each of those
+    // that choices have, but for one that an entry of world names.
+    fn is_raised_met(
+        &self,
+        raised: &RaisedDep<'p>,
+        matches: &mut PackageMatches<'_>,
+    ) -> Result<bool, AllocError>
+        requires raised { (c : ℕ) → raised.now.1 ≡ Some c →
+            slice_get (depends_at (pool_of self.now) c) raised.now.2 ≡ Some raised.now.0 }
+        requires matches { AreMatchesAmong (pool_of self.now).candidates matches.old }
+        ensures met { IfOk result (λ met. met
+            ≡ is_met (pool_of self.now) (choices_of self.now) (entry raised.now.0)) }
+        ensures matches { OnOk result (AreMatchesAmong (pool_of self.now).candidates matches.new) }
+    {
+        let dep = raised.dep();
+        match raised.by() {
+            None => {
+                let need = NeedRef::Entry(dep);
+                Ok(is_met_by_latest_or_other(self.pool, &self.choices, &need))
             }
-            None => false,
+            Some(choice) => {
+                let held = PackageDep {
+                    dep,
+                    package: choice.place as usize,
+                    index: raised.index(),
+                };
+                is_held_met(self.pool, &self.choices, &held, matches)
+            }
         }
     }
 

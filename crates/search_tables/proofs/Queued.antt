@@ -6,7 +6,7 @@ use Rattle.dep_core.specs.Dependency.{Dependency}
 use Rattle.candidate_core.specs.Candidates.{entry}
 use Rattle.candidate_core.specs.Rank.{SealedPool, meets_at}
 use Rattle.search_tables.specs.Selection.{is_met}
-use Rattle.search_tables.specs.Queue.{AreMet, RaisedDepValue, is_unmet_dep, queue_of, raised_deps_at, raised_deps}
+use Rattle.search_tables.specs.Queue.{AreMet, RaisedDepValue, is_unmet_dep, queue_of, raised_deps_at, raised_deps, raised_from}
 use Rattle.search_tables.proofs.PoolFacts.{bool_cases}
 
 pub any_map : {X Y : Type 0} (p : Y → Bool) (f : X → Y) (xs : List X) → list_any p (map f xs) ≡ list_any (λ x. p (f x)) xs
@@ -25,20 +25,33 @@ pub mapped : {X Y : Type 0} (f : X → Y) (xs ys : List X) → map f (xs ++ ys) 
 mapped f [] ys = refl
 mapped {X} {Y} f (x ∷ xs) ys = ap (λ (z : List Y). f x ∷ z) (mapped f xs ys)
 
-wants : Dependency → Bool
-wants d = not d.conflict
+raised_append : (by : Option ℕ) (n : ℕ) (xs ys : List Dependency) → raised_from by n (xs ++ ys) ≡ raised_from by n xs ++ raised_from by (n + length xs) ys
+raised_append by n [] ys =
+    let e : n ≡ n + 0 = omega arith in
+    ap (λ (k : ℕ). raised_from by k ys) e
+raised_append by n (x ∷ xs) ys =
+    let e : suc n + length xs ≡ n + suc (length xs) = omega arith in
+    let rest : raised_from by (suc n) (xs ++ ys) ≡ raised_from by (suc n) xs ++ raised_from by (n + suc (length xs)) ys =
+    raised_append by (suc n) xs ys ∙ ap (λ (k : ℕ). raised_from by (suc n) xs ++ raised_from by k ys) e in
+    elim (bool_cases x.conflict) [
+      | inl t ↦ rw t rest
+      | inr t ↦ rw t (ap (λ (z : List RaisedDepValue). (x, by, n) ∷ z) rest)
+    ]
 
-pub raised_needs-append : (by : Option ℕ) (xs ys : List Dependency) → raised_deps by (xs ++ ys) ≡ raised_deps by xs ++ raised_deps by ys
-raised_needs-append by xs ys =
-    ap (map (λ (d : Dependency). (d, by))) (filtered (λ (d : Dependency). not d.conflict) xs ys)
-    ∙ mapped (λ (d : Dependency). (d, by)) (filter (λ (d : Dependency). not d.conflict) xs) (filter (λ (d : Dependency). not d.conflict) ys)
+pub front_length : {X : Type 0} (xs : List X) (i : ℕ) → i ≤ length xs → i ≡ 0 + length (take i xs)
+front_length [] zero h = refl
+front_length [] (suc i) h = absurd (omega (arith, h))
+front_length (x ∷ xs) zero h = refl
+front_length (x ∷ xs) (suc i) h = let r = front_length xs i (omega (arith, h)) in omega (arith, r)
 
 -- a queue with one more dependency, in a loop over some
-pub queued_more : (by : Option ℕ) (start before after : List RaisedDepValue) (done more : List Dependency) (d : Dependency) → before ≡ start ++ raised_deps by done → after ≡ before ++ raised_deps by (d ∷ []) → more ≡ done ++ d ∷ [] → after ≡ start ++ raised_deps by more
-queued_more by start before after done more d was is e =
-    is ∙ (ap (λ (z : List RaisedDepValue). z ++ raised_deps by (d ∷ [])) was
-    ∙ (append_assoc start (raised_deps by done) (raised_deps by (d ∷ []))
-    ∙ ap (λ (z : List RaisedDepValue). start ++ z) (sym (raised_needs-append by done (d ∷ [])) ∙ ap (raised_deps by) (sym e))))
+pub queued_more : (by : Option ℕ) (start before after : List RaisedDepValue) (done more : List Dependency) (d : Dependency) (i : ℕ) → i ≡ 0 + length done → before ≡ start ++ raised_deps by done → after ≡ before ++ raised_from by i (d ∷ []) → more ≡ done ++ d ∷ [] → after ≡ start ++ raised_deps by more
+queued_more by start before after done more d i at was is e =
+    is ∙ (ap (λ (z : List RaisedDepValue). z ++ raised_from by i (d ∷ [])) was
+    ∙ (append_assoc start (raised_deps by done) (raised_from by i (d ∷ []))
+    ∙ ap (λ (z : List RaisedDepValue). start ++ z)
+    (ap (λ (k : ℕ). raised_deps by done ++ raised_from by k (d ∷ [])) at
+    ∙ (sym (raised_append by 0 done (d ∷ [])) ∙ ap (raised_deps by) (sym e)))))
 
 pub flat_more : {X : Type 0} (f : ℕ → List X) (t : List ℕ) (c : ℕ) → flat_map f (t ++ c ∷ []) ≡ flat_map f t ++ f c
 flat_more f [] c = append-nil (f c)

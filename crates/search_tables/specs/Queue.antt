@@ -2,22 +2,28 @@
 -- The rule stands in `docs/selection.md`, "Which selection is taken": first the entries of world,
 -- then the dependencies of each choice in the order chosen. Serves the contracts of `src/queue.rt`
 -- and `src/choices.rt` of `search_choices`.
-use Rattle.std.specs.Prelude.{◌≡◌, ◌≤◌, ℕ, Bool, not, List, ◌++◌, length, map, take, Option, Some, None}
-use Rattle.std.specs.List.{filter, find, flat_map}
+use Rattle.std.specs.Prelude.{◌≡◌, ◌≤◌, ℕ, suc, Bool, if◌then◌else◌, List, [], ◌∷◌, ◌++◌, length, take, Option, Some, None}
+use Rattle.std.specs.List.{find, flat_map}
 use Rattle.dep_core.specs.Dependency.{Dependency}
 use Rattle.candidate_core.specs.Candidates.{entry}
 use Rattle.candidate_core.specs.Rank.{SealedPool}
 use Rattle.search_tables.specs.Selection.{depends_at, is_unmet}
 
--- a dependency, and the choice that has it; one of world's has none
+-- a dependency, the choice that has it, and its index among those of the choice; one of world's has
+-- no choice, and its index among the entries of world
 abbrev pub RaisedDepValue : Type 0
-RaisedDepValue = Dependency × Option ℕ
+RaisedDepValue = Dependency × Option ℕ × ℕ
 
 -- the dependencies of a list that are no conflicts, each with the choice that raised it, or with
--- none for world
+-- none for world, and with its index, where the first of the list has the index `n`
+abbrev pub raised_from : Option ℕ → ℕ → List Dependency → List RaisedDepValue
+raised_from by n [] = []
+raised_from by n (d ∷ ds) =
+    if d.conflict then raised_from by (suc n) ds else (d, by, n) ∷ raised_from by (suc n) ds
+
+-- the same, where the first has the index 0
 abbrev pub raised_deps : Option ℕ → List Dependency → List RaisedDepValue
-raised_deps by deps = map (λ (d : Dependency). (d, by)) (filter (λ
-    (d : Dependency). not d.conflict) deps)
+raised_deps by deps = raised_from by 0 deps
 
 -- what the choice at a place raises
 abbrev pub raised_deps_at : SealedPool → ℕ → List RaisedDepValue

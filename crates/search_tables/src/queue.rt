@@ -3,20 +3,24 @@
 //! then the dependencies of each choice in the order chosen; conflicts are no needs.
 ghost use Rattle.std.specs.Prelude.{◌≡◌, ◌∷◌, ◌++◌, [], OnOk, None, Some};
 ghost use Rattle.dep_core.specs.Meets.{dependency};
-ghost use Rattle.search_tables.specs.Queue.{raised_deps};
+ghost use Rattle.search_tables.specs.Queue.{raised_deps, raised_from};
 
 use dep_core::{Dep, World};
 use pool_core::{CandId, Deps};
 use std::alloc::AllocError;
 use std::marker::Model;
 
-/// A dependency that has to be met, and the choice that has it, if it is none of world's.
+/// A dependency that has to be met, the choice that has it, if it is none of world's, and where that
+/// has it.
 #[derive(Drop)]
 pub struct RaisedDep<'p> {
     /// The dependency, which is no conflict.
     dep: Dep<'p>,
     /// The choice that has the dependency; none for an entry of world.
     by: Option<CandId>,
+    /// The index of the dependency among those of the choice, or among the entries of world, counted
+    /// from 0.
+    index: usize,
 }
 
 impl<'p> Model for RaisedDep<'p> {
@@ -25,7 +29,7 @@ impl<'p> Model for RaisedDep<'p> {
 
     ghost Value = { RaisedDepValue };
 
-    ghost view = { λ r. (dependency r.dep, r.by) };
+    ghost view = { λ r. (dependency r.dep, r.by, r.index) };
 }
 
 impl<'p> RaisedDep<'p> {
@@ -41,6 +45,14 @@ impl<'p> RaisedDep<'p> {
         ensures { result ≡ self.now.1 }
     {
         self.by
+    }
+
+    /// The index of the dependency among those of the choice, or among the entries of world, counted
+    /// from 0.
+    pub fn index(&self) -> usize
+        ensures { result ≡ self.now.2 }
+    {
+        self.index
     }
 }
 
@@ -61,7 +73,7 @@ pub fn queue_world<'p>(queue: &mut Vec<RaisedDep<'p>>, world: &'p World) -> Resu
         ++ raised_deps None world.entry.now) }
 {
     for i in 0..world.len() {
-        queue_one(queue, world.entry(i), None)?;
+        queue_one(queue, world.entry(i), None, i)?;
     }
     Ok(())
 }
@@ -76,23 +88,24 @@ pub fn queue_all<'p>(
         ++ raised_deps (Some by) deps.now) }
 {
     for i in 0..deps.len() {
-        queue_one(queue, deps.get(i), Some(by))?;
+        queue_one(queue, deps.get(i), Some(by), i)?;
     }
     Ok(())
 }
 
 // Puts a dependency behind the others of the queue, unless it is a conflict; `by` is the choice
-// that has it.
+// that has it, at an index.
 fn queue_one<'p>(
     queue: &mut Vec<RaisedDep<'p>>,
     dep: Dep<'p>,
     by: Option<CandId>,
+    index: usize,
 ) -> Result<(), AllocError>
     ensures { OnOk result (queue.new.items ≡ queue.old.items
-        ++ raised_deps by (dependency dep.entry ∷ [])) }
+        ++ raised_from by index (dependency dep.entry ∷ [])) }
 {
     if !dep.conflict {
-        queue.push(RaisedDep { dep, by })?;
+        queue.push(RaisedDep { dep, by, index })?;
     }
     Ok(())
 }

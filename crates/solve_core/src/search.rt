@@ -68,7 +68,7 @@ pub(crate) struct Search<'p> {
     hints: Vec<Option<Hint>>,
     /// The members of the reason of the latest dead end; the set is used again for the next one.
     reason: CandidateSet,
-    /// What is known of the long versions that conflicts name.
+    /// What is known of the long versions that dependencies of candidates name.
     matches: PackageMatches<'p>,
 }
 
@@ -100,11 +100,13 @@ impl<'p> Search<'p> {
 
     /// The frame of the first need that no choice meets; none where each need is met.
     pub(crate) fn next_frame(&mut self) -> Result<Option<Frame>, AllocError>
-        requires { IsSearch self.old.chosen self.old.turns.items }
+        requires search { IsSearch self.old.chosen self.old.turns.items }
+        requires matches { AreMatchesAmong (pool_of self.old.chosen).candidates self.old.matches }
         ensures search { IsSearch self.new.chosen self.new.turns.items }
         ensures pool { pool_of self.new.chosen ≡ pool_of self.old.chosen }
         ensures turns { self.new.turns.items ≡ self.old.turns.items }
-        ensures matches { self.new.matches ≡ self.old.matches }
+        ensures matches { OnOk result
+            (AreMatchesAmong (pool_of self.old.chosen).candidates self.new.matches) }
         // The options that are left are fewer than a digit of the measure counts (*base* of
         // `Measure`).
         ensures few { IfOk result (λ found. IfSome found (λ frame. length frame.1 < 2 ^ 64)) }
@@ -113,7 +115,7 @@ impl<'p> Search<'p> {
             ≡ None) (λ frame. IsFrameOf (pool_of self.new.chosen)
             (choices_of self.new.chosen) frame)) }
     {
-        let found = self.chosen.next_frame()?;
+        let found = self.chosen.next_frame(&mut self.matches)?;
         Ok(found)
     }
 

@@ -5,7 +5,7 @@ use Rattle.dep_core.specs.Dependency.{Dependency}
 use Rattle.dep_core.specs.Meets.{dependency}
 use Rattle.candidate_core.proofs.Steps.{take_one_more}
 use Rattle.search_tables.specs.Queue.{raised_deps}
-use Rattle.search_tables.proofs.Queued.{queued_more}
+use Rattle.search_tables.proofs.Queued.{front_length, queued_more}
 use Rattle.search_tables.proofs.queue.queue_all.Goals as goal
 
 pub loop-i-init : goal.loop-i-init
@@ -13,7 +13,7 @@ loop-i-init c = sym (append-nil c.args.queue.now.items)
 
 pub loop-i-preserved : goal.loop-i-preserved
 loop-i-preserved c =
-    queued_more (Some c.args.by) c.args.queue.now.items c.loop-i.queue.items c.queue_one.new.queue.items _ _ (dependency c.get.result) c.loop-i.invariant c.in_ok-queue_one.ensures
+    queued_more (Some c.args.by) c.args.queue.now.items c.loop-i.queue.items c.queue_one.new.queue.items _ _ (dependency c.get.result) c.loop-i.i (front_length c.args.deps.now c.loop-i.i (omega arith)) c.loop-i.invariant c.in_ok-queue_one.ensures
     (take_one_more c.args.deps.now c.loop-i.i (dependency c.get.result) c.get.ensures)
 
 pub returns : goal.returns

@@ -68,8 +68,7 @@ loop-top-smaller c =
 pub loop-top-init : goal.loop-top-init
 loop-top-init c = record {
   pool = refl;
-  matches = subst (λ (p : SealedPool). AreMatchesAmong p.candidates c.next_frame.new.self.matches) (sym c.next_frame.ensures.pool)
-      (subst (λ (m : PackageMatches). AreMatchesAmong (pool_of c.args.search.now.chosen).candidates m) (sym c.next_frame.ensures.matches) c.requires.matches);
+  matches = subst (λ (p : SealedPool). AreMatchesAmong p.candidates c.next_frame.new.self.matches) (sym c.next_frame.ensures.pool) c.in_ok-frame.ensures.matches;
   search = c.next_frame.ensures.search;
   open_now = rw c.in-Some.is at c.in_ok-frame.ensures.frame;
 }
@@ -78,14 +77,17 @@ pub next_option-requires-clause-matches : goal.next_option-requires-clause-match
 next_option-requires-clause-matches c =
     subst (λ (p : SealedPool). AreMatchesAmong p.candidates c.loop-top.search.matches) (sym c.loop-top.invariant.pool) c.loop-top.invariant.matches
 
+pub next_frame-in-Some-2-requires-clause-matches : goal.next_frame-in-Some-2-requires-clause-matches
+next_frame-in-Some-2-requires-clause-matches c =
+    subst (λ (m : PackageMatches). AreMatchesAmong (pool_of c.choose.new.self.chosen).candidates m) (sym c.choose.ensures.matches)
+    (subst (λ (p : SealedPool). AreMatchesAmong p.candidates c.next_option.new.self.matches) (sym (c.choose.ensures.pool ∙ ap pool_of c.next_option.ensures.chosen)) c.in_ok-id.ensures.matches)
+
 pub loop-top-preserved-in-Some-2 : goal.loop-top-preserved-in-Some-2
 loop-top-preserved-in-Some-2 c =
-    let same : c.next_frame-in-Some-2.new.self.matches ≡ c.next_option.new.self.matches = c.next_frame-in-Some-2.ensures.matches ∙ c.choose.ensures.matches in
-    let initial : SealedPool = pool_of c.next_frame.new.self.chosen in
     record {
       pool = c.next_frame-in-Some-2.ensures.pool ∙ (c.choose.ensures.pool ∙ (ap pool_of c.next_option.ensures.chosen ∙ c.loop-top.invariant.pool));
-      matches = subst (λ (m : PackageMatches). AreMatchesAmong initial.candidates m) (sym same)
-          (subst (λ (p : SealedPool). AreMatchesAmong p.candidates c.next_option.new.self.matches) c.loop-top.invariant.pool c.in_ok-id.ensures.matches);
+      matches = subst (λ (p : SealedPool). AreMatchesAmong p.candidates c.next_frame-in-Some-2.new.self.matches)
+          (c.choose.ensures.pool ∙ (ap pool_of c.next_option.ensures.chosen ∙ c.loop-top.invariant.pool)) c.in_ok-frame-in-Some-2.ensures.matches;
       search = c.next_frame-in-Some-2.ensures.search;
       open_now = rw c.in-Some-3.is at c.in_ok-frame-in-Some-2.ensures.frame;
     }

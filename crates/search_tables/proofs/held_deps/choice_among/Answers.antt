@@ -5,7 +5,7 @@ use Rattle.candidate_core.specs.Candidates.{entry}
 use Rattle.candidate_core.specs.Options.{IsIn}
 use Rattle.candidate_core.specs.Rank.{meets_at}
 use Rattle.search_tables.proofs.Offered.{in_more}
-use Rattle.search_tables.proofs.met_conflicts.choice_among.Goals as goal
+use Rattle.search_tables.proofs.held_deps.choice_among.Goals as goal
 
 pub loop-id-init : goal.loop-id-init
 loop-id-init c = record {

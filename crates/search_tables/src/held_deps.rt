@@ -1,6 +1,8 @@
-//! Which choice meets a conflict of a further candidate.
-//! The rules stand in `docs/selection.md`: "What satisfies world", 2 (no conflict of a selected
-//! package is met by another one), and "What there is to choose from" (what meets a dependency).
+//! Which choice meets a dependency of a candidate: a conflict of a further one, or what a choice
+//! raised.
+//! The rules stand in `docs/selection.md`: "What satisfies world", 1 (dependencies are met) and 2 (no
+//! conflict of a selected package is met by another one), and "What there is to choose from" (what
+//! meets a dependency).
 //! That long versions are compared once saves time alone.
 ghost use Rattle.std.specs.Prelude.{◌≡◌, ℕ, false, true, IfOk, MatchBool, MatchOption, OnOk};
 ghost use Rattle.dep_core.specs.Meets.{dependency};
@@ -11,7 +13,7 @@ ghost use Rattle.candidate_core.specs.Rank.{meets_at};
 ghost use Rattle.search_tables.specs.Selection.{is_met};
 
 use crate::candidate_set::CandidateSet;
-use crate::needs::choice_meeting;
+use crate::needs::{choice_meeting, is_met_by_latest_or_other};
 use candidate_core::is_long;
 use pool_core::{CandId, NeedRef, PackageDep, PackageMatches, Sealed};
 use std::alloc::AllocError;
@@ -45,6 +47,32 @@ pub fn choice_meeting_held(
         return choice_among(pool, choices, choices.as_slice(), held, matches);
     }
     choice_among(pool, choices, offers, held, matches)
+}
+
+/// Whether a choice meets a dependency of a candidate. Where the dependency names no long version, the
+/// latest choice is tried first. What is learnt of long versions is kept.
+///
+/// # Errors
+///
+/// Want of memory.
+pub fn is_held_met(
+    pool: &Sealed<'_>,
+    choices: &CandidateSet,
+    held: &PackageDep<'_>,
+    matches: &mut PackageMatches<'_>,
+) -> Result<bool, AllocError>
+    requires held { IsDepOf pool.now.candidates held.now }
+    requires matches { AreMatchesAmong pool.now.candidates matches.old }
+    ensures met { IfOk result (λ met. met
+        ≡ is_met pool.now choices.now (entry (dependency held.now.dep.now))) }
+    ensures matches { OnOk result (AreMatchesAmong pool.now.candidates matches.new) }
+{
+    if !is_long(&held.dep.version) {
+        let need = NeedRef::Entry(held.dep);
+        return Ok(is_met_by_latest_or_other(pool, choices, &need));
+    }
+    let found = choice_meeting_held(pool, choices, held, matches)?;
+    Ok(found.is_some())
 }
 
 // A choice among some candidates that meets a dependency of a candidate.

@@ -7,7 +7,7 @@ use Rattle.candidate_core.specs.Packages.{candidates_of_packages}
 use Rattle.candidate_core.proofs.NamedVersions.{matches_among, own_matches, told_at}
 use Rattle.candidate_core.proofs.Steps.{on_ok}
 use Rattle.candidate_core.proofs.WantedVersions.{if_ok_map}
-use Rattle.search_tables.proofs.met_conflicts.is_met_by.Goals as goal
+use Rattle.search_tables.proofs.held_deps.is_met_by.Goals as goal
 
 pub meets-requires-clause-within : goal.meets-requires-clause-within
 meets-requires-clause-within c =

@@ -5,7 +5,7 @@ use Rattle.candidate_core.specs.Options.{IsIn}
 use Rattle.candidate_core.proofs.WantedVersions.{if_ok_map}
 use Rattle.search_tables.proofs.Excluders.{match_none}
 use Rattle.search_tables.proofs.Offered.{unmet_among_all, unmet_among_offers}
-use Rattle.search_tables.proofs.met_conflicts.choice_meeting_held.Goals as goal
+use Rattle.search_tables.proofs.held_deps.choice_meeting_held.Goals as goal
 
 pub returns-then-as_slice-offers-clause-found : goal.returns-then-as_slice-offers-clause-found
 returns-then-as_slice-offers-clause-found c =

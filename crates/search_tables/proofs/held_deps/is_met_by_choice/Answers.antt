@@ -5,7 +5,7 @@ use Rattle.candidate_core.specs.Candidates.{entry}
 use Rattle.candidate_core.specs.Options.{IsIn}
 use Rattle.candidate_core.specs.Rank.{meets_at}
 use Rattle.candidate_core.proofs.WantedVersions.{if_ok_map}
-use Rattle.search_tables.proofs.met_conflicts.is_met_by_choice.Goals as goal
+use Rattle.search_tables.proofs.held_deps.is_met_by_choice.Goals as goal
 
 told : (P : Type 0) (b m : Bool) → P → b ≡ m → MatchBool b (P × (m ≡ true)) (P → m ≡ false)
 told P true m there is = (there, sym is)

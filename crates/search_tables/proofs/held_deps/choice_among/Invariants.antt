@@ -5,7 +5,7 @@ use Rattle.candidate_core.specs.Candidates.{entry}
 use Rattle.candidate_core.specs.Options.{IsIn}
 use Rattle.candidate_core.specs.PackageMatches.{AreMatchesAmong}
 use Rattle.candidate_core.specs.Rank.{meets_at}
-use Rattle.search_tables.proofs.met_conflicts.choice_among.Given as goal
+use Rattle.search_tables.proofs.held_deps.choice_among.Given as goal
 
 abbrev pub invariant-loop-id : goal.invariant-loop-id
 invariant-loop-id l = record {
