@@ -15,7 +15,7 @@ use Rattle.root_names.specs.RootNames.{database_name, text_database_name}
 use Rattle.v2_core.specs.Payload.{payload_of_text}
 use Rattle.v2_core.specs.declared.read.V2Fault.{V2Fault}
 use Rattle.v2_core.specs.declared.read.V2Fault.TheVariants.{Bad, Memory, TooLarge}
-use Rattle.refusal_laws.specs.InfoFaults.{IsAllInstalled, IsFaultOfDatabase, IsFaultOfInfo, IsFaultOfOperand}
+use Rattle.refusal_laws.specs.InfoFaults.{AreOperandsFound, IsFaultOfDatabase, IsFaultOfInfo, IsFaultOfOperand}
 use Rattle.refusal_laws.proofs.InputFaults.{cause_err, text_remembers}
 use Rattle.refusal_laws.proofs.InfoOperands.{operand_late, operand_refused, operands_told}
 use Rattle.refusal_laws.proofs.Lists.{and_then_err, and_then_ok}
@@ -63,7 +63,7 @@ module _ (command : CommandLine) (read : Reads) where
       let is = operand_late command found.0.packages done refusal found.2 late in
       (is.0, record { database = found.0; is_database = found.1; first = is.1 })
 
-  pub info_tells : (done : InfoDone) → info_told command read ≡ Ok done → done.late ≡ None → IsAllInstalled command read
+  pub info_tells : (done : InfoDone) → info_told command read ≡ Ok done → done.late ≡ None → AreOperandsFound command read
   info_tells done e late =
       let found = and_then_ok (database_for command read) (λ database. info_of command database.packages) done e in
       record { database = found.0; is_database = found.1; installed = operands_told command found.0.packages done found.2 late }

@@ -1,5 +1,5 @@
 -- Which operand of `info` is refused.
-use Rattle.std.proofs.Common.{◌≡◌, inl, inr, ◌∙◌, ℕ, Bool, true, false, List, [], ◌∷◌, ◌++◌, Option, Some, None, Result, Ok, Err, refl, ap, sym, subst, true≢false}
+use Rattle.std.proofs.Common.{◌≡◌, ◌⊎◌, inl, inr, ◌∙◌, ℕ, Bool, true, false, List, [], ◌∷◌, ◌++◌, Option, Some, None, Result, Ok, Err, refl, ap, sym, subst, true≢false}
 use Rattle.std.specs.Prelude.{if◌then◌else◌, bytes_eq, is_some}
 use Rattle.std.proofs.lemmas.Slice.Eq.{bytes_eq-Decides}
 use Rattle.adb_fields.specs.FirstPair.{IsIn}
@@ -17,7 +17,7 @@ use Rattle.installed_info.specs.Packages.{package_asked, package_named, path_own
 use Rattle.installed_info.specs.declared.telling.InfoDone.{InfoDone}
 use Rattle.installed_info.specs.declared.telling.Form.{Form}
 use Rattle.installed_info.specs.declared.telling.Form.TheVariants.{Contents, Depends, Description, Installed, Owner}
-use Rattle.refusal_laws.specs.InfoFaults.{AreInstalled, IsAskedFor, IsFirstNotInstalled, IsInstalled}
+use Rattle.refusal_laws.specs.InfoFaults.{AreFoundInstalled, IsAskedFor, IsFirstNotInstalled, IsFoundInstalled}
 use Rattle.refusal_laws.proofs.Lists.{any_in, found_in, in_any, none_found}
 
 -- ---- whether what a text asks for is installed
@@ -94,10 +94,10 @@ module _ (command : CommandLine) (packages : List Plain) where
   abbrev form : Form
   form = form_of command.flags
 
-  is_there : (text : List ℕ) → is_some (package_asked form packages text) ≡ true → IsInstalled command packages text
+  is_there : (text : List ℕ) → is_some (package_asked form packages text) ≡ true → IsFoundInstalled command packages text
   is_there text e = there command.flags.who_owns command.flags.installed command.flags.contents command.flags.depends packages text e
 
-  is_not_there : (text : List ℕ) → is_some (package_asked form packages text) ≡ false → ¬ IsInstalled command packages text
+  is_not_there : (text : List ℕ) → is_some (package_asked form packages text) ≡ false → ¬ IsFoundInstalled command packages text
   is_not_there text e = not_there command.flags.who_owns command.flags.installed command.flags.contents command.flags.depends packages text e
 
   -- ---- operands
@@ -107,19 +107,19 @@ module _ (command : CommandLine) (packages : List Plain) where
     pub operand : Operand
     pub after : List Operand
     pub are : operands ≡ before ++ operand ∷ after
-    pub installed : AreInstalled command packages before
-    pub missing : ¬ IsInstalled command packages operand.text
+    pub installed : AreFoundInstalled command packages before
+    pub missing : ¬ IsFoundInstalled command packages operand.text
     pub told : refusal ≡ NotInstalled operand.place
 
-  one_more : (o : Operand) (operands : List Operand) → IsInstalled command packages o.text → AreInstalled command packages operands → AreInstalled command packages (o ∷ operands)
-  one_more o operands is more p (inl same) = subst (λ (x : Operand). IsInstalled command packages x.text) (sym same) is
+  one_more : (o : Operand) (operands : List Operand) → IsFoundInstalled command packages o.text → AreFoundInstalled command packages operands → AreFoundInstalled command packages (o ∷ operands)
+  one_more o operands is more p (inl same) = subst (λ (x : Operand). IsFoundInstalled command packages x.text) (sym same) is
   one_more o operands is more p (inr inside) = more p inside
 
   first : (operands : List Operand) (refusal : Refusal) → info_refusal form packages operands ≡ Some refusal → IsFirst operands refusal
   first [] refusal e = absurd (cc (e))
   first (o ∷ operands) refusal e = by_test (is_some (package_asked form packages o.text)) refl e (first operands refusal)
     where
-      behind : IsInstalled command packages o.text → IsFirst operands refusal → IsFirst (o ∷ operands) refusal
+      behind : IsFoundInstalled command packages o.text → IsFirst operands refusal → IsFirst (o ∷ operands) refusal
       behind is f = record {
         before = o ∷ f.before;
         operand = f.operand;
@@ -143,12 +143,12 @@ module _ (command : CommandLine) (packages : List Plain) where
         told = (let same : refusal ≡ NotInstalled o.place = cc in same);
       }
 
-  all : (operands : List Operand) → info_refusal form packages operands ≡ None → AreInstalled command packages operands
+  all : (operands : List Operand) → info_refusal form packages operands ≡ None → AreFoundInstalled command packages operands
   all [] e = λ p inside. absurd inside
   all (o ∷ operands) e = by_test (is_some (package_asked form packages o.text)) refl e (all operands)
     where
       by_test : (t : Bool) → is_some (package_asked form packages o.text) ≡ t → (if t then info_refusal form packages operands else Some (NotInstalled o.place)) ≡ None
-          → (info_refusal form packages operands ≡ None → AreInstalled command packages operands) → AreInstalled command packages (o ∷ operands)
+          → (info_refusal form packages operands ≡ None → AreFoundInstalled command packages operands) → AreFoundInstalled command packages (o ∷ operands)
       by_test true t e more = one_more o operands (is_there o.text t) (more e)
       by_test false t e more = absurd (cc (e))
 
@@ -219,11 +219,11 @@ module _ (command : CommandLine) (packages : List Plain) where
   unfolding info_of
   operand_late done refusal e late = late_by done.late refusal (form_ok form refl command.operands refl done e) late
 
-  all_by : (late : Option Refusal) → IsLate form late → late ≡ None → AreInstalled command packages command.operands
+  all_by : (late : Option Refusal) → IsLate form late → late ≡ None → AreFoundInstalled command packages command.operands
   all_by late (inl is) e = all command.operands (is.1 ∙ e)
   all_by late (inr (none, inl is)) e = all command.operands is
-  all_by late (inr (none, inr is)) e = subst (AreInstalled command packages) (sym is) (λ p inside. absurd inside)
+  all_by late (inr (none, inr is)) e = subst (AreFoundInstalled command packages) (sym is) (λ p inside. absurd inside)
 
-  pub operands_told : (done : InfoDone) → info_of command packages ≡ Ok done → done.late ≡ None → AreInstalled command packages command.operands
+  pub operands_told : (done : InfoDone) → info_of command packages ≡ Ok done → done.late ≡ None → AreFoundInstalled command packages command.operands
   unfolding info_of
   operands_told done e late = all_by done.late (form_ok form refl command.operands refl done e) late

@@ -259,7 +259,7 @@ module _ (command : CommandLine) (read : Reads) where
             (let less : is.is_read.place < f.place = (let number = is.is_read.is_number in omega (arith, h, number)) in
             let none = f.before is.is_read.place is.file less (found_at earlier is.is_read.place (Some is.file) is.is_read refl) in
             let both : Some cause ≡ None = sym is.fault ∙ none in cc) in
-        subst IsSo (sym f.told) (has_leave f.place f.first f.stands, (there, before))
+        subst IsSo (sym f.told) (has_leave f.place f.first f.stands, there, before)
 
     indexes_told : (refusal : Refusal) → indexes_of read root.repositories ≡ Err refusal → IsSo refusal
     indexes_told refusal e =

@@ -34,14 +34,14 @@ IsAskedFor true path pkg = IsIn (without_slash path) (paths_in pkg)
 IsAskedFor false name pkg = package_name pkg ≡ name
 
 -- what a text asks for is installed
-abbrev pub IsInstalled : CommandLine → List Plain → List ℕ → Type 0
-IsInstalled command packages text =
+abbrev pub IsFoundInstalled : CommandLine → List Plain → List ℕ → Type 0
+IsFoundInstalled command packages text =
     (pkg : Plain) × IsIn pkg packages × IsAskedFor command.flags.who_owns text pkg
 
 -- what each of some operands asks for is installed
-abbrev pub AreInstalled : CommandLine → List Plain → List Operand → Type 0
-AreInstalled command packages operands =
-    (o : Operand) → IsIn o operands → IsInstalled command packages o.text
+abbrev pub AreFoundInstalled : CommandLine → List Plain → List Operand → Type 0
+AreFoundInstalled command packages operands =
+    (o : Operand) → IsIn o operands → IsFoundInstalled command packages o.text
 
 -- a refusal tells the place of the first operand that asks for what is not installed
 pub record IsFirstNotInstalled (command : CommandLine) (packages : List Plain)
@@ -50,8 +50,8 @@ pub record IsFirstNotInstalled (command : CommandLine) (packages : List Plain)
   pub operand : Operand
   pub after : List Operand
   pub are : command.operands ≡ before ++ operand ∷ after
-  pub installed : AreInstalled command packages before
-  pub missing : ¬ IsInstalled command packages operand.text
+  pub installed : AreFoundInstalled command packages before
+  pub missing : ¬ IsFoundInstalled command packages operand.text
   pub told : refusal ≡ NotInstalled operand.place
 
 -- ---- a refusal
@@ -68,7 +68,7 @@ IsFaultOfInfo command read refusal =
     IsFaultOfDatabase command read refusal ⊎ IsFaultOfOperand command read refusal
 
 -- what each operand asks for is installed, by the packages of the database
-pub record IsAllInstalled (command : CommandLine) (read : Reads) : Type 0 where
+pub record AreOperandsFound (command : CommandLine) (read : Reads) : Type 0 where
   pub database : Database
   pub is_database : database_for command read ≡ Ok database
-  pub installed : AreInstalled command database.packages command.operands
+  pub installed : AreFoundInstalled command database.packages command.operands

@@ -26,7 +26,7 @@ ghost use Rattle.report_core.specs.declared.refusal.Refusal.{Refusal};
 ghost use Rattle.refusal_laws.specs.ChangeFaults.{IsFaultOfChange, IsFaultOfPackage};
 ghost use Rattle.refusal_laws.specs.CommandFaults.{IsFaultOfCommand};
 ghost use Rattle.refusal_laws.specs.FirstPackage.{IsFirstRefused};
-ghost use Rattle.refusal_laws.specs.InfoFaults.{IsAllInstalled, IsFaultOfInfo, IsFaultOfOperand};
+ghost use Rattle.refusal_laws.specs.InfoFaults.{AreOperandsFound, IsFaultOfInfo, IsFaultOfOperand};
 ghost use Rattle.refusal_laws.specs.InputFaults.{IsFaultOfInput};
 ghost use Rattle.refusal_laws.specs.MadeTooLarge.{IsPackageTooLarge};
 ghost use Rattle.refusal_laws.specs.OperandsKnown.{HasPassedBeforeSelection};
@@ -63,7 +63,7 @@ pub fn a_refused_info_has_its_fault()
         → (command.flags.installed ≡ true) × IsFaultOfOperand command read refusal }
     // No refusal.
     ensures told { (command : CommandLine) (read : Reads) (done : InfoDone)
-        → info_told command read ≡ Ok done → done.late ≡ None → IsAllInstalled command read }
+        → info_told command read ≡ Ok done → done.late ≡ None → AreOperandsFound command read }
 {}
 
 /// Where a change is refused, what the refusal says is so: of a package that comes or goes, or of

@@ -25,7 +25,7 @@ use Rattle.dep_core.specs.Repositories.{Repository}
 use Rattle.make_info.specs.Reads.{Reads}
 use Rattle.report_core.specs.declared.refusal.Refusal.{Refusal}
 use Rattle.report_core.specs.declared.refusal.Refusal.TheVariants.{IndexBad, TooMany}
-use Rattle.world_laws.specs.CommandPool.{AreCandidates, IsCandidateFor, IsInstalledAlone, IsOfIndex, IsOffered, IsSameAsInstalled}
+use Rattle.world_laws.specs.CommandPool.{AreCandidates, IsCandidateFor, IsInstalledAlone, IsOfIndex, IsIndexed, IsSameAsInstalled}
 use Rattle.world_laws.proofs.InstalledCounted.{IsCounted, IsCountedFor, all_back, all_there, in_any, in_append, in_left, in_right, installed_there}
 use Rattle.world_laws.proofs.ReadWorlds.{and_then_ok}
 
@@ -173,7 +173,7 @@ module _ (read : Reads) where
           place = f.place;
           repository = f.repository;
           info = f.info;
-          offered = record { listed = f.listed; file = f.file; is_index = f.is_index; has = f.has };
+          indexed = record { listed = f.listed; file = f.file; is_index = f.is_index; has = f.has };
           is = named ∙ ap (λ t. candidate_of f.info (Some (1 + f.place)) f.repository.tag t) (sym (ap (λ (x : Candidate). x.installed) named));
           counts = (λ on. (is.1.0, is.1.1, ap (is_same_package (installed_candidate is.1.0)) is.0 ∙ is.1.2), λ same. ap (λ (x : Candidate). x.installed) named);
         }
@@ -184,14 +184,14 @@ module _ (read : Reads) where
           place = f.place;
           repository = f.repository;
           info = f.info;
-          offered = record { listed = f.listed; file = f.file; is_index = f.is_index; has = f.has };
+          indexed = record { listed = f.listed; file = f.file; is_index = f.is_index; has = f.has };
           is = named ∙ ap (λ t. candidate_of f.info (Some (1 + f.place)) f.repository.tag t) (sym off);
           counts = (λ on. absurd (true≢false (sym on ∙ off)), λ same. absurd (true≢false (sym same.2 ∙ (ap (is_same_package (installed_candidate same.0)) is.0 ∙ is.1 same.0 same.1))));
         }
 
     -- an installed package is the same as none that no index has
     none_else : (pkg : Plain) → list_any (is_same_package (installed_candidate pkg)) offers ≡ false → (other : Candidate) → IsIn other (candidates_of inputs) → is_same_package (installed_candidate pkg) other ≡ false
-    none_else pkg none other here = by (is_same_package (installed_candidate pkg) other) refl (all_back packages offers other here)
+    none_else pkg alone other here = by (is_same_package (installed_candidate pkg) other) refl (all_back packages offers other here)
       where
         still : (was : Candidate) → IsIn was offers → IsCounted packages was other → is_same_package (installed_candidate pkg) other ≡ true → is_same_package (installed_candidate pkg) was ≡ true
         still was at (inl is) e = sym (ap (is_same_package (installed_candidate pkg)) is.0) ∙ e
@@ -200,8 +200,8 @@ module _ (read : Reads) where
         by : (t : Bool) → is_same_package (installed_candidate pkg) other ≡ t
             → ((was : Candidate) × IsIn was offers × IsCounted packages was other) ⊎ ((p : Plain) × IsIn p packages × (other ≡ installed_candidate p) × (list_any (is_same_package (installed_candidate p)) offers ≡ false)) → t ≡ false
         by false e from = refl
-        by true e (inl from) = absurd (true≢false (sym (in_any (is_same_package (installed_candidate pkg)) offers from.0 from.1 (still from.0 from.1 from.2 e)) ∙ none))
-        by true e (inr alone) = absurd (true≢false (sym e ∙ ap (is_same_package (installed_candidate pkg)) alone.2))
+        by true e (inl from) = absurd (true≢false (sym (in_any (is_same_package (installed_candidate pkg)) offers from.0 from.1 (still from.0 from.1 from.2 e)) ∙ alone))
+        by true e (inr apart) = absurd (true≢false (sym e ∙ ap (is_same_package (installed_candidate pkg)) apart.2))
 
     each_is : (c : Candidate) → IsIn c (candidates_of inputs) → IsOfIndex inputs read c ⊎ IsInstalledAlone inputs (candidates_of inputs) c
     each_is c here = elim (all_back packages offers c here) [
@@ -222,9 +222,9 @@ module _ (read : Reads) where
         let e : c ≡ candidate_of info (Some (1 + place)) repository.tag false = is.0 ∙ named in
         e ∙ ap (λ t. candidate_of info (Some (1 + place)) repository.tag t) (sym (ap (λ (x : Candidate). x.installed) e))
 
-    of_indexes_is : (place : ℕ) (repository : Repository) (info : Plain) → IsOffered inputs read place repository info → (c : Candidate) × IsIn c (candidates_of inputs) × IsCandidateFor place repository info c
-    of_indexes_is place repository info offered =
-        let here = from_all first_index_read 1 inputs.root.repositories inputs.indexes are place repository info offered.file offered.listed offered.is_index offered.has in
+    of_indexes_is : (place : ℕ) (repository : Repository) (info : Plain) → IsIndexed inputs read place repository info → (c : Candidate) × IsIn c (candidates_of inputs) × IsCandidateFor place repository info c
+    of_indexes_is place repository info indexed =
+        let here = from_all first_index_read 1 inputs.root.repositories inputs.indexes are place repository info indexed.file indexed.listed indexed.is_index indexed.has in
         let there = all_there packages offers (candidate_of info (Some (1 + place)) repository.tag false) here in
         (there.0, there.1, candidate_for place repository info (candidate_of info (Some (1 + place)) repository.tag false) there.0 refl there.2)
 

@@ -22,24 +22,27 @@ use Rattle.world_laws.proofs.InstalledCounted as Lists
 
 at_in : (pool : SealedPool) (places : List ℕ) (place : ℕ) (c : Candidate) → IsIn place places → candidate_at pool place ≡ Some c → IsIn c (candidates_at pool places)
 at_in pool [] place c here e = absurd here
-at_in pool (p ∷ places) place c here e = by (candidate_at pool p) refl here
+at_in pool (p ∷ places) place c here e = by (candidate_at pool p) refl here (λ behind. at_in pool places place c behind e)
   where
-    by : (o : Option Candidate) → candidate_at pool p ≡ o → IsIn place (p ∷ places) → IsIn c (filter_map (candidate_at pool) (p ∷ places))
-    by None f (inl is) = let both : Some c ≡ None = sym e ∙ (ap (candidate_at pool) is ∙ f) in absurd (cc (both))
-    by None f (inr behind) = rw f (at_in pool places place c behind e)
-    by (Some d) f (inl is) = let both : Some c ≡ Some d = sym e ∙ (ap (candidate_at pool) is ∙ f) in let same : c ≡ d = cc in rw f (inl same)
-    by (Some d) f (inr behind) = rw f (inr (at_in pool places place c behind e))
+    by : (o : Option Candidate) → candidate_at pool p ≡ o → IsIn place (p ∷ places) → (IsIn place places → IsIn c (candidates_at pool places)) → IsIn c (filter_map (candidate_at pool) (p ∷ places))
+    by None f (inl is) more = let both : Some c ≡ None = sym e ∙ (ap (candidate_at pool) is ∙ f) in absurd (cc (both))
+    by None f (inr behind) more = rw f (more behind)
+    by (Some d) f (inl is) more = let both : Some c ≡ Some d = sym e ∙ (ap (candidate_at pool) is ∙ f) in let same : c ≡ d = cc in rw f (inl same)
+    by (Some d) f (inr behind) more = rw f (inr (more behind))
 
 in_at : (pool : SealedPool) (places : List ℕ) (c : Candidate) → IsIn c (candidates_at pool places) → (place : ℕ) × IsIn place places × (candidate_at pool place ≡ Some c)
 in_at pool [] c here = absurd here
-in_at pool (p ∷ places) c here = by (candidate_at pool p) refl
+in_at pool (p ∷ places) c here = by (candidate_at pool p) refl (λ behind. in_at pool places c behind)
   where
-    further : IsIn c (candidates_at pool places) → (place : ℕ) × IsIn place (p ∷ places) × (candidate_at pool place ≡ Some c)
-    further behind = let rest = in_at pool places c behind in (rest.0, inr rest.1, rest.2)
+    abbrev Found : List ℕ → Type 0
+    Found ps = (place : ℕ) × IsIn place ps × (candidate_at pool place ≡ Some c)
 
-    by : (o : Option Candidate) → candidate_at pool p ≡ o → (place : ℕ) × IsIn place (p ∷ places) × (candidate_at pool place ≡ Some c)
-    by None f = further (rw f at here)
-    by (Some d) f = elim (rw f at here) [ inl is ↦ (p, inl refl, f ∙ ap Some (sym is)) | inr behind ↦ further behind ]
+    further : Found places → Found (p ∷ places)
+    further rest = (rest.0, inr rest.1, rest.2)
+
+    by : (o : Option Candidate) → candidate_at pool p ≡ o → (IsIn c (candidates_at pool places) → Found places) → Found (p ∷ places)
+    by None f more = further (more (rw f at here))
+    by (Some d) f more = elim (rw f at here) [ inl is ↦ (p, inl refl, f ∙ ap Some (sym is)) | inr behind ↦ further (more behind) ]
 
 test_at : (pool : SealedPool) (test : Candidate → Bool) (place : ℕ) (c : Candidate) → candidate_at pool place ≡ Some c → is_at pool test place ≡ test c
 test_at pool test place c e = ap (λ o. option_map_or test o false) e
@@ -85,7 +88,7 @@ module _ (pool : SealedPool) (trace : List ℕ) (are : IsSatisfying pool trace) 
       sym (test_at pool (is_eligible pool.world) place.0 c place.2) ∙ are.eligible place.0 place.1
 
   not_barred : (c : Candidate) (d : Dependency) → IsIn c packages → IsIn d pool.world → d.conflict ≡ true → meets_dependency d c ≡ false
-  not_barred c d here entry on = by (meets_dependency d c) refl (is_barred_by pool.world c) refl
+  not_barred c d here among on = by (meets_dependency d c) refl (is_barred_by pool.world c) refl
     where
       by : (t : Bool) → meets_dependency d c ≡ t → (b : Bool) → is_barred_by pool.world c ≡ b → t ≡ false
       by false e b f = refl
@@ -94,7 +97,7 @@ module _ (pool : SealedPool) (trace : List ℕ) (are : IsSatisfying pool trace) 
           let bad : not true ≡ true = sym (ap not f) ∙ parts.1 in
           absurd (true≢false (sym bad))
       by true e false f =
-          absurd (true≢false (sym (Lists.in_any (λ (x : Dependency). x.conflict && meets_dependency x c) pool.world d entry (and_from d.conflict (meets_dependency d c) on e)) ∙ f))
+          absurd (true≢false (sym (Lists.in_any (λ (x : Dependency). x.conflict && meets_dependency x c) pool.world d among (and_from d.conflict (meets_dependency d c) on e)) ∙ f))
 
   other_same : (a b : ℕ) (c other : Candidate) → candidate_at pool a ≡ Some c → candidate_at pool b ≡ Some other → a ≡ b → other ≡ c
   other_same a b c other e f same = let both : Some other ≡ Some c = sym f ∙ (ap (candidate_at pool) (sym same) ∙ e) in cc

@@ -1,7 +1,7 @@
 -- What a command chooses from, in a reader's words: which candidates there are, under which world,
 -- and which names are upgraded. The rules stand in `docs/selection.md`, "What there is to choose
 -- from", and in `docs/commands.md`, "`upgrade` and `fix`".
-use Rattle.std.specs.Prelude.{◌≡◌, ◌⊎◌, ◌↔◌, ◌≤◌, ◌+◌, ℕ, suc, true, false, List, [], ◌∷◌, length, Some, Ok, slice_get}
+use Rattle.std.specs.Prelude.{◌≡◌, ◌⊎◌, ◌↔◌, ◌≤◌, ◌+◌, ℕ, true, List, [], ◌∷◌, length, Some, Ok, slice_get}
 use Rattle.adb_fields.specs.FirstPair.{IsIn}
 use Rattle.adb_fields.specs.Repeated.{entries_at}
 use Rattle.adb_schema.specs.Soundness.{payload_in, root_value}
@@ -23,7 +23,7 @@ use Rattle.make_info.specs.Reads.{Reads}
 -- ---- the candidates
 
 -- the repository at this place of the list, counted from 0, has this package in its index
-pub record IsOffered (inputs : Inputs) (read : Reads) (place : ℕ) (repository : Repository)
+pub record IsIndexed (inputs : Inputs) (read : Reads) (place : ℕ) (repository : Repository)
     (info : Plain) : Type 0 where
   pub listed : slice_get inputs.root.repositories place ≡ Some repository
   pub file : List ℕ
@@ -34,7 +34,7 @@ pub record IsOffered (inputs : Inputs) (read : Reads) (place : ℕ) (repository 
 -- numbered from 1
 abbrev pub IsCandidateFor : ℕ → Repository → Plain → Candidate → Type 0
 IsCandidateFor place repository info c =
-    c ≡ candidate_of info (Some (suc place)) repository.tag c.installed
+    c ≡ candidate_of info (Some (1 + place)) repository.tag c.installed
 
 -- some installed package is this candidate: name, text of the version and id are the same
 abbrev pub IsSameAsInstalled : Inputs → Candidate → Type 0
@@ -49,7 +49,7 @@ pub record IsOfIndex (inputs : Inputs) (read : Reads) (c : Candidate) : Type 0 w
   pub place : ℕ
   pub repository : Repository
   pub info : Plain
-  pub offered : IsOffered inputs read place repository info
+  pub indexed : IsIndexed inputs read place repository info
   pub is : IsCandidateFor place repository info c
   pub counts : (c.installed ≡ true) ↔ IsSameAsInstalled inputs c
 
@@ -68,7 +68,7 @@ pub record AreCandidates (inputs : Inputs) (read : Reads) (candidates : List Can
   pub each : (c : Candidate) → IsIn c candidates
       → IsOfIndex inputs read c ⊎ IsInstalledAlone inputs candidates c
   pub of_indexes : (place : ℕ) (repository : Repository) (info : Plain)
-      → IsOffered inputs read place repository info
+      → IsIndexed inputs read place repository info
       → (c : Candidate) × IsIn c candidates × IsCandidateFor place repository info c
   pub installed : (pkg : Plain) → IsIn pkg inputs.root.database.packages
       → (c : Candidate) × IsIn c candidates × (c.installed ≡ true)
