@@ -192,6 +192,7 @@ module _ (have : HaveOwnReads) (command : CommandLine) (inputs : Inputs) (old no
   packages_by (Err refusal) has = refl
 
   packages_are : packages_found command run.read selected ≡ packages_found command read (selected_for command read chosen)
+  unfolding selected
   packages_are = packages_by selected (selected_has command chosen inputs) ∙ ap (packages_found command read) (sym selected_is)
 
   clash_by : (s : Result Selected Refusal) → HasInputs inputs s → IsClashOfSelectedOver command run.read run.files run.standing s run.clash → IsClashOfSelectedOver command read run.files run.standing s run.clash
