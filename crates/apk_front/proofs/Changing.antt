@@ -178,12 +178,12 @@ pub record IsRunAt (command : CommandLine) (v : TreeState) (old now : History) (
   pub chosen : Option (List ℕ)
   pub clash : Option NamePair
   pub given : IsGiven command (reads_in (files_of v)) (files_of v) (given_by chosen clash)
-  pub comes : ComesTo (coming_in (selected_for command (reads_in (files_of v)) chosen)) (change_of_command command (reads_in (files_of v)) (files_of v) chosen clash) old now a b answer
+  pub comes : ComesTo (packages_found command (reads_in (files_of v)) (selected_for command (reads_in (files_of v)) chosen)) (change_of_command command (reads_in (files_of v)) (files_of v) chosen clash) old now a b answer
 
 abbrev RunFacts : CommandLine → History → History → Counts → Counts → Answered → Option (List ℕ) → Option NamePair → Reads → Files → Files → Type 0
 RunFacts command old now a b answer chosen clash read files standing =
     IsChoiceFrom (pool_for command read) chosen × IsClashForOver command read files standing chosen clash
-    × ComesTo (coming_in (selected_for command read chosen)) (change_of_command command read files chosen clash) old now a b answer
+    × ComesTo (packages_found command read (selected_for command read chosen)) (change_of_command command read files chosen clash) old now a b answer
 
 run_at : (command : CommandLine) → effect_of command.applet ≡ Changes → (v : TreeState) (rest now : History) (a b : Counts) (answer : Answered) → IsChangeRun command (v ∷ rest) now a b answer → IsRunAt command v (v ∷ rest) now a b answer
 run_at command changes v rest now a b answer run = record {
