@@ -386,6 +386,8 @@ module _ (history : List TreeState) (wishes : ChangeWishes) (p : Planned) (found
                 are = refl;
                 one = spoiled.one;
                 among = spoiled.among;
+                tested = spoiled.tested;
+                read = spoiled.read;
                 file = spoiled.file;
                 cause = cause;
                 spoiled = spoiled.spoiled;

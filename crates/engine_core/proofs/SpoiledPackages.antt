@@ -2,9 +2,6 @@
 use Rattle.std.proofs.Common.{◌≡◌, ℕ, zero, suc, List, [], ◌∷◌, Contains, Option, Some, arith, refl, sym, ap, subst, ◌∙◌}
 use Rattle.std.specs.Prelude.{slice_get, option_and_then}
 use Rattle.std.proofs.lemmas.Option.{same_Some}
-use Rattle.sha2.specs.Sha256.{sha256}
-use Rattle.adb_schema.specs.Soundness.{root_value}
-use Rattle.adb_tables.specs.declared.tables.Which.TheVariants as Tables
 use Rattle.adb_view.specs.Plain.{Plain}
 use Rattle.arrivals.specs.Arrivals.{AreMembersRead, IsMemberRead, IsPackageRead, package_in}
 use Rattle.arrivals.specs.declared.arrivals.MemberRead.{MemberRead}
@@ -12,12 +9,11 @@ use Rattle.arrivals.specs.declared.arrivals.MemberRead.TheVariants.{Comes, Stays
 use Rattle.base_core.specs.Tree.{TreeState}
 use Rattle.base_core.specs.declared.cause.Cause.{Cause}
 use Rattle.change_outcome.specs.MembersAfter.{MemberFound, coming_found, members_found}
-use Rattle.change_outcome.specs.PackageFiles.{ComingPackage, package_in_file}
-use Rattle.db_core.specs.Members.{Member, coming_member}
+use Rattle.change_outcome.specs.PackageFiles.{ComingPackage}
+use Rattle.db_core.specs.Members.{Member}
 use Rattle.package_test.specs.Tested.{IsTestedOf}
 use Rattle.package_test.specs.declared.package.TestedPackage.{TestedPackage}
 use Rattle.stage_files.specs.Spoiled.{IsSpoiledFile}
-use Rattle.engine_core.specs.ChangeRun.{IsSpoiledPackage}
 
 -- ---- what is found at a place
 
@@ -51,14 +47,16 @@ read_as history before (r ∷ reads) (x ∷ found) are zero pkg one here at =
     record { coming = coming; read = read; is = sym (same_Some x one at) ∙ is }
 read_as history before (r ∷ reads) (x ∷ found) are (suc place) pkg one here at = read_as history before reads found are.1 place pkg one here at
 
--- ---- another file has its values and its identity
+-- ---- another file has its values
 
 pub record IsFoundSpoiled (found : List MemberFound) (m : Member) (cause : Cause) : Type 0 where
   pub one : MemberFound
   pub among : Contains found one
   pub is : one.member ≡ m
+  pub tested : List ℕ
+  pub read : one.file ≡ Some tested
   pub file : List ℕ
-  pub spoiled : IsSpoiledPackage one file cause
+  pub spoiled : IsSpoiledFile tested file cause
 
 pub found_spoiled : (history : List TreeState) (before : List Plain) (reads : List MemberRead) (found : List MemberFound) (place : ℕ) (m : Member) (pkg : TestedPackage) (cause : Cause) → AreMembersRead history before reads found → slice_get (members_found found) place ≡ Some m
     → option_and_then package_in (slice_get reads place) ≡ Some pkg → ((name tested : List ℕ) → IsTestedOf name tested pkg → (file : List ℕ) × IsSpoiledFile tested file cause) → IsFoundSpoiled found m cause
@@ -66,19 +64,12 @@ found_spoiled history before reads found place m pkg cause are at here spoils =
     let (one, there, is) = found_at found place m at in
     let r = read_as history before reads found are place pkg one here there in
     let (file, spoiled) = spoils _ r.read.file r.read.tested in
-    let p = package_in_file file in
-    let value : p.value ≡ r.coming.value = ap (root_value Tables.Package) spoiled.values ∙ sym (ap (λ (x : ComingPackage). x.value) r.read.is) in
-    let id : p.id ≡ r.coming.id = ap sha256 spoiled.values ∙ sym (ap (λ (x : ComingPackage). x.id) r.read.is) in
     record {
       one = one;
       among = contains_at found place one there;
       is = is;
+      tested = r.read.file;
+      read = ap (λ (x : MemberFound). x.file) r.is ∙ ap (λ (x : ComingPackage). Some x.file) r.read.is;
       file = file;
-      spoiled = record {
-        same = (λ i. coming_member (value i) (id i)) ∙ sym (ap (λ (x : MemberFound). x.member) r.is);
-        wanted = spoiled.wanted;
-        found = spoiled.found;
-        digest = spoiled.digest;
-        fault = spoiled.fault;
-      };
+      spoiled = spoiled;
     }

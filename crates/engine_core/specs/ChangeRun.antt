@@ -7,15 +7,12 @@ use Rattle.base_core.specs.Faults.{Counts}
 use Rattle.base_core.specs.Files.{Files}
 use Rattle.base_core.specs.Tree.{TreeState, files_of}
 use Rattle.base_core.specs.declared.cause.Cause.{Cause}
-use Rattle.base_core.specs.declared.cause.Cause.TheVariants.{HashDiffers}
-use Rattle.base_core.specs.declared.cause.Digest.{Digest}
 use Rattle.change_inputs.specs.Answers.{AgreesUnlessDisk}
 use Rattle.change_inputs.specs.Chains.{and_then}
 use Rattle.change_inputs.specs.declared.root.Refused.{Refused}
 use Rattle.change_inputs.specs.declared.root.Refused.TheVariants.{Disk, Refusal as IsRefused}
 use Rattle.change_outcome.specs.ChangeOutcome.{ChangeDone}
-use Rattle.change_outcome.specs.MembersAfter.{MemberFound, coming_found}
-use Rattle.change_outcome.specs.PackageFiles.{package_in_file}
+use Rattle.change_outcome.specs.MembersAfter.{MemberFound}
 use Rattle.command_core.specs.Command.{CommandLine}
 use Rattle.db_core.specs.Members.{member_name}
 use Rattle.file_owners.specs.Replaces.{version_text}
@@ -24,9 +21,9 @@ use Rattle.journal_core.specs.Staged.{HasRoomToStage, IsEmptyStage}
 use Rattle.make_info.specs.Reads.{Reads}
 use Rattle.package_files.specs.Runs.{AreObserved}
 use Rattle.path_clashes.specs.Clash.{NamePair}
-use Rattle.pkg_core.specs.Whole.{package_fault}
 use Rattle.report_core.specs.declared.refusal.Refusal.{Refusal}
 use Rattle.report_core.specs.declared.refusal.Refusal.TheVariants.{PackageBad}
+use Rattle.stage_files.specs.Spoiled.{IsSpoiledFile}
 use Rattle.stage_run.specs.StageRun.{IsStageRun, IsStageRunDone}
 use Rattle.engine_core.specs.Changed.{IsClashForOver, change_of_command, packages_found, selected_for}
 use Rattle.engine_core.specs.Choice.{IsChoiceFrom}
@@ -47,25 +44,19 @@ abbrev pub DoesCommit : Result ChangeDone Refusal → Type 0
 DoesCommit (Ok done) = done.commits ≡ true
 DoesCommit (Err refusal) = ⊥
 
--- The file of a package that comes is spoiled: its package has the values and the identity of the
--- one that was found, but it is refused with this cause: a digest of contents differs.
-pub record IsSpoiledPackage (m : MemberFound) (file : List ℕ) (cause : Cause) : Type 0 where
-  pub same : (coming_found (package_in_file file)).member ≡ m.member
-  pub wanted : Digest
-  pub found : Digest
-  pub digest : cause ≡ HashDiffers wanted found
-  pub fault : package_fault file ≡ Some cause
-
--- one of the packages that are found is spoiled by some file, which this refusal tells
+-- One of the packages that reads found is spoiled: `tested` is what its read found, and the refusal
+-- tells this package as bad with the cause of some file that is spoiled beside it.
 pub record HasSpoiledPackage (packages : Result (List MemberFound) Refusal) (refusal : Refusal) :
     Type 0 where
   pub found : List MemberFound
   pub are : packages ≡ Ok found
   pub one : MemberFound
   pub among : Contains found one
+  pub tested : List ℕ
+  pub read : one.file ≡ Some tested
   pub file : List ℕ
   pub cause : Cause
-  pub spoiled : IsSpoiledPackage one file cause
+  pub spoiled : IsSpoiledFile tested file cause
   pub is : refusal ≡ PackageBad (member_name one.member) (version_text one.member.pkg) cause
 
 -- The file of a package that comes is not what it was when it was tested, as its contents are read

@@ -78,7 +78,7 @@ IsOutcomeOf (Ok command) files outcome =
 
 -- The file of a package that comes is read once more when a change is carried out. Where it is not
 -- what it was when it was tested, the change is refused: with the cause of some file that has the
--- values and the identity of the one that was found, and other contents.
+-- length and the values of the one that its read found, and other contents.
 pub record IsSpoiled (command : CommandLine) (read : Reads) (given : Given) (files : Files)
     (outcome : Outcome) : Type 0 where
   pub changes : effect_of command.applet ≡ Changes
