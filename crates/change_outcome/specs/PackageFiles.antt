@@ -61,8 +61,10 @@ package_file_of repositories c = by_number c.repository
 
 -- ---- what it has to be
 
--- a package that comes, as its file has it: its value, its identity, and the contents of its files
+-- a package that comes, as its file has it: the file's bytes, its value, its identity, and the
+-- contents of its files
 pub record ComingPackage : Type 0 where
+  pub file : List ℕ
   pub value : Plain
   pub id : List ℕ
   pub contents : List Contents
@@ -70,6 +72,7 @@ pub record ComingPackage : Type 0 where
 -- what a container says of its package
 abbrev pub package_in_file : List ℕ → ComingPackage
 package_in_file file = record {
+  file = file;
   value = root_value Tables.Package (payload_in file);
   id = package_id file;
   contents = contents_in (files_in_file file);
