@@ -207,11 +207,11 @@ module _ (read : Reads) where
     each_is c here = elim (all_back packages offers c here) [
       | inl from ↦ inl (of_one from.0 c (one_of from.0 from.1) from.2)
       | inr alone ↦ inr (record {
-          pkg = alone.0;
-          installed = alone.1;
-          is = alone.2;
-          alone = λ other at. ap (λ (x : Candidate). is_same_package x other) alone.2 ∙ none_else alone.0 alone.3 other at;
-        })
+        pkg = alone.0;
+        installed = alone.1;
+        is = alone.2;
+        alone = λ other at. ap (λ (x : Candidate). is_same_package x other) alone.2 ∙ none_else alone.0 alone.3 other at;
+      })
     ]
 
     candidate_for : (place : ℕ) (repository : Repository) (info : Plain) (was c : Candidate) → was ≡ candidate_of info (Some (1 + place)) repository.tag false → IsCounted packages was c → IsCandidateFor place repository info c

@@ -23,12 +23,12 @@ use Rattle.package_changes.specs.Placed.{candidates_at}
 use Rattle.report_core.specs.declared.refusal.Refusal.{Refusal}
 use Rattle.search_tables.specs.Selection.{IsFirstSelection}
 use Rattle.world_laws.specs.CommandPool.{IsCommandPool, IsToUpgrade}
-use Rattle.world_laws.specs.SatisfiedWorld.{IsAskedForBy, SatisfyWorld}
+use Rattle.world_laws.specs.SatisfiedWorld.{IsNeeded, SatisfyWorld}
 use Rattle.world_laws.proofs.CommandPools.{candidates_are, root_pool_is}
 use Rattle.world_laws.proofs.InstalledCounted.{any_in, in_any}
 use Rattle.world_laws.proofs.NextNeeds.{next}
 use Rattle.world_laws.proofs.ReadWorlds.{and_then_ok}
-use Rattle.world_laws.proofs.SatisfiedWorlds.{each_asked, satisfied}
+use Rattle.world_laws.proofs.SatisfiedWorlds.{needed, satisfied}
 
 -- ---- the names that are upgraded
 
@@ -65,9 +65,9 @@ upgrades Applets.Mkndx operands name = (λ e. absurd (cc (e)), λ none. absurd n
 upgrades Applets.Version operands name = (λ e. absurd (cc (e)), λ none. absurd none)
 upgrades Applets.Demo operands name = (λ e. absurd (cc (e)), λ none. absurd none)
 
-module _ (command : CommandLine) (read : Reads) where
-  -- ---- what a command chooses from
+-- ---- what a command chooses from
 
+module _ (command : CommandLine) (read : Reads) where
   pool_of : (inputs : Inputs) (pool : SealedPool) → inputs_of command read ≡ Ok inputs → pool_by command inputs ≡ Ok pool → IsCommandPool command read pool
   pool_of inputs pool found e =
       let upgraded = names_to_upgrade command.applet command.operands in
@@ -81,11 +81,12 @@ module _ (command : CommandLine) (read : Reads) where
         upgraded = upgrades command.applet command.operands;
       })
 
-  pub chooses_from : (pool : SealedPool) → pool_for command read ≡ Ok pool → IsCommandPool command read pool
-  chooses_from pool e = let inputs = and_then_ok (inputs_of command read) (pool_by command) pool e in pool_of inputs.0 pool inputs.1 inputs.2
+  pub pool_chosen : (pool : SealedPool) → pool_for command read ≡ Ok pool → IsCommandPool command read pool
+  pool_chosen pool e = let inputs = and_then_ok (inputs_of command read) (pool_by command) pool e in pool_of inputs.0 pool inputs.1 inputs.2
 
-  -- ---- what it selects
+-- ---- what it selects
 
+module _ (command : CommandLine) (read : Reads) where
   -- a first selection is what is selected
   record IsTaken (s : Selected) : Type 0 where
     pub pool : SealedPool
@@ -128,12 +129,12 @@ module _ (command : CommandLine) (read : Reads) where
       (subst (λ (w : List Dependency). SatisfyWorld (candidates_of s.inputs) w (candidates_at t.pool t.trace)) t.world
       (subst (λ (cs : List Candidate). SatisfyWorld cs t.pool.world (candidates_at t.pool t.trace)) t.candidates done))
 
-  pub asks_for : (chosen : Option (List ℕ)) (s : Selected) (c : Candidate) → IsChoiceFrom (pool_for command read) chosen → selected_for command read chosen ≡ Ok s → IsIn c s.replacement.selected
-      → IsAskedForBy (candidates_of s.inputs) s.inputs.root.new_world s.replacement.selected c
-  asks_for chosen s c choice e here =
+  pub each_needed : (chosen : Option (List ℕ)) (s : Selected) (c : Candidate) → IsChoiceFrom (pool_for command read) chosen → selected_for command read chosen ≡ Ok s → IsIn c s.replacement.selected
+      → IsNeeded (candidates_of s.inputs) s.inputs.root.new_world s.replacement.selected c
+  each_needed chosen s c choice e here =
       let t = taken chosen s choice e in
       let at : IsIn c (candidates_at t.pool t.trace) = subst (IsIn c) (sym t.selected) here in
-      let done : IsAskedForBy t.pool.candidates t.pool.world (candidates_at t.pool t.trace) c = each_asked t.pool t.trace t.first.satisfies (next t.pool) t.first.walked c at in
-      subst (λ (l : List Candidate). IsAskedForBy (candidates_of s.inputs) s.inputs.root.new_world l c) t.selected
-      (subst (λ (w : List Dependency). IsAskedForBy (candidates_of s.inputs) w (candidates_at t.pool t.trace) c) t.world
-      (subst (λ (cs : List Candidate). IsAskedForBy cs t.pool.world (candidates_at t.pool t.trace) c) t.candidates done))
+      let done : IsNeeded t.pool.candidates t.pool.world (candidates_at t.pool t.trace) c = needed t.pool t.trace t.first.satisfies (next t.pool) t.first.walked c at in
+      subst (λ (l : List Candidate). IsNeeded (candidates_of s.inputs) s.inputs.root.new_world l c) t.selected
+      (subst (λ (w : List Dependency). IsNeeded (candidates_of s.inputs) w (candidates_at t.pool t.trace) c) t.world
+      (subst (λ (cs : List Candidate). IsNeeded cs t.pool.world (candidates_at t.pool t.trace) c) t.candidates done))

@@ -1,4 +1,4 @@
--- The candidates that a first selection takes satisfy world, and each is asked for.
+-- The candidates that a first selection takes satisfy world, and each is needed.
 use Rattle.std.proofs.Common.{◌≡◌, ◌≢◌, ◌⊎◌, inl, inr, ℕ, zero, suc, Bool, true, false, true≢false, not, eqb, List, [], ◌∷◌, ◌++◌, map, Option, Some, None, refl, ap, sym, subst, ◌∙◌}
 use Rattle.std.specs.Prelude.{◌&&◌, slice_get}
 use Rattle.std.specs.Option.{option_map_or}
@@ -14,7 +14,7 @@ use Rattle.package_changes.specs.Placed.{candidates_at}
 use Rattle.search_tables.specs.Selection.{IsBestMember, IsFirstSelection, IsSatisfying, IsWalkFrom, conflicts_with, depends_at, install_if_applies, is_met, names_by_install_if, next_need, positive_needs}
 use Rattle.search_tables.proofs.PoolFacts.{any_in, in_filter, in_map}
 use Rattle.world_laws.specs.NextNeed.{IsAskedByInstallIf, IsFirstUnmet, IsMetByChoice, IsNextOrNone}
-use Rattle.world_laws.specs.SatisfiedWorld.{HasInstallIf, IsAskedForBy, IsMetByOne, MeetsOne, SatisfyWorld}
+use Rattle.world_laws.specs.SatisfiedWorld.{HasInstallIf, IsNeeded, IsMetByOne, MeetsOne, SatisfyWorld}
 use Rattle.world_laws.proofs.InstalledCounted.{in_append, in_left, in_right}
 use Rattle.world_laws.proofs.InstalledCounted as Lists
 
@@ -30,17 +30,18 @@ at_in pool (p ∷ places) place c here e = by (candidate_at pool p) refl here (�
     by (Some d) f (inl is) more = let both : Some c ≡ Some d = sym e ∙ (ap (candidate_at pool) is ∙ f) in let same : c ≡ d = cc in rw f (inl same)
     by (Some d) f (inr behind) more = rw f (inr (more behind))
 
-in_at : (pool : SealedPool) (places : List ℕ) (c : Candidate) → IsIn c (candidates_at pool places) → (place : ℕ) × IsIn place places × (candidate_at pool place ≡ Some c)
+-- a place of some leads to the candidate
+abbrev IsLedTo : SealedPool → Candidate → List ℕ → Type 0
+IsLedTo pool c places = (place : ℕ) × IsIn place places × (candidate_at pool place ≡ Some c)
+
+in_at : (pool : SealedPool) (places : List ℕ) (c : Candidate) → IsIn c (candidates_at pool places) → IsLedTo pool c places
 in_at pool [] c here = absurd here
 in_at pool (p ∷ places) c here = by (candidate_at pool p) refl (λ behind. in_at pool places c behind)
   where
-    abbrev Found : List ℕ → Type 0
-    Found ps = (place : ℕ) × IsIn place ps × (candidate_at pool place ≡ Some c)
-
-    further : Found places → Found (p ∷ places)
+    further : IsLedTo pool c places → IsLedTo pool c (p ∷ places)
     further rest = (rest.0, inr rest.1, rest.2)
 
-    by : (o : Option Candidate) → candidate_at pool p ≡ o → (IsIn c (candidates_at pool places) → Found places) → Found (p ∷ places)
+    by : (o : Option Candidate) → candidate_at pool p ≡ o → (IsIn c (candidates_at pool places) → IsLedTo pool c places) → IsLedTo pool c (p ∷ places)
     by None f more = further (more (rw f at here))
     by (Some d) f more = elim (rw f at here) [ inl is ↦ (p, inl refl, f ∙ ap Some (sym is)) | inr behind ↦ further (more behind) ]
 
@@ -156,7 +157,7 @@ module _ (pool : SealedPool) (trace : List ℕ) (are : IsSatisfying pool trace) 
     installs = installs;
   }
 
-  -- ---- each is asked for
+  -- ---- each is needed
 
   -- choices are among those of the whole trace
   abbrev AreOfTrace : List ℕ → Type 0
@@ -171,9 +172,9 @@ module _ (pool : SealedPool) (trace : List ℕ) (are : IsSatisfying pool trace) 
   unmet_in chosen deps d f = subst (IsIn d) (sym f.stands) (in_right d f.front (d ∷ f.behind) (inl refl))
 
   -- a choice for the next need behind some choices
-  asked_next : (chosen : List ℕ) (need : Need) (c : Candidate) → AreOfTrace chosen → IsNextOrNone pool chosen (Some need) → meets_need need c ≡ true → IsAskedForBy pool.candidates pool.world packages c
-  asked_next chosen (entry d) c of_trace (inl f) meets = inl (d, unmet_in chosen pool.world d f, f.positive, meets)
-  asked_next chosen (entry d) c of_trace (inr f) meets =
+  needed_next : (chosen : List ℕ) (need : Need) (c : Candidate) → AreOfTrace chosen → IsNextOrNone pool chosen (Some need) → meets_need need c ≡ true → IsNeeded pool.candidates pool.world packages c
+  needed_next chosen (entry d) c of_trace (inl f) meets = inl (d, unmet_in chosen pool.world d f, f.positive, meets)
+  needed_next chosen (entry d) c of_trace (inr f) meets =
       let choice_in : IsIn f.1.choice chosen = subst (IsIn f.1.choice) (sym f.1.stands) (in_right f.1.choice f.1.front (f.1.choice ∷ f.1.behind) (inl refl)) in
       inr (inl (by (candidate_at pool f.1.choice) refl choice_in (unmet_in chosen (depends_at pool f.1.choice) d f.1.first)))
     where
@@ -181,7 +182,7 @@ module _ (pool : SealedPool) (trace : List ℕ) (are : IsSatisfying pool trace) 
       by None e choice_in among = let none : depends_at pool f.1.choice ≡ [] = ap (λ o. option_map_or (λ (k : Candidate). k.depends) o []) e in absurd (subst (IsIn d) none among)
       by (Some other) e choice_in among =
           (other, at_in pool trace f.1.choice other (of_trace f.1.choice choice_in) e, (d, subst (IsIn d) (depends_of f.1.choice other e) among, f.1.first.positive, meets))
-  asked_next chosen (named name) c of_trace f meets =
+  needed_next chosen (named name) c of_trace f meets =
       let asked = f.2.asked in
       let is : HasInstallIf pool.candidates pool.world packages asked.candidate = record { is_candidate = asked.stands; usable = asked.usable; met = λ d here. met_of chosen d of_trace (asked.applies d here) } in
       inr (inr (asked.candidate, is, sym ((bytes_eq-Decides name c.name).0 meets) ∙ sym asked.is_named))
@@ -197,15 +198,15 @@ module _ (pool : SealedPool) (trace : List ℕ) (are : IsSatisfying pool trace) 
       | inr behind ↦ elim behind [ inl is ↦ subst (λ (x : ℕ). IsIn x trace) (sym is) here | inr none ↦ absurd none ]
     ]
 
-    asked_from : (chosen rest : List ℕ) → AreOfTrace chosen → IsWalkFrom pool trace chosen rest → (place : ℕ) (c : Candidate) → IsIn place rest → candidate_at pool place ≡ Some c → IsAskedForBy pool.candidates pool.world packages c
-    asked_from chosen [] of_trace walk place c here e = absurd here
-    asked_from chosen (p ∷ rest) of_trace walk place c (inl is) e =
+    needed_from : (chosen rest : List ℕ) → AreOfTrace chosen → IsWalkFrom pool trace chosen rest → (place : ℕ) (c : Candidate) → IsIn place rest → candidate_at pool place ≡ Some c → IsNeeded pool.candidates pool.world packages c
+    needed_from chosen [] of_trace walk place c here e = absurd here
+    needed_from chosen (p ∷ rest) of_trace walk place c (inl is) e =
         let best : IsBestMember pool trace walk.0 p = walk.2 in
         let at : candidate_at pool p ≡ Some c = ap (candidate_at pool) (sym is) ∙ e in
-        asked_next chosen walk.0 c of_trace (subst (IsNextOrNone pool chosen) walk.1 (next chosen)) (sym (test_at pool (meets_need walk.0) p c at) ∙ best.1)
-    asked_from chosen (p ∷ rest) of_trace walk place c (inr behind) e =
+        needed_next chosen walk.0 c of_trace (subst (IsNextOrNone pool chosen) walk.1 (next chosen)) (sym (test_at pool (meets_need walk.0) p c at) ∙ best.1)
+    needed_from chosen (p ∷ rest) of_trace walk place c (inr behind) e =
         let best : IsBestMember pool trace walk.0 p = walk.2 in
-        asked_from (chosen ++ p ∷ []) rest (more_of chosen p of_trace best.0) walk.3 place c behind e
+        needed_from (chosen ++ p ∷ []) rest (more_of chosen p of_trace best.0) walk.3 place c behind e
 
-    pub each_asked : IsWalkFrom pool trace [] trace → (c : Candidate) → IsIn c packages → IsAskedForBy pool.candidates pool.world packages c
-    each_asked walk c here = let place = in_at pool trace c here in asked_from [] trace (λ x none. absurd none) walk place.0 c place.1 place.2
+    pub needed : IsWalkFrom pool trace [] trace → (c : Candidate) → IsIn c packages → IsNeeded pool.candidates pool.world packages c
+    needed walk c here = let place = in_at pool trace c here in needed_from [] trace (λ x none. absurd none) walk place.0 c place.1 place.2

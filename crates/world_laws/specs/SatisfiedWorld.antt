@@ -1,5 +1,5 @@
 -- What holds of the packages that a command selects, in a reader's words: they satisfy world, and
--- each is asked for. The rules stand in `docs/selection.md`, "What satisfies world", 1 to 4, and
+-- each is needed. The rules stand in `docs/selection.md`, "What satisfies world", 1 to 4, and
 -- "Which selection is taken", the end of its second paragraph.
 use Rattle.std.specs.Prelude.{◌≡◌, ◌⊎◌, ℕ, true, false, List}
 use Rattle.adb_fields.specs.FirstPair.{IsIn}
@@ -45,18 +45,18 @@ pub record SatisfyWorld (candidates : List Candidate) (world : List Dependency)
   pub installs : (c : Candidate) → HasInstallIf candidates world packages c
       → (other : Candidate) × IsIn other packages × (other.name ≡ c.name)
 
--- ---- what is asked for
+-- ---- what is needed
 
 -- one of these dependencies, which is no conflict, is met by a package
 abbrev pub MeetsOne : List Dependency → Candidate → Type 0
 MeetsOne deps c =
     (d : Dependency) × IsIn d deps × (d.conflict ≡ false) × (meets_dependency d c ≡ true)
 
--- a package is asked for: by world, by what one of the packages depends on, or by an install-if
--- that applies
-abbrev pub IsAskedForBy :
+-- a package is needed: it meets an entry of world or what one of the packages depends on, or it has
+-- the name of a candidate whose install-if applies
+abbrev pub IsNeeded :
     List Candidate → List Dependency → List Candidate → Candidate → Type 0
-IsAskedForBy candidates world packages c =
+IsNeeded candidates world packages c =
     MeetsOne world c
     ⊎ (((other : Candidate) × IsIn other packages × MeetsOne other.depends c)
     ⊎ ((other : Candidate) × HasInstallIf candidates world packages other

@@ -35,7 +35,7 @@ ghost use Rattle.dep_core.specs.Dependency.{Dependency};
 ghost use Rattle.dep_core.specs.World.{IsWorld};
 ghost use Rattle.world_laws.specs.CommandPool.{IsCommandPool};
 ghost use Rattle.world_laws.specs.NewWorld.{HoldsWhatWasAsked, IsReadWorld};
-ghost use Rattle.world_laws.specs.SatisfiedWorld.{IsAskedForBy, SatisfyWorld};
+ghost use Rattle.world_laws.specs.SatisfiedWorld.{IsNeeded, SatisfyWorld};
 
 use change_laws::a_change_that_is_made_passes_each_test;
 use engine_core::a_choice_is_unique;
@@ -112,17 +112,17 @@ pub fn a_command_chooses_from_its_indexes_and_its_database()
         → pool_for command read ≡ Ok pool → IsCommandPool command read pool }
 {}
 
-/// The packages that a command selects satisfy the new world, and each of them is asked for: by
-/// world, by another one that depends on it, or by an install-if.
+/// The packages that a command selects satisfy the new world, and each of them is needed: by world,
+/// by one that depends on it, or by an install-if.
 pub fn the_selected_packages_satisfy_the_new_world()
     // They satisfy it.
     ensures satisfied { (command : CommandLine) (read : Reads) (chosen : Option (List ℕ))
         (s : Selected) → IsChoiceFrom (pool_for command read) chosen
         → selected_for command read chosen ≡ Ok s
         → SatisfyWorld (candidates_of s.inputs) s.inputs.root.new_world s.replacement.selected }
-    // Each is asked for.
-    ensures asked_for { (command : CommandLine) (read : Reads) (chosen : Option (List ℕ))
+    // Each is needed.
+    ensures needed { (command : CommandLine) (read : Reads) (chosen : Option (List ℕ))
         (s : Selected) (c : Candidate) → IsChoiceFrom (pool_for command read) chosen
         → selected_for command read chosen ≡ Ok s → IsIn c s.replacement.selected
-        → IsAskedForBy (candidates_of s.inputs) s.inputs.root.new_world s.replacement.selected c }
+        → IsNeeded (candidates_of s.inputs) s.inputs.root.new_world s.replacement.selected c }
 {}
