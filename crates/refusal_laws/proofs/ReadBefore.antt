@@ -20,8 +20,8 @@ use Rattle.root_names.specs.RootNames.{database_name, text_database_name, world_
 use Rattle.v2_core.specs.Payload.{payload_of_text}
 use Rattle.v2_core.specs.declared.read.V2Fault.{V2Fault}
 use Rattle.v2_core.specs.declared.read.V2Fault.TheVariants.{Bad, Memory, TooLarge}
-use Rattle.refusal_laws.specs.InputFaults.{IsIndexBad, IsIndexRead, repositories_found}
-use Rattle.refusal_laws.specs.ReadBefore.{ArePassedBefore, HasBoth, HasDatabase, HasIndexes, HasIndexesBefore, HasLeave, HasReadBefore, HasRepositories}
+use Rattle.refusal_laws.specs.InputFaults.{IsIndexRead, repositories_found}
+use Rattle.refusal_laws.specs.ReadBefore.{ArePassedBefore, HasBoth, HasDatabase, HasIndexes, HasIndexesBefore, HasLeave, HasReadBefore}
 use Rattle.refusal_laws.proofs.InputFaults.{as_err, cause_err, no_refusal, root_listed, world_then}
 use Rattle.refusal_laws.proofs.Lists.{and_then_err, and_then_ok}
 

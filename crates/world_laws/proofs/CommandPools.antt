@@ -1,10 +1,8 @@
 -- The candidates of a command are those of the indexes and of the database.
-use Rattle.std.proofs.Common.{◌≡◌, ◌⊎◌, ◌↔◌, ◌≤◌, inl, inr, ℕ, zero, suc, ◌+◌, Bool, true, false, true≢false, List, [], ◌∷◌, ◌++◌, length, Option, Some, None, Result, Ok, Err, refl, ap, sym, subst, ◌∙◌, arith, cond, ltb}
+use Rattle.std.proofs.Common.{◌≡◌, ◌⊎◌, ◌≤◌, inl, inr, ℕ, zero, suc, ◌+◌, Bool, true, false, true≢false, List, [], ◌∷◌, length, Option, Some, None, Ok, Err, refl, ap, sym, subst, ◌∙◌, arith}
 use Rattle.std.specs.Prelude.{slice_get, nat_lt, if◌then◌else◌}
 use Rattle.std.specs.List.{list_any}
-use Rattle.std.specs.Str.{bytes_eq}
 use Rattle.std.proofs.lemmas.Bool.{ltb-false}
-use Rattle.std.proofs.lemmas.Slice.Eq.{bytes_eq-Decides}
 use Rattle.adb_fields.specs.FirstPair.{IsIn}
 use Rattle.adb_fields.specs.Repeated.{entries_at, list_of}
 use Rattle.adb_schema.specs.Soundness.{first_fault, payload_in, root_value}
@@ -14,19 +12,18 @@ use Rattle.adb_tables.specs.declared.tables.Which.TheVariants.{Index}
 use Rattle.adb_view.specs.Plain.{Plain, Plains, none, more}
 use Rattle.base_core.specs.declared.cause.Cause.{Cause}
 use Rattle.candidate_core.specs.Candidates.{Candidate, as_installed, candidate_of, candidates_of_index, is_same_package}
-use Rattle.candidate_core.specs.Rank.{SealedPool, UpgradedNames, is_upgraded, sealed_pool_by}
+use Rattle.candidate_core.specs.Rank.{SealedPool, UpgradedNames, sealed_pool_by}
 use Rattle.candidate_core.specs.declared.candidate_list.TheConstants.{MOST_CANDIDATES}
-use Rattle.change_inputs.specs.Candidates.{candidates_from, candidates_of, installed_candidate, root_pool, with_all_installed}
+use Rattle.change_inputs.specs.Candidates.{candidates_from, candidates_of, installed_candidate, root_pool}
 use Rattle.change_inputs.specs.Chains.{and_then, unless_cause}
 use Rattle.change_inputs.specs.Indexes.{index_file, index_files_from, index_in_file, indexes_in_files}
 use Rattle.change_inputs.specs.Inputs.{Inputs, first_index_read, index_reads_from, indexes_of, inputs_by, inputs_of, root_for}
 use Rattle.command_core.specs.Command.{CommandLine}
 use Rattle.dep_core.specs.Repositories.{Repository}
 use Rattle.make_info.specs.Reads.{Reads}
-use Rattle.report_core.specs.declared.refusal.Refusal.{Refusal}
 use Rattle.report_core.specs.declared.refusal.Refusal.TheVariants.{IndexBad, TooMany}
-use Rattle.world_laws.specs.CommandPool.{AreCandidates, IsCandidateFor, IsInstalledAlone, IsOfIndex, IsIndexed, IsSameAsInstalled}
-use Rattle.world_laws.proofs.InstalledCounted.{IsCounted, IsCountedFor, all_back, all_there, in_any, in_append, in_left, in_right, installed_there}
+use Rattle.world_laws.specs.CommandPool.{AreCandidates, IsCandidateFor, IsInstalledAlone, IsOfIndex, IsIndexed}
+use Rattle.world_laws.proofs.InstalledCounted.{IsCounted, all_back, all_there, in_any, in_append, in_left, in_right, installed_there}
 use Rattle.world_laws.proofs.ReadWorlds.{and_then_ok}
 
 -- ---- the packages of one index
@@ -229,7 +226,11 @@ module _ (read : Reads) where
         (there.0, there.1, candidate_for place repository info (candidate_of info (Some (1 + place)) repository.tag false) there.0 refl there.2)
 
     pub are_candidates : AreCandidates inputs read (candidates_of inputs)
-    are_candidates = record { each = each_is; of_indexes = of_indexes_is; installed = installed_there packages offers }
+    are_candidates = record {
+      each = each_is;
+      of_indexes = of_indexes_is;
+      installed = λ pkg here. (let there = installed_there packages offers pkg here in (there.0, there.1, there.2.0, there.2.1));
+    }
 
 -- ---- by the inputs
 

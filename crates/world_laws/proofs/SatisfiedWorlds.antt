@@ -1,21 +1,20 @@
 -- The candidates that a first selection takes satisfy world, and each is needed.
-use Rattle.std.proofs.Common.{◌≡◌, ◌≢◌, ◌⊎◌, inl, inr, ℕ, zero, suc, Bool, true, false, true≢false, not, eqb, List, [], ◌∷◌, ◌++◌, map, Option, Some, None, refl, ap, sym, subst, ◌∙◌}
+use Rattle.std.proofs.Common.{◌≡◌, ◌≢◌, inl, inr, ℕ, zero, suc, Bool, true, false, true≢false, not, eqb, List, [], ◌∷◌, ◌++◌, Option, Some, None, refl, ap, sym, subst, ◌∙◌}
 use Rattle.std.specs.Prelude.{◌&&◌, slice_get}
 use Rattle.std.specs.Option.{option_map_or}
-use Rattle.std.specs.List.{filter, filter_map, list_all, list_any}
-use Rattle.std.specs.Str.{bytes_eq}
-use Rattle.std.proofs.lemmas.Bool.{and_from, and_parts, eqb-false, eqb-true, or_left, or_right}
+use Rattle.std.specs.List.{filter, filter_map, list_all}
+use Rattle.std.proofs.lemmas.Bool.{and_from, and_parts, eqb-false, eqb-true}
 use Rattle.std.proofs.lemmas.Slice.Eq.{bytes_eq-Decides}
 use Rattle.dep_core.specs.Dependency.{Dependency}
 use Rattle.candidate_core.specs.Candidates.{Candidate, Need, entry, named, has_usable_install_if, is_allowed, is_barred_by, is_eligible, meets_dependency, meets_need, occupies_name}
 use Rattle.candidate_core.specs.Options.{IsIn}
 use Rattle.candidate_core.specs.Rank.{SealedPool, candidate_at, is_at, meets_at}
 use Rattle.package_changes.specs.Placed.{candidates_at}
-use Rattle.search_tables.specs.Selection.{IsBestMember, IsFirstSelection, IsSatisfying, IsWalkFrom, conflicts_with, depends_at, install_if_applies, is_met, names_by_install_if, next_need, positive_needs}
+use Rattle.search_tables.specs.Selection.{IsBestMember, IsSatisfying, IsWalkFrom, conflicts_with, depends_at, install_if_applies, is_met, names_by_install_if, next_need, positive_needs}
 use Rattle.search_tables.proofs.PoolFacts.{any_in, in_filter, in_map}
-use Rattle.world_laws.specs.NextNeed.{IsAskedByInstallIf, IsFirstUnmet, IsMetByChoice, IsNextOrNone}
+use Rattle.world_laws.specs.NextNeed.{IsFirstUnmet, IsMetByChoice, IsNextOrNone}
 use Rattle.world_laws.specs.SatisfiedWorld.{HasInstallIf, IsNeeded, IsMetByOne, MeetsOne, SatisfyWorld}
-use Rattle.world_laws.proofs.InstalledCounted.{in_append, in_left, in_right}
+use Rattle.world_laws.proofs.InstalledCounted.{in_append, in_right}
 use Rattle.world_laws.proofs.InstalledCounted as Lists
 
 -- ---- candidates at places
