@@ -25,7 +25,7 @@ use Rattle.search_tables.specs.declared.install_ifs.InstallIfs.{InstallIfs}
 use Rattle.search_choices.specs.declared.choices.Choices.{Choices}
 use Rattle.search_tables.specs.declared.queue.Checkpoint.{Checkpoint}
 use Rattle.search_tables.proofs.Theory.{in_left, in_right, in_append}
-use Rattle.search_tables.proofs.PoolFacts.{bool_cases, find_in, map_in, in_map, pool_facts}
+use Rattle.search_tables.proofs.PoolFacts.{bool_cases, find_in, pool_facts}
 use Rattle.search_tables.proofs.ConflictTables.{listed_more}
 use Rattle.search_tables.proofs.Queued.{find_here, past_end, met_more, met_next, queue_more}
 
