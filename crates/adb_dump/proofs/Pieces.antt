@@ -49,6 +49,10 @@ window_end xs last len end =
     let rest : length xs - last ≡ len = omega (arith, end) in
     sym (take_rest xs last) ∙ ap (λ (n : ℕ). take n (drop last xs)) rest
 
+-- a window by its ends, and by its length
+pub window_told : (p : ℕ → Bool) (xs : List ℕ) (at len : ℕ) → list_all p (take (at + len - at) (drop at xs)) ≡ list_all p (take len (drop at xs))
+window_told p xs at len = let same : at + len - at ≡ len = omega arith in ap (λ (n : ℕ). list_all p (take n (drop at xs))) same
+
 -- a front and an end that reach each other are all
 pub all_covered : (p : ℕ → Bool) (xs : List ℕ) (j k : ℕ) → j ≤ k → list_all p xs ≡ (list_all p (take k xs) && list_all p (drop j xs))
 all_covered p [] zero zero le = refl

@@ -2,7 +2,7 @@
 //! The rules stand in `docs/formats.md`, "Dump text": the table, and the paragraph on texts that
 //! stand as they are or between quotes.
 
-ghost use Rattle.std.specs.Prelude.{◌≡◌, ◌≤◌, [], ◌∷◌, ◌++◌, OnOk, codes, drop, length};
+ghost use Rattle.std.specs.Prelude.{◌≡◌, ◌+◌, ◌≤◌, [], ◌∷◌, ◌++◌, OnOk, codes, drop, length};
 ghost use Rattle.std.specs.Fmt.{decimal};
 ghost use Rattle.std.specs.List.{flat_map, list_all};
 ghost use Rattle.hex.specs.Hex.{encode_lower};
