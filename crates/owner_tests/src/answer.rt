@@ -24,11 +24,21 @@ pub(crate) fn add_owners(
         };
         fronts.push(front)?;
     }
-    add_owners_of(alloc, &Db::empty(alloc), &fronts, answer)
+    add_owners_of(alloc, &fronts, answer)
 }
 
-/// Adds who owns the files of the packages with these fronts; of the database none stays.
+/// Adds who owns the files of the packages with these fronts, where nothing is installed.
 fn add_owners_of<'a>(
+    alloc: Global,
+    fronts: &'a [Front],
+    answer: &mut Vec<u8>,
+) -> Result<(), AllocError> {
+    add_owners_beside(alloc, &Db::empty(alloc), fronts, answer)
+}
+
+/// Adds who owns the files of the packages with these fronts, beside a database of which none
+/// stays.
+fn add_owners_beside<'a>(
     alloc: Global,
     db: &Db<'a>,
     fronts: &'a [Front],
