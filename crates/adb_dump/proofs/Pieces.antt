@@ -1,8 +1,8 @@
 -- What is written piece by piece.
-use Rattle.std.proofs.Common.{◌≡◌, ℕ, zero, suc, ◌+◌, ◌-◌, ◌<◌, ◌≤◌, Bool, true, false, eqb, List, [], ◌∷◌, ◌++◌, length, get_or, drop, Some, None, ◌*◌, refl, ap, ◌∙◌, arith}
+use Rattle.std.proofs.Common.{◌≡◌, ℕ, zero, suc, ◌+◌, ◌-◌, ◌<◌, ◌≤◌, Bool, true, false, eqb, List, [], ◌∷◌, ◌++◌, length, get_or, take, drop, Some, None, ◌*◌, refl, sym, ap, ◌∙◌, arith}
 use Rattle.std.specs.Prelude.{codes, ◌&&◌, slice_get}
 use Rattle.std.specs.List.{flat_map, list_all}
-use Rattle.std.proofs.lemmas.List.{drop_more, drop_all}
+use Rattle.std.proofs.lemmas.List.{drop-take, drop_more, drop_all, take_rest, take-take}
 use Rattle.std.proofs.lemmas.List.Concat.{flat_map-cons}
 use Rattle.hex.specs.Hex.{encode_with, encode_lower}
 use Rattle.adb_dump.specs.Dump.{escape_of, is_printable, begins_with_byte, ends_with_byte}
@@ -32,6 +32,61 @@ printable_next false text i lt = refl
 pub printable_over : (all : Bool) (text : List ℕ) (i : ℕ) → length text ≤ i → (all && list_all is_printable (drop i text)) ≡ all
 printable_over true text i le = ap (list_all is_printable) (drop_all i text le)
 printable_over false text i le = refl
+
+-- ---- windows over a text
+
+both_covered : (b t a : Bool) → a ≡ (t && a) → (b && a) ≡ ((b && t) && (b && a))
+both_covered true t a e = e
+both_covered false t a e = refl
+
+first_covered : (b t a w : Bool) → w ≡ (t && a) → (b && w) ≡ ((b && t) && a)
+first_covered true t a w e = e
+first_covered false t a w e = refl
+
+-- the window that ends where the text does
+window_end : (xs : List ℕ) (last len : ℕ) → last + len ≡ length xs → drop last xs ≡ take len (drop last xs)
+window_end xs last len end =
+    let rest : length xs - last ≡ len = omega (arith, end) in
+    sym (take_rest xs last) ∙ ap (λ (n : ℕ). take n (drop last xs)) rest
+
+-- a window by its ends, and by its length
+pub window_told : (p : ℕ → Bool) (xs : List ℕ) (at len : ℕ) → list_all p (take (at + len - at) (drop at xs)) ≡ list_all p (take len (drop at xs))
+window_told p xs at len = let same : at + len - at ≡ len = omega arith in ap (λ (n : ℕ). list_all p (take n (drop at xs))) same
+
+-- a front and an end that reach each other are all
+pub all_covered : (p : ℕ → Bool) (xs : List ℕ) (j k : ℕ) → j ≤ k → list_all p xs ≡ (list_all p (take k xs) && list_all p (drop j xs))
+all_covered p [] zero zero le = refl
+all_covered p [] zero (suc k) le = refl
+all_covered p [] (suc j) zero le = refl
+all_covered p [] (suc j) (suc k) le = refl
+all_covered p (x ∷ xs) zero zero le = refl
+all_covered p (x ∷ xs) zero (suc k) le = both_covered (p x) (list_all p (take k xs)) (list_all p xs) (all_covered p xs zero k (omega arith))
+all_covered p (x ∷ xs) (suc j) zero le = absurd (omega (arith, le))
+all_covered p (x ∷ xs) (suc j) (suc k) le = first_covered (p x) (list_all p (take k xs)) (list_all p (drop j xs)) (list_all p xs) (all_covered p xs j k (omega (arith, le)))
+
+-- the bytes up to the end of a window, by those before it and those within it
+pub window_next : (p : ℕ → Bool) (xs : List ℕ) (at len : ℕ) → list_all p (take at xs) ≡ true → list_all p (take (at + len) xs) ≡ list_all p (take len (drop at xs))
+window_next p xs at len before =
+    all_covered p (take (at + len) xs) at at (omega arith)
+    ∙ ap (λ (front : List ℕ). list_all p front && list_all p (drop at (take (at + len) xs))) (take-take at (at + len) xs (omega arith))
+    ∙ ap (λ (b : Bool). b && list_all p (drop at (take (at + len) xs))) before
+    ∙ ap (list_all p) (drop-take at len xs)
+
+-- a window that is not printable
+pub window_stops : (p : ℕ → Bool) (xs : List ℕ) (at len : ℕ) → list_all p (take at xs) ≡ true → list_all p (take len (drop at xs)) ≡ false → list_all p xs ≡ false
+window_stops p xs at len before window =
+    all_covered p xs (at + len) (at + len) (omega arith)
+    ∙ ap (λ (b : Bool). b && list_all p (drop (at + len) xs)) (window_next p xs at len before ∙ window)
+
+-- the last window, before which all is printable
+pub window_last : (p : ℕ → Bool) (xs : List ℕ) (at last len : ℕ) → last ≤ at → last + len ≡ length xs → list_all p (take at xs) ≡ true → list_all p xs ≡ list_all p (take len (drop last xs))
+window_last p xs at last len le end before =
+    all_covered p xs last at le ∙ ap (λ (b : Bool). b && list_all p (drop last xs)) before ∙ ap (list_all p) (window_end xs last len end)
+
+-- a window at both ends
+pub windows_cover : (p : ℕ → Bool) (xs : List ℕ) (last len : ℕ) → last ≤ len → last + len ≡ length xs → list_all p xs ≡ (list_all p (take len xs) && list_all p (take len (drop last xs)))
+windows_cover p xs last len le end =
+    all_covered p xs last len le ∙ ap (λ (l : List ℕ). list_all p (take len xs) && list_all p l) (window_end xs last len end)
 
 pub margin_more : (depth i : ℕ) → i < depth → margin (depth - i) ≡ codes "  " ++ margin (depth - (i + 1))
 margin_more depth i lt = let same : depth - i ≡ suc (depth - (i + 1)) = omega arith in rw same refl

@@ -2,7 +2,7 @@
 //! The rules stand in `docs/formats.md`, "Dump text": the table, and the paragraph on texts that
 //! stand as they are or between quotes.
 
-ghost use Rattle.std.specs.Prelude.{◌≡◌, ◌≤◌, [], ◌∷◌, ◌++◌, OnOk, codes, drop, length};
+ghost use Rattle.std.specs.Prelude.{◌≡◌, ◌+◌, ◌≤◌, [], ◌∷◌, ◌++◌, OnOk, codes, drop, length};
 ghost use Rattle.std.specs.Fmt.{decimal};
 ghost use Rattle.std.specs.List.{flat_map, list_all};
 ghost use Rattle.hex.specs.Hex.{encode_lower};
@@ -201,14 +201,66 @@ fn ends_with_byte(byte: u8, text: &[u8]) -> bool
     }
 }
 
-/// Whether every byte of a text is printable. There is no way out in between, so that the compiler
-/// can test many bytes at once.
-#[tactic(auto, using(crate::proofs::Pieces::printable_next, crate::proofs::Pieces::printable_over))]
+/// How many bytes of a long text are tested at once. The tests of so many bytes, or of half or a
+/// quarter of so many, become a few steps for all of them.
+const WINDOW_LEN: usize = 16;
+
+/// Whether every byte of a text is printable. Bytes that stand in two windows are tested twice,
+/// which takes less time than to test one by one those that no whole window is left for.
 fn is_printable(text: &[u8]) -> bool
     ensures { result ≡ list_all is_printable text.now }
 {
+    let len = text.len();
+    if len > WINDOW_LEN {
+        return is_long_printable(text);
+    }
+    if len >= WINDOW_LEN / 2 {
+        return are_ends_printable(text, WINDOW_LEN / 2);
+    }
+    if len >= WINDOW_LEN / 4 {
+        return are_ends_printable(text, WINDOW_LEN / 4);
+    }
+    is_window_printable(text)
+}
+
+/// Whether every byte of a text is printable that has at least the bytes of a window: window by
+/// window, the last of which ends where the text does.
+fn is_long_printable(text: &[u8]) -> bool
+    // As many as `WINDOW_LEN`.
+    requires { 16 ≤ length text.now }
+    ensures { result ≡ list_all is_printable text.now }
+{
+    let last = text.len() - WINDOW_LEN;
+    let mut at = 0;
+    while at < last {
+        if !is_window_printable(&text[at..at + WINDOW_LEN]) {
+            return false;
+        }
+        at += WINDOW_LEN;
+    }
+    is_window_printable(&text[last..last + WINDOW_LEN])
+}
+
+/// Whether every byte of a text is printable whose first and last `len` bytes are all of it.
+#[inline(always)]
+fn are_ends_printable(text: &[u8], len: usize) -> bool
+    requires within { len ≤ length text.now }
+    requires all { length text.now ≤ len + len }
+    ensures { result ≡ list_all is_printable text.now }
+{
+    let last = text.len() - len;
+    is_window_printable(&text[..len]) & is_window_printable(&text[last..last + len])
+}
+
+/// Whether every byte of a window is printable. There is no way out in between, so that the
+/// compiler can test all bytes at once where it knows how many they are.
+#[inline(always)]
+#[tactic(auto, using(crate::proofs::Pieces::printable_next, crate::proofs::Pieces::printable_over))]
+fn is_window_printable(window: &[u8]) -> bool
+    ensures { result ≡ list_all is_printable window.now }
+{
     let mut all = true;
-    for byte in text {
+    for byte in window {
         all &= is_printable_byte(*byte);
     }
     all

@@ -17,8 +17,8 @@ use Rattle.change_outcome.specs.ChangeOutcome.{ChangeDone}
 use Rattle.command_core.specs.Command.{CommandLine}
 use Rattle.command_core.specs.declared.command.Applet.{Applet}
 use Rattle.command_core.specs.declared.command.Applet.TheVariants.{Add, Del, Fix, Upgrade}
-use Rattle.engine_core.specs.ChangeRun.{ComesTo, DoesCommit, IsChangeRun, IsCommit, IsFoundChanged, IsNoneOrCommit, report_as_is, report_in, coming_in}
-use Rattle.engine_core.specs.Changed.{IsClashFor, IsClashForOver, change_of_command, selected_for}
+use Rattle.engine_core.specs.ChangeRun.{ComesTo, DoesCommit, IsChangeRun, IsCommit, IsFoundChanged, IsNoneOrCommit, report_as_is, report_in}
+use Rattle.engine_core.specs.Changed.{IsClashFor, IsClashForOver, change_of_command, packages_found, selected_for}
 use Rattle.engine_core.specs.Choice.{IsChoiceFrom}
 use Rattle.engine_core.specs.Runs.{IsRunCounted}
 use Rattle.engine_core.specs.Selecting.{pool_for}
@@ -26,10 +26,8 @@ use Rattle.journal_core.specs.Kept.{HasOldOrNewBytes}
 use Rattle.journal_core.specs.Recovery.{IsSettled, RestsOn, intent_name}
 use Rattle.journal_core.specs.Staged.{IsOnTheWay}
 use Rattle.make_info.specs.Reads.{Reads}
-use Rattle.package_changes.specs.Changes.{selected_version}
 use Rattle.path_clashes.specs.Clash.{NamePair}
 use Rattle.report_core.specs.declared.refusal.Refusal.{Refusal}
-use Rattle.report_core.specs.declared.refusal.Refusal.TheVariants.{PackageBad}
 use Rattle.stage_run.specs.StageRun.{IsReadInChange, IsStageRunDone, LastsUnread}
 use Rattle.outcome.proofs.Applets.{change_is}
 use Rattle.outcome.specs.Changing.{change_outcome}
@@ -145,14 +143,14 @@ module _ (command : CommandLine) (changes : effect_of command.applet ≡ Changes
   abbrev wanted : Wanted
   wanted = change_of_command command run.read run.files run.chosen run.clash
 
-  found_so : (verdict : Verdict) → IsToldAs answer (Ok verdict) → AgreesUnlessDisk report_as_is answer (report_in wanted) ⊎ IsFoundChanged (coming_in (selected_for command run.read run.chosen)) wanted old answer → ReportsOne (IsFoundOver command) verdict
+  found_so : (verdict : Verdict) → IsToldAs answer (Ok verdict) → AgreesUnlessDisk report_as_is answer (report_in wanted) ⊎ IsFoundChanged (packages_found command run.read (selected_for command run.read run.chosen)) wanted old answer → ReportsOne (IsFoundOver command) verdict
   found_so verdict told (inl agrees) = (
     change_outcome run.files wanted,
     (found, run.read, run.files, may_be_given command run.read run.files run.standing run.chosen run.clash changes run.choice run.is_clash, inl (applet_is command.applet command run.read run.files run.chosen run.clash changes)),
     reports_wanted answer verdict run.files wanted agrees told,
   )
   found_so verdict told (inr spoiled) = (
-    just_refusal run.files (PackageBad spoiled.candidate.name (selected_version spoiled.candidate) spoiled.cause),
+    just_refusal run.files spoiled.refusal,
     (
       found,
       run.read,
@@ -161,15 +159,12 @@ module _ (command : CommandLine) (changes : effect_of command.applet ≡ Changes
       inr (record {
         changes = changes;
         commits = ap (λ (o : Outcome). o.commits) (sym (applet_is command.applet command run.read run.files run.chosen run.clash changes)) ∙ commits_so run.files wanted spoiled.commits;
-        candidate = spoiled.candidate;
-        comes = spoiled.comes;
-        cause = spoiled.cause;
-        file = spoiled.file;
+        refusal = spoiled.refusal;
         spoiled = spoiled.spoiled;
-        refusal = refl;
+        is = refl;
       }),
     ),
-    told_refusal answer (PackageBad spoiled.candidate.name (selected_version spoiled.candidate) spoiled.cause) verdict run.files spoiled.refusal told,
+    told_refusal answer spoiled.refusal verdict run.files spoiled.is told,
   )
 
   pub change_read : (judged : Judged) → IsToldAs answer judged → IfOk judged (ReportsOne (IsFoundOver command))
@@ -183,12 +178,12 @@ pub record IsRunAt (command : CommandLine) (v : TreeState) (old now : History) (
   pub chosen : Option (List ℕ)
   pub clash : Option NamePair
   pub given : IsGiven command (reads_in (files_of v)) (files_of v) (given_by chosen clash)
-  pub comes : ComesTo (coming_in (selected_for command (reads_in (files_of v)) chosen)) (change_of_command command (reads_in (files_of v)) (files_of v) chosen clash) old now a b answer
+  pub comes : ComesTo (packages_found command (reads_in (files_of v)) (selected_for command (reads_in (files_of v)) chosen)) (change_of_command command (reads_in (files_of v)) (files_of v) chosen clash) old now a b answer
 
 abbrev RunFacts : CommandLine → History → History → Counts → Counts → Answered → Option (List ℕ) → Option NamePair → Reads → Files → Files → Type 0
 RunFacts command old now a b answer chosen clash read files standing =
     IsChoiceFrom (pool_for command read) chosen × IsClashForOver command read files standing chosen clash
-    × ComesTo (coming_in (selected_for command read chosen)) (change_of_command command read files chosen clash) old now a b answer
+    × ComesTo (packages_found command read (selected_for command read chosen)) (change_of_command command read files chosen clash) old now a b answer
 
 run_at : (command : CommandLine) → effect_of command.applet ≡ Changes → (v : TreeState) (rest now : History) (a b : Counts) (answer : Answered) → IsChangeRun command (v ∷ rest) now a b answer → IsRunAt command v (v ∷ rest) now a b answer
 run_at command changes v rest now a b answer run = record {

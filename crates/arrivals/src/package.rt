@@ -28,6 +28,7 @@ use package_changes::{Change, is_same_id};
 use package_test::{PackageRead, TestedPackage, read_package};
 use pool_core::Candidate;
 use report_core::Refusal;
+use report_core::numbers::{HASHES_FIELD, NAME_FIELD, VERSION_FIELD};
 use std::alloc::{AllocError, Global};
 use std::marker::PhantomData;
 
@@ -173,16 +174,6 @@ fn package_bad(alloc: Global, c: &Candidate<'_>, cause: Cause) -> Result<Refusal
     })
 }
 
-// The number by which a refusal tells that the name differs: that of the field `name` in table 3 of
-// `docs/formats.md`, "Schemas", which counts from 1.
-const NAME_FIELD: u16 = 1;
-
-/// The number of the field `version` there.
-const VERSION_FIELD: u16 = 2;
-
-/// The number of the field `hashes` there, in which an index has the id.
-const ID_FIELD: u16 = 3;
-
 /// Tests that a package has the id, the name and the version of its candidate.
 ///
 /// # Errors
@@ -199,7 +190,7 @@ pub(crate) fn test_same(
 {
     let info = pkg.info();
     if !is_same_id(c.info.hashes(), id) {
-        return Err(differs(alloc, c, ID_FIELD, c.info.hashes(), id));
+        return Err(differs(alloc, c, HASHES_FIELD, c.info.hashes(), id));
     }
     if c.info.name() != info.name() {
         return Err(differs(alloc, c, NAME_FIELD, c.info.name(), info.name()));

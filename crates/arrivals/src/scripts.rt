@@ -18,19 +18,9 @@ use base_core::Text;
 use change_inputs::Refused;
 use package_changes::Change;
 use report_core::Refusal;
+use report_core::numbers::{PRE_DEINSTALL_SCRIPT, PRE_INSTALL_SCRIPT, PRE_UPGRADE_SCRIPT};
 use std::alloc::{AllocError, Global};
 use std::marker::PhantomData;
-
-// The number of `pre-install` among the fields of a package's scripts (table 6 of
-// `docs/formats.md`, "Schemas", which counts from 1). The number behind each of these three is that
-// of the script which runs behind it: `post-install`, `post-deinstall`, `post-upgrade`.
-const PRE_INSTALL: u16 = 2;
-
-/// The number of `pre-deinstall` there.
-const PRE_DEINSTALL: u16 = 4;
-
-/// The number of `pre-upgrade` there.
-const PRE_UPGRADE: u16 = 6;
 
 /// Refuses a package that has a script which its change would run, unless scripts are left out. The
 /// mark serves the borrow checker alone, which does not know the parts of a view that is made and
@@ -77,11 +67,15 @@ fn first_script(change: &Change<'_>, scripts: &ScriptsView<'_>) -> Option<u16>
 {
     match change {
         Change::Install(_, _) => {
-            first_of_two(PRE_INSTALL, scripts.pre_install(), scripts.post_install())
+            first_of_two(
+                PRE_INSTALL_SCRIPT,
+                scripts.pre_install(),
+                scripts.post_install(),
+            )
         }
         Change::Purge(_, _) => {
             first_of_two(
-                PRE_DEINSTALL,
+                PRE_DEINSTALL_SCRIPT,
                 scripts.pre_deinstall(),
                 scripts.post_deinstall(),
             )
@@ -90,7 +84,11 @@ fn first_script(change: &Change<'_>, scripts: &ScriptsView<'_>) -> Option<u16>
         | Change::Upgrade(_, _, _)
         | Change::Downgrade(_, _, _)
         | Change::Replace(_, _, _) => {
-            first_of_two(PRE_UPGRADE, scripts.pre_upgrade(), scripts.post_upgrade())
+            first_of_two(
+                PRE_UPGRADE_SCRIPT,
+                scripts.pre_upgrade(),
+                scripts.post_upgrade(),
+            )
         }
     }
 }

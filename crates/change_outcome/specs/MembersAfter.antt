@@ -1,9 +1,9 @@
 -- The packages after a change, name by name. The rules stand in `docs/commands.md`,
 -- "`add` and `del`": what is read of the packages that come, and how they are refused, package by
 -- package.
-use Rattle.std.specs.Prelude.{ℕ, suc, ◌+◌, Bool, List, [], ◌∷◌, length, map, Option, Some, None, Result, Ok, is_some, option_map, slice_get}
+use Rattle.std.specs.Prelude.{ℕ, suc, ◌+◌, Bool, List, [], ◌∷◌, length, map, Option, Some, None, Result, Ok, option_map, slice_get}
 use Rattle.std.specs.Option.{option_map_or}
-use Rattle.std.specs.List.{cons_option, filter, find}
+use Rattle.std.specs.List.{cons_option, find}
 use Rattle.adb_view.specs.Plain.{Plain}
 use Rattle.change_inputs.specs.Chains.{and_then}
 use Rattle.change_inputs.specs.Inputs.{first_index_read}
@@ -18,18 +18,23 @@ use Rattle.report_core.specs.Reports.{Change}
 use Rattle.report_core.specs.declared.refusal.Refusal.{Refusal}
 use Rattle.change_outcome.specs.PackageFiles.{ComingPackage, package_file_of, package_found, scripts_of_change, unless_script}
 
--- a package after the change, and the contents of the files of one that comes
+-- a package after the change; and of one that comes its file, and the contents of its files
 pub record MemberFound : Type 0 where
   pub member : Member
+  pub file : Option (List ℕ)
   pub contents : List Contents
 
 -- a package that stays, whose files nobody reads
 abbrev pub staying_found : Plain → MemberFound
-staying_found pkg = record { member = staying_member pkg; contents = [] }
+staying_found pkg = record { member = staying_member pkg; file = None; contents = [] }
 
--- a package that comes, with the contents of its files
+-- a package that comes, with its file and the contents of its files
 abbrev pub coming_found : ComingPackage → MemberFound
-coming_found pkg = record { member = coming_member pkg.value pkg.id; contents = pkg.contents }
+coming_found pkg = record {
+  member = coming_member pkg.value pkg.id;
+  file = Some pkg.file;
+  contents = pkg.contents;
+}
 
 -- the package of a candidate that comes, by what a read finds under the name of its file, if it has
 -- one
@@ -104,10 +109,6 @@ members_after r read repositories no_scripts =
 -- the members alone of the packages that are found
 abbrev pub members_found : List MemberFound → List Member
 members_found found = map (λ m. m.member) found
-
--- the selected candidates whose packages come
-abbrev pub candidates_that_come : Replacement → List Candidate
-candidates_that_come r = filter (λ (c : Candidate). is_some (change_of_name r c.name)) r.selected
 
 -- the contents of the package of the member at a place
 abbrev pub contents_found : List MemberFound → ℕ → List Contents

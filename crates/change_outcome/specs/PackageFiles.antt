@@ -18,7 +18,7 @@ use Rattle.package_files.specs.Folders.{is_slash}
 use Rattle.pkg_core.specs.Contents.{Contents, contents_in}
 use Rattle.pkg_core.specs.Whole.{files_in_file, package_fault, package_id}
 use Rattle.candidate_core.specs.Candidates.{Candidate, is_same_id}
-use Rattle.report_core.specs.Numbers.{PRE_INSTALL_SCRIPT, POST_INSTALL_SCRIPT, PRE_DEINSTALL_SCRIPT, POST_DEINSTALL_SCRIPT, PRE_UPGRADE_SCRIPT, POST_UPGRADE_SCRIPT}
+use Rattle.report_core.specs.Numbers.{NAME_FIELD, VERSION_FIELD, HASHES_FIELD, PRE_INSTALL_SCRIPT, POST_INSTALL_SCRIPT, PRE_DEINSTALL_SCRIPT, POST_DEINSTALL_SCRIPT, PRE_UPGRADE_SCRIPT, POST_UPGRADE_SCRIPT}
 use Rattle.report_core.specs.Reports.{Change, Downgrade, Install, Purge, Reinstall, Replace, Upgrade, name_version}
 use Rattle.report_core.specs.declared.refusal.Refusal.{Refusal}
 use Rattle.report_core.specs.declared.refusal.Refusal.TheVariants.{PackageBad, PackageDiffers, PackageMissing, ScriptNeeded}
@@ -61,8 +61,10 @@ package_file_of repositories c = by_number c.repository
 
 -- ---- what it has to be
 
--- a package that comes, as its file has it: its value, its identity, and the contents of its files
+-- a package that comes, as its file has it: the file's bytes, its value, its identity, and the
+-- contents of its files
 pub record ComingPackage : Type 0 where
+  pub file : List ℕ
   pub value : Plain
   pub id : List ℕ
   pub contents : List Contents
@@ -70,34 +72,22 @@ pub record ComingPackage : Type 0 where
 -- what a container says of its package
 abbrev pub package_in_file : List ℕ → ComingPackage
 package_in_file file = record {
+  file = file;
   value = root_value Tables.Package (payload_in file);
   id = package_id file;
   contents = contents_in (files_in_file file);
 }
-
--- the number of a name in the table of package information (table 3); it, version and id have to
--- agree with the index
-abbrev pub name_field : ℕ
-name_field = 1
-
--- the number of the version in that table
-abbrev pub version_field : ℕ
-version_field = 2
-
--- the number of the hash in that table, which is the id
-abbrev pub id_field : ℕ
-id_field = 3
 
 -- a package, unless it is not the candidate's: first its identity is compared, then its name, then
 -- its version
 abbrev pub unless_different : Candidate → ComingPackage → Result ComingPackage Refusal
 unless_different c pkg =
     if not (is_same_id c.id pkg.id)
-    then Err (PackageDiffers c.name (selected_version c) id_field c.id pkg.id)
+    then Err (PackageDiffers c.name (selected_version c) HASHES_FIELD c.id pkg.id)
     else if not (bytes_eq c.name (package_name pkg.value))
-    then Err (PackageDiffers c.name (selected_version c) name_field c.name (package_name pkg.value))
+    then Err (PackageDiffers c.name (selected_version c) NAME_FIELD c.name (package_name pkg.value))
     else if not (bytes_eq (selected_version c) (version_text pkg.value))
-    then Err (PackageDiffers c.name (selected_version c) version_field (selected_version c)
+    then Err (PackageDiffers c.name (selected_version c) VERSION_FIELD (selected_version c)
     (version_text pkg.value))
     else Ok pkg
 

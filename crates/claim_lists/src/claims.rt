@@ -18,6 +18,7 @@ ghost use Rattle.claim_lists.specs.Named.{HaveNames};
 use adb_fields::FilePath;
 use base_core::{Name, Names};
 use path_claims::{Claim, begins_path};
+use path_clashes::path_bytes;
 use std::alloc::{AllocError, Global};
 
 /// The place of the first claim of a path, counted from 0, among claims in the order of their
@@ -121,19 +122,6 @@ pub fn one_of_each_path<'a>(
         }
     }
     Ok(firsts)
-}
-
-/// The bytes of a path, whose folder and name are joined by `/`; the root's name is empty.
-fn path_bytes(alloc: Global, path: &FilePath<'_>) -> Result<Vec<u8>, AllocError>
-    ensures { IfOk result (λ bytes. bytes.items ≡ joined_path path.now) }
-{
-    let mut bytes = Vec::new(alloc);
-    if !path.folder.is_empty() {
-        bytes.extend_from_slice(path.folder)?;
-        bytes.push(b'/')?;
-    }
-    bytes.extend_from_slice(path.name)?;
-    Ok(bytes)
 }
 
 /// The name that a path is.

@@ -126,12 +126,8 @@ fn write_folder(
 {
     draft.open_list()?;
     known.write_field(draft, adb, Which::Dir, folder, DIR_NAME)?;
-    write_acl(
-        draft,
-        adb,
-        known,
-        field_word(adb, Which::Dir, folder, DIR_ACL),
-    )?;
+    let acl = field_word(adb, Which::Dir, folder, DIR_ACL);
+    write_acl(draft, adb, known, acl)?;
     let files = objects_field(adb, Which::Dir, folder, DIR_FILES, Which::File);
     write_files(draft, adb, known, files, flags)?;
     draft.close_object()

@@ -19,7 +19,7 @@ ghost use Rattle.adb_view.specs.Plain.{Plain};
 ghost use Rattle.adb_view.specs.Shaped.{HasShape};
 ghost use Rattle.adb_write.specs.Canonical.{written_of};
 ghost use Rattle.adb_write.specs.File.{file_of};
-ghost use Rattle.db_core.specs.Members.{AreInOrder, Member, coming_member, member_listings, staying_members};
+ghost use Rattle.db_core.specs.Members.{AreInOrder, Member, coming_member, member_listings, staying_member, staying_members};
 ghost use Rattle.db_core.specs.Packages.{installed_id};
 ghost use Rattle.db_write.specs.Information.{file_size_of};
 ghost use Rattle.db_write.specs.NewDatabase.{database_of, database_value, package_after, packages_after};

@@ -30,15 +30,15 @@ use Rattle.engine_core.proofs.Once.{once_both}
 use Rattle.change_laws.proofs.Leading.{acted_is}
 use Rattle.change_laws.proofs.Room.{room}
 use Rattle.change_outcome.specs.ChangeOutcome.{Actions, ChangeDone, ChangeWishes, actions_of, bytes_under, change_done, does_something, file_change, is_other_file, name_if_needed, new_records, unless_overflow, written_records}
-use Rattle.change_outcome.specs.MembersAfter.{MemberFound, candidates_that_come, contents_found, members_found}
+use Rattle.change_outcome.specs.MembersAfter.{MemberFound, contents_found, members_found}
 use Rattle.journal_core.specs.Recovery.{after_actions, intent_name}
 use Rattle.journal_core.specs.Staged.{HasRoomBeside, HasRoomToStage, IsEmptyStage, Staging, action_count, new_stage, with_staged}
 use Rattle.journal_intent.specs.IntentValue.{intent_of_lists, value_of_intent}
 use Rattle.change_files.specs.NamesAfter.{name_change}
-use Rattle.db_core.specs.Members.{Member, is_coming}
+use Rattle.db_core.specs.Members.{Member, is_coming, member_name}
+use Rattle.file_owners.specs.Replaces.{version_text}
 use Rattle.own_core.specs.Planned.{IsOfComingFile, IsOpenName, written_names}
 use Rattle.path_clashes.specs.Clash.{HasNoClash}
-use Rattle.candidate_core.specs.Candidates.{Candidate}
 use Rattle.own_core.specs.WritesSeen.{writes_in}
 use Rattle.base_core.specs.declared.cause.Cause.{Cause}
 use Rattle.report_core.specs.declared.refusal.Refusal.{Refusal}
@@ -63,7 +63,7 @@ use Rattle.engine_core.specs.declared.finishing.NewRecords.{NewRecords}
 use Rattle.engine_core.specs.declared.writes.RecordWrites.{RecordWrites}
 use Rattle.engine_core.proofs.Early.{comes_to_failure, comes_to_idle, comes_to_refusal, if_told, nothing_read}
 use Rattle.engine_core.proofs.Sources.{FilesAreRead, all_at, all_stand}
-use Rattle.engine_core.proofs.SpoiledPackages.{spoiled_package}
+use Rattle.engine_core.proofs.SpoiledPackages.{found_spoiled}
 
 -- ---- limits of the writer
 
@@ -220,9 +220,6 @@ module _ (history : List TreeState) (wishes : ChangeWishes) (p : Planned) (found
   abbrev wanted : Result ChangeDone Refusal
   wanted = ready_change inputs (replacement_arrived p.arrived.now) wishes found files own.database.items
 
-  abbrev candidates : List Candidate
-  candidates = candidates_that_come (replacement_arrived p.arrived.now)
-
   pub written_is : map write_name writes ≡ actions.writes
   written_is = ready.names ∙ ap names_in_order (write_names_are history wishes p found files ready.plan own ready.own rw ready.which)
 
@@ -315,12 +312,12 @@ module _ (history : List TreeState) (wishes : ChangeWishes) (p : Planned) (found
   -- ---- nothing is carried through
 
   pub large_comes : (names : List (List ℕ)) → names ≡ map write_name writes → (counts : Counts) (fault : Refused)
-      → Agrees {A = Bool} (λ _. true) (Err fault) (unless_overflow (overflow_of (value_of_intent (intent_of_lists removals names))) true) → ComesTo candidates wanted history history counts counts (Err fault)
+      → Agrees {A = Bool} (λ _. true) (Err fault) (unless_overflow (overflow_of (value_of_intent (intent_of_lists removals names))) true) → ComesTo (Ok found) wanted history history counts counts (Err fault)
   large_comes names names_is counts (IsRefused refusal) told =
-      comes_to_refusal candidates wanted history history counts counts (nothing_read history counts) refusal
+      comes_to_refusal (Ok found) wanted history history counts counts (nothing_read history counts) refusal
       (ready_large refusal (ap (λ (ns : List (List ℕ)). unless_overflow (overflow_of (value_of_intent (intent_of_lists removals ns))) true) (sym names_is) ∙ told))
   large_comes names names_is counts Disk told = absurd told
-  large_comes names names_is counts Memory told = comes_to_failure candidates wanted history history counts counts (nothing_read history counts) Memory tt
+  large_comes names names_is counts Memory told = comes_to_failure (Ok found) wanted history history counts counts (nothing_read history counts) Memory tt
 
   pub fits_by : (names : List (List ℕ)) → names ≡ map write_name writes → unless_overflow (overflow_of (value_of_intent (intent_of_lists removals names))) true ≡ Ok true → wanted ≡ Ok done
   fits_by names names_is told = ready_fits (ap (λ (ns : List (List ℕ)). unless_overflow (overflow_of (value_of_intent (intent_of_lists removals ns))) true) (sym names_is) ∙ told)
@@ -334,8 +331,8 @@ module _ (history : List TreeState) (wishes : ChangeWishes) (p : Planned) (found
       twice true = refl
       twice false = refl
 
-  pub idle_comes : wanted ≡ Ok done → done.commits ≡ false → (counts : Counts) (report : List ℕ) → report ≡ done.report → ComesTo candidates wanted history history counts counts (Ok report)
-  idle_comes is idle counts report told = comes_to_idle candidates wanted history history counts counts (nothing_read history counts) done report is idle told
+  pub idle_comes : wanted ≡ Ok done → done.commits ≡ false → (counts : Counts) (report : List ℕ) → report ≡ done.report → ComesTo (Ok found) wanted history history counts counts (Ok report)
+  idle_comes is idle counts report told = comes_to_idle (Ok found) wanted history history counts counts (nothing_read history counts) done report is idle told
 
   -- ---- what comes of the run
 
@@ -347,7 +344,7 @@ module _ (history : List TreeState) (wishes : ChangeWishes) (p : Planned) (found
     abbrev Carried : Result (Unit {0}) StageFault → Type 0
     Carried r = IfObservable history (λ v. v.names intent_name ≡ None → IsEmptyStage (files_of v) → IsCarriedTo {A = Unit {0}} done.files v history now r)
 
-    pub done_comes : Carried (Ok tt) → (report : List ℕ) → report ≡ done.report → ComesTo candidates wanted history now before after (Ok report)
+    pub done_comes : Carried (Ok tt) → (report : List ℕ) → report ≡ done.report → ComesTo (Ok found) wanted history now before after (Ok report)
     done_comes run report told = record {
       told = inl (ap report_in is ∙ ap Ok (sym told));
       run = if_told history _ _ run (λ v carried absent empty.
@@ -355,7 +352,7 @@ module _ (history : List TreeState) (wishes : ChangeWishes) (p : Planned) (found
       proper = proper_where;
     }
 
-    pub disk_comes : (fault : StageFault) → fault ≡ Stages.Disk → Carried (Err fault) → ComesTo candidates wanted history now before after (Err Disk)
+    pub disk_comes : (fault : StageFault) → fault ≡ Stages.Disk → Carried (Err fault) → ComesTo (Ok found) wanted history now before after (Err Disk)
     disk_comes fault is_disk run = record {
       told = inl tt;
       run = if_told history _ _ run (λ v carried absent empty.
@@ -373,24 +370,30 @@ module _ (history : List TreeState) (wishes : ChangeWishes) (p : Planned) (found
       run_where : (result : Result (List ℕ) Refused) → IfObservable history (λ v. v.names intent_name ≡ None → IsEmptyStage (files_of v) → IsNoneOrCommit wanted v history now result)
       run_where result = if_told history _ _ unseen (λ v never absent empty. absurd (never absent empty))
 
-      pub bad_comes : (refused : Refused) → IsRefusedPackage (members_arrived p.arrived.now) member cause refused → ComesTo candidates wanted history now before after (Err refused)
+      pub bad_comes : (refused : Refused) → IsRefusedPackage (members_arrived p.arrived.now) member cause refused → ComesTo (Ok found) wanted history now before after (Err refused)
       bad_comes (IsRefused refusal) bad =
           let (m, at, told) = bad in
           let coming = file_comes history wishes p found files ready.plan writes rw ready.each member cause has in
-          let same : coming.0 ≡ m = (let one = coming.1 in cc) in
           let place : slice_get (members_found found) member ≡ Some m = subst (λ (ms : List Member). slice_get ms member ≡ Some m) ready.plan.arrived.members at in
-          let candidate = ready.plan.arrived.read.coming member m place (subst (λ (x : Member). is_coming x ≡ true) same coming.2) in
-          let spoiled = spoiled_package candidates history _ _ found member m coming.3.0 cause ready.plan.arrived.read.read place coming.3.1 candidate coming.3.2 in
+          let spoiled = found_spoiled history _ _ found member m coming.3.0 cause ready.plan.arrived.read.read place coming.3.1 coming.3.2 in
           record {
             told = inr (record {
               unseen = unseen;
               commits = subst DoesCommit (sym is) commits;
-              candidate = candidate.candidate;
-              comes = candidate.comes;
-              cause = cause;
-              file = spoiled.0;
-              spoiled = spoiled.1;
-              refusal = ap (λ (r : Refusal). Err (IsRefused r)) (told ∙ (λ i. PackageBad (sym candidate.name i) (sym candidate.version i) cause));
+              refusal = refusal;
+              spoiled = record {
+                found = found;
+                are = refl;
+                one = spoiled.one;
+                among = spoiled.among;
+                tested = spoiled.tested;
+                read = spoiled.read;
+                file = spoiled.file;
+                cause = cause;
+                spoiled = spoiled.spoiled;
+                is = told ∙ (λ i. PackageBad (member_name (sym spoiled.is i)) (version_text (sym spoiled.is i).pkg) cause);
+              };
+              is = refl;
             });
             run = run_where (Err (IsRefused refusal));
             proper = proper_where;
@@ -413,9 +416,9 @@ within_length (y ∷ ys) (suc i) x at = let less = within_length ys i x at in om
 
 -- ---- a part that is refused
 
-pub part_fails : {A B : Type 0} (chosen : List Candidate) (part other : Result B Refusal) (next : B → Result ChangeDone Refusal) (view : A → B) (history : List TreeState) (counts : Counts) (fault : Refused) → other ≡ part
-    → Agrees view (Err fault) other → ComesTo chosen (and_then part next) history history counts counts (Err fault)
-part_fails {A} {B} chosen part other next view history counts (IsRefused refusal) same told =
-    comes_to_refusal chosen (and_then part next) history history counts counts (nothing_read history counts) refusal (ap (λ (p : Result B Refusal). and_then p next) (sym same ∙ told))
-part_fails chosen part other next view history counts Disk same told = absurd told
-part_fails chosen part other next view history counts Memory same told = comes_to_failure chosen (and_then part next) history history counts counts (nothing_read history counts) Memory tt
+pub part_fails : {A B : Type 0} (packages : Result (List MemberFound) Refusal) (part other : Result B Refusal) (next : B → Result ChangeDone Refusal) (view : A → B) (history : List TreeState) (counts : Counts) (fault : Refused) → other ≡ part
+    → Agrees view (Err fault) other → ComesTo packages (and_then part next) history history counts counts (Err fault)
+part_fails {A} {B} packages part other next view history counts (IsRefused refusal) same told =
+    comes_to_refusal packages (and_then part next) history history counts counts (nothing_read history counts) refusal (ap (λ (p : Result B Refusal). and_then p next) (sym same ∙ told))
+part_fails packages part other next view history counts Disk same told = absurd told
+part_fails packages part other next view history counts Memory same told = comes_to_failure packages (and_then part next) history history counts counts (nothing_read history counts) Memory tt

@@ -13,6 +13,7 @@ use Rattle.change_inputs.specs.Inputs.{Inputs}
 use Rattle.change_inputs.specs.declared.root.Refused.{Refused}
 use Rattle.change_inputs.specs.declared.root.Refused.TheVariants.{Disk, Memory, Refusal as IsRefused}
 use Rattle.change_outcome.specs.ChangeOutcome.{ChangeDone, ChangeWishes, IsClashOfChange}
+use Rattle.change_outcome.specs.MembersAfter.{MemberFound}
 use Rattle.command_core.specs.Command.{CommandLine}
 use Rattle.journal_core.specs.Recovery.{intent_name}
 use Rattle.journal_core.specs.Staged.{HasRoomToStage, IsEmptyStage}
@@ -20,10 +21,9 @@ use Rattle.make_info.specs.Reads.{Reads}
 use Rattle.package_files.specs.Runs.{AreObserved}
 use Rattle.path_clashes.specs.Clash.{NamePair}
 use Rattle.package_changes.specs.Changes.{Replacement}
-use Rattle.candidate_core.specs.Candidates.{Candidate}
 use Rattle.report_core.specs.declared.refusal.Refusal.{Refusal}
-use Rattle.engine_core.specs.ChangeRun.{ComesTo, DoesCommit, IsNoneOrCommit, report_as_is, report_in, coming_in}
-use Rattle.engine_core.specs.Changed.{IsClashOfSelected, IsClashUnlessSimulated, Selected, change_of_selected}
+use Rattle.engine_core.specs.ChangeRun.{ComesTo, DoesCommit, IsNoneOrCommit, report_as_is, report_in}
+use Rattle.engine_core.specs.Changed.{IsClashOfSelected, IsClashUnlessSimulated, Selected, change_of_selected, packages_found}
 use Rattle.engine_core.specs.Runs.{IsSelectedRun}
 use Rattle.engine_core.specs.Wishes.{wishes_of}
 
@@ -118,7 +118,7 @@ pub if_told : (old : List TreeState) (P Q : TreeState → Type 0) → IfObservab
 if_told [] P Q p f = tt
 if_told (v ∷ earlier) P Q p f = f v p
 
-module _ (selected : List Candidate) (wanted : Result ChangeDone Refusal) (old now : List TreeState) (before after : Counts) (quiet : IsOnlyRead old now before after) where
+module _ (packages : Result (List MemberFound) Refusal) (wanted : Result ChangeDone Refusal) (old now : List TreeState) (before after : Counts) (quiet : IsOnlyRead old now before after) where
   none_run : (result : Result (List ℕ) Refused) → OnOk result (DoesCommit wanted → ⊥) → IfObservable old (λ v. v.names intent_name ≡ None → IsEmptyStage (files_of v) → IsNoneOrCommit wanted v old now result)
   none_run result ok = by old quiet.same
     where
@@ -129,7 +129,7 @@ module _ (selected : List Candidate) (wanted : Result ChangeDone Refusal) (old n
   none_proper : IfObservable old (λ v. v.names intent_name ≡ None → IsEmptyStage (files_of v) → (DoesCommit wanted → HasRoomToStage (files_of v)) → after.misuses ≡ before.misuses)
   none_proper = if_told old _ _ quiet.proper (λ v same absent empty room. same)
 
-  pub comes_to_failure : (fault : Refused) → IsFailure fault → ComesTo selected wanted old now before after (Err fault)
+  pub comes_to_failure : (fault : Refused) → IsFailure fault → ComesTo packages wanted old now before after (Err fault)
   comes_to_failure fault is = record { told = inl (failure_told fault is); run = none_run (Err fault) tt; proper = none_proper }
     where
       failure_told : (e : Refused) → IsFailure e → AgreesUnlessDisk report_as_is (Err e) (report_in wanted)
@@ -137,10 +137,10 @@ module _ (selected : List Candidate) (wanted : Result ChangeDone Refusal) (old n
       failure_told Disk h = tt
       failure_told Memory h = tt
 
-  pub comes_to_refusal : (refusal : Refusal) → wanted ≡ Err refusal → ComesTo selected wanted old now before after (Err (IsRefused refusal))
+  pub comes_to_refusal : (refusal : Refusal) → wanted ≡ Err refusal → ComesTo packages wanted old now before after (Err (IsRefused refusal))
   comes_to_refusal refusal is = record { told = inl (ap report_in is); run = none_run (Err (IsRefused refusal)) tt; proper = none_proper }
 
-  pub comes_to_idle : (done : ChangeDone) (report : List ℕ) → wanted ≡ Ok done → done.commits ≡ false → report ≡ done.report → ComesTo selected wanted old now before after (Ok report)
+  pub comes_to_idle : (done : ChangeDone) (report : List ℕ) → wanted ≡ Ok done → done.commits ≡ false → report ≡ done.report → ComesTo packages wanted old now before after (Ok report)
   comes_to_idle done report is idle told = record {
     told = inl (ap report_in is ∙ ap Ok (sym told));
     run = none_run (Ok report) (λ commits. true_is_not_false (subst DoesCommit is commits) idle);
@@ -154,7 +154,7 @@ module _ (selected : List Candidate) (wanted : Result ChangeDone Refusal) (old n
 
 module _ (command : CommandLine) (selected : Result Selected Refusal) (old now : List TreeState) (before after : Counts) where
   pub of_seen : (seen : Seen command selected old) (result : Result (List ℕ) Refused)
-      → ComesTo (coming_in selected) (and_then selected (change_of_selected command seen.read seen.files seen.clash)) old now before after result
+      → ComesTo (packages_found command seen.read selected) (and_then selected (change_of_selected command seen.read seen.files seen.clash)) old now before after result
       → IsSelectedRun command selected old now before after result
   of_seen seen result comes = record {
     read = seen.read;

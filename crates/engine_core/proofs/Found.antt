@@ -19,7 +19,7 @@ use Rattle.change_inputs.specs.Inputs.{Inputs}
 use Rattle.change_inputs.specs.declared.root.Refused.{Refused}
 use Rattle.change_inputs.specs.declared.root.Refused.TheVariants as Commands
 use Rattle.change_outcome.specs.ChangeOutcome.{ChangeDone, ChangeWishes, IsClashFound, change_members, change_with_members, file_change, name_at_place, touched_paths, unless_clash, unless_contested, unless_reserved_path, unless_too_large}
-use Rattle.change_outcome.specs.MembersAfter.{MemberFound, candidates_that_come, members_found}
+use Rattle.change_outcome.specs.MembersAfter.{MemberFound, members_found}
 use Rattle.change_outcome.specs.Triggers.{unless_trigger}
 use Rattle.db_core.specs.Members.{Member, member_listings, member_name, staying_member}
 use Rattle.db_core.specs.Seen.{members_of, packages_of}
@@ -96,7 +96,7 @@ module _ (have : HaveClash) (inputs : Inputs) (r : Replacement) (wishes : Change
       record { clash = c.0; is_clash = subst (λ (f : Result (List MemberFound) Refusal). IsClashFound inputs wishes (files_of v) f c.0) is_found c.1 }
 
   module _ (old now : List TreeState) (before after : Counts) (whole : All IsWhole old) (quiet : IsOnlyRead old now before after) where
-    found_by : (result : Result (List ℕ) Refused) → ((clash : Option NamePair) → ComesTo (candidates_that_come r) (change_with_members inputs r wishes clash (files_now old) found) old now before after result)
+    found_by : (result : Result (List ℕ) Refused) → ((clash : Option NamePair) → ComesTo (Ok found) (change_with_members inputs r wishes clash (files_now old) found) old now before after result)
         → IsFoundRun inputs r wishes found old now before after result
     found_by result comes =
         let seen = clash_seen old whole in
@@ -113,7 +113,7 @@ module _ (have : HaveClash) (inputs : Inputs) (r : Replacement) (wishes : Change
         (and_then (unless_trigger wishes.no_scripts (touched_paths (file_change inputs wishes found) (files_now old)) (members_found found)) (λ allowed. unless_too_large inputs r wishes found (files_now old)))))) is))
 
     by_clash : (result : Result (List ℕ) Refused) (clash : Option NamePair) → (told : ClashTold (file_change inputs wishes found) old clash)
-        → ComesTo (candidates_that_come r) (change_with_members inputs r wishes clash told.files found) old now before after result → IsFoundRun inputs r wishes found old now before after result
+        → ComesTo (Ok found) (change_with_members inputs r wishes clash told.files found) old now before after result → IsFoundRun inputs r wishes found old now before after result
     by_clash result clash told comes =
         record { files = told.files; there = told.there; standing = told.standing; stand = told.stand; clash = clash; is_clash = told.is_clash; comes = comes }
 
@@ -193,7 +193,7 @@ planned_now old mid same p wishes found arrived plan names sources owners unrese
 
 pub planned_run : (old mid now : List TreeState) (before between after : Counts) (a : Arrived) (p : FilePlan) (wishes : ChangeWishes) (found : List MemberFound) (result : Result (List ℕ) Refused)
     → IsOnlyRead old mid before between → IsArrived old a found → (plan : IsPlanOf (change_by a.selection.now.db.now a.members.now wishes.purge) old p) → IsPlanFor (members_of a.members.now) p
-    → ComesTo (candidates_that_come (replacement_arrived a))
+    → ComesTo (Ok found)
     (and_then (unless_trigger wishes.no_scripts (touched_paths (file_change (inputs_arrived a) wishes found) plan.files) (members_found found))
     (λ allowed. unless_too_large (inputs_arrived a) (replacement_arrived a) wishes found plan.files)) mid now between after result
     → IsFoundRun (inputs_arrived a) (replacement_arrived a) wishes found old now before after result
@@ -215,6 +215,6 @@ planned_run old mid now before between after a p wishes found result quiet arriv
       stand = none.1;
       clash = None;
       is_clash = none.2;
-      comes = subst (λ (w : Result ChangeDone Refusal). ComesTo (candidates_that_come r) w old now before after result) (sym wanted_is)
-          (comes_behind_reads (candidates_that_come r) rest old mid now before between after result quiet comes);
+      comes = subst (λ (w : Result ChangeDone Refusal). ComesTo (Ok found) w old now before after result) (sym wanted_is)
+          (comes_behind_reads (Ok found) rest old mid now before between after result quiet comes);
     }

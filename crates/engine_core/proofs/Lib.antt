@@ -15,7 +15,6 @@ pub mod Elements
 pub mod Written
 pub mod Found
 pub mod Counted
-pub mod Arriving
 pub mod Made
 pub mod Worked
 pub mod InfoSteps

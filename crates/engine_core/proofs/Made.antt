@@ -14,7 +14,7 @@ use Rattle.change_inputs.specs.Inputs.{Inputs}
 use Rattle.change_inputs.specs.declared.root.Refused.{Refused}
 use Rattle.change_inputs.specs.declared.root.Refused.TheVariants.{Disk, Memory, Refusal as IsRefused}
 use Rattle.change_outcome.specs.ChangeOutcome.{ChangeDone, ChangeWishes, IsClashFoundOver, change_members, change_or_refusal, change_with_members}
-use Rattle.change_outcome.specs.MembersAfter.{MemberFound, candidates_that_come, members_after, members_found}
+use Rattle.change_outcome.specs.MembersAfter.{MemberFound, members_after}
 use Rattle.command_core.specs.Command.{CommandLine}
 use Rattle.command_core.specs.declared.command.Flags.{Flags}
 use Rattle.db_core.specs.Seen.{packages_of}
@@ -32,14 +32,13 @@ use Rattle.candidate_core.specs.declared.candidate_list.TheConstants.{MOST_CANDI
 use Rattle.report_core.specs.declared.refusal.Refusal.{Refusal}
 use Rattle.engine_core.specs.ChangeRun.{ComesTo}
 use Rattle.engine_core.specs.Changed.{IsClashOfSelectedOver, IsClashUnlessSimulatedOver, change_of_selected, simulated_change}
-use Rattle.engine_core.specs.Finishing.{AreArrivals, AreOfCandidates, IsRootRead}
+use Rattle.engine_core.specs.Finishing.{AreArrivals, IsRootRead}
 use Rattle.engine_core.specs.Making.{IsFoundRun}
 use Rattle.engine_core.specs.Runs.{IsSelectedRun}
 use Rattle.engine_core.specs.Selecting.{pool_by}
 use Rattle.engine_core.specs.SelectionSeen.{HasItsDatabase, inputs_of_selection, replacement_seen, selection_seen}
 use Rattle.engine_core.specs.Wishes.{wishes_of}
 use Rattle.engine_core.specs.declared.choosing.Selection.{Selection}
-use Rattle.engine_core.proofs.Arriving.{of_candidates}
 use Rattle.engine_core.proofs.Early.{HaveClash, IsOnlyRead, comes_to_refusal, files_seen, selected_failure}
 use Rattle.engine_core.proofs.WholeRuns.{run_behind_reads}
 
@@ -125,8 +124,6 @@ module _ (s : Selection) (database : HasItsDatabase s) (command : CommandLine) w
           placed = named;
           read = explained.is.2;
           root = root;
-          coming = subst (λ (r : Replacement). AreOfCandidates (candidates_that_come r) (members_found explained.is.0)) placed_is
-              (of_candidates placed explained.read repositories flags.no_scripts explained.is.0 explained.is.1);
         })
 
         pub arrived_run : (now : List TreeState) (after : Counts) (result : Result (List ℕ) Refused)
@@ -144,5 +141,6 @@ module _ (s : Selection) (database : HasItsDatabase s) (command : CommandLine) w
               stand = run.stand;
               clash = run.clash;
               is_clash = clash_is read explained.is.0 run.files run.standing run.clash found_is run.is_clash;
-              comes = subst (λ (w : Result ChangeDone Refusal). ComesTo (candidates_that_come (replacement_seen s)) w mid now between after result) (sym (by_found read run.files run.clash (Ok explained.is.0) found_is)) run.comes;
+              comes = subst (λ (p : Result (List MemberFound) Refusal). ComesTo p (change_of_selected command read run.files run.clash (selection_seen s)) mid now between after result) (sym found_is)
+                  (subst (λ (w : Result ChangeDone Refusal). ComesTo (Ok explained.is.0) w mid now between after result) (sym (by_found read run.files run.clash (Ok explained.is.0) found_is)) run.comes);
             })

@@ -21,13 +21,12 @@ use Rattle.make_info.specs.Reads.{Reads}
 use Rattle.package_files.specs.Runs.{AreObserved, Explains}
 use Rattle.package_changes.specs.Changes.{Replacement}
 use Rattle.path_clashes.specs.Clash.{NamePair}
-use Rattle.candidate_core.specs.Candidates.{Candidate}
 use Rattle.candidate_core.specs.Rank.{SealedPool}
 use Rattle.report_core.specs.declared.refusal.Refusal.{Refusal}
 use Rattle.change_laws.specs.Premises.{IsRootOfFiles}
 use Rattle.engine_core.specs.Finishing.{IsRootRead}
-use Rattle.engine_core.specs.ChangeRun.{ComesTo, IsChangeRun, coming_in}
-use Rattle.engine_core.specs.Changed.{IsClashOfSelected, IsClashOfSelectedOver, IsClashUnlessSimulatedOver, Selected, change_of_selected, change_of_command, selected_by, selected_for, selected_of_inputs, simulated_change}
+use Rattle.engine_core.specs.ChangeRun.{ComesTo, IsChangeRun}
+use Rattle.engine_core.specs.Changed.{IsClashOfSelected, IsClashOfSelectedOver, IsClashUnlessSimulatedOver, Selected, change_of_selected, change_of_command, packages_found, selected_by, selected_for, selected_of_inputs, simulated_change}
 use Rattle.engine_core.specs.Choice.{IsChoiceFrom}
 use Rattle.engine_core.specs.Runs.{IsRunBy, IsSelectedRun}
 use Rattle.engine_core.specs.Selecting.{pool_by, pool_for}
@@ -71,16 +70,16 @@ splice_observed count first behind (v ∷ earlier) f b = λ n name. by (nat_lt n
 
 -- ---- a run behind calls that only read
 
-pub comes_behind_reads : (selected : List Candidate) (wanted : Result ChangeDone Refusal) (old mid now : List TreeState) (before between after : Counts) (result : Result (List ℕ) Refused)
-    → IsOnlyRead old mid before between → ComesTo selected wanted mid now between after result → ComesTo selected wanted old now before after result
-comes_behind_reads selected wanted old mid now before between after result quiet comes = record {
+pub comes_behind_reads : (packages : Result (List MemberFound) Refusal) (wanted : Result ChangeDone Refusal) (old mid now : List TreeState) (before between after : Counts) (result : Result (List ℕ) Refused)
+    → IsOnlyRead old mid before between → ComesTo packages wanted mid now between after result → ComesTo packages wanted old now before after result
+comes_behind_reads packages wanted old mid now before between after result quiet comes = record {
   told = same.told;
   run = same.run;
   proper = both _ _ _ old quiet.proper same.proper;
 }
   where
-    same : ComesTo selected wanted old now between after result
-    same = subst (λ (h : List TreeState). ComesTo selected wanted h now between after result) quiet.same comes
+    same : ComesTo packages wanted old now between after result
+    same = subst (λ (h : List TreeState). ComesTo packages wanted h now between after result) quiet.same comes
 
     both : (A B C : TreeState → Type 0) (h : List TreeState) → IfObservable h (λ v. between.misuses ≡ before.misuses)
         → IfObservable h (λ v. A v → B v → C v → after.misuses ≡ between.misuses) → IfObservable h (λ v. A v → B v → C v → after.misuses ≡ before.misuses)
@@ -131,6 +130,9 @@ module _ (have : HaveOwnReads) (command : CommandLine) (inputs : Inputs) (read o
       by : (b : Bool) → IsClashUnlessSimulatedOver b (wishes_of command) other files standing s clash → IsClashUnlessSimulatedOver b (wishes_of command) read files standing s clash
       by true clash_is = clash_is
       by false clash_is = subst (λ (found : Result (List MemberFound) Refusal). IsClashFoundOver s.inputs (wishes_of command) files standing found clash) (of_inputs s.inputs is) clash_is
+
+  packages_same : (s : Selected) → s.inputs ≡ inputs → packages_found command read (Ok s) ≡ packages_found command other (Ok s)
+  packages_same s is = subst (λ (i : Inputs). change_members i s.replacement (wishes_of command) read ≡ change_members i s.replacement (wishes_of command) other) (sym is) (members_same s.replacement (wishes_of command))
 
 -- what is selected has these inputs
 abbrev HasInputs : Inputs → Result Selected Refusal → Type 0
@@ -185,6 +187,14 @@ module _ (have : HaveOwnReads) (command : CommandLine) (inputs : Inputs) (old no
   unfolding change_of_command selected
   changed_is = sym (ap (λ (s : Result Selected Refusal). and_then s (change_of_selected command read run.files run.clash)) selected_is ∙ by_selected selected (selected_has command chosen inputs))
 
+  packages_by : (s : Result Selected Refusal) → HasInputs inputs s → packages_found command run.read s ≡ packages_found command read s
+  packages_by (Ok s) has = sym (packages_same have command inputs read run.read same s has)
+  packages_by (Err refusal) has = refl
+
+  packages_are : packages_found command run.read selected ≡ packages_found command read (selected_for command read chosen)
+  unfolding selected
+  packages_are = packages_by selected (selected_has command chosen inputs) ∙ ap (packages_found command read) (sym selected_is)
+
   clash_by : (s : Result Selected Refusal) → HasInputs inputs s → IsClashOfSelectedOver command run.read run.files run.standing s run.clash → IsClashOfSelectedOver command read run.files run.standing s run.clash
   clash_by (Ok s) has clash = clash_same have command inputs read run.read same s run.files run.standing run.clash has clash
   clash_by (Err refusal) has clash = clash
@@ -203,8 +213,8 @@ module _ (have : HaveOwnReads) (command : CommandLine) (inputs : Inputs) (old no
     clash = run.clash;
     is_clash = subst (λ (s : Result Selected Refusal). IsClashOfSelectedOver command read run.files run.standing s run.clash) (sym selected_is)
         (clash_by selected (selected_has command chosen inputs) run.is_clash);
-    comes = subst (λ (s : Result Selected Refusal). ComesTo (coming_in s) (change_of_command command read run.files chosen run.clash) old now before after result) (sym selected_is)
-        (subst (λ (w : Result ChangeDone Refusal). ComesTo (coming_in selected) w old now before after result) changed_is run.comes);
+    comes = subst (λ (p : Result (List MemberFound) Refusal). ComesTo p (change_of_command command read run.files chosen run.clash) old now before after result) packages_are
+        (subst (λ (w : Result ChangeDone Refusal). ComesTo (packages_found command run.read selected) w old now before after result) changed_is run.comes);
   }
 
 pub joined : HaveOwnReads → (command : CommandLine) (loaded : Loaded) (old mid now : List TreeState) (before between after : Counts) (result : Result (List ℕ) Refused) → IsOnlyRead old mid before between

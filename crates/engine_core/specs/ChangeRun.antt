@@ -1,34 +1,31 @@
 -- What a run of a change answers, and what it makes of the tree. The rules stand in
 -- `docs/commands.md`, "`add` and `del`" and "`upgrade` and `fix`"; what a crash leaves in
 -- `docs/crash-safety.md`, "A change of several files".
-use Rattle.std.specs.Prelude.{◌≡◌, ◌⊎◌, ℕ, true, List, [], Option, Some, None, Result, Ok, Err, OnOk, IfErr, Contains}
+use Rattle.std.specs.Prelude.{◌≡◌, ◌⊎◌, ℕ, true, List, Option, Some, None, Result, Ok, Err, OnOk, IfErr, Contains}
 use Rattle.base_core.specs.Calls.{IfObservable}
 use Rattle.base_core.specs.Faults.{Counts}
 use Rattle.base_core.specs.Files.{Files}
 use Rattle.base_core.specs.Tree.{TreeState, files_of}
 use Rattle.base_core.specs.declared.cause.Cause.{Cause}
-use Rattle.base_core.specs.declared.cause.Cause.TheVariants.{HashDiffers}
-use Rattle.base_core.specs.declared.cause.Digest.{Digest}
 use Rattle.change_inputs.specs.Answers.{AgreesUnlessDisk}
 use Rattle.change_inputs.specs.Chains.{and_then}
 use Rattle.change_inputs.specs.declared.root.Refused.{Refused}
 use Rattle.change_inputs.specs.declared.root.Refused.TheVariants.{Disk, Refusal as IsRefused}
 use Rattle.change_outcome.specs.ChangeOutcome.{ChangeDone}
-use Rattle.change_outcome.specs.MembersAfter.{candidates_that_come}
-use Rattle.change_outcome.specs.PackageFiles.{package_in_file, unless_different}
+use Rattle.change_outcome.specs.MembersAfter.{MemberFound}
 use Rattle.command_core.specs.Command.{CommandLine}
+use Rattle.db_core.specs.Members.{member_name}
+use Rattle.file_owners.specs.Replaces.{version_text}
 use Rattle.journal_core.specs.Recovery.{intent_name}
 use Rattle.journal_core.specs.Staged.{HasRoomToStage, IsEmptyStage}
 use Rattle.make_info.specs.Reads.{Reads}
 use Rattle.package_files.specs.Runs.{AreObserved}
-use Rattle.package_changes.specs.Changes.{selected_version}
 use Rattle.path_clashes.specs.Clash.{NamePair}
-use Rattle.pkg_core.specs.Whole.{package_fault}
-use Rattle.candidate_core.specs.Candidates.{Candidate}
 use Rattle.report_core.specs.declared.refusal.Refusal.{Refusal}
 use Rattle.report_core.specs.declared.refusal.Refusal.TheVariants.{PackageBad}
+use Rattle.stage_files.specs.Spoiled.{IsSpoiledFile}
 use Rattle.stage_run.specs.StageRun.{IsStageRun, IsStageRunDone}
-use Rattle.engine_core.specs.Changed.{IsClashForOver, Selected, change_of_command, selected_for}
+use Rattle.engine_core.specs.Changed.{IsClashForOver, change_of_command, packages_found, selected_for}
 use Rattle.engine_core.specs.Choice.{IsChoiceFrom}
 use Rattle.engine_core.specs.Selecting.{pool_for}
 
@@ -47,30 +44,33 @@ abbrev pub DoesCommit : Result ChangeDone Refusal → Type 0
 DoesCommit (Ok done) = done.commits ≡ true
 DoesCommit (Err refusal) = ⊥
 
--- The file of a candidate's package is spoiled: by its identity, name and version it is that
--- package, but as a package it is refused with this cause: a digest of contents differs.
-pub record IsSpoiledPackage (c : Candidate) (file : List ℕ) (cause : Cause) : Type 0 where
-  pub agrees : unless_different c (package_in_file file) ≡ Ok (package_in_file file)
-  pub wanted : Digest
-  pub found : Digest
-  pub digest : cause ≡ HashDiffers wanted found
-  pub fault : package_fault file ≡ Some cause
+-- One of the packages that reads found is spoiled: `tested` is what its read found, and the refusal
+-- tells this package as bad with the cause of some file that is spoiled beside it.
+pub record HasSpoiledPackage (packages : Result (List MemberFound) Refusal) (refusal : Refusal) :
+    Type 0 where
+  pub found : List MemberFound
+  pub are : packages ≡ Ok found
+  pub one : MemberFound
+  pub among : Contains found one
+  pub tested : List ℕ
+  pub read : one.file ≡ Some tested
+  pub file : List ℕ
+  pub cause : Cause
+  pub spoiled : IsSpoiledFile tested file cause
+  pub is : refusal ≡ PackageBad (member_name one.member) (version_text one.member.pkg) cause
 
 -- The file of a package that comes is not what it was when it was tested, as its contents are read
 -- once more: what is told of it is told of some file with other contents. Where a tree shows its
 -- files, and neither an intent is read nor anything waits, this does not happen.
-pub record IsFoundChanged (coming : List Candidate) (wanted : Result ChangeDone Refusal)
-    (history : List TreeState) (result : Result (List ℕ) Refused) : Type 0 where
+pub record IsFoundChanged (packages : Result (List MemberFound) Refusal)
+    (wanted : Result ChangeDone Refusal) (history : List TreeState)
+    (result : Result (List ℕ) Refused) : Type 0 where
   pub unseen : IfObservable history (λ v. v.names intent_name ≡ None → IsEmptyStage (files_of v)
       → ⊥)
   pub commits : DoesCommit wanted
-  pub candidate : Candidate
-  pub comes : Contains coming candidate
-  pub cause : Cause
-  pub file : List ℕ
-  pub spoiled : IsSpoiledPackage candidate file cause
-  pub refusal : result
-      ≡ Err (IsRefused (PackageBad candidate.name (selected_version candidate) cause))
+  pub refusal : Refusal
+  pub spoiled : HasSpoiledPackage packages refusal
+  pub is : result ≡ Err (IsRefused refusal)
 
 -- ---- what it makes of the tree
 
@@ -94,25 +94,20 @@ IsNoneOrCommit wanted v old now result =
 
 -- ---- both
 
--- How a run of a change ends that comes to `wanted`, for which the packages of the candidates
--- `coming` are read: it answers that report or refusal, or that one of these packages has changed, or
--- that the tree failed or memory ran out. Where at its start neither an intent is read nor anything
--- waits, nothing happens to the tree, or the change is carried through or the tree fails on the way,
--- and no call is a misuse if a change that commits has room for its stage.
-pub record ComesTo (coming : List Candidate) (wanted : Result ChangeDone Refusal)
-    (old now : List TreeState) (before after : Counts)
+-- How a run of a change ends that comes to `wanted`, for which the reads find these packages: it
+-- answers that report or refusal, or that one of these packages has changed, or that the tree failed
+-- or memory ran out. Where at its start neither an intent is read nor anything waits, nothing happens
+-- to the tree, or the change is carried through or the tree fails on the way, and no call is a misuse
+-- if a change that commits has room for its stage.
+pub record ComesTo (packages : Result (List MemberFound) Refusal)
+    (wanted : Result ChangeDone Refusal) (old now : List TreeState) (before after : Counts)
     (result : Result (List ℕ) Refused) : Type 0 where
   pub told : AgreesUnlessDisk report_as_is result (report_in wanted)
-      ⊎ IsFoundChanged coming wanted old result
+      ⊎ IsFoundChanged packages wanted old result
   pub run : IfObservable old (λ v. v.names intent_name ≡ None → IsEmptyStage (files_of v)
       → IsNoneOrCommit wanted v old now result)
   pub proper : IfObservable old (λ v. v.names intent_name ≡ None → IsEmptyStage (files_of v)
       → (DoesCommit wanted → HasRoomToStage (files_of v)) → after.misuses ≡ before.misuses)
-
--- the candidates whose packages a change reads; a refusal reads none
-abbrev pub coming_in : Result Selected Refusal → List Candidate
-coming_in (Ok s) = candidates_that_come s.replacement
-coming_in (Err refusal) = []
 
 -- A run of a command's change: by what reads find, by some files, by what is chosen, and by the
 -- first clash of names among some standing files. Where the tree shows its files both are the files
@@ -129,5 +124,5 @@ pub record IsChangeRun (command : CommandLine) (old now : List TreeState) (befor
   pub stand : IfObservable old (λ v. standing ≡ files_of v)
   pub clash : Option NamePair
   pub is_clash : IsClashForOver command read files standing chosen clash
-  pub comes : ComesTo (coming_in (selected_for command read chosen))
+  pub comes : ComesTo (packages_found command read (selected_for command read chosen))
       (change_of_command command read files chosen clash) old now before after result

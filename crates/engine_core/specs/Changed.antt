@@ -5,7 +5,8 @@ use Rattle.std.specs.Prelude.{◌≡◌, ℕ, Bool, true, false, if◌then◌els
 use Rattle.base_core.specs.Files.{Files}
 use Rattle.change_inputs.specs.Chains.{and_then}
 use Rattle.change_inputs.specs.Inputs.{Inputs, inputs_of}
-use Rattle.change_outcome.specs.ChangeOutcome.{ChangeDone, ChangeWishes, IsClashOfChangeOver, change_or_refusal}
+use Rattle.change_outcome.specs.ChangeOutcome.{ChangeDone, ChangeWishes, IsClashOfChangeOver, change_members, change_or_refusal}
+use Rattle.change_outcome.specs.MembersAfter.{MemberFound}
 use Rattle.command_core.specs.Command.{CommandLine}
 use Rattle.make_info.specs.Reads.{Reads}
 use Rattle.package_changes.specs.Changes.{Replacement}
@@ -50,6 +51,12 @@ selected_of_inputs command chosen inputs =
 abbrev pub selected_for : CommandLine → Reads → Option (List ℕ) → Result Selected Refusal
 selected_for command read chosen =
     and_then (inputs_of command read) (selected_of_inputs command chosen)
+
+-- the packages after what is selected, as reads find them, or the first refusal
+abbrev pub packages_found :
+    CommandLine → Reads → Result Selected Refusal → Result (List MemberFound) Refusal
+packages_found command read selected =
+    and_then selected (λ s. change_members s.inputs s.replacement (wishes_of command) read)
 
 -- ---- what comes of it
 

@@ -1,7 +1,7 @@
 -- What is known of a change as it is made ready. Serves the contracts between the steps of a
 -- change, from `make_change` to `carry_change`; the rules stand in `docs/commands.md`,
 -- "What a change does with files" and "`add` and `del`".
-use Rattle.std.specs.Prelude.{◌≡◌, ℕ, Bool, true, false, not, List, All, Contains, Option, Some, None, IfSome, bytes_eq, slice_get}
+use Rattle.std.specs.Prelude.{◌≡◌, ℕ, Bool, true, false, not, List, All, Option, Some, None, bytes_eq}
 use Rattle.std.specs.Option.{option_copied}
 use Rattle.adb_rules.specs.Reserved.{is_reserved}
 use Rattle.arrivals.specs.Arrivals.{AreMembersRead, arrivals_seen}
@@ -10,18 +10,16 @@ use Rattle.base_core.specs.Files.{Files}
 use Rattle.base_core.specs.Tree.{TreeState, files_of}
 use Rattle.change_files.specs.FileChange.{old_listings}
 use Rattle.change_files.specs.NamesAfter.{name_change}
-use Rattle.file_owners.specs.Replaces.{version_text}
 use Rattle.path_clashes.specs.Clash.{HasNoClash}
-use Rattle.candidate_core.specs.Candidates.{Candidate, is_same_id}
 use Rattle.change_inputs.specs.Inputs.{Inputs}
 use Rattle.change_laws.specs.Premises.{IsRootOfFiles}
 use Rattle.change_outcome.specs.ChangeOutcome.{ChangeWishes, file_change, is_other_file}
-use Rattle.change_outcome.specs.MembersAfter.{MemberFound, candidates_that_come, members_found}
-use Rattle.db_core.specs.Members.{Member, is_coming, member_name}
+use Rattle.change_outcome.specs.MembersAfter.{MemberFound, members_found}
+use Rattle.db_core.specs.Members.{Member}
 use Rattle.db_core.specs.Seen.{members_of, packages_of}
 use Rattle.dep_core.specs.World.{world_text}
 use Rattle.own_core.specs.Planned.{ArePlanLists, HasOwnNames, HasSources, IsPlanFor}
-use Rattle.package_changes.specs.Changes.{Replacement, selected_version}
+use Rattle.package_changes.specs.Changes.{Replacement}
 use Rattle.package_changes.specs.Placed.{placed_names_of}
 use Rattle.package_changes.specs.Seen.{placed_names_seen, replacement_by}
 use Rattle.root_names.specs.RootNames as Names
@@ -39,19 +37,6 @@ abbrev pub IsRootRead : List TreeState → Inputs → Type 0
 IsRootRead history inputs = IfObservable history (λ v. IsRootOfFiles (files_of v) inputs.root)
 
 -- ---- the packages
-
--- a member is of one of these candidates: it has its identity, its name and its version
-pub record IsOfCandidate (coming : List Candidate) (m : Member) : Type 0 where
-  pub candidate : Candidate
-  pub comes : Contains coming candidate
-  pub id : IfSome m.id (λ id. is_same_id candidate.id id ≡ true)
-  pub name : candidate.name ≡ member_name m
-  pub version : selected_version candidate ≡ version_text m.pkg
-
--- each member that comes is of the candidate with its name
-abbrev pub AreOfCandidates : List Candidate → List Member → Type 0
-AreOfCandidates coming members = (place : ℕ) (m : Member) → slice_get members place ≡ Some m
-    → is_coming m ≡ true → IsOfCandidate coming m
 
 -- what was read of the root, as it is known when the packages have arrived
 abbrev pub inputs_arrived : Arrived → Inputs
@@ -73,7 +58,6 @@ pub record AreArrivals (history : List TreeState) (s : Selection) (names : Place
       ≡ placed_names_of (replacement_by s.db.now s.pool.now s.trace.now s.again.now)
   pub read : AreMembersRead history (packages_of s.db.now) (arrivals_seen arrivals) found
   pub root : IsRootRead history (inputs_of_selection s)
-  pub coming : AreOfCandidates (candidates_that_come (replacement_seen s)) (members_found found)
 
 -- the packages after a change have arrived: they were read, and their members stand one beside the
 -- other

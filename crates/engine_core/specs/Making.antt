@@ -8,7 +8,7 @@ use Rattle.base_core.specs.Tree.{TreeState, files_of}
 use Rattle.change_inputs.specs.Inputs.{Inputs}
 use Rattle.change_inputs.specs.declared.root.Refused.{Refused}
 use Rattle.change_outcome.specs.ChangeOutcome.{ChangeWishes, IsClashFoundOver, change_members, change_with_members}
-use Rattle.change_outcome.specs.MembersAfter.{MemberFound, candidates_that_come}
+use Rattle.change_outcome.specs.MembersAfter.{MemberFound}
 use Rattle.make_info.specs.Reads.{Reads}
 use Rattle.package_changes.specs.Changes.{Replacement}
 use Rattle.path_clashes.specs.Clash.{NamePair}
@@ -24,7 +24,7 @@ pub record IsFoundRun (inputs : Inputs) (r : Replacement) (wishes : ChangeWishes
   pub stand : IfObservable old (λ v. standing ≡ files_of v)
   pub clash : Option NamePair
   pub is_clash : IsClashFoundOver inputs wishes files standing (Ok found) clash
-  pub comes : ComesTo (candidates_that_come r) (change_with_members inputs r wishes clash files found)
+  pub comes : ComesTo (Ok found) (change_with_members inputs r wishes clash files found)
       old now before after result
 
 -- what a run comes to where reads find each package that comes, and no test of it fails

@@ -14,8 +14,8 @@ use Rattle.make_info.specs.Reads.{Reads}
 use Rattle.package_files.specs.Runs.{AreObserved}
 use Rattle.path_clashes.specs.Clash.{NamePair}
 use Rattle.report_core.specs.declared.refusal.Refusal.{Refusal}
-use Rattle.engine_core.specs.ChangeRun.{ComesTo, coming_in}
-use Rattle.engine_core.specs.Changed.{IsClashOfSelectedOver, Selected, change_of_selected, selected_of_inputs}
+use Rattle.engine_core.specs.ChangeRun.{ComesTo}
+use Rattle.engine_core.specs.Changed.{IsClashOfSelectedOver, Selected, change_of_selected, packages_found, selected_of_inputs}
 use Rattle.engine_core.specs.Choice.{IsChoiceFrom}
 use Rattle.engine_core.specs.Selecting.{pool_by}
 
@@ -31,7 +31,7 @@ pub record IsSelectedRun (command : CommandLine) (selected : Result Selected Ref
   pub stand : IfObservable old (λ v. standing ≡ files_of v)
   pub clash : Option NamePair
   pub is_clash : IsClashOfSelectedOver command read files standing selected clash
-  pub comes : ComesTo (coming_in selected)
+  pub comes : ComesTo (packages_found command read selected)
       (and_then selected (change_of_selected command read files clash))
       old now before after result
 

@@ -4,14 +4,14 @@
 ghost use Rattle.base_core.specs.Files.{Files};
 ghost use Rattle.change_inputs.specs.Chains.{and_then};
 ghost use Rattle.change_outcome.specs.ChangeOutcome.{file_change, touched_paths, unless_too_large};
-ghost use Rattle.change_outcome.specs.MembersAfter.{MemberFound, candidates_that_come, members_found};
+ghost use Rattle.change_outcome.specs.MembersAfter.{MemberFound, members_found};
 ghost use Rattle.change_outcome.specs.Triggers.{unless_trigger};
 ghost use Rattle.engine_core.specs.Carrying.{HasPlan, ready_change};
 ghost use Rattle.engine_core.specs.ChangeRun.{ComesTo};
 ghost use Rattle.engine_core.specs.Finishing.{AreRecordsOf, IsPlanned, inputs_arrived, replacement_arrived};
 ghost use Rattle.engine_core.specs.Runs.{IsRunCounted};
 ghost use Rattle.engine_core.specs.Wishes.{wishes_of};
-ghost use Rattle.std.specs.Prelude.{◌≡◌, List};
+ghost use Rattle.std.specs.Prelude.{◌≡◌, List, Ok};
 
 use crate::finishing::{
     NewRecords, is_idle, new_records, record_writes_of, refused_package, report_of,
@@ -45,8 +45,7 @@ fn carry_change<T: Tree>(
     // large.
     ensures comes { (found : List MemberFound) (files : Files)
         → IsPlanned (T.history tree.old) (wishes_of command.now) planned.now found files
-        → ComesTo (candidates_that_come (replacement_arrived planned.now.arrived.now))
-        (ready_change (inputs_arrived planned.now.arrived.now)
+        → ComesTo (Ok found) (ready_change (inputs_arrived planned.now.arrived.now)
         (replacement_arrived planned.now.arrived.now) (wishes_of command.now) found files
         records.now.database.items) (T.history tree.old) (T.history tree.new) (T.counts tree.old)
         (T.counts tree.new) result }
@@ -103,8 +102,7 @@ pub(crate) fn finish_change<T: Tree>(
     // The run comes to the change, unless a trigger is due or a limit of the writer is passed.
     ensures comes { (found : List MemberFound) (files : Files)
         → IsPlanned (T.history tree.old) (wishes_of command.now) planned.now found files
-        → ComesTo (candidates_that_come (replacement_arrived planned.now.arrived.now))
-        (and_then (unless_trigger (wishes_of command.now).no_scripts
+        → ComesTo (Ok found) (and_then (unless_trigger (wishes_of command.now).no_scripts
         (touched_paths (file_change (inputs_arrived planned.now.arrived.now)
         (wishes_of command.now) found) files) (members_found found))
         (λ allowed. unless_too_large (inputs_arrived planned.now.arrived.now)

@@ -1,20 +1,19 @@
 -- The outcome of a command. `demo` is apart: it runs other commands. What comes before each command
 -- stands in `docs/commands.md`, "Before the commands that write, and `info`", and what each comes
 -- to in its own section.
-use Rattle.std.specs.Prelude.{◌≡◌, ◌⊎◌, ℕ, true, List, [], Option, Some, None, Result, Ok, Err, Contains}
+use Rattle.std.specs.Prelude.{◌≡◌, ◌⊎◌, ℕ, true, List, [], Option, Some, None, Result, Ok, Err}
 use Rattle.adb_schema.specs.Soundness.{first_fault}
 use Rattle.adb_tables.specs.declared.tables.Which.TheVariants.{Intent as IntentTable}
 use Rattle.base_core.specs.Files.{Files, no_names}
 use Rattle.base_core.specs.declared.cause.Cause.{Cause}
 use Rattle.make_info.specs.Reads.{Reads}
-use Rattle.package_changes.specs.Changes.{selected_version}
-use Rattle.candidate_core.specs.Candidates.{Candidate}
-use Rattle.report_core.specs.declared.refusal.Refusal.TheVariants.{IntentBad, PackageBad, Usage}
+use Rattle.report_core.specs.declared.refusal.Refusal.{Refusal}
+use Rattle.report_core.specs.declared.refusal.Refusal.TheVariants.{IntentBad, Usage}
 use Rattle.command_core.specs.Command.{CommandLine}
 use Rattle.command_core.specs.declared.command.Applet.{Applet}
 use Rattle.command_core.specs.declared.command.Applet.TheVariants.{Adbdump, Demo, Info, Mkndx, Mkpkg, Verify, Version}
-use Rattle.engine_core.specs.ChangeRun.{IsSpoiledPackage, coming_in}
-use Rattle.engine_core.specs.Changed.{selected_for}
+use Rattle.engine_core.specs.ChangeRun.{HasSpoiledPackage}
+use Rattle.engine_core.specs.Changed.{packages_found, selected_for}
 use Rattle.outcome.specs.Changing.{change}
 use Rattle.outcome.specs.Dump.{adbdump}
 use Rattle.outcome.specs.Effect.{Changes, does_recover, effect_of}
@@ -79,18 +78,15 @@ IsOutcomeOf (Ok command) files outcome =
 
 -- The file of a package that comes is read once more when a change is carried out. Where it is not
 -- what it was when it was tested, the change is refused: with the cause of some file that has the
--- same values, and other contents.
+-- length and the values of the one that its read found, and other contents.
 pub record IsSpoiled (command : CommandLine) (read : Reads) (given : Given) (files : Files)
     (outcome : Outcome) : Type 0 where
   pub changes : effect_of command.applet ≡ Changes
   pub commits : (command_outcome command given read files).commits ≡ true
-  pub candidate : Candidate
-  pub comes : Contains (coming_in (selected_for command read given.chosen)) candidate
-  pub cause : Cause
-  pub file : List ℕ
-  pub spoiled : IsSpoiledPackage candidate file cause
-  pub refusal : outcome
-      ≡ just_refusal files (PackageBad candidate.name (selected_version candidate) cause)
+  pub refusal : Refusal
+  pub spoiled : HasSpoiledPackage
+      (packages_found command read (selected_for command read given.chosen)) refusal
+  pub is : outcome ≡ just_refusal files refusal
 
 -- the outcome for some listing, some contents at each read, and some files; and for the first clash
 -- of names among some files that stand

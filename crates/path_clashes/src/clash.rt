@@ -60,7 +60,11 @@ fn first_of(one: Option<Clash>, other: Option<Clash>) -> Option<Clash>
 }
 
 /// The bytes of a path, whose folder and name are joined by `/`; the root's name is empty.
-fn path_bytes(alloc: Global, path: &FilePath<'_>) -> Result<Vec<u8>, AllocError>
+///
+/// # Errors
+///
+/// Want of memory.
+pub fn path_bytes(alloc: Global, path: &FilePath<'_>) -> Result<Vec<u8>, AllocError>
     ensures { IfOk result (λ bytes. bytes.items ≡ joined_path path.now) }
 {
     let mut bytes = Vec::new(alloc);

@@ -12,5 +12,5 @@ mod near;
 
 pub use clash::{
     Clash, LetGo, a_change_has_one_first_clash, changes_that_agree_clash_alike,
-    files_without_a_clash_are_folder_like, first_clash,
+    files_without_a_clash_are_folder_like, first_clash, path_bytes,
 };

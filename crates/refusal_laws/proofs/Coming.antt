@@ -9,12 +9,13 @@ use Rattle.base_core.specs.declared.cause.Cause.{Cause}
 use Rattle.change_inputs.specs.Inputs.{Inputs, first_index_read}
 use Rattle.change_outcome.specs.ChangeOutcome.{ChangeWishes}
 use Rattle.change_outcome.specs.MembersAfter.{coming_by_path}
-use Rattle.change_outcome.specs.PackageFiles.{ComingPackage, first_script_of, has_script_of, id_field, name_field, package_file_of, package_found, package_in_file, scripts_of_change, unless_different, unless_number, unless_package_bad, unless_script, version_field}
+use Rattle.change_outcome.specs.PackageFiles.{ComingPackage, first_script_of, has_script_of, package_file_of, package_found, package_in_file, scripts_of_change, unless_different, unless_number, unless_package_bad, unless_script}
 use Rattle.file_owners.specs.Replaces.{version_text}
 use Rattle.make_info.specs.Reads.{Reads}
 use Rattle.package_changes.specs.Changes.{Replacement, change_of_name, is_selected_named, names_on_both_sides, selected_version}
 use Rattle.pkg_core.specs.Whole.{package_fault}
 use Rattle.candidate_core.specs.Candidates.{Candidate, is_same_id}
+use Rattle.report_core.specs.Numbers.{HASHES_FIELD, NAME_FIELD, VERSION_FIELD}
 use Rattle.report_core.specs.Reports.{Change}
 use Rattle.report_core.specs.declared.refusal.Refusal.{Refusal}
 use Rattle.report_core.specs.declared.refusal.Refusal.TheVariants.{PackageBad, PackageDiffers, PackageMissing, ScriptNeeded}
@@ -40,28 +41,28 @@ not_same a b apart is = true≢false (sym ((bytes_eq-Decides a b).1 is) ∙ apar
 module _ (c : Candidate) (pkg : ComingPackage) where
   abbrev pub by_fields : Bool → Bool → Bool → Result ComingPackage Refusal
   by_fields a b v =
-      if not a then Err (differs c id_field c.id pkg.id) else if not b then Err (differs c name_field c.name (package_name pkg.value))
-      else if not v then Err (differs c version_field (selected_version c) (version_text pkg.value)) else Ok pkg
+      if not a then Err (differs c HASHES_FIELD c.id pkg.id) else if not b then Err (differs c NAME_FIELD c.name (package_name pkg.value))
+      else if not v then Err (differs c VERSION_FIELD (selected_version c) (version_text pkg.value)) else Ok pkg
 
   pub different_err : (refusal : Refusal) → unless_different c pkg ≡ Err refusal → IsTold c pkg refusal
   different_err refusal e = by_tests (is_same_id c.id pkg.id) refl (bytes_eq c.name (package_name pkg.value)) refl (bytes_eq (selected_version c) (version_text pkg.value)) refl e
     where
       by_tests : (a : Bool) → is_same_id c.id pkg.id ≡ a → (b : Bool) → bytes_eq c.name (package_name pkg.value) ≡ b → (v : Bool) → bytes_eq (selected_version c) (version_text pkg.value) ≡ v
           → by_fields a b v ≡ Err refusal → IsTold c pkg refusal
-      by_tests false i b n v w e = (id_field, c.id, pkg.id, inl (refl, (refl, refl, i)), (let same : differs c id_field c.id pkg.id ≡ refusal = cc in same))
+      by_tests false i b n v w e = (HASHES_FIELD, c.id, pkg.id, inl (refl, (refl, refl, i)), (let same : differs c HASHES_FIELD c.id pkg.id ≡ refusal = cc in same))
       by_tests true i false n v w e = (
-        name_field,
+        NAME_FIELD,
         c.name,
         package_name pkg.value,
         inr (inl (refl, i, (refl, refl, not_same c.name (package_name pkg.value) n))),
-        (let same : differs c name_field c.name (package_name pkg.value) ≡ refusal = cc in same),
+        (let same : differs c NAME_FIELD c.name (package_name pkg.value) ≡ refusal = cc in same),
       )
       by_tests true i true n false w e = (
-        version_field,
+        VERSION_FIELD,
         selected_version c,
         version_text pkg.value,
         inr (inr (refl, i, (bytes_eq-Decides c.name (package_name pkg.value)).0 n, (refl, refl, not_same (selected_version c) (version_text pkg.value) w))),
-        (let same : differs c version_field (selected_version c) (version_text pkg.value) ≡ refusal = cc in same),
+        (let same : differs c VERSION_FIELD (selected_version c) (version_text pkg.value) ≡ refusal = cc in same),
       )
       by_tests true i true n true w e = absurd (cc (e))
 

@@ -8,13 +8,14 @@ use Rattle.adb_view.specs.Plain.{Plain}
 use Rattle.base_core.specs.declared.cause.Cause.{Cause}
 use Rattle.change_inputs.specs.Inputs.{Inputs}
 use Rattle.change_outcome.specs.ChangeOutcome.{ChangeWishes}
-use Rattle.change_outcome.specs.PackageFiles.{ComingPackage, first_script_of, has_script_of, id_field, name_field, package_in_file, scripts_of_change, version_field}
+use Rattle.change_outcome.specs.PackageFiles.{ComingPackage, first_script_of, has_script_of, package_in_file, scripts_of_change}
 use Rattle.db_core.specs.Packages.{is_package_named}
 use Rattle.file_owners.specs.Replaces.{version_text}
 use Rattle.make_info.specs.Reads.{Reads}
 use Rattle.package_changes.specs.Changes.{Replacement, change_of_name, selected_version}
 use Rattle.pkg_core.specs.Whole.{package_fault}
 use Rattle.candidate_core.specs.Candidates.{Candidate, is_same_id}
+use Rattle.report_core.specs.Numbers.{HASHES_FIELD, NAME_FIELD, VERSION_FIELD}
 use Rattle.report_core.specs.Reports.{Change}
 use Rattle.refusal_laws.specs.ComingPackages.{IsBrought, IsReadFor, selected_of_name}
 
@@ -52,9 +53,9 @@ HasOtherVersion c pkg wanted found =
 -- is another; or both are the same, and the version is another
 abbrev pub IsOtherPackage : Candidate → ComingPackage → ℕ → List ℕ → List ℕ → Type 0
 IsOtherPackage c pkg field wanted found =
-    ((field ≡ id_field) × HasOtherId c pkg wanted found)
-    ⊎ (((field ≡ name_field) × (is_same_id c.id pkg.id ≡ true) × HasOtherName c pkg wanted found)
-    ⊎ ((field ≡ version_field) × (is_same_id c.id pkg.id ≡ true) × (c.name ≡ package_name pkg.value)
+    ((field ≡ HASHES_FIELD) × HasOtherId c pkg wanted found)
+    ⊎ (((field ≡ NAME_FIELD) × (is_same_id c.id pkg.id ≡ true) × HasOtherName c pkg wanted found)
+    ⊎ ((field ≡ VERSION_FIELD) × (is_same_id c.id pkg.id ≡ true) × (c.name ≡ package_name pkg.value)
     × HasOtherVersion c pkg wanted found))
 
 -- the file of a package that comes passes all tests, and the package in it is another one than the

@@ -2,7 +2,15 @@
 -- `docs/formats.md`, "Schemas", which count from 1.
 use Rattle.std.specs.Prelude.{ℕ}
 
--- the number of *hashes* in a package info
+-- the number of *name* in a package info
+abbrev pub NAME_FIELD : ℕ
+NAME_FIELD = 1
+
+-- the number of *version* in a package info
+abbrev pub VERSION_FIELD : ℕ
+VERSION_FIELD = 2
+
+-- the number of *hashes* in a package info, in which an index has the id
 abbrev pub HASHES_FIELD : ℕ
 HASHES_FIELD = 3
 

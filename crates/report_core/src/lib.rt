@@ -7,6 +7,7 @@
 #![tactic(auto)]
 
 mod lines;
+pub mod numbers;
 mod refusal;
 mod sentence;
 

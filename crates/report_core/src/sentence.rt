@@ -6,26 +6,12 @@ ghost use Rattle.report_core.specs.Texts.{cause_text, field_text, word_text, ref
 
 use crate::lines::Piece::{Bytes, Digest, Hex, HexNumber, Nothing, Number, Position};
 use crate::lines::{Piece, Pieces};
+use crate::numbers::{
+    HASHES_FIELD, POST_DEINSTALL_SCRIPT, POST_INSTALL_SCRIPT, POST_UPGRADE_SCRIPT,
+    PRE_DEINSTALL_SCRIPT, PRE_INSTALL_SCRIPT, PRE_UPGRADE_SCRIPT, TRIGGER_SCRIPT,
+};
 use crate::refusal::Refusal;
 use base_core::Cause;
-
-// The number of `hashes` in table 3 of `docs/formats.md`, "Schemas".
-const HASHES_FIELD: u16 = 3;
-
-// The numbers of the scripts in table 6 there.
-const TRIGGER_SCRIPT: u16 = 1;
-
-const PRE_INSTALL_SCRIPT: u16 = 2;
-
-const POST_INSTALL_SCRIPT: u16 = 3;
-
-const PRE_DEINSTALL_SCRIPT: u16 = 4;
-
-const POST_DEINSTALL_SCRIPT: u16 = 5;
-
-const PRE_UPGRADE_SCRIPT: u16 = 6;
-
-const POST_UPGRADE_SCRIPT: u16 = 7;
 
 /// The text of a refusal: some pieces, and the text of its cause behind them, if it has one.
 #[derive(Clone, Copy)]

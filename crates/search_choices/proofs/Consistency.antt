@@ -1,6 +1,6 @@
 -- Choices stay consistent when one is made and when one is taken back.
 use Rattle.std.proofs.Common.{◌≡◌, inl, inr, ℕ, zero, suc, ◌+◌, ◌≤◌, ◌<◌, Bool, true, false, List, [], ◌∷◌, ◌++◌, length, take, refl, sym, subst, ap, ◌∙◌, arith, append_assoc, append-nil}
-use Rattle.std.specs.Prelude.{Option, Some, None, slice_get, option_to_list, map, MatchOption, not}
+use Rattle.std.specs.Prelude.{Option, Some, None, slice_get, option_to_list, map, MatchOption, not, if◌then◌else◌, ◌⊎◌}
 use Rattle.std.specs.Bool.{MatchBool}
 use Rattle.dep_core.specs.Dependency.{Dependency}
 use Rattle.std.specs.Option.{option_map_or}
@@ -25,7 +25,7 @@ use Rattle.search_tables.specs.declared.install_ifs.InstallIfs.{InstallIfs}
 use Rattle.search_choices.specs.declared.choices.Choices.{Choices}
 use Rattle.search_tables.specs.declared.queue.Checkpoint.{Checkpoint}
 use Rattle.search_tables.proofs.Theory.{in_left, in_right, in_append}
-use Rattle.search_tables.proofs.PoolFacts.{bool_cases, find_in, map_in, in_map, pool_facts}
+use Rattle.search_tables.proofs.PoolFacts.{bool_cases, find_in, pool_facts}
 use Rattle.search_tables.proofs.ConflictTables.{listed_more}
 use Rattle.search_tables.proofs.Queued.{find_here, past_end, met_more, met_next, queue_more}
 
@@ -192,10 +192,11 @@ need_in r = entry r.0
 
 map_raised : (by : Option ℕ) (n : ℕ) (ds : List Dependency) → positive_needs ds ≡ map need_in (raised_from by n ds)
 map_raised by n [] = refl
-map_raised by n (d ∷ ds) = elim (bool_cases d.conflict) [
-  | inl t ↦ rw t (map_raised by (suc n) ds)
-  | inr t ↦ rw t (ap (λ (z : List Need). entry d ∷ z) (map_raised by (suc n) ds))
-]
+map_raised by n (d ∷ ds) = step d.conflict (filter (λ (e : Dependency). not e.conflict) ds) (raised_from by (suc n) ds) (map_raised by (suc n) ds)
+  where
+    step : (b : Bool) (us : List Dependency) (vs : List RaisedDepValue) → map entry us ≡ map need_in vs → map entry (if not b then d ∷ us else us) ≡ map need_in (if b then vs else (d, by, n) ∷ vs)
+    step true us vs e = e
+    step false us vs e = ap (λ (z : List Need). entry d ∷ z) e
 
 map_append : (f : RaisedDepValue → Need) (xs ys : List RaisedDepValue) → map f (xs ++ ys) ≡ map f xs ++ map f ys
 map_append f [] ys = refl
@@ -233,25 +234,43 @@ flat_in f q (x ∷ xs) h = elim (in_append q (f x) (flat_map f xs) h) [
   | inr b ↦ let r = flat_in f q xs b in (r.0, inr r.1, r.2)
 ]
 
+-- what is among the dependencies that are raised of a list is the first or one of the others
+in_raised : (by : Option ℕ) (n : ℕ) (d : Dependency) (ds : List Dependency) (r : RaisedDepValue) → IsIn r (raised_from by n (d ∷ ds)) → ((d.conflict ≡ false) × (r ≡ (d, by, n))) ⊎ IsIn r (raised_from by (suc n) ds)
+in_raised by n d ds r h = step d.conflict (raised_from by (suc n) ds) h
+  where
+    step : (b : Bool) (us : List RaisedDepValue) → IsIn r (if b then us else (d, by, n) ∷ us) → ((b ≡ false) × (r ≡ (d, by, n))) ⊎ IsIn r us
+    step true us h = inr h
+    step false us h = elim h [ inl e ↦ inl (refl, e) | inr g ↦ inr g ]
+
+-- a need of a list without its first dependency is one of the list
+in_rest : (d : Dependency) (ds : List Dependency) (q : Need) → IsIn q (positive_needs ds) → IsIn q (positive_needs (d ∷ ds))
+in_rest d ds q h = step d.conflict (filter (λ (e : Dependency). not e.conflict) ds) h
+  where
+    step : (b : Bool) (us : List Dependency) → IsIn q (map entry us) → IsIn q (map entry (if not b then d ∷ us else us))
+    step true us h = h
+    step false us h = inr h
+
+-- the first dependency, where it is no conflict, is a need of the list
+first_in : (d : Dependency) (ds : List Dependency) → d.conflict ≡ false → IsIn (entry d) (positive_needs (d ∷ ds))
+first_in d ds none = step d.conflict (filter (λ (e : Dependency). not e.conflict) ds) none
+  where
+    step : (b : Bool) (us : List Dependency) → b ≡ false → IsIn (entry d) (map entry (if not b then d ∷ us else us))
+    step true us e = absurd (cc)
+    step false us e = inl refl
+
 raised_in : (by : Option ℕ) (n : ℕ) (deps : List Dependency) (r : RaisedDepValue) → IsIn r (raised_from by n deps) → (r.1 ≡ by) × IsIn (entry r.0) (positive_needs deps)
 raised_in by n [] r h = absurd h
-raised_in by n (d ∷ ds) r h = elim (bool_cases d.conflict) [
-  | inl t ↦ let k = raised_in by (suc n) ds r (rw t at h) in (k.0, rw t k.1)
-  | inr t ↦ elim (rw t at h) [
-    | inl e ↦ (ap (λ (z : RaisedDepValue). z.1) e, rw t (inl (ap (λ (z : RaisedDepValue). entry z.0) e)))
-    | inr g ↦ let k = raised_in by (suc n) ds r g in (k.0, rw t (inr k.1))
-  ]
+raised_in by n (d ∷ ds) r h = elim (in_raised by n d ds r h) [
+  | inl f ↦ (ap (λ (z : RaisedDepValue). z.1) f.1, subst (λ (z : RaisedDepValue). IsIn (entry z.0) (positive_needs (d ∷ ds))) (sym f.1) (first_in d ds f.0))
+  | inr g ↦ let k = raised_in by (suc n) ds r g in (k.0, in_rest d ds (entry r.0) k.1)
 ]
 
 -- what is raised stands at its index
 raised_at : (by : Option ℕ) (n : ℕ) (deps : List Dependency) (r : RaisedDepValue) → IsIn r (raised_from by n deps) → (k : ℕ) × (r.2 ≡ n + k) × (slice_get deps k ≡ Some r.0)
 raised_at by n [] r h = absurd h
-raised_at by n (d ∷ ds) r h = elim (bool_cases d.conflict) [
-  | inl t ↦ let g = raised_at by (suc n) ds r (rw t at h) in let e : r.2 ≡ n + suc g.0 = omega (arith, g.1) in (suc g.0, e, g.2)
-  | inr t ↦ elim (rw t at h) [
-    | inl same ↦ let e : r.2 ≡ n + 0 = ap (λ (z : RaisedDepValue). z.2) same ∙ omega arith in (0, e, ap (λ (z : RaisedDepValue). Some z.0) (sym same))
-    | inr there ↦ let g = raised_at by (suc n) ds r there in let e : r.2 ≡ n + suc g.0 = omega (arith, g.1) in (suc g.0, e, g.2)
-  ]
+raised_at by n (d ∷ ds) r h = elim (in_raised by n d ds r h) [
+  | inl f ↦ let e : r.2 ≡ n + 0 = ap (λ (z : RaisedDepValue). z.2) f.1 ∙ omega arith in (0, e, ap (λ (z : RaisedDepValue). Some z.0) (sym f.1))
+  | inr there ↦ let g = raised_at by (suc n) ds r there in let e : r.2 ≡ n + suc g.0 = omega (arith, g.1) in (suc g.0, e, g.2)
 ]
 
 -- what a choice raises is the dependency that it has at that index

@@ -1,6 +1,6 @@
 -- The queue of raised dependencies, a choice at a time.
 use Rattle.std.proofs.Common.{◌≡◌, inl, inr, ℕ, zero, suc, ◌+◌, ◌≤◌, ◌<◌, Bool, true, false, List, [], ◌∷◌, ◌++◌, length, take, map, refl, sym, subst, ap, ◌∙◌, arith, append_assoc, append-nil, length-append}
-use Rattle.std.specs.Prelude.{Option, Some, None, not, ◌||◌, slice_get}
+use Rattle.std.specs.Prelude.{Option, Some, None, not, ◌||◌, if◌then◌else◌, slice_get}
 use Rattle.std.specs.List.{filter, find, flat_map, list_any}
 use Rattle.dep_core.specs.Dependency.{Dependency}
 use Rattle.candidate_core.specs.Candidates.{entry}
@@ -33,10 +33,11 @@ raised_append by n (x ∷ xs) ys =
     let e : suc n + length xs ≡ n + suc (length xs) = omega arith in
     let rest : raised_from by (suc n) (xs ++ ys) ≡ raised_from by (suc n) xs ++ raised_from by (n + suc (length xs)) ys =
     raised_append by (suc n) xs ys ∙ ap (λ (k : ℕ). raised_from by (suc n) xs ++ raised_from by k ys) e in
-    elim (bool_cases x.conflict) [
-      | inl t ↦ rw t rest
-      | inr t ↦ rw t (ap (λ (z : List RaisedDepValue). (x, by, n) ∷ z) rest)
-    ]
+    step x.conflict (raised_from by (suc n) (xs ++ ys)) (raised_from by (suc n) xs) (raised_from by (n + suc (length xs)) ys) rest
+  where
+    step : (b : Bool) (all front back : List RaisedDepValue) → all ≡ front ++ back → (if b then all else (x, by, n) ∷ all) ≡ (if b then front else (x, by, n) ∷ front) ++ back
+    step true all front back e = e
+    step false all front back e = ap (λ (z : List RaisedDepValue). (x, by, n) ∷ z) e
 
 pub front_length : {X : Type 0} (xs : List X) (i : ℕ) → i ≤ length xs → i ≡ 0 + length (take i xs)
 front_length [] zero h = refl

@@ -1,5 +1,6 @@
+-- what the contract of `apk` says
+pub mod Spoiled
 -- what only inner contracts and proofs use
 pub mod Reading
 pub mod Sources
-pub mod Spoiled
 pub mod Carried

@@ -3,7 +3,6 @@ use Rattle.own_core.specs.Planned.{IsOpenName}
 use Rattle.std.proofs.Common.{All, sym, true, false, ◌≡◌, ◌++◌, ◌∙◌, List, Some, map, Ok, Err, ap, subst}
 use Rattle.std.specs.Prelude.{slice_get}
 use Rattle.change_files.specs.PlanLists.{names_in_order}
-use Rattle.change_outcome.specs.MembersAfter.{candidates_that_come}
 use Rattle.change_outcome.specs.ChangeOutcome.{name_if_needed}
 use Rattle.db_core.specs.Members.{Member}
 use Rattle.journal_core.specs.Staged.{new_stage}
@@ -63,7 +62,7 @@ returns-in_err-stage-clause-comes g c = λ found files planned.
       each = c.in_ok-writes.ensures.each;
       removed = c.in_ok-removals.ensures ∙ (λ i. names_in_order (c.removals.ensures i ++ name_if_needed (c.is_from_text.ensures i) text_database_name));
     } in
-    with_error (λ r. ComesTo (candidates_that_come (replacement_arrived c.args.planned.now.arrived.now)) (ready_change (inputs_arrived c.args.planned.now.arrived.now) (replacement_arrived c.args.planned.now.arrived.now) (wishes_of c.args.command.now) found files c.args.records.now.database.items) (g.T.Tree.history c.args.tree.now) (g.T.Tree.history c.args.tree.now) (g.T.Tree.counts c.args.tree.now) (g.T.Tree.counts c.args.tree.now) r) c.from_residual-in_err-stage.result _ c.from_residual-in_err-stage.ensures.1
+    with_error (λ r. ComesTo (Ok found) (ready_change (inputs_arrived c.args.planned.now.arrived.now) (replacement_arrived c.args.planned.now.arrived.now) (wishes_of c.args.command.now) found files c.args.records.now.database.items) (g.T.Tree.history c.args.tree.now) (g.T.Tree.history c.args.tree.now) (g.T.Tree.counts c.args.tree.now) (g.T.Tree.counts c.args.tree.now) r) c.from_residual-in_err-stage.result _ c.from_residual-in_err-stage.ensures.1
     (large_comes (g.T.Tree.history c.args.tree.now) (wishes_of c.args.command.now) c.args.planned.now found files c.args.records.now c.record_writes_of-record_writes.result c.in_ok-writes.writes.items c.in_ok-removals.removals ready c.in_ok-names.names (c.in_ok-names.ensures ∙ ap (map write_name) c.deref.ensures.value) (g.T.Tree.counts c.args.tree.now) _ c.in_err-stage.ensures.told)
 
 pub returns-then-is_idle-clause-comes : goal.returns-then-is_idle-clause-comes

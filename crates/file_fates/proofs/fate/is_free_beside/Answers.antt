@@ -13,7 +13,7 @@ pub returns : goal.returns
 returns c =
     let is : c.in_ok-bytes.bytes.items ≡ aside_name c.args.name.now = c.in_ok-bytes.ensures ∙ ap aside_name c.as_bytes.ensures.value in
     let there : c.deref.result.now ≡ aside_name c.args.name.now = c.deref.ensures.value ∙ is in
-    let long : length c.in_ok-bytes.bytes.items ≤ 1024 = omega (arith, c.len.ensures, c.if-len-gt1024.false) in
+    let long : length c.in_ok-bytes.bytes.items ≤ 1024 = omega (arith, c.len.ensures, c.if-len-gt-LONGEST_NAME.false) in
     short_and (length (aside_name c.args.name.now)) c.is_none.result (not (is_claimed (file_change_of c.args.change.now) (aside_name c.args.name.now)))
     (subst (λ (l : List ℕ). length l ≤ 1024) is long)
     (free_there c.args.change.now c.requires c.deref.result.now c.is_none.result c.find_claim.result c.is_none.ensures c.find_claim.ensures.within c.find_claim.ensures.found

@@ -77,8 +77,8 @@ pub next_option-requires-clause-matches : goal.next_option-requires-clause-match
 next_option-requires-clause-matches c =
     subst (λ (p : SealedPool). AreMatchesAmong p.candidates c.loop-top.search.matches) (sym c.loop-top.invariant.pool) c.loop-top.invariant.matches
 
-pub next_frame-in-Some-2-requires-clause-matches : goal.next_frame-in-Some-2-requires-clause-matches
-next_frame-in-Some-2-requires-clause-matches c =
+pub next_frame-requires-in-Some-2-clause-matches : goal.next_frame-requires-in-Some-2-clause-matches
+next_frame-requires-in-Some-2-clause-matches c =
     subst (λ (m : PackageMatches). AreMatchesAmong (pool_of c.choose.new.self.chosen).candidates m) (sym c.choose.ensures.matches)
     (subst (λ (p : SealedPool). AreMatchesAmong p.candidates c.next_option.new.self.matches) (sym (c.choose.ensures.pool ∙ ap pool_of c.next_option.ensures.chosen)) c.in_ok-id.ensures.matches)
 

@@ -1,4 +1,4 @@
-use Rattle.std.proofs.Common.{◌≡◌, ◌∙◌, ℕ, List, sym, subst}
+use Rattle.std.proofs.Common.{◌≡◌, ℕ, List, sym, subst}
 use Rattle.std.specs.Prelude.{Some, slice_get}
 use Rattle.candidate_core.specs.Options.{IsIn}
 use Rattle.candidate_core.proofs.WantedVersions.{if_ok_map}

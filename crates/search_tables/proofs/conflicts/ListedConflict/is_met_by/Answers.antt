@@ -1,18 +1,23 @@
 use Rattle.std.proofs.Common.{◌≡◌, ◌∙◌, ℕ, ap, sym, subst}
 use Rattle.std.specs.Prelude.{Some, slice_get}
+use Rattle.dep_core.specs.Meets.{dependency}
 use Rattle.candidate_core.specs.Candidates.{meets_dependency}
 use Rattle.candidate_core.specs.Packages.{candidates_of_packages}
 use Rattle.candidate_core.proofs.WantedVersions.{if_ok_map}
 use Rattle.search_tables.specs.Conflicts.{IsConflictOf, ListedValue}
+use Rattle.search_tables.specs.declared.conflicts.ListedConflict.TheInside.{Inside}
 use Rattle.search_tables.proofs.conflicts.ListedConflict.is_met_by.Goals as goal
+
+abbrev value : Inside → ListedValue
+value listed = (listed.by, dependency listed.dep, listed.index)
 
 pub meets-requires-clause-held : goal.meets-requires-clause-held
 meets-requires-clause-held c =
-    subst (λ (listed : ListedValue). IsConflictOf (candidates_of_packages c.args.matches.now.packages.now) listed) (sym c.self.view_is) c.requires.listed
+    subst (λ (listed : ListedValue). IsConflictOf (candidates_of_packages c.args.matches.now.packages.now) listed) (sym (ap value c.self-inside.view_is ∙ c.self.view_is)) c.requires.listed
 
 pub returns-clause-meets : goal.returns-clause-meets
 returns-clause-meets c =
     if_ok_map _ _ (λ answer h one at.
     h one (subst (λ (n : ℕ). slice_get (candidates_of_packages c.args.matches.now.packages.now) n ≡ Some one) (sym c.id.view_is) at)
-    ∙ ap (λ (listed : ListedValue). meets_dependency listed.1 one) c.self.view_is)
+    ∙ ap (λ (listed : ListedValue). meets_dependency listed.1 one) (ap value c.self-inside.view_is ∙ c.self.view_is))
     c.meets.result c.meets.ensures.meets
