@@ -24,13 +24,17 @@ pub(crate) fn add_owners(
         };
         fronts.push(front)?;
     }
-    add_owners_of(alloc, &fronts, answer)
+    add_owners_of(alloc, &Db::empty(alloc), &fronts, answer)
 }
 
-/// Adds who owns the files of the packages with these fronts.
-fn add_owners_of(alloc: Global, fronts: &[Front], answer: &mut Vec<u8>) -> Result<(), AllocError> {
-    let db = Db::empty(alloc);
-    let mut members = Members::new(alloc, &db);
+/// Adds who owns the files of the packages with these fronts; of the database none stays.
+fn add_owners_of<'a>(
+    alloc: Global,
+    db: &Db<'a>,
+    fronts: &'a [Front],
+    answer: &mut Vec<u8>,
+) -> Result<(), AllocError> {
+    let mut members = Members::new(alloc, db);
     for front in fronts {
         if !add_coming(alloc, &mut members, front)? {
             return answer.extend_from_slice(b"a package is bad or not in order");
