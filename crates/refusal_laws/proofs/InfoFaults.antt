@@ -7,8 +7,7 @@ use Rattle.change_inputs.specs.Inputs.{database_for, database_read, text_databas
 use Rattle.command_core.specs.Command.{CommandLine}
 use Rattle.engine_core.specs.InfoTold.{info_told}
 use Rattle.installed_info.specs.Info.{info_of}
-use Rattle.installed_info.specs.Refusals.{IsOfAnOperand}
-use Rattle.adb_view.specs.Plain.{Plain}
+use Rattle.installed_info.specs.declared.telling.InfoDone.{InfoDone}
 use Rattle.make_info.specs.Reads.{Reads}
 use Rattle.report_core.specs.declared.refusal.Refusal.{Refusal}
 use Rattle.report_core.specs.declared.refusal.Refusal.TheVariants.{DatabaseBad, NoDatabase, ResultTooLarge}
@@ -16,16 +15,12 @@ use Rattle.root_names.specs.RootNames.{database_name, text_database_name}
 use Rattle.v2_core.specs.Payload.{payload_of_text}
 use Rattle.v2_core.specs.declared.read.V2Fault.{V2Fault}
 use Rattle.v2_core.specs.declared.read.V2Fault.TheVariants.{Bad, Memory, TooLarge}
-use Rattle.refusal_laws.specs.InfoFaults.{IsFaultOfDatabase, IsFaultOfInfo}
+use Rattle.refusal_laws.specs.InfoFaults.{AreOperandsFound, IsFaultOfDatabase, IsFaultOfInfo, IsFaultOfOperand}
 use Rattle.refusal_laws.proofs.InputFaults.{cause_err, text_remembers}
-use Rattle.refusal_laws.proofs.Lists.{and_then_err}
+use Rattle.refusal_laws.proofs.InfoOperands.{operand_late, operand_refused, operands_told}
+use Rattle.refusal_laws.proofs.Lists.{and_then_err, and_then_ok}
 
--- what `info_refuses_an_operand` says
-abbrev pub RefusesAnOperand : Type 0
-RefusesAnOperand = (c : CommandLine) (packages : List Plain) (refusal : Refusal)
-    → info_of c packages ≡ Err refusal → IsOfAnOperand c.operands refusal
-
-module _ (law : RefusesAnOperand) (command : CommandLine) (read : Reads) where
+module _ (command : CommandLine) (read : Reads) where
   abbrev IsSo : Refusal → Type 0
   IsSo refusal = IsFaultOfDatabase command read refusal
 
@@ -59,5 +54,16 @@ module _ (law : RefusesAnOperand) (command : CommandLine) (read : Reads) where
   info_fault refusal e =
       elim (and_then_err (database_for command read) (λ database. info_of command database.packages) refusal e) [
         | inl first ↦ inl (database_fault (read database_read database_name) (read text_database_read text_database_name) refusal refl refl first)
-        | inr next ↦ inr ((next.0, next.1), law command next.0.packages refusal next.2)
+        | inr next ↦ inr (record { database = next.0; is_database = next.1; first = operand_refused command next.0.packages refusal next.2 })
       ]
+
+  pub info_late : (done : InfoDone) (refusal : Refusal) → info_told command read ≡ Ok done → done.late ≡ Some refusal → (command.flags.installed ≡ true) × IsFaultOfOperand command read refusal
+  info_late done refusal e late =
+      let found = and_then_ok (database_for command read) (λ database. info_of command database.packages) done e in
+      let is = operand_late command found.0.packages done refusal found.2 late in
+      (is.0, record { database = found.0; is_database = found.1; first = is.1 })
+
+  pub info_tells : (done : InfoDone) → info_told command read ≡ Ok done → done.late ≡ None → AreOperandsFound command read
+  info_tells done e late =
+      let found = and_then_ok (database_for command read) (λ database. info_of command database.packages) done e in
+      record { database = found.0; is_database = found.1; installed = operands_told command found.0.packages done found.2 late }

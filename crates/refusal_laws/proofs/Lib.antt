@@ -3,6 +3,7 @@ pub mod Coming
 pub mod CommandFaults
 pub mod FirstPackage
 pub mod FoundPackages
+pub mod InfoOperands
 pub mod InfoFaults
 pub mod InputFaults
 pub mod Lists

@@ -1,13 +1,20 @@
 -- Why `info` is refused. The refusals stand in `docs/commands.md`, "`info`", what is refused.
-use Rattle.std.specs.Prelude.{◌⊎◌}
+use Rattle.std.specs.Prelude.{◌≡◌, ◌⊎◌, ℕ, Bool, true, false, List, ◌∷◌, ◌++◌, Ok}
+use Rattle.adb_fields.specs.FirstPair.{IsIn}
+use Rattle.adb_fields.specs.Repeated.{package_name, paths_in}
+use Rattle.adb_view.specs.Plain.{Plain}
+use Rattle.change_inputs.specs.Database.{Database}
+use Rattle.change_inputs.specs.Inputs.{database_for}
 use Rattle.command_core.specs.Command.{CommandLine}
-use Rattle.installed_info.specs.Refusals.{IsOfAnOperand}
+use Rattle.command_core.specs.declared.operands.Operand.{Operand}
+use Rattle.dep_core.specs.LeadingSlash.{without_slash}
 use Rattle.make_info.specs.Reads.{Reads}
 use Rattle.report_core.specs.declared.refusal.Refusal.{Refusal}
-use Rattle.report_core.specs.declared.refusal.Refusal.TheVariants.{DatabaseBad, NoDatabase, ResultTooLarge}
+use Rattle.report_core.specs.declared.refusal.Refusal.TheVariants.{DatabaseBad, NoDatabase, NotInstalled, ResultTooLarge}
 use Rattle.v2_core.specs.declared.read.V2Fault.TheVariants.{Bad, TooLarge}
 use Rattle.refusal_laws.specs.InputFaults.{HasNoDatabase, IsContainerBad, IsTextRefused}
-use Rattle.refusal_laws.specs.ReadBefore.{HasDatabase}
+
+-- ---- the database
 
 -- what a refusal says of the database is so
 abbrev pub IsFaultOfDatabase : CommandLine → Reads → Refusal → Type 0
@@ -18,9 +25,50 @@ IsFaultOfDatabase command read (ResultTooLarge bytes values) =
     IsTextRefused read (TooLarge bytes values)
 IsFaultOfDatabase command read other = ⊥
 
--- what a refusal of `info` says is so: of the database; or that is found, and an operand asks for
--- what is not installed
+-- ---- the operands
+
+-- a package is what a text asks for: with `--who-owns` it lists the path, of which one leading `/`
+-- is dropped; else it has the name
+abbrev pub IsAskedFor : Bool → List ℕ → Plain → Type 0
+IsAskedFor true path pkg = IsIn (without_slash path) (paths_in pkg)
+IsAskedFor false name pkg = package_name pkg ≡ name
+
+-- what a text asks for is installed
+abbrev pub IsFoundInstalled : CommandLine → List Plain → List ℕ → Type 0
+IsFoundInstalled command packages text =
+    (pkg : Plain) × IsIn pkg packages × IsAskedFor command.flags.who_owns text pkg
+
+-- what each of some operands asks for is installed
+abbrev pub AreFoundInstalled : CommandLine → List Plain → List Operand → Type 0
+AreFoundInstalled command packages operands =
+    (o : Operand) → IsIn o operands → IsFoundInstalled command packages o.text
+
+-- a refusal tells the place of the first operand that asks for what is not installed
+pub record IsFirstNotInstalled (command : CommandLine) (packages : List Plain)
+    (refusal : Refusal) : Type 0 where
+  pub before : List Operand
+  pub operand : Operand
+  pub after : List Operand
+  pub are : command.operands ≡ before ++ operand ∷ after
+  pub installed : AreFoundInstalled command packages before
+  pub missing : ¬ IsFoundInstalled command packages operand.text
+  pub told : refusal ≡ NotInstalled operand.place
+
+-- ---- a refusal
+
+-- the database is found, and a refusal is that of an operand, by its packages
+pub record IsFaultOfOperand (command : CommandLine) (read : Reads) (refusal : Refusal) : Type 0 where
+  pub database : Database
+  pub is_database : database_for command read ≡ Ok database
+  pub first : IsFirstNotInstalled command database.packages refusal
+
+-- what a refusal of `info` says is so: of the database; or, where that is found, of an operand
 abbrev pub IsFaultOfInfo : CommandLine → Reads → Refusal → Type 0
 IsFaultOfInfo command read refusal =
-    IsFaultOfDatabase command read refusal
-    ⊎ (HasDatabase command read × IsOfAnOperand command.operands refusal)
+    IsFaultOfDatabase command read refusal ⊎ IsFaultOfOperand command read refusal
+
+-- what each operand asks for is installed, by the packages of the database
+pub record AreOperandsFound (command : CommandLine) (read : Reads) : Type 0 where
+  pub database : Database
+  pub is_database : database_for command read ≡ Ok database
+  pub installed : AreFoundInstalled command database.packages command.operands

@@ -1,6 +1,7 @@
 -- What was read without a refusal before a later one. The order stands in `docs/commands.md`,
 -- "`add` and `del`", what is read and refused.
-use Rattle.std.specs.Prelude.{◌≡◌, List, Ok}
+use Rattle.std.specs.Prelude.{◌≡◌, ◌<◌, ℕ, true, List, None, Ok}
+use Rattle.base_core.specs.declared.cause.Cause.{Cause}
 use Rattle.change_inputs.specs.Database.{Database}
 use Rattle.change_inputs.specs.Inputs.{database_for, world_read}
 use Rattle.change_inputs.specs.World.{root_world, text_found}
@@ -11,7 +12,7 @@ use Rattle.make_info.specs.Reads.{Reads}
 use Rattle.report_core.specs.declared.refusal.Refusal.{Refusal}
 use Rattle.report_core.specs.declared.refusal.Refusal.TheVariants.{IndexBad, IndexMissing, RepositoriesBad, Untrusted, WorldBad}
 use Rattle.root_names.specs.RootNames.{world_name}
-use Rattle.refusal_laws.specs.InputFaults.{repositories_found}
+use Rattle.refusal_laws.specs.InputFaults.{IsIndexBad, IsIndexRead, repositories_found}
 
 -- the database was read without a refusal: it passed its tests, or there is none and one may be
 -- begun
@@ -32,12 +33,34 @@ HasRepositories read =
 abbrev pub HasBoth : CommandLine → Reads → Type 0
 HasBoth command read = HasDatabase command read × HasWorld read
 
--- what is read before this refusal of the input: first the database, then world, then the
--- repositories, and last their indexes
+-- no line of the list of repositories is bad either, and there is leave to read them
+abbrev pub HasLeave : CommandLine → Reads → Type 0
+HasLeave command read =
+    HasBoth command read × HasRepositories read × (command.flags.allow_untrusted ≡ true)
+
+-- the index of each repository with a lesser number is there
+abbrev pub HasIndexesBefore : Reads → ℕ → Type 0
+HasIndexesBefore read number =
+    (earlier : ℕ) → earlier < number → IsIndexRead read earlier None → ⊥
+
+-- the index of each repository is there
+abbrev pub HasIndexes : Reads → Type 0
+HasIndexes read = (number : ℕ) → IsIndexRead read number None → ⊥
+
+-- the index of each repository with a lesser number passes all tests
+abbrev pub ArePassedBefore : Reads → ℕ → Type 0
+ArePassedBefore read number =
+    (earlier : ℕ) (cause : Cause) → earlier < number → IsIndexBad read earlier cause → ⊥
+
+-- What is read before this refusal of the input: first the database, then world, then the
+-- repositories, for which there has to be leave, and last their indexes. These are all looked for,
+-- in the order of their numbers, before the first of them is tested.
 abbrev pub HasReadBefore : CommandLine → Reads → Refusal → Type 0
 HasReadBefore command read (WorldBad line) = HasDatabase command read
 HasReadBefore command read (RepositoriesBad line) = HasBoth command read
 HasReadBefore command read Untrusted = HasBoth command read
-HasReadBefore command read (IndexMissing number) = HasBoth command read × HasRepositories read
-HasReadBefore command read (IndexBad number cause) = HasBoth command read × HasRepositories read
+HasReadBefore command read (IndexMissing number) =
+    HasLeave command read × HasIndexesBefore read number
+HasReadBefore command read (IndexBad number cause) =
+    HasLeave command read × HasIndexes read × ArePassedBefore read number
 HasReadBefore command read other = Unit {0}

@@ -2,7 +2,7 @@
 //! What each refusal says stands in the README of this crate, and the order of refusals in
 //! `docs/commands.md`, "`add` and `del`".
 
-ghost use Rattle.std.specs.Prelude.{◌≡◌, ℕ, false, Err, List, None, Ok, Option, Some};
+ghost use Rattle.std.specs.Prelude.{◌≡◌, ℕ, false, true, Err, List, None, Ok, Option, Some};
 ghost use Rattle.base_core.specs.Files.{Files};
 ghost use Rattle.change_inputs.specs.Inputs.{Inputs, inputs_of};
 ghost use Rattle.change_outcome.specs.ChangeOutcome.{ChangeDone, ChangeWishes, IsClashOfChange, change_members, change_or_refusal, file_change};
@@ -12,6 +12,7 @@ ghost use Rattle.engine_core.specs.Changed.{IsClashFor, change_of_command, selec
 ghost use Rattle.engine_core.specs.Choice.{IsChoiceFrom};
 ghost use Rattle.engine_core.specs.InfoTold.{info_told};
 ghost use Rattle.engine_core.specs.Selecting.{pool_for};
+ghost use Rattle.installed_info.specs.declared.telling.InfoDone.{InfoDone};
 ghost use Rattle.make_info.specs.Reads.{Reads};
 ghost use Rattle.make_info.specs.declared.fault.MakeFault.TheVariants.{TooLarge};
 ghost use Rattle.make_package.specs.Making.{made_package};
@@ -25,7 +26,7 @@ ghost use Rattle.report_core.specs.declared.refusal.Refusal.{Refusal};
 ghost use Rattle.refusal_laws.specs.ChangeFaults.{IsFaultOfChange, IsFaultOfPackage};
 ghost use Rattle.refusal_laws.specs.CommandFaults.{IsFaultOfCommand};
 ghost use Rattle.refusal_laws.specs.FirstPackage.{IsFirstRefused};
-ghost use Rattle.refusal_laws.specs.InfoFaults.{IsFaultOfInfo};
+ghost use Rattle.refusal_laws.specs.InfoFaults.{AreOperandsFound, IsFaultOfInfo, IsFaultOfOperand};
 ghost use Rattle.refusal_laws.specs.InputFaults.{IsFaultOfInput};
 ghost use Rattle.refusal_laws.specs.MadeTooLarge.{IsPackageTooLarge};
 ghost use Rattle.refusal_laws.specs.OperandsKnown.{HasPassedBeforeSelection};
@@ -36,7 +37,6 @@ ghost use Rattle.refusal_laws.specs.RunMade.{HasFirstSelection};
 ghost use Rattle.refusal_laws.specs.TestsPassed.{HasNoFault, HasPassedBefore};
 ghost use Rattle.words_core.specs.Grammar.{command_of};
 
-use installed_info::info_refuses_an_operand;
 use outcome::{a_change_takes_the_first_selection_or_is_refused, a_command_recovers};
 
 /// Where what a change reads of a root is refused, what the refusal says is so: of the database, of
@@ -51,13 +51,20 @@ pub fn a_refused_input_has_its_fault()
 {}
 
 /// Where `info` is refused, the database is, for its fault; or an operand asks for what is not
-/// installed.
+/// installed, and it is the first that does. `info -e` is refused so behind its report. Where there
+/// is no refusal, what each operand asks for is installed.
 pub fn a_refused_info_has_its_fault()
-    ensures { (command : CommandLine) (read : Reads) (refusal : Refusal)
+    // A refusal in the report's place.
+    ensures fault { (command : CommandLine) (read : Reads) (refusal : Refusal)
         → info_told command read ≡ Err refusal → IsFaultOfInfo command read refusal }
-{
-    info_refuses_an_operand();
-}
+    // A refusal behind the report.
+    ensures late { (command : CommandLine) (read : Reads) (done : InfoDone) (refusal : Refusal)
+        → info_told command read ≡ Ok done → done.late ≡ Some refusal
+        → (command.flags.installed ≡ true) × IsFaultOfOperand command read refusal }
+    // No refusal.
+    ensures told { (command : CommandLine) (read : Reads) (done : InfoDone)
+        → info_told command read ≡ Ok done → done.late ≡ None → AreOperandsFound command read }
+{}
 
 /// Where a change is refused, what the refusal says is so: of a package that comes or goes, or of
 /// the files that the packages after the change would leave.

@@ -2,13 +2,13 @@
 //! of this crate; what is right of them in `docs/selection.md`.
 ghost use Rattle.std.specs.Prelude.{◌≡◌, IfOk};
 
-use crate::row::{Row, split_word};
 use adb_schema::{Checked, IndexView, Which, shape};
 use adb_view::Adb;
 use base_core::Words;
 use dep_core::{World, read_dep};
 use pool_core::{CandId, Need, Pool, PoolFault, Sealed, Upgrade};
 use row_lines::{add_number, add_word, value_named};
+use row_packages::{Row, split_word};
 use solve_core::{Trace, solve};
 use std::alloc::{AllocError, AllocFailed, Global};
 

@@ -3,8 +3,6 @@
 #![tactic(auto)]
 
 mod answer;
-mod package;
-mod row;
 mod rows;
 
 use std::io;

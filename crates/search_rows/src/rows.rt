@@ -1,7 +1,7 @@
 //! All rows of a text, and what is printed of them. The lines stand in the README of this crate.
 use crate::answer::answer;
-use crate::row::{Row, number_of, split_word};
 use row_lines::value_named;
+use row_packages::{Row, number_of, split_word};
 use std::alloc::{AllocError, Global};
 
 /// Runs all rows of a text, adds a line for each answer that is not the wanted one, and one with

@@ -4,3 +4,7 @@ pub mod Simulations
 pub mod NextNeeds
 pub mod OneWorld
 pub mod OneNeed
+pub mod InstalledCounted
+pub mod CommandPools
+pub mod SatisfiedWorlds
+pub mod CommandSelections

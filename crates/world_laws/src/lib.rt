@@ -1,13 +1,15 @@
-//! What a command asks of world, which need is met next, and what a simulation tells of a change,
-//! in a reader's words. The rules stand in `docs/formats.md`, "World", in `docs/selection.md`,
-//! "Which selection is taken", and in `docs/commands.md`, "`add` and `del`".
+//! What a command asks of world, what it chooses from and which need it meets next, what holds of
+//! the packages that it selects, and what a simulation tells of a change, in a reader's words. The
+//! rules stand in `docs/formats.md`, "World", in `docs/selection.md`, and in `docs/commands.md`,
+//! "`add` and `del`".
 //!
 //! The functions are laws. They cite the definitions of `specs/`, and those of `change_inputs`,
-//! `solve_core` and `engine_core` that they speak of.
+//! `search_tables` and `engine_core` that they speak of.
 #![tactic(auto)]
 
 ghost use Rattle.std.specs.Prelude.{◌≡◌, ℕ, List, Option, false, Err, Ok};
-ghost use Rattle.candidate_core.specs.Candidates.{Need};
+ghost use Rattle.adb_fields.specs.FirstPair.{IsIn};
+ghost use Rattle.candidate_core.specs.Candidates.{Candidate, Need};
 ghost use Rattle.candidate_core.specs.Rank.{SealedPool};
 ghost use Rattle.search_tables.specs.Selection.{next_need};
 ghost use Rattle.world_laws.specs.NextNeed.{IsNextOrNone};
@@ -15,7 +17,7 @@ ghost use Rattle.base_core.specs.Files.{Files};
 ghost use Rattle.change_files.specs.FileChange.{FileChange};
 ghost use Rattle.change_outcome.specs.ChangeOutcome.{ChangeDone, ChangeWishes, change_report};
 ghost use Rattle.command_core.specs.Command.{CommandLine};
-ghost use Rattle.engine_core.specs.Changed.{change_of_command};
+ghost use Rattle.engine_core.specs.Changed.{Selected, change_of_command, selected_for};
 ghost use Rattle.engine_core.specs.Choice.{IsChoiceFrom};
 ghost use Rattle.engine_core.specs.Selecting.{pool_for};
 ghost use Rattle.make_info.specs.Reads.{Reads};
@@ -24,13 +26,16 @@ ghost use Rattle.report_changes.specs.Report.{simulated_report};
 ghost use Rattle.path_clashes.specs.Clash.{NamePair};
 ghost use Rattle.report_core.specs.declared.refusal.Refusal.{Refusal};
 ghost use Rattle.world_laws.specs.Simulation.{IsForetold, with_simulation};
+ghost use Rattle.change_inputs.specs.Candidates.{candidates_of};
 ghost use Rattle.change_inputs.specs.Inputs.{Inputs, inputs_of};
 ghost use Rattle.change_inputs.specs.World.{new_world};
 ghost use Rattle.command_core.specs.declared.command.Applet.{Applet};
 ghost use Rattle.command_core.specs.declared.operands.Operand.{Operand};
 ghost use Rattle.dep_core.specs.Dependency.{Dependency};
 ghost use Rattle.dep_core.specs.World.{IsWorld};
+ghost use Rattle.world_laws.specs.CommandPool.{IsCommandPool};
 ghost use Rattle.world_laws.specs.NewWorld.{HoldsWhatWasAsked, IsReadWorld};
+ghost use Rattle.world_laws.specs.SatisfiedWorld.{IsNeeded, SatisfyWorld};
 
 use change_laws::a_change_that_is_made_passes_each_test;
 use engine_core::a_choice_is_unique;
@@ -97,4 +102,27 @@ pub fn the_new_world_holds_what_was_asked()
     ensures one { (applet : Applet) (operands : List Operand) (world after other : List Dependency)
         → HoldsWhatWasAsked applet operands world after
         → HoldsWhatWasAsked applet operands world other → after ≡ other }
+{}
+
+/// What a command chooses from: the packages of all indexes, of which those count as installed that
+/// an installed package is the same as, and the installed packages that no index has; under the
+/// world that was asked for, and with the names that the command upgrades.
+pub fn a_command_chooses_from_its_indexes_and_its_database()
+    ensures { (command : CommandLine) (read : Reads) (pool : SealedPool)
+        → pool_for command read ≡ Ok pool → IsCommandPool command read pool }
+{}
+
+/// The packages that a command selects satisfy the new world, and each of them is needed: by world,
+/// by one that depends on it, or by an install-if.
+pub fn the_selected_packages_satisfy_the_new_world()
+    // They satisfy it.
+    ensures satisfied { (command : CommandLine) (read : Reads) (chosen : Option (List ℕ))
+        (s : Selected) → IsChoiceFrom (pool_for command read) chosen
+        → selected_for command read chosen ≡ Ok s
+        → SatisfyWorld (candidates_of s.inputs) s.inputs.root.new_world s.replacement.selected }
+    // Each is needed.
+    ensures needed { (command : CommandLine) (read : Reads) (chosen : Option (List ℕ))
+        (s : Selected) (c : Candidate) → IsChoiceFrom (pool_for command read) chosen
+        → selected_for command read chosen ≡ Ok s → IsIn c s.replacement.selected
+        → IsNeeded (candidates_of s.inputs) s.inputs.root.new_world s.replacement.selected c }
 {}

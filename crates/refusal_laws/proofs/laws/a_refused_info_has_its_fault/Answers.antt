@@ -1,5 +1,11 @@
-use Rattle.refusal_laws.proofs.InfoFaults.{info_fault}
+use Rattle.refusal_laws.proofs.InfoFaults.{info_fault, info_late, info_tells}
 use Rattle.refusal_laws.proofs.laws.a_refused_info_has_its_fault.Goals as goal
 
-pub returns : goal.returns
-returns c = info_fault c.info_refuses_an_operand.ensures.refused
+pub returns-clause-fault : goal.returns-clause-fault
+returns-clause-fault c = info_fault
+
+pub returns-clause-late : goal.returns-clause-late
+returns-clause-late c = info_late
+
+pub returns-clause-told : goal.returns-clause-told
+returns-clause-told c = info_tells

@@ -1,5 +1,5 @@
 //! A row: the packages to choose from, world, and what a command upgrades. It borrows its text. The
-//! lines stand in the README of this crate.
+//! lines stand in the README of `search_rows`.
 use crate::package::index_payload;
 use std::alloc::{AllocError, Global};
 
@@ -34,7 +34,7 @@ pub struct Row<'t> {
 
 impl<'t> Row<'t> {
     /// A row without packages.
-    pub(crate) fn new(alloc: Global, name: &'t [u8]) -> Row<'t> {
+    pub fn new(alloc: Global, name: &'t [u8]) -> Row<'t> {
         Row {
             name,
             repositories: Vec::new(alloc),
@@ -47,11 +47,7 @@ impl<'t> Row<'t> {
 
     /// Adds a repository: its packages, before which its tag may stand behind `@`, or its number
     /// behind `/`.
-    pub(crate) fn add_repository(
-        &mut self,
-        alloc: Global,
-        text: &'t [u8],
-    ) -> Result<(), AllocError> {
+    pub fn add_repository(&mut self, alloc: Global, text: &'t [u8]) -> Result<(), AllocError> {
         let next = (self.repositories.len() as u64).saturating_add(1);
         let (word, rest) = split_word(text);
         let (number, tag, packages) = match word {
@@ -69,18 +65,14 @@ impl<'t> Row<'t> {
     }
 
     /// Sets the installed packages.
-    pub(crate) fn set_installed(
-        &mut self,
-        alloc: Global,
-        packages: &[u8],
-    ) -> Result<(), AllocError> {
+    pub fn set_installed(&mut self, alloc: Global, packages: &[u8]) -> Result<(), AllocError> {
         self.installed = Some(index_payload(alloc, packages)?);
         Ok(())
     }
 }
 
 /// The first word of a line, and what stands behind the blank that ends it.
-pub(crate) fn split_word<'t>(line: &'t [u8]) -> (&'t [u8], &'t [u8]) {
+pub fn split_word<'t>(line: &'t [u8]) -> (&'t [u8], &'t [u8]) {
     match line.iter().position(|byte| *byte == b' ') {
         Some(at) => (&line[..at], &line[at + 1..]),
         None => (line, b""),
@@ -89,7 +81,7 @@ pub(crate) fn split_word<'t>(line: &'t [u8]) -> (&'t [u8], &'t [u8]) {
 
 /// The number that decimal digits spell; other bytes are passed over, and it stops to grow before
 /// it passes 64 bits.
-pub(crate) fn number_of(text: &[u8]) -> u64 {
+pub fn number_of(text: &[u8]) -> u64 {
     let mut number = 0u64;
     for byte in text {
         if byte.is_ascii_digit() {

@@ -2,7 +2,7 @@
 //! spaces: `NAME=VERSION`, and `N*` before it for N such packages; `d:` and depends, `p:` and
 //! provides, `i:` and install-if, each list with `,` between dependencies; `k:` and the
 //! provider-priority; `h:` and the id, which is none behind a bare `h:`, and the same for all where
-//! no `h:` stands. The README of this crate has the same form; the fields are those of
+//! no `h:` stands. The README of `search_rows` has the same form; the fields are those of
 //! `docs/formats.md`, "Schemas", table 3, where the numbers here count from 0.
 use crate::row::number_of;
 use adb_view::Val;

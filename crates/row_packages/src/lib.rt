@@ -1,0 +1,8 @@
+//! The rows of the search: what stands between two lines that begin a row, and the indexes that are
+//! made of its packages. They serve the program `search_rows`, whose README has the form of a row.
+#![tactic(auto)]
+
+mod package;
+mod row;
+
+pub use row::{Repository, Row, number_of, split_word};

@@ -1,0 +1,140 @@
+-- What a command chooses from, and what it selects.
+use Rattle.std.proofs.Common.{◌≡◌, ◌↔◌, inl, inr, ℕ, true, List, [], ◌∷◌, Option, Some, None, Result, Ok, refl, ap, sym, subst, ◌∙◌}
+use Rattle.std.specs.List.{list_any}
+use Rattle.std.specs.Str.{bytes_eq}
+use Rattle.std.proofs.lemmas.Slice.Eq.{bytes_eq-Decides}
+use Rattle.adb_fields.specs.FirstPair.{IsIn}
+use Rattle.candidate_core.specs.Candidates.{Candidate}
+use Rattle.candidate_core.specs.Rank.{SealedPool, is_upgraded}
+use Rattle.change_inputs.specs.Candidates.{candidates_of}
+use Rattle.change_inputs.specs.Chains.{and_then}
+use Rattle.change_inputs.specs.Inputs.{Inputs, inputs_of}
+use Rattle.command_core.specs.Command.{CommandLine}
+use Rattle.command_core.specs.declared.command.Applet.{Applet}
+use Rattle.command_core.specs.declared.command.Applet.TheVariants as Applets
+use Rattle.command_core.specs.declared.operands.Operand.{Operand}
+use Rattle.dep_core.specs.Dependency.{Dependency}
+use Rattle.engine_core.specs.Changed.{Selected, selected_by, selected_for, selected_of_inputs}
+use Rattle.engine_core.specs.Choice.{IsChoiceFrom}
+use Rattle.engine_core.specs.Selecting.{pool_by, pool_for, replacement_of_choice}
+use Rattle.engine_core.specs.Wishes.{names_to_reinstall, names_to_upgrade, operand_texts, unknown_place, unless_place}
+use Rattle.make_info.specs.Reads.{Reads}
+use Rattle.package_changes.specs.Placed.{candidates_at}
+use Rattle.report_core.specs.declared.refusal.Refusal.{Refusal}
+use Rattle.search_tables.specs.Selection.{IsFirstSelection}
+use Rattle.world_laws.specs.CommandPool.{IsCommandPool, IsToUpgrade}
+use Rattle.world_laws.specs.SatisfiedWorld.{IsNeeded, SatisfyWorld}
+use Rattle.world_laws.proofs.CommandPools.{candidates_are, root_pool_is}
+use Rattle.world_laws.proofs.InstalledCounted.{any_in, in_any}
+use Rattle.world_laws.proofs.NextNeeds.{next}
+use Rattle.world_laws.proofs.ReadWorlds.{and_then_ok}
+use Rattle.world_laws.proofs.SatisfiedWorlds.{needed, satisfied}
+
+-- ---- the names that are upgraded
+
+text_in : (operands : List Operand) (text : List ℕ) → IsIn text (operand_texts operands) → (o : Operand) × IsIn o operands × (o.text ≡ text)
+text_in [] text here = absurd here
+text_in (o ∷ operands) text (inl is) = (o, inl refl, sym is)
+text_in (o ∷ operands) text (inr more) = let rest = text_in operands text more in (rest.0, inr rest.1, rest.2)
+
+in_texts : (operands : List Operand) (o : Operand) → IsIn o operands → IsIn o.text (operand_texts operands)
+in_texts [] o here = absurd here
+in_texts (x ∷ operands) o (inl is) = inl (ap (λ (y : Operand). y.text) is)
+in_texts (x ∷ operands) o (inr more) = inr (in_texts operands o more)
+
+listed_to : (operands : List Operand) (name : List ℕ) → list_any (bytes_eq name) (operand_texts operands) ≡ true → (o : Operand) × IsIn o operands × (o.text ≡ name)
+listed_to operands name e =
+    let found = any_in (bytes_eq name) (operand_texts operands) e in
+    let o = text_in operands found.0 found.1 in
+    (o.0, o.1, o.2 ∙ sym ((bytes_eq-Decides name found.0).0 found.2))
+
+to_listed : (operands : List Operand) (name : List ℕ) (o : Operand) → IsIn o operands → o.text ≡ name → list_any (bytes_eq name) (operand_texts operands) ≡ true
+to_listed operands name o here is = in_any (bytes_eq name) (operand_texts operands) o.text (in_texts operands o here) ((bytes_eq-Decides name o.text).1 (sym is))
+
+upgrades : (applet : Applet) (operands : List Operand) (name : List ℕ) → (is_upgraded (names_to_upgrade applet operands) name ≡ true) ↔ IsToUpgrade applet operands name
+upgrades Applets.Upgrade [] name = (λ e. tt, λ all. refl)
+upgrades Applets.Upgrade (o ∷ operands) name = (listed_to (o ∷ operands) name, λ is. to_listed (o ∷ operands) name is.0 is.1 is.2)
+upgrades Applets.Add operands name = (λ e. absurd (cc (e)), λ none. absurd none)
+upgrades Applets.Del operands name = (λ e. absurd (cc (e)), λ none. absurd none)
+upgrades Applets.Fix operands name = (λ e. absurd (cc (e)), λ none. absurd none)
+upgrades Applets.Info operands name = (λ e. absurd (cc (e)), λ none. absurd none)
+upgrades Applets.Verify operands name = (λ e. absurd (cc (e)), λ none. absurd none)
+upgrades Applets.Adbdump operands name = (λ e. absurd (cc (e)), λ none. absurd none)
+upgrades Applets.Mkpkg operands name = (λ e. absurd (cc (e)), λ none. absurd none)
+upgrades Applets.Mkndx operands name = (λ e. absurd (cc (e)), λ none. absurd none)
+upgrades Applets.Version operands name = (λ e. absurd (cc (e)), λ none. absurd none)
+upgrades Applets.Demo operands name = (λ e. absurd (cc (e)), λ none. absurd none)
+
+-- ---- what a command chooses from
+
+module _ (command : CommandLine) (read : Reads) where
+  pool_of : (inputs : Inputs) (pool : SealedPool) → inputs_of command read ≡ Ok inputs → pool_by command inputs ≡ Ok pool → IsCommandPool command read pool
+  pool_of inputs pool found e =
+      let upgraded = names_to_upgrade command.applet command.operands in
+      let is = root_pool_is inputs upgraded pool e in
+      subst (IsCommandPool command read) (sym is.is) (record {
+        inputs = inputs;
+        is_inputs = found;
+        candidates = candidates_are command read inputs found;
+        few = is.few;
+        world = refl;
+        upgraded = upgrades command.applet command.operands;
+      })
+
+  pub pool_chosen : (pool : SealedPool) → pool_for command read ≡ Ok pool → IsCommandPool command read pool
+  pool_chosen pool e = let inputs = and_then_ok (inputs_of command read) (pool_by command) pool e in pool_of inputs.0 pool inputs.1 inputs.2
+
+-- ---- what it selects
+
+module _ (command : CommandLine) (read : Reads) where
+  -- a first selection is what is selected
+  record IsTaken (s : Selected) : Type 0 where
+    pub pool : SealedPool
+    pub trace : List ℕ
+    pub first : IsFirstSelection pool trace
+    pub selected : candidates_at pool trace ≡ s.replacement.selected
+    pub candidates : pool.candidates ≡ candidates_of s.inputs
+    pub world : pool.world ≡ s.inputs.root.new_world
+
+  taken_by : (inputs : Inputs) (pool : SealedPool) (place : Option ℕ) (chosen : Option (List ℕ)) (s : Selected) → pool_by command inputs ≡ Ok pool
+      → IsChoiceFrom (Ok pool) chosen → unless_place place (selected_by command inputs pool chosen) ≡ Ok s → IsTaken s
+  taken_by inputs pool (Some place) chosen s is choice e = absurd (cc (e))
+  taken_by inputs pool None None s is choice e = absurd (cc (e))
+  taken_by inputs pool None (Some trace) s is choice e =
+      let root = root_pool_is inputs (names_to_upgrade command.applet command.operands) pool is in
+      let made : Selected = record { inputs = inputs; replacement = replacement_of_choice (names_to_reinstall command.applet command.operands) inputs pool trace } in
+      let same : made ≡ s = cc in
+      subst IsTaken same (record {
+        pool = pool;
+        trace = trace;
+        first = choice;
+        selected = refl;
+        candidates = ap (λ (p : SealedPool). p.candidates) root.is;
+        world = ap (λ (p : SealedPool). p.world) root.is;
+      })
+
+  taken : (chosen : Option (List ℕ)) (s : Selected) → IsChoiceFrom (pool_for command read) chosen → selected_for command read chosen ≡ Ok s → IsTaken s
+  taken chosen s choice e =
+      let inputs = and_then_ok (inputs_of command read) (selected_of_inputs command chosen) s e in
+      let pool = and_then_ok (pool_by command inputs.0) (λ pool. unless_place (unknown_place command.applet inputs.0 command.operands) (selected_by command inputs.0 pool chosen)) s inputs.2 in
+      let is : pool_for command read ≡ Ok pool.0 = ap (λ (r : Result Inputs Refusal). and_then r (pool_by command)) inputs.1 ∙ pool.1 in
+      taken_by inputs.0 pool.0 (unknown_place command.applet inputs.0 command.operands) chosen s pool.1 (subst (λ (r : Result SealedPool Refusal). IsChoiceFrom r chosen) is choice) pool.2
+
+  pub satisfies : (chosen : Option (List ℕ)) (s : Selected) → IsChoiceFrom (pool_for command read) chosen → selected_for command read chosen ≡ Ok s
+      → SatisfyWorld (candidates_of s.inputs) s.inputs.root.new_world s.replacement.selected
+  satisfies chosen s choice e =
+      let t = taken chosen s choice e in
+      let done : SatisfyWorld t.pool.candidates t.pool.world (candidates_at t.pool t.trace) = satisfied t.pool t.trace t.first.satisfies in
+      subst (λ (l : List Candidate). SatisfyWorld (candidates_of s.inputs) s.inputs.root.new_world l) t.selected
+      (subst (λ (w : List Dependency). SatisfyWorld (candidates_of s.inputs) w (candidates_at t.pool t.trace)) t.world
+      (subst (λ (cs : List Candidate). SatisfyWorld cs t.pool.world (candidates_at t.pool t.trace)) t.candidates done))
+
+  pub each_needed : (chosen : Option (List ℕ)) (s : Selected) (c : Candidate) → IsChoiceFrom (pool_for command read) chosen → selected_for command read chosen ≡ Ok s → IsIn c s.replacement.selected
+      → IsNeeded (candidates_of s.inputs) s.inputs.root.new_world s.replacement.selected c
+  each_needed chosen s c choice e here =
+      let t = taken chosen s choice e in
+      let at : IsIn c (candidates_at t.pool t.trace) = subst (IsIn c) (sym t.selected) here in
+      let done : IsNeeded t.pool.candidates t.pool.world (candidates_at t.pool t.trace) c = needed t.pool t.trace t.first.satisfies (next t.pool) t.first.walked c at in
+      subst (λ (l : List Candidate). IsNeeded (candidates_of s.inputs) s.inputs.root.new_world l c) t.selected
+      (subst (λ (w : List Dependency). IsNeeded (candidates_of s.inputs) w (candidates_at t.pool t.trace) c) t.world
+      (subst (λ (cs : List Candidate). IsNeeded cs t.pool.world (candidates_at t.pool t.trace) c) t.candidates done))

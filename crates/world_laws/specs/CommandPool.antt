@@ -1,0 +1,96 @@
+-- What a command chooses from, in a reader's words: which candidates there are, under which world,
+-- and which names are upgraded. The rules stand in `docs/selection.md`, "What there is to choose
+-- from", and in `docs/commands.md`, "`upgrade` and `fix`".
+use Rattle.std.specs.Prelude.{◌≡◌, ◌⊎◌, ◌↔◌, ◌≤◌, ◌+◌, ℕ, true, false, List, [], ◌∷◌, length, Some, Ok, slice_get}
+use Rattle.adb_fields.specs.FirstPair.{IsIn}
+use Rattle.adb_fields.specs.Repeated.{entries_at}
+use Rattle.adb_schema.specs.Soundness.{payload_in, root_value}
+use Rattle.adb_tables.specs.FieldIndexes.{INDEX_PACKAGES}
+use Rattle.adb_tables.specs.declared.tables.Which.TheVariants.{Index}
+use Rattle.adb_view.specs.Plain.{Plain}
+use Rattle.candidate_core.specs.Candidates.{Candidate, candidate_of, is_same_package}
+use Rattle.candidate_core.specs.Rank.{SealedPool, is_upgraded}
+use Rattle.candidate_core.specs.declared.candidate_list.TheConstants.{MOST_CANDIDATES}
+use Rattle.change_inputs.specs.Candidates.{installed_candidate}
+use Rattle.change_inputs.specs.Inputs.{Inputs, first_index_read, inputs_of}
+use Rattle.command_core.specs.Command.{CommandLine}
+use Rattle.command_core.specs.declared.command.Applet.{Applet}
+use Rattle.command_core.specs.declared.command.Applet.TheVariants.{Upgrade}
+use Rattle.command_core.specs.declared.operands.Operand.{Operand}
+use Rattle.dep_core.specs.Repositories.{Repository}
+use Rattle.make_info.specs.Reads.{Reads}
+
+-- ---- the candidates
+
+-- the repository at this place of the list, counted from 0, has this package in its index
+pub record IsIndexed (inputs : Inputs) (read : Reads) (place : ℕ) (repository : Repository)
+    (info : Plain) : Type 0 where
+  pub listed : slice_get inputs.root.repositories place ≡ Some repository
+  pub file : List ℕ
+  pub is_index : read (first_index_read + place) repository.path ≡ Some file
+  pub has : IsIn info (entries_at INDEX_PACKAGES (root_value Index (payload_in file)))
+
+-- a candidate is this package of the repository at this place, installed or not; repositories are
+-- numbered from 1
+abbrev pub IsCandidateFor : ℕ → Repository → Plain → Candidate → Type 0
+IsCandidateFor place repository info c =
+    c ≡ candidate_of info (Some (1 + place)) repository.tag c.installed
+
+-- some installed package is this candidate: name, text of the version and id are the same
+abbrev pub IsSameAsInstalled : Inputs → Candidate → Type 0
+IsSameAsInstalled inputs c =
+    (pkg : Plain)
+    × IsIn pkg inputs.root.database.packages
+    × (is_same_package (installed_candidate pkg) c ≡ true)
+
+-- a candidate is a package of an index, and counts as installed just where an installed package is
+-- the same
+pub record IsOfIndex (inputs : Inputs) (read : Reads) (c : Candidate) : Type 0 where
+  pub place : ℕ
+  pub repository : Repository
+  pub info : Plain
+  pub indexed : IsIndexed inputs read place repository info
+  pub is : IsCandidateFor place repository info c
+  pub counts : (c.installed ≡ true) ↔ IsSameAsInstalled inputs c
+
+-- a candidate is an installed package that no index has
+pub record IsInstalledAlone (inputs : Inputs) (candidates : List Candidate) (c : Candidate) :
+    Type 0 where
+  pub pkg : Plain
+  pub installed : IsIn pkg inputs.root.database.packages
+  pub is : c ≡ installed_candidate pkg
+  pub alone : (other : Candidate) → IsIn other candidates → is_same_package c other ≡ false
+
+-- The candidates of a command are the packages of all indexes, and the installed packages that no
+-- index has; none of either is left out.
+pub record AreCandidates (inputs : Inputs) (read : Reads) (candidates : List Candidate) :
+    Type 0 where
+  pub each : (c : Candidate) → IsIn c candidates
+      → IsOfIndex inputs read c ⊎ IsInstalledAlone inputs candidates c
+  pub of_indexes : (place : ℕ) (repository : Repository) (info : Plain)
+      → IsIndexed inputs read place repository info
+      → (c : Candidate) × IsIn c candidates × IsCandidateFor place repository info c
+  pub installed : (pkg : Plain) → IsIn pkg inputs.root.database.packages
+      → (c : Candidate) × IsIn c candidates × (c.installed ≡ true)
+      × ((c ≡ installed_candidate pkg) ⊎ (is_same_package (installed_candidate pkg) c ≡ true))
+
+-- ---- the names that are upgraded
+
+-- a command upgrades this name: `upgrade` those of its operands, or each where it has none
+abbrev pub IsToUpgrade : Applet → List Operand → List ℕ → Type 0
+IsToUpgrade Upgrade [] name = Unit {0}
+IsToUpgrade Upgrade (o ∷ operands) name =
+    (named : Operand) × IsIn named (o ∷ operands) × (named.text ≡ name)
+IsToUpgrade applet operands name = ⊥
+
+-- ---- both
+
+-- a command chooses from its candidates, which are not too many, under the new world
+pub record IsCommandPool (command : CommandLine) (read : Reads) (pool : SealedPool) : Type 0 where
+  pub inputs : Inputs
+  pub is_inputs : inputs_of command read ≡ Ok inputs
+  pub candidates : AreCandidates inputs read pool.candidates
+  pub few : length pool.candidates ≤ MOST_CANDIDATES
+  pub world : pool.world ≡ inputs.root.new_world
+  pub upgraded : (name : List ℕ)
+      → (is_upgraded pool.upgraded name ≡ true) ↔ IsToUpgrade command.applet command.operands name

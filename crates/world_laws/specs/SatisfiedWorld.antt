@@ -1,0 +1,63 @@
+-- What holds of the packages that a command selects, in a reader's words: they satisfy world, and
+-- each is needed. The rules stand in `docs/selection.md`, "What satisfies world", 1 to 4, and
+-- "Which selection is taken", the end of its second paragraph.
+use Rattle.std.specs.Prelude.{◌≡◌, ◌⊎◌, ℕ, true, false, List}
+use Rattle.adb_fields.specs.FirstPair.{IsIn}
+use Rattle.candidate_core.specs.Candidates.{Candidate, has_usable_install_if, is_allowed, meets_dependency, occupies_name}
+use Rattle.dep_core.specs.Dependency.{Dependency}
+
+-- ---- world
+
+-- one of the packages meets a dependency
+abbrev pub IsMetByOne : List Candidate → Dependency → Type 0
+IsMetByOne packages d =
+    (c : Candidate) × IsIn c packages × (meets_dependency d c ≡ true)
+
+-- an install-if applies: that of a candidate which may be selected, where the packages meet it
+-- entry by entry; it is not empty and has no conflict
+pub record HasInstallIf (candidates : List Candidate) (world : List Dependency)
+    (packages : List Candidate) (c : Candidate) : Type 0 where
+  pub is_candidate : IsIn c candidates
+  pub usable : has_usable_install_if world c ≡ true
+  pub met : (d : Dependency) → IsIn d c.install_if → IsMetByOne packages d
+
+-- packages satisfy world, among the candidates that there are
+pub record SatisfyWorld (candidates : List Candidate) (world : List Dependency)
+    (packages : List Candidate) : Type 0 where
+  -- each is a candidate, is allowed, and meets no conflict of world
+  pub are_candidates : (c : Candidate) → IsIn c packages → IsIn c candidates
+  pub allowed : (c : Candidate) → IsIn c packages → is_allowed world c ≡ true
+  pub not_barred : (c : Candidate) (d : Dependency) → IsIn c packages → IsIn d world
+      → d.conflict ≡ true → meets_dependency d c ≡ false
+  -- 1: what world and the packages depend on is met
+  pub world_met : (d : Dependency) → IsIn d world → d.conflict ≡ false → IsMetByOne packages d
+  pub depends_met : (c : Candidate) (d : Dependency) → IsIn c packages → IsIn d c.depends
+      → d.conflict ≡ false → IsMetByOne packages d
+  -- 2: no conflict of a package is met by another
+  pub no_conflict : (c other : Candidate) (d : Dependency) → IsIn c packages
+      → IsIn other packages → IsIn d c.depends → d.conflict ≡ true
+      → meets_dependency d other ≡ true → other ≡ c
+  -- 3: no name is occupied by two
+  pub names_alone : (c other : Candidate) (name : List ℕ) → IsIn c packages
+      → IsIn other packages → occupies_name name c ≡ true → occupies_name name other ≡ true
+      → other ≡ c
+  -- 4: where an install-if applies there is a package of its name
+  pub installs : (c : Candidate) → HasInstallIf candidates world packages c
+      → (other : Candidate) × IsIn other packages × (other.name ≡ c.name)
+
+-- ---- what is needed
+
+-- one of these dependencies, which is no conflict, is met by a package
+abbrev pub MeetsOne : List Dependency → Candidate → Type 0
+MeetsOne deps c =
+    (d : Dependency) × IsIn d deps × (d.conflict ≡ false) × (meets_dependency d c ≡ true)
+
+-- a package is needed: it meets an entry of world or what one of the packages depends on, or it has
+-- the name of a candidate whose install-if applies
+abbrev pub IsNeeded :
+    List Candidate → List Dependency → List Candidate → Candidate → Type 0
+IsNeeded candidates world packages c =
+    MeetsOne world c
+    ⊎ (((other : Candidate) × IsIn other packages × MeetsOne other.depends c)
+    ⊎ ((other : Candidate) × HasInstallIf candidates world packages other
+    × (c.name ≡ other.name)))
