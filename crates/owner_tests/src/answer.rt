@@ -27,10 +27,24 @@ pub(crate) fn add_owners(
     add_owners_of(alloc, &fronts, answer)
 }
 
-/// Adds who owns the files of the packages with these fronts.
-fn add_owners_of(alloc: Global, fronts: &[Front], answer: &mut Vec<u8>) -> Result<(), AllocError> {
-    let db = Db::empty(alloc);
-    let mut members = Members::new(alloc, &db);
+/// Adds who owns the files of the packages with these fronts, where nothing is installed.
+fn add_owners_of<'a>(
+    alloc: Global,
+    fronts: &'a [Front],
+    answer: &mut Vec<u8>,
+) -> Result<(), AllocError> {
+    add_owners_beside(alloc, &Db::empty(alloc), fronts, answer)
+}
+
+/// Adds who owns the files of the packages with these fronts, beside a database of which none
+/// stays.
+fn add_owners_beside<'a>(
+    alloc: Global,
+    db: &Db<'a>,
+    fronts: &'a [Front],
+    answer: &mut Vec<u8>,
+) -> Result<(), AllocError> {
+    let mut members = Members::new(alloc, db);
     for front in fronts {
         if !add_coming(alloc, &mut members, front)? {
             return answer.extend_from_slice(b"a package is bad or not in order");
