@@ -21,7 +21,7 @@ use Rattle.make_index.specs.Files.{AreFiles}
 use Rattle.make_info.specs.Reads.{Reads}
 use Rattle.outcome.specs.Dump.{adbdump, dump_outcome, text_outcome, dump_of}
 use Rattle.outcome.specs.Make.{mkndx, mkpkg}
-use Rattle.outcome.specs.Commands.{IsFoundOutcomeOf, IsFoundOver, IsOutcomeOf, IsOutcomeOver, reads_in, applet_outcome, command_outcome}
+use Rattle.outcome.specs.Commands.{IsFoundOutcomeOf, IsFoundOver, IsOutcomeOf, IsOutcomeOver, reads_in, applet_outcome, command_outcome, computing_outcome, effect_outcome, reading_outcome}
 use Rattle.outcome.specs.Given.{Given, IsChosenFor, IsClashBy, IsGiven, IsListingFor, MayBeGiven, MayBeListedFor, MayClash, nothing_given}
 use Rattle.outcome.specs.Effect.{Effect, Computes, Reads as OnlyReading, Tells, Makes, Changes, does_only_read, does_recover, does_rest_on_words, effect_by, effect_of, output, output_by, output_if, reads_only, rests_on_words}
 use Rattle.outcome.specs.Words.{IsFoundOutcome, IsFoundOutcomeBy, IsOutcome, IsOutcomeBy}
@@ -38,7 +38,7 @@ use Rattle.words_core.specs.Grammar.{command_of}
 use Rattle.words_core.specs.declared.read.WordsFault.{WordsFault}
 use Rattle.words_core.specs.declared.read.WordsFault.TheVariants.{Usage as WrongWord}
 use Rattle.command_core.specs.declared.command.Applet.{Applet}
-use Rattle.command_core.specs.declared.command.Applet.TheVariants.{Adbdump, Demo, Info, Mkndx, Mkpkg, Verify, Version}
+use Rattle.command_core.specs.declared.command.Applet.TheVariants.{Adbdump, Mkndx, Mkpkg, Verify, Version}
 use Rattle.command_core.specs.declared.operands.Operand.{Operand}
 use Rattle.apk_front.specs.Answers.{answer_by}
 use Rattle.apk_front.specs.Effects.{access_of}
@@ -73,19 +73,25 @@ dump_leaves : (files : Files) (os : List Operand) → Leaves files (adbdump (rea
 dump_leaves files [] = (refl, refl)
 dump_leaves files (o ∷ os) = found_leaves files o.place (files (without_dot o.text))
 
-look_leaves : (applet : Applet) (command : CommandLine) (given : Given) (files : Files) → does_only_read (effect_of applet) ≡ true → Leaves files (applet_outcome applet command given (reads_in files) files)
-look_leaves Verify command given files reads = unless_leaves files (verify_refusal (reads_in files) 0 command.operands) (sound_lines command.operands)
-look_leaves Version command given files reads =
+computing_leaves : (applet : Applet) (command : CommandLine) (files : Files) → Leaves files (computing_outcome applet command files)
+computing_leaves Version command files =
     elim command.flags.test as (λ b. Leaves files (if b then report_unless files (version_refusal command.operands) (order_report command.operands) else outcome_of (version_refusal command.operands) (invalid_lines command.operands) files)) [
       | true ↦ unless_leaves files (version_refusal command.operands) (order_report command.operands)
       | false ↦ (refl, refl)
     ]
-look_leaves Adbdump command given files reads = dump_leaves files command.operands
-look_leaves Mkpkg command given files reads = cc
-look_leaves Mkndx command given files reads = cc
-look_leaves Info command given files reads = cc
-look_leaves Demo command given files reads = (refl, refl)
-look_leaves other command given files reads = cc
+computing_leaves other command files = (refl, refl)
+
+reading_leaves : (applet : Applet) (command : CommandLine) (files : Files) → Leaves files (reading_outcome applet command (reads_in files) files)
+reading_leaves Verify command files = unless_leaves files (verify_refusal (reads_in files) 0 command.operands) (sound_lines command.operands)
+reading_leaves Adbdump command files = dump_leaves files command.operands
+reading_leaves other command files = (refl, refl)
+
+look_leaves : (effect : Effect) (applet : Applet) (command : CommandLine) (given : Given) (files : Files) → does_only_read effect ≡ true → Leaves files (effect_outcome effect applet command given (reads_in files) files)
+look_leaves Computes applet command given files reads = computing_leaves applet command files
+look_leaves OnlyReading applet command given files reads = reading_leaves applet command files
+look_leaves Tells applet command given files reads = absurd (false≢true reads)
+look_leaves Makes applet command given files reads = absurd (false≢true reads)
+look_leaves Changes applet command given files reads = absurd (false≢true reads)
 
 abbrev pub Ones : CommandLine → TreeState → Outcome → Type 0
 Ones command v = IsOutcomeOver command (files_of v)
@@ -114,7 +120,7 @@ look_run command (v ∷ rest) now judged reads same =
     (λ o one.
     let is = over_of command (files_of v) o none one in
     ok_always (LeavesAll (effect_of command.applet) v o) judged
-    (subst (Leaves (files_of v)) (sym is.2) (look_leaves command.applet command is.0 (files_of v) reads), λ can. false≢true (sym none ∙ can.0)))
+    (subst (Leaves (files_of v)) (sym is.2) (look_leaves (effect_of command.applet) command.applet command is.0 (files_of v) reads), λ can. false≢true (sym none ∙ can.0)))
 
 -- ---- an applet that makes
 
@@ -425,18 +431,24 @@ not_on_words Tells writes rests = cc (rests)
 not_on_words Makes writes rests = cc (rests)
 not_on_words Changes writes rests = cc (rests)
 
--- ---- an applet that no word names yet
+-- ---- `demo` by itself
 
-nothing_of : (applet : Applet) (command : CommandLine) → (applet ≡ Verify → ⊥) → (applet ≡ Version → ⊥) → (applet ≡ Adbdump → ⊥) → does_only_read (effect_of applet) ≡ true
-    → (read : Reads) (files : Files) → applet_outcome applet command nothing_given read files ≡ just_report files []
-nothing_of Verify command v n d reads read files = absurd (v refl)
-nothing_of Version command v n d reads read files = absurd (n refl)
-nothing_of Adbdump command v n d reads read files = absurd (d refl)
-nothing_of Mkpkg command v n d reads read files = cc
-nothing_of Mkndx command v n d reads read files = cc
-nothing_of Info command v n d reads read files = cc
-nothing_of Demo command v n d reads read files = refl
-nothing_of other command v n d reads read files = cc
+computes_nothing : (applet : Applet) (command : CommandLine) (files : Files) → (applet ≡ Version → ⊥) → computing_outcome applet command files ≡ just_report files []
+computes_nothing Version command files n = absurd (n refl)
+computes_nothing other command files n = refl
+
+reads_nothing : (applet : Applet) (command : CommandLine) (read : Reads) (files : Files) → (applet ≡ Verify → ⊥) → (applet ≡ Adbdump → ⊥) → reading_outcome applet command read files ≡ just_report files []
+reads_nothing Verify command read files v d = absurd (v refl)
+reads_nothing Adbdump command read files v d = absurd (d refl)
+reads_nothing other command read files v d = refl
+
+nothing_of : (effect : Effect) (applet : Applet) (command : CommandLine) → (applet ≡ Verify → ⊥) → (applet ≡ Version → ⊥) → (applet ≡ Adbdump → ⊥) → does_only_read effect ≡ true
+    → (read : Reads) (files : Files) → effect_outcome effect applet command nothing_given read files ≡ just_report files []
+nothing_of Computes applet command v n d reads read files = computes_nothing applet command files n
+nothing_of OnlyReading applet command v n d reads read files = reads_nothing applet command read files v d
+nothing_of Tells applet command v n d reads read files = absurd (false≢true reads)
+nothing_of Makes applet command v n d reads read files = absurd (false≢true reads)
+nothing_of Changes applet command v n d reads read files = absurd (false≢true reads)
 
 -- the outcome of a command is empty
 abbrev pub IsNothing : CommandLine → Type 0
@@ -444,7 +456,7 @@ IsNothing command = (read : Reads) (files : Files) → command_outcome command n
 
 pub is_nothing : (command : CommandLine) (applet : Applet) → applet ≡ command.applet → (applet ≡ Verify → ⊥) → (applet ≡ Version → ⊥) → (applet ≡ Adbdump → ⊥) → does_only_read (effect_of command.applet) ≡ true → IsNothing command
 is_nothing command applet same v n d reads =
-    nothing_of command.applet command (λ is. v (same ∙ is)) (λ is. n (same ∙ is)) (λ is. d (same ∙ is)) reads
+    nothing_of (effect_of command.applet) command.applet command (λ is. v (same ∙ is)) (λ is. n (same ∙ is)) (λ is. d (same ∙ is)) reads
 
 pub nothing_found : (old : History) (command : CommandLine) (verdict : Verdict) → IsNothing command → ((files : Files) → as_outcome files verdict ≡ just_report files [])
     → IfObservable old (λ v. as_outcome (files_of v) verdict ≡ command_outcome command nothing_given (reads_in (files_of v)) (files_of v))

@@ -13,11 +13,11 @@ mod change;
 mod demo;
 mod dump;
 mod front;
-mod info;
 mod judge;
 mod laws;
 mod make;
 mod recovered;
+mod report;
 mod verify;
 mod version;
 

@@ -17,8 +17,8 @@ ghost use Rattle.report_core.specs.declared.refusal.Refusal.TheVariants.{IntentB
 
 use crate::answer::Verdict;
 use crate::change::change;
-use crate::info::info;
 use crate::make::{mkndx, mkpkg};
+use crate::report::report;
 use base_core::{Tree, TreeFault, counts_of_calls_in_a_row_join};
 use command_core::{Applet, Command};
 use journal_core::{
@@ -107,7 +107,7 @@ fn run_recovered<T: Tree>(
     match command.applet() {
         Applet::Mkpkg => mkpkg(alloc, command, tree),
         Applet::Mkndx => mkndx(alloc, command, tree),
-        Applet::Info => info(alloc, command, tree),
+        Applet::Info => report(alloc, command, tree),
         Applet::Add | Applet::Del | Applet::Upgrade | Applet::Fix => change(alloc, command, tree),
         // unreachable!() => The other applets do not recover.
         _ => unreachable!(),

@@ -10,6 +10,7 @@ pub mod NextRoom
 pub mod Ends
 pub mod PackageRefusals
 pub mod Recovering
+pub mod Tellers
 pub mod IntentRefusals
 pub mod FirstSelections
 pub mod Demos

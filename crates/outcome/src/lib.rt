@@ -23,7 +23,9 @@ ghost use Rattle.command_core.specs.Command.{CommandLine};
 ghost use Rattle.command_core.specs.declared.command.Applet.{Applet};
 ghost use Rattle.journal_core.specs.Recovery.{intent_name};
 ghost use Rattle.journal_core.specs.Staged.{HasRoomToReplay, HasRoomToStage, unstaged_files};
-ghost use Rattle.outcome.specs.ChangeEnd.{IsChangeEnd, IsRunEnd};
+ghost use Rattle.installed_info.specs.declared.telling.InfoDone.{InfoDone};
+ghost use Rattle.make_info.specs.Reads.{Reads};
+ghost use Rattle.outcome.specs.ChangeEnd.{IsChangeEnd, IsRunEnd, is_input_refusal};
 ghost use Rattle.outcome.specs.Commands.{IsOutcomeOf, IsOutcomeOver, reads_in};
 ghost use Rattle.outcome.specs.Effect.{Changes, Makes, Tells, does_recover, effect_by, effect_of, output, reads_only, rests_on_words};
 ghost use Rattle.outcome.specs.Make.{files_below};
@@ -32,8 +34,10 @@ ghost use Rattle.outcome.specs.Recovers.{must_recover};
 ghost use Rattle.outcome.specs.Sound.{IsSoundAt};
 ghost use Rattle.outcome.specs.Words.{IsOutcome};
 ghost use Rattle.outcome.specs.Work.{fault_of_intent, recovery_fault, work_files};
+ghost use Rattle.report_core.specs.declared.refusal.Refusal.{Refusal};
 ghost use Rattle.report_core.specs.declared.refusal.Refusal.TheVariants.{IntentBad, NoDatabase};
 ghost use Rattle.root_names.specs.RootNames.{database_name, text_database_name};
+ghost use Rattle.tell_core.specs.ToldBy.{told_by};
 ghost use Rattle.words_core.specs.Grammar.{command_of};
 
 use adb_schema::sound_containers_hold_sound_values;
@@ -179,8 +183,22 @@ pub fn only_a_bad_intent_is_refused_as_one()
         → o.refusal ≡ Some (IntentBad cause)
         → recovery_fault (effect_by (command_of words)) files ≡ Some cause }
 {
-    info_refuses_an_operand();
+    a_teller_is_refused_for_its_input();
     a_change_takes_the_first_selection_or_is_refused();
+}
+
+/// A command that only reports is refused for its input alone, in the place of its report or beside
+/// it.
+pub fn a_teller_is_refused_for_its_input()
+    // A refusal in the report's place.
+    ensures refused { (command : CommandLine) (read : Reads) (refusal : Refusal)
+        → told_by command read ≡ Err refusal → is_input_refusal refusal ≡ true }
+    // A refusal beside the report.
+    ensures late { (command : CommandLine) (read : Reads) (done : InfoDone) (refusal : Refusal)
+        → told_by command read ≡ Ok done → done.late ≡ Some refusal
+        → is_input_refusal refusal ≡ true }
+{
+    info_refuses_an_operand();
 }
 
 /// A root is refused for having no database only where neither file of one stands there, and the

@@ -5,7 +5,7 @@ use Rattle.adb_tables.specs.declared.tables.Which.TheVariants.{Idb}
 use Rattle.change_inputs.specs.Database.{payload_database, root_database}
 use Rattle.change_inputs.specs.Inputs.{database_for, database_read, text_database_read}
 use Rattle.command_core.specs.Command.{CommandLine}
-use Rattle.engine_core.specs.InfoTold.{info_told}
+use Rattle.tell_core.specs.InfoTold.{info_told}
 use Rattle.installed_info.specs.Info.{info_of}
 use Rattle.installed_info.specs.declared.telling.InfoDone.{InfoDone}
 use Rattle.make_info.specs.Reads.{Reads}

@@ -10,7 +10,7 @@ ghost use Rattle.change_outcome.specs.MembersAfter.{MemberFound};
 ghost use Rattle.command_core.specs.Command.{CommandLine};
 ghost use Rattle.engine_core.specs.Changed.{IsClashFor, change_of_command, selected_of_inputs};
 ghost use Rattle.engine_core.specs.Choice.{IsChoiceFrom};
-ghost use Rattle.engine_core.specs.InfoTold.{info_told};
+ghost use Rattle.tell_core.specs.InfoTold.{info_told};
 ghost use Rattle.engine_core.specs.Selecting.{pool_for};
 ghost use Rattle.installed_info.specs.declared.telling.InfoDone.{InfoDone};
 ghost use Rattle.make_info.specs.Reads.{Reads};

@@ -1,9 +1,9 @@
 use Rattle.std.specs.Prelude.{Ok}
 use Rattle.change_inputs.proofs.Handed.{handed_on}
 use Rattle.change_inputs.specs.Seen.{installed_seen}
-use Rattle.engine_core.proofs.InfoSteps.{info_read, info_unread}
+use Rattle.tell_core.proofs.InfoSteps.{info_read, info_unread}
 use Rattle.installed_info.specs.Info.{info_of}
-use Rattle.engine_core.proofs.telling.info.Goals as goal
+use Rattle.tell_core.proofs.info.tell_info.Goals as goal
 
 pub returns-in_err-installed-clause-told : goal.returns-in_err-installed-clause-told
 returns-in_err-installed-clause-told g c =

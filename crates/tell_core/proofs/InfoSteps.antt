@@ -15,7 +15,7 @@ use Rattle.installed_info.specs.Info.{info_of}
 use Rattle.installed_info.specs.declared.telling.InfoDone.{InfoDone}
 use Rattle.package_files.specs.Runs.{Explains}
 use Rattle.report_core.specs.declared.refusal.Refusal.{Refusal}
-use Rattle.engine_core.specs.InfoTold.{info_told}
+use Rattle.tell_core.specs.InfoTold.{info_told}
 
 abbrev of_database : CommandLine → Database → Result InfoDone Refusal
 of_database command database = info_of command database.packages

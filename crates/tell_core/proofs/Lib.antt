@@ -1,0 +1,2 @@
+pub mod InfoSteps
+pub mod Others

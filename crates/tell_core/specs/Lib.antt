@@ -1,0 +1,3 @@
+-- what the contract of `apk` says
+pub mod ToldBy
+pub mod InfoTold

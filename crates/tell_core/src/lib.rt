@@ -1,0 +1,13 @@
+//! What the commands that only report on an installed root come to: `info`.
+//!
+//! The contract of `tell` cites `ToldBy` of `specs/` (what each of these commands reports, or why
+//! it is refused) and with it `InfoTold`. Each command's rules are in `docs/commands.md`, under its
+//! name.
+#![tactic(auto)]
+
+mod info;
+mod telling;
+
+pub use change_inputs::Refused;
+pub use installed_info::InfoDone;
+pub use telling::tell;
