@@ -1,4 +1,4 @@
--- The definitions of trees, crashes, names and sinks; the README of this crate says in which order
+-- The definitions of trees, crashes, names, sinks and lists in order; the README of this crate says in which order
 -- to read them, and the head of each file where its rule stands.
 
 -- what the contract of `apk` says
@@ -12,6 +12,8 @@ pub mod Listed
 pub mod Crash
 pub mod Sink
 pub mod Restart
+pub mod Sorted
+pub mod ByteOrder
 -- what only inner contracts and proofs use
 pub mod Read
 pub mod Write

@@ -9,7 +9,7 @@ use Rattle.adb_rules.specs.Reserved.{is_at_or_below, is_below_any, is_reserved, 
 use Rattle.base_core.specs.Files.{Files}
 use Rattle.base_core.proofs.Rising.{IsIn}
 use Rattle.db_core.specs.Members.{Listing}
-use Rattle.list_order.specs.ByteOrder.{precedes, smaller_text, smallest_text}
+use Rattle.base_core.specs.ByteOrder.{precedes, smaller_text, smallest_text}
 use Rattle.change_files.specs.Fate.{aside_name}
 use Rattle.change_files.specs.FileChange.{FileChange}
 use Rattle.change_files.specs.FilesAfter.{Records, database_name, text_database_name, world_name, written_as}

@@ -10,7 +10,7 @@ ghost use Rattle.adb_view.specs.Plain.{Plain};
 ghost use Rattle.base_core.specs.Listed.{IsRising};
 ghost use Rattle.db_core.specs.EntrySeen.{comes_or_is_in, member_by, payload_of_database};
 ghost use Rattle.db_core.specs.Members.{Member, comes_behind, coming_member, is_coming, is_place, member_name, staying_member, Listing, member_listings};
-ghost use Rattle.list_order.specs.ByteOrder.{precedes};
+ghost use Rattle.base_core.specs.ByteOrder.{precedes};
 ghost use Rattle.std.specs.List.Sorted.{IsPartitionPoint};
 ghost use Rattle.db_core.specs.Packages.{comes_or_lists_no_reserved, lists_names};
 ghost use Rattle.db_core.specs.SoundMembers.{AreOfSoundContainers};

@@ -26,7 +26,7 @@ use Rattle.change_outcome.specs.ChangeOutcome.{bytes_under, is_other_file, new_r
 use Rattle.change_outcome.specs.MembersAfter.{MemberFound, contents_found}
 use Rattle.db_core.specs.Members.{Listing, Member, member_listings}
 use Rattle.file_guard.specs.AsListed.{has_target, link_bytes, link_to}
-use Rattle.list_order.proofs.Sorting.{Each}
+use Rattle.base_core.proofs.Sorting.{Each}
 use Rattle.file_fates.specs.ClaimEntries.{folders_if_any, listed_file_at}
 use Rattle.file_fates.proofs.Listings.{IsPlaced, each_placed}
 use Rattle.package_test.specs.Tested.{tested_name}

@@ -7,8 +7,8 @@ use Rattle.std.specs.Ordering.{is_lt, ordering_reverse}
 use Rattle.std.proofs.lemmas.Cmp.{nat_list_cmp_total}
 use Rattle.std.proofs.lemmas.Bool.{le-leb}
 use Rattle.base_core.specs.Listed.{IsRising}
-use Rattle.list_order.specs.ByteOrder.{bytes_cmp}
-use Rattle.list_order.proofs.Sorting.{sorted_up}
+use Rattle.base_core.specs.ByteOrder.{bytes_cmp}
+use Rattle.base_core.proofs.Sorting.{sorted_up}
 use Rattle.db_core.specs.Members.{staying_members}
 use Rattle.db_core.specs.Seen.{members_of, packages_of}
 use Rattle.path_claims.specs.Claims.{PathClaim, claim_cmp, is_of_path}

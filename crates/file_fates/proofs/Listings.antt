@@ -10,8 +10,8 @@ use Rattle.base_core.specs.Name.{IsName}
 use Rattle.adb_view.specs.Plain.{Plains, none, more}
 use Rattle.adb_tables.specs.Values.{count_of, entries_in, entry_in, nth}
 use Rattle.adb_fields.specs.Repeated.{files_in, list_of, name_of}
-use Rattle.list_order.specs.Sorted.{sorted_by}
-use Rattle.list_order.proofs.Sorting.{Each, stable_in_order}
+use Rattle.base_core.specs.Sorted.{sorted_by}
+use Rattle.base_core.proofs.Sorting.{Each, stable_in_order}
 use Rattle.db_core.specs.Members.{Listing, Member, claims_of, is_coming, listings_by, listings_from, listings_in_folder, listings_in_folders, member_listing, member_listings}
 use Rattle.path_claims.specs.Claims.{PathClaim, claim_cmp, is_member, is_of_path}
 use Rattle.path_claims.proofs.ClaimOrder.{claims_total}

@@ -2,7 +2,7 @@
 -- No rule of a document: serves the contracts of this crate; *FileChange* of `change_files` is what
 -- both sides come to.
 use Rattle.std.specs.Prelude.{◌≡◌, List, map}
-use Rattle.list_order.specs.Sorted.{sorted_by}
+use Rattle.base_core.specs.Sorted.{sorted_by}
 use Rattle.db_core.specs.Members.{staying_members}
 use Rattle.db_core.specs.Seen.{members_of, packages_of}
 use Rattle.path_claims.specs.Claims.{PathClaim, claim_cmp}

@@ -10,7 +10,7 @@ use Rattle.version_core.specs.Order.{is_version}
 use Rattle.dep_core.specs.Dependency.{Dependency}
 use Rattle.dep_core.specs.Meets.{meets}
 use Rattle.adb_rules.specs.Dependencies.{dependency_in}
-use Rattle.list_order.specs.ByteOrder.{precedes}
+use Rattle.base_core.specs.ByteOrder.{precedes}
 
 -- the text of a package's version, as its information has it
 abbrev pub version_text : Plain → List ℕ

@@ -6,7 +6,7 @@
 ghost use Rattle.std.specs.Prelude.{◌≡◌, ◌<◌, Some, IfOk, length, map, option_map, slice_get, List, true, false};
 ghost use Rattle.db_core.specs.Members.{Member, member_listings};
 ghost use Rattle.db_core.specs.Seen.{members_of};
-ghost use Rattle.list_order.specs.Sorted.{sorted_by};
+ghost use Rattle.base_core.specs.Sorted.{sorted_by};
 ghost use Rattle.path_claims.specs.Claims.{claim_cmp};
 ghost use Rattle.path_claims.specs.ContestedSeen.{contested_seen};
 ghost use Rattle.path_claims.specs.Seen.{claim_seen};

@@ -11,7 +11,7 @@ use Rattle.adb_view.specs.Plain.{Plain, none, more, arr_value, blob_value}
 use Rattle.command_core.specs.Command.{CommandLine}
 use Rattle.command_core.specs.Files.{without_dot}
 use Rattle.command_core.specs.declared.operands.Operand.{Operand}
-use Rattle.list_order.specs.Sorted.{sorted_by}
+use Rattle.base_core.specs.Sorted.{sorted_by}
 use Rattle.make_index.specs.Entries.{entry_of_package}
 use Rattle.make_index.specs.EntryOrder.{entry_cmp}
 use Rattle.make_index.specs.Files.{AreFiles}

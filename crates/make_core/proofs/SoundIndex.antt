@@ -24,7 +24,7 @@ use Rattle.make_info.specs.Values.{plains_of_list}
 use Rattle.command_core.specs.Command.{CommandLine}
 use Rattle.make_index.specs.Entries.{entry_of_package}
 use Rattle.make_index.specs.EntryOrder.{entry_cmp}
-use Rattle.list_order.specs.Sorted.{sorted_by, with_element}
+use Rattle.base_core.specs.Sorted.{sorted_by, with_element}
 use Rattle.base_core.specs.Files.{IsFile}
 use Rattle.make_index.specs.Files.{AreFiles}
 use Rattle.adb_sound.specs.Root.{IsRootOf}

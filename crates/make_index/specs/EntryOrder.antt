@@ -4,7 +4,7 @@
 use Rattle.std.specs.Prelude.{ℕ, List}
 use Rattle.std.specs.Ordering.{on, then_cmp}
 use Rattle.std.specs.declared.cmp.Ordering.{Ordering}
-use Rattle.list_order.specs.ByteOrder.{bytes_cmp}
+use Rattle.base_core.specs.ByteOrder.{bytes_cmp}
 use Rattle.version_core.specs.Order.{version_cmp}
 use Rattle.adb_view.specs.Plain.{Plain}
 use Rattle.adb_tables.specs.FieldIndexes.{INFO_HASHES, INFO_NAME, INFO_VERSION}

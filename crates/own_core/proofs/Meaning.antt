@@ -5,7 +5,7 @@ use Rattle.std.specs.Cmp.Lexicographic.{bytes_decides}
 use Rattle.std.specs.List.{filter, find, list_any}
 use Rattle.base_core.specs.Files.{Files}
 use Rattle.base_core.proofs.Rising as Names
-use Rattle.list_order.specs.Sorted.{sorted_by}
+use Rattle.base_core.specs.Sorted.{sorted_by}
 use Rattle.db_core.specs.Members.{Listing, claims_of, is_coming, member_listings, staying_members}
 use Rattle.path_claims.specs.Claims.{PathClaim, claim_cmp, is_of_path}
 use Rattle.path_claims.specs.Contest.{beats_each, winner}

@@ -8,9 +8,9 @@ use Rattle.std.specs.declared.cmp.Ordering.{Ordering}
 use Rattle.base_core.specs.Files.{Files}
 use Rattle.base_core.specs.Tree.{TreeState}
 use Rattle.adb_view.specs.Plain.{Plain}
-use Rattle.list_order.specs.ByteOrder.{bytes_cmp}
-use Rattle.list_order.specs.Sorted.{sorted_by, with_element}
-use Rattle.list_order.proofs.Sorting.{Each}
+use Rattle.base_core.specs.ByteOrder.{bytes_cmp}
+use Rattle.base_core.specs.Sorted.{sorted_by, with_element}
+use Rattle.base_core.proofs.Sorting.{Each}
 use Rattle.db_core.specs.Members.{Listing, Member, is_coming, member_listings, staying_members}
 use Rattle.db_core.specs.Seen.{members_of}
 use Rattle.path_claims.specs.Claims.{PathClaim, claim_cmp, is_of_path}

@@ -6,8 +6,8 @@ use Rattle.std.specs.List.Sorted.{IsSorted}
 use Rattle.base_core.specs.Files.{Files}
 use Rattle.base_core.specs.Tree.{TreeState}
 use Rattle.base_core.proofs.Rising as Names
-use Rattle.list_order.specs.Sorted.{sorted_by}
-use Rattle.list_order.proofs.Sorting.{Each}
+use Rattle.base_core.specs.Sorted.{sorted_by}
+use Rattle.base_core.proofs.Sorting.{Each}
 use Rattle.db_core.specs.Seen.{members_of}
 use Rattle.db_core.specs.Members.{staying_members}
 use Rattle.path_claims.specs.Claims.{PathClaim, claim_cmp, is_of_path}

@@ -10,9 +10,9 @@ use Rattle.base_core.specs.Tree.{TreeState, files_of}
 use Rattle.base_core.specs.declared.tree.TreeFault.{TreeFault}
 use Rattle.base_core.proofs.Rising as Names
 use Rattle.root_names.proofs.RootNamesAreNames.{database_named, world_named}
-use Rattle.list_order.specs.ByteOrder.{bytes_cmp}
-use Rattle.list_order.specs.Sorted.{sorted_by, with_element}
-use Rattle.list_order.proofs.Sorting.{Each, sorted_up}
+use Rattle.base_core.specs.ByteOrder.{bytes_cmp}
+use Rattle.base_core.specs.Sorted.{sorted_by, with_element}
+use Rattle.base_core.proofs.Sorting.{Each, sorted_up}
 use Rattle.db_core.specs.Members.{Member, member_listings, staying_members}
 use Rattle.db_core.specs.Seen.{members_of, packages_of}
 use Rattle.path_claims.specs.Claims.{PathClaim, claim_cmp, is_of_path}

@@ -8,10 +8,10 @@ use Rattle.std.specs.Ordering.{is_gt, is_lt}
 use Rattle.std.proofs.lemmas.Cmp.{nat_list_cmp_total, on_total}
 use Rattle.base_core.specs.Files.{Files}
 use Rattle.base_core.proofs.Rising as Names
-use Rattle.list_order.specs.ByteOrder.{bytes_cmp}
-use Rattle.list_order.specs.Sorted.{sorted_by, with_element}
-use Rattle.list_order.proofs.Sorting as Sorting
-use Rattle.list_order.proofs.Sorting.{Each, sort_seen, sorted_up, stable}
+use Rattle.base_core.specs.ByteOrder.{bytes_cmp}
+use Rattle.base_core.specs.Sorted.{sorted_by, with_element}
+use Rattle.base_core.proofs.Sorting as Sorting
+use Rattle.base_core.proofs.Sorting.{Each, sort_seen, sorted_up, stable}
 use Rattle.db_core.specs.Members.{Listing}
 use Rattle.path_claims.specs.Claims.{PathClaim, claim_cmp, is_of_path}
 use Rattle.claim_lists.proofs.Firsts.{found_in, paths}

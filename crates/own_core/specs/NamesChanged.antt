@@ -4,8 +4,8 @@
 use Rattle.std.specs.Prelude.{◌&&◌, ◌||◌, ◌++◌, ◌∷◌, [], ℕ, Bool, not, List, map, bytes_eq, is_some}
 use Rattle.std.specs.List.{filter, find, list_any}
 use Rattle.db_core.specs.Seen.{members_of}
-use Rattle.list_order.specs.ByteOrder.{bytes_cmp}
-use Rattle.list_order.specs.Sorted.{sorted_by}
+use Rattle.base_core.specs.ByteOrder.{bytes_cmp}
+use Rattle.base_core.specs.Sorted.{sorted_by}
 use Rattle.path_claims.specs.Claims.{is_of_path}
 use Rattle.change_files.specs.Fate.{aside_name}
 use Rattle.change_files.specs.FilesAfter.{database_name, world_name}

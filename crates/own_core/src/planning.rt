@@ -15,7 +15,7 @@ ghost use Rattle.claim_lists.specs.Once.{HasFirsts};
 ghost use Rattle.db_core.specs.Members.{member_listings};
 ghost use Rattle.db_core.specs.Seen.{members_of};
 ghost use Rattle.file_owners.specs.Owners.{claims_in, contested_of, owned_of};
-ghost use Rattle.list_order.specs.Sorted.{sorted_by};
+ghost use Rattle.base_core.specs.Sorted.{sorted_by};
 ghost use Rattle.path_claims.specs.Claims.{claim_cmp};
 ghost use Rattle.path_claims.specs.ContestedSeen.{contested_seen};
 ghost use Rattle.path_claims.specs.Seen.{claim_seen};

@@ -20,7 +20,7 @@ use Rattle.db_write.specs.NewDatabase.{database_of, database_value}
 use Rattle.file_owners.specs.Owners.{owned_of, owner_of_path}
 use Rattle.file_owners.specs.Replaces.{takes_over}
 use Rattle.journal_intent.specs.IntentValue.{intent_of_lists, value_of_intent}
-use Rattle.list_order.specs.ByteOrder.{precedes}
+use Rattle.base_core.specs.ByteOrder.{precedes}
 use Rattle.make_info.specs.Reads.{Reads}
 use Rattle.package_files.specs.Folders.{folder_of}
 use Rattle.package_changes.specs.Changes.{Replacement}

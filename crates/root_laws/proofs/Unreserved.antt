@@ -15,7 +15,7 @@ use Rattle.change_files.specs.PlanLists.{first_reserved}
 use Rattle.db_core.specs.Members.{Listing, Member, is_coming, listings_by, listings_from, listings_in_folder, listings_in_folders, member_listings}
 use Rattle.db_core.specs.OwnedListings.{HaveOneOwner, owned_listings}
 use Rattle.db_core.specs.SoundMembers.{AreOfSoundContainers, IsOfSoundContainer, IsOfSoundDatabase, MayBeListed, NoneReserved}
-use Rattle.list_order.specs.ByteOrder.{precedes, smaller_text, smallest_text}
+use Rattle.base_core.specs.ByteOrder.{precedes, smaller_text, smallest_text}
 
 -- ---- a property of each listing
 

@@ -2,7 +2,7 @@ use Rattle.std.proofs.Common.{ap, map, subst, sym, ◌∙◌}
 use Rattle.std.specs.List.Sorted.{IsSorted}
 use Rattle.std.specs.Ordering.{is_lt}
 use Rattle.std.proofs.lemmas.List.Kept.{IsSortedBy-filter}
-use Rattle.list_order.proofs.Sorting.{ranks}
+use Rattle.base_core.proofs.Sorting.{ranks}
 use Rattle.db_core.specs.Seen.{members_of}
 use Rattle.path_claims.specs.Claims.{claim_cmp}
 use Rattle.path_claims.specs.Seen.{claim_seen}

@@ -4,8 +4,8 @@ use Rattle.std.specs.List.{find, list_any}
 use Rattle.std.specs.List.Sorted.{IsSorted}
 use Rattle.adb_fields.specs.JoinedPath.{joined_path}
 use Rattle.change_files.specs.Fate.{aside_name}
-use Rattle.list_order.specs.ByteOrder.{bytes_cmp}
-use Rattle.list_order.specs.Sorted.{sorted_by}
+use Rattle.base_core.specs.ByteOrder.{bytes_cmp}
+use Rattle.base_core.specs.Sorted.{sorted_by}
 use Rattle.path_claims.specs.Claims.{claim_cmp, is_of_path}
 use Rattle.path_claims.specs.Seen.{claim_seen}
 use Rattle.path_claims.specs.declared.claim.Claim.{Claim}

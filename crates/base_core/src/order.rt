@@ -5,10 +5,9 @@
 //!
 //! The rules stand in `docs/names.md`, *sorted* and *byte order*; the orders of names in
 //! `docs/formats.md`, "World" and "The database after a change", stand on them.
-#![tactic(auto)]
 
-ghost use Rattle.list_order.specs.ByteOrder.{bytes_cmp, smallest_text};
-ghost use Rattle.list_order.specs.Sorted.{sorted_by};
+ghost use Rattle.base_core.specs.ByteOrder.{bytes_cmp, smallest_text};
+ghost use Rattle.base_core.specs.Sorted.{sorted_by};
 ghost use Rattle.std.specs.List.Sorted.{IsPermutation, IsSorted};
 ghost use Rattle.std.specs.Prelude.{◌≡◌, ℕ, List, slice_get};
 

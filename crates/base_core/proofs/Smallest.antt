@@ -3,9 +3,9 @@ use Rattle.std.proofs.Common.{◌≡◌, ℕ, zero, Bool, true, false, List, [],
 use Rattle.std.specs.Prelude.{if◌then◌else◌, slice_get}
 use Rattle.std.specs.Ordering.{is_gt}
 use Rattle.std.proofs.lemmas.Cmp.{nat_list_cmp_total}
-use Rattle.list_order.specs.ByteOrder.{bytes_cmp, smaller_text, smallest_text}
-use Rattle.list_order.specs.Sorted.{sorted_by, with_element}
-use Rattle.list_order.proofs.Sorting.{gt_is_lt}
+use Rattle.base_core.specs.ByteOrder.{bytes_cmp, smaller_text, smallest_text}
+use Rattle.base_core.specs.Sorted.{sorted_by, with_element}
+use Rattle.base_core.proofs.Sorting.{gt_is_lt}
 
 first_by : (a b : List ℕ) (xs ys : List (List ℕ)) (t : Bool) → (if t then Some b else Some a) ≡ slice_get (if t then b ∷ xs else a ∷ ys) zero
 first_by a b xs ys true = refl
