@@ -14,8 +14,8 @@ use Rattle.std.proofs.lemmas.List.Elements.{All-contains}
 use Rattle.base_core.specs.declared.cause.Cause.{Cause}
 use Rattle.adb_view.specs.Plain.{null, blob_value, from_answer, plain_of}
 use Rattle.adb_view.specs.Readers.{blob_of}
-use Rattle.adb_tables.specs.Schema.{shape_of}
-use Rattle.adb_tables.specs.Values.{text_in, value_at}
+use Rattle.adb_view.specs.Schema.{shape_of}
+use Rattle.adb_view.specs.Values.{text_in, value_at}
 use Rattle.adb_rules.specs.TextRules.{text_at}
 use Rattle.adb_rules.specs.contracts.judged.TextRule.{enum, the_type}
 use Rattle.adb_rules.specs.contracts.judged.TextRuleOrd.TheImpl.{ghosts}

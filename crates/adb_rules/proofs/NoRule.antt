@@ -2,12 +2,12 @@
 use Rattle.std.proofs.Common.{◌≡◌, ℕ, ◌+◌, ◌*◌, false, eqb, List, [], ◌∷◌, None, refl, ap, ◌∙◌}
 use Rattle.std.specs.Prelude.{⊤}
 use Rattle.adb_view.specs.Plain.{Plains, none, more}
-use Rattle.adb_tables.specs.Schema.{schema_number, table, shape_of, shapes_of}
-use Rattle.adb_tables.specs.Values.{entries_in, nth, text_in}
-use Rattle.adb_tables.specs.declared.tables.Kind.TheVariants.{Int, Text, Hash, Obj, TextArr}
-use Rattle.adb_tables.specs.declared.tables.Which.{Which}
-use Rattle.adb_tables.specs.declared.tables.Which.TheVariants.{Acl, Scripts}
-use Rattle.adb_tables.specs.declared.tables.Field.{Field}
+use Rattle.adb_view.specs.Schema.{schema_number, table, shape_of, shapes_of}
+use Rattle.adb_view.specs.Values.{entries_in, nth, text_in}
+use Rattle.adb_view.specs.declared.tables.Kind.TheVariants.{Int, Text, Hash, Obj, TextArr}
+use Rattle.adb_view.specs.declared.tables.Which.{Which}
+use Rattle.adb_view.specs.declared.tables.Which.TheVariants.{Acl, Scripts}
+use Rattle.adb_view.specs.declared.tables.Field.{Field}
 use Rattle.adb_rules.specs.TextWalk.{TakesEachText, TakesEachValue}
 use Rattle.adb_rules.specs.Texts.{Surroundings, text_rule, text_leaf, each_leaf, field_leaves, first_bad, inside_of, leaves}
 use Rattle.adb_rules.proofs.TextSteps.{behind, behind_good, int_leaves, text_leaves, hash_leaves, texts_leaves, object_leaves, one_field}

@@ -6,11 +6,11 @@ use Rattle.base_core.specs.declared.cause.Cause.{Cause}
 use Rattle.base_core.specs.declared.cause.Cause.TheVariants.{BadText}
 use Rattle.adb_view.specs.Plain.{Plain, Plains, none, more, Shape, text, hash, Fields, no_fields, field}
 use Rattle.adb_view.specs.Shaped.{Each}
-use Rattle.adb_tables.specs.Values.{nth, count_of, entries_in, entry_in, int_in, text_in}
-use Rattle.adb_tables.specs.Schema.{shape_of, shapes_of, table}
-use Rattle.adb_tables.specs.declared.tables.Which.{Which}
-use Rattle.adb_tables.specs.declared.tables.Which.TheVariants as Tables
-use Rattle.adb_tables.specs.declared.tables.Kind.TheVariants.{Obj, ObjArr, TextArr}
+use Rattle.adb_view.specs.Values.{nth, count_of, entries_in, entry_in, int_in, text_in}
+use Rattle.adb_view.specs.Schema.{shape_of, shapes_of, table}
+use Rattle.adb_view.specs.declared.tables.Which.{Which}
+use Rattle.adb_view.specs.declared.tables.Which.TheVariants as Tables
+use Rattle.adb_view.specs.declared.tables.Kind.TheVariants.{Obj, ObjArr, TextArr}
 use Rattle.adb_rules.specs.Texts.{Surroundings, Leaf, each_leaf, leaves, field_leaves, first_bad, text_fault, text_rule, at_root, inside_of, may_list}
 use Rattle.dep_core.specs.Value.{is_matching}
 use Rattle.adb_fields.specs.Paths.{path_of}

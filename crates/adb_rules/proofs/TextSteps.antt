@@ -6,20 +6,20 @@ use Rattle.std.proofs.lemmas.List.{drop_more, drop_all}
 use Rattle.base_core.specs.declared.cause.Cause.{Cause}
 use Rattle.base_core.specs.declared.cause.Cause.TheVariants.{BadText}
 use Rattle.adb_view.specs.Plain.{Plain, Plains, none, more, then_more, each_plain, plain_of}
-use Rattle.adb_tables.specs.Schema.{schema_number, table, shape_of, shapes_of}
+use Rattle.adb_view.specs.Schema.{schema_number, table, shape_of, shapes_of}
 use Rattle.adb_fields.specs.Fields.{IsFieldOf, are_all_sound, values_at, array_at}
-use Rattle.adb_tables.specs.Values.{is_sound, value_at, entries_in, nth, int_in, text_in}
-use Rattle.adb_tables.specs.Rank.{rank, rank_of_all}
-use Rattle.adb_tables.proofs.ValueEntries.{entries_arr}
-use Rattle.adb_tables.proofs.WalkSteps.{field_rank}
+use Rattle.adb_view.specs.Values.{is_sound, value_at, entries_in, nth, int_in, text_in}
+use Rattle.adb_view.specs.Rank.{rank, rank_of_all}
+use Rattle.adb_view.proofs.ValueEntries.{entries_arr}
+use Rattle.adb_view.proofs.WalkSteps.{field_rank}
 use Rattle.adb_rules.specs.TextWalk.{IsSameAsBefore, bad_text_at}
 use Rattle.adb_rules.specs.Texts.{Surroundings, Leaf, number_leaf, text_leaf, keeps_rule, number_of_leaf, each_leaf, leaves, field_leaves, inside_of, first_bad}
-use Rattle.adb_tables.specs.Shapes.{object_shape, objects_shape, texts_shape, int_shape, text_shape, hash_shape}
-use Rattle.adb_tables.specs.declared.tables.Which.{Which}
-use Rattle.adb_tables.specs.declared.tables.Which.TheVariants.{Dep, Acl, PkgInfo, File, Dir, Scripts, Package, Index, Idb, Intent}
-use Rattle.adb_tables.specs.declared.tables.Kind.{Kind}
-use Rattle.adb_tables.specs.declared.tables.Kind.TheVariants.{Int, Text, Hash, Obj, TextArr, ObjArr}
-use Rattle.adb_tables.specs.declared.tables.Field.{Field}
+use Rattle.adb_view.specs.Shapes.{object_shape, objects_shape, texts_shape, int_shape, text_shape, hash_shape}
+use Rattle.adb_view.specs.declared.tables.Which.{Which}
+use Rattle.adb_view.specs.declared.tables.Which.TheVariants.{Dep, Acl, PkgInfo, File, Dir, Scripts, Package, Index, Idb, Intent}
+use Rattle.adb_view.specs.declared.tables.Kind.{Kind}
+use Rattle.adb_view.specs.declared.tables.Kind.TheVariants.{Int, Text, Hash, Obj, TextArr, ObjArr}
+use Rattle.adb_view.specs.declared.tables.Field.{Field}
 
 -- ---- the leaves of a value, by its kind
 

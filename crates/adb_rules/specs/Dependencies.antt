@@ -2,8 +2,8 @@
 -- `docs/formats.md`, "Dependencies"; its fields in "Schemas", table 1.
 use Rattle.std.specs.Prelude.{Option}
 use Rattle.adb_view.specs.Plain.{Plain}
-use Rattle.adb_tables.specs.FieldIndexes.{DEP_MATCH, DEP_NAME, DEP_VERSION}
-use Rattle.adb_tables.specs.Values.{entry_in, int_in, text_in}
+use Rattle.adb_view.specs.FieldIndexes.{DEP_MATCH, DEP_NAME, DEP_VERSION}
+use Rattle.adb_view.specs.Values.{entry_in, int_in, text_in}
 use Rattle.dep_core.specs.Dependency.{Dependency}
 use Rattle.dep_core.specs.ValueReading.{dependency_of_value}
 

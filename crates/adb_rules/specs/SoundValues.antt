@@ -7,10 +7,10 @@ use Rattle.dep_core.specs.Dependency.{is_dep_name, is_package_name}
 use Rattle.dep_core.specs.Value.{is_matching, is_version_or_empty}
 use Rattle.adb_view.specs.Plain.{Plain}
 use Rattle.adb_view.specs.Shaped.{Each}
-use Rattle.adb_tables.specs.FieldIndexes.{DEP_MATCH, DEP_NAME, DEP_VERSION, DIR_FILES, DIR_NAME, FILE_HASHES, FILE_NAME, FILE_TARGET, IDB_PACKAGES, INDEX_PACKAGES, INDEX_PKGNAME_SPEC, INFO_DEPENDS, INFO_HASHES, INFO_INSTALL_IF, INFO_NAME, INFO_PROVIDES, INFO_RECOMMENDS, INFO_REPLACES, INFO_VERSION, INTENT_REMOVALS, INTENT_WRITES, PACKAGE_INFO, PACKAGE_PATHS}
-use Rattle.adb_tables.specs.Values.{entries_in, entry_in, int_in, text_in}
-use Rattle.adb_tables.specs.declared.tables.Which.{Which}
-use Rattle.adb_tables.specs.declared.tables.Which.TheVariants.{Dep, Acl, PkgInfo, File, Dir, Scripts, Package, Index, Idb, Intent}
+use Rattle.adb_view.specs.FieldIndexes.{DEP_MATCH, DEP_NAME, DEP_VERSION, DIR_FILES, DIR_NAME, FILE_HASHES, FILE_NAME, FILE_TARGET, IDB_PACKAGES, INDEX_PACKAGES, INDEX_PKGNAME_SPEC, INFO_DEPENDS, INFO_HASHES, INFO_INSTALL_IF, INFO_NAME, INFO_PROVIDES, INFO_RECOMMENDS, INFO_REPLACES, INFO_VERSION, INTENT_REMOVALS, INTENT_WRITES, PACKAGE_INFO, PACKAGE_PATHS}
+use Rattle.adb_view.specs.Values.{entries_in, entry_in, int_in, text_in}
+use Rattle.adb_view.specs.declared.tables.Which.{Which}
+use Rattle.adb_view.specs.declared.tables.Which.TheVariants.{Dep, Acl, PkgInfo, File, Dir, Scripts, Package, Index, Idb, Intent}
 use Rattle.adb_fields.specs.Paths.{path_of}
 use Rattle.adb_rules.specs.Rules.{is_change_name, is_digest_length, is_digest_length_or_none, is_file_name, is_folder_name, is_name_pattern, is_target}
 use Rattle.adb_rules.specs.Texts.{is_package_hash, is_with_contents, may_list, needs_hash}

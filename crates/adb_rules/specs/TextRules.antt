@@ -5,8 +5,8 @@ use Rattle.base_core.specs.Name.{is_name}
 use Rattle.version_core.specs.Order.{is_version}
 use Rattle.dep_core.specs.Dependency.{is_dep_name, is_package_name}
 use Rattle.dep_core.specs.Value.{is_version_or_empty}
-use Rattle.adb_tables.specs.Values.{text_in, value_at}
-use Rattle.adb_tables.specs.declared.tables.Kind.TheVariants.{Text}
+use Rattle.adb_view.specs.Values.{text_in, value_at}
+use Rattle.adb_view.specs.declared.tables.Kind.TheVariants.{Text}
 use Rattle.adb_rules.specs.Rules.{is_folder_name, is_one_part, is_target}
 use Rattle.adb_rules.specs.declared.judged.TextRule.{TextRule}
 use Rattle.adb_rules.specs.declared.judged.TextRule.TheVariants.{DependencyName, PackageName, Version, VersionOrEmpty, Name, FolderName, OnePart, Target}

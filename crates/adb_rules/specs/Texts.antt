@@ -13,12 +13,12 @@ use Rattle.adb_rules.specs.Reserved.{is_reserved}
 use Rattle.adb_fields.specs.Paths.{path_of}
 use Rattle.adb_fields.specs.Repeated.{field_number}
 use Rattle.adb_rules.specs.Rules.{is_change_name, is_digest_length, is_digest_length_or_none, is_file_name, is_folder_name, is_id_length, is_name_pattern, is_target}
-use Rattle.adb_tables.specs.FieldIndexes.{DEP_MATCH, DEP_NAME, DEP_VERSION, DIR_NAME, FILE_HASHES, FILE_NAME, FILE_SIZE, FILE_TARGET, INDEX_PKGNAME_SPEC, INFO_HASHES, INFO_NAME, INFO_VERSION, INTENT_REMOVALS, INTENT_WRITES}
-use Rattle.adb_tables.specs.Schema.{schema_number, shape_of}
-use Rattle.adb_tables.specs.Values.{entries_in, entry_in, int_in, text_in}
-use Rattle.adb_tables.specs.declared.tables.Which.{Which}
-use Rattle.adb_tables.specs.declared.tables.Which.TheVariants.{Dep, PkgInfo, File, Dir, Index, Idb, Intent}
-use Rattle.adb_tables.specs.declared.tables.Kind.TheVariants.{Obj}
+use Rattle.adb_view.specs.FieldIndexes.{DEP_MATCH, DEP_NAME, DEP_VERSION, DIR_NAME, FILE_HASHES, FILE_NAME, FILE_SIZE, FILE_TARGET, INDEX_PKGNAME_SPEC, INFO_HASHES, INFO_NAME, INFO_VERSION, INTENT_REMOVALS, INTENT_WRITES}
+use Rattle.adb_view.specs.Schema.{schema_number, shape_of}
+use Rattle.adb_view.specs.Values.{entries_in, entry_in, int_in, text_in}
+use Rattle.adb_view.specs.declared.tables.Which.{Which}
+use Rattle.adb_view.specs.declared.tables.Which.TheVariants.{Dep, PkgInfo, File, Dir, Index, Idb, Intent}
+use Rattle.adb_view.specs.declared.tables.Kind.TheVariants.{Obj}
 
 -- what stands around a value, as far as a rule looks at it: the table of the container's root, the
 -- name of the folder, and whether the file has contents

@@ -5,14 +5,14 @@
 ghost use Rattle.std.specs.Prelude.{ℕ, List, ◌↔◌, None, ◌≡◌, ◌==◌, ◌*◌, true, false, length, ◌+◌, ◌<◌, ◌≤◌, ◌^◌, IfOk, [], ◌∷◌};
 ghost use Rattle.std.specs.Bool.{OnTrue};
 ghost use Rattle.adb_view.specs.Adb.{payload_of};
-ghost use Rattle.adb_tables.specs.Schema.{schema_number, shape_of, shapes_of, table};
-ghost use Rattle.adb_tables.specs.Values.{is_sound, value_at, entries_in, entry_in, count_of};
+ghost use Rattle.adb_view.specs.Schema.{schema_number, shape_of, shapes_of, table};
+ghost use Rattle.adb_view.specs.Values.{is_sound, value_at, entries_in, entry_in, count_of};
 ghost use Rattle.adb_fields.specs.Paths.{path_of};
 ghost use Rattle.adb_rules.specs.Rules.{is_change_name, is_one_part};
 ghost use Rattle.adb_rules.specs.Surroundings.{surroundings_of};
 ghost use Rattle.adb_rules.specs.TextRules.{text_at};
 ghost use Rattle.adb_rules.specs.TextWalk.{IsSameAsBefore, TakesEachText, TakesEachValue, bad_text_at};
-ghost use Rattle.adb_tables.specs.Shaped.{shaped_value, table_of};
+ghost use Rattle.adb_view.specs.ShapedPayload.{shaped_value, table_of};
 ghost use Rattle.adb_view.specs.Shaped.{Each};
 ghost use Rattle.adb_rules.specs.SoundValues.{IsChangeName, IsSoundDependency, IsFileOf, IsFolder, IsInformation, IsPackage, KeepsRules};
 ghost use Rattle.adb_rules.specs.Texts.{at_root, inside_of, is_file_hash, is_listed_file, is_package_hash, is_with_contents, may_list, needs_hash, number_rule, text_rule, each_leaf, field_leaves, first_bad, leaves, number_leaf, text_leaf, leaves_of, text_fault};
@@ -20,9 +20,9 @@ ghost use Rattle.adb_rules.specs.FirstBad.{IsFirstBadOf};
 ghost use Rattle.adb_view.specs.Entries.{array_entries};
 ghost use Rattle.adb_fields.specs.Fields.{are_all_sound, values_at};
 ghost use Rattle.adb_view.specs.Plain.{Plain};
-ghost use Rattle.adb_tables.specs.declared.tables.Which.{Which};
-ghost use Rattle.adb_tables.specs.declared.tables.Kind.TheVariants as Kinds;
-ghost use Rattle.adb_tables.specs.declared.tables.Which.TheVariants as Tables;
+ghost use Rattle.adb_view.specs.declared.tables.Which.{Which};
+ghost use Rattle.adb_view.specs.declared.tables.Kind.TheVariants as Kinds;
+ghost use Rattle.adb_view.specs.declared.tables.Which.TheVariants as Tables;
 
 use crate::judged::{Judged, TextRule};
 use crate::rules::*;
@@ -30,9 +30,8 @@ use adb_fields::{
     hash_word, int_field, int_word, object_words, objects_word, text_field, text_word, texts_word,
     word_or_null,
 };
-use adb_tables::field_indexes::{DIR_NAME, FILE_SIZE, FILE_TARGET};
-use adb_tables::{Kind, Shaped, Which, entry_word, fields_of, number_of};
-use adb_view::{Adb, Arr, Val};
+use adb_view::field_indexes::{DIR_NAME, FILE_SIZE, FILE_TARGET};
+use adb_view::{Adb, Arr, Kind, Shaped, Val, Which, entry_word, fields_of, number_of};
 use base_core::Cause;
 use std::alloc::{AllocError, Global};
 

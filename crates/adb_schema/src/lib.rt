@@ -4,7 +4,7 @@
 //! lend from the payload, one method a field, which cannot fail. `repeated` looks for names that
 //! stand twice, and `read_adb` reads a file through all of them. The contracts cite `Soundness`
 //! (the first failed test of a file), `Views` (the plain value that a view shows) and `Checked`,
-//! and the definitions of `adb_tables`, `adb_fields` and `adb_rules` below.
+//! and the definitions of `adb_view`, `adb_fields` and `adb_rules` below.
 //!
 //! The rules stand in `docs/formats.md`, "Tests of a container", and the fields in "Schemas".
 #![tactic(auto)]
@@ -16,7 +16,7 @@ mod read;
 
 pub use adb_fields::{FilePath, Kinded, List, View};
 pub use adb_rules::{is_intent_or_stage_name, is_reserved, is_reserved_file};
-pub use adb_tables::{
+pub use adb_view::{
     ACL, DEP, DIR, FILE, Field, FieldName, IDB, INDEX, INTENT, Kind, PACKAGE, PKGINFO, SCRIPTS,
     Schema, Shaped, Which, fields_of, shape,
 };

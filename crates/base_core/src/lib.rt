@@ -6,12 +6,11 @@
 //! is in a list), `Name` (what a name is), `Files` (files by their names), `Tree`, `Calls`, `Crash`
 //! and `Restart` (the states of a tree, what each call makes of it, and what a crash leaves of it),
 //! `Listed` (listings), `Faults` (the counts), `Sink`, `Sorted` and `ByteOrder` (lists in order) of
-//! `specs/`; those that only inner
-//! contracts need are `Read` and `Write`.
+//! `specs/`; those that only inner contracts need are `Read` and `Write`.
 //!
 //! The rules stand in `docs/crash-safety.md`, sections "A tree at one moment" to "Misuses, faults
-//! and counts", in `docs/commands.md`, "Words" (what a name is), and in `docs/names.md`, *sorted* and
-//! *byte order*.
+//! and counts", in `docs/commands.md`, "Words" (what a name is), and in `docs/names.md`, *sorted*
+//! and *byte order*.
 #![tactic(auto)]
 
 mod cause;

@@ -44,9 +44,9 @@ impl<'a> Model for PackageWithId<'a> {
     ghost use Rattle.std.specs.Prelude.{ℕ, List, Option};
     ghost use Rattle.std.specs.Prelude.{◌≡◌, true};
     ghost use Rattle.adb_view.specs.Adb.{payload_of};
-    ghost use Rattle.adb_tables.specs.Values.{is_sound};
-    ghost use Rattle.adb_tables.specs.declared.tables.Kind.TheVariants as Kinds;
-    ghost use Rattle.adb_tables.specs.declared.tables.Which.TheVariants as Tables;
+    ghost use Rattle.adb_view.specs.Values.{is_sound};
+    ghost use Rattle.adb_view.specs.declared.tables.Kind.TheVariants as Kinds;
+    ghost use Rattle.adb_view.specs.declared.tables.Which.TheVariants as Tables;
 
     ghost Value = { List ℕ × ℕ × Option (List ℕ) };
 

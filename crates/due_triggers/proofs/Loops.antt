@@ -4,7 +4,7 @@ use Rattle.std.specs.Prelude.{◌&&◌, ◌||◌, slice_get, if◌then◌else◌
 use Rattle.std.specs.List.{filter, flat_map, list_any}
 use Rattle.std.proofs.lemmas.List.{drop_all, length-map, map-append}
 use Rattle.adb_view.specs.Plain.{Plains, none, more}
-use Rattle.adb_tables.specs.Values.{count_of, nth}
+use Rattle.adb_view.specs.Values.{count_of, nth}
 use Rattle.adb_fields.specs.Repeated.{list_of}
 
 pub left_at : {X : Type 0} (xs : List X) (i : ℕ) (x : X) → slice_get xs i ≡ Some x → drop i xs ≡ x ∷ drop (i + 1) xs

@@ -5,7 +5,7 @@ use Rattle.std.specs.Option.{option_map_or}
 use Rattle.std.specs.List.{list_any}
 use Rattle.std.proofs.lemmas.List.{drop_all}
 use Rattle.adb_view.specs.Plain.{Plain}
-use Rattle.adb_tables.specs.Values.{count_of, entries_in, entry_in, text_in}
+use Rattle.adb_view.specs.Values.{count_of, entries_in, entry_in, text_in}
 use Rattle.adb_fields.specs.Repeated.{list_of}
 use Rattle.db_core.specs.Members.{Member, member_name}
 use Rattle.report_core.specs.declared.refusal.Refusal.TheVariants.{TriggerNeeded}

@@ -6,7 +6,7 @@
 ghost use Rattle.adb_fields.specs.ListValue.{list_value};
 ghost use Rattle.adb_fields.specs.Repeated.{package_name};
 ghost use Rattle.adb_schema.specs.Views.{package_value};
-ghost use Rattle.adb_tables.specs.Values.{count_of, entries_in, entry_in, text_in};
+ghost use Rattle.adb_view.specs.Values.{count_of, entries_in, entry_in, text_in};
 ghost use Rattle.change_outcome.specs.PackageFiles.{has_script_of};
 ghost use Rattle.report_core.specs.Numbers.{TRIGGER_SCRIPT};
 ghost use Rattle.change_outcome.specs.Triggers.{is_folder_matched, is_watched};

@@ -8,7 +8,7 @@ use Rattle.std.specs.Ordering.{is_lt}
 use borrow.Author.Tests.{eqb-true}
 use Rattle.base_core.specs.Name.{IsName}
 use Rattle.adb_view.specs.Plain.{Plains, none, more}
-use Rattle.adb_tables.specs.Values.{count_of, entries_in, entry_in, nth}
+use Rattle.adb_view.specs.Values.{count_of, entries_in, entry_in, nth}
 use Rattle.adb_fields.specs.Repeated.{files_in, list_of, name_of}
 use Rattle.base_core.specs.Sorted.{sorted_by}
 use Rattle.base_core.proofs.Sorting.{Each, stable_in_order}

@@ -5,8 +5,8 @@
 use Rattle.std.specs.Prelude.{◌≡◌, ℕ, ◌-◌, ◌<◌, ◌≤◌, Bool, false, ◌&&◌, List, Option, Some, None, slice_get}
 use Rattle.base_core.specs.Name.{IsName}
 use Rattle.adb_view.specs.Plain.{Plain, null}
-use Rattle.adb_tables.specs.FieldIndexes.{DIR_FILES, PACKAGE_PATHS}
-use Rattle.adb_tables.specs.Values.{count_of, entries_in, entry_in}
+use Rattle.adb_view.specs.FieldIndexes.{DIR_FILES, PACKAGE_PATHS}
+use Rattle.adb_view.specs.Values.{count_of, entries_in, entry_in}
 use Rattle.adb_rules.specs.Reserved.{is_reserved}
 use Rattle.db_core.specs.Members.{Member, is_coming}
 use Rattle.path_claims.specs.Claims.{PathClaim, is_member}

@@ -6,8 +6,8 @@
 ghost use Rattle.std.specs.Prelude.{◌-◌, ◌<◌, ◌≤◌};
 ghost use Rattle.adb_fields.specs.ListValue.{list_value};
 ghost use Rattle.adb_schema.specs.Views.{package_value};
-ghost use Rattle.adb_tables.specs.FieldIndexes.{PACKAGE_PATHS};
-ghost use Rattle.adb_tables.specs.Values.{count_of, entries_in, entry_in};
+ghost use Rattle.adb_view.specs.FieldIndexes.{PACKAGE_PATHS};
+ghost use Rattle.adb_view.specs.Values.{count_of, entries_in, entry_in};
 ghost use Rattle.db_core.specs.Members.{staying_members};
 ghost use Rattle.db_core.specs.Seen.{members_of, packages_of};
 ghost use Rattle.file_guard.specs.Listed.{IsOfEntry};

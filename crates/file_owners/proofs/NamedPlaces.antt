@@ -20,7 +20,7 @@ use Rattle.dep_core.specs.Dependency.{is_dep_name}
 use Rattle.version_core.specs.Order.{is_version}
 use Rattle.adb_view.specs.Plain.{Plain}
 use Rattle.adb_fields.specs.Repeated.{entries_at, package_name}
-use Rattle.adb_tables.specs.Values.{entry_in, int_in, text_in}
+use Rattle.adb_view.specs.Values.{entry_in, int_in, text_in}
 use Rattle.db_core.specs.Members.{Member, member_name}
 use Rattle.file_owners.specs.NamedPlaces.{ArePlacesNamed, ArePlacesOfEach}
 use Rattle.file_owners.specs.Owners.{member_beats, takes_over_if_any}

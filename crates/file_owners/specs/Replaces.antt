@@ -3,8 +3,8 @@
 use Rattle.std.specs.Prelude.{ℕ, ◌==◌, nat_lt, Bool, false, not, ◌&&◌, ◌||◌, List, Option, Some, None}
 use Rattle.std.specs.List.{list_any}
 use Rattle.adb_view.specs.Plain.{Plain}
-use Rattle.adb_tables.specs.FieldIndexes.{INFO_REPLACES, INFO_VERSION, PACKAGE_INFO, PACKAGE_REPLACES_PRIORITY}
-use Rattle.adb_tables.specs.Values.{entry_in, int_in, text_in}
+use Rattle.adb_view.specs.FieldIndexes.{INFO_REPLACES, INFO_VERSION, PACKAGE_INFO, PACKAGE_REPLACES_PRIORITY}
+use Rattle.adb_view.specs.Values.{entry_in, int_in, text_in}
 use Rattle.adb_fields.specs.Repeated.{entries_at, package_name}
 use Rattle.version_core.specs.Order.{is_version}
 use Rattle.dep_core.specs.Dependency.{Dependency}

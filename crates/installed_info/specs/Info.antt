@@ -4,8 +4,8 @@ use Rattle.std.specs.Prelude.{ℕ, List, [], ◌∷◌, map, Option, Some, None,
 use Rattle.std.specs.List.{flat_map}
 use Rattle.std.specs.Option.{option_map_or}
 use Rattle.adb_fields.specs.Repeated.{package_name, paths_in}
-use Rattle.adb_tables.specs.FieldIndexes.{INFO_DEPENDS, INFO_DESCRIPTION, PACKAGE_INFO}
-use Rattle.adb_tables.specs.Values.{entry_in, text_in}
+use Rattle.adb_view.specs.FieldIndexes.{INFO_DEPENDS, INFO_DESCRIPTION, PACKAGE_INFO}
+use Rattle.adb_view.specs.Values.{entry_in, text_in}
 use Rattle.adb_view.specs.Plain.{Plain}
 use Rattle.command_core.specs.Command.{CommandLine}
 use Rattle.command_core.specs.declared.operands.Operand.{Operand}

@@ -4,8 +4,8 @@
 -- refusal promises, and over which files.
 use Rattle.std.specs.Prelude.{◌≡◌, ℕ, Bool, true, false, List, map, Option, Some, None, All, Contains, option_map, slice_get}
 use Rattle.adb_rules.specs.Reserved.{is_reserved}
-use Rattle.adb_tables.specs.FieldIndexes.{PACKAGE_PATHS}
-use Rattle.adb_tables.specs.Values.{entry_in}
+use Rattle.adb_view.specs.FieldIndexes.{PACKAGE_PATHS}
+use Rattle.adb_view.specs.Values.{entry_in}
 use Rattle.base_core.specs.Calls.{IfObservable}
 use Rattle.base_core.specs.Files.{Files}
 use Rattle.base_core.specs.Listed.{IsRising}

@@ -6,7 +6,7 @@
 
 ghost use Rattle.std.specs.Prelude.{◌≡◌, IfSome};
 ghost use Rattle.adb_schema.specs.Checked.{which_of};
-ghost use Rattle.adb_tables.specs.declared.tables.Which.TheVariants as Tables;
+ghost use Rattle.adb_view.specs.declared.tables.Which.TheVariants as Tables;
 
 mod made;
 mod package;
@@ -14,8 +14,7 @@ mod package;
 use crate::made::{bytes_of, payload_of};
 use crate::package::{Asked, add_asked, add_fronts};
 use adb_schema::Checked;
-use adb_tables::{Which, shape};
-use adb_view::Adb;
+use adb_view::{Adb, Which, shape};
 use base_core::{Cause, Words};
 use piece_core::{FileCheck, Part, open_file};
 use pkg_core::Walk;

@@ -6,7 +6,7 @@ ghost use Rattle.sha2.specs.Sha256.{sha256};
 ghost use Rattle.adb_block.specs.Reading.{reading_of};
 ghost use Rattle.adb_schema.specs.Checked.{which_of};
 ghost use Rattle.adb_schema.specs.Soundness.{first_fault, payload_in, root_value};
-ghost use Rattle.adb_tables.specs.declared.tables.Which.TheVariants as Tables;
+ghost use Rattle.adb_view.specs.declared.tables.Which.TheVariants as Tables;
 ghost use Rattle.pkg_core.specs.Contents.{expected_contents, files_by_blocks};
 ghost use Rattle.pkg_core.specs.Whole.{files_in_file};
 

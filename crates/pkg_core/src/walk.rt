@@ -4,7 +4,7 @@
 
 ghost use Rattle.std.specs.Prelude.{◌≡◌, ◌&&◌, ◌+◌, ◌-◌, ◌<◌, ◌≤◌, ◌^◌, drop, length, ◌==◌, [], Some, IfOk, option_map};
 ghost use Rattle.std.specs.Result.{result_err};
-ghost use Rattle.adb_tables.specs.Values.{entries_in, count_of};
+ghost use Rattle.adb_view.specs.Values.{entries_in, count_of};
 ghost use Rattle.adb_schema.specs.Views.{file_value, package_value};
 ghost use Rattle.adb_fields.specs.ListValue.{list_value};
 ghost use Rattle.adb_fields.specs.Repeated.{list_of};

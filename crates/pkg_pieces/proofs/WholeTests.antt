@@ -8,7 +8,7 @@ use Rattle.adb_block.specs.Reading.{Reading, done, fault, more, reading_of}
 use Rattle.adb_block.specs.Standing.{start_of}
 use Rattle.adb_view.specs.Head.{head_fault}
 use Rattle.std.specs.Option.{option_or}
-use Rattle.adb_tables.specs.declared.tables.Which.TheVariants.{Package}
+use Rattle.adb_view.specs.declared.tables.Which.TheVariants.{Package}
 use Rattle.adb_schema.specs.Soundness.{blocks_fault, fault_with, file_fault, first_fault, first_payload, payload_behind, payload_fault, payload_in, rest_fault, root_value}
 use Rattle.adb_schema.specs.declared.read.TheConstants.{PACKAGE_WORD}
 use Rattle.pkg_core.specs.Contents.{contents_fault, expected_contents}

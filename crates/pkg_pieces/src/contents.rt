@@ -5,15 +5,14 @@
 ghost use Rattle.std.specs.Prelude.{◌≡◌, true, None, IfOk, IfErr, is_none};
 ghost use Rattle.adb_schema.specs.ReadFaults.{IsReadFault};
 ghost use Rattle.adb_schema.specs.Soundness.{payload_fault, root_value};
-ghost use Rattle.adb_tables.specs.declared.tables.Which.TheVariants as Tables;
+ghost use Rattle.adb_view.specs.declared.tables.Which.TheVariants as Tables;
 ghost use Rattle.adb_view.specs.Adb.{payload_of};
 
 use crate::front::Front;
 use crate::laws::{bytes_are_small, tested_payloads_hold_sound_values};
 use adb_rules::no_text_is_bad_where_each_keeps_its_rule;
 use adb_schema::{Checked, PackageView, ReadFault, View, repeated};
-use adb_tables::{Which, shape, values_of_few_visits_have_no_fault};
-use adb_view::Adb;
+use adb_view::{Adb, Which, shape, values_of_few_visits_have_no_fault};
 use pkg_core::PackageFault;
 use sha2::{Digest, Sha256};
 use std::alloc::Global;

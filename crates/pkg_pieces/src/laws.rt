@@ -7,8 +7,8 @@ ghost use Rattle.adb_block.specs.Reading.{reading_of};
 ghost use Rattle.adb_schema.specs.SoundContainers.{IsSoundValue};
 ghost use Rattle.adb_schema.specs.Soundness.{first_fault, payload_fault, payload_in, root_value};
 ghost use Rattle.adb_schema.specs.declared.read.TheConstants.{PACKAGE_WORD};
-ghost use Rattle.adb_tables.specs.declared.tables.Which.{Which};
-ghost use Rattle.adb_tables.specs.declared.tables.Which.TheVariants as Tables;
+ghost use Rattle.adb_view.specs.declared.tables.Which.{Which};
+ghost use Rattle.adb_view.specs.declared.tables.Which.TheVariants as Tables;
 ghost use Rattle.adb_view.specs.Plain.{IsNormal};
 ghost use Rattle.base_core.specs.declared.cause.Cause.{Cause};
 ghost use Rattle.base_core.specs.declared.cause.Cause.TheVariants.{WrongSchema};
@@ -19,8 +19,7 @@ ghost use Rattle.pkg_pieces.specs.declared.front.Front.{Front};
 
 use adb_fields::no_name_is_repeated_where_each_stands_once;
 use adb_rules::no_text_is_bad_where_each_keeps_its_rule;
-use adb_tables::values_of_few_visits_have_no_fault;
-use adb_view::{values_are_normal, values_have_their_shape};
+use adb_view::{values_are_normal, values_have_their_shape, values_of_few_visits_have_no_fault};
 
 /// The tests of a package's front, and then those of its values, are the tests that a package is
 /// read whole by: a failed test of the front is the first one of the file, and where the front is

@@ -3,8 +3,8 @@
 use Rattle.std.specs.Prelude.{ℕ, Bool, not, ◌&&◌, List, ◌++◌, length, map, bytes_eq, sum_by}
 use Rattle.std.specs.List.{filter, flat_map, list_any}
 use Rattle.adb_view.specs.Plain.{Plain}
-use Rattle.adb_tables.specs.FieldIndexes.{INFO_INSTALLED_SIZE}
-use Rattle.adb_tables.specs.Values.{entry_in, int_in}
+use Rattle.adb_view.specs.FieldIndexes.{INFO_INSTALLED_SIZE}
+use Rattle.adb_view.specs.Values.{entry_in, int_in}
 use Rattle.change_files.specs.PlanLists.{names_in_order}
 use Rattle.db_core.specs.Packages.{is_package_named}
 use Rattle.dep_core.specs.Dependency.{Dependency}

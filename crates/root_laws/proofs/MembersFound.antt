@@ -10,7 +10,7 @@ use Rattle.adb_fields.specs.Repeated.{package_name}
 use Rattle.adb_rules.specs.Rules.{is_digest_length}
 use Rattle.adb_schema.specs.SoundContainers.{IsSound}
 use Rattle.adb_schema.specs.Soundness.{first_fault, payload_in, root_value}
-use Rattle.adb_tables.specs.declared.tables.Which.TheVariants.{Package}
+use Rattle.adb_view.specs.declared.tables.Which.TheVariants.{Package}
 use Rattle.adb_view.specs.Plain.{Plain}
 use Rattle.base_core.specs.declared.cause.Cause.{Cause}
 use Rattle.base_core.proofs.Rising as Names

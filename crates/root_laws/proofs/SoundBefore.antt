@@ -6,7 +6,7 @@ use Rattle.adb_fields.specs.Repeated.{entries_at}
 use Rattle.adb_schema.specs.SoundContainers.{IsSound}
 use Rattle.adb_schema.proofs.Sound as Values
 use Rattle.adb_schema.specs.Soundness.{first_fault, payload_in, root_value}
-use Rattle.adb_tables.specs.declared.tables.Which.TheVariants.{Idb}
+use Rattle.adb_view.specs.declared.tables.Which.TheVariants.{Idb}
 use Rattle.adb_view.specs.Plain.{Plain}
 use Rattle.base_core.specs.declared.cause.Cause.{Cause}
 use Rattle.change_inputs.specs.Chains.{and_then, unless_cause}

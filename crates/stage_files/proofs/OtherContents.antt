@@ -18,10 +18,10 @@ use Rattle.adb_block.specs.declared.block.BlockKind.{BlockKind}
 use Rattle.adb_block.specs.declared.block.BlockKind.TheVariants as Kinds
 use Rattle.adb_block.proofs.WholeFiles.{read_is_spelled, spelled_is_read, whole_from}
 use Rattle.adb_schema.specs.Soundness.{blocks_fault, file_fault, file_pair, first_payload, payload_behind, payload_fault, payload_in, root_value, schema_fault}
-use Rattle.adb_tables.specs.Schema.{shape_of}
-use Rattle.adb_tables.specs.Values.{value_at}
+use Rattle.adb_view.specs.Schema.{shape_of}
+use Rattle.adb_view.specs.Values.{value_at}
 use Rattle.std.specs.Option.{option_or}
-use Rattle.adb_tables.specs.declared.tables.Which.TheVariants.{Package}
+use Rattle.adb_view.specs.declared.tables.Which.TheVariants.{Package}
 use Rattle.adb_view.specs.Plain.{plain_of}
 use Rattle.base_core.specs.declared.cause.Cause.{Cause}
 use Rattle.base_core.specs.declared.cause.Cause.TheVariants.{DataOrder, DataSize, HashDiffers, Truncated}

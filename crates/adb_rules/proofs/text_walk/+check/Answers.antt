@@ -2,17 +2,17 @@ use Rattle.std.proofs.Common.{subst, ℕ, ◌<◌, ◌+◌, ◌*◌, get_or, len
 use Rattle.adb_view.specs.Adb.{payload_of}
 use Rattle.adb_view.specs.Entries.{array_entries}
 use Rattle.adb_fields.specs.Fields.{IsFieldOf}
-use Rattle.adb_tables.specs.Schema.{shape_of, shapes_of, table}
+use Rattle.adb_view.specs.Schema.{shape_of, shapes_of, table}
 use Rattle.adb_rules.specs.Surroundings.{surroundings_of}
 use Rattle.base_core.specs.declared.cause.Cause.{Cause}
 use Rattle.base_core.specs.declared.cause.Cause.TheVariants.{BadText}
 use Rattle.adb_rules.specs.TextRules.{text_at}
 use Rattle.adb_rules.specs.TextWalk.{bad_text_at}
 use Rattle.adb_rules.specs.Texts.{field_leaves, first_bad, leaves}
-use Rattle.adb_tables.specs.Values.{entries_in, text_in, value_at}
-use Rattle.adb_tables.specs.declared.tables.Kind.TheVariants.{Int, Obj}
-use Rattle.adb_tables.specs.declared.tables.Field.{Field}
-use Rattle.adb_tables.specs.declared.tables.FieldName.TheVariants.{Name}
+use Rattle.adb_view.specs.Values.{entries_in, text_in, value_at}
+use Rattle.adb_view.specs.declared.tables.Kind.TheVariants.{Int, Obj}
+use Rattle.adb_view.specs.declared.tables.Field.{Field}
+use Rattle.adb_view.specs.declared.tables.FieldName.TheVariants.{Name}
 use Rattle.adb_rules.proofs.TextSteps.{after_good, before_good, entry_sound, others_sound, entry_good, entry_bad, entries_end, field_sound_of, field_good_of, field_bad_of, field_below, fields_end, behind, int_done, text_done, hash_done, texts_done, objects_done, object_done, behind-zero, hash_is_text}
 use Rattle.adb_rules.proofs.text_walk.+check.Goals as goal
 

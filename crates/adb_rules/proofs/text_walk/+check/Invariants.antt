@@ -1,13 +1,13 @@
 use Rattle.std.proofs.Common.{◌≡◌, ℕ, suc, ◌+◌, ◌*◌, true, drop, get_or, None}
 use Rattle.adb_view.specs.Adb.{payload_of}
 use Rattle.adb_view.specs.Entries.{array_entries}
-use Rattle.adb_tables.specs.Schema.{schema_number, table, shape_of, shapes_of}
+use Rattle.adb_view.specs.Schema.{schema_number, table, shape_of, shapes_of}
 use Rattle.adb_fields.specs.Fields.{are_all_sound, values_at}
-use Rattle.adb_tables.specs.Rank.{rank, rank_of_all}
-use Rattle.adb_tables.specs.Values.{entries_in, value_at}
+use Rattle.adb_view.specs.Rank.{rank, rank_of_all}
+use Rattle.adb_view.specs.Values.{entries_in, value_at}
 use Rattle.adb_rules.specs.Surroundings.{surroundings_of}
 use Rattle.adb_rules.specs.Texts.{each_leaf, field_leaves, first_bad, leaves}
-use Rattle.adb_tables.specs.declared.tables.Kind.TheVariants.{Obj}
+use Rattle.adb_view.specs.declared.tables.Kind.TheVariants.{Obj}
 use Rattle.adb_rules.proofs.TextSteps.{behind}
 use Rattle.adb_rules.proofs.text_walk.+check.Given as goal
 

@@ -1,4 +1,4 @@
-use Rattle.adb_tables.specs.Values.{entries_in}
+use Rattle.adb_view.specs.Values.{entries_in}
 use Rattle.adb_rules.specs.SoundValues.{IsChangeName, IsSoundDependency, IsFileOf, IsFolder, IsInformation, IsPackage}
 use Rattle.adb_rules.proofs.SoundLeaves.{each_at}
 use Rattle.adb_rules.proofs.text_walk.entries_keep_the_rule_of_their_list.Goals as goal

@@ -1,5 +1,5 @@
 use Rattle.std.proofs.Common.{sym, subst}
-use Rattle.adb_tables.specs.declared.tables.Kind.{Kind}
+use Rattle.adb_view.specs.declared.tables.Kind.{Kind}
 use Rattle.adb_rules.specs.TextWalk.{TakesEachValue}
 use Rattle.adb_rules.proofs.NoRule.{hash_free, int_free, text_free, texts_free}
 use Rattle.adb_rules.proofs.text_walk.has_rule.Goals as goal

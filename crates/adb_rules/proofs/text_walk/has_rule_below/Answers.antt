@@ -1,6 +1,6 @@
 use Rattle.std.proofs.Common.{sym, subst}
-use Rattle.adb_tables.specs.declared.tables.Kind.TheVariants.{Obj}
-use Rattle.adb_tables.specs.declared.tables.Which.{Which}
+use Rattle.adb_view.specs.declared.tables.Kind.TheVariants.{Obj}
+use Rattle.adb_view.specs.declared.tables.Which.{Which}
 use Rattle.adb_rules.specs.TextWalk.{TakesEachValue}
 use Rattle.adb_rules.proofs.NoRule.{acl_free, scripts_free}
 use Rattle.adb_rules.proofs.text_walk.has_rule_below.Goals as goal

@@ -3,7 +3,7 @@ use Rattle.std.proofs.Common.{◌≡◌, drop}
 use Rattle.std.specs.List.{list_any}
 use Rattle.adb_fields.specs.ListValue.{list_value}
 use Rattle.adb_fields.specs.Repeated.{list_of}
-use Rattle.adb_tables.specs.Values.{entries_in, text_in}
+use Rattle.adb_view.specs.Values.{entries_in, text_in}
 use Rattle.change_outcome.specs.Triggers.{is_folder_matched}
 use Rattle.due_triggers.proofs.watched.is_watched.Given as goal
 

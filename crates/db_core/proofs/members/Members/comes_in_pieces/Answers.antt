@@ -1,6 +1,6 @@
 use Rattle.std.proofs.Common.{◌∙◌, ap, refl}
 use Rattle.adb_fields.specs.Repeated.{package_name}
-use Rattle.adb_tables.specs.declared.tables.Which.TheVariants.{Package}
+use Rattle.adb_view.specs.declared.tables.Which.TheVariants.{Package}
 use Rattle.db_core.specs.EntrySeen.{comes_or_is_in, member_by, payload_of_database}
 use Rattle.db_core.specs.Members.{comes_behind}
 use Rattle.db_core.specs.Packages.{comes_or_lists_no_reserved, lists_names}

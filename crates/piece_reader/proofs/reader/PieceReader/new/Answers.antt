@@ -4,7 +4,7 @@ use Rattle.adb_block.specs.declared.block.BlockKind.TheVariants.{Adb}
 use Rattle.adb_block.specs.Reading.{reading_of}
 use Rattle.adb_view.specs.Plain.{Plain}
 use Rattle.adb_fields.specs.Repeated.{list_of}
-use Rattle.adb_tables.specs.Values.{entries_in, entry_in}
+use Rattle.adb_view.specs.Values.{entries_in, entry_in}
 use Rattle.pkg_core.specs.Contents.{Expected, expected_contents, expected_folders}
 use Rattle.pkg_core.specs.Opened.{left_in}
 use Rattle.pkg_pieces.specs.Front.{front_end}

@@ -1,7 +1,7 @@
 -- The payload passes its tests, and is of bytes.
 use Rattle.std.proofs.Common.{ℕ, ◌<◌, All, List, subst}
 use Rattle.adb_schema.specs.Soundness.{payload_fault}
-use Rattle.adb_tables.specs.declared.tables.Which.TheVariants.{Package}
+use Rattle.adb_view.specs.declared.tables.Which.TheVariants.{Package}
 use Rattle.pkg_pieces.specs.Values.{payload_of_contents}
 use Rattle.adb_schema.proofs.SoundPayload.{none_of}
 use Rattle.pkg_pieces.proofs.contents.Contents.values_are_sound.Goals as goal

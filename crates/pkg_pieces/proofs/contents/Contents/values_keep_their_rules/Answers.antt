@@ -1,6 +1,6 @@
 -- The payload passes its tests.
 use Rattle.adb_schema.specs.Soundness.{payload_fault}
-use Rattle.adb_tables.specs.declared.tables.Which.TheVariants.{Package}
+use Rattle.adb_view.specs.declared.tables.Which.TheVariants.{Package}
 use Rattle.pkg_pieces.specs.Values.{payload_of_contents}
 use Rattle.adb_schema.proofs.SoundPayload.{none_of, payload_rules}
 use Rattle.pkg_pieces.proofs.contents.Contents.values_keep_their_rules.Goals as goal

@@ -1,9 +1,9 @@
 -- The payload passes its tests.
 use Rattle.std.proofs.Common.{◌≡◌, ℕ, true, subst, sym}
-use Rattle.adb_tables.specs.Values.{is_sound}
-use Rattle.adb_tables.specs.declared.tables.Kind.TheVariants.{Obj}
+use Rattle.adb_view.specs.Values.{is_sound}
+use Rattle.adb_view.specs.declared.tables.Kind.TheVariants.{Obj}
 use Rattle.adb_schema.specs.Soundness.{payload_fault}
-use Rattle.adb_tables.specs.declared.tables.Which.TheVariants.{Package}
+use Rattle.adb_view.specs.declared.tables.Which.TheVariants.{Package}
 use Rattle.pkg_pieces.specs.Values.{payload_of_contents}
 use Rattle.adb_schema.proofs.SoundPayload.{none_of, payload_sound}
 use Rattle.pkg_pieces.proofs.contents.Contents.view.Goals as goal
