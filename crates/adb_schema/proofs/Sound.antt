@@ -20,8 +20,8 @@ use Rattle.adb_view.specs.declared.tables.Which.{Which}
 use Rattle.adb_view.specs.declared.tables.Kind.TheVariants as Kinds
 use Rattle.adb_fields.specs.Once.{NamesStandOnce}
 use Rattle.adb_fields.specs.Repeated.{repeated_fault}
-use Rattle.adb_rules.specs.Texts.{text_fault}
-use Rattle.adb_rules.specs.SoundValues.{KeepsRules}
+use Rattle.adb_schema.specs.Texts.{text_fault}
+use Rattle.adb_schema.specs.SoundValues.{KeepsRules}
 use Rattle.adb_schema.specs.Soundness.{blocks_fault, file_fault, first_fault, first_payload, payload_behind, payload_fault, payload_in, rest_fault, root_value, schema_fault}
 use Rattle.adb_schema.specs.SoundContainers.{IsSoundValue}
 

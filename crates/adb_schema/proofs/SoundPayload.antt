@@ -12,8 +12,8 @@ use Rattle.adb_view.specs.Walk.{shape_fault}
 use Rattle.adb_view.specs.declared.tables.Which.{Which}
 use Rattle.adb_view.specs.declared.tables.Kind.TheVariants as Kinds
 use Rattle.adb_fields.specs.Repeated.{repeated_fault}
-use Rattle.adb_rules.specs.SoundValues.{KeepsRules}
-use Rattle.adb_rules.specs.Texts.{text_fault}
+use Rattle.adb_schema.specs.SoundValues.{KeepsRules}
+use Rattle.adb_schema.specs.Texts.{text_fault}
 use Rattle.adb_schema.specs.Soundness.{payload_fault, first_fault, payload_in, root_value}
 use Rattle.adb_schema.proofs.Sound.{sound_payload}
 
@@ -43,7 +43,7 @@ payload_sound visited which p h =
     ((visited p (shape_of (Kinds.Obj which)) (root_of p)).0
     (first_passed (shape_fault p (shape_of (Kinds.Obj which)) (root_of p)) _ (later_passed (head_fault p) _ h))).0
 
--- what a law of `adb_rules` says
+-- what a law of `adb_schema` says
 abbrev pub Kept : Type 0
 Kept = (which : Which) (v : Plain) → (text_fault which v ≡ None) ↔ KeepsRules which v
 

@@ -8,13 +8,13 @@ ghost use Rattle.adb_view.specs.Values.{is_sound, value_at};
 ghost use Rattle.adb_view.specs.ShapedPayload.{shaped_value, table_of};
 ghost use Rattle.adb_view.specs.declared.tables.Kind.TheVariants as Kinds;
 ghost use Rattle.adb_view.specs.declared.tables.Which.TheVariants as Tables;
-ghost use Rattle.adb_rules.specs.Texts.{text_fault};
+ghost use Rattle.adb_schema.specs.Texts.{text_fault};
 
 use crate::package::PackageView;
 use crate::package_info::PkgInfo;
 use crate::read::ReadFault;
+use crate::text_walk::{check_texts, no_text_is_bad_where_each_keeps_its_rule};
 use adb_fields::{Kinded, List, View, objects_field, text_field, texts_field};
-use adb_rules::{check_texts, no_text_is_bad_where_each_keeps_its_rule};
 use adb_view::field_indexes::{
     IDB_PACKAGES, INDEX_DESCRIPTION, INDEX_PACKAGES, INDEX_PKGNAME_SPEC, INTENT_REMOVALS,
     INTENT_WRITES,
@@ -31,7 +31,7 @@ pub struct Checked<'a> {
 
 impl<'a> Checked<'a> {
     ghost use Rattle.adb_view.specs.ShapedPayload.{adb_of};
-    ghost use Rattle.adb_rules.specs.SoundValues.{KeepsRules};
+    ghost use Rattle.adb_schema.specs.SoundValues.{KeepsRules};
     ghost use Rattle.adb_schema.specs.Checked.{which_of, checked_value};
     ghost use Rattle.adb_schema.specs.ReadFaults.{IsReadFault};
     ghost use Rattle.adb_schema.specs.Views.{package_value, index_value, idb_value, intent_value};
@@ -123,7 +123,7 @@ pub struct IndexView<'a> {
 impl<'a> IndexView<'a> {
     ghost use Rattle.adb_view.specs.FieldIndexes.{INDEX_DESCRIPTION, INDEX_PACKAGES, INDEX_PKGNAME_SPEC};
     ghost use Rattle.adb_view.specs.Values.{entry_in, text_in};
-    ghost use Rattle.adb_rules.specs.SoundValues.{KeepsRules};
+    ghost use Rattle.adb_schema.specs.SoundValues.{KeepsRules};
     ghost use Rattle.adb_schema.specs.Views.{index_value};
     ghost use Rattle.adb_fields.specs.ListValue.{list_value};
 

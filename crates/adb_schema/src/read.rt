@@ -22,9 +22,9 @@ ghost use Rattle.adb_schema.specs.ReadFaults.{IsReadFault};
 ghost use Rattle.adb_schema.specs.SoundContainers.{IsSound};
 
 use crate::checked::Checked;
+use crate::text_walk::no_text_is_bad_where_each_keeps_its_rule;
 use adb_block::{Block, BlockKind, Blocks};
 use adb_fields::{no_name_is_repeated_where_each_stands_once, repeated_names};
-use adb_rules::no_text_is_bad_where_each_keeps_its_rule;
 use adb_view::{
     Adb, Which, shape, values_are_normal, values_have_their_shape,
     values_of_few_visits_have_no_fault,

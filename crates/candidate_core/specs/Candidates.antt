@@ -13,7 +13,7 @@ use Rattle.adb_view.specs.Values.{entries_in, entry_in, int_in, text_in}
 use Rattle.version_core.specs.Order.{is_version}
 use Rattle.dep_core.specs.Dependency.{Dependency}
 use Rattle.dep_core.specs.Meets.{meets}
-pub use Rattle.adb_rules.specs.Dependencies.{dependency_in}
+pub use Rattle.adb_schema.specs.Dependencies.{dependency_in}
 
 -- a package to choose from: `info` is what its index, or the database, says of it, and the other
 -- parts are what is read of that. The version is none only where the text is no version, which no

@@ -6,7 +6,7 @@
 ghost use Rattle.std.specs.Prelude.{◌≡◌, true, false, Some, IfOk, IfSome, IfNone};
 ghost use Rattle.std.specs.Option.{option_map};
 ghost use Rattle.adb_fields.specs.Fields.{are_all_sound, array_at};
-ghost use Rattle.adb_rules.specs.TextRules.{keeps_text_rule};
+ghost use Rattle.adb_schema.specs.TextRules.{keeps_text_rule};
 ghost use Rattle.adb_schema.specs.Views.{info_value};
 ghost use Rattle.adb_view.specs.Values.{entry_in, is_sound, kind_at, text_in, value_at};
 ghost use Rattle.adb_view.specs.declared.tables.Kind.TheVariants as Kinds;
@@ -18,8 +18,7 @@ ghost use Rattle.candidate_core.specs.Candidates.{dependency_in};
 ghost use Rattle.candidate_core.specs.SoundTexts.{HasSoundEntries, HasSoundTexts};
 
 use adb_fields::{field_word, int_field, objects_field, text_word};
-use adb_rules::{Judged, TextRule};
-use adb_schema::PkgInfo;
+use adb_schema::{Judged, PkgInfo, TextRule};
 use adb_view::{Arr, Val, Which, entry_word};
 use dep_core::{Dep, dep_of_parts};
 use std::alloc::{AllocError, Global};

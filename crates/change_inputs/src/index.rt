@@ -2,7 +2,7 @@
 //! them is tested. The rules stand in `docs/commands.md`, "`add` and `del`" (what is read and
 //! refused), and in `docs/formats.md`, "Repositories".
 
-ghost use Rattle.adb_rules.specs.Texts.{text_fault};
+ghost use Rattle.adb_schema.specs.Texts.{text_fault};
 ghost use Rattle.adb_schema.specs.Soundness.{root_value};
 ghost use Rattle.adb_schema.specs.Views.{index_value};
 ghost use Rattle.adb_view.specs.Values.{is_sound};

@@ -5,7 +5,7 @@ use Rattle.std.specs.Str.{bytes_eq}
 use Rattle.std.proofs.lemmas.Bool.{or_cases}
 use Rattle.std.proofs.lemmas.Slice.Eq.{bytes_eq-Decides}
 use Rattle.std.proofs.lemmas.Cmp.{nat_list_cmp_total, tied_itself}
-use Rattle.adb_rules.specs.Reserved.{is_at_or_below, is_intent_or_stage_name, is_reserved}
+use Rattle.adb_schema.specs.Reserved.{is_at_or_below, is_intent_or_stage_name, is_reserved}
 use Rattle.base_core.proofs.Rising.{IsIn, Rises, order}
 use Rattle.journal_intent.specs.FreeNames.{AreFreeNames, AreOnce, IsFreeName, IsNoneOf, IsOneOf}
 use Rattle.journal_intent.specs.Intent.{intent_name, is_staged, stage_folder, stage_name}

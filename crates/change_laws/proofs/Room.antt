@@ -6,7 +6,7 @@ use Rattle.std.specs.List.{list_any}
 use Rattle.std.specs.Fmt.{decimal}
 use Rattle.std.proofs.lemmas.Bool.{and_parts, or_cases, or_left, or_right, false_from_ne_true}
 use Rattle.std.proofs.lemmas.Slice.Eq.{bytes_eq-Decides}
-use Rattle.adb_rules.specs.Reserved.{is_at_or_below, is_reserved}
+use Rattle.adb_schema.specs.Reserved.{is_at_or_below, is_reserved}
 use Rattle.base_core.specs.Files.{Files, IsFolderOf}
 use Rattle.base_core.proofs.Rising.{IsIn}
 use Rattle.change_files.specs.FileChange.{FileChange}

@@ -2,7 +2,7 @@
 -- crate; that a database has no reserved name stands in `docs/formats.md`, "Tests of a container",
 -- "The texts", field 401.
 use Rattle.std.specs.Prelude.{◌≡◌, All, false, None}
-use Rattle.adb_rules.specs.Reserved.{is_reserved}
+use Rattle.adb_schema.specs.Reserved.{is_reserved}
 use Rattle.base_core.specs.Files.{Files}
 use Rattle.change_files.specs.FileChange.{FileChange, old_listings}
 use Rattle.change_files.specs.PlanLists.{first_reserved}

@@ -24,8 +24,10 @@ ghost use Rattle.std.specs.Prelude.{◌≡◌, ◌<◌, ◌^◌, ◌==◌, true,
 use crate::listed_paths::is_path_listed;
 use crate::name_places::{NamePlace, place_of, sorted_names};
 use adb_block::Blocks;
-use adb_rules::no_text_is_bad_where_each_keeps_its_rule;
-use adb_schema::{IdbView, List, PackageView, ReadFault, View, Which, read_adb};
+use adb_schema::{
+    IdbView, List, PackageView, ReadFault, View, Which, no_text_is_bad_where_each_keeps_its_rule,
+    read_adb,
+};
 use adb_view::{Adb, values_of_few_visits_have_no_fault};
 use base_core::Name;
 use pkg_pieces::{bytes_are_small, tested_payloads_hold_sound_values};
@@ -50,7 +52,7 @@ pub struct Db<'a> {
 }
 
 impl<'a> Db<'a> {
-    ghost use Rattle.adb_rules.specs.Reserved.{is_reserved};
+    ghost use Rattle.adb_schema.specs.Reserved.{is_reserved};
     ghost use Rattle.base_core.specs.Name.{IsName};
     ghost use Rattle.db_core.specs.Members.{member_listings, staying_members};
     ghost use Rattle.db_core.specs.Seen.{packages_of};

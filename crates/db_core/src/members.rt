@@ -86,7 +86,7 @@ fn is_before(entry: &PackageWithId<'_>, name: &[u8]) -> bool
 }
 
 impl<'a> Members<'a> {
-    ghost use Rattle.adb_rules.specs.Reserved.{is_reserved};
+    ghost use Rattle.adb_schema.specs.Reserved.{is_reserved};
     ghost use Rattle.base_core.specs.Name.{IsName};
     ghost use Rattle.db_core.specs.Members.{AreInOrder, member_listings};
     ghost use Rattle.db_core.specs.Seen.{members_of, packages_before, packages_of, payload_before};

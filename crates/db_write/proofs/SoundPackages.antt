@@ -12,9 +12,9 @@ use Rattle.adb_view.specs.declared.tables.Which.TheVariants as Tables
 use Rattle.adb_fields.specs.FirstPair.{IsIn}
 use Rattle.adb_fields.specs.Once.{AllDistinct, AreDistinctNames, StandOnceInside}
 use Rattle.adb_fields.specs.Repeated.{entries_at, files_in, folders_in, list_of, name_of}
-use Rattle.adb_rules.specs.Rules.{is_digest_length, is_digest_length_or_none, is_file_name, is_folder_name, is_target}
-use Rattle.adb_rules.specs.SoundValues.{IsFileOf, IsFolder, IsInformation, IsPackage}
-use Rattle.adb_rules.specs.Texts.{is_with_contents, needs_hash}
+use Rattle.adb_schema.specs.Rules.{is_digest_length, is_digest_length_or_none, is_file_name, is_folder_name, is_target}
+use Rattle.adb_schema.specs.SoundValues.{IsFileOf, IsFolder, IsInformation, IsPackage}
+use Rattle.adb_schema.specs.Texts.{is_with_contents, needs_hash}
 use Rattle.adb_schema.specs.SoundContainers.{IsSound, IsSoundValue}
 use Rattle.adb_schema.specs.Soundness.{payload_in, root_value}
 use Rattle.adb_copy.proofs.Shapes.{entries_shape, nth_shape}

@@ -5,7 +5,7 @@
 ghost use Rattle.adb_copy.specs.Zeros.{without_zeros};
 ghost use Rattle.adb_fields.specs.FirstPair.{IsIn};
 ghost use Rattle.adb_fields.specs.Repeated.{entries_at, folders_in, list_of, name_of, paths_in};
-ghost use Rattle.adb_rules.specs.Rules.{is_digest_length};
+ghost use Rattle.adb_schema.specs.Rules.{is_digest_length};
 ghost use Rattle.adb_schema.specs.SoundContainers.{IsSound};
 ghost use Rattle.adb_schema.specs.Soundness.{payload_in, root_value};
 ghost use Rattle.adb_schema.specs.declared.read.TheConstants.{IDB_WORD};
@@ -32,8 +32,7 @@ ghost use Rattle.std.specs.Prelude.{◌≡◌, ◌≢◌, ◌<◌, ℕ, All, Boo
 
 use adb_block::what_is_spelled_is_read;
 use adb_fields::no_name_is_repeated_where_each_stands_once;
-use adb_rules::no_text_is_bad_where_each_keeps_its_rule;
-use adb_schema::sound_containers_hold_sound_values;
+use adb_schema::{no_text_is_bad_where_each_keeps_its_rule, sound_containers_hold_sound_values};
 use adb_sound::{a_container_of_a_good_value_is_sound, what_a_container_is_made_of_is_read_back};
 use adb_write::{a_file_is_spelled, a_value_overflows_exactly_past_a_limit};
 

@@ -4,7 +4,7 @@ use Rattle.std.specs.Prelude.{not, is_some, slice_get}
 use Rattle.std.specs.Option.{option_copied}
 use Rattle.std.specs.Str.{bytes_eq}
 use Rattle.adb_write.specs.Canonical.{PayloadCounts, overflow_of}
-use Rattle.adb_rules.specs.Reserved.{is_reserved}
+use Rattle.adb_schema.specs.Reserved.{is_reserved}
 use Rattle.base_core.specs.Listed.{IsRising}
 use Rattle.base_core.specs.Name.{IsName}
 use Rattle.base_core.proofs.Rising.{IsIn, rises_from_pairs}

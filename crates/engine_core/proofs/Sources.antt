@@ -5,7 +5,7 @@ use Rattle.std.specs.Prelude.{not, if◌then◌else◌, is_some, slice_get, unwr
 use Rattle.std.specs.Option.{option_copied}
 use Rattle.base_core.specs.Files.{Files}
 use Rattle.base_core.specs.Tree.{TreeState, files_of}
-use Rattle.adb_rules.specs.Reserved.{is_reserved}
+use Rattle.adb_schema.specs.Reserved.{is_reserved}
 use Rattle.adb_view.specs.Plain.{Plain}
 use Rattle.arrivals.specs.Arrivals.{IsFileOfMember}
 use Rattle.change_files.specs.FileChange.{FileChange}

@@ -3,7 +3,7 @@
 -- "What a change does with files" and "`add` and `del`".
 use Rattle.std.specs.Prelude.{◌≡◌, ℕ, Bool, true, false, not, List, All, Option, Some, None, bytes_eq}
 use Rattle.std.specs.Option.{option_copied}
-use Rattle.adb_rules.specs.Reserved.{is_reserved}
+use Rattle.adb_schema.specs.Reserved.{is_reserved}
 use Rattle.arrivals.specs.Arrivals.{AreMembersRead, arrivals_seen}
 use Rattle.base_core.specs.Calls.{IfObservable}
 use Rattle.base_core.specs.Files.{Files}

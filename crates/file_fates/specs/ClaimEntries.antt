@@ -7,7 +7,7 @@ use Rattle.base_core.specs.Name.{IsName}
 use Rattle.adb_view.specs.Plain.{Plain, null}
 use Rattle.adb_view.specs.FieldIndexes.{DIR_FILES, PACKAGE_PATHS}
 use Rattle.adb_view.specs.Values.{count_of, entries_in, entry_in}
-use Rattle.adb_rules.specs.Reserved.{is_reserved}
+use Rattle.adb_schema.specs.Reserved.{is_reserved}
 use Rattle.db_core.specs.Members.{Member, is_coming}
 use Rattle.path_claims.specs.Claims.{PathClaim, is_member}
 use Rattle.file_owners.specs.Owners.{owner_of_path}

@@ -25,7 +25,7 @@ use Rattle.db_core.specs.Members.{Member, member_name}
 use Rattle.file_owners.specs.NamedPlaces.{ArePlacesNamed, ArePlacesOfEach}
 use Rattle.file_owners.specs.Owners.{member_beats, takes_over_if_any}
 use Rattle.file_owners.specs.Replaces.{is_named_by, is_preferred_to, is_replaced_by, names_package, takes_over, version_text}
-use Rattle.adb_rules.specs.Dependencies.{dependency_in}
+use Rattle.adb_schema.specs.Dependencies.{dependency_in}
 
 abbrev is_one : {X : Type 0} → Option X → Bool
 is_one None = false

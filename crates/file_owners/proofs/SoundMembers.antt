@@ -12,8 +12,8 @@ use Rattle.adb_view.specs.declared.tables.Which.{Which}
 use Rattle.adb_view.specs.declared.tables.Which.TheVariants as Tables
 use Rattle.adb_fields.specs.FirstPair.{IsIn}
 use Rattle.adb_fields.specs.Repeated.{list_of}
-use Rattle.adb_rules.specs.SoundValues.{IsPackage, IsSoundDependency}
-use Rattle.adb_rules.proofs.SoundLeaves.{each_at}
+use Rattle.adb_schema.specs.SoundValues.{IsPackage, IsSoundDependency}
+use Rattle.adb_schema.proofs.SoundLeaves.{each_at}
 use Rattle.db_core.specs.Members.{Member}
 use Rattle.db_core.specs.SoundMembers.{AreOfSoundContainers, IsOfSoundContainer}
 use Rattle.file_owners.specs.Replaces.{version_text}

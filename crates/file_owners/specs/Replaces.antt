@@ -9,7 +9,7 @@ use Rattle.adb_fields.specs.Repeated.{entries_at, package_name}
 use Rattle.version_core.specs.Order.{is_version}
 use Rattle.dep_core.specs.Dependency.{Dependency}
 use Rattle.dep_core.specs.Meets.{meets}
-use Rattle.adb_rules.specs.Dependencies.{dependency_in}
+use Rattle.adb_schema.specs.Dependencies.{dependency_in}
 use Rattle.base_core.specs.ByteOrder.{precedes}
 
 -- the text of a package's version, as its information has it

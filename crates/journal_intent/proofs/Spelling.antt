@@ -9,8 +9,8 @@ use Rattle.adb_view.specs.Shaped.{Each, IsBlob, HasShape}
 use Rattle.adb_fields.specs.FirstPair.{IsIn}
 use Rattle.adb_fields.specs.Once.{AreDistinctNames, NamesStandOnce}
 use Rattle.adb_fields.specs.Repeated.{list_of}
-use Rattle.adb_rules.specs.Rules.{is_change_name}
-use Rattle.adb_rules.specs.SoundValues.{IsChangeName, KeepsRules}
+use Rattle.adb_schema.specs.Rules.{is_change_name}
+use Rattle.adb_schema.specs.SoundValues.{IsChangeName, KeepsRules}
 use Rattle.adb_view.specs.Schema.{shape_of}
 use Rattle.adb_view.specs.Values.{text_in}
 use Rattle.adb_view.specs.declared.tables.Which.TheVariants as Tables

@@ -5,7 +5,7 @@ use Rattle.sha2.proofs.Facts256.{length-sha256}
 use Rattle.adb_view.specs.Plain.{Plain, int, blob, obj, Plains, Shape, number, hash, object, Fields}
 use Rattle.adb_view.specs.Shaped.{HasShape, HaveShapes}
 use Rattle.adb_view.specs.Schema.{shape_of, shapes_of, table}
-use Rattle.adb_rules.specs.Texts.{Surroundings, number_leaf, text_leaf, at_root, inside_of, leaves, field_leaves, first_bad, is_package_hash, text_rule}
+use Rattle.adb_schema.specs.Texts.{Surroundings, number_leaf, text_leaf, at_root, inside_of, leaves, field_leaves, first_bad, is_package_hash, text_rule}
 use Rattle.adb_view.specs.Values.{nth, entries_in, entry_in}
 use Rattle.adb_schema.specs.Soundness.{payload_in}
 use Rattle.adb_view.specs.declared.tables.Which.{Which}

@@ -17,7 +17,7 @@ use Rattle.adb_view.specs.Shaped.{HasShape}
 use Rattle.adb_view.specs.Schema.{shape_of}
 use Rattle.adb_view.specs.Values.{value_at}
 use Rattle.adb_view.specs.Walk.{shape_fault}
-use Rattle.adb_rules.specs.Texts.{text_fault}
+use Rattle.adb_schema.specs.Texts.{text_fault}
 use Rattle.adb_schema.specs.Soundness.{blocks_fault, file_fault, first_payload, payload_behind, payload_fault, payload_in, root_value, schema_fault}
 use Rattle.adb_view.specs.declared.tables.Which.TheVariants.{Package}
 use Rattle.adb_view.specs.declared.tables.Kind.TheVariants.{Obj}

@@ -9,9 +9,9 @@ use Rattle.sha2.proofs.Facts256.{length-sha256}
 use Rattle.adb_view.specs.Plain.{Plain, null, int, Plains, none, more, number, text, blob_value, arr_value, obj_value}
 use Rattle.adb_view.specs.Shaped.{Each}
 use Rattle.adb_fields.specs.Repeated.{files_in, folders_in, list_of}
-use Rattle.adb_rules.specs.Rules.{is_digest_length, is_digest_length_or_none, is_file_name, is_folder_name, is_target}
+use Rattle.adb_schema.specs.Rules.{is_digest_length, is_digest_length_or_none, is_file_name, is_folder_name, is_target}
 use Rattle.adb_view.specs.Schema.{shape_of, shapes_of, table}
-use Rattle.adb_rules.specs.Texts.{Surroundings, at_root, inside_of, is_file_hash, number_rule, text_rule}
+use Rattle.adb_schema.specs.Texts.{Surroundings, at_root, inside_of, is_file_hash, number_rule, text_rule}
 use Rattle.adb_view.specs.Values.{entries_in, entry_in, int_in, text_in}
 use Rattle.adb_view.specs.declared.tables.Which.TheVariants.{Acl, File, Dir, Scripts, PkgInfo, Package}
 use Rattle.adb_view.specs.declared.tables.Kind.TheVariants.{Obj}

@@ -4,7 +4,7 @@ use Rattle.std.specs.Prelude.{is_some}
 use Rattle.std.proofs.lemmas.Bool.{ltb-false}
 use Rattle.adb_view.specs.Plain.{IsNormal, Plain}
 use Rattle.adb_view.specs.Schema.{shape_of}
-use Rattle.adb_rules.specs.Texts.{at_root}
+use Rattle.adb_schema.specs.Texts.{at_root}
 use Rattle.adb_fields.specs.Repeated.{repeated_fault}
 use Rattle.adb_view.specs.declared.tables.Which.{Which}
 use Rattle.adb_view.specs.declared.tables.Kind.TheVariants.{Obj}

@@ -8,7 +8,7 @@ use Rattle.base_core.specs.declared.cause.Cause.{Cause}
 use Rattle.adb_view.specs.Plain.{Plain, Plains, none, more, arr_value, blob_value, obj_value}
 use Rattle.adb_view.specs.Shaped.{Each}
 use Rattle.adb_view.specs.Schema.{shape_of, shapes_of, table}
-use Rattle.adb_rules.specs.Texts.{Surroundings, at_root, inside_of, text_rule}
+use Rattle.adb_schema.specs.Texts.{Surroundings, at_root, inside_of, text_rule}
 use Rattle.adb_fields.specs.Repeated.{repeated_fault}
 use Rattle.adb_schema.specs.Soundness.{payload_in, root_value, schema_word}
 use Rattle.adb_view.specs.declared.tables.Which.TheVariants.{Package, PkgInfo, Index}

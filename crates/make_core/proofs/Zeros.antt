@@ -3,7 +3,7 @@ use Rattle.std.proofs.Common.{◌≡◌, ℕ, ◌+◌, ◌*◌, ◌&&◌, ◌==�
 use Rattle.adb_view.specs.Plain.{Plain, null, int, blob, arr, obj, Plains, none, more, Shape, number, text, hash, array, object, Fields, no_fields, field, obj_value}
 use Rattle.adb_view.specs.Shaped.{Each, HasShape, HaveShapes}
 use Rattle.adb_view.specs.Schema.{schema_number}
-use Rattle.adb_rules.specs.Texts.{Surroundings, number_leaf, text_leaf, leaves, field_leaves, each_leaf, inside_of}
+use Rattle.adb_schema.specs.Texts.{Surroundings, number_leaf, text_leaf, leaves, field_leaves, each_leaf, inside_of}
 use Rattle.adb_view.specs.Values.{nth, entry_in, int_in, text_in}
 use Rattle.adb_view.specs.declared.tables.Which.TheVariants.{File, Dir}
 use Rattle.adb_copy.specs.Zeros.{without_zeros, all_without_zeros}

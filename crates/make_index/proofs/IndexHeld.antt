@@ -11,7 +11,7 @@ use Rattle.adb_write.specs.Canonical.{Layout, write, empty_layout, payload_with_
 use Rattle.adb_write.specs.Size.{size_of, value_count}
 use Rattle.adb_view.specs.Schema.{shape_of}
 use Rattle.adb_view.specs.Values.{is_sound, value_at, nth, entry_in, text_in}
-use Rattle.adb_rules.specs.SoundValues.{IsPackage}
+use Rattle.adb_schema.specs.SoundValues.{IsPackage}
 use Rattle.adb_schema.specs.Soundness.{root_value, payload_in, first_fault}
 use Rattle.adb_schema.specs.SoundContainers.{IsSoundValue}
 use Rattle.adb_view.specs.declared.tables.Which.{Which}

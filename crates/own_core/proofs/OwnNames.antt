@@ -2,7 +2,7 @@
 use Rattle.std.proofs.Common.{◌≡◌, inl, inr, ℕ, zero, suc, ◌≤◌, Bool, true, false, List, [], ◌∷◌, length, map, All, Contains, Option, Some, None, Result, Ok, Err, refl, ap, sym, subst, arith, true≢false}
 use Rattle.std.specs.Prelude.{◌&&◌, ◌||◌, not, if◌then◌else◌, is_some, nat_le, IfOk}
 use Rattle.std.proofs.lemmas.Bool.{and_parts, leb-true}
-use Rattle.adb_rules.specs.Reserved.{is_reserved}
+use Rattle.adb_schema.specs.Reserved.{is_reserved}
 use Rattle.adb_view.specs.Plain.{Plain}
 use Rattle.base_core.specs.Files.{Files}
 use Rattle.base_core.specs.Listed.{IsRising}

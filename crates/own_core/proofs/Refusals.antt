@@ -12,7 +12,7 @@ use Rattle.base_core.specs.ByteOrder.{bytes_cmp, smallest_text}
 use Rattle.base_core.specs.Sorted.{sorted_by}
 use Rattle.base_core.proofs.Smallest.{smallest_first}
 use Rattle.base_core.proofs.Sorting.{Each, Rises, one_order, ranks, rises_in_order, sort_seen, sorted_up, stable, stable_in_order}
-use Rattle.adb_rules.specs.Reserved.{is_reserved}
+use Rattle.adb_schema.specs.Reserved.{is_reserved}
 use Rattle.db_core.specs.Members.{Listing, Member, is_coming, member_listings}
 use Rattle.path_claims.specs.Claims.{ContestedPath, PathClaim, claim_cmp, claimants, contested_at, contested_by, contested_path, is_of_path, owner_by}
 use Rattle.path_claims.specs.Contest.{first_rivals, rivals_of}

@@ -3,7 +3,7 @@
 -- `change_files`, `path_clashes` and `file_owners`; this file says which of them a plan or a
 -- refusal promises, and over which files.
 use Rattle.std.specs.Prelude.{◌≡◌, ℕ, Bool, true, false, List, map, Option, Some, None, All, Contains, option_map, slice_get}
-use Rattle.adb_rules.specs.Reserved.{is_reserved}
+use Rattle.adb_schema.specs.Reserved.{is_reserved}
 use Rattle.adb_view.specs.FieldIndexes.{PACKAGE_PATHS}
 use Rattle.adb_view.specs.Values.{entry_in}
 use Rattle.base_core.specs.Calls.{IfObservable}

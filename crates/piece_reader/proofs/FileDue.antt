@@ -7,7 +7,7 @@ use Rattle.std.proofs.lemmas.List.{length-append, length-replicate}
 use Rattle.base_core.specs.declared.cause.Cause.{Cause}
 use Rattle.adb_view.specs.Plain.{Plain}
 use Rattle.adb_fields.specs.Repeated.{files_in, folders_in}
-use Rattle.adb_rules.specs.Texts.{is_with_contents}
+use Rattle.adb_schema.specs.Texts.{is_with_contents}
 use Rattle.adb_view.specs.Values.{entry_in, int_in, text_in}
 use Rattle.pkg_core.specs.Contents.{Expected, expected_at, expected_contents, expected_files, expected_folders, hash_fault}
 use Rattle.pkg_core.specs.Opened.{expected_of, expected_with_positions, has_positions}

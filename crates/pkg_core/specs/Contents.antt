@@ -18,7 +18,7 @@ use Rattle.adb_view.specs.FieldIndexes.{FILE_HASHES, FILE_SIZE}
 use Rattle.adb_view.specs.Values.{entry_in, int_in, text_in}
 use Rattle.adb_fields.specs.Repeated.{folders_in, files_in}
 use Rattle.adb_schema.specs.Soundness.{file_pair}
-use Rattle.adb_rules.specs.Texts.{is_with_contents}
+use Rattle.adb_schema.specs.Texts.{is_with_contents}
 
 -- ---- what is expected
 

@@ -23,8 +23,10 @@ ghost use Rattle.pkg_core.specs.GoodContents.{AreContentsOf, AreTrueTo};
 
 use crate::pack::{Package, PackageFault};
 use adb_block::Blocks;
-use adb_rules::the_first_bad_text_is_reported;
-use adb_schema::{IDB_WORD, INDEX_WORD, INTENT_WORD, PACKAGE_WORD, Which, read_adb};
+use adb_schema::{
+    IDB_WORD, INDEX_WORD, INTENT_WORD, PACKAGE_WORD, Which, read_adb,
+    the_first_bad_text_is_reported,
+};
 use base_core::{Cause, Digest as FoundDigest};
 use sha1::Sha1;
 use sha2::{Digest, Sha256, Sha512};

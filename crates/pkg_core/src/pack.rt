@@ -73,7 +73,7 @@ pub struct Package<'a> {
 }
 
 impl<'a> Package<'a> {
-    ghost use Rattle.adb_rules.specs.SoundValues.{KeepsRules};
+    ghost use Rattle.adb_schema.specs.SoundValues.{KeepsRules};
     ghost use Rattle.adb_schema.specs.Views.{package_value};
     ghost use Rattle.pkg_core.specs.Opened.{opened_files, opened_payload, opened_value, IsNextFile};
     ghost use Rattle.pkg_core.specs.Whole.{package_id};

@@ -10,8 +10,9 @@ ghost use Rattle.adb_view.specs.Adb.{payload_of};
 
 use crate::front::Front;
 use crate::laws::{bytes_are_small, tested_payloads_hold_sound_values};
-use adb_rules::no_text_is_bad_where_each_keeps_its_rule;
-use adb_schema::{Checked, PackageView, ReadFault, View, repeated};
+use adb_schema::{
+    Checked, PackageView, ReadFault, View, no_text_is_bad_where_each_keeps_its_rule, repeated,
+};
 use adb_view::{Adb, Which, shape, values_of_few_visits_have_no_fault};
 use pkg_core::PackageFault;
 use sha2::{Digest, Sha256};
@@ -26,7 +27,7 @@ pub struct Contents<'a> {
 }
 
 impl<'a> Contents<'a> {
-    ghost use Rattle.adb_rules.specs.SoundValues.{KeepsRules};
+    ghost use Rattle.adb_schema.specs.SoundValues.{KeepsRules};
     ghost use Rattle.adb_schema.specs.Views.{package_value};
     ghost use Rattle.adb_schema.specs.SoundContainers.{IsSoundValue};
     ghost use Rattle.adb_view.specs.Plain.{IsNormal};

@@ -18,7 +18,7 @@ ghost use Rattle.pkg_pieces.specs.Front.{IsFrontOf, behind_front, front_fault, f
 ghost use Rattle.pkg_pieces.specs.declared.front.Front.{Front};
 
 use adb_fields::no_name_is_repeated_where_each_stands_once;
-use adb_rules::no_text_is_bad_where_each_keeps_its_rule;
+use adb_schema::no_text_is_bad_where_each_keeps_its_rule;
 use adb_view::{values_are_normal, values_have_their_shape, values_of_few_visits_have_no_fault};
 
 /// The tests of a package's front, and then those of its values, are the tests that a package is

@@ -12,8 +12,7 @@ ghost use Rattle.candidate_core.specs.Values.{IsPoolFault, names_upgraded_by};
 
 use crate::sealed::{Sealed, seal_list};
 use adb_fields::objects_field;
-use adb_rules::entries_keep_the_rule_of_their_list;
-use adb_schema::{IndexView, PkgInfo};
+use adb_schema::{IndexView, PkgInfo, entries_keep_the_rule_of_their_list};
 use adb_view::Which;
 use candidate_core::{CandidateList, PoolFault, Source, Upgrade};
 use dep_core::World;

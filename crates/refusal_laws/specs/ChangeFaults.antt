@@ -3,7 +3,7 @@
 -- README of this crate.
 use Rattle.std.specs.Prelude.{◌≡◌, ◌⊎◌, ℕ, true, false, List, Some, None, Ok, is_some}
 use Rattle.adb_fields.specs.FirstPair.{IsIn}
-use Rattle.adb_rules.specs.Reserved.{is_reserved}
+use Rattle.adb_schema.specs.Reserved.{is_reserved}
 use Rattle.adb_view.specs.Plain.{Plain}
 use Rattle.adb_write.specs.Canonical.{overflow_of, passes}
 use Rattle.base_core.specs.Files.{Files}

@@ -34,7 +34,7 @@ use Rattle.v2_lines.specs.Lines.{RecordLine, info_line, folder_line, folder_acce
 use Rattle.v2_lines.specs.declared.field.Grammar.{Grammar}
 use Rattle.v2_lines.specs.declared.field.Grammar.TheVariants as Grammars
 use Rattle.v2_lines.specs.declared.field.InfoField.{InfoField}
-use Rattle.adb_rules.specs.Rules.{is_folder_name, is_one_part}
+use Rattle.adb_schema.specs.Rules.{is_folder_name, is_one_part}
 
 -- ---- values that fit a field
 

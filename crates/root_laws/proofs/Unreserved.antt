@@ -9,8 +9,8 @@ use Rattle.adb_view.specs.declared.tables.Which.TheVariants.{Idb}
 use Rattle.adb_fields.specs.FirstPair.{IsIn}
 use Rattle.adb_fields.specs.Paths.{path_of}
 use Rattle.adb_fields.specs.Repeated.{files_in, folders_in, list_of, name_of}
-use Rattle.adb_rules.specs.Reserved.{is_reserved}
-use Rattle.adb_rules.specs.SoundValues.{IsFileOf, IsFolder, IsPackage}
+use Rattle.adb_schema.specs.Reserved.{is_reserved}
+use Rattle.adb_schema.specs.SoundValues.{IsFileOf, IsFolder, IsPackage}
 use Rattle.change_files.specs.PlanLists.{first_reserved}
 use Rattle.db_core.specs.Members.{Listing, Member, is_coming, listings_by, listings_from, listings_in_folder, listings_in_folders, member_listings}
 use Rattle.db_core.specs.OwnedListings.{HaveOneOwner, owned_listings}

@@ -1,7 +1,7 @@
 use Rattle.std.proofs.Common.{◌≡◌, ◌∙◌, ◌+◌, ◌-◌, List, ap, sym, subst, refl, length, arith}
 use Rattle.std.specs.Prelude.{slice_get}
 use Rattle.dep_core.specs.Dependency.{Dependency}
-use Rattle.adb_rules.specs.SoundValues.{IsSoundDependency}
+use Rattle.adb_schema.specs.SoundValues.{IsSoundDependency}
 use Rattle.candidate_core.specs.Candidates.{dependency_in}
 use Rattle.adb_view.specs.Plain.{Plains}
 use Rattle.adb_fields.specs.ListValue.{list_value}

@@ -1,6 +1,6 @@
 use Rattle.std.proofs.Common.{◌≡◌, ap, sym, ◌∙◌, Some, None}
 use Rattle.std.specs.Prelude.{is_none}
-use Rattle.adb_rules.specs.Texts.{text_fault}
+use Rattle.adb_schema.specs.Texts.{text_fault}
 use Rattle.adb_schema.specs.Soundness.{first_fault, root_value}
 use Rattle.adb_view.specs.Values.{is_sound}
 use Rattle.adb_view.specs.declared.tables.Kind.TheVariants as Kinds
