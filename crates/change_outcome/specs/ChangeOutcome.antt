@@ -20,7 +20,7 @@ use Rattle.file_owners.specs.Owners.{contested_of, owned_of}
 use Rattle.journal_intent.specs.IntentValue.{intent_of_lists, value_of_intent}
 use Rattle.make_info.specs.Reads.{Reads}
 use Rattle.package_changes.specs.Changes.{Replacement, changes_of}
-use Rattle.report_changes.specs.Report.{stay_lines}
+use Rattle.package_changes.specs.Report.{stay_lines}
 use Rattle.path_claims.specs.Claims.{ContestedPath}
 use Rattle.path_clashes.specs.Clash.{NamePair}
 use Rattle.path_clashes.specs.FirstClash.{IsClashOf}

@@ -17,7 +17,7 @@ use Rattle.engine_core.specs.Selecting.{pool_for}
 use Rattle.engine_core.specs.Wishes.{wishes_of}
 use Rattle.make_info.specs.Reads.{Reads}
 use Rattle.package_changes.specs.Changes.{Replacement, changes_of}
-use Rattle.report_changes.specs.Report.{candidate_size, simulated_report, stay_lines}
+use Rattle.package_changes.specs.Report.{candidate_size, simulated_report, stay_lines}
 use Rattle.path_clashes.specs.Clash.{NamePair}
 use Rattle.candidate_core.specs.Rank.{SealedPool}
 use Rattle.report_core.specs.Reports.{change_lines, report_line, sum_text}

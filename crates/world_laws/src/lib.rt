@@ -22,7 +22,7 @@ ghost use Rattle.engine_core.specs.Choice.{IsChoiceFrom};
 ghost use Rattle.engine_core.specs.Selecting.{pool_for};
 ghost use Rattle.make_info.specs.Reads.{Reads};
 ghost use Rattle.package_changes.specs.Changes.{Replacement};
-ghost use Rattle.report_changes.specs.Report.{simulated_report};
+ghost use Rattle.package_changes.specs.Report.{simulated_report};
 ghost use Rattle.path_clashes.specs.Clash.{NamePair};
 ghost use Rattle.report_core.specs.declared.refusal.Refusal.{Refusal};
 ghost use Rattle.world_laws.specs.Simulation.{IsForetold, with_simulation};
