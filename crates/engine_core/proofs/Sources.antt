@@ -20,8 +20,8 @@ use Rattle.change_files.proofs.Reserved.{records_reserved}
 use Rattle.change_files.proofs.Untouched.{takes_its_path}
 use Rattle.std.proofs.lemmas.Bool.{false_from_ne_true}
 use Rattle.change_inputs.specs.Inputs.{Inputs}
-use Rattle.change_laws.specs.Premises.{HasNoReservedPath, IsRootOfFiles}
-use Rattle.change_laws.proofs.ActionNames.{written_free}
+use Rattle.change_outcome.specs.Premises.{HasNoReservedPath, IsRootOfFiles}
+use Rattle.change_outcome.proofs.ActionNames.{written_free}
 use Rattle.change_outcome.specs.ChangeOutcome.{bytes_under, is_other_file, new_records}
 use Rattle.change_outcome.specs.MembersAfter.{MemberFound, contents_found}
 use Rattle.db_core.specs.Members.{Listing, Member, member_listings}

@@ -12,7 +12,7 @@ use Rattle.change_files.specs.FileChange.{old_listings}
 use Rattle.change_files.specs.NamesAfter.{name_change}
 use Rattle.path_clashes.specs.Clash.{HasNoClash}
 use Rattle.change_inputs.specs.Inputs.{Inputs}
-use Rattle.change_laws.specs.Premises.{IsRootOfFiles}
+use Rattle.change_outcome.specs.Premises.{IsRootOfFiles}
 use Rattle.change_outcome.specs.ChangeOutcome.{ChangeWishes, file_change, is_other_file}
 use Rattle.change_outcome.specs.MembersAfter.{MemberFound, members_found}
 use Rattle.db_core.specs.Members.{Member}

@@ -20,7 +20,7 @@ use crate::wishes::{
 use arrivals::packages_after_a_change_rest_on_later_reads;
 use base_core::{Text, Tree, Words};
 use change_inputs::{Loaded, Refused, inputs_rest_on_their_own_reads};
-use change_laws::{a_change_has_a_first_clash_or_none, what_is_read_of_a_root_stands_there};
+use change_outcome::{a_change_has_a_first_clash_or_none, what_is_read_of_a_root_stands_there};
 use command_core::Command;
 use package_changes::{Changes, simulated_report};
 use pool_core::Sealed;

@@ -6,7 +6,7 @@ use Rattle.base_core.specs.Files.{Files}
 use Rattle.base_core.specs.declared.cause.Cause.{Cause}
 use Rattle.change_inputs.specs.Chains.{and_then}
 use Rattle.change_inputs.specs.Inputs.{Inputs, inputs_of}
-use Rattle.change_laws.specs.Made.{IsChangeMade}
+use Rattle.change_outcome.specs.Made.{IsChangeMade}
 use Rattle.change_files.specs.PlanLists.{aside_of, kept_of}
 use Rattle.change_outcome.specs.ChangeOutcome.{ChangeDone, ChangeWishes, change_or_refusal, file_change, member_sum_line, touched_paths}
 use Rattle.change_outcome.specs.ConfigurationLines.{configuration_lines}

@@ -17,7 +17,7 @@ use Rattle.base_core.proofs.Rising as Names
 use Rattle.change_files.proofs.InOrder.{order_rises}
 use Rattle.change_inputs.specs.Chains.{and_then}
 use Rattle.change_inputs.specs.Inputs.{first_index_read}
-use Rattle.change_laws.proofs.Made.{and_then_ok}
+use Rattle.change_outcome.proofs.Made.{and_then_ok}
 use Rattle.change_outcome.specs.MembersAfter.{MemberFound, coming_by_path, coming_found, members_after, members_found, name_after, name_by_change, name_by_selected, name_that_comes, name_that_goes, names_after, staying_found}
 use Rattle.change_outcome.specs.PackageFiles.{ComingPackage, package_file_of, package_found, package_in_file, scripts_of_change, unless_different, unless_number, unless_package_bad, unless_script, first_script_of}
 use Rattle.db_core.specs.Members.{AreInOrder, Member, member_name}

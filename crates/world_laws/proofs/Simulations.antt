@@ -6,7 +6,7 @@ use Rattle.change_files.specs.FileChange.{FileChange}
 use Rattle.change_files.specs.PlanLists.{aside_of, kept_of}
 use Rattle.change_inputs.specs.Chains.{and_then}
 use Rattle.change_inputs.specs.Inputs.{Inputs, inputs_of}
-use Rattle.change_laws.specs.Made.{IsChangeMade}
+use Rattle.change_outcome.specs.Made.{IsChangeMade}
 use Rattle.change_outcome.specs.ChangeOutcome.{ChangeDone, ChangeWishes, change_or_refusal, change_report, file_change, member_size, touched_paths}
 use Rattle.change_outcome.specs.ConfigurationLines.{configuration_lines}
 use Rattle.change_outcome.specs.Triggers.{trigger_lines}

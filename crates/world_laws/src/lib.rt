@@ -37,7 +37,7 @@ ghost use Rattle.world_laws.specs.CommandPool.{IsCommandPool};
 ghost use Rattle.world_laws.specs.NewWorld.{HoldsWhatWasAsked, IsReadWorld};
 ghost use Rattle.world_laws.specs.SatisfiedWorld.{IsNeeded, SatisfyWorld};
 
-use change_laws::a_change_that_is_made_passes_each_test;
+use change_outcome::a_change_that_is_made_passes_each_test;
 use engine_core::a_choice_is_unique;
 
 /// Behind some choices the next need is the first entry of world that no choice meets; where all

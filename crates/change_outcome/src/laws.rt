@@ -17,9 +17,9 @@ ghost use Rattle.journal_intent.specs.IntentValue.{intent_of_lists};
 ghost use Rattle.make_info.specs.Reads.{Reads};
 ghost use Rattle.package_changes.specs.Changes.{Replacement};
 ghost use Rattle.path_clashes.specs.Clash.{NamePair};
-ghost use Rattle.change_laws.specs.Leading.{LeadsTo, write_limit};
-ghost use Rattle.change_laws.specs.Made.{IsChangeMade};
-ghost use Rattle.change_laws.specs.Premises.{HasNoReservedPath, IsRootOfFiles};
+ghost use Rattle.change_outcome.specs.Leading.{LeadsTo, write_limit};
+ghost use Rattle.change_outcome.specs.Made.{IsChangeMade};
+ghost use Rattle.change_outcome.specs.Premises.{HasNoReservedPath, IsRootOfFiles};
 
 // ---- what is read
 

@@ -24,7 +24,7 @@ use Rattle.journal_intent.specs.FreeNames.{IsTakenName}
 use Rattle.journal_intent.specs.Intent.{intent_name, is_staged, stage_name}
 use Rattle.path_clashes.specs.Clash.{HasNoClash, is_name_after}
 use Rattle.path_clashes.proofs.FolderLike.{folder_like}
-use Rattle.change_laws.proofs.FreeNames.{name_of_any}
+use Rattle.change_outcome.proofs.FreeNames.{name_of_any}
 
 -- ---- folders of names that a stage takes
 

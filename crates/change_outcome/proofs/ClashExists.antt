@@ -17,7 +17,7 @@ use Rattle.path_clashes.specs.Clash.{IsClash, NameChange, NamePair, is_name_afte
 use Rattle.path_clashes.specs.FirstClash.{IsClashOf}
 use Rattle.path_clashes.specs.NearName.{IsClashIfSome, IsNoEarlierClash}
 use Rattle.path_clashes.proofs.PairOrder.{pairs_chain, pairs_one_way}
-use Rattle.change_laws.proofs.FreeNames.{name_of_any}
+use Rattle.change_outcome.proofs.FreeNames.{name_of_any}
 
 true_false : true ≡ false → ⊥
 true_false e = cc

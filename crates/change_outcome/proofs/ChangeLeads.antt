@@ -22,10 +22,10 @@ use Rattle.db_core.specs.Members.{Listing}
 use Rattle.journal_core.specs.Staged.{IsEmptyStage}
 use Rattle.journal_intent.proofs.AtName.{name_cases}
 use Rattle.journal_intent.specs.FreeNames.{IsNoneOf, IsOneOf}
-use Rattle.change_laws.specs.Leading.{LeadsTo}
-use Rattle.change_laws.specs.Premises.{HasNoReservedPath, IsRootOfFiles}
-use Rattle.change_laws.proofs.ActionNames.{free_names, from_removals, from_writes, if_needed, needed, none_removed, none_written, removed_free, written_free}
-use Rattle.change_laws.proofs.FreeNames.{split_in}
+use Rattle.change_outcome.specs.Leading.{LeadsTo}
+use Rattle.change_outcome.specs.Premises.{HasNoReservedPath, IsRootOfFiles}
+use Rattle.change_outcome.proofs.ActionNames.{free_names, from_removals, from_writes, if_needed, needed, none_removed, none_written, removed_free, written_free}
+use Rattle.change_outcome.proofs.FreeNames.{split_in}
 
 some_there : (o : Option (List ℕ)) (bytes : List ℕ) → o ≡ Some bytes → IsSome o
 some_there o bytes is = ap is_some is

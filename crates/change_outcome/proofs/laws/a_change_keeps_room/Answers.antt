@@ -1,5 +1,5 @@
-use Rattle.change_laws.proofs.Made.{brings_no_intent, keeps_room, made}
-use Rattle.change_laws.proofs.laws.a_change_keeps_room.Goals as goal
+use Rattle.change_outcome.proofs.Made.{brings_no_intent, keeps_room, made}
+use Rattle.change_outcome.proofs.laws.a_change_keeps_room.Goals as goal
 
 pub returns-clause-room : goal.returns-clause-room
 returns-clause-room c = λ inputs r wishes read clash files done ok clashes stage.

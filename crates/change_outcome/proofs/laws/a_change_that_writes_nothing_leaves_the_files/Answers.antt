@@ -1,6 +1,6 @@
-use Rattle.change_laws.proofs.ChangeLeads.{does_nothing}
-use Rattle.change_laws.proofs.Made.{leaves_files, made}
-use Rattle.change_laws.proofs.laws.a_change_that_writes_nothing_leaves_the_files.Goals as goal
+use Rattle.change_outcome.proofs.ChangeLeads.{does_nothing}
+use Rattle.change_outcome.proofs.Made.{leaves_files, made}
+use Rattle.change_outcome.proofs.laws.a_change_that_writes_nothing_leaves_the_files.Goals as goal
 
 pub returns-clause-actions : goal.returns-clause-actions
 returns-clause-actions c = does_nothing

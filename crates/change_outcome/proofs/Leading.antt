@@ -12,8 +12,8 @@ use Rattle.journal_intent.proofs.StageNames.{stage_name_staged}
 use Rattle.journal_intent.specs.FreeNames.{IsNoneOf, IsOneOf}
 use Rattle.journal_intent.specs.IntentValue.{intent_of_lists}
 use Rattle.change_outcome.specs.ChangeOutcome.{bytes_under}
-use Rattle.change_laws.specs.Leading.{LeadsTo}
-use Rattle.change_laws.proofs.Emptied.{acted_empty}
+use Rattle.change_outcome.specs.Leading.{LeadsTo}
+use Rattle.change_outcome.proofs.Emptied.{acted_empty}
 
 true_false : true ≡ false → ⊥
 true_false e = cc

@@ -20,8 +20,8 @@ use Rattle.change_outcome.specs.ChangeOutcome.{Actions, actions_of, is_other_fil
 use Rattle.db_core.specs.Members.{Listing}
 use Rattle.journal_intent.specs.FreeNames.{HasFreeNames, IsNoneOf, IsOneOf}
 use Rattle.journal_intent.specs.IntentValue.{intent_of_lists}
-use Rattle.change_laws.specs.Premises.{HasNoReservedPath}
-use Rattle.change_laws.proofs.FreeNames.{free_outside, frees, name_of_any, none_of, once_rising, outside_unreserved, split_in}
+use Rattle.change_outcome.specs.Premises.{HasNoReservedPath}
+use Rattle.change_outcome.proofs.FreeNames.{free_outside, frees, name_of_any, none_of, once_rising, outside_unreserved, split_in}
 
 pub needed : (b : Bool) (name q : List ℕ) → IsIn q (name_if_needed b name) → (q ≡ name) × (b ≡ true)
 needed true name q (inl is) = (is, refl)

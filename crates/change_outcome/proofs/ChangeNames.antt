@@ -15,9 +15,9 @@ use Rattle.change_inputs.specs.Inputs.{Inputs}
 use Rattle.change_outcome.specs.ChangeOutcome.{Actions, actions_of}
 use Rattle.journal_intent.specs.Intent.{AreChangeNames}
 use Rattle.journal_intent.proofs.AtName.{other_name}
-use Rattle.change_laws.specs.Premises.{HasNoReservedPath}
-use Rattle.change_laws.proofs.ActionNames.{never_both, removal_outside, write_outside}
-use Rattle.change_laws.proofs.FreeNames.{not_itself, split_in}
+use Rattle.change_outcome.specs.Premises.{HasNoReservedPath}
+use Rattle.change_outcome.proofs.ActionNames.{never_both, removal_outside, write_outside}
+use Rattle.change_outcome.proofs.FreeNames.{not_itself, split_in}
 
 -- ---- all of a list
 

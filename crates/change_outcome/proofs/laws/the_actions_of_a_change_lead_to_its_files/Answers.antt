@@ -1,8 +1,8 @@
 use Rattle.change_outcome.specs.ChangeOutcome.{actions_of, new_records}
 use Rattle.change_files.specs.FilesAfter.{changed_files}
-use Rattle.change_laws.proofs.ChangeLeads.{leads}
-use Rattle.change_laws.proofs.Leading.{acted_is}
-use Rattle.change_laws.proofs.laws.the_actions_of_a_change_lead_to_its_files.Goals as goal
+use Rattle.change_outcome.proofs.ChangeLeads.{leads}
+use Rattle.change_outcome.proofs.Leading.{acted_is}
+use Rattle.change_outcome.proofs.laws.the_actions_of_a_change_lead_to_its_files.Goals as goal
 
 pub returns : goal.returns
 returns c = λ inputs change bytes_of database files free root empty few.

@@ -19,8 +19,8 @@ use Rattle.root_names.specs.RootNames.{database_name, repositories_name, text_da
 use Rattle.v2_core.specs.Payload.{payload_of_text}
 use Rattle.v2_core.specs.declared.read.V2Fault.{V2Fault}
 use Rattle.v2_core.specs.declared.read.V2Fault.TheVariants.{Bad, Memory, TooLarge}
-use Rattle.change_laws.specs.Premises.{IsRootOfFiles}
-use Rattle.change_laws.proofs.Made.{and_then_ok}
+use Rattle.change_outcome.specs.Premises.{IsRootOfFiles}
+use Rattle.change_outcome.proofs.Made.{and_then_ok}
 
 container_file : (fault : Option Cause) (file : List ℕ) (d database : Database) → d.file ≡ Some file → unless_cause DatabaseBad fault d ≡ Ok database → database.file ≡ Some file
 container_file None file d database is e = let same : d ≡ database = cc in ap (λ (x : Database). x.file) (sym same) ∙ is

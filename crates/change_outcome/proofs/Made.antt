@@ -23,11 +23,11 @@ use Rattle.path_clashes.specs.Clash.{HasNoClash, NamePair}
 use Rattle.path_clashes.specs.FirstClash.{IsClashOf}
 use Rattle.path_clashes.proofs.OneFirst.{one_first}
 use Rattle.report_core.specs.declared.refusal.Refusal.{Refusal}
-use Rattle.change_laws.specs.Made.{IsChangeMade}
-use Rattle.change_laws.specs.Premises.{IsRootOfFiles}
-use Rattle.change_laws.proofs.ChangeLeads.{does_nothing}
-use Rattle.change_laws.proofs.ClashExists.{clash_exists}
-use Rattle.change_laws.proofs.Room.{no_intent, room}
+use Rattle.change_outcome.specs.Made.{IsChangeMade}
+use Rattle.change_outcome.specs.Premises.{IsRootOfFiles}
+use Rattle.change_outcome.proofs.ChangeLeads.{does_nothing}
+use Rattle.change_outcome.proofs.ClashExists.{clash_exists}
+use Rattle.change_outcome.proofs.Room.{no_intent, room}
 
 -- ---- values that are not refused
 
