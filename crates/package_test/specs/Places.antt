@@ -5,7 +5,7 @@ use Rattle.std.specs.Prelude.{◌≡◌, ℕ, ◌<◌, ◌==◌, ◌&&◌, ◌||
 use Rattle.std.specs.List.{find}
 use Rattle.adb_schema.specs.Soundness.{payload_fault}
 use Rattle.adb_view.specs.declared.tables.Which.TheVariants.{Package}
-use Rattle.piece_core.specs.declared.file.Part.{Part}
+use Rattle.pkg_core.specs.declared.file.Part.{Part}
 use Rattle.pkg_core.specs.Contents.{Contents, FilesRead, contents_in, fault_in}
 use Rattle.pkg_core.specs.Whole.{files_in_file, package_fault}
 use Rattle.pkg_pieces.specs.Front.{front_payload}

@@ -12,10 +12,10 @@ ghost use Rattle.pkg_pieces.specs.Values.{value_of_contents};
 
 use crate::places::{FilePlace, keep_place};
 use base_core::{Cause, Name, Tree, TreeFault};
-use piece_core::the_pieces_of_each_file_joined_are_its_contents;
 use piece_reader::{
     Piece, PieceFault, PieceReader, the_pieces_are_refused_for_the_first_fault_of_the_blocks,
 };
+use pkg_core::the_pieces_of_each_file_joined_are_its_contents;
 use pkg_pieces::{Contents, Front};
 use std::alloc::Global;
 

@@ -4,7 +4,7 @@
 ghost use Rattle.std.specs.Option.{ForSome};
 ghost use Rattle.std.specs.Prelude.{◌≡◌, ◌<◌, ◌≤◌, Some};
 ghost use Rattle.piece_reader.specs.Opened.{open_end};
-ghost use Rattle.piece_core.specs.Taking.{file_bytes_left};
+ghost use Rattle.pkg_core.specs.Taking.{file_bytes_left};
 
 use crate::open::{OpenFile, open_at};
 use crate::piece::{Piece, PieceFault};

@@ -4,3 +4,8 @@ pub mod Steps
 pub mod Digests
 pub mod Given
 pub mod First
+pub mod Joined
+pub mod Taken
+pub mod Opened
+pub mod BlockRuns
+pub mod Placed

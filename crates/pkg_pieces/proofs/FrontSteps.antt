@@ -18,7 +18,7 @@ use Rattle.pkg_pieces.specs.Front.{behind_first, front_block_fault, front_fault,
 use Rattle.pkg_pieces.specs.Seen.{HasAt}
 use Rattle.adb_block.specs.declared.block.Frame.{Frame}
 use Rattle.adb_block.proofs.Runs.{reading_failed, reading_more}
-use Rattle.piece_core.proofs.BlockRuns.{reading_cut}
+use Rattle.pkg_core.proofs.BlockRuns.{reading_cut}
 use Rattle.pkg_pieces.proofs.Heads.{eq_false}
 use Rattle.pkg_pieces.proofs.SeenBytes.{drop_further}
 

@@ -9,7 +9,7 @@ use Rattle.pkg_core.specs.Contents.{Expected, expected_contents, expected_folder
 use Rattle.pkg_core.specs.Opened.{left_in}
 use Rattle.pkg_pieces.specs.Front.{front_end}
 use Rattle.pkg_pieces.specs.Values.{value_of_contents}
-use Rattle.piece_core.specs.Pieces.{pieces_by_blocks}
+use Rattle.pkg_core.specs.Pieces.{pieces_by_blocks}
 use Rattle.piece_reader.proofs.Readings.{any_schema, in_front}
 use Rattle.piece_reader.proofs.reader.PieceReader.new.Goals as goal
 

@@ -1,6 +1,6 @@
 -- What was seen of the file's block, and then of the piece.
 use Rattle.std.proofs.Common.{◌≡◌, ◌≤◌, ◌+◌, ℕ, subst, length, arith}
-use Rattle.piece_core.specs.Taking.{file_bytes_left}
+use Rattle.pkg_core.specs.Taking.{file_bytes_left}
 use Rattle.pkg_pieces.specs.Seen.{HasAt}
 use Rattle.piece_reader.specs.Readers.{offset_of, package_len}
 use Rattle.piece_reader.specs.declared.piece.PieceFault.TheVariants.{Disk as DiskFault}

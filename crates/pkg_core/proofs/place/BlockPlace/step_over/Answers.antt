@@ -1,9 +1,9 @@
 -- The block holds no contents.
 use Rattle.std.proofs.Common.{ap, sym, ◌∙◌}
-use Rattle.piece_core.specs.Places.{pieces_at}
-use Rattle.piece_core.specs.declared.place.BlockPlace.{BlockPlace}
-use Rattle.piece_core.proofs.Placed.{other_kind, passed}
-use Rattle.piece_core.proofs.place.BlockPlace.step_over.Goals as goal
+use Rattle.pkg_core.specs.Places.{pieces_at}
+use Rattle.pkg_core.specs.declared.place.BlockPlace.{BlockPlace}
+use Rattle.pkg_core.proofs.Placed.{other_kind, passed}
+use Rattle.pkg_core.proofs.place.BlockPlace.step_over.Goals as goal
 
 pub returns-in-Adb-clause-step : goal.returns-in-Adb-clause-step
 returns-in-Adb-clause-step c = λ file long step positions.

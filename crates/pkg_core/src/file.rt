@@ -7,14 +7,14 @@ ghost use Rattle.std.specs.Prelude.{◌≡◌, ◌<◌, ◌≤◌, ◌+◌, ◌-
 ghost use Rattle.adb_schema.specs.Soundness.{file_pair};
 ghost use Rattle.pkg_core.specs.Contents.{Expected, POSITIONS_LEN, contents_bytes, files_by_blocks};
 ghost use Rattle.pkg_core.specs.Opened.{expected_of, left_in};
-ghost use Rattle.piece_core.specs.Pieces.{PiecesRead, part_of, pieces_of_payload, position_or_size_fault, files_joined, pieces_by_blocks};
-ghost use Rattle.piece_core.specs.Taking.{HasTaken, IsOpened, IsPartOf, IsTaken, IsTested, file_bytes_left, next_len};
+ghost use Rattle.pkg_core.specs.Pieces.{PiecesRead, part_of, pieces_of_payload, position_or_size_fault, files_joined, pieces_by_blocks};
+ghost use Rattle.pkg_core.specs.Taking.{HasTaken, IsOpened, IsPartOf, IsTaken, IsTested, file_bytes_left, next_len};
 ghost use Rattle.adb_block.specs.Reading.{Reading};
 
 use crate::hasher::Hasher;
+use crate::walk::{POSITIONS_LEN, Walk, Wanted};
 use adb_schema::file_pair;
 use base_core::Cause;
-use pkg_core::{POSITIONS_LEN, Walk, Wanted};
 
 /// The check of a file whose contents are handed in: which one is due, and how many of its bytes
 /// were taken. Contracts see, by `Taking` of `specs/`, which bytes these were.

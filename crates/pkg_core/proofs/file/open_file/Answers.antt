@@ -3,9 +3,9 @@ use Rattle.std.proofs.Common.{ap, sym, ◌∙◌}
 use Rattle.pkg_core.specs.Contents.{contents_bytes}
 use Rattle.pkg_core.specs.Opened.{expected_of, left_in}
 use Rattle.pkg_core.specs.declared.walk.Wanted.{Wanted}
-use Rattle.piece_core.specs.Pieces.{pieces_of_bytes}
-use Rattle.piece_core.proofs.Opened.{contents_len, opened_bad, opened_good, pair_alike, size_same}
-use Rattle.piece_core.proofs.file.open_file.Goals as goal
+use Rattle.pkg_core.specs.Pieces.{pieces_of_bytes}
+use Rattle.pkg_core.proofs.Opened.{contents_len, opened_bad, opened_good, pair_alike, size_same}
+use Rattle.pkg_core.proofs.file.open_file.Goals as goal
 
 pub returns-in-Some-position_or_size_fault-clause-opened : goal.returns-in-Some-position_or_size_fault-clause-opened
 returns-in-Some-position_or_size_fault-clause-opened c = λ payload further long begins.

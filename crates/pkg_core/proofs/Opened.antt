@@ -6,7 +6,7 @@ use Rattle.std.proofs.lemmas.List.{take-take, drop-take, length-drop}
 use Rattle.base_core.specs.declared.cause.Cause.{Cause}
 use Rattle.adb_schema.specs.Soundness.{file_pair}
 use Rattle.pkg_core.specs.Contents.{Expected, contents_bytes}
-use Rattle.piece_core.specs.Pieces.{PiecesRead, refusal, pieces_of_bytes, pieces_of_payload, position_or_size_fault, unless_refusal}
+use Rattle.pkg_core.specs.Pieces.{PiecesRead, refusal, pieces_of_bytes, pieces_of_payload, position_or_size_fault, unless_refusal}
 
 pub pair_alike : (payload pair : List ℕ) → take 8 payload ≡ pair → file_pair payload ≡ file_pair pair
 pair_alike payload pair begins =

@@ -3,10 +3,10 @@ use Rattle.std.proofs.Common.{◌≡◌, ℕ, ◌+◌, ◌-◌, ◌<◌, min, Li
 use Rattle.std.proofs.lemmas.List.{length-append}
 use Rattle.pkg_core.specs.Contents.{hash_fault}
 use Rattle.pkg_core.specs.Opened.{expected_of}
-use Rattle.piece_core.specs.Pieces.{piece, pieces_from, whole_pieces}
-use Rattle.piece_core.specs.declared.file.Part.{Part}
-use Rattle.piece_core.proofs.Taken.{more_left}
-use Rattle.piece_core.proofs.file.FileCheck.take.Goals as goal
+use Rattle.pkg_core.specs.Pieces.{piece, pieces_from, whole_pieces}
+use Rattle.pkg_core.specs.declared.file.Part.{Part}
+use Rattle.pkg_core.proofs.Taken.{more_left}
+use Rattle.pkg_core.proofs.file.FileCheck.take.Goals as goal
 
 pub returns-then-len-left-clause-taken : goal.returns-then-len-left-clause-taken
 returns-then-len-left-clause-taken c = λ so_far left further taken long.

@@ -13,11 +13,11 @@ use Rattle.adb_block.specs.declared.block.Frame.{Frame}
 use Rattle.pkg_core.specs.Contents.{POSITIONS_LEN, contents_bytes}
 use Rattle.pkg_core.specs.Opened.{expected_of, left_in}
 use Rattle.pkg_core.specs.declared.walk.Walk.{Walk}
-use Rattle.piece_core.specs.Pieces.{PiecesRead, no_piece, refusal, pieces_by_blocks}
-use Rattle.piece_core.specs.Taking.{HasTaken, file_bytes_left, pieces_in}
-use Rattle.piece_core.specs.declared.place.BlockPlace.{BlockPlace}
-use Rattle.piece_core.specs.declared.place.Step.{Step}
-use Rattle.piece_core.specs.declared.place.Step.TheVariants.{End, Passed, Opened}
+use Rattle.pkg_core.specs.Pieces.{PiecesRead, no_piece, refusal, pieces_by_blocks}
+use Rattle.pkg_core.specs.Taking.{HasTaken, file_bytes_left, pieces_in}
+use Rattle.pkg_core.specs.declared.place.BlockPlace.{BlockPlace}
+use Rattle.pkg_core.specs.declared.place.Step.{Step}
+use Rattle.pkg_core.specs.declared.place.Step.TheVariants.{End, Passed, Opened}
 
 -- ---- of a file
 

@@ -1,11 +1,11 @@
 -- The block holds contents.
 use Rattle.std.proofs.Common.{◌≤◌, [], ap, sym, ◌∙◌, arith}
-use Rattle.piece_core.specs.Places.{payload_at, pieces_at}
-use Rattle.piece_core.specs.Taking.{pieces_in}
-use Rattle.piece_core.specs.declared.place.BlockPlace.{BlockPlace}
+use Rattle.pkg_core.specs.Places.{payload_at, pieces_at}
+use Rattle.pkg_core.specs.Taking.{pieces_in}
+use Rattle.pkg_core.specs.declared.place.BlockPlace.{BlockPlace}
 use Rattle.pkg_core.specs.Contents.{contents_bytes}
-use Rattle.piece_core.proofs.Placed.{further, opened, payload_len, too_short}
-use Rattle.piece_core.proofs.place.BlockPlace.open.Goals as goal
+use Rattle.pkg_core.proofs.Placed.{further, opened, payload_len, too_short}
+use Rattle.pkg_core.proofs.place.BlockPlace.open.Goals as goal
 
 pub returns-then-frame-clause-step : goal.returns-then-frame-clause-step
 returns-then-frame-clause-step c = λ file long step positions. too_short c.args.self.now c.args.frame file long c.requires.fits step c.requires.kind c.if-frame.true

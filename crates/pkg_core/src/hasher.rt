@@ -3,10 +3,10 @@
 
 ghost use Rattle.std.specs.Prelude.{◌≡◌, ℕ, List, [], ◌++◌};
 ghost use Rattle.pkg_core.specs.Contents.{hash_fault};
-ghost use Rattle.piece_core.specs.Hashing.{HoldsFor};
+ghost use Rattle.pkg_core.specs.Hashing.{HoldsFor};
 
+use crate::checks::{sha1_fault, sha256_fault, sha512_fault};
 use base_core::Cause;
-use pkg_core::{sha1_fault, sha256_fault, sha512_fault};
 use sha1::Sha1;
 use sha2::{Digest, Sha256, Sha512};
 

@@ -5,13 +5,13 @@ ghost use Rattle.std.specs.Prelude.{◌≡◌, ◌≤◌, ◌+◌, ◌-◌, ℕ,
 ghost use Rattle.adb_block.specs.Framing.{ended};
 ghost use Rattle.adb_block.specs.Frames.{IsFramed, raw_size};
 ghost use Rattle.adb_block.specs.declared.block.BlockKind.TheVariants as Kinds;
-ghost use Rattle.piece_core.specs.Places.{HasAllLeft, HasPositions, IsOfContents, IsStepped, WalksOn, place_behind, step_at, whole_size};
-ghost use Rattle.piece_core.specs.declared.place.Step.TheVariants.{End as Ended};
+ghost use Rattle.pkg_core.specs.Places.{HasAllLeft, HasPositions, IsOfContents, IsStepped, WalksOn, place_behind, step_at, whole_size};
+ghost use Rattle.pkg_core.specs.declared.place.Step.TheVariants.{End as Ended};
 
 use crate::file::{FileCheck, open_file};
+use crate::walk::{POSITIONS_LEN, Walk};
 use adb_block::{BlockKind, Frame, padding_of};
 use base_core::Cause;
-use pkg_core::{POSITIONS_LEN, Walk};
 
 /// Where a reader stands in the blocks of a package behind the first one: in a file of `len` bytes,
 /// behind a block of the kind `last`, at the offset of the next block; and the walk over the files

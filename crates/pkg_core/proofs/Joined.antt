@@ -8,7 +8,7 @@ use Rattle.adb_block.specs.declared.block.BlockKind.{BlockKind}
 use Rattle.adb_block.specs.declared.block.BlockKind.TheVariants as Kinds
 use Rattle.adb_schema.specs.Soundness.{file_pair}
 use Rattle.pkg_core.specs.Contents.{Expected, FilesRead, contents_bytes, files_at_block, files_by_blocks, given, has_positions_of, hash_fault, unless_fault}
-use Rattle.piece_core.specs.Pieces.{PiecesRead, files_joined, pieces_at_block, pieces_by_blocks, pieces_from, unless_refusal, whole_pieces}
+use Rattle.pkg_core.specs.Pieces.{PiecesRead, files_joined, pieces_at_block, pieces_by_blocks, pieces_from, unless_refusal, whole_pieces}
 
 -- ---- one file
 

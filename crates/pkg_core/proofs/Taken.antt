@@ -3,7 +3,7 @@ use Rattle.std.proofs.Common.{◌≡◌, ℕ, suc, ◌-◌, ◌<◌, ◌≤◌, 
 use Rattle.std.proofs.lemmas.List.{length-append, take_at, drop_at, nil_from_length}
 use Rattle.base_core.specs.declared.cause.Cause.{Cause}
 use Rattle.pkg_core.specs.Contents.{Expected, hash_fault}
-use Rattle.piece_core.specs.Pieces.{PiecesRead, refusal, piece, last_piece, part_of, pieces_from, whole_pieces}
+use Rattle.pkg_core.specs.Pieces.{PiecesRead, refusal, piece, last_piece, part_of, pieces_from, whole_pieces}
 
 -- ---- how many pieces
 

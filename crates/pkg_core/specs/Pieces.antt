@@ -9,8 +9,8 @@ use Rattle.adb_block.specs.declared.block.BlockKind.{BlockKind}
 use Rattle.adb_block.specs.declared.block.BlockKind.TheVariants as Kinds
 use Rattle.adb_schema.specs.Soundness.{file_pair}
 use Rattle.pkg_core.specs.Contents.{Expected, FilesRead, POSITIONS_LEN, no_more, refused, given, contents_bytes, has_positions_of, hash_fault, missing_fault}
-use Rattle.piece_core.specs.declared.file.Part.{Part}
-use Rattle.piece_core.specs.declared.file.TheConstants.{PIECE_LEN}
+use Rattle.pkg_core.specs.declared.file.Part.{Part}
+use Rattle.pkg_core.specs.declared.file.TheConstants.{PIECE_LEN}
 
 -- pieces one after the other, each with the file that it is a part of, up to the end or to the
 -- first failed test

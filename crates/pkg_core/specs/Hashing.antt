@@ -5,8 +5,8 @@ use Rattle.std.specs.Prelude.{◌≡◌, ℕ, List, length, None}
 use Rattle.sha1.specs.Sha1.{Holds}
 use Rattle.sha2.specs.Hashers.{Holds256, Holds512}
 use Rattle.pkg_core.specs.Contents.{hash_fault}
-use Rattle.piece_core.specs.declared.hasher.Hasher.{Hasher}
-use Rattle.piece_core.specs.declared.hasher.Hasher.TheVariants as Hashers
+use Rattle.pkg_core.specs.declared.hasher.Hasher.{Hasher}
+use Rattle.pkg_core.specs.declared.hasher.Hasher.TheVariants as Hashers
 
 -- a hasher holds this message, to be compared with this digest: it is of the function that the digest's
 -- length tells; of another length no bytes have a fault

@@ -13,11 +13,11 @@ use Rattle.adb_block.specs.declared.block.BlockKind.TheVariants as Kinds
 use Rattle.adb_block.specs.declared.block.Frame.{Frame}
 use Rattle.pkg_core.specs.Contents.{Expected, missing_fault}
 use Rattle.pkg_core.specs.Opened.{left_in}
-use Rattle.piece_core.specs.Pieces.{PiecesRead, no_piece, refusal, pieces_at_block, pieces_by_blocks, pieces_of_payload, unless_refusal}
-use Rattle.piece_core.specs.Places.{payload_at, pieces_at, place_behind, standing_at_place, step_at, whole_size}
-use Rattle.piece_core.specs.declared.place.BlockPlace.{BlockPlace}
+use Rattle.pkg_core.specs.Pieces.{PiecesRead, no_piece, refusal, pieces_at_block, pieces_by_blocks, pieces_of_payload, unless_refusal}
+use Rattle.pkg_core.specs.Places.{payload_at, pieces_at, place_behind, standing_at_place, step_at, whole_size}
+use Rattle.pkg_core.specs.declared.place.BlockPlace.{BlockPlace}
 use Rattle.adb_block.proofs.Runs.{reading_ended, reading_more}
-use Rattle.piece_core.proofs.BlockRuns.{reading_cut}
+use Rattle.pkg_core.proofs.BlockRuns.{reading_cut}
 
 -- ---- no block
 

@@ -5,11 +5,11 @@ use Rattle.std.specs.Prelude.{◌≡◌, ℕ, ◌-◌, min, true, false, List, [
 use Rattle.base_core.specs.declared.cause.Cause.{Cause}
 use Rattle.pkg_core.specs.Contents.{contents_bytes, hash_fault}
 use Rattle.pkg_core.specs.Opened.{expected_of}
-use Rattle.piece_core.specs.Hashing.{HoldsFor}
-use Rattle.piece_core.specs.Pieces.{PiecesRead, piece, refusal, part_of, pieces_from, whole_pieces}
-use Rattle.piece_core.specs.declared.file.FileCheck.{FileCheck}
-use Rattle.piece_core.specs.declared.file.Part.{Part}
-use Rattle.piece_core.specs.declared.file.TheConstants.{PIECE_LEN}
+use Rattle.pkg_core.specs.Hashing.{HoldsFor}
+use Rattle.pkg_core.specs.Pieces.{PiecesRead, piece, refusal, part_of, pieces_from, whole_pieces}
+use Rattle.pkg_core.specs.declared.file.FileCheck.{FileCheck}
+use Rattle.pkg_core.specs.declared.file.Part.{Part}
+use Rattle.pkg_core.specs.declared.file.TheConstants.{PIECE_LEN}
 
 -- how many bytes of a file are still to be handed in
 abbrev pub file_bytes_left : FileCheck → ℕ
