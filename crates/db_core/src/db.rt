@@ -30,7 +30,7 @@ use adb_schema::{
 };
 use adb_view::{Adb, values_of_few_visits_have_no_fault};
 use base_core::Name;
-use pkg_pieces::{bytes_are_small, tested_payloads_hold_sound_values};
+use pkg_core::{bytes_are_small, tested_payloads_hold_sound_values};
 use std::alloc::{AllocError, Global};
 
 /// The packages of an installed database, in its order. All is lent from the file's bytes; the

@@ -15,7 +15,7 @@ ghost use Rattle.std.specs.List.Sorted.{IsPartitionPoint};
 ghost use Rattle.db_core.specs.Packages.{comes_or_lists_no_reserved, lists_names};
 ghost use Rattle.db_core.specs.SoundMembers.{AreOfSoundContainers};
 ghost use Rattle.db_core.specs.declared.members.TheConstants.{MOST_MEMBERS};
-ghost use Rattle.pkg_pieces.specs.Values.{payload_of_contents, value_of_contents};
+ghost use Rattle.pkg_core.specs.Values.{payload_of_contents, value_of_contents};
 ghost use Rattle.sha2.specs.Sha256.{sha256};
 ghost use Rattle.std.specs.List.{list_all};
 ghost use Rattle.std.specs.Prelude.{◌≡◌, ◌<◌, ◌≤◌, ◌++◌, ◌∷◌, [], true, false, ◌==◌, ℕ, All, Some, None, IfSome, bytes_eq, length, map, slice_get, IfOk, OnOk, OnErr, List};
@@ -23,7 +23,7 @@ ghost use Rattle.db_core.specs.ListedAt.{IsListedAt};
 
 use crate::db::{Db, package_of_database};
 use adb_schema::PackageView;
-use pkg_pieces::Contents;
+use pkg_core::Contents;
 use std::alloc::{AllocError, Global};
 use std::marker::Model;
 

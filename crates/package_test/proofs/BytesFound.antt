@@ -16,7 +16,7 @@ use Rattle.pkg_core.specs.GoodContents.{AreContentsOf, IsContentsOf}
 use Rattle.pkg_core.specs.Opened.{expected_with_positions, has_positions}
 use Rattle.pkg_core.specs.Whole.{behind_fault, files_behind, files_by_header, files_in_file, package_fault, whole_fault}
 use Rattle.pkg_core.proofs.Given.{files_right}
-use Rattle.pkg_pieces.specs.Seen.{HasAt}
+use Rattle.pkg_core.specs.Seen.{HasAt}
 use Rattle.package_test.specs.Places.{AreAtPlaces, AreInFileOrder, is_place_of, offset_of_file}
 use Rattle.package_test.specs.declared.places.FilePlace.{FilePlace}
 use Rattle.package_test.proofs.FileOrder.{expected_in_order, placed_in_order}

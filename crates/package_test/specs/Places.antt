@@ -8,9 +8,9 @@ use Rattle.adb_view.specs.declared.tables.Which.TheVariants.{Package}
 use Rattle.pkg_core.specs.declared.file.Part.{Part}
 use Rattle.pkg_core.specs.Contents.{Contents, FilesRead, contents_in, fault_in}
 use Rattle.pkg_core.specs.Whole.{files_in_file, package_fault}
-use Rattle.pkg_pieces.specs.Front.{front_payload}
-use Rattle.pkg_pieces.specs.Seen.{HasAt}
-use Rattle.pkg_pieces.specs.declared.front.Front.{Front}
+use Rattle.pkg_core.specs.Front.{front_payload}
+use Rattle.pkg_core.specs.Seen.{HasAt}
+use Rattle.pkg_core.specs.declared.front.Front.{Front}
 use Rattle.package_test.specs.declared.files.FilesTest.{FilesTest}
 use Rattle.package_test.specs.declared.files.FilesTest.TheVariants.{Bad, Sound}
 use Rattle.package_test.specs.declared.places.FilePlace.{FilePlace}

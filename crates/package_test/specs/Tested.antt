@@ -8,7 +8,7 @@ use Rattle.adb_schema.specs.Soundness.{payload_in, root_value}
 use Rattle.adb_view.specs.declared.tables.Which.TheVariants.{Package}
 use Rattle.pkg_core.specs.Contents.{contents_in}
 use Rattle.pkg_core.specs.Whole.{files_in_file, package_fault, package_id}
-use Rattle.pkg_pieces.specs.Front.{front_file_len, front_payload}
+use Rattle.pkg_core.specs.Front.{front_file_len, front_payload}
 use Rattle.package_test.specs.Places.{AreAtPlaces}
 use Rattle.package_test.specs.declared.package.TestedPackage.{TestedPackage}
 use Rattle.package_test.specs.declared.read.PackageRead.{PackageRead}

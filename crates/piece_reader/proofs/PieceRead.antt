@@ -2,8 +2,8 @@
 use Rattle.std.proofs.Common.{◌≡◌, ℕ, ◌+◌, ◌-◌, ◌≤◌, List, ◌++◌, length, take, drop, Option, Some, Result, Ok, Err, ap, sym, ◌∙◌, arith}
 use Rattle.std.specs.Prelude.{IsErrAnd}
 use Rattle.std.proofs.lemmas.List.{length-append}
-use Rattle.pkg_pieces.specs.Seen.{HasAt}
-use Rattle.pkg_pieces.proofs.SeenBytes.{drop_further, take_more}
+use Rattle.pkg_core.specs.Seen.{HasAt}
+use Rattle.pkg_core.proofs.SeenBytes.{drop_further, take_more}
 use Rattle.pkg_core.specs.Pieces.{PiecesRead}
 use Rattle.pkg_core.specs.Taking.{IsTaken, file_bytes_left, pieces_in}
 use Rattle.pkg_core.specs.declared.file.FileCheck.{FileCheck}

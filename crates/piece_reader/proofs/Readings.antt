@@ -5,7 +5,7 @@ use Rattle.std.proofs.lemmas.Bool.{false≢true}
 use Rattle.base_core.specs.declared.cause.Cause.{Cause}
 use Rattle.base_core.specs.Faults.{Counts}
 use Rattle.base_core.specs.Tree.{TreeState}
-use Rattle.pkg_pieces.specs.Seen.{HasAt, IsSeen, IsSeenIn, ReadsFile}
+use Rattle.pkg_core.specs.Seen.{HasAt, IsSeen, IsSeenIn, ReadsFile}
 use Rattle.adb_block.specs.Reading.{reading_of}
 use Rattle.adb_block.specs.declared.block.BlockKind.{BlockKind}
 use Rattle.pkg_core.specs.Contents.{Expected}

@@ -4,7 +4,7 @@
 
 ghost use Rattle.std.specs.Prelude.{◌≡◌, ◌≤◌, ◌<◌, ◌+◌, ◌-◌, ◌^◌, ℕ, List, length, IfErr, IfOk, IfSome, OnOk};
 ghost use Rattle.adb_block.specs.Frames.{raw_size};
-ghost use Rattle.pkg_pieces.specs.Seen.{HasAt, IsSeen, IsSeenIn, ReadsFile};
+ghost use Rattle.pkg_core.specs.Seen.{HasAt, IsSeen, IsSeenIn, ReadsFile};
 ghost use Rattle.piece_reader.specs.Blocks.{EndsBefore, GoesFurther, GoesOnWith, IsBlockRead, IsInBlock, IsNextBlock, SeesPositions, head_size};
 ghost use Rattle.piece_reader.specs.declared.piece.PieceFault.TheVariants.{Disk as DiskFault};
 ghost use Rattle.pkg_core.specs.Taking.{file_bytes_left};
@@ -15,8 +15,7 @@ use crate::open::OpenFile;
 use crate::piece::PieceFault;
 use adb_block::{Frame, frame_of};
 use base_core::{Name, Tree};
-use pkg_core::{BlockPlace, FileCheck, POSITIONS_LEN, Step};
-use pkg_pieces::HeadBytes;
+use pkg_core::{BlockPlace, FileCheck, HeadBytes, POSITIONS_LEN, Step};
 
 /// What was read of a block: what its header frames, and the first eight bytes of its payload,
 /// where it has as many.
@@ -126,7 +125,7 @@ pub(crate) fn read_block<T: Tree>(
 }
 
 /// Reads the first eight bytes of the payload of a block at an offset, where it has as many.
-#[tactic(auto, using(pkg_pieces::proofs::SeenBytes::seen_by_read, pkg_pieces::proofs::SeenBytes::proper_where_long))]
+#[tactic(auto, using(pkg_core::proofs::SeenBytes::seen_by_read, pkg_core::proofs::SeenBytes::proper_where_long))]
 fn read_positions<T: Tree>(
     tree: &mut T,
     name: &Name,

@@ -7,7 +7,7 @@ ghost use Rattle.pkg_core.specs.Pieces.{PiecesRead};
 ghost use Rattle.pkg_core.specs.Taking.{HasTaken, file_bytes_left, next_len};
 ghost use Rattle.pkg_core.specs.Contents.{hash_fault};
 ghost use Rattle.pkg_core.specs.Opened.{expected_of};
-ghost use Rattle.pkg_pieces.specs.Seen.{HasAt, IsSeen, ReadsFile};
+ghost use Rattle.pkg_core.specs.Seen.{HasAt, IsSeen, ReadsFile};
 ghost use Rattle.piece_reader.specs.Opened.{AreLeftOf, AreTestedSoFar, IsNextPiece, IsOpenFile, IsPieceOf, NotDisk, place_fault};
 ghost use Rattle.piece_reader.specs.declared.piece.PieceFault.TheVariants.{Disk as DiskFault};
 

@@ -2,7 +2,7 @@
 //! The rules stand in `docs/formats.md`, "The other blocks", the paragraph of pieces.
 
 ghost use Rattle.std.specs.Prelude.{◌≡◌, ◌≤◌, ◌+◌, ℕ, [], length, IfErr, OnOk};
-ghost use Rattle.pkg_pieces.specs.Seen.{IsSeen, ReadsFile};
+ghost use Rattle.pkg_core.specs.Seen.{IsSeen, ReadsFile};
 ghost use Rattle.pkg_core.specs.declared.file.TheConstants.{PIECE_LEN};
 ghost use Rattle.piece_reader.specs.declared.piece.PieceFault.TheVariants.{Disk as DiskFault};
 
@@ -52,7 +52,7 @@ impl Piece {
 
     /// Reads so many bytes of a file, from an offset on, into the piece. After an error the piece
     /// holds some bytes.
-    #[tactic(auto, using(pkg_pieces::proofs::SeenBytes::seen_by_read, pkg_pieces::proofs::SeenBytes::proper_where_long))]
+    #[tactic(auto, using(pkg_core::proofs::SeenBytes::seen_by_read, pkg_core::proofs::SeenBytes::proper_where_long))]
     pub(crate) fn read<T: Tree>(
         &mut self,
         tree: &mut T,

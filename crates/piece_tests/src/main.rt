@@ -1,4 +1,4 @@
-//! Answers questions to `pkg_core`, `pkg_pieces`, `piece_reader` and `package_test`: a file's
+//! Answers questions to `pkg_core`, `piece_reader` and `package_test`: a file's
 //! contents piece by piece, the front of a block against the next file, the front of a package, and
 //! the pieces of a package's files in a tree. Its stored run has all rows; `tests/lines.md`
 //! describes their form. The README of this crate has a row for each question.

@@ -9,3 +9,10 @@ pub mod Taken
 pub mod Opened
 pub mod BlockRuns
 pub mod Placed
+pub mod Heads
+pub mod SeenBytes
+pub mod HeaderFront
+pub mod FrontSteps
+pub mod FrontSeen
+pub mod WholeReads
+pub mod WholeTests

@@ -12,3 +12,6 @@ pub mod Pieces
 pub mod Hashing
 pub mod Taking
 pub mod Places
+pub mod Front
+pub mod Seen
+pub mod Values
