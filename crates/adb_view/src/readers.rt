@@ -19,7 +19,7 @@ use crate::words::Val;
 
 /// Whether nothing stands below the word and it can be read: NULL, or an integer, a text or a hash,
 /// as the kind asks. Most words of a payload are such, and none of them needs a call of its own.
-#[tactic(auto, unfolding(adb_view::specs::Readers::int_of, adb_view::specs::Readers::blob_of))]
+#[tactic(auto, unfolding(crate::specs::Readers::int_of, crate::specs::Readers::blob_of))]
 #[inline(always)]
 pub(crate) fn is_sound_leaf(adb: Adb<'_>, kind: Kind, word: Val) -> bool
     ensures { result ≡ is_sound_leaf (payload_of adb.entry) kind word }

@@ -27,8 +27,8 @@ use Rattle.change_outcome.specs.MembersAfter.{MemberFound, contents_found}
 use Rattle.db_core.specs.Members.{Listing, Member, member_listings}
 use Rattle.file_guard.specs.AsListed.{has_target, link_bytes, link_to}
 use Rattle.base_core.proofs.Sorting.{Each}
-use Rattle.file_fates.specs.ClaimEntries.{folders_if_any, listed_file_at}
-use Rattle.file_fates.proofs.Listings.{IsPlaced, each_placed}
+use Rattle.own_core.specs.ClaimEntries.{folders_if_any, listed_file_at}
+use Rattle.own_core.proofs.Listings.{IsPlaced, each_placed}
 use Rattle.package_test.specs.Tested.{tested_name}
 use Rattle.package_test.specs.declared.package.TestedPackage.{TestedPackage}
 use Rattle.pkg_core.specs.Contents.{Contents, bytes_of_file}

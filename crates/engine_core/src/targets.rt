@@ -8,7 +8,7 @@ ghost use Rattle.adb_view.specs.Values.{count_of, entries_in, entry_in};
 ghost use Rattle.db_core.specs.Seen.{members_of};
 ghost use Rattle.engine_core.specs.Writing.{entry_of_write};
 ghost use Rattle.file_guard.specs.AsListed.{file_target};
-ghost use Rattle.file_fates.specs.ClaimEntries.{HasFileAt, listed_file_at};
+ghost use Rattle.own_core.specs.ClaimEntries.{HasFileAt, listed_file_at};
 ghost use Rattle.own_core.specs.Planned.{IsOfComingFile};
 ghost use Rattle.own_core.specs.WritesSeen.{write_seen};
 ghost use Rattle.std.specs.Prelude.{◌≡◌, ◌<◌, ◌≤◌, ◌-◌};

@@ -20,10 +20,10 @@ use Rattle.change_files.specs.FilesAfter.{if_aside, if_in, is_changed, is_kept, 
 use Rattle.std.specs.Option.{option_or}
 use Rattle.change_files.specs.NamesAfter.{coming_paths}
 use Rattle.change_files.specs.PlanLists.{aside_of, kept_of, old_paths, removals_of}
-use Rattle.file_fates.specs.ClaimEntries.{claim_entry, is_of_coming_owner}
-use Rattle.file_fates.specs.Fates.{claim_fate, is_fate, is_flag}
-use Rattle.file_fates.specs.Going.{does_stay, is_beside, is_left}
-use Rattle.file_fates.proofs.Listings.{GoTogether, IsClaimFor, coming_is, coming_placed, entry_of, old_entry_is, same_found}
+use Rattle.own_core.specs.ClaimEntries.{claim_entry, is_of_coming_owner}
+use Rattle.own_core.specs.Fates.{claim_fate, is_fate, is_flag}
+use Rattle.own_core.specs.Going.{does_stay, is_beside, is_left}
+use Rattle.own_core.proofs.Listings.{GoTogether, IsClaimFor, coming_is, coming_placed, entry_of, old_entry_is, same_found}
 use Rattle.own_core.proofs.NamesOnce.{found_kept, keep_if, kept_rises, same_names}
 
 -- ---- what a path of the program's claims is

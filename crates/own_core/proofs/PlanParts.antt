@@ -27,20 +27,20 @@ use Rattle.file_owners.specs.Owners.{claims_in}
 use Rattle.change_files.specs.Fate.{aside_name}
 use Rattle.change_files.specs.FilesAfter.{database_name, world_name}
 use Rattle.change_files.specs.NamesAfter.{name_change}
-use Rattle.file_fates.specs.ClaimEntries.{AreClaimsOf, comes_at, is_of_coming_owner}
-use Rattle.file_fates.specs.Fates.{claim_fate}
-use Rattle.file_fates.specs.Going.{does_stay}
-use Rattle.file_fates.specs.Parts.{AreParts, asides_of, kept_of_parts, left_claims_by}
+use Rattle.own_core.specs.ClaimEntries.{AreClaimsOf, comes_at, is_of_coming_owner}
+use Rattle.own_core.specs.Fates.{claim_fate}
+use Rattle.own_core.specs.Going.{does_stay}
+use Rattle.own_core.specs.Parts.{AreParts, asides_of, kept_of_parts, left_claims_by}
 use Rattle.own_core.specs.NamesChanged.{is_let_go_by, names_changed_by, names_written_by}
-use Rattle.file_fates.specs.Sides.{HasClaims, claims_after, claims_before, file_change_of}
+use Rattle.own_core.specs.Sides.{HasClaims, claims_after, claims_before, file_change_of}
 use Rattle.own_core.specs.WritesSeen.{HaveNamesBeside}
-use Rattle.file_fates.specs.declared.change.Change.{Change}
-use Rattle.file_fates.specs.declared.parts.Parts.{Parts}
-use Rattle.file_fates.proofs.Endings.{aside_is_name}
-use Rattle.file_fates.proofs.FoundFiles.{by_tree}
-use Rattle.file_fates.proofs.Listings.{are_claims, each_both}
+use Rattle.own_core.specs.declared.change.Change.{Change}
+use Rattle.own_core.specs.declared.parts.Parts.{Parts}
+use Rattle.own_core.proofs.Endings.{aside_is_name}
+use Rattle.own_core.proofs.FoundFiles.{by_tree}
+use Rattle.own_core.proofs.Listings.{are_claims, each_both}
 use Rattle.own_core.proofs.NameChanges.{all_written, same_names}
-use Rattle.file_fates.proofs.MarkedClaims.{files_kept, found_from}
+use Rattle.own_core.proofs.MarkedClaims.{files_kept, found_from}
 use Rattle.own_core.proofs.PartsMeaning.{each_at}
 use Rattle.own_core.proofs.WritesMeaning.{each_finds_itself}
 

@@ -24,10 +24,10 @@ use Rattle.path_claims.proofs.Places.{map_len, no_some, seen_at, value_or}
 use Rattle.claim_lists.proofs.Lists.{filter_swap, first_of, found_both, found_first, found_is, or_found, take_at, take_whole}
 use Rattle.file_owners.specs.Owners.{claim_by, claims_from, claims_in, contested_of, member_beats}
 use Rattle.change_files.specs.PlanLists.{first_reserved}
-use Rattle.file_fates.specs.ClaimEntries.{comes_at, comes_if_any, is_reserved_coming}
-use Rattle.file_fates.proofs.Listings.{IsPlaced, each_all, each_placed}
+use Rattle.own_core.specs.ClaimEntries.{comes_at, comes_if_any, is_reserved_coming}
+use Rattle.own_core.proofs.Listings.{IsPlaced, each_all, each_placed}
 use Rattle.own_core.proofs.NamesOnce.{in_sorted_names}
-use Rattle.file_fates.proofs.MarkedClaims.{found_from}
+use Rattle.own_core.proofs.MarkedClaims.{found_from}
 
 -- ---- what is kept of a sorted list is sorted
 

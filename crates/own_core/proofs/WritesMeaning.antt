@@ -26,11 +26,11 @@ use Rattle.change_files.specs.FilesAfter.{if_aside, if_in, laid_beside, path_bes
 use Rattle.std.specs.Option.{option_or}
 use Rattle.change_files.specs.NamesAfter.{coming_paths}
 use Rattle.change_files.specs.PlanLists.{FileWrite, file_writes_of, names_in_order, write_to}
-use Rattle.file_fates.specs.ClaimEntries.{claim_entry, is_of_coming_owner}
-use Rattle.file_fates.specs.Fates.{claim_fate, is_fate}
+use Rattle.own_core.specs.ClaimEntries.{claim_entry, is_of_coming_owner}
+use Rattle.own_core.specs.Fates.{claim_fate, is_fate}
 use Rattle.own_core.specs.WritesSeen.{aside_write, claim_write, write_by, write_cmp}
-use Rattle.file_fates.proofs.Endings.{found_front, front_of}
-use Rattle.file_fates.proofs.Listings.{GoTogether, IsClaimFor}
+use Rattle.own_core.proofs.Endings.{found_front, front_of}
+use Rattle.own_core.proofs.Listings.{GoTogether, IsClaimFor}
 use Rattle.own_core.proofs.Meaning.{in_coming_paths, in_is, is_there, laid_is, no_owner, same_fate, there_is, together, with_fate}
 use Rattle.own_core.proofs.NamesOnce.{in_sorted_names, kept_rises, not_below, same_names, sorted_names_in, is_less}
 

@@ -10,11 +10,11 @@ use Rattle.path_claims.specs.Claims.{is_of_path}
 use Rattle.change_files.specs.Fate.{aside_name}
 use Rattle.change_files.specs.FilesAfter.{database_name, world_name}
 use Rattle.path_clashes.specs.Clash.{NameChange}
-use Rattle.file_fates.specs.ClaimEntries.{comes_at}
-use Rattle.file_fates.specs.Parts.{asides_of, kept_of_parts}
-use Rattle.file_fates.specs.Sides.{claims_after, claims_before}
-use Rattle.file_fates.specs.declared.change.Change.{Change}
-use Rattle.file_fates.specs.declared.parts.Parts.{Parts}
+use Rattle.own_core.specs.ClaimEntries.{comes_at}
+use Rattle.own_core.specs.Parts.{asides_of, kept_of_parts}
+use Rattle.own_core.specs.Sides.{claims_after, claims_before}
+use Rattle.own_core.specs.declared.change.Change.{Change}
+use Rattle.own_core.specs.declared.parts.Parts.{Parts}
 
 -- the names that count as written: the database, the world, the paths that members which come list,
 -- and the names beside others

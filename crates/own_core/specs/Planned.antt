@@ -22,7 +22,7 @@ use Rattle.file_owners.specs.Owners.{contested_of, owned_of}
 use Rattle.change_files.specs.FileChange.{FileChange}
 use Rattle.change_files.specs.NamesAfter.{name_change}
 use Rattle.change_files.specs.PlanLists.{FileWrite, aside_of, file_writes_of, first_reserved, kept_of, removals_of}
-use Rattle.file_fates.specs.ClaimEntries.{HasFileAt}
+use Rattle.own_core.specs.ClaimEntries.{HasFileAt}
 use Rattle.own_core.specs.WritesSeen.{writes_in}
 use Rattle.own_core.specs.declared.fault.PlanFault.{PlanFault}
 use Rattle.own_core.specs.declared.fault.PlanFault.TheVariants.{Disk, Memory, Owned, PathClash, Reserved}

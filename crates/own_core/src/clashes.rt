@@ -15,14 +15,15 @@ ghost use Rattle.base_core.specs.ByteOrder.{bytes_cmp};
 ghost use Rattle.base_core.specs.Sorted.{sorted_by};
 ghost use Rattle.path_claims.specs.Claims.{claim_cmp, is_of_path};
 ghost use Rattle.path_claims.specs.Seen.{claim_seen};
-ghost use Rattle.file_fates.specs.ClaimEntries.{AreClaimsOf, comes_at};
+ghost use Rattle.own_core.specs.ClaimEntries.{AreClaimsOf, comes_at};
 ghost use Rattle.own_core.specs.WritesSeen.{HaveNamesBeside};
 
+use crate::coming::comes;
+use crate::guarded::name_beside;
 use adb_fields::FilePath;
 use base_core::Names;
 use claim_lists::{find_claim, name_of_path};
 use db_core::Members;
-use file_fates::{comes, name_beside};
 use path_claims::Claim;
 use path_clashes::LetGo;
 use root_names::{DATABASE_NAME, WORLD_NAME};

@@ -9,9 +9,9 @@ ghost use Rattle.path_claims.specs.Seen.{claim_seen};
 ghost use Rattle.claim_lists.specs.Named.{HaveNames};
 ghost use Rattle.own_core.specs.WritesSeen.{HaveNamesBeside, aside_write, claim_write, write_by, write_cmp, write_seen, writes_in};
 
+use crate::guarded::name_beside;
 use base_core::Name;
 use claim_lists::name_of_path;
-use file_fates::name_beside;
 use path_claims::Claim;
 use std::alloc::{AllocError, Global};
 

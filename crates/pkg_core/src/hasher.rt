@@ -27,7 +27,7 @@ pub enum Hasher {
 impl Hasher {
     /// A hasher whose digest is to be compared with this one, before the first byte. The lengths
     /// are those of SHA-1, SHA-256 and SHA-512.
-    #[tactic(auto, unfolding(pkg_core::specs::Contents::hash_fault))]
+    #[tactic(auto, unfolding(crate::specs::Contents::hash_fault))]
     pub fn new(hash: &[u8]) -> Hasher
         ensures { HoldsFor result hash.now [] }
     {
@@ -53,7 +53,7 @@ impl Hasher {
     }
 
     /// Why the bytes that were taken do not have the digest, if they do not.
-    #[tactic(auto, unfolding(pkg_core::specs::Contents::hash_fault))]
+    #[tactic(auto, unfolding(crate::specs::Contents::hash_fault))]
     pub fn fault(self, hash: &[u8]) -> Option<Cause>
         ensures { (so_far : List ℕ) → HoldsFor self hash.now so_far
             → result ≡ hash_fault hash.now so_far }

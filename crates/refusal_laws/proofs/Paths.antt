@@ -22,7 +22,7 @@ use Rattle.base_core.specs.ByteOrder.{bytes_cmp, precedes, smallest_text}
 use Rattle.base_core.specs.Sorted.{sorted_by}
 use Rattle.base_core.proofs.Smallest.{smallest_first}
 use Rattle.base_core.proofs.Sorting.{Each, Rises, ranks, rises_in_order}
-use Rattle.file_fates.proofs.Listings.{IsPlaced, each_placed}
+use Rattle.own_core.proofs.Listings.{IsPlaced, each_placed}
 use Rattle.own_core.proofs.NamesOnce.{in_sorted_names, not_below, sorted_names_in}
 use Rattle.path_claims.specs.Claims.{ContestedPath, claimants, contested_at, contested_by, contested_path, is_of_path, owner_by}
 use Rattle.path_claims.specs.Contest.{beats_each, first_rivals, rivals_of, winner}
