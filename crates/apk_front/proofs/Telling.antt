@@ -13,7 +13,7 @@ use Rattle.change_inputs.specs.declared.root.Refused.{Refused}
 use Rattle.change_inputs.specs.declared.root.Refused.TheVariants.{Disk, Memory, Refusal as IsRefused}
 use Rattle.command_core.specs.Command.{CommandLine}
 use Rattle.command_core.specs.declared.command.Applet.{Applet}
-use Rattle.command_core.specs.declared.command.Applet.TheVariants.{Mkpkg}
+use Rattle.command_core.specs.declared.command.Applet.TheVariants.{Audit, Info, List as ListApplet, Manifest, Mkpkg, Policy, Search}
 use Rattle.tell_core.specs.ToldBy.{told_by}
 use Rattle.installed_info.specs.declared.telling.InfoDone.{InfoDone}
 use Rattle.make_info.specs.Reads.{Reads}
@@ -148,3 +148,13 @@ report_memory answer (Err e) old now a b told tree none =
   where
     not_disk : (answer : Answered) → answer ≡ Err Memory → OnlyReads Disk old now a b answer → IsNoFault a b
     not_disk answer is tree = (subst (λ (r : Answered). OnlyReads Disk old now a b r) is tree).others (λ same. cc (same))
+
+-- ---- the applets
+
+pub tell_applet : (command : CommandLine) (applet : Applet) → applet ≡ command.applet → (applet ≡ Info) ⊎ ((applet ≡ Audit) ⊎ ((applet ≡ Manifest) ⊎ ((applet ≡ ListApplet) ⊎ ((applet ≡ Search) ⊎ (applet ≡ Policy))))) → effect_of command.applet ≡ Tells
+tell_applet command applet same (inl is) = ap effect_of (sym same ∙ is)
+tell_applet command applet same (inr (inl is)) = ap effect_of (sym same ∙ is)
+tell_applet command applet same (inr (inr (inl is))) = ap effect_of (sym same ∙ is)
+tell_applet command applet same (inr (inr (inr (inl is)))) = ap effect_of (sym same ∙ is)
+tell_applet command applet same (inr (inr (inr (inr (inl is))))) = ap effect_of (sym same ∙ is)
+tell_applet command applet same (inr (inr (inr (inr (inr is))))) = ap effect_of (sym same ∙ is)

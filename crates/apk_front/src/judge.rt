@@ -223,8 +223,19 @@ pub(crate) fn applet_access(applet: Applet) -> RootAccess
     ensures { result ≡ access_of (does_only_read (effect_of applet)) }
 {
     match applet {
-        Applet::Verify | Applet::Adbdump | Applet::Version | Applet::Demo => RootAccess::Read,
+        Applet::Verify
+        | Applet::Adbdump
+        | Applet::Adbgen
+        | Applet::Version
+        | Applet::Demo
+        | Applet::Help
+        | Applet::ProgramVersion => RootAccess::Read,
         Applet::Info
+        | Applet::Audit
+        | Applet::Manifest
+        | Applet::List
+        | Applet::Search
+        | Applet::Policy
         | Applet::Mkpkg
         | Applet::Mkndx
         | Applet::Add

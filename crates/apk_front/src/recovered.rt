@@ -107,7 +107,12 @@ fn run_recovered<T: Tree>(
     match command.applet() {
         Applet::Mkpkg => mkpkg(alloc, command, tree),
         Applet::Mkndx => mkndx(alloc, command, tree),
-        Applet::Info => report(alloc, command, tree),
+        Applet::Info
+        | Applet::Audit
+        | Applet::Manifest
+        | Applet::List
+        | Applet::Search
+        | Applet::Policy => report(alloc, command, tree),
         Applet::Add | Applet::Del | Applet::Upgrade | Applet::Fix => change(alloc, command, tree),
         // unreachable!() => The other applets do not recover.
         _ => unreachable!(),

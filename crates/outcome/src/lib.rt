@@ -143,10 +143,11 @@ pub fn a_command_that_commits_nothing_leaves_the_files()
     a_change_that_writes_nothing_leaves_the_files();
 }
 
-/// `add`, `del`, `upgrade`, `fix`, `info`, `mkpkg` and `mkndx` first finish what an earlier change
-/// left undone, and refuse an intent that is bad; then they work on the files that a recovery
-/// leaves, and leave these where they commit nothing. `verify`, `adbdump`, `version` and `demo`
-/// leave all files as they are.
+/// The changes `add`, `del`, `upgrade` and `fix`, `mkpkg` and `mkndx`, and the commands that report
+/// on a root, `info`, `audit`, `manifest`, `list`, `search` and `policy`, first finish what an
+/// earlier change left undone, and refuse an intent that is bad. Then they work on the files that a
+/// recovery leaves, and leave these if they commit nothing. `verify`, `adbdump`, `adbgen`,
+/// `version`, `demo`, `--help` and `--version` leave all files as they are.
 pub fn a_command_recovers()
     // The list of `must_recover` is that of the effects.
     ensures recovers { (applet : Applet) → does_recover (effect_of applet) ≡ must_recover applet }
@@ -239,9 +240,9 @@ pub fn a_change_leaves_room_for_the_next()
     an_intent_is_read_from_a_sound_container();
 }
 
-/// An outcome that rests on the words alone, that of a usage error, of `version` and of `demo`, is
-/// the same over all other files, which it leaves (`docs/commands.md`, "Words" and the sections of
-/// these two).
+/// An outcome that rests on the words alone is the same over all other files, which it leaves. It is
+/// that of a usage error, of `version`, of `demo`, of `--help` or of `--version`
+/// (`docs/commands.md`, "Words" and the sections of these commands).
 pub fn an_outcome_of_words_is_the_same_everywhere()
     ensures { (words : List (List ℕ)) (files others : Files) (o : Outcome)
         → IsTrue (rests_on_words (command_of words))
