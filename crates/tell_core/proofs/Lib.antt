@@ -1,2 +1,3 @@
-pub mod InfoSteps
+pub mod DatabaseSteps
+pub mod AuditSteps
 pub mod Others

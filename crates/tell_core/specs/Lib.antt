@@ -1,3 +1,4 @@
 -- what the contract of `apk` says
 pub mod ToldBy
 pub mod InfoTold
+pub mod AuditTold

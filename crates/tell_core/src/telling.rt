@@ -7,6 +7,7 @@ ghost use Rattle.package_files.specs.Runs.{Explains};
 ghost use Rattle.std.specs.Prelude.{◌≡◌, [], None};
 ghost use Rattle.tell_core.specs.ToldBy.{told_by};
 
+use crate::audit::{tell_audit, tell_manifest};
 use crate::info::tell_info;
 use base_core::{Text, Tree};
 use change_inputs::Refused;
@@ -14,7 +15,7 @@ use command_core::{Applet, Command};
 use installed_info::InfoDone;
 use std::alloc::Global;
 
-/// Reports on a root as a command asks for it, which is one of those that only report: `info`. The
+/// Reports on a root as a command asks for it, which is one of those that only report: `info`, `audit` and `manifest`. The
 /// tree stays as it is, whatever the answer. Another command reports nothing.
 ///
 /// # Errors
@@ -29,6 +30,8 @@ pub fn tell<T: Tree>(alloc: Global, command: &Command, tree: &mut T) -> Result<I
 {
     match command.applet() {
         Applet::Info => tell_info(alloc, command, tree),
+        Applet::Audit => tell_audit(alloc, command, tree),
+        Applet::Manifest => tell_manifest(alloc, command, tree),
         // Ok(no_report(alloc)) => No other applet is asked for a report.
         _ => Ok(no_report(alloc)),
     }

@@ -1,0 +1,68 @@
+-- What an audit comes to: the reads of the listed files are behind those of the databases.
+use Rattle.std.proofs.Common.{◌≡◌, ◌≤◌, ℕ, zero, suc, List, [], ◌∷◌, Option, None, Result, Ok, refl, sym, subst}
+use Rattle.adb_view.specs.Plain.{Plain}
+use Rattle.audit_core.specs.Audit.{audit_report}
+use Rattle.base_core.specs.Tree.{TreeState, files_of}
+use Rattle.change_inputs.proofs.Handed.{passed_part}
+use Rattle.change_inputs.specs.Answers.{AgreesUnlessDisk}
+use Rattle.change_inputs.specs.Database.{Database}
+use Rattle.change_inputs.specs.Inputs.{database_for}
+use Rattle.change_inputs.specs.Seen.{installed_seen}
+use Rattle.change_inputs.specs.declared.installed.Installed.{Installed}
+use Rattle.change_inputs.specs.declared.root.Refused.{Refused}
+use Rattle.command_core.specs.Command.{CommandLine}
+use Rattle.installed_info.specs.Info.{info_done}
+use Rattle.installed_info.specs.declared.telling.InfoDone.{InfoDone}
+use Rattle.make_info.specs.Reads.{Reads}
+use Rattle.package_files.specs.Runs.{AreObserved, Explains}
+use Rattle.report_core.specs.declared.refusal.Refusal.{Refusal}
+use Rattle.tell_core.proofs.DatabaseSteps.{IsDatabaseRead, IsReportOf}
+use Rattle.tell_core.specs.AuditTold.{first_audit_read}
+
+-- the reads of the databases, and then others
+reads_then : Reads → Reads → Reads
+reads_then first others zero name = first 0 name
+reads_then first others (suc zero) name = first 1 name
+reads_then first others (suc (suc n)) name = others (suc (suc n)) name
+
+are_observed : (history : List TreeState) (first others : Reads) → AreObserved history first → AreObserved history others → AreObserved history (reads_then first others)
+are_observed [] first others a b = tt
+are_observed (v ∷ rest) first others a b = each
+  where
+    each : (n : ℕ) (name : List ℕ) → reads_then first others n name ≡ files_of v name
+    unfolding reads_then
+    each zero name = a 0 name
+    each (suc zero) name = a 1 name
+    each (suc (suc n)) name = b (suc (suc n)) name
+
+others_are : (first others : Reads) (n : ℕ) (name : List ℕ) → first_audit_read ≤ n → others n name ≡ reads_then first others n name
+unfolding reads_then
+others_are first others zero name later = absurd (omega arith)
+others_are first others (suc zero) name later = absurd (omega arith)
+others_are first others (suc (suc n)) name later = refl
+
+same_database : (first others : Reads) (command : CommandLine) → database_for command (reads_then first others) ≡ database_for command first
+unfolding reads_then
+same_database first others command = refl
+
+-- a report of an audit rests on the reads from its first on alone
+abbrev RestsOnItsReads : Type 0
+RestsOnItsReads = (read other : Reads) (first : ℕ) (packages : List Plain) → ((n : ℕ) (name : List ℕ) → first ≤ n → read n name ≡ other n name) → audit_report read first packages ≡ audit_report other first packages
+
+-- what is reported of a database
+abbrev pub audit_of : Reads → Database → Result InfoDone Refusal
+audit_of read database = Ok (info_done (audit_report read first_audit_read database.packages) None)
+
+pub audit_read : RestsOnItsReads → (history : List TreeState) (command : CommandLine) (result : Result InfoDone Refused) (installed : Installed) → IsDatabaseRead history command (Ok installed)
+    → Explains history (λ read. AgreesUnlessDisk (λ done. done) result (audit_of read (installed_seen installed))) → IsReportOf history command audit_of result
+audit_read rests history command result installed seen audited =
+    let read = reads_then seen.read audited.read in
+    let packages = (installed_seen installed).packages in
+    record {
+      read = read;
+      observed = are_observed history seen.read audited.read seen.observed audited.observed;
+      is = passed_part (AgreesUnlessDisk (λ done. done) result) (database_for command read) (installed_seen installed) (audit_of read)
+          (subst (λ (d : Result Database Refusal). d ≡ Ok (installed_seen installed)) (sym (same_database seen.read audited.read command)) seen.is)
+          (subst (λ (report : List ℕ). AgreesUnlessDisk (λ done. done) result (Ok (info_done report None)))
+          (rests audited.read read first_audit_read packages (others_are seen.read audited.read)) audited.is);
+    }
