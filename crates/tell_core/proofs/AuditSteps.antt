@@ -16,8 +16,8 @@ use Rattle.installed_info.specs.declared.telling.InfoDone.{InfoDone}
 use Rattle.make_info.specs.Reads.{Reads}
 use Rattle.package_files.specs.Runs.{AreObserved, Explains}
 use Rattle.report_core.specs.declared.refusal.Refusal.{Refusal}
-use Rattle.tell_core.proofs.DatabaseSteps.{IsDatabaseRead, IsReportOf}
-use Rattle.tell_core.specs.AuditTold.{first_audit_read}
+use Rattle.tell_core.proofs.ReportSteps.{IsPartRead, IsReported}
+use Rattle.tell_core.specs.AuditTold.{audit_of, first_audit_read}
 
 -- the reads of the databases, and then others
 reads_then : Reads → Reads → Reads
@@ -49,12 +49,8 @@ same_database first others command = refl
 abbrev RestsOnItsReads : Type 0
 RestsOnItsReads = (read other : Reads) (first : ℕ) (packages : List Plain) → ((n : ℕ) (name : List ℕ) → first ≤ n → read n name ≡ other n name) → audit_report read first packages ≡ audit_report other first packages
 
--- what is reported of a database
-abbrev pub audit_of : Reads → Database → Result InfoDone Refusal
-audit_of read database = Ok (info_done (audit_report read first_audit_read database.packages) None)
-
-pub audit_read : RestsOnItsReads → (history : List TreeState) (command : CommandLine) (result : Result InfoDone Refused) (installed : Installed) → IsDatabaseRead history command (Ok installed)
-    → Explains history (λ read. AgreesUnlessDisk (λ done. done) result (audit_of read (installed_seen installed))) → IsReportOf history command audit_of result
+pub audit_read : RestsOnItsReads → (history : List TreeState) (command : CommandLine) (result : Result InfoDone Refused) (installed : Installed) → IsPartRead installed_seen (database_for command) history (Ok installed)
+    → Explains history (λ read. AgreesUnlessDisk (λ done. done) result (audit_of read (installed_seen installed))) → IsReported installed_seen (database_for command) history audit_of result
 audit_read rests history command result installed seen audited =
     let read = reads_then seen.read audited.read in
     let packages = (installed_seen installed).packages in

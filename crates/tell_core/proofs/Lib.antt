@@ -1,3 +1,3 @@
-pub mod DatabaseSteps
+pub mod ReportSteps
 pub mod AuditSteps
 pub mod Others

@@ -2,3 +2,4 @@
 pub mod ToldBy
 pub mod InfoTold
 pub mod AuditTold
+pub mod QueryTold

@@ -1,15 +1,10 @@
 //! What `audit` and `manifest` report of a root. The rules are in `docs/commands.md`, "`audit`" and
 //! "`manifest`".
-ghost use Rattle.audit_core.specs.Audit.{audit_report};
-ghost use Rattle.audit_core.specs.Manifest.{manifest_of};
 ghost use Rattle.base_core.specs.Read.{OnlyReads};
 ghost use Rattle.change_inputs.specs.Answers.{Agrees, AgreesUnlessDisk};
-ghost use Rattle.change_inputs.specs.Chains.{and_then};
 ghost use Rattle.change_inputs.specs.Seen.{installed_seen};
-ghost use Rattle.installed_info.specs.Info.{info_done};
 ghost use Rattle.package_files.specs.Runs.{Explains};
-ghost use Rattle.std.specs.Prelude.{None, Ok};
-ghost use Rattle.tell_core.specs.AuditTold.{audit_told, first_audit_read, manifest_told};
+ghost use Rattle.tell_core.specs.AuditTold.{audit_of, audit_told, manifest_report, manifest_told};
 
 use audit_core::{audit, audits_rest_on_their_own_reads, manifest};
 use base_core::{Tree, TreeFault, readings_in_a_row_join};
@@ -48,8 +43,7 @@ fn audit_installed<T: Tree>(
     tree: &mut T,
 ) -> Result<InfoDone, Refused>
     ensures told { Explains (T.history tree.old) (λ read.
-        AgreesUnlessDisk (λ done. done) result (Ok (info_done
-        (audit_report read first_audit_read (installed_seen installed.now).packages) None))) }
+        AgreesUnlessDisk (λ done. done) result (audit_of read (installed_seen installed.now))) }
     ensures tree { OnlyReads Refused.Disk (T.history tree.old) (T.history tree.new)
         (T.counts tree.old) (T.counts tree.new) result }
 {
@@ -89,9 +83,8 @@ fn manifest_installed(
     command: &Command,
     installed: &Installed,
 ) -> Result<InfoDone, Refused>
-    ensures { Agrees (λ done. done) result (and_then
-        (manifest_of (installed_seen installed.now).packages command.now.operands)
-        (λ report. Ok (info_done report None))) }
+    ensures { Agrees (λ done. done) result
+        (manifest_report command.now (installed_seen installed.now)) }
 {
     let db = installed.db(alloc)?;
     match manifest(alloc, &db, command.operands())? {

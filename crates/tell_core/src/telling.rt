@@ -9,13 +9,15 @@ ghost use Rattle.tell_core.specs.ToldBy.{told_by};
 
 use crate::audit::{tell_audit, tell_manifest};
 use crate::info::tell_info;
+use crate::query::tell_query;
 use base_core::{Text, Tree};
 use change_inputs::Refused;
 use command_core::{Applet, Command};
 use installed_info::InfoDone;
 use std::alloc::Global;
 
-/// Reports on a root as a command asks for it, which is one of those that only report: `info`, `audit` and `manifest`. The
+/// Reports on a root as a command asks for it, which is one of those that only report: `info`,
+/// `audit`, `manifest`, `list`, `search` and `policy`. The
 /// tree stays as it is, whatever the answer. Another command reports nothing.
 ///
 /// # Errors
@@ -32,6 +34,7 @@ pub fn tell<T: Tree>(alloc: Global, command: &Command, tree: &mut T) -> Result<I
         Applet::Info => tell_info(alloc, command, tree),
         Applet::Audit => tell_audit(alloc, command, tree),
         Applet::Manifest => tell_manifest(alloc, command, tree),
+        Applet::List | Applet::Search | Applet::Policy => tell_query(alloc, command, tree),
         // Ok(no_report(alloc)) => No other applet is asked for a report.
         _ => Ok(no_report(alloc)),
     }
