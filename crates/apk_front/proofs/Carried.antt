@@ -17,11 +17,15 @@ use Rattle.journal_core.specs.Recovery.{IsSettled, RestsOn, intent_name}
 use Rattle.make_info.specs.Output.{output_name}
 use Rattle.package_files.specs.Sources.{AreNamesFor, values_with}
 use Rattle.command_core.specs.declared.values.TheConstants.{FILES}
+use Rattle.gen_core.specs.Generated.{generated_file}
+use Rattle.gen_core.specs.declared.generate.GenFault.{GenFault}
+use Rattle.gen_core.specs.declared.generate.GenFault.TheVariants.{Bad as BadLine, TooLarge as TextTooLarge, Memory as GenMemory}
 use Rattle.make_index.specs.Files.{AreFiles}
 use Rattle.make_info.specs.Reads.{Reads}
 use Rattle.outcome.specs.Dump.{adbdump, dump_outcome, text_outcome, dump_of}
 use Rattle.outcome.specs.Make.{mkndx, mkpkg}
 use Rattle.outcome.specs.Commands.{IsFoundOutcomeOf, IsFoundOver, IsOutcomeOf, IsOutcomeOver, reads_in, applet_outcome, command_outcome, computing_outcome, effect_outcome, reading_outcome}
+use Rattle.outcome.specs.Generate.{adbgen, container_outcome, generate_outcome}
 use Rattle.outcome.specs.Given.{Given, IsChosenFor, IsClashBy, IsGiven, IsListingFor, MayBeGiven, MayBeListedFor, MayClash, nothing_given}
 use Rattle.outcome.specs.Effect.{Effect, Computes, Reads as OnlyReading, Tells, Makes, Changes, does_only_read, does_recover, does_rest_on_words, effect_by, effect_of, output, output_by, output_if, reads_only, rests_on_words}
 use Rattle.outcome.specs.Words.{IsFoundOutcome, IsFoundOutcomeBy, IsOutcome, IsOutcomeBy}
@@ -38,7 +42,7 @@ use Rattle.words_core.specs.Grammar.{command_of}
 use Rattle.words_core.specs.declared.read.WordsFault.{WordsFault}
 use Rattle.words_core.specs.declared.read.WordsFault.TheVariants.{Usage as WrongWord}
 use Rattle.command_core.specs.declared.command.Applet.{Applet}
-use Rattle.command_core.specs.declared.command.Applet.TheVariants.{Adbdump, Mkndx, Mkpkg, Verify, Version}
+use Rattle.command_core.specs.declared.command.Applet.TheVariants.{Adbdump, Adbgen, Mkndx, Mkpkg, Verify, Version}
 use Rattle.command_core.specs.declared.operands.Operand.{Operand}
 use Rattle.apk_front.specs.Answers.{answer_by}
 use Rattle.apk_front.specs.Effects.{access_of}
@@ -73,6 +77,20 @@ dump_leaves : (files : Files) (os : List Operand) → Leaves files (adbdump (rea
 dump_leaves files [] = (refl, refl)
 dump_leaves files (o ∷ os) = found_leaves files o.place (files (without_dot o.text))
 
+container_leaves : (files : Files) (place : ℕ) (made : Result (List ℕ) GenFault) → Leaves files (container_outcome files place made)
+container_leaves files place (Ok file) = (refl, refl)
+container_leaves files place (Err (BadLine line)) = (refl, refl)
+container_leaves files place (Err (TextTooLarge bytes values)) = (refl, refl)
+container_leaves files place (Err GenMemory) = (refl, refl)
+
+generate_leaves : (files : Files) (place : ℕ) (found : Option (List ℕ)) → Leaves files (generate_outcome files place found)
+generate_leaves files place None = (refl, refl)
+generate_leaves files place (Some text) = container_leaves files place (generated_file text)
+
+gen_leaves : (files : Files) (os : List Operand) → Leaves files (adbgen (reads_in files) files os)
+gen_leaves files [] = (refl, refl)
+gen_leaves files (o ∷ os) = generate_leaves files o.place (files (without_dot o.text))
+
 computing_leaves : (applet : Applet) (command : CommandLine) (files : Files) → Leaves files (computing_outcome applet command files)
 computing_leaves Version command files =
     elim command.flags.test as (λ b. Leaves files (if b then report_unless files (version_refusal command.operands) (order_report command.operands) else outcome_of (version_refusal command.operands) (invalid_lines command.operands) files)) [
@@ -84,6 +102,7 @@ computing_leaves other command files = (refl, refl)
 reading_leaves : (applet : Applet) (command : CommandLine) (files : Files) → Leaves files (reading_outcome applet command (reads_in files) files)
 reading_leaves Verify command files = unless_leaves files (verify_refusal (reads_in files) 0 command.operands) (sound_lines command.operands)
 reading_leaves Adbdump command files = dump_leaves files command.operands
+reading_leaves Adbgen command files = gen_leaves files command.operands
 reading_leaves other command files = (refl, refl)
 
 look_leaves : (effect : Effect) (applet : Applet) (command : CommandLine) (given : Given) (files : Files) → does_only_read effect ≡ true → Leaves files (effect_outcome effect applet command given (reads_in files) files)
@@ -437,26 +456,27 @@ computes_nothing : (applet : Applet) (command : CommandLine) (files : Files) →
 computes_nothing Version command files n = absurd (n refl)
 computes_nothing other command files n = refl
 
-reads_nothing : (applet : Applet) (command : CommandLine) (read : Reads) (files : Files) → (applet ≡ Verify → ⊥) → (applet ≡ Adbdump → ⊥) → reading_outcome applet command read files ≡ just_report files []
-reads_nothing Verify command read files v d = absurd (v refl)
-reads_nothing Adbdump command read files v d = absurd (d refl)
-reads_nothing other command read files v d = refl
+reads_nothing : (applet : Applet) (command : CommandLine) (read : Reads) (files : Files) → (applet ≡ Verify → ⊥) → (applet ≡ Adbdump → ⊥) → (applet ≡ Adbgen → ⊥) → reading_outcome applet command read files ≡ just_report files []
+reads_nothing Verify command read files v d g = absurd (v refl)
+reads_nothing Adbdump command read files v d g = absurd (d refl)
+reads_nothing Adbgen command read files v d g = absurd (g refl)
+reads_nothing other command read files v d g = refl
 
-nothing_of : (effect : Effect) (applet : Applet) (command : CommandLine) → (applet ≡ Verify → ⊥) → (applet ≡ Version → ⊥) → (applet ≡ Adbdump → ⊥) → does_only_read effect ≡ true
+nothing_of : (effect : Effect) (applet : Applet) (command : CommandLine) → (applet ≡ Verify → ⊥) → (applet ≡ Version → ⊥) → (applet ≡ Adbdump → ⊥) → (applet ≡ Adbgen → ⊥) → does_only_read effect ≡ true
     → (read : Reads) (files : Files) → effect_outcome effect applet command nothing_given read files ≡ just_report files []
-nothing_of Computes applet command v n d reads read files = computes_nothing applet command files n
-nothing_of OnlyReading applet command v n d reads read files = reads_nothing applet command read files v d
-nothing_of Tells applet command v n d reads read files = absurd (false≢true reads)
-nothing_of Makes applet command v n d reads read files = absurd (false≢true reads)
-nothing_of Changes applet command v n d reads read files = absurd (false≢true reads)
+nothing_of Computes applet command v n d g reads read files = computes_nothing applet command files n
+nothing_of OnlyReading applet command v n d g reads read files = reads_nothing applet command read files v d g
+nothing_of Tells applet command v n d g reads read files = absurd (false≢true reads)
+nothing_of Makes applet command v n d g reads read files = absurd (false≢true reads)
+nothing_of Changes applet command v n d g reads read files = absurd (false≢true reads)
 
 -- the outcome of a command is empty
 abbrev pub IsNothing : CommandLine → Type 0
 IsNothing command = (read : Reads) (files : Files) → command_outcome command nothing_given read files ≡ just_report files []
 
-pub is_nothing : (command : CommandLine) (applet : Applet) → applet ≡ command.applet → (applet ≡ Verify → ⊥) → (applet ≡ Version → ⊥) → (applet ≡ Adbdump → ⊥) → does_only_read (effect_of command.applet) ≡ true → IsNothing command
-is_nothing command applet same v n d reads =
-    nothing_of (effect_of command.applet) command.applet command (λ is. v (same ∙ is)) (λ is. n (same ∙ is)) (λ is. d (same ∙ is)) reads
+pub is_nothing : (command : CommandLine) (applet : Applet) → applet ≡ command.applet → (applet ≡ Verify → ⊥) → (applet ≡ Version → ⊥) → (applet ≡ Adbdump → ⊥) → (applet ≡ Adbgen → ⊥) → does_only_read (effect_of command.applet) ≡ true → IsNothing command
+is_nothing command applet same v n d g reads =
+    nothing_of (effect_of command.applet) command.applet command (λ is. v (same ∙ is)) (λ is. n (same ∙ is)) (λ is. d (same ∙ is)) (λ is. g (same ∙ is)) reads
 
 pub nothing_found : (old : History) (command : CommandLine) (verdict : Verdict) → IsNothing command → ((files : Files) → as_outcome files verdict ≡ just_report files [])
     → IfObservable old (λ v. as_outcome (files_of v) verdict ≡ command_outcome command nothing_given (reads_in (files_of v)) (files_of v))

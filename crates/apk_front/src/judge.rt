@@ -25,6 +25,7 @@ ghost use Rattle.apk_front.specs.Effects.{access_of};
 use crate::answer::Verdict;
 use crate::demo::demo;
 use crate::dump::adbdump;
+use crate::generate::adbgen;
 use crate::recovered::recover_and_run;
 use crate::verify::verify;
 use crate::version::version;
@@ -163,7 +164,7 @@ pub(crate) fn run<T: Tree>(
 
 // Runs an applet that only reads. The clauses are those of `run`; `tree` says that nothing is
 // written.
-#[tactic(auto, using(crate::proofs::Operands::dump_operands, crate::proofs::Operands::verify_operands, crate::proofs::Operands::version_operands))]
+#[tactic(auto, using(crate::proofs::Operands::dump_operands, crate::proofs::Operands::gen_operands, crate::proofs::Operands::verify_operands, crate::proofs::Operands::version_operands))]
 fn look<T: Tree>(alloc: Global, command: &Command, tree: &mut T) -> Result<Verdict, TreeFault>
     requires { IsTrue (does_only_read (effect_of command.now.applet)) }
     ensures found { IfOk result (λ verdict. IfObservable (T.history tree.old) (λ v.
@@ -189,6 +190,7 @@ fn look<T: Tree>(alloc: Global, command: &Command, tree: &mut T) -> Result<Verdi
             Ok(verdict)
         }
         Applet::Adbdump => adbdump(alloc, command.operands(), tree),
+        Applet::Adbgen => adbgen(alloc, command.operands(), tree),
         // Ok(Verdict::empty(alloc)) => No outcome is asked for: `demo` is run by `carry_out`, and
         // all others recover first.
         _ => Ok(Verdict::empty(alloc)),

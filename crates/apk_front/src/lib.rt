@@ -13,6 +13,7 @@ mod change;
 mod demo;
 mod dump;
 mod front;
+mod generate;
 mod judge;
 mod laws;
 mod make;

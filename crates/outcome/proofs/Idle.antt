@@ -11,12 +11,15 @@ use Rattle.change_outcome.specs.ChangeOutcome.{ChangeDone, ChangeWishes, change_
 use Rattle.command_core.specs.Command.{CommandLine}
 use Rattle.command_core.specs.Files.{without_dot}
 use Rattle.command_core.specs.declared.command.Applet.{Applet}
-use Rattle.command_core.specs.declared.command.Applet.TheVariants.{Adbdump, Mkndx, Mkpkg, Verify, Version}
+use Rattle.command_core.specs.declared.command.Applet.TheVariants.{Adbdump, Adbgen, Mkndx, Mkpkg, Verify, Version}
 use Rattle.command_core.specs.declared.command.Flags.{Flags}
 use Rattle.command_core.specs.declared.operands.Operand.{Operand}
 use Rattle.engine_core.specs.Changed.{Selected, change_of_selected, change_of_command, selected_by, selected_for, selected_of_inputs, simulated_change}
 use Rattle.engine_core.specs.Selecting.{pool_by}
 use Rattle.engine_core.specs.Wishes.{unknown_place, unless_place, wishes_of}
+use Rattle.gen_core.specs.Generated.{generated_file}
+use Rattle.gen_core.specs.declared.generate.GenFault.{GenFault}
+use Rattle.gen_core.specs.declared.generate.GenFault.TheVariants.{Bad as BadLine, TooLarge as TextTooLarge, Memory as NoMemory}
 use Rattle.make_index.specs.Index.{made_index}
 use Rattle.make_info.specs.Output.{output_name}
 use Rattle.make_info.specs.Reads.{Reads}
@@ -35,6 +38,7 @@ use Rattle.outcome.specs.Changing.{change_outcome}
 use Rattle.outcome.specs.Commands.{IsOutcomeOf, IsOutcomeOver, IsOutcomeUnless, computing_outcome, effect_outcome, making_outcome, reading_outcome, reads_in}
 use Rattle.outcome.specs.Dump.{adbdump, dump_of, dump_outcome, text_outcome}
 use Rattle.outcome.specs.Effect.{Effect, Changes, Computes, Makes, Reads as OnlyReads, Tells, effect_by, effect_of}
+use Rattle.outcome.specs.Generate.{adbgen, container_outcome, generate_outcome}
 use Rattle.outcome.specs.Given.{Given}
 use Rattle.outcome.specs.Make.{files_with_output, index_line, make_outcome, unless_reserved}
 use Rattle.outcome.specs.Outcome.{Outcome, commit_report, just_refusal, outcome_of, report_unless}
@@ -70,6 +74,20 @@ adbdump_idle : (read : Reads) (files : Files) (operands : List Operand) → Leav
 adbdump_idle read files [] idle = refl
 adbdump_idle read files (o ∷ operands) idle = dump_idle files o.place (read 0 (without_dot o.text)) idle
 
+container_idle : (files : Files) (place : ℕ) (made : Result (List ℕ) GenFault) → LeavesIdle files (container_outcome files place made)
+container_idle files place (Ok file) idle = refl
+container_idle files place (Err (BadLine line)) idle = refl
+container_idle files place (Err (TextTooLarge bytes values)) idle = refl
+container_idle files place (Err NoMemory) idle = refl
+
+generate_idle : (files : Files) (place : ℕ) (found : Option (List ℕ)) → LeavesIdle files (generate_outcome files place found)
+generate_idle files place None idle = refl
+generate_idle files place (Some text) idle = container_idle files place (generated_file text) idle
+
+adbgen_idle : (read : Reads) (files : Files) (operands : List Operand) → LeavesIdle files (adbgen read files operands)
+adbgen_idle read files [] idle = refl
+adbgen_idle read files (o ∷ operands) idle = generate_idle files o.place (read 0 (without_dot o.text)) idle
+
 computing_idle : (applet : Applet) (command : CommandLine) (files : Files) → LeavesIdle files (computing_outcome applet command files)
 computing_idle Version command files = version_idle files command.flags command.operands
 computing_idle other command files = λ idle. refl
@@ -77,6 +95,7 @@ computing_idle other command files = λ idle. refl
 reading_idle : (applet : Applet) (command : CommandLine) (read : Reads) (files : Files) → LeavesIdle files (reading_outcome applet command read files)
 reading_idle Verify command read files = unless_idle files (verify_refusal read 0 command.operands) (sound_lines command.operands)
 reading_idle Adbdump command read files = adbdump_idle read files command.operands
+reading_idle Adbgen command read files = adbgen_idle read files command.operands
 reading_idle other command read files = λ idle. refl
 
 -- ---- commands that make a file

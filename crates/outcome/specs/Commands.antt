@@ -11,13 +11,14 @@ use Rattle.report_core.specs.declared.refusal.Refusal.{Refusal}
 use Rattle.report_core.specs.declared.refusal.Refusal.TheVariants.{IntentBad, Usage}
 use Rattle.command_core.specs.Command.{CommandLine}
 use Rattle.command_core.specs.declared.command.Applet.{Applet}
-use Rattle.command_core.specs.declared.command.Applet.TheVariants.{Adbdump, Mkndx, Mkpkg, Verify, Version}
+use Rattle.command_core.specs.declared.command.Applet.TheVariants.{Adbdump, Adbgen, Mkndx, Mkpkg, Verify, Version}
 use Rattle.engine_core.specs.ChangeRun.{HasSpoiledPackage}
 use Rattle.engine_core.specs.Changed.{packages_found, selected_for}
 use Rattle.tell_core.specs.ToldBy.{told_by}
 use Rattle.outcome.specs.Changing.{change}
 use Rattle.outcome.specs.Dump.{adbdump}
 use Rattle.outcome.specs.Effect.{Effect, Computes, Reads as OnlyReads, Tells, Makes, Changes, does_recover, effect_of}
+use Rattle.outcome.specs.Generate.{adbgen}
 use Rattle.outcome.specs.Given.{Given, IsGiven, MayBeGiven}
 use Rattle.outcome.specs.Make.{mkndx, mkpkg}
 use Rattle.outcome.specs.Outcome.{Outcome, just_refusal, just_report}
@@ -38,6 +39,7 @@ computing_outcome other command files = just_report files []
 abbrev pub reading_outcome : Applet → CommandLine → Reads → Files → Outcome
 reading_outcome Verify command read files = verify read files command.operands
 reading_outcome Adbdump command read files = adbdump read files command.operands
+reading_outcome Adbgen command read files = adbgen read files command.operands
 reading_outcome other command read files = just_report files []
 
 -- the outcome of an applet that makes a file, by the names that it lists

@@ -42,7 +42,7 @@ module _ (command : CommandLine) (read : Reads) where
       let same : NoDatabase ≡ refusal = cc in
       subst IsSo same (record { container = none; text = neither; not_begun = begun })
 
-  database_fault : (file text : Option (List ℕ)) (refusal : Refusal) → read database_read database_name ≡ file → read text_database_read text_database_name ≡ text
+  pub database_fault : (file text : Option (List ℕ)) (refusal : Refusal) → read database_read database_name ≡ file → read text_database_read text_database_name ≡ text
       → root_database command.flags.initdb file text ≡ Err refusal → IsSo refusal
   database_fault (Some file) text refusal is other e =
       let why = cause_err DatabaseBad (first_fault Idb file) _ refusal e in

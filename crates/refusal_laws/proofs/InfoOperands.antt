@@ -199,7 +199,7 @@ module _ (command : CommandLine) (packages : List Plain) where
     told = f.told;
   }
 
-  first_in : (refusal : Refusal) → info_refusal (form_of command.flags) packages command.operands ≡ Some refusal → IsFirstNotInstalled command packages refusal
+  pub first_in : (refusal : Refusal) → info_refusal (form_of command.flags) packages command.operands ≡ Some refusal → IsFirstNotInstalled command packages refusal
   first_in refusal e = first_of refusal (first command.operands refusal e)
 
   -- ---- what is told

@@ -7,12 +7,12 @@ returns-in_ok-verdict-in-Version-clause-by_reads g c = ran_version c.args.comman
 
 pub returns-in_default-clause-found : goal.returns-in_default-clause-found
 returns-in_default-clause-found g c =
-    nothing_found _ c.args.command.now c.empty.result (is_nothing c.args.command.now c.applet.result c.applet.ensures.value c.in_default.not-Verify c.in_default.not-Version c.in_default.not-Adbdump c.requires) c.empty.ensures
+    nothing_found _ c.args.command.now c.empty.result (is_nothing c.args.command.now c.applet.result c.applet.ensures.value c.in_default.not-Verify c.in_default.not-Version c.in_default.not-Adbdump c.in_default.not-Adbgen c.requires) c.empty.ensures
 
 pub returns-in_default-clause-by_reads : goal.returns-in_default-clause-by_reads
 returns-in_default-clause-by_reads g c =
-    nothing_read c.args.command.now c.empty.result (is_nothing c.args.command.now c.applet.result c.applet.ensures.value c.in_default.not-Verify c.in_default.not-Version c.in_default.not-Adbdump c.requires) c.empty.ensures
+    nothing_read c.args.command.now c.empty.result (is_nothing c.args.command.now c.applet.result c.applet.ensures.value c.in_default.not-Verify c.in_default.not-Version c.in_default.not-Adbdump c.in_default.not-Adbgen c.requires) c.empty.ensures
 
 pub returns-in_default-clause-by_words : goal.returns-in_default-clause-by_words
 returns-in_default-clause-by_words g c = λ rests.
-    nothing_by_words c.args.command.now c.empty.result (is_nothing c.args.command.now c.applet.result c.applet.ensures.value c.in_default.not-Verify c.in_default.not-Version c.in_default.not-Adbdump c.requires) c.empty.ensures
+    nothing_by_words c.args.command.now c.empty.result (is_nothing c.args.command.now c.applet.result c.applet.ensures.value c.in_default.not-Verify c.in_default.not-Version c.in_default.not-Adbdump c.in_default.not-Adbgen c.requires) c.empty.ensures
