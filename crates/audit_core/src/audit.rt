@@ -93,7 +93,7 @@ fn audit_record<T: Tree>(
     let path = path_bytes(alloc, &record.path)?;
     let name = Name::of(alloc, &path)?;
     let found = compare_file(tree, &name, Some(listed_file(&record.file)), None)?;
-    if let Some(difference) = difference(found) {
+    if let Some(difference) = difference_by(found) {
         push_difference(report, difference, &path)?;
     }
     Ok(())
@@ -101,7 +101,7 @@ fn audit_record<T: Tree>(
 
 // How a file differs from its record, by how it compares with the entry; None if it does not
 // differ.
-fn difference(found: Option<Comparison>) -> Option<Difference>
+fn difference_by(found: Option<Comparison>) -> Option<Difference>
     ensures { result ≡ difference_by found }
 {
     match found {

@@ -5,13 +5,13 @@ ghost use Rattle.adb_fields.specs.ListValue.{list_value};
 ghost use Rattle.adb_fields.specs.Repeated.{list_of};
 ghost use Rattle.adb_schema.specs.Views.{file_value, package_value};
 ghost use Rattle.adb_tables.specs.Values.{count_of, entries_in, entry_in};
-ghost use Rattle.adb_view.specs.Plain.{Plain};
 ghost use Rattle.audit_core.specs.Records.{database_records, file_record, folder_records, package_records, record_cmp, records_by_path};
 ghost use Rattle.audit_core.specs.Seen.{record_seen};
 ghost use Rattle.db_core.specs.Seen.{packages_of};
 ghost use Rattle.list_order.specs.Sorted.{sorted_by};
 ghost use Rattle.std.specs.List.{flat_map};
-ghost use Rattle.std.specs.Prelude.{◌≡◌, ◌<◌, ◌++◌, ◌∷◌, [], Some, IfOk, OnOk, length, map, slice_get};
+ghost use Rattle.std.specs.Option.{option_map_or};
+ghost use Rattle.std.specs.Prelude.{◌≡◌, ◌<◌, ◌++◌, ◌∷◌, [], IfOk, OnOk, length, map, slice_get};
 
 use adb_fields::FilePath;
 use adb_schema::{DirInfo, FileInfo, List, PackageView};
@@ -78,9 +78,8 @@ fn add_package<'a>(
     _mark: PhantomData<PackageView<'a>>,
 ) -> Result<(), AllocError>
     requires { i < length (packages_of db.now) }
-    ensures { OnOk result ((pkg : Plain) → slice_get (packages_of db.now) i ≡ Some pkg
-        → map record_seen records.new.items
-        ≡ map record_seen records.old.items ++ package_records pkg) }
+    ensures { OnOk result (map record_seen records.new.items ≡ map record_seen records.old.items
+        ++ option_map_or package_records (slice_get (packages_of db.now) i) []) }
 {
     let package = db.package(i);
     add_folders(records, &package.paths())
