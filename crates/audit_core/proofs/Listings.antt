@@ -8,8 +8,8 @@ use Rattle.adb_view.specs.Plain.{Plain}
 use Rattle.adb_fields.specs.Repeated.{files_in, folders_in, name_of}
 use Rattle.base_core.specs.Name.{IsName}
 use Rattle.db_core.specs.Members.{Listing, Member, listings_by, listings_from, listings_in_folder, listings_in_folders, member_listings, staying_member, staying_members}
-use Rattle.list_order.specs.Sorted.{sorted_by}
-use Rattle.list_order.proofs.Sorting.{sorted_same}
+use Rattle.base_core.specs.Sorted.{sorted_by}
+use Rattle.base_core.proofs.Sorting.{sorted_same}
 use Rattle.audit_core.specs.Records.{FileRecord, database_records, file_record, folder_records, package_records, record_cmp, records_by_path}
 
 -- the record of a listing

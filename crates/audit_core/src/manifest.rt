@@ -5,7 +5,7 @@ ghost use Rattle.adb_fields.specs.ListValue.{list_value};
 ghost use Rattle.adb_fields.specs.Repeated.{list_of};
 ghost use Rattle.adb_fields.specs.Paths.{path_of};
 ghost use Rattle.adb_schema.specs.Views.{file_value};
-ghost use Rattle.adb_tables.specs.Values.{count_of, entries_in, entry_in};
+ghost use Rattle.adb_view.specs.Values.{count_of, entries_in, entry_in};
 ghost use Rattle.audit_core.specs.Manifest.{manifest_line, manifest_of, package_manifest};
 ghost use Rattle.audit_core.specs.Records.{file_record, folder_records};
 ghost use Rattle.db_core.specs.Seen.{packages_of};

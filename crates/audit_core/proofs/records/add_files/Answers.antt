@@ -2,7 +2,7 @@ use Rattle.std.proofs.Common.{◌≡◌, ◌∙◌, ◌+◌, ◌-◌, ◌++◌, 
 use Rattle.adb_view.specs.Plain.{Plain}
 use Rattle.adb_fields.specs.ListValue.{list_value}
 use Rattle.adb_fields.specs.Repeated.{list_of}
-use Rattle.adb_tables.specs.Values.{entries_in, entry_in, nth}
+use Rattle.adb_view.specs.Values.{entries_in, entry_in, nth}
 use Rattle.audit_core.specs.Records.{FileRecord, file_record}
 use Rattle.audit_core.specs.Seen.{record_seen}
 use Rattle.installed_info.proofs.LineSteps.{all_told, entry_left, no_entry_left, told}

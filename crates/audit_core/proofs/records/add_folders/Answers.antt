@@ -2,7 +2,7 @@ use Rattle.std.proofs.Common.{◌+◌, drop, ap, arith}
 use Rattle.std.specs.List.{flat_map}
 use Rattle.adb_fields.specs.ListValue.{list_value}
 use Rattle.adb_fields.specs.Repeated.{list_of}
-use Rattle.adb_tables.specs.Values.{entries_in, nth}
+use Rattle.adb_view.specs.Values.{entries_in, nth}
 use Rattle.audit_core.specs.Records.{folder_records}
 use Rattle.installed_info.proofs.LineSteps.{all_told, entry_left, no_entry_left, told}
 use Rattle.audit_core.proofs.records.add_folders.Goals as goal
