@@ -1,0 +1,107 @@
+-- An audit, file by file.
+use Rattle.std.proofs.Common.{◌≡◌, ℕ, zero, suc, ◌+◌, ◌<◌, ◌≤◌, List, [], ◌∷◌, ◌++◌, length, map, take, Option, Result, Ok, Err, refl, ap, sym, ◌∙◌, subst, append_assoc, arith}
+use Rattle.std.specs.Prelude.{IfOk, slice_index_or}
+use Rattle.std.specs.Result.{IsErrAnd}
+use Rattle.std.specs.List.{flat_map}
+use Rattle.std.proofs.lemmas.Grind.{flat_map-append}
+use Rattle.std.proofs.lemmas.List.{map-append, take_all, take_more}
+use Rattle.installed_info.proofs.LineSteps.{append_nothing}
+use Rattle.base_core.specs.Calls.{IfObservable}
+use Rattle.base_core.specs.Tree.{TreeState, files_of}
+use Rattle.make_info.specs.Reads.{Reads}
+use Rattle.package_files.specs.Runs.{Explains}
+use Rattle.package_files.proofs.ReadLemmas.{as_told_of, explained, joined, joined_below, joined_from, joined_told, reads_or}
+use Rattle.audit_core.specs.Audit.{FileDifference, difference_at, difference_from, difference_line, differences_from}
+use Rattle.audit_core.specs.Records.{FileRecord}
+use Rattle.audit_core.specs.Seen.{record_seen}
+use Rattle.audit_core.specs.declared.records.Record.{Record}
+
+-- what a file is found to be: it differs from its record, or not
+abbrev pub difference_found : FileRecord → Option (List ℕ) → List FileDifference
+difference_found r found = difference_at r.path (difference_from r.entry found)
+
+-- one record more, and one read more
+pub differences_more : (read : Reads) (n : ℕ) (rs : List FileRecord) (r : FileRecord)
+    → differences_from read n (rs ++ r ∷ []) ≡ differences_from read n rs ++ difference_found r (read (n + length rs) r.path)
+differences_more read n [] r =
+    let at : n ≡ n + 0 = omega arith in
+    append_nothing (difference_found r (read n r.path)) ∙ ap (λ k. difference_found r (read k r.path)) at
+differences_more read n (q ∷ rs) r =
+    let at : suc n + length rs ≡ n + suc (length rs) = omega arith in
+    ap (λ ds. difference_found q (read n q.path) ++ ds) (differences_more read (suc n) rs r ∙ ap (λ k. differences_from read (suc n) rs ++ difference_found r (read k r.path)) at)
+    ∙ sym (append_assoc (difference_found q (read n q.path)) (differences_from read (suc n) rs) (difference_found r (read (n + suc (length rs)) r.path)))
+
+-- the differences rest on their own reads
+pub differences_same : (read other : Reads) (n : ℕ) (rs : List FileRecord)
+    → ((k : ℕ) (name : List ℕ) → n ≤ k → k < n + length rs → read k name ≡ other k name)
+    → differences_from read n rs ≡ differences_from other n rs
+differences_same read other n [] same = refl
+differences_same read other n (r ∷ rs) same =
+    ap (λ found. difference_found r found ++ differences_from read (suc n) rs) (same n r.path (omega arith) (omega arith))
+    ∙ ap (λ ds. difference_found r (other n r.path) ++ ds) (differences_same read other (suc n) rs (λ k name low high. same k name (omega (arith, low)) (omega (arith, high))))
+
+-- what the next read finds, whatever its number
+found_next : (history : List TreeState) (path : List ℕ) (found : Option (List ℕ)) (n : ℕ) → IfObservable history (λ v. found ≡ files_of v path)
+    → reads_or history (λ k name. found) n path ≡ found
+found_next [] path found n stands = refl
+found_next (v ∷ earlier) path found n stands = sym stands
+
+-- the report of the records so far, and the line of one more, if it differs
+pub one_more : (history : List TreeState) (first : ℕ) (rs : List FileRecord) (r : FileRecord) (found : Option (List ℕ)) (before after : List ℕ)
+    → IfObservable history (λ v. found ≡ files_of v r.path)
+    → after ≡ before ++ flat_map difference_line (difference_found r found)
+    → Explains history (λ read. before ≡ flat_map difference_line (differences_from read first rs))
+    → Explains history (λ read. after ≡ flat_map difference_line (differences_from read first (rs ++ r ∷ [])))
+one_more history first rs r found before after stands is so_far =
+    let n = first + length rs in
+    let next : Reads = reads_or history (λ k name. found) in
+    let read : Reads = joined n so_far.read next in
+    let old : differences_from so_far.read first rs ≡ differences_from read first rs =
+    differences_same so_far.read read first rs (λ k name low high. sym (joined_below n so_far.read next k name high)) in
+    let here : found ≡ read n r.path = sym (joined_from n so_far.read next n r.path (omega arith) ∙ found_next history r.path found n stands) in
+    record {
+      read = read;
+      observed = joined_told history n so_far.read next so_far.observed (as_told_of history (λ k name. found));
+      is =
+          is
+          ∙ (ap (λ b. b ++ flat_map difference_line (difference_found r found)) (so_far.is ∙ ap (flat_map difference_line) old)
+          ∙ (ap (λ f. flat_map difference_line (differences_from read first rs) ++ flat_map difference_line (difference_found r f)) here
+          ∙ (sym (flat_map-append difference_line (differences_from read first rs) (difference_found r (read n r.path)))
+          ∙ ap (flat_map difference_line) (sym (differences_more read first rs r)))));
+    }
+
+-- ---- the records so far, as they are in the program
+
+map_take_more : {X Y : Type 0} (f : X → Y) (xs : List X) (i : ℕ) (d : X) → i < length xs → map f (take (i + 1) xs) ≡ map f (take i xs) ++ f (slice_index_or xs i d) ∷ []
+map_take_more f xs i d l = ap (map f) (take_more xs i d l) ∙ map-append f (take i xs) (slice_index_or xs i d ∷ [])
+
+-- the report of some records, from any number of reads on
+abbrev pub IsReport : List TreeState → List FileRecord → List ℕ → Type 0
+IsReport history rs report = (first : ℕ) → Explains history (λ read. report ≡ flat_map difference_line (differences_from read first rs))
+
+-- a report that is made longer by the line of a record, if its file differs
+abbrev pub IsLonger : List TreeState → FileRecord → List ℕ → List ℕ → Type 0
+IsLonger history r before after =
+    (found : Option (List ℕ)) × IfObservable history (λ v. found ≡ files_of v r.path)
+    × (after ≡ before ++ flat_map difference_line (difference_found r found))
+
+pub nothing_reported : (history : List TreeState) (report : List ℕ) → report ≡ [] → IsReport history [] report
+nothing_reported history report is first = explained history (λ read. report ≡ []) (λ read. is)
+
+pub reported_more : (history now : List TreeState) (xs : List Record) (i : ℕ) (d : Record) (before after : List ℕ) → now ≡ history → i < length xs
+    → IsReport history (map record_seen (take i xs)) before → IsLonger now (record_seen (slice_index_or xs i d)) before after
+    → IsReport history (map record_seen (take (i + 1) xs)) after
+reported_more history now xs i d before after same l so_far longer first =
+    let r = record_seen (slice_index_or xs i d) in
+    let here : IsLonger history r before after = subst (λ (h : List TreeState). IsLonger h r before after) same longer in
+    subst (λ (rs : List FileRecord). Explains history (λ read. after ≡ flat_map difference_line (differences_from read first rs)))
+    (sym (map_take_more record_seen xs i d l))
+    (one_more history first (map record_seen (take i xs)) r here.0 before after here.1.0 here.1.1 (so_far first))
+
+pub reported_all : (history : List TreeState) (xs : List Record) (i : ℕ) (report : List ℕ) → length xs ≤ i → IsReport history (map record_seen (take i xs)) report → IsReport history (map record_seen xs) report
+reported_all history xs i report l so_far = subst (λ (ys : List Record). IsReport history (map record_seen ys) report) (take_all i xs l) so_far
+
+-- nothing is said of a failure
+pub nothing_said : {A E : Type 0} (history : List TreeState) (r : Result A E) (P : Reads → A → Type 0) (fault : E) → IsErrAnd r (λ e. e ≡ fault) → Explains history (λ read. IfOk r (P read))
+nothing_said history (Ok x) P fault is = absurd is
+nothing_said history (Err e) P fault is = explained history (λ read. Unit {0}) (λ read. tt)

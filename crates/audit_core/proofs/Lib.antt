@@ -1,0 +1,6 @@
+-- Lemmas of this crate.
+mod Reading
+mod RecordOrder
+mod RecordSteps
+mod Listings
+mod AuditSteps

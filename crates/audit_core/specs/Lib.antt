@@ -1,0 +1,6 @@
+-- what the contract of `apk` says
+pub mod Records
+pub mod Audit
+pub mod Manifest
+-- what only inner contracts and proofs use
+pub mod Seen

@@ -1,0 +1,16 @@
+//! `audit` and `manifest` (apk(8)): the installed files that differ from their records, and the
+//! digests of the files of packages.
+//!
+//! The contract of `audit` cites `Audit` of `specs/`, that of `manifest` cites `Manifest`; both rest
+//! on `Records`. The laws cite `Differences`. The rules are in `docs/commands.md`, "`audit`" and
+//! "`manifest`".
+#![tactic(auto)]
+
+mod audit;
+mod laws;
+mod manifest;
+mod records;
+
+pub use audit::{Difference, audit};
+pub use laws::audits_rest_on_their_own_reads;
+pub use manifest::manifest;
