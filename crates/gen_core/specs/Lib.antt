@@ -1,0 +1,7 @@
+-- The definitions of `gen_core`. The head of each file says where its rule is.
+
+-- what the contract of `gen` says
+pub mod Generated
+-- what only inner contracts and proofs use
+pub mod Cursors
+pub mod Reads

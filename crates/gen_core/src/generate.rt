@@ -1,0 +1,120 @@
+//! The container of a dump text, and why there is none.
+//! The rules are in `docs/formats.md`, "Dump text" and "Canonical layout".
+
+ghost use Rattle.std.specs.Prelude.{◌≡◌, ◌≤◌, IfErr, IfOk, OnOk, Ok, Err, Some, None, MatchOption, length};
+ghost use Rattle.adb_view.specs.Plain.{Plain};
+ghost use Rattle.adb_write.specs.Canonical.{MOST_BYTES, written_of};
+ghost use Rattle.adb_values.specs.Drafts.{draft_with, empty_draft};
+ghost use Rattle.gen_core.specs.Generated.{IsGenFault, dumped_root, file_of_root, generated_file, table_of_line};
+
+use crate::cursor::Cursor;
+use crate::read::read_root;
+use adb_schema::{Which, schema_word};
+use adb_values::Draft;
+use adb_write::{WriteFault, file_of};
+use std::alloc::{AllocError, Global};
+use thiserror::Error;
+
+/// The container that a dump text is of: the text that `adbdump` prints of it is `text`. It has the
+/// canonical layout, and no contents of files. Rules of texts, such as that of versions, are not
+/// tested.
+///
+/// # Errors
+///
+/// `Bad` with the number of the first line that no dump text has after the lines before it; else
+/// `TooLarge`, if the payload passes a limit of the writer. Or `Memory`.
+pub fn gen(alloc: Global, text: &[u8]) -> Result<Vec<u8>, GenFault>
+    ensures ok { IfOk result (λ file. generated_file text.now ≡ Ok file.items) }
+    ensures err { IfErr result (λ fault. IsGenFault fault (generated_file text.now)) }
+{
+    let mut draft = Draft::new(alloc);
+    let which = read_text(alloc, &mut draft, text)?;
+    match draft.finish() {
+        Ok(payload) => Ok(file_of(alloc, word_of_root(which), &payload)?),
+        Err(WriteFault::TooLarge { bytes, values }) => Err(GenFault::TooLarge { bytes, values }),
+        Err(WriteFault::Memory) => Err(GenFault::Memory),
+    }
+}
+
+/// The table of the root that a text says, and the root's value in a draft.
+fn read_text(alloc: Global, draft: &mut Draft, text: &[u8]) -> Result<Which, GenFault>
+{
+    let mut cursor = Cursor::new(text);
+    let Some(line) = cursor.at_depth(0) else {
+        return Err(cursor.bad_line());
+    };
+    let Some(which) = table_of_line(line) else {
+        return Err(cursor.bad_line());
+    };
+    cursor.turn();
+    read_root(alloc, draft, &mut cursor, which)?;
+    if !cursor.is_at_end() {
+        return Err(cursor.bad_line());
+    }
+    Ok(which)
+}
+
+/// The first line of a package's dump.
+const PACKAGE_LINE: &[u8; 18] = b"#%SCHEMA: 676b6370";
+
+/// The first line of an index's dump.
+const INDEX_LINE: &[u8; 18] = b"#%SCHEMA: 78646e69";
+
+/// The first line of an installed database's dump.
+const IDB_LINE: &[u8; 18] = b"#%SCHEMA: 00626469";
+
+/// The first line of an intent's dump.
+const INTENT_LINE: &[u8; 18] = b"#%SCHEMA: 74746e69";
+
+/// The table of the root whose schema a first line names.
+fn table_of_line(line: &[u8]) -> Option<Which>
+    ensures { result ≡ table_of_line line.now }
+{
+    if line == PACKAGE_LINE.as_slice() {
+        return Some(Which::Package);
+    }
+    if line == INDEX_LINE.as_slice() {
+        return Some(Which::Index);
+    }
+    if line == IDB_LINE.as_slice() {
+        return Some(Which::Idb);
+    }
+    if line == INTENT_LINE.as_slice() {
+        return Some(Which::Intent);
+    }
+    None
+}
+
+/// The schema in the header of a container with this root.
+fn word_of_root(which: Which) -> u32 {
+    schema_word(which).unwrap_or(0)
+}
+
+/// Why no container is generated from a text.
+#[derive(Clone, Copy, Debug, PartialEq, Eq, Drop, Error)]
+pub enum GenFault {
+    /// The number, from 1, of the first line that no dump text has after the lines before it. If
+    /// another line must follow, it is the number of lines plus 1. A last line without a line end is
+    /// a bad line.
+    #[error("bad line {line}")]
+    Bad { line: u64 },
+    /// The payload would pass a limit of the writer. The counts are those just after the value that
+    /// does: the payload's bytes, and its values with the root.
+    #[error("a payload of {bytes} bytes and {values} values is too large")]
+    TooLarge { bytes: u64, values: u64 },
+    /// Out of memory.
+    #[error("out of memory")]
+    Memory,
+}
+
+impl From<AllocError> for GenFault {
+    ghost use Rattle.std.specs.Prelude.{◌≡◌};
+    ghost use Rattle.gen_core.specs.declared.generate.GenFault.TheVariants.{Memory};
+
+    ghost from_gives = { λ _ fault. fault ≡ Memory };
+
+    /// Out of memory: nothing is said of the text.
+    fn from(_: AllocError) -> GenFault {
+        GenFault::Memory
+    }
+}

@@ -1,0 +1,247 @@
+//! Reads the lines of a value, by its kind, and writes the value.
+//! The rules are in `docs/formats.md`, "Dump text", the table of values and their lines; which
+//! fields an object has, in what order, in "Schemas".
+
+use crate::cursor::{Cursor, without_prefix};
+use crate::generate::GenFault;
+use crate::value::{number_in, read_hash, read_text};
+use adb_schema::{Field, FieldName, Kind, Which, fields_of};
+use adb_values::Draft;
+use std::alloc::Global;
+
+/// Reads the root of a text, an object of this table, of all lines that are left; where none is,
+/// the root is Null.
+pub(crate) fn read_root(
+    alloc: Global,
+    draft: &mut Draft,
+    cursor: &mut Cursor<'_>,
+    which: Which,
+) -> Result<(), GenFault> {
+    if cursor.at_depth(0).is_none() {
+        draft.null()?;
+        return Ok(());
+    }
+    let mut scratch = Vec::new(alloc);
+    read_object(draft, cursor, &mut scratch, which, 0)
+}
+
+/// Reads a block as a value of the kind.
+#[cycle(block)]
+fn read_block(
+    draft: &mut Draft,
+    cursor: &mut Cursor<'_>,
+    scratch: &mut Vec<u8>,
+    kind: Kind,
+    depth: u32,
+) -> Result<(), GenFault> {
+    match kind {
+        Kind::Int | Kind::Text | Kind::Hash => read_only_line(draft, cursor, scratch, kind, depth),
+        Kind::TextArr => read_array(draft, cursor, scratch, Kind::Text, depth),
+        Kind::ObjArr(which) => read_array(draft, cursor, scratch, Kind::Obj(which), depth),
+        Kind::Obj(which) => read_object(draft, cursor, scratch, which, depth),
+    }
+}
+
+/// Reads a block that is one line as a value of the kind.
+fn read_only_line(
+    draft: &mut Draft,
+    cursor: &mut Cursor<'_>,
+    scratch: &mut Vec<u8>,
+    kind: Kind,
+    depth: u32,
+) -> Result<(), GenFault> {
+    let Some(line) = cursor.at_depth(depth) else {
+        return Err(cursor.bad_line());
+    };
+    read_line(draft, cursor, scratch, kind, line)?;
+    end_block(cursor, depth)
+}
+
+/// Reads what is left of the line as a value of the kind, and goes to the next line.
+fn read_line(
+    draft: &mut Draft,
+    cursor: &mut Cursor<'_>,
+    scratch: &mut Vec<u8>,
+    kind: Kind,
+    line: &[u8],
+) -> Result<(), GenFault> {
+    if !read_value(draft, scratch, kind, line)? {
+        return Err(cursor.bad_line());
+    }
+    cursor.turn();
+    Ok(())
+}
+
+/// Reads a line as a value of the kind; false where it is that of none.
+fn read_value(
+    draft: &mut Draft,
+    scratch: &mut Vec<u8>,
+    kind: Kind,
+    line: &[u8],
+) -> Result<bool, GenFault> {
+    match kind {
+        Kind::Int => match number_in(line) {
+            Some(number) => {
+                draft.int(number)?;
+                Ok(true)
+            }
+            None => Ok(false),
+        },
+        Kind::Text => {
+            if !read_text(scratch, line)? {
+                return Ok(false);
+            }
+            draft.blob(scratch)?;
+            Ok(true)
+        }
+        Kind::Hash => {
+            if !read_hash(scratch, line)? {
+                return Ok(false);
+            }
+            draft.blob(scratch)?;
+            Ok(true)
+        }
+        Kind::Obj(_) | Kind::TextArr | Kind::ObjArr(_) => Ok(false),
+    }
+}
+
+/// Tests that no further line belongs to a block of this depth.
+fn end_block(cursor: &Cursor<'_>, depth: u32) -> Result<(), GenFault> {
+    match cursor.at_depth(depth) {
+        Some(_) => Err(cursor.bad_line()),
+        None => Ok(()),
+    }
+}
+
+/// Reads a block as an array of values of the kind.
+#[cycle(block)]
+fn read_array(
+    draft: &mut Draft,
+    cursor: &mut Cursor<'_>,
+    scratch: &mut Vec<u8>,
+    kind: Kind,
+    depth: u32,
+) -> Result<(), GenFault> {
+    if cursor.at_depth(depth).is_none() {
+        return Err(cursor.bad_line());
+    }
+    draft.open_list()?;
+    read_entries(draft, cursor, scratch, kind, depth)?;
+    draft.close_array()?;
+    Ok(())
+}
+
+/// Reads a block as values of the kind, each behind a dash.
+#[cycle(block)]
+fn read_entries(
+    draft: &mut Draft,
+    cursor: &mut Cursor<'_>,
+    scratch: &mut Vec<u8>,
+    kind: Kind,
+    depth: u32,
+) -> Result<(), GenFault> {
+    while let Some(line) = cursor.at_depth(depth) {
+        let Some(entry) = without_prefix(line, b"- ") else {
+            return Err(cursor.bad_line());
+        };
+        cursor.read_dash(entry, depth + 1);
+        read_entry(draft, cursor, scratch, kind, depth + 1)?;
+    }
+    Ok(())
+}
+
+/// Reads a block as an entry of an array: `null`, or a value of the kind.
+#[cycle(block)]
+fn read_entry(
+    draft: &mut Draft,
+    cursor: &mut Cursor<'_>,
+    scratch: &mut Vec<u8>,
+    kind: Kind,
+    depth: u32,
+) -> Result<(), GenFault> {
+    if cursor.at_depth(depth) == Some(b"null".as_slice()) {
+        draft.null()?;
+        cursor.turn();
+        return end_block(cursor, depth);
+    }
+    read_block(draft, cursor, scratch, kind, depth)
+}
+
+/// Reads a block as an object of the table.
+#[cycle(block)]
+fn read_object(
+    draft: &mut Draft,
+    cursor: &mut Cursor<'_>,
+    scratch: &mut Vec<u8>,
+    which: Which,
+    depth: u32,
+) -> Result<(), GenFault> {
+    if cursor.at_depth(depth).is_none() {
+        return Err(cursor.bad_line());
+    }
+    draft.open_list()?;
+    read_fields(draft, cursor, scratch, fields_of(which), depth)?;
+    draft.close_object()?;
+    Ok(())
+}
+
+/// Reads a block as the fields of an object, in their order; a field without a line is Null.
+#[cycle(block)]
+fn read_fields(
+    draft: &mut Draft,
+    cursor: &mut Cursor<'_>,
+    scratch: &mut Vec<u8>,
+    fields: &[Field],
+    depth: u32,
+) -> Result<(), GenFault> {
+    for field in fields {
+        let Some(line) = cursor.at_depth(depth) else {
+            return Ok(());
+        };
+        match after_name(line, field.name) {
+            Some(value) => read_named(draft, cursor, scratch, field.kind, value, depth)?,
+            None => draft.null()?,
+        }
+    }
+    end_block(cursor, depth)
+}
+
+/// What a line has after the name of a field and a colon, if it begins with these.
+fn after_name(line: &[u8], name: FieldName) -> Option<&[u8]> {
+    let value = without_prefix(line, name.text().as_bytes())?;
+    without_prefix(value, b":")
+}
+
+/// Reads the value of a field, of whose first line this is left after its name: on that line, or
+/// in the block below it.
+#[cycle(block)]
+fn read_named(
+    draft: &mut Draft,
+    cursor: &mut Cursor<'_>,
+    scratch: &mut Vec<u8>,
+    kind: Kind,
+    value: &[u8],
+    depth: u32,
+) -> Result<(), GenFault> {
+    if has_one_line(kind) {
+        let Some(line) = without_prefix(value, b" ") else {
+            return Err(cursor.bad_line());
+        };
+        return read_line(draft, cursor, scratch, kind, line);
+    }
+    if !value.is_empty() {
+        return Err(cursor.bad_line());
+    }
+    cursor.turn();
+    read_block(draft, cursor, scratch, kind, depth + 1)
+}
+
+/// Whether a value of the kind is on the line of its field's name, and not below it.
+fn has_one_line(kind: Kind) -> bool
+    ensures { result ≡ has_one_line kind }
+{
+    match kind {
+        Kind::Int | Kind::Text | Kind::Hash => true,
+        Kind::Obj(_) | Kind::TextArr | Kind::ObjArr(_) => false,
+    }
+}
