@@ -3,5 +3,6 @@
 pub mod Numbers
 pub mod Texts
 pub mod Reports
+pub mod QueryReports
 -- what only inner contracts and proofs use
 pub mod Pieces
