@@ -1,13 +1,11 @@
 -- What candidates are ordered by in a query: the keys of options, all but three the same for all.
 -- No rule of a document: serves the contracts of `src/order.rt`.
-use Rattle.std.specs.Prelude.{◌≡◌, ℕ, Bool, true, false, All, List, None, Some, map, slice_get}
-use Rattle.std.specs.Ordering.{is_eq}
-use Rattle.candidate_core.specs.Candidates.{Candidate}
+use Rattle.std.specs.Prelude.{◌≡◌, ◌==◌, Bool, true, false, All, List, None, Some, slice_get}
+use Rattle.candidate_core.specs.Candidates.{Candidate, is_same_version}
 use Rattle.candidate_core.specs.Options.{IsIn}
-use Rattle.candidate_core.specs.declared.versions.RankedVersion.{RankedVersion}
-use Rattle.candidate_core.specs.declared.versions.VersionKind.TheVariants.{Own}
-use Rattle.option_ranks.specs.Ranking.{Ranking, ranking_by, version_key_cmp, with_version}
+use Rattle.option_ranks.specs.Ranking.{Ranking, ranking_by, with_version}
 use Rattle.option_ranks.specs.declared.rank.VersionKey.{VersionKey}
+use Rattle.option_ranks.specs.declared.rank.VersionKey.TheVariants.{ByRank, ByText}
 
 -- what is read of a candidate for its order in a query, at the place and with the ranks of a
 -- ranking
@@ -23,7 +21,8 @@ IsQueryRanking candidates r = (c : Candidate)
 
 -- whether two rankings have one version, by what versions are compared by
 abbrev pub have_one_version : VersionKey → Ranking → Ranking → Bool
-have_one_version key a b = is_eq (version_key_cmp key Own a.version b.version)
+have_one_version ByRank a b = a.version.rank == b.version.rank
+have_one_version ByText a b = is_same_version a.version.version b.version.version
 
 -- these rankings are read of candidates, and what their versions are compared by parts just the
 -- versions that have other texts

@@ -11,6 +11,7 @@ mod order;
 mod policy;
 mod report_out;
 mod search;
+mod version_places;
 
 pub use list::list;
 pub use policy::policy;

@@ -17,11 +17,7 @@ use std::alloc::{AllocError, Global};
 /// # Errors
 ///
 /// Out of memory.
-pub fn search(
-    alloc: Global,
-    pool: &Sealed<'_>,
-    patterns: &Operands,
-) -> Result<Text, AllocError>
+pub fn search(alloc: Global, pool: &Sealed<'_>, patterns: &Operands) -> Result<Text, AllocError>
     ensures { IfOk result (λ report. report
         ≡ search_report pool.now.candidates patterns.now) }
 {
