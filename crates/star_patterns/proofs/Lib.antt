@@ -1,1 +1,4 @@
-mod Stars
+mod Filled
+mod FirstStar
+mod Pieces
+mod Places
