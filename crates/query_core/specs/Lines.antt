@@ -1,8 +1,8 @@
 -- The line of a candidate, by the form of line that a command prints.
 -- No rule of a document: serves the contracts of `src/candidates.rt`.
 use Rattle.std.specs.Prelude.{ℕ, List, [], ◌++◌, codes}
-use Rattle.adb_tables.specs.FieldIndexes.{INFO_ARCH, INFO_LICENSE, INFO_ORIGIN}
-use Rattle.adb_tables.specs.Values.{entry_in, text_in}
+use Rattle.adb_view.specs.FieldIndexes.{INFO_ARCH, INFO_LICENSE, INFO_ORIGIN}
+use Rattle.adb_view.specs.Values.{entry_in, text_in}
 use Rattle.candidate_core.specs.Candidates.{Candidate}
 use Rattle.report_core.specs.QueryReports.{installed_mark, search_line, text_between}
 use Rattle.query_core.specs.List.{candidate_line}

@@ -1,8 +1,8 @@
 -- What `list` prints (apk(8)). The rule is in `docs/commands.md`, "`list`".
 use Rattle.std.specs.Prelude.{ℕ, ◌==◌, Bool, not, ◌&&◌, ◌||◌, List, length}
 use Rattle.std.specs.List.{flat_map, list_any}
-use Rattle.adb_tables.specs.FieldIndexes.{INFO_ARCH, INFO_LICENSE, INFO_ORIGIN}
-use Rattle.adb_tables.specs.Values.{entry_in, text_in}
+use Rattle.adb_view.specs.FieldIndexes.{INFO_ARCH, INFO_LICENSE, INFO_ORIGIN}
+use Rattle.adb_view.specs.Values.{entry_in, text_in}
 use Rattle.candidate_core.specs.Candidates.{Candidate}
 use Rattle.command_core.specs.declared.operands.Operand.{Operand}
 use Rattle.report_core.specs.QueryReports.{list_line}

@@ -7,7 +7,7 @@ use Rattle.std.specs.declared.cmp.Ordering.{Ordering}
 use Rattle.candidate_core.specs.Candidates.{Candidate}
 use Rattle.candidate_core.specs.Options.{places_from}
 use Rattle.candidate_core.specs.Rank.{bytes_cmp, greater_version}
-use Rattle.list_order.specs.Sorted.{sorted_by}
+use Rattle.base_core.specs.Sorted.{sorted_by}
 
 -- the text of a candidate's version, as it is printed; empty only if the candidate has no version,
 -- which none of a tested container lacks

@@ -6,7 +6,7 @@ ghost use Rattle.query_core.specs.Lines.{description_part, line_of};
 ghost use Rattle.query_core.specs.Order.{printed_version, query_cmp};
 ghost use Rattle.report_core.specs.QueryReports.{installed_mark, list_line, search_line, text_between};
 ghost use Rattle.report_core.specs.Reports.{name_version};
-ghost use Rattle.list_order.specs.Sorted.{sorted_by};
+ghost use Rattle.base_core.specs.Sorted.{sorted_by};
 ghost use Rattle.std.specs.List.{filter_map, flat_map};
 ghost use Rattle.std.specs.Prelude.{◌≡◌, ◌<◌, All, IfOk, OnOk, length, map, slice_get};
 

@@ -3,7 +3,7 @@
 //! The rule is in `docs/commands.md`, "Queries".
 ghost use Rattle.candidate_core.specs.declared.versions.VersionKind.TheVariants as Kinds;
 ghost use Rattle.candidate_core.specs.Packages.{candidates_of_packages};
-ghost use Rattle.list_order.specs.Sorted.{sorted_by};
+ghost use Rattle.base_core.specs.Sorted.{sorted_by};
 ghost use Rattle.option_ranks.specs.VersionRanks.{AreReadAlike, IsReadFrom};
 ghost use Rattle.query_core.specs.Order.{query_cmp};
 ghost use Rattle.query_core.specs.QueryRanking.{AreInQueryOrder, IsQueryRanking};
