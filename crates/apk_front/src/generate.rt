@@ -14,7 +14,7 @@ ghost use Rattle.outcome.specs.Generate.{adbgen, generate_outcome};
 use crate::answer::Verdict;
 use base_core::{Text, Tree, TreeFault, read_all};
 use command_core::Operands;
-use gen_core::{GenFault, gen};
+use gen_core::{GenFault, gen_};
 use report_core::Refusal;
 use std::alloc::{AllocError, Global};
 
@@ -50,7 +50,7 @@ fn verdict_of(alloc: Global, place: u32, found: &Option<Vec<u8>>) -> Result<Verd
     let Some(text) = found else {
         return Ok(Verdict::refused(alloc, Refusal::FileMissing { place }));
     };
-    match gen(alloc, text) {
+    match gen_(alloc, text) {
         Ok(file) => Ok(Verdict::reported(Text::from_vec(file))),
         Err(GenFault::Bad { line }) => {
             Ok(Verdict::refused(alloc, Refusal::TextBad { place, line }))
