@@ -1,6 +1,6 @@
 //! A command line is judged: its words are read, and its applet is run. What it may do below its
 //! root is known before, as a host wants it. The rules stand in `docs/commands.md`, "Words" and
-//! "Before the commands that write, and `info`"; and of what a run may do below its root in
+//! "Commands that recover first"; and of what a run may do below its root in
 //! `docs/crash-safety.md`, "What the host's tree does"; how counts explain an answer, in "Misuses,
 //! faults and counts".
 

@@ -1,5 +1,5 @@
 //! A command that recovers: what an intent has still to do is done first. The rules stand in
-//! `docs/commands.md`, "Before the commands that write, and `info`", and in `docs/crash-safety.md`,
+//! `docs/commands.md`, "Commands that recover first", and in `docs/crash-safety.md`,
 //! "Recovery".
 ghost use Rattle.std.specs.Prelude.{◌≡◌, true, None, Ok, IfOk, IsErrOf, IsSome, OnOk};
 ghost use Rattle.apk_front.specs.Moments.{HasRoomToWrite, LeavesRoomFor};

@@ -1,5 +1,5 @@
 -- The outcome of a command. `demo` is apart: it runs other commands. What comes before each command
--- stands in `docs/commands.md`, "Before the commands that write, and `info`", and what each comes
+-- stands in `docs/commands.md`, "Commands that recover first", and what each comes
 -- to in its own section.
 use Rattle.std.specs.Prelude.{◌≡◌, ◌⊎◌, ℕ, true, List, [], Option, Some, None, Result, Ok, Err}
 use Rattle.adb_schema.specs.Soundness.{first_fault}

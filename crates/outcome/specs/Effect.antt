@@ -1,5 +1,5 @@
 -- What a command looks at, and what it changes. The rules stand in `docs/commands.md`,
--- "Before the commands that write, and `info`", and in `docs/crash-safety.md`,
+-- "Commands that recover first", and in `docs/crash-safety.md`,
 -- "Misuses, faults and counts", its last paragraph.
 use Rattle.std.specs.Prelude.{ℕ, Bool, true, false, List, Option, None, Result, Ok, Err}
 use Rattle.make_info.specs.Output.{output_name}

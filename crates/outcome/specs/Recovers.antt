@@ -1,6 +1,6 @@
 -- Which commands first finish what an earlier change left undone: a list by itself, beside which a
 -- law sets what `Effect` says. The rule stands in `docs/commands.md`,
--- "Before the commands that write, and `info`".
+-- "Commands that recover first".
 use Rattle.std.specs.Prelude.{Bool, true, false}
 use Rattle.command_core.specs.declared.command.Applet.{Applet}
 use Rattle.command_core.specs.declared.command.Applet.TheVariants.{Adbdump, Adbgen, Add, Audit, Del, Demo, Fix, Help, Info, List as ListApplet, Manifest, Mkndx, Mkpkg, Policy, ProgramVersion, Search, Upgrade, Verify, Version}

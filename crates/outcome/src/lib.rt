@@ -3,8 +3,8 @@
 //!
 //! It is a crate of definitions. `Outcome` of `specs/` says what a command comes to, `Words` what a
 //! command line comes to, `Commands` what each command but `demo` does, `Effect` what it looks at
-//! and changes, and `Version`, `Verify`, `Dump`, `Make`, `Telling` and `Changing` what each comes
-//! to; `Demo` says what `demo` runs, and `Given` what no function computes of an outcome.
+//! and changes, and `Version`, `Verify`, `Dump`, `Generate`, `Make`, `Telling` and `Changing` what
+//! each comes to; `Demo` says what `demo` runs, and `Given` what no function computes of an outcome.
 //! `ChangeEnd`, `Recovers` and `Sound` are what laws cite: how a change ends, which commands
 //! recover, and when a file is a sound container.
 //!
