@@ -4,3 +4,7 @@ mod RecordOrder
 mod RecordSteps
 mod Listings
 mod AuditSteps
+mod SortedRecords
+mod Differing
+mod PathsOnce
+mod RisingPaths

@@ -12,5 +12,8 @@ mod manifest;
 mod records;
 
 pub use audit::{Difference, audit};
-pub use laws::audits_rest_on_their_own_reads;
+pub use laws::{
+    an_audit_reports_just_the_files_that_differ, an_audit_reports_nothing_if_all_is_as_recorded,
+    audits_rest_on_their_own_reads,
+};
 pub use manifest::manifest;
