@@ -1,13 +1,17 @@
 -- What reading does to a draft and to the place in the text, by what lines are read as.
 -- The rule is in `docs/formats.md`, "Dump text". Serves the contracts of `src/read.rt` and
 -- `src/value.rt`.
-use Rattle.std.specs.Prelude.{◌≡◌, ◌≢◌, ℕ, ⊤, ◌+◌, ◌<◌, Bool, true, false, List, [], ◌∷◌, Result, Ok, Err}
+use Rattle.std.specs.Prelude.{◌≡◌, ◌≢◌, ℕ, ⊤, ◌+◌, ◌<◌, Bool, true, false, List, [], ◌∷◌, Option, None, Result, Ok, Err}
 use Rattle.std.specs.List.{AllByRecursion}
 use Rattle.adb_view.specs.Plain.{Plain, Plains, Shape, number, text, hash, array, object}
+use Rattle.adb_view.specs.declared.tables.Kind.{Kind}
+use Rattle.adb_view.specs.declared.tables.Kind.TheVariants.{Int, Text, Hash, Obj, TextArr, ObjArr}
 use Rattle.adb_values.specs.Drafts.{DraftState, draft_with, draft_with_all}
 use Rattle.adb_dump.specs.Dump.{Line, int_line, text_line, hash_line}
 use Rattle.adb_dump.specs.ReadBack.{LinesRead, entry_read, if_form, int_read, text_read, hash_read}
 use Rattle.gen_core.specs.Cursors.{CursorState, after_block, after_line}
+use Rattle.adb_view.specs.declared.tables.Which.{Which}
+use Rattle.gen_core.specs.Generated.{DumpedRoot, table_of_line}
 use Rattle.gen_core.specs.declared.generate.GenFault.{GenFault}
 use Rattle.gen_core.specs.declared.generate.GenFault.TheVariants.{Bad, TooLarge, Memory}
 
@@ -26,6 +30,15 @@ line_read text l = if_form text_line l (text_read l)
 line_read hash l = if_form hash_line l (hash_read l)
 line_read (array s) l = Err 0
 line_read (object schema fs) l = Err 0
+
+-- whether a value of the kind is on the line of its field's name, and not below it
+abbrev pub has_one_line : Kind → Bool
+has_one_line Int = true
+has_one_line Text = true
+has_one_line Hash = true
+has_one_line (Obj which) = false
+has_one_line TextArr = false
+has_one_line (ObjArr which) = false
 
 -- a draft has the value that was read more; or the line cannot be read
 abbrev pub IsLineRead : Bool → LinesRead Plain → DraftState → DraftState → Type 0
@@ -67,7 +80,24 @@ end_read (l ∷ ls) n = Err (Bad n)
 
 -- a fault is the bad line that reading comes to; out of memory may be reported at any place, and a
 -- payload that is too large is reported at the end of the text alone
-abbrev pub IsReadFault : GenFault → Read → Type 0
+abbrev pub IsReadFault : {A : Type 0} → GenFault → Result A ℕ → Type 0
 IsReadFault (Bad line) read = read ≡ Err line
 IsReadFault (TooLarge bytes values) read = ⊥
 IsReadFault Memory read = ⊤
+
+-- ---- the text
+
+-- the table that the first of some lines names
+abbrev pub table_read : List Line → Option Which
+table_read [] = None
+table_read (l ∷ ls) = table_of_line l
+
+-- whether there are bytes after the last line end
+abbrev pub has_rest : List ℕ → Bool
+has_rest [] = false
+has_rest (c ∷ cs) = true
+
+-- the table of the root, and a draft that has its value more; or the number of the first bad line
+abbrev pub root_taken : Result DumpedRoot ℕ → DraftState → Result (Which × DraftState) ℕ
+root_taken (Ok root) d = Ok (root.which, draft_with root.value d)
+root_taken (Err line) d = Err line

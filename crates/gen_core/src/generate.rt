@@ -1,11 +1,11 @@
 //! The container of a dump text, and why there is none.
 //! The rules are in `docs/formats.md`, "Dump text" and "Canonical layout".
 
-ghost use Rattle.std.specs.Prelude.{◌≡◌, ◌≤◌, IfErr, IfOk, OnOk, Ok, Err, Some, None, MatchOption, length};
-ghost use Rattle.adb_view.specs.Plain.{Plain};
-ghost use Rattle.adb_write.specs.Canonical.{MOST_BYTES, written_of};
-ghost use Rattle.adb_values.specs.Drafts.{draft_with, empty_draft};
-ghost use Rattle.gen_core.specs.Generated.{IsGenFault, dumped_root, file_of_root, generated_file, table_of_line};
+ghost use Rattle.std.specs.Prelude.{◌≡◌, IfErr, IfOk, OnOk, Ok, Err, Some, None};
+ghost use Rattle.gen_core.specs.declared.generate.GenFault.TheVariants.{Bad};
+ghost use Rattle.gen_core.specs.Cursors.{after_line};
+ghost use Rattle.gen_core.specs.Generated.{IsGenFault, dumped_root, generated_file, table_of_line, text_lines, word_of_root};
+ghost use Rattle.gen_core.specs.Reads.{IsReadFault, has_rest, root_taken, table_read};
 
 use crate::cursor::Cursor;
 use crate::read::read_root;
@@ -23,7 +23,7 @@ use thiserror::Error;
 ///
 /// `Bad` with the number of the first line that no dump text has after the lines before it; else
 /// `TooLarge`, if the payload passes a limit of the writer. Or `Memory`.
-pub fn gen(alloc: Global, text: &[u8]) -> Result<Vec<u8>, GenFault>
+pub fn gen_(alloc: Global, text: &[u8]) -> Result<Vec<u8>, GenFault>
     ensures ok { IfOk result (λ file. generated_file text.now ≡ Ok file.items) }
     ensures err { IfErr result (λ fault. IsGenFault fault (generated_file text.now)) }
 {
@@ -36,10 +36,30 @@ pub fn gen(alloc: Global, text: &[u8]) -> Result<Vec<u8>, GenFault>
     }
 }
 
-/// The table of the root that a text says, and the root's value in a draft.
+/// Reads a text: the value of its root is added to the draft, and its table is the answer.
 fn read_text(alloc: Global, draft: &mut Draft, text: &[u8]) -> Result<Which, GenFault>
+    ensures ok { IfOk result (λ which. root_taken (dumped_root text.now) draft.old
+        ≡ Ok (which, draft.new)) }
+    ensures err { IfErr result (λ fault. IsReadFault fault
+        (root_taken (dumped_root text.now) draft.old)) }
 {
     let mut cursor = Cursor::new(text);
+    let which = read_table(&mut cursor)?;
+    read_root(alloc, draft, &mut cursor, which)?;
+    if has_rest(text) {
+        return Err(cursor.bad_line());
+    }
+    Ok(which)
+}
+
+/// Reads the first line of a text, which names the table of its root.
+fn read_table(cursor: &mut Cursor<'_>) -> Result<Which, GenFault>
+    requires { cursor.old.levels ≡ 0 }
+    ensures ok { IfOk result (λ which. table_read cursor.old.lines ≡ Some which) }
+    ensures next { OnOk result (cursor.new ≡ after_line cursor.old.lines cursor.old) }
+    ensures err { IfErr result (λ fault. (fault ≡ Bad cursor.old.number)
+        × (table_read cursor.old.lines ≡ None)) }
+{
     let Some(line) = cursor.at_depth(0) else {
         return Err(cursor.bad_line());
     };
@@ -47,11 +67,17 @@ fn read_text(alloc: Global, draft: &mut Draft, text: &[u8]) -> Result<Which, Gen
         return Err(cursor.bad_line());
     };
     cursor.turn();
-    read_root(alloc, draft, &mut cursor, which)?;
-    if !cursor.is_at_end() {
-        return Err(cursor.bad_line());
-    }
     Ok(which)
+}
+
+/// Whether a text has bytes after its last line end.
+fn has_rest(text: &[u8]) -> bool
+    ensures { result ≡ has_rest (text_lines text.now).1 }
+{
+    match text.last() {
+        Some(last) => *last != b'\n',
+        None => false,
+    }
 }
 
 /// The first line of a package's dump.
@@ -86,7 +112,9 @@ fn table_of_line(line: &[u8]) -> Option<Which>
 }
 
 /// The schema in the header of a container with this root.
-fn word_of_root(which: Which) -> u32 {
+fn word_of_root(which: Which) -> u32
+    ensures { result ≡ word_of_root which }
+{
     schema_word(which).unwrap_or(0)
 }
 

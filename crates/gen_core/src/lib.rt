@@ -15,4 +15,4 @@ mod generate;
 mod read;
 mod value;
 
-pub use generate::{GenFault, gen};
+pub use generate::{GenFault, gen_};

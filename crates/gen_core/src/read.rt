@@ -2,12 +2,23 @@
 //! The rules are in `docs/formats.md`, "Dump text", the table of values and their lines; which
 //! fields an object has, in what order, in "Schemas".
 
+ghost use Rattle.std.specs.Prelude.{◌≡◌, ◌+◌, ◌<◌, ◌≤◌, [], ◌∷◌, List, Ok, Err, IfErr, IfOk, OnOk, codes, ◌++◌, drop, length, option_copied, true};
+ghost use Rattle.adb_view.specs.Plain.{Plains, array};
+ghost use Rattle.adb_view.specs.Schema.{field_name_text, shape_of, shapes_of};
+ghost use Rattle.adb_view.specs.Rank.{rank, rank_of_all};
+ghost use Rattle.adb_view.specs.declared.tables.Kind.TheVariants as Kinds;
+ghost use Rattle.adb_dump.specs.Dump.{Line};
+ghost use Rattle.adb_dump.specs.Margin.{DEPTH_LIMIT};
+ghost use Rattle.adb_dump.specs.ReadBack.{LinesRead, block_read, entries_read, fields_read, named_read, strip_prefix, value_read};
+ghost use Rattle.gen_core.specs.Cursors.{after_block, after_line, block_at};
+ghost use Rattle.gen_core.specs.Reads.{IsLineRead, IsReadFault, block_taken, end_read, entry_block_read, has_one_line, line_read, line_taken, values_taken};
+
 use crate::cursor::{Cursor, without_prefix};
 use crate::generate::GenFault;
 use crate::value::{number_in, read_hash, read_text};
 use adb_schema::{Field, FieldName, Kind, Which, fields_of};
 use adb_values::Draft;
-use std::alloc::Global;
+use std::alloc::{AllocError, Global};
 
 /// Reads the root of a text, an object of this table, of all lines that are left; where none is,
 /// the root is Null.
@@ -16,7 +27,13 @@ pub(crate) fn read_root(
     draft: &mut Draft,
     cursor: &mut Cursor<'_>,
     which: Which,
-) -> Result<(), GenFault> {
+) -> Result<(), GenFault>
+    requires { cursor.old.levels ≡ 0 }
+    ensures ok { OnOk result (block_taken (value_read which cursor.old.lines) (cursor.old.lines, [])
+        draft.old cursor.old ≡ Ok (draft.new, cursor.new)) }
+    ensures err { IfErr result (λ fault. IsReadFault fault (block_taken
+        (value_read which cursor.old.lines) (cursor.old.lines, []) draft.old cursor.old)) }
+{
     if cursor.at_depth(0).is_none() {
         draft.null()?;
         return Ok(());
@@ -33,7 +50,16 @@ fn read_block(
     scratch: &mut Vec<u8>,
     kind: Kind,
     depth: u32,
-) -> Result<(), GenFault> {
+) -> Result<(), GenFault>
+    requires within { cursor.old.levels ≤ depth }
+    requires deep { depth + rank kind ≤ DEPTH_LIMIT }
+    ensures ok { let block = block_at depth cursor.old.lines in OnOk result
+        (block_taken (block_read (shape_of kind) block.0)
+        block draft.old cursor.old ≡ Ok (draft.new, cursor.new)) }
+    ensures err { let block = block_at depth cursor.old.lines in IfErr result (λ fault.
+        IsReadFault fault (block_taken (block_read (shape_of kind) block.0)
+        block draft.old cursor.old)) }
+{
     match kind {
         Kind::Int | Kind::Text | Kind::Hash => read_only_line(draft, cursor, scratch, kind, depth),
         Kind::TextArr => read_array(draft, cursor, scratch, Kind::Text, depth),
@@ -49,7 +75,16 @@ fn read_only_line(
     scratch: &mut Vec<u8>,
     kind: Kind,
     depth: u32,
-) -> Result<(), GenFault> {
+) -> Result<(), GenFault>
+    requires within { cursor.old.levels ≤ depth }
+    requires line { has_one_line kind ≡ true }
+    ensures ok { let block = block_at depth cursor.old.lines in OnOk result
+        (block_taken (block_read (shape_of kind) block.0)
+        block draft.old cursor.old ≡ Ok (draft.new, cursor.new)) }
+    ensures err { let block = block_at depth cursor.old.lines in IfErr result (λ fault.
+        IsReadFault fault (block_taken (block_read (shape_of kind) block.0)
+        block draft.old cursor.old)) }
+{
     let Some(line) = cursor.at_depth(depth) else {
         return Err(cursor.bad_line());
     };
@@ -64,7 +99,12 @@ fn read_line(
     scratch: &mut Vec<u8>,
     kind: Kind,
     line: &[u8],
-) -> Result<(), GenFault> {
+) -> Result<(), GenFault>
+    ensures ok { OnOk result (line_taken (line_read (shape_of kind) line.now) draft.old cursor.old
+        ≡ Ok (draft.new, cursor.new)) }
+    ensures err { IfErr result (λ fault. IsReadFault fault
+        (line_taken (line_read (shape_of kind) line.now) draft.old cursor.old)) }
+{
     if !read_value(draft, scratch, kind, line)? {
         return Err(cursor.bad_line());
     }
@@ -78,7 +118,10 @@ fn read_value(
     scratch: &mut Vec<u8>,
     kind: Kind,
     line: &[u8],
-) -> Result<bool, GenFault> {
+) -> Result<bool, AllocError>
+    ensures { IfOk result (λ is. IsLineRead is (line_read (shape_of kind) line.now) draft.old
+        draft.new) }
+{
     match kind {
         Kind::Int => match number_in(line) {
             Some(number) => {
@@ -106,7 +149,10 @@ fn read_value(
 }
 
 /// Tests that no further line belongs to a block of this depth.
-fn end_block(cursor: &Cursor<'_>, depth: u32) -> Result<(), GenFault> {
+fn end_block(cursor: &Cursor<'_>, depth: u32) -> Result<(), GenFault>
+    requires { cursor.now.levels ≤ depth }
+    ensures { result ≡ end_read (block_at depth cursor.now.lines).0 cursor.now.number }
+{
     match cursor.at_depth(depth) {
         Some(_) => Err(cursor.bad_line()),
         None => Ok(()),
@@ -121,7 +167,16 @@ fn read_array(
     scratch: &mut Vec<u8>,
     kind: Kind,
     depth: u32,
-) -> Result<(), GenFault> {
+) -> Result<(), GenFault>
+    requires within { cursor.old.levels ≤ depth }
+    requires deep { depth + rank kind < DEPTH_LIMIT }
+    ensures ok { let block = block_at depth cursor.old.lines in OnOk result
+        (block_taken (block_read (array (shape_of kind)) block.0)
+        block draft.old cursor.old ≡ Ok (draft.new, cursor.new)) }
+    ensures err { let block = block_at depth cursor.old.lines in IfErr result (λ fault.
+        IsReadFault fault (block_taken (block_read (array (shape_of kind)) block.0)
+        block draft.old cursor.old)) }
+{
     if cursor.at_depth(depth).is_none() {
         return Err(cursor.bad_line());
     }
@@ -139,7 +194,16 @@ fn read_entries(
     scratch: &mut Vec<u8>,
     kind: Kind,
     depth: u32,
-) -> Result<(), GenFault> {
+) -> Result<(), GenFault>
+    requires within { cursor.old.levels ≤ depth }
+    requires deep { depth + rank kind < DEPTH_LIMIT }
+    ensures ok { let block = block_at depth cursor.old.lines in OnOk result
+        (values_taken (entries_read (block_read (shape_of kind)) (length block.0) block.0)
+        block draft.old cursor.old ≡ Ok (draft.new, cursor.new)) }
+    ensures err { let block = block_at depth cursor.old.lines in IfErr result (λ fault.
+        IsReadFault fault (values_taken (entries_read (block_read (shape_of kind)) (length block.0) block.0)
+        block draft.old cursor.old)) }
+{
     while let Some(line) = cursor.at_depth(depth) {
         let Some(entry) = without_prefix(line, b"- ") else {
             return Err(cursor.bad_line());
@@ -158,7 +222,16 @@ fn read_entry(
     scratch: &mut Vec<u8>,
     kind: Kind,
     depth: u32,
-) -> Result<(), GenFault> {
+) -> Result<(), GenFault>
+    requires within { cursor.old.levels ≤ depth }
+    requires deep { depth + rank kind ≤ DEPTH_LIMIT }
+    ensures ok { let block = block_at depth cursor.old.lines in OnOk result
+        (block_taken (entry_block_read (block_read (shape_of kind)) block.0)
+        block draft.old cursor.old ≡ Ok (draft.new, cursor.new)) }
+    ensures err { let block = block_at depth cursor.old.lines in IfErr result (λ fault.
+        IsReadFault fault (block_taken (entry_block_read (block_read (shape_of kind)) block.0)
+        block draft.old cursor.old)) }
+{
     if cursor.at_depth(depth) == Some(b"null".as_slice()) {
         draft.null()?;
         cursor.turn();
@@ -175,7 +248,16 @@ fn read_object(
     scratch: &mut Vec<u8>,
     which: Which,
     depth: u32,
-) -> Result<(), GenFault> {
+) -> Result<(), GenFault>
+    requires within { cursor.old.levels ≤ depth }
+    requires deep { depth + rank (Kinds.Obj which) ≤ DEPTH_LIMIT }
+    ensures ok { let block = block_at depth cursor.old.lines in OnOk result
+        (block_taken (block_read (shape_of (Kinds.Obj which)) block.0)
+        block draft.old cursor.old ≡ Ok (draft.new, cursor.new)) }
+    ensures err { let block = block_at depth cursor.old.lines in IfErr result (λ fault.
+        IsReadFault fault (block_taken (block_read (shape_of (Kinds.Obj which)) block.0)
+        block draft.old cursor.old)) }
+{
     if cursor.at_depth(depth).is_none() {
         return Err(cursor.bad_line());
     }
@@ -193,7 +275,16 @@ fn read_fields(
     scratch: &mut Vec<u8>,
     fields: &[Field],
     depth: u32,
-) -> Result<(), GenFault> {
+) -> Result<(), GenFault>
+    requires within { cursor.old.levels ≤ depth }
+    requires deep { depth + rank_of_all fields.now < DEPTH_LIMIT }
+    ensures ok { let block = block_at depth cursor.old.lines in OnOk result
+        (values_taken (fields_read (shapes_of fields.now) block.0)
+        block draft.old cursor.old ≡ Ok (draft.new, cursor.new)) }
+    ensures err { let block = block_at depth cursor.old.lines in IfErr result (λ fault.
+        IsReadFault fault (values_taken (fields_read (shapes_of fields.now) block.0)
+        block draft.old cursor.old)) }
+{
     for field in fields {
         let Some(line) = cursor.at_depth(depth) else {
             return Ok(());
@@ -207,7 +298,9 @@ fn read_fields(
 }
 
 /// What a line has after the name of a field and a colon, if it begins with these.
-fn after_name(line: &[u8], name: FieldName) -> Option<&[u8]> {
+fn after_name(line: &[u8], name: FieldName) -> Option<&[u8]>
+    ensures { option_copied result ≡ strip_prefix (field_name_text name ++ codes ":") line.entry.now }
+{
     let value = without_prefix(line, name.text().as_bytes())?;
     without_prefix(value, b":")
 }
@@ -222,7 +315,22 @@ fn read_named(
     kind: Kind,
     value: &[u8],
     depth: u32,
-) -> Result<(), GenFault> {
+) -> Result<(), GenFault>
+    requires within { cursor.old.levels ≤ depth }
+    requires deep { depth + rank kind < DEPTH_LIMIT }
+    requires some { 0 < length (block_at depth cursor.old.lines).0 }
+    ensures ok { let block = block_at depth cursor.old.lines in OnOk result
+        ((others : List Line → LinesRead Plains)
+        → values_taken (named_read (shape_of kind) others (drop 1 block.0) value.now)
+        block draft.old cursor.old
+        ≡ values_taken (others (block_at depth cursor.new.lines).0)
+        (block_at depth cursor.new.lines) draft.new cursor.new) }
+    ensures begun { OnOk result (cursor.new.levels ≡ 0) }
+    ensures err { let block = block_at depth cursor.old.lines in IfErr result (λ fault.
+        (others : List Line → LinesRead Plains) → IsReadFault fault
+        (values_taken (named_read (shape_of kind) others (drop 1 block.0) value.now)
+        block draft.old cursor.old)) }
+{
     if has_one_line(kind) {
         let Some(line) = without_prefix(value, b" ") else {
             return Err(cursor.bad_line());

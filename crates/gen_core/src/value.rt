@@ -1,18 +1,23 @@
 //! Values that have one line each: integers, texts and hashes.
 //! The rules are in `docs/formats.md`, "Dump text": each value has one form on its line, and a line
-//! of another form is none.
+//! of any other form is bad.
 
-ghost use Rattle.std.specs.Prelude.{◌≡◌, ◌≢◌, ℕ, ◌<◌, ◌^◌, ◌×◌, [], ◌∷◌, List, IfOk, MatchOption, codes};
+ghost use Rattle.std.specs.Prelude.{◌≡◌, ◌≢◌, ℕ, ◌+◌, ◌*◌, ◌<◌, ◌^◌, [], ◌∷◌, List, IfOk, MatchOption, IfNone, IfSome, codes};
 ghost use Rattle.std.specs.Fmt.{decimal};
 ghost use Rattle.hex.specs.Hex.{encode_lower};
-ghost use Rattle.adb_dump.specs.Dump.{text_form};
+ghost use Rattle.adb_dump.specs.Dump.{is_bare, is_printable, text_form};
+ghost use Rattle.gen_core.specs.Reads.{IsFormOf};
+ghost use Rattle.gen_core.specs.Quoted.{IsDigitOf};
 
 use adb_dump::is_bare;
 use itoa::Buffer;
 use std::alloc::AllocError;
 
-/// The integer of a line, if the line is its decimal digits.
-pub(crate) fn number_in(line: &[u8]) -> Option<u64> {
+/// The integer whose decimal digits are the line; None if there is no such integer below 2^64.
+pub(crate) fn number_in(line: &[u8]) -> Option<u64>
+    ensures { MatchOption result ((n : ℕ) → n < 2 ^ 64 → decimal n ≢ line.now)
+        (λ n. decimal n ≡ line.now) }
+{
     let number = digits_value(line)?;
     let mut digits = Buffer::new();
     if digits.format(number).as_bytes() != line {
@@ -22,7 +27,10 @@ pub(crate) fn number_in(line: &[u8]) -> Option<u64> {
 }
 
 /// The number below 2^64 that digits write.
-fn digits_value(line: &[u8]) -> Option<u64> {
+fn digits_value(line: &[u8]) -> Option<u64>
+    ensures { MatchOption result ((n : ℕ) → n < 2 ^ 64 → decimal n ≢ line.now)
+        (λ n. (m : ℕ) → m < 2 ^ 64 → decimal m ≡ line.now → m ≡ n) }
+{
     let mut number: u64 = 0;
     for digit in line {
         let value = match *digit {
@@ -34,8 +42,10 @@ fn digits_value(line: &[u8]) -> Option<u64> {
     Some(number)
 }
 
-/// Reads the bytes of a hash from its line into `bytes`; false where the line is that of no hash.
-pub(crate) fn read_hash(bytes: &mut Vec<u8>, line: &[u8]) -> Result<bool, AllocError> {
+/// Reads the bytes of a hash from its line into `bytes`; false if the line is that of no hash.
+pub(crate) fn read_hash(bytes: &mut Vec<u8>, line: &[u8]) -> Result<bool, AllocError>
+    ensures { IfOk result (λ is. IsFormOf encode_lower is bytes.new.items line.now) }
+{
     bytes.clear();
     let mut rest = line;
     while let [high, low, further @ ..] = rest {
@@ -49,7 +59,9 @@ pub(crate) fn read_hash(bytes: &mut Vec<u8>, line: &[u8]) -> Result<bool, AllocE
 }
 
 /// The value of a hexadecimal digit, lower-case.
-fn hex_digit(digit: u8) -> Option<u8> {
+fn hex_digit(digit: u8) -> Option<u8>
+    ensures { IsDigitOf result digit }
+{
     match digit {
         b'0'..=b'9' => Some(digit - b'0'),
         b'a'..=b'f' => Some(digit - b'a' + 10),
@@ -57,8 +69,10 @@ fn hex_digit(digit: u8) -> Option<u8> {
     }
 }
 
-/// Reads the bytes of a text from its line into `bytes`; false where the line is that of no text.
-pub(crate) fn read_text(bytes: &mut Vec<u8>, line: &[u8]) -> Result<bool, AllocError> {
+/// Reads the bytes of a text from its line into `bytes`; false if the line is that of no text.
+pub(crate) fn read_text(bytes: &mut Vec<u8>, line: &[u8]) -> Result<bool, AllocError>
+    ensures { IfOk result (λ is. IsFormOf text_form is bytes.new.items line.now) }
+{
     match line {
         [b'"', quoted @ ..] => read_quoted(bytes, quoted),
         _ => read_bare(bytes, line),
@@ -99,12 +113,16 @@ fn unescaped(rest: &[u8]) -> Option<(u8, &[u8])> {
             }
             Some((byte, further))
         }
-        [byte, further @ ..] if *byte != b'\\' && *byte != b'"' && is_printable_byte(*byte) => Some((*byte, further)),
+        [byte, further @ ..] if *byte != b'\\' && *byte != b'"' && is_printable_byte(*byte) => {
+            Some((*byte, further))
+        }
         _ => None,
     }
 }
 
 /// Whether a byte is a space or a visible character of ASCII: 0x20 to 0x7e.
-fn is_printable_byte(byte: u8) -> bool {
+fn is_printable_byte(byte: u8) -> bool
+    ensures { result ≡ is_printable byte }
+{
     byte >= 0x20 && byte <= 0x7e
 }
