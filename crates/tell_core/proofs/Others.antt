@@ -11,7 +11,6 @@ use Rattle.installed_info.specs.declared.telling.InfoDone.{InfoDone}
 use Rattle.make_info.specs.Reads.{Reads}
 use Rattle.package_files.proofs.ReadLemmas.{explained}
 use Rattle.package_files.specs.Runs.{Explains}
-use Rattle.report_core.specs.declared.refusal.Refusal.{Refusal}
 use Rattle.tell_core.specs.ToldBy.{told_by, told_for}
 
 abbrev pub IsTold : List TreeState → CommandLine → Applet → Result InfoDone Refused → Type 0
