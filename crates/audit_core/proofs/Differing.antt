@@ -35,11 +35,11 @@ pub from_records : (packages : List Plain) (r : FileRecord) → IsIn r (records_
 unfolding records_by_path
 from_records packages r here =
     let found = from-flat_map package_records r packages (from_sorted record_cmp r (database_records packages) here) in
-    record { package = found.0; installed = found.1; listed = found.2 }
+    record { pkg = found.0; installed = found.1; listed = found.2 }
 
 pub in_records : (packages : List Plain) (r : FileRecord) → IsRecordOf packages r → IsIn r (records_by_path packages)
 unfolding records_by_path
-in_records packages r is = in_sorted record_cmp r (database_records packages) (in-flat_map package_records r is.package packages is.installed is.listed)
+in_records packages r is = in_sorted record_cmp r (database_records packages) (in-flat_map package_records r is.pkg packages is.installed is.listed)
 
 -- ---- one file
 
@@ -111,9 +111,9 @@ as_recorded entry (Some bytes) none = go (is_as_listed entry bytes) refl
     go false is = absurd (none Changed is)
 
 not_different : (entry : Plain) (found : Option (List ℕ)) (difference : Difference) → IsSomeAnd found (λ bytes. is_as_listed entry bytes ≡ true) → IsDifferent difference entry found → ⊥
-not_different entry None difference as is = as
-not_different entry (Some bytes) Missing as is = absurd (cc)
-not_different entry (Some bytes) Changed as is = true≢false (sym as ∙ is)
+not_different entry None difference listed is = listed
+not_different entry (Some bytes) Missing listed is = absurd (cc)
+not_different entry (Some bytes) Changed listed is = true≢false (sym listed ∙ is)
 
 none_in : (ds : List FileDifference) → ((d : FileDifference) → IsIn d ds → ⊥) → ds ≡ []
 none_in [] h = refl
@@ -126,6 +126,6 @@ nothing_reported files read first packages same = (
       subst (IsIn (record { path = r.path; difference = difference })) (no_lines (file_differences files packages) (sym (report_over files read first packages same) ∙ e))
       (is_difference files packages (record { path = r.path; difference = difference }) (record { entry = r.entry; recorded = is; differs = differs }))),
   λ all. report_over files read first packages same
-  ∙ ap (flat_map difference_line) (none_in (file_differences files packages) (λ d here.
+      ∙ ap (flat_map difference_line) (none_in (file_differences files packages) (λ d here.
       (let is = difference_is files packages d here in not_different is.entry (files d.path) d.difference (all (record { path = d.path; entry = is.entry }) is.recorded) is.differs))),
 )

@@ -112,9 +112,9 @@ folder_once : (folder : Plain) → AreParts folder → AreDistinctNames (map nam
 folder_once folder parts d =
     subst AreDistinctNames (map_twice (path_of (name_of folder)) (files_in folder))
     (distinct_map (path_of (name_of folder)) (map name_of (files_in folder)) (λ a b h k e.
-        (let one = from-map name_of a (files_in folder) h in
-        let other = from-map name_of b (files_in folder) k in
-        (same_path (name_of folder) (name_of folder) a b (ap (list_any is_slash) one.2 ∙ parts one.0 one.1) (ap (list_any is_slash) other.2 ∙ parts other.0 other.1) e).1)) d)
+    (let one = from-map name_of a (files_in folder) h in
+    let other = from-map name_of b (files_in folder) k in
+    (same_path (name_of folder) (name_of folder) a b (ap (list_any is_slash) one.2 ∙ parts one.0 one.1) (ap (list_any is_slash) other.2 ∙ parts other.0 other.1) e).1)) d)
 
 -- ---- the folders of a package
 
@@ -125,11 +125,11 @@ folders_once (folder ∷ folders) parts names files =
     distinct_both (paths_under folder) (flat_map paths_under folders) (folder_once folder (parts folder (inl refl)) files.0)
     (folders_once folders (λ f h. parts f (inr h)) names.1 files.1)
     (λ q h k.
-        (let here = from-map (λ file. path_of (name_of folder) (name_of file)) q (files_in folder) h in
-        let there = from-flat_map paths_under q folders k in
-        let file = from-map (λ file. path_of (name_of there.0) (name_of file)) q (files_in there.0) there.2 in
-        let same = same_path (name_of folder) (name_of there.0) (name_of here.0) (name_of file.0) (parts folder (inl refl) here.0 here.1) (parts there.0 (inr there.1) file.0 file.1) (sym here.2 ∙ file.2) in
-        names.0 (subst (λ (name : List ℕ). IsIn name (map name_of folders)) (sym same.0) (in-map name_of there.0 folders there.1))))
+    (let here = from-map (λ file. path_of (name_of folder) (name_of file)) q (files_in folder) h in
+    let there = from-flat_map paths_under q folders k in
+    let file = from-map (λ file. path_of (name_of there.0) (name_of file)) q (files_in there.0) there.2 in
+    let same = same_path (name_of folder) (name_of there.0) (name_of here.0) (name_of file.0) (parts folder (inl refl) here.0 here.1) (parts there.0 (inr there.1) file.0 file.1) (sym here.2 ∙ file.2) in
+    names.0 (subst (λ (name : List ℕ). IsIn name (map name_of folders)) (sym same.0) (in-map name_of there.0 folders there.1))))
 
 -- ---- the packages of a database
 

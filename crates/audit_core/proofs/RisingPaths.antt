@@ -55,14 +55,14 @@ later : (x y : List ℕ) (names : List (List ℕ)) → order x y ≡ Greater →
 later x y names greater rises q (inl is) = ap (order y) is ∙ nat_list_cmp_total.antisymm y x ∙ ap ordering_reverse greater
 later x y names greater rises q (inr old) = rises.0 q old
 
+order_is : (x y : FileRecord) → record_cmp x y ≡ order x.path y.path
+unfolding record_cmp
+order_is x y = refl
+
 rises_put : (x : FileRecord) (ys : List FileRecord) → Names.Rises (paths ys) → ((q : List ℕ) → Names.IsIn q (paths ys) → q ≡ x.path → ⊥) → Names.Rises (paths (with_element record_cmp x ys))
 rises_put x [] rises new = (λ q here. absurd here, tt)
 rises_put x (y ∷ ys) rises new = go (order x.path y.path) refl (order_is x y) (rises_put x ys rises.1 (λ q h. new q (inr h)))
   where
-    order_is : (x y : FileRecord) → record_cmp x y ≡ order x.path y.path
-    unfolding record_cmp
-    order_is x y = refl
-
     go : (o : Ordering) → order x.path y.path ≡ o → record_cmp x y ≡ order x.path y.path → Names.Rises (paths (with_element record_cmp x ys)) → Names.Rises (paths (with_element record_cmp x (y ∷ ys)))
     go o is same rest = subst (λ (b : Ordering). Names.Rises (paths (if is_gt b then y ∷ with_element record_cmp x ys else x ∷ y ∷ ys))) (sym (same ∙ is)) (by o is)
       where

@@ -19,9 +19,9 @@ file_differences files packages =
 
 -- one of the packages lists the file of a record
 pub record IsRecordOf (packages : List Plain) (r : FileRecord) : Type 0 where
-  pub package : Plain
-  pub installed : IsIn package packages
-  pub listed : IsIn r (package_records package)
+  pub pkg : Plain
+  pub installed : IsIn pkg packages
+  pub listed : IsIn r (package_records pkg)
 
 -- what is found under a path differs so from the entry
 abbrev pub IsDifferent : Difference → Plain → Option (List ℕ) → Type 0

@@ -35,10 +35,7 @@ pub(crate) struct Record<'a> {
 ///
 /// Out of memory.
 #[tactic(auto, unfolding(crate::specs::Records::records_by_path))]
-pub(crate) fn records_by_path<'a>(
-    alloc: Global,
-    db: &Db<'a>,
-) -> Result<Vec<Record<'a>>, AllocError>
+pub(crate) fn records_by_path<'a>(alloc: Global, db: &Db<'a>) -> Result<Vec<Record<'a>>, AllocError>
     ensures { IfOk result (λ records. map record_seen records.items
         ≡ records_by_path (packages_of db.now)) }
 {
