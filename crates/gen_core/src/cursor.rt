@@ -83,7 +83,10 @@ impl<'a> Cursor<'a> {
         requires { self.now.levels ≤ depth }
         ensures { option_copied result ≡ first_of (block_at depth self.now.lines).0 }
     {
-        without_levels(self.line?, depth - self.levels)
+        match self.line {
+            Some(line) => without_levels(line, depth - self.levels),
+            None => None,
+        }
     }
 
     /// Reads the dash of an entry, of whose line this is left: the line is then one of this depth.
@@ -112,8 +115,10 @@ fn first_line(text: &[u8]) -> Option<(&[u8], &[u8])>
     ensures shorter { MatchOption result (0 ≤ length text.entry.now)
         (λ found. length found.1.now < length text.entry.now) }
 {
-    let end = memchr(b'\n', text)?;
-    Some((&text[..end], &text[end + 1..]))
+    match memchr(b'\n', text) {
+        Some(end) => Some((&text[..end], &text[end + 1..])),
+        None => None,
+    }
 }
 
 /// A line without so many levels of two spaces in front, if it has them.
@@ -122,7 +127,10 @@ fn without_levels(line: &[u8], levels: u32) -> Option<&[u8]>
 {
     let mut inner = line;
     for _level in 0..levels {
-        inner = without_prefix(inner, b"  ")?;
+        match without_prefix(inner, b"  ") {
+            Some(deeper) => inner = deeper,
+            None => return None,
+        }
     }
     Some(inner)
 }

@@ -71,6 +71,7 @@ fn read_table(cursor: &mut Cursor<'_>) -> Result<Which, GenFault>
 }
 
 /// Whether a text has bytes after its last line end.
+#[tactic(auto, using(crate::proofs::TextLines::rest_some))]
 fn has_rest(text: &[u8]) -> bool
     ensures { result ≡ has_rest (text_lines text.now).1 }
 {
@@ -93,6 +94,7 @@ const IDB_LINE: &[u8; 18] = b"#%SCHEMA: 00626469";
 const INTENT_LINE: &[u8; 18] = b"#%SCHEMA: 74746e69";
 
 /// The table of the root whose schema a first line names.
+#[tactic(auto, unfolding(hex::specs::Hex::encode_with))]
 fn table_of_line(line: &[u8]) -> Option<Which>
     ensures { result ≡ table_of_line line.now }
 {
