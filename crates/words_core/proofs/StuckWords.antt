@@ -23,7 +23,7 @@ use Rattle.words_core.specs.declared.reading.AppletSite.{AppletSite}
 use Rattle.words_core.specs.declared.reading.OptionState.{OptionState}
 use Rattle.words_core.specs.declared.reading.Reading.{Reading}
 use Rattle.words_core.specs.declared.reading.Start.{Start}
-use Rattle.words_core.specs.Grammar.{applet_site, command_from, command_of, command_read, early_flags, is_end, is_option, lacks_operand, lacks_word, line_start, option_reading, or_at, reading_behind, refused_operand, site_at, site_behind_end, site_by, start_from, start_with, state_by, unless_at, verdict, with_word_by}
+use Rattle.words_core.specs.Grammar.{applet_site, command_from, line_command, command_read, early_flags, is_end, is_option, lacks_operand, lacks_word, line_start, option_reading, or_at, reading_behind, refused_operand, site_at, site_behind_end, site_by, start_from, start_with, state_by, unless_at, verdict, with_word_by}
 use Rattle.words_core.specs.Options.{OptionSpec, applet_of, applet_word, applets, is_early, options_of}
 use Rattle.words_core.specs.Stuck.{are_stuck, are_stuck_by, awaits_none, has_script, have_ended, is_full, is_stuck, is_stuck_by, lacks_option, suit}
 use Rattle.words_core.proofs.GoneOn.{IsGoing, from_going, is_not}
@@ -209,8 +209,8 @@ take_more zero (word ∷ words) more l = absurd (omega (arith, l))
 take_more (suc count) (word ∷ words) more l =
     ap (λ ws. word ∷ ws) (take_more count words more (omega (arith, l)) ∙ ap (λ k. words ++ take k more) (let same : count - length words ≡ suc count - length (word ∷ words) = omega arith in same))
 
-no_applet_stays : (words more : List (List ℕ)) (at : ℕ) → applet_site 1 words ≡ Err at → not (list_any (suit words) applets) ≡ true → (place : ℕ) × (command_of (words ++ more) ≡ Err place)
-unfolding command_of
+no_applet_stays : (words more : List (List ℕ)) (at : ℕ) → applet_site 1 words ≡ Err at → not (list_any (suit words) applets) ≡ true → (place : ℕ) × (line_command (words ++ more) ≡ Err place)
+unfolding line_command
 no_applet_stays words more at s k =
     elim (cases_lt at (1 + length words)) as (λ _. (place : ℕ) × (command_from (words ++ more) (line_start (words ++ more)) ≡ Err place)) [
       | inl less ↦ (at, ap (λ r. command_from (words ++ more) (start_from (words ++ more) r)) (site_stays 1 words more (subst (λ r. IsKnown (1 + length words) r) (sym s) less) ∙ s))
@@ -236,15 +236,15 @@ no_applet_stays words more at s k =
         (not_any (suit words) applets (λ applet. bytes_eq (applet_word applet) later.word) site.applet k later.names)
         (omega (arith, later.late))
 
-pub stuck_stay : (words more : List (List ℕ)) → are_stuck words ≡ true → (place : ℕ) × (command_of (words ++ more) ≡ Err place)
-unfolding command_of are_stuck
+pub stuck_stay : (words more : List (List ℕ)) → are_stuck words ≡ true → (place : ℕ) × (line_command (words ++ more) ≡ Err place)
+unfolding line_command are_stuck
 stuck_stay words more k =
-    elim (applet_site 1 words) as (λ s. applet_site 1 words ≡ s → are_stuck_by words s ≡ true → (place : ℕ) × (command_of (words ++ more) ≡ Err place)) [
+    elim (applet_site 1 words) as (λ s. applet_site 1 words ≡ s → are_stuck_by words s ≡ true → (place : ℕ) × (line_command (words ++ more) ≡ Err place)) [
       | Err at ↦ λ s k. no_applet_stays words more at s k
       | Ok site ↦ λ s k. by_start (line_start words) refl (ap (λ r. is_stuck_by words (start_from words r)) s ∙ k)
     ] refl k
   where
-    by_start : (r : Result Start ℕ) → line_start words ≡ r → is_stuck_by words (line_start words) ≡ true → (place : ℕ) × (command_of (words ++ more) ≡ Err place)
+    by_start : (r : Result Start ℕ) → line_start words ≡ r → is_stuck_by words (line_start words) ≡ true → (place : ℕ) × (line_command (words ++ more) ≡ Err place)
     by_start (Err at) s k = absurd (false≢true (sym (ap (is_stuck_by words) s) ∙ k))
     by_start (Ok start) s k =
         let bad = stuck_bad words more start s (sym (ap (is_stuck_by words) s) ∙ k) (length (words ++ more) + 1) in

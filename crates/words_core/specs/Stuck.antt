@@ -17,8 +17,7 @@ use Rattle.command_core.specs.Values.{lacks_value, script_type, script_types}
 use Rattle.words_core.specs.declared.reading.AppletSite.{AppletSite}
 use Rattle.words_core.specs.declared.reading.OptionState.{OptionState}
 use Rattle.words_core.specs.declared.reading.Start.{Start}
-use Rattle.words_core.specs.Grammar.{applet_site, early_flags, is_end, is_option, reading_behind, start_from}
-use Rattle.words_core.specs.Lines.{rule_behind}
+use Rattle.words_core.specs.Grammar.{applet_site, early_flags, is_end, is_option, reading_behind, rule_behind, start_from}
 use Rattle.words_core.specs.Options.{OptionSpec, applets, options_of}
 
 -- ---- before the applet
