@@ -2,10 +2,10 @@
 use Rattle.std.proofs.Common.{◌≡◌, ℕ, List, sym, ◌∙◌}
 use Rattle.adb_view.specs.Plain.{Plain, none, more, blob_value, obj_value}
 use Rattle.adb_view.specs.Shaped.{HasShape}
-use Rattle.adb_tables.specs.Schema.{shape_of, shapes_of, table}
-use Rattle.adb_tables.specs.Values.{entry_in, int_in, text_in}
-use Rattle.adb_tables.specs.declared.tables.Which.TheVariants as Tables
-use Rattle.adb_tables.specs.declared.tables.Kind.TheVariants as Kinds
+use Rattle.adb_view.specs.Schema.{shape_of, shapes_of, table}
+use Rattle.adb_view.specs.Values.{entry_in, int_in, text_in}
+use Rattle.adb_view.specs.declared.tables.Which.TheVariants as Tables
+use Rattle.adb_view.specs.declared.tables.Kind.TheVariants as Kinds
 use Rattle.adb_copy.specs.Zeros.{int_value, without_zeros}
 use Rattle.adb_copy.proofs.Fields.{object_written}
 

@@ -4,10 +4,10 @@ use Rattle.std.specs.Prelude.{◌==◌, if◌then◌else◌}
 use Rattle.std.proofs.lemmas.Bool.Decides.{eqb_tells}
 use Rattle.adb_view.specs.Plain.{Plain, null, int, blob, Plains, none, more, Shape, number, text, hash, array, object, Fields, no_fields, field, blob_value, obj_of, obj_value}
 use Rattle.adb_view.specs.Shaped.{HasShape, HaveShapes}
-use Rattle.adb_tables.specs.Schema.{shape_of, shapes_of, table}
-use Rattle.adb_tables.specs.Values.{nth, entries_in, entry_in, int_in, text_in}
-use Rattle.adb_tables.specs.declared.tables.Which.TheVariants as Tables
-use Rattle.adb_tables.specs.declared.tables.Kind.TheVariants as Kinds
+use Rattle.adb_view.specs.Schema.{shape_of, shapes_of, table}
+use Rattle.adb_view.specs.Values.{nth, entries_in, entry_in, int_in, text_in}
+use Rattle.adb_view.specs.declared.tables.Which.TheVariants as Tables
+use Rattle.adb_view.specs.declared.tables.Kind.TheVariants as Kinds
 use Rattle.adb_copy.specs.Zeros.{int_value, without_zeros, all_without_zeros, with_at, info_with}
 use Rattle.adb_copy.proofs.Shapes.{shape_at, behind, nth_shape, nth_behind, entries_shape}
 use Rattle.adb_copy.proofs.Zeros.{zeros_text, zeros_number, zeros_object, nth_zeros, trimmed_same, at_same, at_other}

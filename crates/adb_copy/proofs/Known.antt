@@ -3,8 +3,8 @@ use Rattle.std.proofs.Common.{◌≡◌, ℕ, Bool, true, false, cond, List, Opt
 use Rattle.std.specs.Ordering.{nat_cmp, is_eq}
 use Rattle.std.specs.BTreeMap.{BTreeMap, get}
 use Rattle.adb_view.specs.Plain.{Plain, Plains, none, more, obj_value, arr_value}
-use Rattle.adb_tables.specs.Values.{text_in, value_at}
-use Rattle.adb_tables.specs.declared.tables.Kind.TheVariants.{Text}
+use Rattle.adb_view.specs.Values.{text_in, value_at}
+use Rattle.adb_view.specs.declared.tables.Kind.TheVariants.{Text}
 use Rattle.adb_values.specs.Drafts.{DraftState, draft_with, draft_with_all, draft_with_open_list}
 use Rattle.adb_values.specs.Words.{HasBlob}
 use Rattle.adb_values.proofs.Words.{has_closed_array, has_closed_object, has_more, has_opened}

@@ -2,7 +2,7 @@
 use Rattle.std.proofs.Common.{◌≡◌, ℕ, suc, zero, ◌+◌, ◌<◌, ◌≤◌, List, [], ◌∷◌, drop, length, get_or, refl, ap, sym, ◌∙◌, arith}
 use Rattle.std.proofs.lemmas.Option.{slice_get-get_or}
 use Rattle.adb_view.specs.Plain.{Plain, Plains, none, more, blob_value}
-use Rattle.adb_tables.specs.Values.{nth, count_of}
+use Rattle.adb_view.specs.Values.{nth, count_of}
 use Rattle.adb_values.specs.Drafts.{DraftState, draft_with_open_list, draft_with, draft_with_all}
 use Rattle.adb_values.proofs.Lists.{left_more, left_none}
 use Rattle.adb_copy.specs.Fields.{int_plains}

@@ -3,10 +3,10 @@ use Rattle.std.proofs.Common.{◌≡◌, ◌∙◌, ℕ, ◌<◌, true, List, le
 use Rattle.std.specs.Prelude.{slice_index}
 use Rattle.adb_view.specs.Plain.{blob_value}
 use Rattle.adb_view.specs.Shaped.{HasShape}
-use Rattle.adb_tables.specs.Schema.{shape_of}
-use Rattle.adb_tables.specs.Values.{count_of, entries_in, is_sound, nth, text_in, value_at}
-use Rattle.adb_tables.specs.declared.tables.Kind.{Kind}
-use Rattle.adb_tables.specs.declared.tables.Kind.TheVariants as Kinds
+use Rattle.adb_view.specs.Schema.{shape_of}
+use Rattle.adb_view.specs.Values.{count_of, entries_in, is_sound, nth, text_in, value_at}
+use Rattle.adb_view.specs.declared.tables.Kind.{Kind}
+use Rattle.adb_view.specs.declared.tables.Kind.TheVariants as Kinds
 use Rattle.adb_fields.specs.Fields.{are_all_sound, array_at}
 use Rattle.adb_fields.proofs.FieldReads.{entry_count, entry_sound, entry_value}
 use Rattle.adb_copy.specs.Zeros.{without_zeros}

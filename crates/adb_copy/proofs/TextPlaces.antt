@@ -4,9 +4,9 @@ use Rattle.std.specs.Prelude.{Ok, unwrap_or}
 use Rattle.adb_view.specs.Plain.{Plain, null, blob_value, from_answer, plain_of}
 use Rattle.adb_view.specs.Readers.{blob_of}
 use Rattle.adb_view.specs.Visits.{or_empty}
-use Rattle.adb_tables.specs.Schema.{shape_of}
-use Rattle.adb_tables.specs.Values.{text_in, value_at}
-use Rattle.adb_tables.specs.declared.tables.Kind.TheVariants as Kinds
+use Rattle.adb_view.specs.Schema.{shape_of}
+use Rattle.adb_view.specs.Values.{text_in, value_at}
+use Rattle.adb_view.specs.declared.tables.Kind.TheVariants as Kinds
 
 text_of_blob : (b : List ℕ) → text_in (blob_value b) ≡ b
 text_of_blob [] = refl

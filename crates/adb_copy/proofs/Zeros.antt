@@ -2,8 +2,8 @@
 use Rattle.std.proofs.Common.{◌≡◌, ℕ, suc, zero, List, [], ◌∷◌, refl, ap, sym, ◌∙◌}
 use Rattle.adb_view.specs.Plain.{Plain, null, int, blob, arr, obj, Plains, none, more, blob_value, arr_value, obj_of, obj_value, keep, without_last_nulls}
 use Rattle.adb_view.specs.Shaped.{IsNumber, IsBlob, IsArrayOf, IsObjectOf}
-use Rattle.adb_tables.specs.Values.{nth, entries_in, int_in, text_in}
-use Rattle.adb_tables.proofs.ValueEntries.{nth_trimmed}
+use Rattle.adb_view.specs.Values.{nth, entries_in, int_in, text_in}
+use Rattle.adb_view.proofs.ValueEntries.{nth_trimmed}
 use Rattle.adb_copy.specs.Zeros.{int_value, without_zeros, all_without_zeros, with_at}
 
 -- ---- by shape

@@ -4,8 +4,8 @@
 -- fields an information has, "Schemas", table 3.
 use Rattle.std.specs.Prelude.{ℕ, List, [], ◌∷◌}
 use Rattle.adb_view.specs.Plain.{Plain, Plains, none, more}
-use Rattle.adb_tables.specs.FieldIndexes.{INFO_ARCH, INFO_DESCRIPTION, INFO_LICENSE, INFO_MAINTAINER, INFO_NAME, INFO_ORIGIN, INFO_REPO_COMMIT, INFO_URL, INFO_VERSION}
-use Rattle.adb_tables.specs.Values.{entry_in, text_in}
+use Rattle.adb_view.specs.FieldIndexes.{INFO_ARCH, INFO_DESCRIPTION, INFO_LICENSE, INFO_MAINTAINER, INFO_NAME, INFO_ORIGIN, INFO_REPO_COMMIT, INFO_URL, INFO_VERSION}
+use Rattle.adb_view.specs.Values.{entry_in, text_in}
 use Rattle.adb_copy.specs.Zeros.{int_value}
 
 -- the values of some integers, in their order: each is an integer, or Null for 0

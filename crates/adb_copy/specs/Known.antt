@@ -4,8 +4,8 @@
 use Rattle.std.specs.Prelude.{◌≡◌, ℕ, List, Some, All, ◌≤◌, ◌+◌, ◌-◌, ◌%◌, slice_range, take, drop}
 use Rattle.std.specs.BTreeMap.{BTreeMap, get}
 use Rattle.std.specs.Ordering.{nat_cmp}
-use Rattle.adb_tables.specs.Values.{text_in, value_at}
-use Rattle.adb_tables.specs.declared.tables.Kind.TheVariants.{Text}
+use Rattle.adb_view.specs.Values.{text_in, value_at}
+use Rattle.adb_view.specs.declared.tables.Kind.TheVariants.{Text}
 use Rattle.adb_values.specs.Drafts.{DraftState}
 use Rattle.adb_values.specs.Words.{HasBlob}
 use Rattle.adb_copy.specs.declared.known_texts.KnownTexts.{KnownTexts}

@@ -3,7 +3,7 @@
 -- every depth", and what the information of a package that comes has.
 use Rattle.std.specs.Prelude.{ℕ, zero, suc, List}
 use Rattle.adb_view.specs.Plain.{Plain, null, int, blob, arr, obj, Plains, none, more, blob_value, arr_value, obj_value}
-use Rattle.adb_tables.specs.Values.{entries_in}
+use Rattle.adb_view.specs.Values.{entries_in}
 
 -- an integer as it is written: 0 is Null
 abbrev pub int_value : ℕ → Plain

@@ -4,9 +4,9 @@
 //! (those of a dependency).
 ghost use Rattle.std.specs.Prelude.{◌≡◌, true, Some, OnOk};
 ghost use Rattle.adb_fields.specs.Fields.{are_all_sound, array_at};
-ghost use Rattle.adb_tables.specs.Values.{entry_in, is_sound, kind_at, value_at};
-ghost use Rattle.adb_tables.specs.declared.tables.Kind.TheVariants as Kinds;
-ghost use Rattle.adb_tables.specs.declared.tables.Which.TheVariants as Tables;
+ghost use Rattle.adb_view.specs.Values.{entry_in, is_sound, kind_at, value_at};
+ghost use Rattle.adb_view.specs.declared.tables.Kind.TheVariants as Kinds;
+ghost use Rattle.adb_view.specs.declared.tables.Which.TheVariants as Tables;
 ghost use Rattle.adb_values.specs.Drafts.{draft_with, draft_with_all};
 ghost use Rattle.adb_copy.specs.Zeros.{int_value, without_zeros, info_with};
 ghost use Rattle.adb_copy.specs.Fields.{info_texts, int_plains};
@@ -17,15 +17,14 @@ ghost use Rattle.adb_view.specs.Plain.{text_plains};
 
 use crate::known_texts::KnownTexts;
 use adb_fields::{hash_field, int_field, objects_field, texts_field};
-use adb_tables::field_indexes::{
+use adb_values::Draft;
+use adb_view::field_indexes::{
     DEP_MATCH, DEP_NAME, DEP_VERSION, INFO_ARCH, INFO_BUILD_TIME, INFO_DEPENDS, INFO_DESCRIPTION,
     INFO_INSTALL_IF, INFO_INSTALLED_SIZE, INFO_LAYER, INFO_LICENSE, INFO_MAINTAINER, INFO_NAME,
     INFO_ORIGIN, INFO_PROVIDER_PRIORITY, INFO_PROVIDES, INFO_RECOMMENDS, INFO_REPLACES,
     INFO_REPO_COMMIT, INFO_TAGS, INFO_UNUSED, INFO_URL, INFO_VERSION,
 };
-use adb_tables::{Which, entry_word};
-use adb_values::Draft;
-use adb_view::{Adb, Arr, Val, values_have_their_shape};
+use adb_view::{Adb, Arr, Val, Which, entry_word, values_have_their_shape};
 use std::alloc::AllocError;
 
 /// Writes the information with a word of a payload once more, with `id` as its hash and `len` as

@@ -3,9 +3,9 @@
 //! file; an integer 0 is NULL) and "Schemas", tables 2, 4 and 6 (the fields in their order).
 ghost use Rattle.adb_copy.specs.Known.{AreBlobsOf};
 ghost use Rattle.adb_copy.specs.Zeros.{without_zeros};
-ghost use Rattle.adb_tables.specs.Values.{is_sound, value_at};
-ghost use Rattle.adb_tables.specs.declared.tables.Kind.TheVariants as Kinds;
-ghost use Rattle.adb_tables.specs.declared.tables.Which.TheVariants as Tables;
+ghost use Rattle.adb_view.specs.Values.{is_sound, value_at};
+ghost use Rattle.adb_view.specs.declared.tables.Kind.TheVariants as Kinds;
+ghost use Rattle.adb_view.specs.declared.tables.Which.TheVariants as Tables;
 ghost use Rattle.adb_values.specs.Drafts.{draft_with};
 ghost use Rattle.adb_view.specs.Adb.{payload_of};
 ghost use Rattle.std.specs.Prelude.{◌≡◌, true, OnOk};
@@ -13,15 +13,14 @@ ghost use Rattle.std.specs.Prelude.{◌≡◌, true, OnOk};
 use crate::copy::{write_int, write_text_list};
 use crate::known_texts::KnownTexts;
 use adb_fields::{field_word, hash_field, int_field, texts_field};
-use adb_tables::Which;
-use adb_tables::field_indexes::{
+use adb_values::Draft;
+use adb_view::field_indexes::{
     ACL_GROUP, ACL_MODE, ACL_USER, ACL_XATTRS, FILE_ACL, FILE_HASHES, FILE_MTIME, FILE_NAME,
     FILE_SIZE, FILE_TARGET, FILE_UNUSED, SCRIPTS_POST_DEINSTALL, SCRIPTS_POST_INSTALL,
     SCRIPTS_POST_UPGRADE, SCRIPTS_PRE_DEINSTALL, SCRIPTS_PRE_INSTALL, SCRIPTS_PRE_UPGRADE,
     SCRIPTS_TRIGGER,
 };
-use adb_values::Draft;
-use adb_view::{Adb, Val, values_have_their_shape};
+use adb_view::{Adb, Val, Which, values_have_their_shape};
 use std::alloc::AllocError;
 
 /// Writes the access list with a word of a payload once more.

@@ -7,16 +7,15 @@
 ghost use Rattle.std.specs.Prelude.{◌≡◌, ℕ, List, true, Some, All, IfOk, IfSome, OnOk};
 ghost use Rattle.adb_view.specs.Adb.{payload_of};
 ghost use Rattle.adb_view.specs.Plain.{blob_value};
-ghost use Rattle.adb_tables.specs.Values.{entry_in, is_sound, kind_at, text_in, value_at};
-ghost use Rattle.adb_tables.specs.declared.tables.Kind.TheVariants as Kinds;
+ghost use Rattle.adb_view.specs.Values.{entry_in, is_sound, kind_at, text_in, value_at};
+ghost use Rattle.adb_view.specs.declared.tables.Kind.TheVariants as Kinds;
 ghost use Rattle.adb_values.specs.Drafts.{DraftState, draft_with};
 
 use crate::fingerprints::Fingerprints;
 use crate::overlaps::Overlaps;
 use adb_fields::{field_word, text_word};
-use adb_tables::Which;
 use adb_values::Draft;
-use adb_view::{Adb, Val};
+use adb_view::{Adb, Val, Which};
 use std::alloc::{AllocError, Global};
 use std::collections::BTreeMap;
 

@@ -7,8 +7,8 @@
 ghost use Rattle.std.specs.Prelude.{◌≡◌, ◌<◌, ◌≤◌, ◌+◌, ℕ, List, [], All, length, take, drop, IfOk, IfSome, OnOk};
 ghost use Rattle.std.specs.Bool.{OnTrue};
 ghost use Rattle.adb_copy.specs.Known.{HasPeriod, AreEqualUnder, IsPhaseOf};
-ghost use Rattle.adb_tables.specs.Values.{text_in, value_at};
-ghost use Rattle.adb_tables.specs.declared.tables.Kind.TheVariants as Kinds;
+ghost use Rattle.adb_view.specs.Values.{text_in, value_at};
+ghost use Rattle.adb_view.specs.declared.tables.Kind.TheVariants as Kinds;
 ghost use Rattle.adb_view.specs.Adb.{payload_of};
 
 use adb_view::{Adb, Val};

@@ -7,13 +7,13 @@ use Rattle.adb_view.specs.Plain.{Plain, null, int, blob, arr, obj, Plains, none,
 use Rattle.adb_view.specs.Readers.{run_of, ARRAY, OBJECT}
 use Rattle.base_core.specs.declared.cause.Cause.{Cause}
 use Rattle.adb_fields.specs.Fields.{values_at}
-use Rattle.adb_tables.specs.Schema.{table, shape_of, shapes_of}
-use Rattle.adb_tables.specs.Values.{entries_in, int_in, is_sound, text_in, value_at}
-use Rattle.adb_tables.proofs.ValueEntries.{entries_arr, entries_obj}
-use Rattle.adb_tables.specs.declared.tables.Which.{Which}
-use Rattle.adb_tables.specs.declared.tables.Kind.{Kind}
-use Rattle.adb_tables.specs.declared.tables.Kind.TheVariants.{Int, Text, Hash, Obj, TextArr, ObjArr}
-use Rattle.adb_tables.specs.Shapes.{object_shape}
+use Rattle.adb_view.specs.Schema.{table, shape_of, shapes_of}
+use Rattle.adb_view.specs.Values.{entries_in, int_in, is_sound, text_in, value_at}
+use Rattle.adb_view.proofs.ValueEntries.{entries_arr, entries_obj}
+use Rattle.adb_view.specs.declared.tables.Which.{Which}
+use Rattle.adb_view.specs.declared.tables.Kind.{Kind}
+use Rattle.adb_view.specs.declared.tables.Kind.TheVariants.{Int, Text, Hash, Obj, TextArr, ObjArr}
+use Rattle.adb_view.specs.Shapes.{object_shape}
 use Rattle.adb_dump.specs.Dump.{Line, block_lines, with_dash, array_lines, fields_lines, indent, named_lines, or_null, text_form, unless_absent}
 use Rattle.adb_dump.specs.Words.{is_null, are_null, fields_at}
 use Rattle.adb_dump.proofs.Nulls.{obj_null}

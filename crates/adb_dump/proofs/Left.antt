@@ -4,10 +4,10 @@ use Rattle.std.specs.Prelude.{is_some, unwrap_or}
 use Rattle.std.proofs.lemmas.List.{drop_more, drop_all}
 use Rattle.adb_view.specs.Plain.{Plain, null, int, blob, arr, obj, Plains, none, more, then_more, each_plain, plain_of, plains_of}
 use Rattle.adb_fields.specs.Fields.{are_all_sound, values_at}
-use Rattle.adb_tables.specs.Schema.{field_name_text, shape_of, shapes_of}
-use Rattle.adb_tables.specs.Values.{is_sound, value_at}
-use Rattle.adb_tables.specs.declared.tables.Kind.{Kind}
-use Rattle.adb_tables.specs.declared.tables.Field.{Field}
+use Rattle.adb_view.specs.Schema.{field_name_text, shape_of, shapes_of}
+use Rattle.adb_view.specs.Values.{is_sound, value_at}
+use Rattle.adb_view.specs.declared.tables.Kind.{Kind}
+use Rattle.adb_view.specs.declared.tables.Field.{Field}
 use Rattle.adb_dump.specs.Dump.{Line, block_lines, with_dash, array_lines, fields_lines, named_lines, or_null, unless_absent}
 use Rattle.adb_dump.specs.Words.{is_null, are_null, fields_sound, fields_at}
 

@@ -3,12 +3,12 @@ use Rattle.std.proofs.Common.{◌≡◌, ◌≢◌, ℕ, Bool, true, false, cond
 use Rattle.std.specs.Prelude.{◌==◌, ◌&&◌, is_some, unwrap_or, IsTrue, ◌↔◌}
 use Rattle.adb_view.specs.Plain.{Plain, null, int, blob, arr, obj, Plains, none, more, keep, without_last_nulls, blob_value, arr_value, obj_of, obj_value, from_answer, then_more, each_plain, plain_of}
 use Rattle.adb_fields.specs.Fields.{are_all_sound, values_at}
-use Rattle.adb_tables.specs.Schema.{shape_of}
+use Rattle.adb_view.specs.Schema.{shape_of}
 use Rattle.adb_view.specs.Readers.{int_of}
 use Rattle.base_core.specs.declared.cause.Cause.{Cause}
-use Rattle.adb_tables.specs.Values.{is_sound, text_in, value_at}
-use Rattle.adb_tables.specs.declared.tables.Kind.{Kind}
-use Rattle.adb_tables.specs.declared.tables.Kind.TheVariants.{Hash, Int, Text}
+use Rattle.adb_view.specs.Values.{is_sound, text_in, value_at}
+use Rattle.adb_view.specs.declared.tables.Kind.{Kind}
+use Rattle.adb_view.specs.declared.tables.Kind.TheVariants.{Hash, Int, Text}
 use Rattle.adb_dump.specs.Words.{is_null, are_null}
 use Rattle.adb_dump.proofs.WordReads.{hash_plain, text_plain}
 

@@ -3,12 +3,12 @@ use Rattle.std.proofs.Common.{◌≡◌, ℕ, suc, ◌+◌, ◌<◌, ◌≤◌, 
 use Rattle.std.specs.Prelude.{codes}
 use Rattle.adb_view.specs.Plain.{Plain, null, int, blob, arr, obj, obj_value, Plains, none, more, Fields, no_fields, field}
 use Rattle.adb_fields.specs.Fields.{are_all_sound}
-use Rattle.adb_tables.specs.Schema.{field_name_text, shape_of, shapes_of, table}
-use Rattle.adb_tables.specs.Values.{is_sound, text_in, value_at}
-use Rattle.adb_tables.specs.declared.tables.Which.{Which}
-use Rattle.adb_tables.specs.declared.tables.Kind.{Kind}
-use Rattle.adb_tables.specs.declared.tables.Kind.TheVariants.{Int, Text, Hash, Obj, TextArr, ObjArr}
-use Rattle.adb_tables.specs.declared.tables.Field.{Field}
+use Rattle.adb_view.specs.Schema.{field_name_text, shape_of, shapes_of, table}
+use Rattle.adb_view.specs.Values.{is_sound, text_in, value_at}
+use Rattle.adb_view.specs.declared.tables.Which.{Which}
+use Rattle.adb_view.specs.declared.tables.Kind.{Kind}
+use Rattle.adb_view.specs.declared.tables.Kind.TheVariants.{Int, Text, Hash, Obj, TextArr, ObjArr}
+use Rattle.adb_view.specs.declared.tables.Field.{Field}
 use Rattle.adb_dump.specs.Dump.{Line, block_lines, fields_lines, with_dash, named_lines, or_null, text_form, unless_absent}
 use Rattle.adb_dump.specs.Margin.{lead, lines_at}
 use Rattle.adb_dump.specs.Words.{are_null, fields_at, is_null, fields_sound, has_one_line}

@@ -3,12 +3,12 @@ use Rattle.std.proofs.Common.{◌≡◌, ◌≢◌, ℕ, true, List, [], ◌∷�
 use Rattle.std.specs.Prelude.{option_map}
 use Rattle.hex.specs.Hex.{encode_with}
 use Rattle.adb_view.specs.Plain.{Plain, null, int, blob, arr, obj, Shape, IsNormal}
-use Rattle.adb_tables.specs.Schema.{shape_of, shapes_of, table}
+use Rattle.adb_view.specs.Schema.{shape_of, shapes_of, table}
 use Rattle.adb_schema.specs.Soundness.{schema_word}
-use Rattle.adb_tables.specs.declared.tables.Which.{Which}
-use Rattle.adb_tables.specs.declared.tables.Which.TheVariants.{Dep, Acl, PkgInfo, File, Dir, Scripts, Package, Index, Idb, Intent}
-use Rattle.adb_tables.specs.declared.tables.Kind.TheVariants.{Obj}
-use Rattle.adb_tables.specs.Shapes.{object_shape}
+use Rattle.adb_view.specs.declared.tables.Which.{Which}
+use Rattle.adb_view.specs.declared.tables.Which.TheVariants.{Dep, Acl, PkgInfo, File, Dir, Scripts, Package, Index, Idb, Intent}
+use Rattle.adb_view.specs.declared.tables.Kind.TheVariants.{Obj}
+use Rattle.adb_view.specs.Shapes.{object_shape}
 use Rattle.adb_dump.specs.Dump.{Line, block_lines, dump_lines, dump_text, schema_line, value_lines}
 use Rattle.base_core.specs.Lists.{and_then}
 use Rattle.adb_dump.specs.ReadBack.{block_read, split_lines, value_read}

@@ -6,14 +6,14 @@ use Rattle.adb_view.specs.Adb.{payload_of}
 use Rattle.adb_view.specs.Head.{root_of}
 use Rattle.adb_view.specs.Plain.{obj_value}
 use Rattle.adb_view.specs.declared.adb.Adb.{Adb}
-use Rattle.adb_tables.specs.Shaped.{adb_of, shaped_value, table_of}
-use Rattle.adb_tables.specs.Schema.{table, shapes_of}
+use Rattle.adb_view.specs.ShapedPayload.{adb_of, shaped_value, table_of}
+use Rattle.adb_view.specs.Schema.{table, shapes_of}
 use Rattle.adb_schema.specs.Soundness.{schema_word}
-use Rattle.adb_tables.specs.Values.{value_at}
-use Rattle.adb_tables.specs.declared.shaped.Shaped.{Shaped}
-use Rattle.adb_tables.specs.declared.tables.Which.{Which}
-use Rattle.adb_tables.specs.declared.tables.Kind.TheVariants.{Obj}
-use Rattle.adb_tables.specs.declared.tables.Field.{Field}
+use Rattle.adb_view.specs.Values.{value_at}
+use Rattle.adb_view.specs.declared.shaped.Shaped.{Shaped}
+use Rattle.adb_view.specs.declared.tables.Which.{Which}
+use Rattle.adb_view.specs.declared.tables.Kind.TheVariants.{Obj}
+use Rattle.adb_view.specs.declared.tables.Field.{Field}
 use Rattle.adb_dump.specs.Dump.{Line, dump_text, fields_lines, schema_line, text_of, value_lines}
 use Rattle.adb_dump.specs.Margin.{lines_at}
 use Rattle.adb_dump.specs.Words.{fields_at}

@@ -4,12 +4,12 @@ use Rattle.std.specs.Prelude.{is_some, unwrap_or}
 use Rattle.std.proofs.lemmas.Bool.{eqb-true}
 use Rattle.adb_view.specs.Plain.{Plain, null, int, Plains, none, Fields, no_fields, field, blob_value, obj_value, unless_null, from_answer, plain_of, plains_of}
 use Rattle.adb_view.specs.Readers.{int_of, blob_of, run_of, OBJECT}
-use Rattle.adb_tables.specs.Schema.{table, shape_of, shapes_of}
-use Rattle.adb_tables.specs.Shapes.{object_shape}
-use Rattle.adb_tables.specs.Values.{int_in, is_sound, text_in, value_at}
+use Rattle.adb_view.specs.Schema.{table, shape_of, shapes_of}
+use Rattle.adb_view.specs.Shapes.{object_shape}
+use Rattle.adb_view.specs.Values.{int_in, is_sound, text_in, value_at}
 use Rattle.base_core.specs.declared.cause.Cause.{Cause}
-use Rattle.adb_tables.specs.declared.tables.Which.{Which}
-use Rattle.adb_tables.specs.declared.tables.Kind.TheVariants.{Int, Text, Hash, Obj}
+use Rattle.adb_view.specs.declared.tables.Which.{Which}
+use Rattle.adb_view.specs.declared.tables.Kind.TheVariants.{Int, Text, Hash, Obj}
 use Rattle.adb_dump.specs.Words.{fields_sound, fields_at, is_null}
 
 -- NULL or not

@@ -3,10 +3,10 @@
 -- `src/block.rt`.
 use Rattle.std.specs.Prelude.{ℕ, Bool, true, false, ◌&&◌, List, is_some, unwrap_or}
 use Rattle.adb_view.specs.Plain.{Plain, null, Plains, none, more, plains_of}
-use Rattle.adb_tables.specs.Schema.{shapes_of}
-use Rattle.adb_tables.specs.declared.tables.Kind.{Kind}
-use Rattle.adb_tables.specs.declared.tables.Kind.TheVariants.{Int, Text, Hash, Obj, TextArr, ObjArr}
-use Rattle.adb_tables.specs.declared.tables.Field.{Field}
+use Rattle.adb_view.specs.Schema.{shapes_of}
+use Rattle.adb_view.specs.declared.tables.Kind.{Kind}
+use Rattle.adb_view.specs.declared.tables.Kind.TheVariants.{Int, Text, Hash, Obj, TextArr, ObjArr}
+use Rattle.adb_view.specs.declared.tables.Field.{Field}
 
 -- whether a value is Null
 abbrev pub is_null : Plain → Bool

@@ -4,18 +4,18 @@
 //! much memory, is said by the README of this crate.
 
 ghost use Rattle.std.specs.Prelude.{◌≡◌, ◌++◌, true, codes, is_some, length, IfOk, OnOk, ◌<◌, ◌≤◌, ◌+◌, false};
-ghost use Rattle.adb_tables.specs.Shaped.{adb_of, shaped_value, table_of};
+ghost use Rattle.adb_view.specs.ShapedPayload.{adb_of, shaped_value, table_of};
 ghost use Rattle.adb_schema.specs.Soundness.{schema_word};
 ghost use Rattle.adb_dump.specs.Dump.{dump_text, schema_line, block_lines, array_lines, fields_lines, named_lines, or_null, unless_absent};
 ghost use Rattle.adb_view.specs.Adb.{payload_of};
 ghost use Rattle.adb_view.specs.Entries.{array_entries};
 ghost use Rattle.adb_fields.specs.Fields.{are_all_sound, values_at};
-ghost use Rattle.adb_tables.specs.Rank.{rank, rank_of_all};
-ghost use Rattle.adb_tables.specs.Schema.{field_name_text, shape_of, shapes_of};
-ghost use Rattle.adb_tables.specs.Values.{is_sound, value_at};
+ghost use Rattle.adb_view.specs.Rank.{rank, rank_of_all};
+ghost use Rattle.adb_view.specs.Schema.{field_name_text, shape_of, shapes_of};
+ghost use Rattle.adb_view.specs.Values.{is_sound, value_at};
 ghost use Rattle.adb_dump.specs.Margin.{lines_at, DEPTH_LIMIT};
 ghost use Rattle.adb_dump.specs.Out.{Puts, PutsForAny};
-ghost use Rattle.adb_tables.specs.declared.tables.Kind.TheVariants as Kinds;
+ghost use Rattle.adb_view.specs.declared.tables.Kind.TheVariants as Kinds;
 ghost use Rattle.adb_dump.specs.Words.{are_null, is_null, fields_sound, fields_at, has_one_line};
 
 use crate::line::{
@@ -26,8 +26,7 @@ use crate::text_out::{BlobOut, Count, Out, Room};
 use crate::words::{field_words, is_null};
 use adb_fields::{hash_word, int_word, objects_word, text_word, texts_word};
 use adb_schema::{Field, FieldName, Kind, Shaped, Which, fields_of, schema_word};
-use adb_tables::entry_word;
-use adb_view::{Adb, Arr, Val};
+use adb_view::{Adb, Arr, Val, entry_word};
 use base_core::Text;
 use std::alloc::{AllocError, Global};
 
@@ -128,7 +127,7 @@ fn write_schema<O: Out>(out: &mut O, which: Which) -> Result<(), AllocError>
 
 /// Puts the lines of the value of a word, which is not Null.
 #[cycle(block)]
-#[tactic(auto, using(adb_tables::proofs::WalkSteps::table_rank, crate::proofs::BlockLines::int_lines, crate::proofs::BlockLines::text_lines, crate::proofs::BlockLines::hash_lines, crate::proofs::BlockLines::texts_lines, crate::proofs::BlockLines::objects_lines, crate::proofs::BlockLines::object_lines))]
+#[tactic(auto, using(adb_view::proofs::WalkSteps::table_rank, crate::proofs::BlockLines::int_lines, crate::proofs::BlockLines::text_lines, crate::proofs::BlockLines::hash_lines, crate::proofs::BlockLines::texts_lines, crate::proofs::BlockLines::objects_lines, crate::proofs::BlockLines::object_lines))]
 #[inline(always)]
 fn write_block<O: BlobOut>(
     out: &mut O,
@@ -244,7 +243,7 @@ fn write_object_entry<O: BlobOut>(
 /// Puts the fields of an object that are not Null, and answers whether all of them are. Words past
 /// the object's fields are not looked at.
 #[cycle(block)]
-#[tactic(auto, using(adb_tables::proofs::WalkSteps::field_rank, crate::proofs::Left::field_here, crate::proofs::Left::fields_later, crate::proofs::Turns::field_turn, crate::proofs::Turns::null_turn, crate::proofs::Turns::words_end, crate::proofs::Turns::fields_end))]
+#[tactic(auto, using(adb_view::proofs::WalkSteps::field_rank, crate::proofs::Left::field_here, crate::proofs::Left::fields_later, crate::proofs::Turns::field_turn, crate::proofs::Turns::null_turn, crate::proofs::Turns::words_end, crate::proofs::Turns::fields_end))]
 pub(crate) fn write_fields<O: BlobOut>(
     out: &mut O,
     adb: Adb<'_>,

@@ -7,7 +7,7 @@
 
 ghost use Rattle.std.specs.Prelude.{◌≡◌, ◌++◌, codes};
 ghost use Rattle.adb_dump.specs.Margin.{margin};
-ghost use Rattle.adb_tables.specs.Schema.{field_name_text};
+ghost use Rattle.adb_view.specs.Schema.{field_name_text};
 
 use adb_schema::FieldName;
 

@@ -5,9 +5,9 @@
 //! there.
 ghost use Rattle.std.specs.Prelude.{◌≡◌, ◌<◌, ℕ, All, List, IfSome, Ok, Some};
 ghost use Rattle.adb_view.specs.Plain.{Plain, IsNormal, plain_of};
-ghost use Rattle.adb_tables.specs.Schema.{shape_of};
-ghost use Rattle.adb_tables.specs.declared.tables.Which.{Which};
-ghost use Rattle.adb_tables.specs.declared.tables.Kind.TheVariants as Kinds;
+ghost use Rattle.adb_view.specs.Schema.{shape_of};
+ghost use Rattle.adb_view.specs.declared.tables.Which.{Which};
+ghost use Rattle.adb_view.specs.declared.tables.Kind.TheVariants as Kinds;
 ghost use Rattle.adb_dump.specs.Dump.{Line, dump_lines, dump_text, text_of, value_lines};
 ghost use Rattle.adb_dump.specs.ReadBack.{split_lines, value_read};
 ghost use Rattle.adb_dump.specs.Values.{IsOfBytes, IsValueOf};

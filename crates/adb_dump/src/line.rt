@@ -9,10 +9,10 @@ ghost use Rattle.hex.specs.Hex.{encode_lower};
 ghost use Rattle.adb_dump.specs.Dump.{begins_with_byte, ends_with_byte, escape_of, is_bare, is_printable, quoted_text, text_form};
 ghost use Rattle.adb_dump.specs.Margin.{lines_at, lead, margin};
 ghost use Rattle.adb_dump.specs.Out.{Puts, PutsForAny};
-ghost use Rattle.adb_tables.specs.Values.{text_in, value_at};
-ghost use Rattle.adb_tables.specs.declared.tables.Kind.TheVariants as Kinds;
+ghost use Rattle.adb_view.specs.Values.{text_in, value_at};
+ghost use Rattle.adb_view.specs.declared.tables.Kind.TheVariants as Kinds;
 ghost use Rattle.adb_view.specs.Adb.{payload_of};
-ghost use Rattle.adb_tables.specs.Schema.{field_name_text};
+ghost use Rattle.adb_view.specs.Schema.{field_name_text};
 
 use crate::front::{FRONT_LEN, FRONT_LEVELS, blank_front, dash_front, name_front};
 use crate::text_out::{BlobOut, Out};

@@ -11,8 +11,8 @@ ghost use Rattle.hex.specs.Hex.{encode_lower};
 ghost use Rattle.adb_view.specs.Adb.{payload_of};
 ghost use Rattle.adb_dump.specs.Dump.{text_form};
 ghost use Rattle.adb_dump.specs.Out.{AreLineLengths, Puts, PutsForAny};
-ghost use Rattle.adb_tables.specs.Values.{text_in, value_at};
-ghost use Rattle.adb_tables.specs.declared.tables.Kind.TheVariants as Kinds;
+ghost use Rattle.adb_view.specs.Values.{text_in, value_at};
+ghost use Rattle.adb_view.specs.declared.tables.Kind.TheVariants as Kinds;
 
 use crate::line::{write_hex, write_text};
 use adb_view::{Adb, Val};

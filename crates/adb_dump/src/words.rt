@@ -7,15 +7,14 @@ ghost use Rattle.adb_view.specs.Adb.{payload_of};
 ghost use Rattle.adb_view.specs.Entries.{array_entries};
 ghost use Rattle.adb_view.specs.Plain.{null, int, blob_value, arr_value, obj_value};
 ghost use Rattle.adb_fields.specs.Fields.{are_all_sound, values_at};
-ghost use Rattle.adb_tables.specs.Schema.{table};
-ghost use Rattle.adb_tables.specs.Values.{is_sound, value_at};
+ghost use Rattle.adb_view.specs.Schema.{table};
+ghost use Rattle.adb_view.specs.Values.{is_sound, value_at};
 ghost use Rattle.adb_dump.specs.Words.{fields_sound, fields_at, is_null, are_null};
-ghost use Rattle.adb_tables.specs.declared.tables.Kind.TheVariants as Kinds;
+ghost use Rattle.adb_view.specs.declared.tables.Kind.TheVariants as Kinds;
 
 use adb_fields::{hash_word, objects_word, text_word, texts_word};
 use adb_schema::{Field, Kind, Which, fields_of};
-use adb_tables::entry_word;
-use adb_view::{Adb, Arr, Val};
+use adb_view::{Adb, Arr, Val, entry_word};
 
 /// The words of an object's entries, those past its fields too; NULL has none.
 #[tactic(auto, using(crate::proofs::WordReads::object_value_is, crate::proofs::WordReads::object_sound, adb_fields::proofs::FieldReads::object_runs, adb_fields::proofs::FieldReads::read_ok))]
@@ -36,7 +35,7 @@ pub(crate) fn field_words<'a>(adb: Adb<'a>, which: Which, word: Val) -> Arr<'a>
 /// Whether a word means Null under its shape: NULL itself, or something without a byte, an entry or
 /// a value.
 #[cycle(null)]
-#[tactic(auto, using(adb_tables::proofs::WalkSteps::table_rank, crate::proofs::Nulls::text_null, crate::proofs::Nulls::hash_null, crate::proofs::Nulls::arr_null, crate::proofs::Nulls::obj_null))]
+#[tactic(auto, using(adb_view::proofs::WalkSteps::table_rank, crate::proofs::Nulls::text_null, crate::proofs::Nulls::hash_null, crate::proofs::Nulls::arr_null, crate::proofs::Nulls::obj_null))]
 #[inline(always)]
 pub(crate) fn is_null(adb: Adb<'_>, kind: Kind, word: Val) -> bool
     requires { is_sound (payload_of adb) kind word ≡ true }
@@ -54,7 +53,7 @@ pub(crate) fn is_null(adb: Adb<'_>, kind: Kind, word: Val) -> bool
 
 /// Whether each word of an object that has a field means Null.
 #[cycle(null)]
-#[tactic(auto, using(adb_tables::proofs::WalkSteps::field_rank, crate::proofs::Left::field_here, crate::proofs::Left::fields_later, crate::proofs::Left::null_next, crate::proofs::Left::null_stop, crate::proofs::Left::null_done, crate::proofs::Left::null_over))]
+#[tactic(auto, using(adb_view::proofs::WalkSteps::field_rank, crate::proofs::Left::field_here, crate::proofs::Left::fields_later, crate::proofs::Left::null_next, crate::proofs::Left::null_stop, crate::proofs::Left::null_done, crate::proofs::Left::null_over))]
 fn are_null(adb: Adb<'_>, fields: &[Field], words: Arr<'_>) -> bool
     requires { fields_sound (payload_of adb) fields.now (array_entries words) ≡ true }
     ensures { result

@@ -6,12 +6,12 @@ use Rattle.base_core.specs.declared.cause.Cause.{Cause}
 use Rattle.adb_view.specs.Plain.{Plain, Shape, text, array, plain_of}
 use Rattle.adb_view.specs.Readers.{run_of, ARRAY, OBJECT}
 use Rattle.adb_view.specs.Visits.{visits, field_visits, each_visit, or_empty, MOST_VALUES}
-use Rattle.adb_tables.specs.Schema.{shape_of, shapes_of, table}
-use Rattle.adb_tables.specs.Walk.{shape_fault}
-use Rattle.adb_tables.specs.Values.{is_sound, value_at, entry_in, entries_in, count_of}
-use Rattle.adb_tables.specs.declared.tables.Kind.TheVariants.{Obj, TextArr, Text}
-use Rattle.adb_tables.specs.declared.tables.Which.{Which}
-use Rattle.adb_tables.specs.declared.tables.Which.TheVariants.{Intent}
+use Rattle.adb_view.specs.Schema.{shape_of, shapes_of, table}
+use Rattle.adb_view.specs.Walk.{shape_fault}
+use Rattle.adb_view.specs.Values.{is_sound, value_at, entry_in, entries_in, count_of}
+use Rattle.adb_view.specs.declared.tables.Kind.TheVariants.{Obj, TextArr, Text}
+use Rattle.adb_view.specs.declared.tables.Which.{Which}
+use Rattle.adb_view.specs.declared.tables.Which.TheVariants.{Intent}
 use Rattle.adb_view.specs.Head.{root_of}
 use Rattle.adb_fields.proofs.FieldReads.{object_read_of, field_read, texts_sound, texts_value, texts_run, entry_count}
 

@@ -5,16 +5,16 @@ use Rattle.std.specs.Result.{result_ok}
 use Rattle.std.proofs.lemmas.Bool.{eqb-true}
 use Rattle.adb_view.specs.Plain.{Plain, null, int, Plains, none, more, without_last_nulls, Shape, number, text, hash, array, object, blob_value, obj_of, obj_value, arr_value, unless_null, from_answer, then_more, each_plain, plain_of, plains_of}
 use Rattle.adb_view.specs.Readers.{int_of, blob_of, run_of, ARRAY, OBJECT}
-use Rattle.adb_tables.specs.Schema.{table, shape_of, shapes_of, schema_number}
+use Rattle.adb_view.specs.Schema.{table, shape_of, shapes_of, schema_number}
 use Rattle.adb_fields.specs.Fields.{AreFieldsOf, are_all_sound, values_at, array_at}
-use Rattle.adb_tables.specs.Values.{is_sound, value_at, kind_at, nth, count_of, entries_in, entry_in, int_in, text_in}
-use Rattle.adb_tables.proofs.ValueEntries.{entries_arr, nth_trimmed, text_blob}
-use Rattle.adb_tables.specs.Shapes.{object_shape, objects_shape, texts_shape, int_shape, text_shape, hash_shape}
+use Rattle.adb_view.specs.Values.{is_sound, value_at, kind_at, nth, count_of, entries_in, entry_in, int_in, text_in}
+use Rattle.adb_view.proofs.ValueEntries.{entries_arr, nth_trimmed, text_blob}
+use Rattle.adb_view.specs.Shapes.{object_shape, objects_shape, texts_shape, int_shape, text_shape, hash_shape}
 use Rattle.base_core.specs.declared.cause.Cause.{Cause}
-use Rattle.adb_tables.specs.declared.tables.Which.{Which}
-use Rattle.adb_tables.specs.declared.tables.Kind.{Kind}
-use Rattle.adb_tables.specs.declared.tables.Kind.TheVariants.{Int, Text, Hash, Obj, TextArr, ObjArr}
-use Rattle.adb_tables.specs.declared.tables.Field.{Field}
+use Rattle.adb_view.specs.declared.tables.Which.{Which}
+use Rattle.adb_view.specs.declared.tables.Kind.{Kind}
+use Rattle.adb_view.specs.declared.tables.Kind.TheVariants.{Int, Text, Hash, Obj, TextArr, ObjArr}
+use Rattle.adb_view.specs.declared.tables.Field.{Field}
 
 -- what was read, whatever it is shown as
 pub read_ok : {A : Type 0} (r : Result A Cause) (x : A) → result_ok r ≡ Some x → r ≡ Ok x

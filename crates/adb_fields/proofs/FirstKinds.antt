@@ -2,20 +2,20 @@
 use Rattle.std.proofs.Common.{◌≡◌, ℕ, suc, zero, ◌+◌, ◌<◌, ◌≤◌, true, List, [], ◌∷◌, ◌++◌, map, length, get_or, drop, Option, None, refl, ap, sym, ◌∙◌, subst, arith, append-nil, inl, inr}
 use Rattle.std.specs.List.{flat_map}
 use Rattle.adb_view.specs.Plain.{Plain, null}
-use Rattle.adb_tables.specs.Values.{value_at}
+use Rattle.adb_view.specs.Values.{value_at}
 use Rattle.adb_fields.specs.Fields.{are_all_sound}
 use Rattle.adb_fields.specs.declared.pairs.Pair.{Pair}
 use Rattle.adb_fields.specs.Pairs.{NameWithPosition, earlier, earliest}
 use Rattle.adb_fields.specs.FirstPair.{IsFirstOf}
 use Rattle.adb_fields.specs.FirstPair.{IsPair}
 use Rattle.adb_fields.specs.FirstPair.{IsIn}
-use Rattle.adb_tables.specs.declared.tables.Which.TheVariants as Tables
-use Rattle.adb_tables.specs.FieldIndexes.{DIR_NAME, FILE_NAME}
+use Rattle.adb_view.specs.declared.tables.Which.TheVariants as Tables
+use Rattle.adb_view.specs.FieldIndexes.{DIR_NAME, FILE_NAME}
 use Rattle.adb_fields.specs.Repeated.{field_number, numbered_from, twice, twice_in_one, repeated_at, name_of, folders_in, files_in, inside_fault}
 use Rattle.adb_fields.specs.FirstPair.{IsPairInOne}
 use Rattle.std.specs.Option.{option_or}
 use Rattle.adb_fields.specs.NamedTexts.{plains_at}
-use Rattle.adb_tables.specs.declared.tables.Kind.{Kind}
+use Rattle.adb_view.specs.declared.tables.Kind.{Kind}
 use Rattle.adb_fields.proofs.NameLists.{plain_count, plain_is}
 use Rattle.adb_fields.proofs.FirstPair.{Either, alike, earlier-first, first_pair-first, earlier-assoc, earlier-none}
 

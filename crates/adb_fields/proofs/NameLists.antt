@@ -1,14 +1,14 @@
 -- Going over a list of values and adding their names.
 use Rattle.std.proofs.Common.{◌≡◌, ℕ, suc, zero, ◌+◌, ◌<◌, ◌≤◌, true, List, [], ◌∷◌, ◌++◌, map, length, get_or, drop, refl, ap, sym, ◌∙◌, subst, arith, append_assoc, append-nil}
 use Rattle.adb_view.specs.Plain.{Plain, null, Plains, none, more}
-use Rattle.adb_tables.specs.Values.{value_at, entry_in, entries_in, count_of, nth}
+use Rattle.adb_view.specs.Values.{value_at, entry_in, entries_in, count_of, nth}
 use Rattle.adb_fields.specs.Fields.{are_all_sound, array_at}
 use Rattle.adb_fields.specs.Pairs.{NameWithPosition}
 use Rattle.adb_fields.specs.Repeated.{list_of, numbered_from, all_at, by_list_from, name_of, paths_under, paths_in}
 use Rattle.adb_fields.specs.Paths.{path_of}
 use Rattle.std.specs.List.{flat_map}
 use Rattle.adb_fields.specs.NamedTexts.{plains_at, named_at}
-use Rattle.adb_tables.specs.declared.tables.Kind.{Kind}
+use Rattle.adb_view.specs.declared.tables.Kind.{Kind}
 use Rattle.adb_fields.proofs.FieldReads.{entry_value, entry_count}
 
 nth-listed : (vs : Plains) (i : ℕ) → nth vs i ≡ get_or (list_of vs) i null

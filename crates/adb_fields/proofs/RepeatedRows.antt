@@ -5,7 +5,7 @@ use Rattle.adb_view.specs.Plain.{Plain, null, blob, arr, obj, none, more}
 use Rattle.adb_fields.specs.Pairs.{first_pair}
 use Rattle.adb_fields.specs.Repeated.{twice, twice_in_one, in_two, repeated_fault}
 use Rattle.adb_fields.specs.declared.pairs.Pair.{Pair}
-use Rattle.adb_tables.specs.declared.tables.Which.TheVariants.{Package, Index, Idb, Intent}
+use Rattle.adb_view.specs.declared.tables.Which.TheVariants.{Package, Index, Idb, Intent}
 
 abbrev pair : ℕ → ℕ → Option Pair
 pair i j = Some (record { first = i; second = j })

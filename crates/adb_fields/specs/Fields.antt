@@ -2,11 +2,11 @@
 -- an object, the values of its first fields; past the last entry is NULL.
 use Rattle.std.specs.Prelude.{◌≡◌, ℕ, true, Bool, List, is_some, slice_index_or, unwrap_or, Some}
 use Rattle.adb_view.specs.Plain.{Plain, Plains, none, arr_value, each_plain, plain_of}
-use Rattle.adb_tables.specs.Schema.{shape_of}
-use Rattle.adb_tables.specs.Values.{is_sound, value_at, kind_at, entry_in}
-use Rattle.adb_tables.specs.declared.tables.Which.{Which}
-use Rattle.adb_tables.specs.declared.tables.Kind.{Kind}
-use Rattle.adb_tables.specs.declared.tables.Kind.TheVariants.{Obj}
+use Rattle.adb_view.specs.Schema.{shape_of}
+use Rattle.adb_view.specs.Values.{is_sound, value_at, kind_at, entry_in}
+use Rattle.adb_view.specs.declared.tables.Which.{Which}
+use Rattle.adb_view.specs.declared.tables.Kind.{Kind}
+use Rattle.adb_view.specs.declared.tables.Kind.TheVariants.{Obj}
 
 -- `word` is the field with index i of the object `w`, an object of the table `which` in the payload
 -- `p`: whatever the field's kind, the word is sound under it, and its value is the field of the

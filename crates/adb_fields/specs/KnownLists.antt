@@ -3,9 +3,9 @@
 use Rattle.std.specs.Prelude.{◌≡◌, ℕ, List, map, Option, Some}
 use Rattle.std.specs.BTreeMap.{BTreeMap, get}
 use Rattle.std.specs.Ordering.{nat_cmp}
-use Rattle.adb_tables.specs.Values.{entries_in, value_at}
-use Rattle.adb_tables.specs.declared.tables.Which.{Which}
-use Rattle.adb_tables.specs.declared.tables.Kind.TheVariants.{ObjArr}
+use Rattle.adb_view.specs.Values.{entries_in, value_at}
+use Rattle.adb_view.specs.declared.tables.Which.{Which}
+use Rattle.adb_view.specs.declared.tables.Kind.TheVariants.{ObjArr}
 use Rattle.adb_fields.specs.Repeated.{list_of, name_of, twice}
 use Rattle.adb_fields.specs.declared.pairs.Pair.{Pair}
 

@@ -2,7 +2,7 @@
 -- `KnownLists`.
 use Rattle.std.specs.Prelude.{◌≡◌}
 use Rattle.adb_view.specs.declared.adb.Adb.{Adb}
-use Rattle.adb_tables.specs.declared.tables.Which.{Which}
+use Rattle.adb_view.specs.declared.tables.Which.{Which}
 use Rattle.adb_fields.specs.declared.known_lists.KnownLists.{KnownLists}
 
 -- the lists that are kept are those of objects of this table in this payload

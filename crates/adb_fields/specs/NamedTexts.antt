@@ -9,9 +9,9 @@ use Rattle.std.specs.Cmp.Lexicographic.{slice_cmp}
 use Rattle.adb_fields.specs.Pairs.{NameWithPosition, pair_of}
 use Rattle.adb_fields.specs.declared.pairs.Pair.{Pair}
 use Rattle.adb_view.specs.Plain.{Plain}
-use Rattle.adb_tables.specs.Values.{entries_in}
+use Rattle.adb_view.specs.Values.{entries_in}
 use Rattle.adb_fields.specs.Fields.{array_at}
-use Rattle.adb_tables.specs.declared.tables.Kind.{Kind}
+use Rattle.adb_view.specs.declared.tables.Kind.{Kind}
 use Rattle.adb_fields.specs.declared.pairs.PathWithPosition.{PathWithPosition}
 
 -- the name that an entry of the program's list stands for, with its position: where there is a

@@ -3,10 +3,10 @@
 use Rattle.std.specs.Prelude.{◌⊎◌, ℕ, List, [], ◌∷◌, ◌++◌, map}
 use Rattle.std.specs.List.{flat_map}
 use Rattle.adb_view.specs.Plain.{Plain}
-use Rattle.adb_tables.specs.FieldIndexes.{IDB_PACKAGES, INTENT_REMOVALS, INTENT_WRITES}
-use Rattle.adb_tables.specs.Values.{text_in}
-use Rattle.adb_tables.specs.declared.tables.Which.{Which}
-use Rattle.adb_tables.specs.declared.tables.Which.TheVariants.{Package, Idb, Intent}
+use Rattle.adb_view.specs.FieldIndexes.{IDB_PACKAGES, INTENT_REMOVALS, INTENT_WRITES}
+use Rattle.adb_view.specs.Values.{text_in}
+use Rattle.adb_view.specs.declared.tables.Which.{Which}
+use Rattle.adb_view.specs.declared.tables.Which.TheVariants.{Package, Idb, Intent}
 use Rattle.adb_fields.specs.FirstPair.{IsIn}
 use Rattle.adb_fields.specs.Repeated.{entries_at, files_in, folders_in, name_of, package_name, paths_in}
 

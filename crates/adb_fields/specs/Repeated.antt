@@ -6,14 +6,14 @@ use Rattle.std.specs.List.{flat_map}
 use Rattle.base_core.specs.declared.cause.Cause.{Cause}
 use Rattle.base_core.specs.declared.cause.Cause.TheVariants.{Repeated}
 use Rattle.adb_view.specs.Plain.{Plain, Plains, none, more}
-use Rattle.adb_tables.specs.FieldIndexes.{DIR_FILES, DIR_NAME, FILE_NAME, IDB_PACKAGES, INTENT_REMOVALS, INTENT_WRITES, PACKAGE_INFO, PACKAGE_PATHS}
-use Rattle.adb_tables.specs.Schema.{schema_number}
-use Rattle.adb_tables.specs.Values.{entries_in, entry_in, text_in}
+use Rattle.adb_view.specs.FieldIndexes.{DIR_FILES, DIR_NAME, FILE_NAME, IDB_PACKAGES, INTENT_REMOVALS, INTENT_WRITES, PACKAGE_INFO, PACKAGE_PATHS}
+use Rattle.adb_view.specs.Schema.{schema_number}
+use Rattle.adb_view.specs.Values.{entries_in, entry_in, text_in}
 use Rattle.adb_fields.specs.Paths.{path_of}
 use Rattle.adb_fields.specs.Pairs.{NameWithPosition, first_pair, earliest}
 use Rattle.adb_fields.specs.declared.pairs.Pair.{Pair}
-use Rattle.adb_tables.specs.declared.tables.Which.{Which}
-use Rattle.adb_tables.specs.declared.tables.Which.TheVariants.{File, Dir, Package, Idb, Intent}
+use Rattle.adb_view.specs.declared.tables.Which.{Which}
+use Rattle.adb_view.specs.declared.tables.Which.TheVariants.{File, Dir, Package, Idb, Intent}
 
 -- ---- lists of names
 

@@ -6,18 +6,17 @@
 ghost use Rattle.std.specs.Prelude.{◌≡◌, true, Some, map, IfOk, IfSome};
 ghost use Rattle.adb_view.specs.Adb.{payload_of};
 ghost use Rattle.adb_view.specs.Entries.{array_entries};
-ghost use Rattle.adb_tables.specs.Values.{is_sound, kind_at};
+ghost use Rattle.adb_view.specs.Values.{is_sound, kind_at};
 ghost use Rattle.adb_fields.specs.Fields.{are_all_sound};
 ghost use Rattle.adb_fields.specs.KnownLists.{ArePairsOf, twice_at};
 ghost use Rattle.adb_fields.specs.NamedTexts.{plains_at};
 ghost use Rattle.adb_fields.specs.Repeated.{NAME_INDEX, name_of, twice};
-ghost use Rattle.adb_tables.specs.declared.tables.Kind.TheVariants as Kinds;
+ghost use Rattle.adb_view.specs.declared.tables.Kind.TheVariants as Kinds;
 
 use crate::name_lists::object_names;
 use crate::pairs::{Pair, first_pair};
 use crate::reads::objects_word;
-use adb_tables::Which;
-use adb_view::{Adb, Arr, Val};
+use adb_view::{Adb, Arr, Val, Which};
 use std::alloc::{AllocError, Global};
 use std::collections::BTreeMap;
 

@@ -5,14 +5,13 @@ ghost use Rattle.std.specs.Prelude.{◌≡◌, ◌<◌, ◌≤◌, ◌-◌, ◌^
 ghost use Rattle.adb_view.specs.Adb.{payload_of};
 ghost use Rattle.adb_view.specs.Entries.{array_entries};
 ghost use Rattle.adb_view.specs.Plain.{Plain, blob_value};
-ghost use Rattle.adb_tables.specs.Values.{is_sound, value_at, entry_in, entries_in, count_of};
+ghost use Rattle.adb_view.specs.Values.{is_sound, value_at, entry_in, entries_in, count_of};
 ghost use Rattle.adb_fields.specs.Fields.{are_all_sound, array_at};
-ghost use Rattle.adb_tables.specs.declared.tables.Kind.{Kind};
-ghost use Rattle.adb_tables.specs.declared.tables.Kind.TheVariants as Kinds;
+ghost use Rattle.adb_view.specs.declared.tables.Kind.{Kind};
+ghost use Rattle.adb_view.specs.declared.tables.Kind.TheVariants as Kinds;
 
 use crate::reads::text_word;
-use adb_tables::entry_word;
-use adb_view::{Adb, Arr, Val};
+use adb_view::{Adb, Arr, Val, entry_word};
 use std::marker::PhantomData;
 
 /// What shows words of one kind: a view, or a text.

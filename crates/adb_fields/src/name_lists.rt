@@ -6,22 +6,21 @@ ghost use Rattle.std.specs.Prelude.{◌≡◌, ◌+◌, ◌<◌, ◌^◌, ◌++�
 ghost use Rattle.std.specs.Vec.{vec_len};
 ghost use Rattle.adb_view.specs.Adb.{payload_of};
 ghost use Rattle.adb_view.specs.Entries.{array_entries};
-ghost use Rattle.adb_tables.specs.Values.{is_sound, value_at, kind_at, text_in};
+ghost use Rattle.adb_view.specs.Values.{is_sound, value_at, kind_at, text_in};
 ghost use Rattle.adb_fields.specs.Fields.{are_all_sound};
 ghost use Rattle.adb_fields.specs.Repeated.{NAME_INDEX, numbered_from, all_at, name_of, package_name, paths_in, paths_under, by_list_from};
 ghost use Rattle.adb_fields.specs.Paths.{path_of};
 ghost use Rattle.adb_fields.specs.NamedTexts.{named_by, plains_at, named_at};
-ghost use Rattle.adb_tables.specs.declared.tables.Kind.TheVariants as Kinds;
-ghost use Rattle.adb_tables.specs.declared.tables.Which.TheVariants as Tables;
+ghost use Rattle.adb_view.specs.declared.tables.Kind.TheVariants as Kinds;
+ghost use Rattle.adb_view.specs.declared.tables.Which.TheVariants as Tables;
 
 use crate::file_path::FilePath;
 use crate::pairs::PathWithPosition;
 use crate::reads::{field_word, objects_field, text_field, text_word};
-use adb_tables::field_indexes::{
+use adb_view::field_indexes::{
     DIR_FILES, DIR_NAME, FILE_NAME, INFO_NAME, PACKAGE_INFO, PACKAGE_PATHS,
 };
-use adb_tables::{Which, entry_word};
-use adb_view::{Adb, Arr, Val};
+use adb_view::{Adb, Arr, Val, Which, entry_word};
 use std::alloc::{AllocError, Global};
 
 /// The index of the name in a folder and in a file: in both it is the first field.

@@ -1,7 +1,7 @@
 //! Reads of sound words, and of the fields of sound objects: they cannot fail. Fields count from 0,
 //! and a field that is missing is Null. What a word, a field and an entry mean stands in
 //! `docs/formats.md`, "Values"; which field has which index is table by table in "Schemas", where
-//! fields count from 1. By name the indices stand in `FieldIndexes` of `adb_tables`. In the clauses
+//! fields count from 1. By name the indices stand in `FieldIndexes` of `adb_view`. In the clauses
 //! `sound` says that a word has a plain value under its kind, or its table, and `kind` which kind
 //! of value the field holds. `unreachable!` stands where a reader would refuse a word, since it
 //! refuses no sound one.
@@ -10,12 +10,11 @@ ghost use Rattle.std.specs.Prelude.{◌≡◌, ◌<◌, true, Some, length, slic
 ghost use Rattle.adb_view.specs.Adb.{payload_of};
 ghost use Rattle.adb_view.specs.Entries.{array_entries};
 ghost use Rattle.adb_view.specs.Readers.{run_of, OBJECT};
-ghost use Rattle.adb_tables.specs.Values.{is_sound, value_at, int_in, text_in, kind_at, entry_in};
+ghost use Rattle.adb_view.specs.Values.{is_sound, value_at, int_in, text_in, kind_at, entry_in};
 ghost use Rattle.adb_fields.specs.Fields.{AreFieldsOf, IsFieldOf, are_all_sound, array_at};
-ghost use Rattle.adb_tables.specs.declared.tables.Kind.TheVariants as Kinds;
+ghost use Rattle.adb_view.specs.declared.tables.Kind.TheVariants as Kinds;
 
-use adb_tables::{Which, entry_word};
-use adb_view::{Adb, Arr, Val};
+use adb_view::{Adb, Arr, Val, Which, entry_word};
 
 /// The words of a sound object's fields, those past its table's too.
 #[tactic(auto, using(crate::proofs::FieldReads::object_runs))]

@@ -5,28 +5,27 @@ ghost use Rattle.std.specs.Prelude.{◌↔◌, None, ◌≡◌, ◌+◌, ◌<◌
 ghost use Rattle.std.specs.Option.{option_or};
 ghost use Rattle.adb_view.specs.Adb.{payload_of};
 ghost use Rattle.adb_view.specs.Entries.{array_entries};
-ghost use Rattle.adb_tables.specs.Values.{count_of, entries_in, entry_in, is_sound, kind_at, value_at};
+ghost use Rattle.adb_view.specs.Values.{count_of, entries_in, entry_in, is_sound, kind_at, value_at};
 ghost use Rattle.adb_fields.specs.Fields.{are_all_sound};
 ghost use Rattle.adb_fields.specs.ListsOf.{AreListsOf};
-ghost use Rattle.adb_tables.specs.Shaped.{shaped_value, table_of};
-ghost use Rattle.adb_tables.specs.FieldIndexes.{INTENT_REMOVALS, INTENT_WRITES};
+ghost use Rattle.adb_view.specs.ShapedPayload.{shaped_value, table_of};
+ghost use Rattle.adb_view.specs.FieldIndexes.{INTENT_REMOVALS, INTENT_WRITES};
 ghost use Rattle.adb_fields.specs.Repeated.{between_fault, field_number, file_twice, files_in, folder_twice, folders_in, inside_fault, name_of, name_twice, package_twice, path_in_two, repeated_at, repeated_fault, twice, twice_in_one};
 ghost use Rattle.adb_fields.specs.Once.{NamesStandOnce};
 ghost use Rattle.adb_view.specs.Plain.{Plain};
-ghost use Rattle.adb_tables.specs.declared.tables.Which.{Which};
+ghost use Rattle.adb_view.specs.declared.tables.Which.{Which};
 ghost use Rattle.adb_fields.specs.NamedTexts.{plains_at};
-ghost use Rattle.adb_tables.specs.declared.tables.Kind.TheVariants as Kinds;
-ghost use Rattle.adb_tables.specs.declared.tables.Which.TheVariants as Tables;
+ghost use Rattle.adb_view.specs.declared.tables.Kind.TheVariants as Kinds;
+ghost use Rattle.adb_view.specs.declared.tables.Which.TheVariants as Tables;
 
 use crate::known_lists::KnownLists;
 use crate::name_lists::{add_texts, all_paths, package_names};
 use crate::pairs::{Pair, earlier, first_pair};
 use crate::reads::{field_word, objects_field, texts_field};
-use adb_tables::field_indexes::{
+use adb_view::field_indexes::{
     DIR_FILES, IDB_PACKAGES, INTENT_REMOVALS, INTENT_WRITES, PACKAGE_PATHS,
 };
-use adb_tables::{Shaped, Which, entry_word, values_of_few_visits_have_no_fault};
-use adb_view::{Adb, Arr, Val};
+use adb_view::{Adb, Arr, Shaped, Val, Which, entry_word, values_of_few_visits_have_no_fault};
 use base_core::Cause;
 use std::alloc::{AllocError, Global};
 

@@ -13,15 +13,15 @@ use Rattle.adb_view.specs.Head.{head_fault, root_of}
 use Rattle.adb_view.specs.Plain.{Plain, null, Shape, plain_of, IsNormal}
 use Rattle.adb_view.specs.Shaped.{HasShape}
 use Rattle.adb_view.specs.Visits.{visits, MOST_VALUES}
-use Rattle.adb_tables.specs.Schema.{shape_of}
-use Rattle.adb_tables.specs.Walk.{shape_fault}
-use Rattle.adb_tables.specs.Values.{value_at}
-use Rattle.adb_tables.specs.declared.tables.Which.{Which}
-use Rattle.adb_tables.specs.declared.tables.Kind.TheVariants as Kinds
+use Rattle.adb_view.specs.Schema.{shape_of}
+use Rattle.adb_view.specs.Walk.{shape_fault}
+use Rattle.adb_view.specs.Values.{value_at}
+use Rattle.adb_view.specs.declared.tables.Which.{Which}
+use Rattle.adb_view.specs.declared.tables.Kind.TheVariants as Kinds
 use Rattle.adb_fields.specs.Once.{NamesStandOnce}
 use Rattle.adb_fields.specs.Repeated.{repeated_fault}
-use Rattle.adb_rules.specs.Texts.{text_fault}
-use Rattle.adb_rules.specs.SoundValues.{KeepsRules}
+use Rattle.adb_schema.specs.Texts.{text_fault}
+use Rattle.adb_schema.specs.SoundValues.{KeepsRules}
 use Rattle.adb_schema.specs.Soundness.{blocks_fault, file_fault, first_fault, first_payload, payload_behind, payload_fault, payload_in, rest_fault, root_value, schema_fault}
 use Rattle.adb_schema.specs.SoundContainers.{IsSoundValue}
 

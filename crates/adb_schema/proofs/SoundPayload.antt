@@ -6,18 +6,18 @@ use Rattle.base_core.specs.declared.cause.Cause.{Cause}
 use Rattle.adb_view.specs.Head.{head_fault, root_of}
 use Rattle.adb_view.specs.Plain.{Plain, Shape, plain_of}
 use Rattle.adb_view.specs.Visits.{visits, MOST_VALUES}
-use Rattle.adb_tables.specs.Schema.{shape_of}
-use Rattle.adb_tables.specs.Values.{is_sound}
-use Rattle.adb_tables.specs.Walk.{shape_fault}
-use Rattle.adb_tables.specs.declared.tables.Which.{Which}
-use Rattle.adb_tables.specs.declared.tables.Kind.TheVariants as Kinds
+use Rattle.adb_view.specs.Schema.{shape_of}
+use Rattle.adb_view.specs.Values.{is_sound}
+use Rattle.adb_view.specs.Walk.{shape_fault}
+use Rattle.adb_view.specs.declared.tables.Which.{Which}
+use Rattle.adb_view.specs.declared.tables.Kind.TheVariants as Kinds
 use Rattle.adb_fields.specs.Repeated.{repeated_fault}
-use Rattle.adb_rules.specs.SoundValues.{KeepsRules}
-use Rattle.adb_rules.specs.Texts.{text_fault}
+use Rattle.adb_schema.specs.SoundValues.{KeepsRules}
+use Rattle.adb_schema.specs.Texts.{text_fault}
 use Rattle.adb_schema.specs.Soundness.{payload_fault, first_fault, payload_in, root_value}
 use Rattle.adb_schema.proofs.Sound.{sound_payload}
 
--- what a law of `adb_tables` says
+-- what a law of `adb_view` says
 abbrev pub Visited : Type 0
 Visited = (payload : List ℕ) (shape : Shape) (word : ℕ)
     → (shape_fault payload shape word ≡ None) ↔ ((is_some (plain_of payload shape word) ≡ true) × (length (visits payload shape word) ≤ MOST_VALUES))
@@ -43,7 +43,7 @@ payload_sound visited which p h =
     ((visited p (shape_of (Kinds.Obj which)) (root_of p)).0
     (first_passed (shape_fault p (shape_of (Kinds.Obj which)) (root_of p)) _ (later_passed (head_fault p) _ h))).0
 
--- what a law of `adb_rules` says
+-- what a law of `adb_schema` says
 abbrev pub Kept : Type 0
 Kept = (which : Which) (v : Plain) → (text_fault which v ≡ None) ↔ KeepsRules which v
 

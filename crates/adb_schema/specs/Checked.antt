@@ -1,8 +1,8 @@
 -- What a checked payload shows. Serves the contracts of `Checked`; the tests stand in
 -- `docs/formats.md`, "Tests of a container".
 use Rattle.adb_view.specs.Plain.{Plain}
-use Rattle.adb_tables.specs.Shaped.{table_of, shaped_value}
-use Rattle.adb_tables.specs.declared.tables.Which.{Which}
+use Rattle.adb_view.specs.ShapedPayload.{table_of, shaped_value}
+use Rattle.adb_view.specs.declared.tables.Which.{Which}
 use Rattle.adb_schema.specs.declared.checked.Checked.{Checked}
 
 -- the table at the root of a checked payload

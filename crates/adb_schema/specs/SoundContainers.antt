@@ -5,11 +5,11 @@
 use Rattle.std.specs.Prelude.{◌≡◌, ℕ, List, None}
 use Rattle.adb_view.specs.Plain.{Plain}
 use Rattle.adb_view.specs.Shaped.{HasShape}
-use Rattle.adb_tables.specs.Schema.{shape_of}
-use Rattle.adb_tables.specs.declared.tables.Which.{Which}
-use Rattle.adb_tables.specs.declared.tables.Kind.TheVariants.{Obj}
+use Rattle.adb_view.specs.Schema.{shape_of}
+use Rattle.adb_view.specs.declared.tables.Which.{Which}
+use Rattle.adb_view.specs.declared.tables.Kind.TheVariants.{Obj}
 use Rattle.adb_fields.specs.Once.{NamesStandOnce}
-use Rattle.adb_rules.specs.SoundValues.{KeepsRules}
+use Rattle.adb_schema.specs.SoundValues.{KeepsRules}
 use Rattle.adb_schema.specs.Soundness.{first_fault}
 
 -- the value is one that a sound container with this table at its root holds: by its shape, its

@@ -13,14 +13,14 @@ use Rattle.adb_block.specs.declared.block.BlockKind.{BlockKind}
 use Rattle.adb_block.specs.declared.block.BlockKind.TheVariants.{Contents}
 use Rattle.adb_view.specs.Head.{head_fault, root_of}
 use Rattle.adb_view.specs.Plain.{Plain}
-use Rattle.adb_tables.specs.Schema.{shape_of}
-use Rattle.adb_tables.specs.Walk.{shape_fault}
-use Rattle.adb_tables.specs.Values.{value_at}
-use Rattle.adb_rules.specs.Texts.{text_fault}
+use Rattle.adb_view.specs.Schema.{shape_of}
+use Rattle.adb_view.specs.Walk.{shape_fault}
+use Rattle.adb_view.specs.Values.{value_at}
+use Rattle.adb_schema.specs.Texts.{text_fault}
 use Rattle.adb_fields.specs.Repeated.{repeated_fault}
-use Rattle.adb_tables.specs.declared.tables.Which.{Which}
-use Rattle.adb_tables.specs.declared.tables.Which.TheVariants.{Package, Index, Idb, Intent}
-use Rattle.adb_tables.specs.declared.tables.Kind.TheVariants.{Obj}
+use Rattle.adb_view.specs.declared.tables.Which.{Which}
+use Rattle.adb_view.specs.declared.tables.Which.TheVariants.{Package, Index, Idb, Intent}
+use Rattle.adb_view.specs.declared.tables.Kind.TheVariants.{Obj}
 use Rattle.adb_schema.specs.declared.read.TheConstants.{PACKAGE_WORD, INDEX_WORD, IDB_WORD, INTENT_WORD}
 
 -- the schema in the header of a container with this table at its root; the other six tables are no

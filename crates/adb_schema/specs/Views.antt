@@ -2,9 +2,9 @@
 -- fields of `docs/formats.md`, "Schemas".
 use Rattle.adb_view.specs.Plain.{Plain}
 use Rattle.adb_view.specs.Adb.{payload_of}
-use Rattle.adb_tables.specs.Values.{value_at}
-use Rattle.adb_tables.specs.declared.tables.Which.TheVariants as Which
-use Rattle.adb_tables.specs.declared.tables.Kind.TheVariants.{Obj}
+use Rattle.adb_view.specs.Values.{value_at}
+use Rattle.adb_view.specs.declared.tables.Which.TheVariants as Which
+use Rattle.adb_view.specs.declared.tables.Kind.TheVariants.{Obj}
 use Rattle.adb_schema.specs.declared.package_info.DepView.{DepView}
 use Rattle.adb_schema.specs.declared.package.AclView.{AclView}
 use Rattle.adb_schema.specs.declared.package_info.PkgInfo.{PkgInfo}

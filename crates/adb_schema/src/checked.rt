@@ -4,23 +4,22 @@
 
 ghost use Rattle.std.specs.Prelude.{◌≡◌, ◌<◌, true, is_none, None, IfErr, IfOk};
 ghost use Rattle.adb_view.specs.Adb.{payload_of};
-ghost use Rattle.adb_tables.specs.Values.{is_sound, value_at};
-ghost use Rattle.adb_tables.specs.Shaped.{shaped_value, table_of};
-ghost use Rattle.adb_tables.specs.declared.tables.Kind.TheVariants as Kinds;
-ghost use Rattle.adb_tables.specs.declared.tables.Which.TheVariants as Tables;
-ghost use Rattle.adb_rules.specs.Texts.{text_fault};
+ghost use Rattle.adb_view.specs.Values.{is_sound, value_at};
+ghost use Rattle.adb_view.specs.ShapedPayload.{shaped_value, table_of};
+ghost use Rattle.adb_view.specs.declared.tables.Kind.TheVariants as Kinds;
+ghost use Rattle.adb_view.specs.declared.tables.Which.TheVariants as Tables;
+ghost use Rattle.adb_schema.specs.Texts.{text_fault};
 
 use crate::package::PackageView;
 use crate::package_info::PkgInfo;
 use crate::read::ReadFault;
+use crate::text_walk::{check_texts, no_text_is_bad_where_each_keeps_its_rule};
 use adb_fields::{Kinded, List, View, objects_field, text_field, texts_field};
-use adb_rules::{check_texts, no_text_is_bad_where_each_keeps_its_rule};
-use adb_tables::field_indexes::{
+use adb_view::field_indexes::{
     IDB_PACKAGES, INDEX_DESCRIPTION, INDEX_PACKAGES, INDEX_PKGNAME_SPEC, INTENT_REMOVALS,
     INTENT_WRITES,
 };
-use adb_tables::{Shaped, Which, entry_word};
-use adb_view::{Adb, Val};
+use adb_view::{Adb, Shaped, Val, Which, entry_word};
 use std::alloc::Global;
 
 /// A payload of the shape of a table, each of whose texts keeps the rule of its field.
@@ -31,8 +30,8 @@ pub struct Checked<'a> {
 }
 
 impl<'a> Checked<'a> {
-    ghost use Rattle.adb_tables.specs.Shaped.{adb_of};
-    ghost use Rattle.adb_rules.specs.SoundValues.{KeepsRules};
+    ghost use Rattle.adb_view.specs.ShapedPayload.{adb_of};
+    ghost use Rattle.adb_schema.specs.SoundValues.{KeepsRules};
     ghost use Rattle.adb_schema.specs.Checked.{which_of, checked_value};
     ghost use Rattle.adb_schema.specs.ReadFaults.{IsReadFault};
     ghost use Rattle.adb_schema.specs.Views.{package_value, index_value, idb_value, intent_value};
@@ -122,9 +121,9 @@ pub struct IndexView<'a> {
 }
 
 impl<'a> IndexView<'a> {
-    ghost use Rattle.adb_tables.specs.FieldIndexes.{INDEX_DESCRIPTION, INDEX_PACKAGES, INDEX_PKGNAME_SPEC};
-    ghost use Rattle.adb_tables.specs.Values.{entry_in, text_in};
-    ghost use Rattle.adb_rules.specs.SoundValues.{KeepsRules};
+    ghost use Rattle.adb_view.specs.FieldIndexes.{INDEX_DESCRIPTION, INDEX_PACKAGES, INDEX_PKGNAME_SPEC};
+    ghost use Rattle.adb_view.specs.Values.{entry_in, text_in};
+    ghost use Rattle.adb_schema.specs.SoundValues.{KeepsRules};
     ghost use Rattle.adb_schema.specs.Views.{index_value};
     ghost use Rattle.adb_fields.specs.ListValue.{list_value};
 
@@ -227,8 +226,8 @@ impl<'a> View<'a> for IdbView<'a> {
 }
 
 impl<'a> IdbView<'a> {
-    ghost use Rattle.adb_tables.specs.FieldIndexes.{IDB_PACKAGES};
-    ghost use Rattle.adb_tables.specs.Values.{count_of, entries_in, entry_in};
+    ghost use Rattle.adb_view.specs.FieldIndexes.{IDB_PACKAGES};
+    ghost use Rattle.adb_view.specs.Values.{count_of, entries_in, entry_in};
     ghost use Rattle.adb_schema.specs.Views.{idb_value, package_value};
     ghost use Rattle.adb_fields.specs.ListValue.{list_value};
 
@@ -286,8 +285,8 @@ impl<'a> View<'a> for IntentView<'a> {
 }
 
 impl<'a> IntentView<'a> {
-    ghost use Rattle.adb_tables.specs.FieldIndexes.{INTENT_REMOVALS, INTENT_WRITES};
-    ghost use Rattle.adb_tables.specs.Values.{entry_in};
+    ghost use Rattle.adb_view.specs.FieldIndexes.{INTENT_REMOVALS, INTENT_WRITES};
+    ghost use Rattle.adb_view.specs.Values.{entry_in};
     ghost use Rattle.adb_schema.specs.Views.{intent_value};
     ghost use Rattle.adb_fields.specs.ListValue.{list_value};
 

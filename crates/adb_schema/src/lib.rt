@@ -1,29 +1,44 @@
-//! The containers (apk-v3(5)): reading and testing a whole one, and views of what was tested.
+//! The containers (apk-v3(5)): reading and testing a whole one, views of what was tested, and the
+//! rules that single texts and numbers keep (apk-package(5)).
 //!
 //! `shape` makes a `Shaped` of a payload, `Checked::new` a `Checked` of that, and its four views
-//! lend from the payload, one method a field, which cannot fail. `repeated` looks for names that
-//! stand twice, and `read_adb` reads a file through all of them. The contracts cite `Soundness`
-//! (the first failed test of a file), `Views` (the plain value that a view shows) and `Checked`,
-//! and the definitions of `adb_tables`, `adb_fields` and `adb_rules` below.
+//! lend from the payload, one method a field, which cannot fail. `check_texts` tests each text and
+//! number of a walked payload against the rule of its field. `repeated` looks for names that stand
+//! twice, and `read_adb` reads a file through all of them. `is_reserved` and its like say under
+//! which names below a root no database lists a file.
 //!
-//! The rules stand in `docs/formats.md`, "Tests of a container", and the fields in "Schemas".
+//! The contracts cite `Soundness` (the first failed test of a file), `Views` (the plain value that a
+//! view shows), `Checked`, `Rules` and `Reserved` (what a text has to be) and `Texts` (the rule of
+//! each field, and the first that is broken) of `specs/`, and the definitions of `adb_view` and
+//! `adb_fields` below.
+//!
+//! The rules stand in `docs/formats.md`, "Tests of a container" and "The texts", and the fields in
+//! "Schemas".
 #![tactic(auto)]
 
 mod checked;
+mod judged;
 mod package;
 mod package_info;
 mod read;
+mod rules;
+mod text_walk;
 
 pub use adb_fields::{FilePath, Kinded, List, View};
-pub use adb_rules::{is_intent_or_stage_name, is_reserved, is_reserved_file};
-pub use adb_tables::{
+pub use adb_view::{
     ACL, DEP, DIR, FILE, Field, FieldName, IDB, INDEX, INTENT, Kind, PACKAGE, PKGINFO, SCRIPTS,
     Schema, Shaped, Which, fields_of, shape,
 };
 pub use checked::{Checked, IdbView, IndexView, IntentView};
+pub use judged::{Judged, TextRule};
 pub use package::{AclView, DirInfo, FileInfo, PackageView, ScriptsView};
 pub use package_info::{DepView, PkgInfo};
 pub use read::{
     IDB_WORD, INDEX_WORD, INTENT_WORD, PACKAGE_WORD, ReadFault, file_pair, read_adb, repeated,
     schema_word, schema_words_are_as_listed, sound_containers_hold_sound_values,
+};
+pub use rules::{is_intent_or_stage_name, is_reserved, is_reserved_file};
+pub use text_walk::{
+    check_texts, entries_keep_the_rule_of_their_list, no_text_is_bad_where_each_keeps_its_rule,
+    the_first_bad_text_is_reported,
 };

@@ -3,23 +3,22 @@
 
 ghost use Rattle.std.specs.Prelude.{◌≡◌, true};
 ghost use Rattle.adb_view.specs.Adb.{payload_of};
-ghost use Rattle.adb_tables.specs.Values.{is_sound, value_at};
-ghost use Rattle.adb_tables.specs.declared.tables.Kind.TheVariants as Kinds;
-ghost use Rattle.adb_tables.specs.declared.tables.Which.TheVariants as Tables;
+ghost use Rattle.adb_view.specs.Values.{is_sound, value_at};
+ghost use Rattle.adb_view.specs.declared.tables.Kind.TheVariants as Kinds;
+ghost use Rattle.adb_view.specs.declared.tables.Which.TheVariants as Tables;
 
 use crate::package_info::PkgInfo;
 use adb_fields::{
     Kinded, List, View, field_word, hash_field, int_field, objects_field, text_field, texts_field,
 };
-use adb_tables::Which;
-use adb_tables::field_indexes::{
+use adb_view::field_indexes::{
     ACL_GROUP, ACL_MODE, ACL_USER, ACL_XATTRS, DIR_ACL, DIR_FILES, DIR_NAME, FILE_ACL, FILE_HASHES,
     FILE_MTIME, FILE_NAME, FILE_SIZE, FILE_TARGET, FILE_UNUSED, PACKAGE_INFO, PACKAGE_PATHS,
     PACKAGE_REPLACES_PRIORITY, PACKAGE_SCRIPTS, PACKAGE_TRIGGERS, SCRIPTS_POST_DEINSTALL,
     SCRIPTS_POST_INSTALL, SCRIPTS_POST_UPGRADE, SCRIPTS_PRE_DEINSTALL, SCRIPTS_PRE_INSTALL,
     SCRIPTS_PRE_UPGRADE, SCRIPTS_TRIGGER,
 };
-use adb_view::{Adb, Val};
+use adb_view::{Adb, Val, Which};
 
 /// A view of an access list (table 2): whose a file or a folder is, and its mode.
 #[derive(Clone, Copy)]
@@ -43,8 +42,8 @@ impl<'a> View<'a> for AclView<'a> {
 }
 
 impl<'a> AclView<'a> {
-    ghost use Rattle.adb_tables.specs.FieldIndexes.{ACL_GROUP, ACL_MODE, ACL_USER, ACL_XATTRS};
-    ghost use Rattle.adb_tables.specs.Values.{entry_in, int_in, text_in};
+    ghost use Rattle.adb_view.specs.FieldIndexes.{ACL_GROUP, ACL_MODE, ACL_USER, ACL_XATTRS};
+    ghost use Rattle.adb_view.specs.Values.{entry_in, int_in, text_in};
     ghost use Rattle.adb_schema.specs.Views.{acl_value};
     ghost use Rattle.adb_fields.specs.ListValue.{list_value};
 
@@ -102,8 +101,8 @@ impl<'a> View<'a> for FileInfo<'a> {
 }
 
 impl<'a> FileInfo<'a> {
-    ghost use Rattle.adb_tables.specs.FieldIndexes.{FILE_ACL, FILE_HASHES, FILE_MTIME, FILE_NAME, FILE_SIZE, FILE_TARGET, FILE_UNUSED};
-    ghost use Rattle.adb_tables.specs.Values.{entry_in, int_in, text_in};
+    ghost use Rattle.adb_view.specs.FieldIndexes.{FILE_ACL, FILE_HASHES, FILE_MTIME, FILE_NAME, FILE_SIZE, FILE_TARGET, FILE_UNUSED};
+    ghost use Rattle.adb_view.specs.Values.{entry_in, int_in, text_in};
     ghost use Rattle.adb_schema.specs.Views.{acl_value, file_value};
 
     /// The name of the file: one part of a path, in its folder.
@@ -183,8 +182,8 @@ impl<'a> View<'a> for DirInfo<'a> {
 }
 
 impl<'a> DirInfo<'a> {
-    ghost use Rattle.adb_tables.specs.FieldIndexes.{DIR_ACL, DIR_FILES, DIR_NAME};
-    ghost use Rattle.adb_tables.specs.Values.{entry_in, text_in};
+    ghost use Rattle.adb_view.specs.FieldIndexes.{DIR_ACL, DIR_FILES, DIR_NAME};
+    ghost use Rattle.adb_view.specs.Values.{entry_in, text_in};
     ghost use Rattle.adb_schema.specs.Views.{acl_value, dir_value};
     ghost use Rattle.adb_fields.specs.ListValue.{list_value};
 
@@ -237,8 +236,8 @@ impl<'a> View<'a> for ScriptsView<'a> {
 }
 
 impl<'a> ScriptsView<'a> {
-    ghost use Rattle.adb_tables.specs.FieldIndexes.{SCRIPTS_POST_DEINSTALL, SCRIPTS_POST_INSTALL, SCRIPTS_POST_UPGRADE, SCRIPTS_PRE_DEINSTALL, SCRIPTS_PRE_INSTALL, SCRIPTS_PRE_UPGRADE, SCRIPTS_TRIGGER};
-    ghost use Rattle.adb_tables.specs.Values.{entry_in, text_in};
+    ghost use Rattle.adb_view.specs.FieldIndexes.{SCRIPTS_POST_DEINSTALL, SCRIPTS_POST_INSTALL, SCRIPTS_POST_UPGRADE, SCRIPTS_PRE_DEINSTALL, SCRIPTS_PRE_INSTALL, SCRIPTS_PRE_UPGRADE, SCRIPTS_TRIGGER};
+    ghost use Rattle.adb_view.specs.Values.{entry_in, text_in};
     ghost use Rattle.adb_schema.specs.Views.{scripts_value};
 
     /// Runs where a watched folder has changed.
@@ -313,8 +312,8 @@ impl<'a> View<'a> for PackageView<'a> {
 }
 
 impl<'a> PackageView<'a> {
-    ghost use Rattle.adb_tables.specs.FieldIndexes.{PACKAGE_INFO, PACKAGE_PATHS, PACKAGE_REPLACES_PRIORITY, PACKAGE_SCRIPTS, PACKAGE_TRIGGERS};
-    ghost use Rattle.adb_tables.specs.Values.{entry_in, int_in};
+    ghost use Rattle.adb_view.specs.FieldIndexes.{PACKAGE_INFO, PACKAGE_PATHS, PACKAGE_REPLACES_PRIORITY, PACKAGE_SCRIPTS, PACKAGE_TRIGGERS};
+    ghost use Rattle.adb_view.specs.Values.{entry_in, int_in};
     ghost use Rattle.adb_schema.specs.Views.{info_value, package_value, scripts_value};
     ghost use Rattle.adb_fields.specs.ListValue.{list_value};
 

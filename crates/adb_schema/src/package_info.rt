@@ -3,22 +3,21 @@
 
 ghost use Rattle.std.specs.Prelude.{◌≡◌, true};
 ghost use Rattle.adb_view.specs.Adb.{payload_of};
-ghost use Rattle.adb_tables.specs.Values.{is_sound, value_at};
-ghost use Rattle.adb_tables.specs.declared.tables.Kind.TheVariants as Kinds;
-ghost use Rattle.adb_tables.specs.declared.tables.Which.TheVariants as Tables;
+ghost use Rattle.adb_view.specs.Values.{is_sound, value_at};
+ghost use Rattle.adb_view.specs.declared.tables.Kind.TheVariants as Kinds;
+ghost use Rattle.adb_view.specs.declared.tables.Which.TheVariants as Tables;
 
 use adb_fields::{
     Kinded, List, View, hash_field, int_field, objects_field, text_field, texts_field,
 };
-use adb_tables::Which;
-use adb_tables::field_indexes::{
+use adb_view::field_indexes::{
     DEP_MATCH, DEP_NAME, DEP_VERSION, INFO_ARCH, INFO_BUILD_TIME, INFO_DEPENDS, INFO_DESCRIPTION,
     INFO_FILE_SIZE, INFO_HASHES, INFO_INSTALL_IF, INFO_INSTALLED_SIZE, INFO_LAYER, INFO_LICENSE,
     INFO_MAINTAINER, INFO_NAME, INFO_ORIGIN, INFO_PROVIDER_PRIORITY, INFO_PROVIDES,
     INFO_RECOMMENDS, INFO_REPLACES, INFO_REPO_COMMIT, INFO_TAGS, INFO_UNUSED, INFO_URL,
     INFO_VERSION,
 };
-use adb_view::{Adb, Val};
+use adb_view::{Adb, Val, Which};
 
 /// A view of a dependency (table 1).
 #[derive(Clone, Copy)]
@@ -42,8 +41,8 @@ impl<'a> View<'a> for DepView<'a> {
 }
 
 impl<'a> DepView<'a> {
-    ghost use Rattle.adb_tables.specs.FieldIndexes.{DEP_MATCH, DEP_NAME, DEP_VERSION};
-    ghost use Rattle.adb_tables.specs.Values.{entry_in, int_in, text_in};
+    ghost use Rattle.adb_view.specs.FieldIndexes.{DEP_MATCH, DEP_NAME, DEP_VERSION};
+    ghost use Rattle.adb_view.specs.Values.{entry_in, int_in, text_in};
     ghost use Rattle.adb_schema.specs.Views.{dependency_value};
 
     /// The name that is asked for.
@@ -94,8 +93,8 @@ impl<'a> View<'a> for PkgInfo<'a> {
 }
 
 impl<'a> PkgInfo<'a> {
-    ghost use Rattle.adb_tables.specs.FieldIndexes.{INFO_ARCH, INFO_BUILD_TIME, INFO_DEPENDS, INFO_DESCRIPTION, INFO_FILE_SIZE, INFO_HASHES, INFO_INSTALLED_SIZE, INFO_INSTALL_IF, INFO_LAYER, INFO_LICENSE, INFO_MAINTAINER, INFO_NAME, INFO_ORIGIN, INFO_PROVIDER_PRIORITY, INFO_PROVIDES, INFO_RECOMMENDS, INFO_REPLACES, INFO_REPO_COMMIT, INFO_TAGS, INFO_UNUSED, INFO_URL, INFO_VERSION};
-    ghost use Rattle.adb_tables.specs.Values.{entry_in, int_in, text_in};
+    ghost use Rattle.adb_view.specs.FieldIndexes.{INFO_ARCH, INFO_BUILD_TIME, INFO_DEPENDS, INFO_DESCRIPTION, INFO_FILE_SIZE, INFO_HASHES, INFO_INSTALLED_SIZE, INFO_INSTALL_IF, INFO_LAYER, INFO_LICENSE, INFO_MAINTAINER, INFO_NAME, INFO_ORIGIN, INFO_PROVIDER_PRIORITY, INFO_PROVIDES, INFO_RECOMMENDS, INFO_REPLACES, INFO_REPO_COMMIT, INFO_TAGS, INFO_UNUSED, INFO_URL, INFO_VERSION};
+    ghost use Rattle.adb_view.specs.Values.{entry_in, int_in, text_in};
     ghost use Rattle.adb_schema.specs.Views.{info_value};
     ghost use Rattle.adb_fields.specs.ListValue.{list_value};
 

@@ -10,10 +10,10 @@ ghost use Rattle.std.specs.Int.{w32, to_le_bytes};
 ghost use Rattle.adb_fields.specs.Repeated.{repeated_fault};
 ghost use Rattle.adb_block.specs.Reading.{reading_of};
 ghost use Rattle.adb_view.specs.Adb.{payload_of};
-ghost use Rattle.adb_tables.specs.Shaped.{adb_of};
+ghost use Rattle.adb_view.specs.ShapedPayload.{adb_of};
 ghost use Rattle.adb_schema.specs.Checked.{checked_value, which_of};
 ghost use Rattle.adb_view.specs.Plain.{IsNormal};
-ghost use Rattle.adb_tables.specs.declared.tables.Which.{Which};
+ghost use Rattle.adb_view.specs.declared.tables.Which.{Which};
 ghost use Rattle.adb_schema.specs.SoundContainers.{IsSoundValue};
 ghost use Rattle.adb_schema.specs.Soundness.{block_fault, file_pair, first_fault, further_fault, payload_fault, is_schema_wanted, payload_in, rest_fault, root_value, schema_word, undue_contents};
 ghost use Rattle.adb_schema.specs.ReadFaults.{first_block_fault};
@@ -22,11 +22,13 @@ ghost use Rattle.adb_schema.specs.ReadFaults.{IsReadFault};
 ghost use Rattle.adb_schema.specs.SoundContainers.{IsSound};
 
 use crate::checked::Checked;
+use crate::text_walk::no_text_is_bad_where_each_keeps_its_rule;
 use adb_block::{Block, BlockKind, Blocks};
 use adb_fields::{no_name_is_repeated_where_each_stands_once, repeated_names};
-use adb_rules::no_text_is_bad_where_each_keeps_its_rule;
-use adb_tables::{Which, shape, values_of_few_visits_have_no_fault};
-use adb_view::{Adb, values_are_normal, values_have_their_shape};
+use adb_view::{
+    Adb, Which, shape, values_are_normal, values_have_their_shape,
+    values_of_few_visits_have_no_fault,
+};
 use base_core::Cause;
 use std::alloc::{AllocError, Global};
 use thiserror::Error;

@@ -10,8 +10,8 @@ use Rattle.adb_block.specs.AllBlocks.{pieces_of}
 use Rattle.adb_view.specs.Plain.{Plain}
 use Rattle.adb_schema.specs.Soundness.{first_payload, payload_behind, payload_in, root_value, schema_word}
 use Rattle.adb_schema.specs.declared.read.TheConstants.{PACKAGE_WORD}
-use Rattle.adb_tables.specs.declared.tables.Which.{Which}
-use Rattle.adb_tables.specs.declared.tables.Which.TheVariants.{Package}
+use Rattle.adb_view.specs.declared.tables.Which.{Which}
+use Rattle.adb_view.specs.declared.tables.Which.TheVariants.{Package}
 use Rattle.adb_write.specs.Canonical.{canonical, write, empty_layout}
 use Rattle.adb_write.specs.File.{adb_piece, file_of}
 use Rattle.pkg_core.specs.Contents.{Expected, Contents, contents_in, expected_contents, files_by_blocks, unless_fault, with_next}

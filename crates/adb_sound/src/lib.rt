@@ -12,8 +12,8 @@
 ghost use Rattle.adb_block.specs.Written.{block_bytes};
 ghost use Rattle.adb_schema.specs.Soundness.{payload_in, root_value, schema_word};
 ghost use Rattle.adb_schema.specs.declared.read.TheConstants.{PACKAGE_WORD};
-ghost use Rattle.adb_tables.specs.declared.tables.Which.{Which};
-ghost use Rattle.adb_tables.specs.declared.tables.Which.TheVariants as Tables;
+ghost use Rattle.adb_view.specs.declared.tables.Which.{Which};
+ghost use Rattle.adb_view.specs.declared.tables.Which.TheVariants as Tables;
 ghost use Rattle.adb_sound.specs.Container.{contents_piece, container_of, package_by};
 ghost use Rattle.adb_sound.specs.Contents.{contents_size};
 ghost use Rattle.adb_sound.specs.Root.{IsRootOf};
@@ -27,7 +27,7 @@ ghost use Rattle.std.specs.List.{flat_map};
 ghost use Rattle.std.specs.Prelude.{◌≡◌, ◌≢◌, ◌<◌, ◌≤◌, ◌^◌, ℕ, List, length, map, Some, None};
 
 use adb_block::{what_is_spelled_is_read, what_is_written_is_spelled};
-use adb_tables::values_of_few_visits_have_no_fault;
+use adb_view::values_of_few_visits_have_no_fault;
 use adb_write::{a_canonical_payload_is_read_back, a_canonical_payload_is_visited_once};
 
 /// A law: the container of a value that may stand at its root is sound, where no contents are due:

@@ -6,9 +6,21 @@ pub mod Readers
 pub mod Head
 pub mod Plain
 pub mod Visits
+pub mod Schema
+pub mod FieldIndexes
+pub mod Values
+pub mod Walk
 -- what only inner contracts and proofs use
 pub mod Adb
 pub mod Gives
 pub mod Entries
 pub mod Width
 pub mod Shaped
+pub mod FormatTables
+pub mod FirstFault
+pub mod CountedWalk
+pub mod ShapedPayload
+pub mod Rank
+pub mod Shapes
+pub mod VisitFault
+pub mod Leaves

@@ -10,14 +10,14 @@ use Rattle.adb_block.specs.Header.{header_of}
 use Rattle.adb_block.specs.Reading.{Reading, done, fault, more, reading_of}
 use Rattle.adb_block.specs.Standing.{Standing, start_of}
 use Rattle.adb_dump.specs.Dump.{dump_text}
-use Rattle.adb_tables.specs.Shaped.{adb_of, shaped_value, table_of}
+use Rattle.adb_view.specs.ShapedPayload.{adb_of, shaped_value, table_of}
 use Rattle.adb_schema.specs.Soundness.{root_value, schema_word}
-use Rattle.adb_tables.specs.declared.shaped.Shaped.{Shaped}
+use Rattle.adb_view.specs.declared.shaped.Shaped.{Shaped}
 use Rattle.adb_schema.specs.declared.read.ReadFault.{ReadFault}
 use Rattle.adb_schema.specs.declared.read.ReadFault.TheVariants.{Bad}
 use Rattle.adb_schema.specs.declared.read.TheConstants.{PACKAGE_WORD, INDEX_WORD, IDB_WORD, INTENT_WORD}
-use Rattle.adb_tables.specs.declared.tables.Which.{Which}
-use Rattle.adb_tables.specs.declared.tables.Which.TheVariants.{Package, Index, Idb, Intent}
+use Rattle.adb_view.specs.declared.tables.Which.{Which}
+use Rattle.adb_view.specs.declared.tables.Which.TheVariants.{Package, Index, Idb, Intent}
 use Rattle.adb_view.specs.Adb.{payload_of}
 use Rattle.std.specs.Option.{option_map, option_or}
 use Rattle.command_core.specs.Named.{operand_file}

@@ -11,7 +11,7 @@ use Rattle.base_core.specs.Files.{Files, NameMap, drop_name}
 use Rattle.base_core.specs.Lists.{IsIn}
 use Rattle.base_core.specs.Tree.{File, IsMapOf, TreeState, bytes_at, files_by, files_of}
 use Rattle.base_core.specs.declared.tree.TreeFault.{TreeFault}
-use Rattle.adb_rules.specs.Reserved.{is_reserved}
+use Rattle.adb_schema.specs.Reserved.{is_reserved}
 use Rattle.journal_core.specs.Kept.{IsSyncedAt, KeepsMapsBut, ShownNamesLast}
 use Rattle.journal_core.specs.Quiet.{IsStill}
 use Rattle.journal_core.specs.Recovery.{IsSettled, RestsOn, intent_name, is_staged, state_of}

@@ -6,7 +6,7 @@ use Rattle.std.specs.declared.alloc.Global.{Global}
 use Rattle.adb_block.specs.Reading.{Reading, done, fault, more}
 use Rattle.adb_schema.specs.declared.read.ReadFault.{ReadFault}
 use Rattle.adb_schema.specs.declared.read.ReadFault.TheVariants as ReadFaults
-use Rattle.adb_tables.specs.declared.tables.Which.{Which}
+use Rattle.adb_view.specs.declared.tables.Which.{Which}
 use Rattle.base_core.specs.Files.{Files}
 use Rattle.base_core.specs.declared.cause.Cause.{Cause}
 use Rattle.command_core.specs.Command.{CommandLine}

@@ -3,7 +3,7 @@
 ghost use Rattle.std.specs.Prelude.{◌≡◌, None, Ok, IsTrue, IfOk, IfErr, is_some, length};
 ghost use Rattle.std.specs.Result.{result_err};
 ghost use Rattle.adb_block.specs.Reading.{reading_of};
-ghost use Rattle.adb_tables.specs.Shaped.{adb_of, table_of};
+ghost use Rattle.adb_view.specs.ShapedPayload.{adb_of, table_of};
 ghost use Rattle.adb_schema.specs.Soundness.{schema_word};
 ghost use Rattle.adb_view.specs.Adb.{payload_of};
 ghost use Rattle.apk_front.specs.Containers.{IsDumpFault, IsShapedFirst, first_form_fault};

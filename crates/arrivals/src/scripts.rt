@@ -2,8 +2,8 @@
 //! The rule stands in `docs/commands.md`, "`add` and `del`", the paragraph behind **What is
 //! refused**: which scripts a package has to run that comes, goes, or gets another version.
 ghost use Rattle.adb_schema.specs.Views.{package_value, scripts_value};
-ghost use Rattle.adb_tables.specs.FieldIndexes.{PACKAGE_SCRIPTS};
-ghost use Rattle.adb_tables.specs.Values.{entry_in};
+ghost use Rattle.adb_view.specs.FieldIndexes.{PACKAGE_SCRIPTS};
+ghost use Rattle.adb_view.specs.Values.{entry_in};
 ghost use Rattle.adb_view.specs.Plain.{Plain};
 ghost use Rattle.arrivals.specs.Told.{IsRefusalTold};
 ghost use Rattle.change_inputs.specs.Answers.{Agrees};

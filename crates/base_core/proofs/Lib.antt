@@ -5,3 +5,5 @@ pub mod Rising
 pub mod OneList
 pub mod NameParts
 pub mod ReadBehind
+pub mod Smallest
+pub mod Sorting

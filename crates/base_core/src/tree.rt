@@ -1,8 +1,8 @@
 //! What holds files: the trait `Tree` with the meaning of its calls, and reads of a whole file.
 //! What each call does stands in `docs/crash-safety.md`, "What each call does"; where a call is a
 //! misuse, and what is counted, in "Misuses, faults and counts".
-ghost use Rattle.std.specs.Prelude.{◌≡◌, List, Option, Some, length, take, drop, IfOk, OnOk, IfSome, IsErrOf, All};
-ghost use Rattle.std.specs.Option.{option_map};
+ghost use Rattle.std.specs.Prelude.{◌≡◌, ℕ, List, Option, Some, length, take, drop, IfOk, OnOk, IfSome, IsErrOf, All};
+ghost use Rattle.std.specs.Option.{option_map, option_copied};
 ghost use Rattle.base_core.specs.Tree.{TreeState, files_of, after_create, after_append, after_failed_append, after_sync, after_rename, after_remove, after_sync_names, same_state, Anywhere, HasName, CanRead, CanCreate, CanRename, IsWhole};
 ghost use Rattle.base_core.specs.Faults.{Counts, GoesOn, HasCause, IsNoFault};
 ghost use Rattle.base_core.specs.Calls.{IsCounted, Moves, IfObservable};
@@ -61,6 +61,11 @@ pub trait Tree {
 
     /// How often a call failed, and why.
     ghost counts: { Self → Counts };
+
+    /// The tree answered that a file can be renamed to the name, from the source that is given, or
+    /// that the name can be removed, if no source is given. It speaks of no state: only an Ok of
+    /// `check_target` gives it, so code over any tree that has it has asked.
+    ghost accepts: { Option (List ℕ) → List ℕ → Type 0 };
 
     /// The file's length in bytes, or None exactly where the name is absent.
     fn size(&mut self, name: &Name) -> Result<Option<u64>, Disk>
@@ -141,6 +146,17 @@ pub trait Tree {
         ensures value { IfOk result (λ names.
             IfObservable (history self.old) (λ v. IsListOf folder.now v names)) }
         ensures order { IfOk result (λ names. AreNamesBelow folder.now names) };
+
+    /// Asks, before a change is committed, whether a file can be renamed to the name later, from
+    /// the source, or whether the name can be removed later, if there is no source. The source need
+    /// not be there yet. A name that the tree can never take so, or give up, is a fault. No call is
+    /// a misuse: what other files allow is no question of this call. Folders that are needed may
+    /// be made, since an empty folder is no part of a state.
+    fn check_target(&mut self, name: &Name, source: Option<&Name>) -> Result<(), Disk>
+        ensures same { history self.new ≡ history self.old }
+        ensures counts { IsCounted Anywhere (history self.old) (counts self.old)
+            (counts self.new) result }
+        ensures accepted { OnOk result (accepts (option_copied source.entry) name.now) };
 
     /// Each state that is observable is whole: its names are names, finitely many, none a folder of
     /// another, and each leads to a file that was made, of fewer than 2^64 bytes.

@@ -2,7 +2,7 @@
 use Rattle.std.proofs.Common.{◌≡◌, ℕ, zero, suc, ◌+◌, ◌-◌, ◌≤◌, ◌<◌, false, List, [], ◌∷◌, ◌++◌, length, append_assoc, refl, ap, sym, ◌∙◌, arith, Option, Some}
 use Rattle.std.specs.Prelude.{option_copied}
 use Rattle.adb_view.specs.Plain.{Plain, Plains, none, more}
-use Rattle.adb_tables.specs.Values.{count_of, nth}
+use Rattle.adb_view.specs.Values.{count_of, nth}
 use Rattle.candidate_core.specs.Candidates.{Candidate, candidate_of, candidates_of_index}
 use Rattle.candidate_core.specs.Packages.{candidates_of_source}
 use Rattle.candidate_core.specs.declared.packages.Source.{Source}

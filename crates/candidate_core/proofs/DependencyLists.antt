@@ -3,7 +3,7 @@ use Rattle.std.proofs.Common.{◌≡◌, ℕ, zero, suc, ◌+◌, ◌<◌, List,
 use Rattle.std.specs.List.{cons_option}
 use Rattle.std.specs.Prelude.{option_to_list}
 use Rattle.adb_view.specs.Plain.{Plain, Plains, none, more}
-use Rattle.adb_tables.specs.Values.{count_of, nth}
+use Rattle.adb_view.specs.Values.{count_of, nth}
 use Rattle.dep_core.specs.Dependency.{Dependency}
 use Rattle.candidate_core.specs.Candidates.{dependency_in, dependencies_of}
 

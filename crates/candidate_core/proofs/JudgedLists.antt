@@ -6,8 +6,8 @@ use Rattle.std.specs.List.{cons_option}
 use Rattle.std.specs.Option.{option_map}
 use Rattle.std.specs.Prelude.{is_some, option_to_list, slice_get, ◌&&◌, if◌then◌else◌}
 use Rattle.adb_view.specs.Plain.{Plain, Plains, none, more}
-use Rattle.adb_rules.specs.SoundValues.{IsSoundDependency}
-use Rattle.adb_tables.specs.Values.{count_of, entry_in, int_in, nth, text_in}
+use Rattle.adb_schema.specs.SoundValues.{IsSoundDependency}
+use Rattle.adb_view.specs.Values.{count_of, entry_in, int_in, nth, text_in}
 use Rattle.dep_core.specs.Dependency.{Dependency, is_dep_name}
 use Rattle.dep_core.specs.Value.{is_matching, is_version_or_empty}
 use Rattle.dep_core.specs.ValueReading.{dependency_of_value}

@@ -4,7 +4,7 @@ use Rattle.std.proofs.Common.{◌≡◌, inl, inr, ℕ, zero, suc, ◌+◌, ◌-
 use Rattle.std.specs.Prelude.{IfSome, Option, Some, None, is_some, option_to_list, if◌then◌else◌, ◌&&◌}
 use Rattle.std.specs.List.{cons_option, find}
 use Rattle.adb_view.specs.Plain.{Plain, Plains, none, more}
-use Rattle.adb_tables.specs.Values.{count_of, entry_in, int_in, nth, text_in}
+use Rattle.adb_view.specs.Values.{count_of, entry_in, int_in, nth, text_in}
 use Rattle.dep_core.specs.Dependency.{Dependency, is_dep_name}
 use Rattle.dep_core.specs.Reading.{any_version}
 use Rattle.dep_core.specs.Value.{is_matching, is_version_or_empty}

@@ -8,12 +8,12 @@ use Rattle.std.specs.Option.{option_and_then, option_map_or}
 use Rattle.std.specs.List.{cons_option, filter, find, list_all, list_any, starts_with}
 use Rattle.std.specs.Str.{bytes_eq}
 use Rattle.adb_view.specs.Plain.{Plain, Plains, none, more}
-use Rattle.adb_tables.specs.FieldIndexes.{INFO_DEPENDS, INFO_HASHES, INFO_INSTALL_IF, INFO_NAME, INFO_PROVIDER_PRIORITY, INFO_PROVIDES, INFO_VERSION}
-use Rattle.adb_tables.specs.Values.{entries_in, entry_in, int_in, text_in}
+use Rattle.adb_view.specs.FieldIndexes.{INFO_DEPENDS, INFO_HASHES, INFO_INSTALL_IF, INFO_NAME, INFO_PROVIDER_PRIORITY, INFO_PROVIDES, INFO_VERSION}
+use Rattle.adb_view.specs.Values.{entries_in, entry_in, int_in, text_in}
 use Rattle.version_core.specs.Order.{is_version}
 use Rattle.dep_core.specs.Dependency.{Dependency}
 use Rattle.dep_core.specs.Meets.{meets}
-pub use Rattle.adb_rules.specs.Dependencies.{dependency_in}
+pub use Rattle.adb_schema.specs.Dependencies.{dependency_in}
 
 -- a package to choose from: `info` is what its index, or the database, says of it, and the other
 -- parts are what is read of that. The version is none only where the text is no version, which no

@@ -8,8 +8,8 @@ use Rattle.std.specs.declared.cmp.Ordering.{Ordering}
 use Rattle.dep_core.specs.Dependency.{Dependency}
 use Rattle.dep_core.specs.Meets.{is_wanted}
 use Rattle.adb_view.specs.Adb.{payload_of}
-use Rattle.adb_tables.specs.Values.{text_in, value_at}
-use Rattle.adb_tables.specs.declared.tables.Kind.TheVariants.{Text}
+use Rattle.adb_view.specs.Values.{text_in, value_at}
+use Rattle.adb_view.specs.declared.tables.Kind.TheVariants.{Text}
 use Rattle.candidate_core.specs.Candidates.{Need, entry, named}
 use Rattle.candidate_core.specs.declared.matches.KnownMatches.{KnownMatches}
 use Rattle.candidate_core.specs.declared.packages.Source.{Source}

@@ -10,7 +10,7 @@ use Rattle.std.specs.declared.cmp.Ordering.{Ordering}
 use Rattle.version_core.specs.Order.{version_cmp}
 use Rattle.dep_core.specs.Dependency.{Dependency}
 use Rattle.candidate_core.specs.Candidates.{Candidate, Need, need_name, version_under, is_eligible, meets_need}
-pub use Rattle.list_order.specs.ByteOrder.{bytes_cmp}
+pub use Rattle.base_core.specs.ByteOrder.{bytes_cmp}
 
 -- the names that a command upgrades: none (`add`, `del`, `fix`), all (`upgrade` without names), or
 -- those of a list

@@ -4,9 +4,9 @@
 use Rattle.std.specs.Prelude.{◌≡◌, ◌<◌, ℕ, true}
 use Rattle.version_core.specs.Order.{is_version}
 use Rattle.adb_view.specs.Plain.{Plain}
-use Rattle.adb_tables.specs.FieldIndexes.{INFO_DEPENDS, INFO_INSTALL_IF, INFO_PROVIDES, INFO_VERSION}
-use Rattle.adb_tables.specs.Values.{count_of, entries_in, entry_in, text_in}
-use Rattle.adb_rules.specs.SoundValues.{IsSoundDependency}
+use Rattle.adb_view.specs.FieldIndexes.{INFO_DEPENDS, INFO_INSTALL_IF, INFO_PROVIDES, INFO_VERSION}
+use Rattle.adb_view.specs.Values.{count_of, entries_in, entry_in, text_in}
+use Rattle.adb_schema.specs.SoundValues.{IsSoundDependency}
 
 -- each entry of a list of dependencies is a dependency
 abbrev pub HasSoundEntries : Plain → Type 0

@@ -2,8 +2,8 @@
 -- `option_ranks` those of `src/version_ranks.rt`: versions that are read from one place are one.
 use Rattle.std.specs.Prelude.{◌≡◌, ℕ, List, [], Option, Some, None, IfSome, slice_get}
 use Rattle.adb_view.specs.Adb.{payload_of}
-use Rattle.adb_tables.specs.Values.{text_in, value_at}
-use Rattle.adb_tables.specs.declared.tables.Kind.TheVariants.{Text}
+use Rattle.adb_view.specs.Values.{text_in, value_at}
+use Rattle.adb_view.specs.declared.tables.Kind.TheVariants.{Text}
 use Rattle.candidate_core.specs.declared.packages.Source.{Source}
 use Rattle.candidate_core.specs.declared.versions.RankedVersion.{RankedVersion}
 

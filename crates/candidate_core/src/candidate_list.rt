@@ -6,11 +6,11 @@ ghost use Rattle.std.specs.Prelude.{◌≡◌, ◌<◌, ◌+◌, ℕ, [], ◌∷
 ghost use Rattle.std.specs.List.{list_any};
 ghost use Rattle.adb_schema.specs.Views.{info_value};
 ghost use Rattle.adb_fields.specs.Fields.{are_all_sound, array_at};
-ghost use Rattle.adb_tables.specs.declared.tables.Kind.TheVariants as Kinds;
-ghost use Rattle.adb_tables.specs.declared.tables.Which.TheVariants as Tables;
+ghost use Rattle.adb_view.specs.declared.tables.Kind.TheVariants as Kinds;
+ghost use Rattle.adb_view.specs.declared.tables.Which.TheVariants as Tables;
 ghost use Rattle.adb_view.specs.Adb.{payload_of};
 ghost use Rattle.adb_view.specs.Entries.{array_entries};
-ghost use Rattle.adb_tables.specs.Values.{count_of, entries_in, entry_in};
+ghost use Rattle.adb_view.specs.Values.{count_of, entries_in, entry_in};
 ghost use Rattle.candidate_core.specs.Candidates.{as_installed_where_same, candidate_of, is_same_package, with_installed};
 ghost use Rattle.candidate_core.specs.Options.{places_offering};
 ghost use Rattle.candidate_core.specs.CandidateList.{IsCandidateList, is_same_at, marked_at};
@@ -24,8 +24,7 @@ use crate::judging::has_sound_texts;
 use crate::packages::{Packages, Source};
 use crate::table::Table;
 use adb_schema::PkgInfo;
-use adb_tables::entry_word;
-use adb_view::{Arr, Val};
+use adb_view::{Arr, Val, entry_word};
 use std::alloc::{AllocError, Global};
 
 /// Why a package is not taken into a pool.

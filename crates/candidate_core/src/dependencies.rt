@@ -6,7 +6,7 @@
 ghost use Rattle.std.specs.Prelude.{◌≡◌, ◌<◌, ◌==◌, true, length, slice_get, Some};
 ghost use Rattle.std.specs.Option.{option_map};
 ghost use Rattle.adb_fields.specs.ListValue.{list_value};
-ghost use Rattle.adb_rules.specs.SoundValues.{IsSoundDependency};
+ghost use Rattle.adb_schema.specs.SoundValues.{IsSoundDependency};
 ghost use Rattle.adb_schema.specs.Views.{dependency_value};
 ghost use Rattle.dep_core.specs.Meets.{dependency};
 ghost use Rattle.candidate_core.specs.Candidates.{dependencies_in, dependency_in};

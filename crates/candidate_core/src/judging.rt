@@ -6,11 +6,11 @@
 ghost use Rattle.std.specs.Prelude.{◌≡◌, true, false, Some, IfOk, IfSome, IfNone};
 ghost use Rattle.std.specs.Option.{option_map};
 ghost use Rattle.adb_fields.specs.Fields.{are_all_sound, array_at};
-ghost use Rattle.adb_rules.specs.TextRules.{keeps_text_rule};
+ghost use Rattle.adb_schema.specs.TextRules.{keeps_text_rule};
 ghost use Rattle.adb_schema.specs.Views.{info_value};
-ghost use Rattle.adb_tables.specs.Values.{entry_in, is_sound, kind_at, text_in, value_at};
-ghost use Rattle.adb_tables.specs.declared.tables.Kind.TheVariants as Kinds;
-ghost use Rattle.adb_tables.specs.declared.tables.Which.TheVariants as Tables;
+ghost use Rattle.adb_view.specs.Values.{entry_in, is_sound, kind_at, text_in, value_at};
+ghost use Rattle.adb_view.specs.declared.tables.Kind.TheVariants as Kinds;
+ghost use Rattle.adb_view.specs.declared.tables.Which.TheVariants as Tables;
 ghost use Rattle.adb_view.specs.Adb.{payload_of};
 ghost use Rattle.adb_view.specs.Entries.{array_entries};
 ghost use Rattle.dep_core.specs.Meets.{dependency};
@@ -18,10 +18,8 @@ ghost use Rattle.candidate_core.specs.Candidates.{dependency_in};
 ghost use Rattle.candidate_core.specs.SoundTexts.{HasSoundEntries, HasSoundTexts};
 
 use adb_fields::{field_word, int_field, objects_field, text_word};
-use adb_rules::{Judged, TextRule};
-use adb_schema::PkgInfo;
-use adb_tables::{Which, entry_word};
-use adb_view::{Arr, Val};
+use adb_schema::{Judged, PkgInfo, TextRule};
+use adb_view::{Arr, Val, Which, entry_word};
 use dep_core::{Dep, dep_of_parts};
 use std::alloc::{AllocError, Global};
 

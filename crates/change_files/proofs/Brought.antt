@@ -5,10 +5,10 @@ use Rattle.std.specs.List.{find}
 use Rattle.std.proofs.lemmas.Bool.{and_from, and_left, and_right, eq-eqb, eqb-true, false_from_ne_true}
 use Rattle.std.proofs.lemmas.Slice.Eq.{bytes_eq-Decides}
 use Rattle.adb_view.specs.Plain.{Plain}
-use Rattle.adb_tables.specs.Values.{entry_in, int_in}
+use Rattle.adb_view.specs.Values.{entry_in, int_in}
 use Rattle.adb_fields.specs.Repeated.{files_in, folders_in, name_of}
-use Rattle.adb_rules.specs.Rules.{is_digest_length}
-use Rattle.adb_rules.specs.Texts.{is_with_contents}
+use Rattle.adb_schema.specs.Rules.{is_digest_length}
+use Rattle.adb_schema.specs.Texts.{is_with_contents}
 use Rattle.pkg_core.specs.Contents.{Contents, Expected, bytes_or_none, expected_contents, expected_files, expected_folders, is_of_file}
 use Rattle.pkg_core.specs.GoodContents.{AreContentsOf, HaveDigests, IsContentsOf}
 use Rattle.db_core.specs.Members.{Listing, Member, listings_by, listings_from, listings_in_folder, listings_in_folders, member_listings}

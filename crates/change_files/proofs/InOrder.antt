@@ -10,10 +10,10 @@ use Rattle.std.proofs.lemmas.Cmp.{nat_list_cmp_total}
 use Rattle.std.proofs.lemmas.Map.Lookups.{exact_bytes}
 use Rattle.std.proofs.lemmas.Slice.Eq.{bytes_eq-Decides}
 use Rattle.base_core.proofs.Rising.{IsIn, Rises, order}
-use Rattle.list_order.specs.ByteOrder.{bytes_cmp}
-use Rattle.list_order.specs.Sorted.{sorted_by, with_element}
-use Rattle.list_order.proofs.Sorting.{Each, rises_in_order, ranks}
-use Rattle.list_order.proofs.Sorting as sorting
+use Rattle.base_core.specs.ByteOrder.{bytes_cmp}
+use Rattle.base_core.specs.Sorted.{sorted_by, with_element}
+use Rattle.base_core.proofs.Sorting.{Each, rises_in_order, ranks}
+use Rattle.base_core.proofs.Sorting as sorting
 use Rattle.change_files.specs.PlanLists.{names_in_order, unless_next, without_repeats}
 
 -- ---- sorted

@@ -2,7 +2,7 @@
 use Rattle.std.proofs.Common.{◌≡◌, ◌⊎◌, inl, inr, ◌∙◌, ℕ, suc, Bool, true, false, List, [], ◌∷◌, map, Option, Some, None, refl, ap, sym, true≢false, arith}
 use Rattle.std.specs.Prelude.{All, not, ◌&&◌}
 use Rattle.std.proofs.lemmas.Bool.{and_from, and_parts, not_from_false}
-use Rattle.adb_rules.specs.Reserved.{is_reserved}
+use Rattle.adb_schema.specs.Reserved.{is_reserved}
 use Rattle.adb_view.specs.Plain.{Plain}
 use Rattle.base_core.specs.Files.{Files}
 use Rattle.base_core.proofs.Rising.{IsIn}

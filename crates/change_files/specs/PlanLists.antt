@@ -4,9 +4,9 @@
 use Rattle.std.specs.Prelude.{ℕ, cond, List, [], ◌∷◌, ◌++◌, map, Option, option_map, is_some, bytes_eq}
 use Rattle.std.specs.List.{filter, filter_map}
 use Rattle.base_core.specs.Files.{Files}
-use Rattle.list_order.specs.ByteOrder.{bytes_cmp, smallest_text}
-use Rattle.list_order.specs.Sorted.{sorted_by}
-use Rattle.adb_rules.specs.Reserved.{is_reserved}
+use Rattle.base_core.specs.ByteOrder.{bytes_cmp, smallest_text}
+use Rattle.base_core.specs.Sorted.{sorted_by}
+use Rattle.adb_schema.specs.Reserved.{is_reserved}
 use Rattle.db_core.specs.Members.{Listing, Member}
 use Rattle.change_files.specs.NamesAfter.{coming_paths}
 use Rattle.change_files.specs.Fate.{aside_name}

@@ -3,8 +3,8 @@
 //! them.
 
 ghost use Rattle.std.specs.Prelude.{◌≡◌, ◌≢◌, ◌⊎◌, ◌↔◌, ℕ, Bool, true, false, List, [], None, Some, IsSome, map, is_some, All, Contains};
-ghost use Rattle.adb_rules.specs.Reserved.{is_reserved};
-ghost use Rattle.adb_rules.specs.Texts.{is_with_contents};
+ghost use Rattle.adb_schema.specs.Reserved.{is_reserved};
+ghost use Rattle.adb_schema.specs.Texts.{is_with_contents};
 ghost use Rattle.base_core.specs.Files.{Files};
 ghost use Rattle.base_core.specs.Listed.{IsRising};
 ghost use Rattle.base_core.specs.Name.{IsName};

@@ -9,7 +9,7 @@ use Rattle.std.specs.Option.{option_map}
 use Rattle.std.specs.Result.{IsErrAnd}
 use Rattle.std.specs.declared.alloc.Global.{Global}
 use Rattle.adb_schema.specs.Soundness.{first_fault}
-use Rattle.adb_tables.specs.declared.tables.Which.TheVariants.{Index}
+use Rattle.adb_view.specs.declared.tables.Which.TheVariants.{Index}
 use Rattle.adb_view.specs.Plain.{Plain}
 use Rattle.base_core.specs.Tree.{TreeState, files_of}
 use Rattle.command_core.proofs.Entries.{left_at}

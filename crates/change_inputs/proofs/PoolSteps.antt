@@ -7,7 +7,7 @@ use Rattle.std.proofs.lemmas.Bool.{lt-ltb, le-ltb}
 use Rattle.std.specs.List.{list_any, slice_get}
 use Rattle.std.specs.Option.{option_map}
 use Rattle.adb_fields.specs.Repeated.{list_of}
-use Rattle.adb_tables.specs.Values.{count_of, entries_in, entry_in, nth}
+use Rattle.adb_view.specs.Values.{count_of, entries_in, entry_in, nth}
 use Rattle.adb_view.specs.Plain.{Plain, Plains, none, more}
 use Rattle.command_core.proofs.Entries.{left_at}
 use Rattle.db_core.proofs.Places.{count_listed, nth_listed}

@@ -4,8 +4,8 @@
 use Rattle.std.specs.Prelude.{ℕ, Bool, true, false, List, [], Option, Some, None, Result, Ok, Err}
 use Rattle.adb_fields.specs.Repeated.{entries_at}
 use Rattle.adb_schema.specs.Soundness.{first_fault, payload_in, root_value}
-use Rattle.adb_tables.specs.FieldIndexes.{IDB_PACKAGES}
-use Rattle.adb_tables.specs.declared.tables.Which.TheVariants.{Idb}
+use Rattle.adb_view.specs.FieldIndexes.{IDB_PACKAGES}
+use Rattle.adb_view.specs.declared.tables.Which.TheVariants.{Idb}
 use Rattle.adb_view.specs.Plain.{Plain}
 use Rattle.report_core.specs.declared.refusal.Refusal.{Refusal}
 use Rattle.report_core.specs.declared.refusal.Refusal.TheVariants.{DatabaseBad, NoDatabase, ResultTooLarge}

@@ -2,8 +2,8 @@
 use Rattle.std.specs.Prelude.{true, false, List, [], Some, None, map}
 use Rattle.adb_fields.specs.Repeated.{entries_at}
 use Rattle.adb_schema.specs.Soundness.{payload_in, root_value}
-use Rattle.adb_tables.specs.FieldIndexes.{IDB_PACKAGES}
-use Rattle.adb_tables.specs.declared.tables.Which.TheVariants.{Idb}
+use Rattle.adb_view.specs.FieldIndexes.{IDB_PACKAGES}
+use Rattle.adb_view.specs.declared.tables.Which.TheVariants.{Idb}
 use Rattle.adb_view.specs.Plain.{Plain}
 use Rattle.change_inputs.specs.Database.{Database, database_by}
 use Rattle.change_inputs.specs.IndexFiles.{bytes_of_each, index_of_file}

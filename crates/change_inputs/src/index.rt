@@ -2,12 +2,12 @@
 //! them is tested. The rules stand in `docs/commands.md`, "`add` and `del`" (what is read and
 //! refused), and in `docs/formats.md`, "Repositories".
 
-ghost use Rattle.adb_rules.specs.Texts.{text_fault};
+ghost use Rattle.adb_schema.specs.Texts.{text_fault};
 ghost use Rattle.adb_schema.specs.Soundness.{root_value};
 ghost use Rattle.adb_schema.specs.Views.{index_value};
-ghost use Rattle.adb_tables.specs.Values.{is_sound};
-ghost use Rattle.adb_tables.specs.declared.tables.Kind.TheVariants as Kinds;
-ghost use Rattle.adb_tables.specs.declared.tables.Which.TheVariants as Tables;
+ghost use Rattle.adb_view.specs.Values.{is_sound};
+ghost use Rattle.adb_view.specs.declared.tables.Kind.TheVariants as Kinds;
+ghost use Rattle.adb_view.specs.declared.tables.Which.TheVariants as Tables;
 ghost use Rattle.adb_view.specs.Head.{head_fault, root_of};
 ghost use Rattle.base_core.specs.Read.{OnlyReads, bytes_in};
 ghost use Rattle.change_inputs.specs.Answers.{Agrees, AgreesUnlessDisk, StandAt, StandsAt};
@@ -20,8 +20,7 @@ ghost use Rattle.change_inputs.specs.World.{text_found};
 use crate::root::{Refused, payload_in, read_file, test_file};
 use crate::world::text_found;
 use adb_schema::{IndexView, ReadFault, Which};
-use adb_tables::values_of_few_visits_have_no_fault;
-use adb_view::Adb;
+use adb_view::{Adb, values_of_few_visits_have_no_fault};
 use base_core::{Name, Tree};
 use dep_core::{Repos, ReposFault};
 use report_core::Refusal;

@@ -11,7 +11,7 @@ ghost use Rattle.root_names.specs.RootNames.{database_name, text_database_name};
 ghost use Rattle.std.specs.Prelude.{◌≡◌, IfErr, IfOk, None, OnOk, ◌<◌, ◌+◌, ℕ, List, Ok, length};
 ghost use Rattle.adb_schema.specs.ReadFaults.{IsReadFault};
 ghost use Rattle.adb_schema.specs.Soundness.{first_fault, payload_fault, payload_in};
-ghost use Rattle.adb_tables.specs.declared.tables.Which.{Which};
+ghost use Rattle.adb_view.specs.declared.tables.Which.{Which};
 ghost use Rattle.command_core.specs.Command.{CommandLine};
 ghost use Rattle.make_info.specs.Reads.{Reads};
 

@@ -3,8 +3,8 @@
 -- is reported.
 use Rattle.std.specs.Prelude.{◌≡◌, ℕ, ◌==◌, Bool, true, false, not, ◌||◌, List, [], ◌∷◌, ◌++◌, length, map, sum_by, Option, Some, None, Result, Ok, Err, bytes_eq, slice_get, unwrap_or}
 use Rattle.std.specs.Option.{option_map_or}
-use Rattle.adb_tables.specs.FieldIndexes.{INFO_INSTALLED_SIZE, PACKAGE_INFO}
-use Rattle.adb_tables.specs.Values.{entry_in, int_in}
+use Rattle.adb_view.specs.FieldIndexes.{INFO_INSTALLED_SIZE, PACKAGE_INFO}
+use Rattle.adb_view.specs.Values.{entry_in, int_in}
 use Rattle.adb_write.specs.Canonical.{PayloadCounts, overflow_of}
 use Rattle.base_core.specs.Files.{Files}
 use Rattle.change_files.specs.FileChange.{FileChange}
@@ -20,7 +20,7 @@ use Rattle.file_owners.specs.Owners.{contested_of, owned_of}
 use Rattle.journal_intent.specs.IntentValue.{intent_of_lists, value_of_intent}
 use Rattle.make_info.specs.Reads.{Reads}
 use Rattle.package_changes.specs.Changes.{Replacement, changes_of}
-use Rattle.report_changes.specs.Report.{stay_lines}
+use Rattle.package_changes.specs.Report.{stay_lines}
 use Rattle.path_claims.specs.Claims.{ContestedPath}
 use Rattle.path_clashes.specs.Clash.{NamePair}
 use Rattle.path_clashes.specs.FirstClash.{IsClashOf}

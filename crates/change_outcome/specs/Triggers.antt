@@ -4,8 +4,8 @@ use Rattle.std.specs.Prelude.{ℕ, ◌==◌, Bool, true, false, ◌&&◌, if◌t
 use Rattle.std.specs.List.{filter, flat_map, list_any}
 use Rattle.base_core.specs.Name.{parts_of}
 use Rattle.adb_fields.specs.Repeated.{entries_at, package_name}
-use Rattle.adb_tables.specs.FieldIndexes.{PACKAGE_TRIGGERS}
-use Rattle.adb_tables.specs.Values.{text_in}
+use Rattle.adb_view.specs.FieldIndexes.{PACKAGE_TRIGGERS}
+use Rattle.adb_view.specs.Values.{text_in}
 use Rattle.adb_view.specs.Plain.{Plain}
 use Rattle.change_files.specs.PlanLists.{names_in_order}
 use Rattle.db_core.specs.Members.{Member, member_name}

@@ -1,1 +1,4 @@
 mod PathOrder
+pub mod Loops
+mod Stars
+mod Watching

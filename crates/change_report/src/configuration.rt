@@ -3,7 +3,7 @@
 //! "What a change does with files".
 ghost use Rattle.change_outcome.specs.ConfigurationLines.{aside_line, configuration_lines, kept_line, path_line, path_line_cmp};
 ghost use Rattle.change_report.specs.Notices.{notice_seen};
-ghost use Rattle.list_order.specs.Sorted.{sorted_by};
+ghost use Rattle.base_core.specs.Sorted.{sorted_by};
 ghost use Rattle.std.specs.List.{flat_map};
 ghost use Rattle.std.specs.Prelude.{◌≡◌, ◌++◌, ◌∷◌, [], map, if◌then◌else◌, IfOk, OnOk};
 

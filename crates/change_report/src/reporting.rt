@@ -7,17 +7,16 @@ ghost use Rattle.change_outcome.specs.ChangeOutcome.{ChangeWishes, change_report
 ghost use Rattle.change_outcome.specs.Triggers.{trigger_lines};
 ghost use Rattle.change_report.specs.Reported.{IsReportedOf, replacement_reported};
 ghost use Rattle.db_core.specs.Seen.{members_of};
-ghost use Rattle.due_triggers.specs.Due.{planned_paths};
+ghost use Rattle.change_report.specs.Due.{planned_paths};
 ghost use Rattle.std.specs.Prelude.{◌≡◌, ◌++◌, ℕ, List, IfOk, OnOk, ◌<◌, length, sum_by, Some, option_map, slice_get};
 
 use crate::configuration::push_configuration_lines;
+use crate::due::{push_trigger_lines, touched_folders};
 use base_core::Words;
 use db_core::{Db, Members};
-use due_triggers::{push_trigger_lines, touched_folders};
 use own_core::FilePlan;
-use package_changes::Changes;
+use package_changes::{Changes, push_change_lines, push_stay_lines, push_sum_line};
 use pool_core::Sealed;
-use report_changes::{push_change_lines, push_stay_lines, push_sum_line};
 use report_core::Report;
 use solve_core::Trace;
 use std::alloc::{AllocError, Global};

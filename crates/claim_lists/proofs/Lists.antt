@@ -2,7 +2,7 @@
 use Rattle.std.proofs.Common.{◌≡◌, ℕ, suc, zero, ◌<◌, ◌≤◌, Bool, true, false, cond, List, [], ◌∷◌, ◌++◌, length, get_or, map, drop, take, Option, Some, None, refl, ap, sym, ◌∙◌, subst, arith}
 use Rattle.std.specs.Prelude.{slice_get}
 use Rattle.std.specs.List.{AllWithin, filter, find}
-use Rattle.list_order.proofs.Sorting.{Each}
+use Rattle.base_core.proofs.Sorting.{Each}
 use Rattle.path_claims.proofs.Places.{no_some, value_or}
 
 abbrev pub or_found : {X : Type 0} → Option X → Option X → Option X

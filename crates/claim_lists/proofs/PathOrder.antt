@@ -8,8 +8,8 @@ use Rattle.std.specs.Ordering.{is_eq, is_lt, nat_cmp, ordering_reverse}
 use Rattle.std.proofs.lemmas.Cmp.{nat_list_cmp_total}
 use Rattle.std.proofs.lemmas.List.Sorted.{sorted_far}
 use Rattle.adb_fields.specs.JoinedPath.{joined_path}
-use Rattle.list_order.specs.ByteOrder.{bytes_cmp, precedes}
-use Rattle.list_order.proofs.Sorting.{Each, Rises, ranks, rises_sorted}
+use Rattle.base_core.specs.ByteOrder.{bytes_cmp, precedes}
+use Rattle.base_core.proofs.Sorting.{Each, Rises, ranks, rises_sorted}
 use Rattle.path_claims.specs.Claims.{PathClaim, claim_cmp, is_of_path}
 use Rattle.path_claims.specs.Seen.{claim_seen}
 use Rattle.path_claims.specs.declared.claim.Claim.{Claim}

@@ -7,7 +7,7 @@
 ghost use Rattle.std.specs.Prelude.{◌≡◌, ◌<◌, ◌≤◌, true, false, length, map, option_and_then, slice_get, IfSome, IfOk};
 ghost use Rattle.std.specs.List.{find};
 ghost use Rattle.std.specs.List.Sorted.{IsPartitionPoint, IsSorted};
-ghost use Rattle.list_order.specs.ByteOrder.{precedes};
+ghost use Rattle.base_core.specs.ByteOrder.{precedes};
 ghost use Rattle.adb_fields.specs.JoinedPath.{joined_path};
 ghost use Rattle.path_claims.specs.Claims.{claim_cmp, is_of_path};
 ghost use Rattle.path_claims.specs.Seen.{claim_seen};

@@ -6,7 +6,7 @@ use Rattle.adb_block.specs.Header.{header_of}
 use Rattle.adb_block.specs.Reading.{Reading, done, fault, more, reading_of}
 use Rattle.adb_block.specs.Standing.{start_of}
 use Rattle.adb_schema.specs.Soundness.{blocks_fault, file_fault, is_schema_wanted, root_value, schema_word}
-use Rattle.adb_tables.specs.declared.tables.Which.{Which}
+use Rattle.adb_view.specs.declared.tables.Which.{Which}
 use Rattle.base_core.specs.declared.cause.Cause.{Cause}
 use Rattle.base_core.specs.declared.cause.Cause.TheVariants.{WrongSchema}
 use Rattle.container_laws.specs.TestsInOrder.{IsBlocksFault, IsContainerFault, IsFaultOfTable, IsFirstFailing, tests_of_values}

@@ -8,12 +8,12 @@ use Rattle.adb_block.specs.Piece.{Piece}
 use Rattle.adb_block.specs.Reading.{Reading, fault, more, reading_of}
 use Rattle.adb_block.specs.Standing.{start_of}
 use Rattle.adb_fields.specs.Repeated.{repeated_fault}
-use Rattle.adb_rules.specs.Texts.{text_fault}
+use Rattle.adb_schema.specs.Texts.{text_fault}
 use Rattle.adb_schema.specs.Soundness.{is_schema_wanted, root_value, schema_word}
-use Rattle.adb_tables.specs.Schema.{shape_of}
-use Rattle.adb_tables.specs.Walk.{shape_fault}
-use Rattle.adb_tables.specs.declared.tables.Kind.TheVariants.{Obj}
-use Rattle.adb_tables.specs.declared.tables.Which.{Which}
+use Rattle.adb_view.specs.Schema.{shape_of}
+use Rattle.adb_view.specs.Walk.{shape_fault}
+use Rattle.adb_view.specs.declared.tables.Kind.TheVariants.{Obj}
+use Rattle.adb_view.specs.declared.tables.Which.{Which}
 use Rattle.adb_view.specs.Head.{head_fault, root_of}
 use Rattle.container_laws.specs.HeaderFaults.{IsHeaderFault}
 use Rattle.pkg_core.specs.Whole.{behind_fault, root_of_schema}

@@ -5,7 +5,7 @@
 #![tactic(auto)]
 
 ghost use Rattle.adb_block.specs.Header.{header_of};
-ghost use Rattle.adb_tables.specs.declared.tables.Which.{Which};
+ghost use Rattle.adb_view.specs.declared.tables.Which.{Which};
 ghost use Rattle.base_core.specs.declared.cause.Cause.{Cause};
 ghost use Rattle.container_laws.specs.HeaderFaults.{IsHeaderFault};
 ghost use Rattle.container_laws.specs.TestsInOrder.{IsContainerFault, IsFaultOfTable};

@@ -3,7 +3,7 @@ use Rattle.std.proofs.Common.{◌≡◌, ℕ, suc, zero, ◌+◌, ◌<◌, ◌�
 use Rattle.std.specs.Prelude.{◌||◌}
 use Rattle.std.specs.List.{flat_map, list_any}
 use Rattle.adb_view.specs.Plain.{Plain, Plains, none, more}
-use Rattle.adb_tables.specs.Values.{nth, count_of}
+use Rattle.adb_view.specs.Values.{nth, count_of}
 use Rattle.adb_fields.specs.Repeated.{list_of}
 
 nothing : (n : ℕ) → drop {A = Plain} n [] ≡ []

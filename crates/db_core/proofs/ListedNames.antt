@@ -12,14 +12,14 @@ use Rattle.base_core.specs.Name.{IsName, is_name, is_part, parts_of}
 use Rattle.base_core.proofs.NameParts.{split_slash}
 use Rattle.adb_view.specs.Plain.{Plain, Plains, none, more}
 use Rattle.adb_view.specs.Shaped.{Each}
-use Rattle.adb_tables.specs.Values.{entries_in, entry_in}
-use Rattle.adb_tables.specs.declared.tables.Which.{Which}
-use Rattle.adb_tables.specs.declared.tables.Which.TheVariants.{Idb}
+use Rattle.adb_view.specs.Values.{entries_in, entry_in}
+use Rattle.adb_view.specs.declared.tables.Which.{Which}
+use Rattle.adb_view.specs.declared.tables.Which.TheVariants.{Idb}
 use Rattle.adb_fields.specs.Paths.{path_of}
 use Rattle.adb_fields.specs.Repeated.{files_in, folders_in, list_of, name_of, paths_in, paths_under}
-use Rattle.adb_rules.specs.Reserved.{is_reserved}
-use Rattle.adb_rules.specs.Rules.{is_file_name, is_folder_name, is_one_part}
-use Rattle.adb_rules.specs.SoundValues.{IsFileOf, IsFolder, IsPackage}
+use Rattle.adb_schema.specs.Reserved.{is_reserved}
+use Rattle.adb_schema.specs.Rules.{is_file_name, is_folder_name, is_one_part}
+use Rattle.adb_schema.specs.SoundValues.{IsFileOf, IsFolder, IsPackage}
 use Rattle.db_core.specs.EntrySeen.{member_by}
 use Rattle.db_core.specs.Members.{Member, is_coming, listings_by, listings_from, listings_in_folder, listings_in_folders, member_listings, staying_member}
 use Rattle.db_core.specs.Packages.{comes_or_lists_no_reserved, lists_names, lists_no_reserved}

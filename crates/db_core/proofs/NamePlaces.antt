@@ -11,11 +11,11 @@ use Rattle.std.specs.declared.cmp.Ordering.TheVariants.{Less, Equal, Greater}
 use Rattle.std.proofs.lemmas.Cmp.{nat_list_cmp_total, on_total, tied_itself}
 use Rattle.std.proofs.lemmas.List.{get_or-map, length-map}
 use Rattle.std.proofs.lemmas.List.Sorted.{sorted_far}
-use Rattle.list_order.specs.ByteOrder.{bytes_cmp, precedes}
-use Rattle.list_order.specs.Sorted.{sorted_by, with_element}
-use Rattle.list_order.proofs.Sorting.{Each, Rises, ranks, rises_sorted, sorted_up}
+use Rattle.base_core.specs.ByteOrder.{bytes_cmp, precedes}
+use Rattle.base_core.specs.Sorted.{sorted_by, with_element}
+use Rattle.base_core.proofs.Sorting.{Each, Rises, ranks, rises_sorted, sorted_up}
 use Rattle.adb_view.specs.Plain.{Plain, Plains, none, more}
-use Rattle.adb_tables.specs.Values.{count_of, nth}
+use Rattle.adb_view.specs.Values.{count_of, nth}
 use Rattle.adb_fields.specs.Repeated.{list_of, package_name}
 use Rattle.db_core.specs.NamePlaces.{NameWithPlace, placed_name_cmp, placed_names_in_order, place_named, placed_names_from}
 use Rattle.db_core.specs.NameSeen.{name_seen}

@@ -6,7 +6,7 @@ use Rattle.std.proofs.lemmas.Cmp.{nat_list_cmp_total}
 use Rattle.std.proofs.lemmas.List.{length-map}
 use Rattle.base_core.specs.Listed.{IsRising}
 use Rattle.base_core.proofs.Rising.{IsIn, Rises, pairs_from_rises, rises_from_pairs}
-use Rattle.list_order.specs.ByteOrder.{bytes_cmp, precedes}
+use Rattle.base_core.specs.ByteOrder.{bytes_cmp, precedes}
 use Rattle.db_core.specs.EntrySeen.{member_by}
 use Rattle.db_core.specs.Members.{AreInOrder, Member, comes_behind, member_name}
 

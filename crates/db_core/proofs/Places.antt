@@ -3,7 +3,7 @@ use Rattle.std.proofs.Common.{◌≡◌, ℕ, suc, zero, ◌+◌, ◌<◌, ◌�
 use Rattle.std.specs.Prelude.{slice_get, IfSome}
 use Rattle.std.specs.List.{position_from}
 use Rattle.adb_view.specs.Plain.{Plain, Plains, none, more}
-use Rattle.adb_tables.specs.Values.{nth, count_of}
+use Rattle.adb_view.specs.Values.{nth, count_of}
 use Rattle.adb_fields.specs.Repeated.{list_of}
 
 pub count_listed : (vs : Plains) → count_of vs ≡ length (list_of vs)

@@ -7,9 +7,9 @@ use Rattle.sha2.proofs.Facts256.{length-sha256}
 use Rattle.adb_view.specs.Plain.{Plain, IsNormal}
 use Rattle.adb_fields.specs.FirstPair.{IsIn}
 use Rattle.adb_fields.specs.Repeated.{entries_at}
-use Rattle.adb_rules.specs.Rules.{is_digest_length}
+use Rattle.adb_schema.specs.Rules.{is_digest_length}
 use Rattle.adb_schema.specs.SoundContainers.{IsSoundValue}
-use Rattle.adb_tables.specs.declared.tables.Which.TheVariants.{Idb, Package}
+use Rattle.adb_view.specs.declared.tables.Which.TheVariants.{Idb, Package}
 use Rattle.db_core.specs.EntrySeen.{member_by}
 use Rattle.db_core.specs.Members.{Member}
 use Rattle.db_core.specs.Packages.{packages_by}

@@ -3,10 +3,10 @@
 -- No rule of a document: serves the contracts of `src/members.rt`.
 use Rattle.std.specs.Prelude.{ℕ, Bool, List, [], Option, Some, None, ◌||◌, bytes_eq, is_some}
 use Rattle.adb_schema.specs.declared.checked.IdbView.{IdbView}
-use Rattle.adb_tables.specs.Values.{value_at}
+use Rattle.adb_view.specs.Values.{value_at}
 use Rattle.adb_view.specs.Adb.{payload_of}
-use Rattle.adb_tables.specs.declared.tables.Kind.TheVariants.{Obj}
-use Rattle.adb_tables.specs.declared.tables.Which.TheVariants.{Package}
+use Rattle.adb_view.specs.declared.tables.Kind.TheVariants.{Obj}
+use Rattle.adb_view.specs.declared.tables.Which.TheVariants.{Package}
 use Rattle.db_core.specs.Members.{Member}
 
 -- the member that a payload, a word in it and an id say: the word leads to the package, and one

@@ -4,7 +4,7 @@
 use Rattle.std.specs.Prelude.{ℕ, ◌+◌, ◌==◌, Bool, true, false, List, [], ◌∷◌, ◌++◌, Option, Some, None, is_some, bytes_eq, map}
 use Rattle.std.specs.List.{filter}
 use Rattle.base_core.specs.Listed.{IsRising}
-use Rattle.list_order.specs.ByteOrder.{precedes}
+use Rattle.base_core.specs.ByteOrder.{precedes}
 use Rattle.adb_view.specs.Plain.{Plain}
 use Rattle.adb_fields.specs.Paths.{path_of}
 use Rattle.adb_fields.specs.Repeated.{name_of, package_name, folders_in, files_in}

@@ -5,8 +5,8 @@ use Rattle.std.specs.Prelude.{ℕ, ◌+◌, List, [], ◌∷◌, Option, bytes_e
 use Rattle.std.specs.List.{find}
 use Rattle.std.specs.Ordering.{on}
 use Rattle.std.specs.declared.cmp.Ordering.{Ordering}
-use Rattle.list_order.specs.ByteOrder.{bytes_cmp}
-use Rattle.list_order.specs.Sorted.{sorted_by}
+use Rattle.base_core.specs.ByteOrder.{bytes_cmp}
+use Rattle.base_core.specs.Sorted.{sorted_by}
 use Rattle.adb_view.specs.Plain.{Plain}
 use Rattle.adb_fields.specs.Repeated.{package_name}
 

@@ -5,9 +5,9 @@ use Rattle.std.specs.Prelude.{ℕ, Bool, List, [], Option, Some, None, not, ◌|
 use Rattle.std.specs.List.{list_all, list_any}
 use Rattle.base_core.specs.Name.{is_name}
 use Rattle.adb_view.specs.Plain.{Plain}
-use Rattle.adb_tables.specs.FieldIndexes.{IDB_PACKAGES, INFO_HASHES, PACKAGE_INFO}
-use Rattle.adb_tables.specs.Values.{entry_in, text_in}
-use Rattle.adb_rules.specs.Reserved.{is_reserved}
+use Rattle.adb_view.specs.FieldIndexes.{IDB_PACKAGES, INFO_HASHES, PACKAGE_INFO}
+use Rattle.adb_view.specs.Values.{entry_in, text_in}
+use Rattle.adb_schema.specs.Reserved.{is_reserved}
 use Rattle.adb_fields.specs.Repeated.{entries_at, package_name, paths_in}
 use Rattle.db_core.specs.Members.{Member, is_coming}
 

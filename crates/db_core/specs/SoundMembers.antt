@@ -4,10 +4,10 @@
 -- that a new database is sound.
 use Rattle.std.specs.Prelude.{◌≡◌, ℕ, true, false, List, [], ◌∷◌, length, map, Option, Some, None}
 use Rattle.adb_view.specs.Plain.{Plain, IsNormal}
-use Rattle.adb_tables.specs.FieldIndexes.{IDB_PACKAGES}
-use Rattle.adb_tables.specs.declared.tables.Which.TheVariants.{Idb, Package}
-use Rattle.adb_rules.specs.Reserved.{is_reserved}
-use Rattle.adb_rules.specs.Rules.{is_digest_length}
+use Rattle.adb_view.specs.FieldIndexes.{IDB_PACKAGES}
+use Rattle.adb_view.specs.declared.tables.Which.TheVariants.{Idb, Package}
+use Rattle.adb_schema.specs.Reserved.{is_reserved}
+use Rattle.adb_schema.specs.Rules.{is_digest_length}
 use Rattle.adb_fields.specs.FirstPair.{IsIn}
 use Rattle.adb_fields.specs.Repeated.{entries_at}
 use Rattle.adb_schema.specs.SoundContainers.{IsSoundValue}

@@ -7,10 +7,10 @@ ghost use Rattle.adb_fields.specs.Repeated.{entries_at, list_of};
 ghost use Rattle.adb_schema.specs.ReadFaults.{IsReadFault};
 ghost use Rattle.adb_schema.specs.Soundness.{first_fault, payload_fault, payload_in, root_value};
 ghost use Rattle.adb_schema.specs.Views.{idb_value, package_value};
-ghost use Rattle.adb_tables.specs.FieldIndexes.{IDB_PACKAGES};
-ghost use Rattle.adb_tables.specs.Values.{count_of, entries_in, entry_in, is_sound};
-ghost use Rattle.adb_tables.specs.declared.tables.Kind.TheVariants as Kinds;
-ghost use Rattle.adb_tables.specs.declared.tables.Which.TheVariants as Tables;
+ghost use Rattle.adb_view.specs.FieldIndexes.{IDB_PACKAGES};
+ghost use Rattle.adb_view.specs.Values.{count_of, entries_in, entry_in, is_sound};
+ghost use Rattle.adb_view.specs.declared.tables.Kind.TheVariants as Kinds;
+ghost use Rattle.adb_view.specs.declared.tables.Which.TheVariants as Tables;
 ghost use Rattle.adb_view.specs.Adb.{payload_of};
 ghost use Rattle.adb_view.specs.Head.{head_fault, root_of};
 ghost use Rattle.db_core.specs.EntrySeen.{payload_of_database};
@@ -24,12 +24,13 @@ ghost use Rattle.std.specs.Prelude.{◌≡◌, ◌<◌, ◌^◌, ◌==◌, true,
 use crate::listed_paths::is_path_listed;
 use crate::name_places::{NamePlace, place_of, sorted_names};
 use adb_block::Blocks;
-use adb_rules::no_text_is_bad_where_each_keeps_its_rule;
-use adb_schema::{IdbView, List, PackageView, ReadFault, View, Which, read_adb};
-use adb_tables::values_of_few_visits_have_no_fault;
-use adb_view::Adb;
+use adb_schema::{
+    IdbView, List, PackageView, ReadFault, View, Which, no_text_is_bad_where_each_keeps_its_rule,
+    read_adb,
+};
+use adb_view::{Adb, values_of_few_visits_have_no_fault};
 use base_core::Name;
-use pkg_pieces::{bytes_are_small, tested_payloads_hold_sound_values};
+use pkg_core::{bytes_are_small, tested_payloads_hold_sound_values};
 use std::alloc::{AllocError, Global};
 
 /// The packages of an installed database, in its order. All is lent from the file's bytes; the
@@ -51,7 +52,7 @@ pub struct Db<'a> {
 }
 
 impl<'a> Db<'a> {
-    ghost use Rattle.adb_rules.specs.Reserved.{is_reserved};
+    ghost use Rattle.adb_schema.specs.Reserved.{is_reserved};
     ghost use Rattle.base_core.specs.Name.{IsName};
     ghost use Rattle.db_core.specs.Members.{member_listings, staying_members};
     ghost use Rattle.db_core.specs.Seen.{packages_of};

@@ -6,7 +6,7 @@ ghost use Rattle.adb_fields.specs.ListValue.{list_value};
 ghost use Rattle.adb_fields.specs.Paths.{path_of};
 ghost use Rattle.adb_fields.specs.Repeated.{list_of, name_of, paths_under};
 ghost use Rattle.adb_schema.specs.Views.{dir_value};
-ghost use Rattle.adb_tables.specs.Values.{count_of, entries_in, entry_in};
+ghost use Rattle.adb_view.specs.Values.{count_of, entries_in, entry_in};
 ghost use Rattle.std.specs.List.{flat_map, list_any};
 ghost use Rattle.std.specs.Prelude.{◌≡◌, ◌<◌, bytes_eq};
 

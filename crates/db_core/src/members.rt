@@ -10,12 +10,12 @@ ghost use Rattle.adb_view.specs.Plain.{Plain};
 ghost use Rattle.base_core.specs.Listed.{IsRising};
 ghost use Rattle.db_core.specs.EntrySeen.{comes_or_is_in, member_by, payload_of_database};
 ghost use Rattle.db_core.specs.Members.{Member, comes_behind, coming_member, is_coming, is_place, member_name, staying_member, Listing, member_listings};
-ghost use Rattle.list_order.specs.ByteOrder.{precedes};
+ghost use Rattle.base_core.specs.ByteOrder.{precedes};
 ghost use Rattle.std.specs.List.Sorted.{IsPartitionPoint};
 ghost use Rattle.db_core.specs.Packages.{comes_or_lists_no_reserved, lists_names};
 ghost use Rattle.db_core.specs.SoundMembers.{AreOfSoundContainers};
 ghost use Rattle.db_core.specs.declared.members.TheConstants.{MOST_MEMBERS};
-ghost use Rattle.pkg_pieces.specs.Values.{payload_of_contents, value_of_contents};
+ghost use Rattle.pkg_core.specs.Values.{payload_of_contents, value_of_contents};
 ghost use Rattle.sha2.specs.Sha256.{sha256};
 ghost use Rattle.std.specs.List.{list_all};
 ghost use Rattle.std.specs.Prelude.{◌≡◌, ◌<◌, ◌≤◌, ◌++◌, ◌∷◌, [], true, false, ◌==◌, ℕ, All, Some, None, IfSome, bytes_eq, length, map, slice_get, IfOk, OnOk, OnErr, List};
@@ -23,7 +23,7 @@ ghost use Rattle.db_core.specs.ListedAt.{IsListedAt};
 
 use crate::db::{Db, package_of_database};
 use adb_schema::PackageView;
-use pkg_pieces::Contents;
+use pkg_core::Contents;
 use std::alloc::{AllocError, Global};
 use std::marker::Model;
 
@@ -44,9 +44,9 @@ impl<'a> Model for PackageWithId<'a> {
     ghost use Rattle.std.specs.Prelude.{ℕ, List, Option};
     ghost use Rattle.std.specs.Prelude.{◌≡◌, true};
     ghost use Rattle.adb_view.specs.Adb.{payload_of};
-    ghost use Rattle.adb_tables.specs.Values.{is_sound};
-    ghost use Rattle.adb_tables.specs.declared.tables.Kind.TheVariants as Kinds;
-    ghost use Rattle.adb_tables.specs.declared.tables.Which.TheVariants as Tables;
+    ghost use Rattle.adb_view.specs.Values.{is_sound};
+    ghost use Rattle.adb_view.specs.declared.tables.Kind.TheVariants as Kinds;
+    ghost use Rattle.adb_view.specs.declared.tables.Which.TheVariants as Tables;
 
     ghost Value = { List ℕ × ℕ × Option (List ℕ) };
 
@@ -86,7 +86,7 @@ fn is_before(entry: &PackageWithId<'_>, name: &[u8]) -> bool
 }
 
 impl<'a> Members<'a> {
-    ghost use Rattle.adb_rules.specs.Reserved.{is_reserved};
+    ghost use Rattle.adb_schema.specs.Reserved.{is_reserved};
     ghost use Rattle.base_core.specs.Name.{IsName};
     ghost use Rattle.db_core.specs.Members.{AreInOrder, member_listings};
     ghost use Rattle.db_core.specs.Seen.{members_of, packages_before, packages_of, payload_before};

@@ -4,11 +4,11 @@
 ghost use Rattle.adb_fields.specs.ListValue.{list_value};
 ghost use Rattle.adb_fields.specs.Repeated.{list_of, package_name};
 ghost use Rattle.adb_schema.specs.Views.{package_value};
-ghost use Rattle.adb_tables.specs.Values.{count_of, entries_in, entry_in};
+ghost use Rattle.adb_view.specs.Values.{count_of, entries_in, entry_in};
 ghost use Rattle.db_core.specs.NamePlaces.{placed_name_cmp, placed_names_in_order, place_named, placed_names_from};
 ghost use Rattle.db_core.specs.NameSeen.{name_seen};
-ghost use Rattle.list_order.specs.ByteOrder.{precedes};
-ghost use Rattle.list_order.specs.Sorted.{sorted_by};
+ghost use Rattle.base_core.specs.ByteOrder.{precedes};
+ghost use Rattle.base_core.specs.Sorted.{sorted_by};
 ghost use Rattle.std.specs.List.Sorted.{IsPartitionPoint, IsSorted};
 ghost use Rattle.std.specs.Prelude.{◌≡◌, ◌<◌, ◌≤◌, true, false, length, map, IfOk};
 

@@ -2,19 +2,19 @@
 use Rattle.std.proofs.Common.{◌≡◌, ◌≢◌, ℕ, Bool, true, false, List, [], ◌∷◌, map, drop, Ok, refl, ap, sym, ◌∙◌, arith}
 use Rattle.std.specs.Prelude.{unwrap_or}
 use Rattle.adb_view.specs.Plain.{Plain, int, blob, obj, Plains, none, more, arr_value, blob_value, obj_value}
-use Rattle.adb_tables.specs.Values.{entries_in, entry_in, int_in, text_in}
-use Rattle.adb_tables.specs.declared.tables.Which.TheVariants.{Idb}
+use Rattle.adb_view.specs.Values.{entries_in, entry_in, int_in, text_in}
+use Rattle.adb_view.specs.declared.tables.Which.TheVariants.{Idb}
 use Rattle.adb_fields.specs.Repeated.{entries_at, files_in, folders_in, list_of, name_of}
 use Rattle.adb_schema.specs.Soundness.{payload_in, root_value}
 use Rattle.adb_schema.specs.declared.read.TheConstants.{IDB_WORD}
 use Rattle.adb_write.specs.Canonical.{written_of}
 use Rattle.adb_sound.specs.Root.{IsRootOf}
 use Rattle.adb_copy.specs.Zeros.{all_without_zeros, info_with, int_value, with_at, without_zeros}
-use Rattle.adb_tables.proofs.ValueEntries.{nth_obj}
+use Rattle.adb_view.proofs.ValueEntries.{nth_obj}
 use Rattle.adb_copy.proofs.WithoutZeros.{int_zeros, text_zeros}
 use Rattle.adb_copy.proofs.Zeros.{at_other, at_same, nth_zeros, zeros_arr, zeros_obj, zeros_twice}
 use Rattle.db_core.specs.Members.{Member, staying_members}
-use Rattle.adb_tables.specs.FieldIndexes.{INFO_FILE_SIZE, INFO_HASHES}
+use Rattle.adb_view.specs.FieldIndexes.{INFO_FILE_SIZE, INFO_HASHES}
 use Rattle.db_core.specs.Packages.{installed_id}
 use Rattle.db_write.specs.Information.{file_size_of}
 use Rattle.db_write.specs.NewDatabase.{database_container, database_of, database_value, each_by_flags, file_count, folder_after, folders_after, info_after, member_file_count, owned_entries, package_after, packages_after}

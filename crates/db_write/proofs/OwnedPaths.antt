@@ -3,11 +3,11 @@ use Rattle.std.proofs.Common.{◌≡◌, ℕ, suc, zero, ◌+◌, Bool, true, fa
 use Rattle.std.proofs.lemmas.List.{map-append}
 use Rattle.std.specs.List.{flat_map}
 use Rattle.adb_view.specs.Plain.{Plain, null, int, blob, arr, obj, Plains, none, more, arr_value, blob_value}
-use Rattle.adb_tables.specs.Values.{entries_in, entry_in, int_in, nth, text_in}
+use Rattle.adb_view.specs.Values.{entries_in, entry_in, int_in, nth, text_in}
 use Rattle.adb_fields.specs.Paths.{path_of}
 use Rattle.adb_fields.specs.Repeated.{files_in, folders_in, list_of, name_of, paths_in, paths_under}
 use Rattle.adb_copy.specs.Zeros.{all_without_zeros, int_value, without_zeros}
-use Rattle.adb_tables.proofs.ValueEntries.{entries_arr, nth_obj, text_blob}
+use Rattle.adb_view.proofs.ValueEntries.{entries_arr, nth_obj, text_blob}
 use Rattle.adb_copy.proofs.WithoutZeros.{text_zeros}
 use Rattle.adb_copy.proofs.Zeros.{nth_zeros}
 use Rattle.db_core.specs.Members.{Listing, Member, listings_by, listings_from, listings_in_folder, listings_in_folders, member_listings}

@@ -7,9 +7,9 @@ use Rattle.adb_block.specs.AllBlocks.{blocks_of}
 use Rattle.adb_block.specs.Container.{Spells}
 use Rattle.adb_block.specs.Piece.{Piece}
 use Rattle.adb_view.specs.Plain.{Plain, none, more, arr_value}
-use Rattle.adb_tables.specs.Values.{entries_in}
-use Rattle.adb_tables.specs.declared.tables.Which.{Which}
-use Rattle.adb_tables.specs.declared.tables.Which.TheVariants.{Idb, Package}
+use Rattle.adb_view.specs.Values.{entries_in}
+use Rattle.adb_view.specs.declared.tables.Which.{Which}
+use Rattle.adb_view.specs.declared.tables.Which.TheVariants.{Idb, Package}
 use Rattle.adb_fields.specs.Repeated.{entries_at, list_of}
 use Rattle.adb_schema.specs.SoundContainers.{IsSound}
 use Rattle.adb_schema.specs.Soundness.{first_fault, payload_in, root_value, schema_word}
@@ -20,7 +20,7 @@ use Rattle.adb_write.specs.File.{adb_piece, file_of}
 use Rattle.adb_sound.specs.Root.{IsRootOf}
 use Rattle.adb_sound.proofs.Payloads.{payload_long}
 use Rattle.pkg_core.specs.Whole.{container_fault, fault_by_header, whole_fault}
-use Rattle.adb_tables.proofs.ValueEntries.{entries_arr, nth_obj}
+use Rattle.adb_view.proofs.ValueEntries.{entries_arr, nth_obj}
 use Rattle.db_core.specs.Members.{Member}
 use Rattle.db_write.specs.NewDatabase.{database_container, database_of, database_value, packages_after}
 

@@ -8,13 +8,13 @@ use Rattle.std.specs.declared.cmp.Ordering.{Ordering}
 use Rattle.std.specs.declared.cmp.Ordering.TheVariants.{Less}
 use Rattle.std.proofs.lemmas.Cmp.{nat_list_cmp_total}
 use Rattle.adb_view.specs.Plain.{Plain, Plains, int, blob}
-use Rattle.adb_tables.specs.Values.{entries_in, entry_in, int_in, text_in}
-use Rattle.adb_tables.specs.declared.tables.Which.TheVariants.{Idb}
+use Rattle.adb_view.specs.Values.{entries_in, entry_in, int_in, text_in}
+use Rattle.adb_view.specs.declared.tables.Which.TheVariants.{Idb}
 use Rattle.adb_fields.specs.FirstPair.{IsIn}
 use Rattle.adb_fields.specs.Once.{AllDistinct, AreDistinctNames, NamesStandOnce, StandOnceBetween, StandOnceInside}
 use Rattle.adb_fields.specs.Repeated.{files_in, folders_in, list_of, name_of, package_name}
 use Rattle.adb_copy.specs.Zeros.{info_with, with_at, without_zeros}
-use Rattle.adb_tables.proofs.ValueEntries.{entries_arr, nth_obj, text_blob}
+use Rattle.adb_view.proofs.ValueEntries.{entries_arr, nth_obj, text_blob}
 use Rattle.adb_copy.proofs.WithoutZeros.{text_zeros}
 use Rattle.adb_copy.proofs.Zeros.{at_other, nth_zeros}
 use Rattle.db_core.specs.Members.{AreInOrder, Member, member_listings, member_name}

@@ -3,10 +3,10 @@ use Rattle.std.proofs.Common.{ℕ, Bool, true, false, List, [], ◌∷◌, drop,
 use Rattle.std.specs.Prelude.{unwrap_or}
 use Rattle.adb_view.specs.Plain.{Plain, Plains, int, blob, none, more, arr_value, blob_value, IsNormal, AreNormal}
 use Rattle.adb_view.specs.Shaped.{Each, HasShape, IsArrayOf, HaveShapes}
-use Rattle.adb_tables.specs.Schema.{shape_of, shapes_of, table}
-use Rattle.adb_tables.specs.Values.{entries_in, entry_in, int_in, text_in}
-use Rattle.adb_tables.specs.declared.tables.Kind.TheVariants.{Obj, TextArr}
-use Rattle.adb_tables.specs.declared.tables.Which.TheVariants as Tables
+use Rattle.adb_view.specs.Schema.{shape_of, shapes_of, table}
+use Rattle.adb_view.specs.Values.{entries_in, entry_in, int_in, text_in}
+use Rattle.adb_view.specs.declared.tables.Kind.TheVariants.{Obj, TextArr}
+use Rattle.adb_view.specs.declared.tables.Which.TheVariants as Tables
 use Rattle.adb_fields.specs.Repeated.{files_in, folders_in, list_of, name_of}
 use Rattle.adb_copy.specs.Zeros.{info_with, int_value, without_zeros}
 use Rattle.adb_copy.proofs.Fields.{INFO}

@@ -7,18 +7,18 @@ use Rattle.dep_core.specs.Dependency.{is_dep_name, is_package_name}
 use Rattle.dep_core.specs.Value.{is_matching, is_version_or_empty}
 use Rattle.adb_view.specs.Plain.{Plain, int, blob, Plains, none, more, arr_value}
 use Rattle.adb_view.specs.Shaped.{Each, HasShape, IsArrayOf}
-use Rattle.adb_tables.specs.Schema.{shape_of, shapes_of, table}
-use Rattle.adb_tables.specs.Values.{entries_in, entry_in, int_in, text_in}
-use Rattle.adb_tables.specs.declared.tables.Kind.TheVariants.{Obj}
-use Rattle.adb_tables.specs.declared.tables.Which.TheVariants as Tables
+use Rattle.adb_view.specs.Schema.{shape_of, shapes_of, table}
+use Rattle.adb_view.specs.Values.{entries_in, entry_in, int_in, text_in}
+use Rattle.adb_view.specs.declared.tables.Kind.TheVariants.{Obj}
+use Rattle.adb_view.specs.declared.tables.Which.TheVariants as Tables
 use Rattle.adb_fields.specs.Paths.{path_of}
 use Rattle.adb_fields.specs.Repeated.{files_in, folders_in, list_of, name_of, paths_in, paths_under}
-use Rattle.adb_rules.specs.Reserved.{is_reserved}
-use Rattle.adb_rules.specs.Rules.{is_digest_length_or_none, is_file_name, is_folder_name, is_target}
-use Rattle.adb_rules.specs.SoundValues.{IsFileOf, IsFolder, IsInformation, IsPackage, IsSoundDependency, KeepsRules}
+use Rattle.adb_schema.specs.Reserved.{is_reserved}
+use Rattle.adb_schema.specs.Rules.{is_digest_length_or_none, is_file_name, is_folder_name, is_target}
+use Rattle.adb_schema.specs.SoundValues.{IsFileOf, IsFolder, IsInformation, IsPackage, IsSoundDependency, KeepsRules}
 use Rattle.adb_copy.specs.Zeros.{all_without_zeros, info_with, with_at, without_zeros}
 use Rattle.adb_copy.proofs.Shapes.{entries_shape, nth_shape}
-use Rattle.adb_tables.proofs.ValueEntries.{entries_arr, nth_obj}
+use Rattle.adb_view.proofs.ValueEntries.{entries_arr, nth_obj}
 use Rattle.adb_copy.proofs.WithoutZeros.{int_zeros, text_zeros}
 use Rattle.adb_copy.proofs.Zeros.{at_other, at_same, nth_zeros, zeros_array}
 use Rattle.db_core.specs.Members.{Member}

@@ -2,10 +2,10 @@
 use Rattle.std.proofs.Common.{◌≡◌, ℕ, suc, zero, ◌-◌, ◌≤◌, Bool, true, List, [], ◌∷◌, map, drop, replicate, None, Ok, refl, ap, sym, ◌∙◌, subst, arith}
 use Rattle.adb_view.specs.Plain.{Plain, null, int, blob, arr, obj, Plains, none, more, blob_value, arr_value, obj_value}
 use Rattle.adb_view.specs.Shaped.{Each, HasShape, IsArrayOf}
-use Rattle.adb_tables.specs.Schema.{shape_of, shapes_of, table}
-use Rattle.adb_tables.specs.Values.{count_of, entries_in, entry_in, int_in, text_in}
-use Rattle.adb_tables.specs.declared.tables.Kind.TheVariants as Kinds
-use Rattle.adb_tables.specs.declared.tables.Which.TheVariants as Tables
+use Rattle.adb_view.specs.Schema.{shape_of, shapes_of, table}
+use Rattle.adb_view.specs.Values.{count_of, entries_in, entry_in, int_in, text_in}
+use Rattle.adb_view.specs.declared.tables.Kind.TheVariants as Kinds
+use Rattle.adb_view.specs.declared.tables.Which.TheVariants as Tables
 use Rattle.adb_fields.specs.Repeated.{entries_at, files_in, folders_in, list_of, name_of}
 use Rattle.adb_schema.specs.declared.read.TheConstants.{IDB_WORD}
 use Rattle.adb_write.specs.Canonical.{written_of}

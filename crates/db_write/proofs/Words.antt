@@ -1,8 +1,8 @@
 -- The words of an array stand for the elements of its list.
 use Rattle.std.proofs.Common.{◌≡◌, ◌∙◌, ℕ, ◌<◌, true, List, length, Some, ap, sym}
 use Rattle.std.specs.Prelude.{slice_get, slice_index}
-use Rattle.adb_tables.specs.Values.{entries_in, value_at}
-use Rattle.adb_tables.specs.declared.tables.Kind.{Kind}
+use Rattle.adb_view.specs.Values.{entries_in, value_at}
+use Rattle.adb_view.specs.declared.tables.Kind.{Kind}
 use Rattle.adb_fields.specs.Fields.{are_all_sound, array_at}
 use Rattle.adb_fields.specs.Repeated.{list_of}
 use Rattle.adb_fields.proofs.FieldReads.{entry_count}

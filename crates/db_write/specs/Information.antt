@@ -3,8 +3,8 @@
 -- was. Serves the law `a_package_keeps_its_information`.
 use Rattle.std.specs.Prelude.{ℕ}
 use Rattle.adb_view.specs.Plain.{Plain}
-use Rattle.adb_tables.specs.FieldIndexes.{INFO_FILE_SIZE, PACKAGE_INFO}
-use Rattle.adb_tables.specs.Values.{entry_in, int_in}
+use Rattle.adb_view.specs.FieldIndexes.{INFO_FILE_SIZE, PACKAGE_INFO}
+use Rattle.adb_view.specs.Values.{entry_in, int_in}
 
 -- the length of the package's file, as its information tells it; 0 where it tells none
 abbrev pub file_size_of : Plain → ℕ

@@ -6,7 +6,7 @@ ghost use Rattle.adb_values.specs.Drafts.{draft_with};
 ghost use Rattle.adb_values.specs.Written.{IsWrittenAs};
 ghost use Rattle.adb_write.specs.Canonical.{written_of, MOST_BYTES};
 ghost use Rattle.adb_schema.specs.SoundContainers.{IsSound};
-ghost use Rattle.adb_tables.specs.declared.tables.Which.TheVariants as Tables;
+ghost use Rattle.adb_view.specs.declared.tables.Which.TheVariants as Tables;
 ghost use Rattle.db_core.specs.Members.{member_listings};
 ghost use Rattle.db_core.specs.OwnedListings.{owned_listings};
 ghost use Rattle.db_core.specs.Seen.{members_of};

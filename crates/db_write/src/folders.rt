@@ -5,9 +5,9 @@
 ghost use Rattle.adb_copy.specs.Known.{AreBlobsOf};
 ghost use Rattle.adb_fields.specs.Fields.{are_all_sound, array_at};
 ghost use Rattle.adb_fields.specs.Repeated.{folders_in, list_of};
-ghost use Rattle.adb_tables.specs.Values.{entries_in, is_sound, value_at};
-ghost use Rattle.adb_tables.specs.declared.tables.Kind.TheVariants as Kinds;
-ghost use Rattle.adb_tables.specs.declared.tables.Which.TheVariants as Tables;
+ghost use Rattle.adb_view.specs.Values.{entries_in, is_sound, value_at};
+ghost use Rattle.adb_view.specs.declared.tables.Kind.TheVariants as Kinds;
+ghost use Rattle.adb_view.specs.declared.tables.Which.TheVariants as Tables;
 ghost use Rattle.adb_values.specs.Drafts.{draft_with};
 ghost use Rattle.adb_view.specs.Adb.{payload_of};
 ghost use Rattle.adb_view.specs.Entries.{array_entries};
@@ -17,10 +17,9 @@ ghost use Rattle.std.specs.Prelude.{◌≡◌, ◌<◌, true, false, OnOk, Some,
 
 use adb_copy::{KnownTexts, write_acl, write_file};
 use adb_fields::{field_word, objects_field};
-use adb_tables::field_indexes::{DIR_ACL, DIR_FILES, DIR_NAME, PACKAGE_PATHS};
-use adb_tables::{Which, entry_word};
 use adb_values::Draft;
-use adb_view::{Adb, Arr, Val};
+use adb_view::field_indexes::{DIR_ACL, DIR_FILES, DIR_NAME, PACKAGE_PATHS};
+use adb_view::{Adb, Arr, Val, Which, entry_word};
 use std::alloc::AllocError;
 
 /// Writes the folders of a package with the files whose flag is set, by one flag for each file of

@@ -5,16 +5,16 @@
 ghost use Rattle.adb_copy.specs.Zeros.{without_zeros};
 ghost use Rattle.adb_fields.specs.FirstPair.{IsIn};
 ghost use Rattle.adb_fields.specs.Repeated.{entries_at, folders_in, list_of, name_of, paths_in};
-ghost use Rattle.adb_rules.specs.Rules.{is_digest_length};
+ghost use Rattle.adb_schema.specs.Rules.{is_digest_length};
 ghost use Rattle.adb_schema.specs.SoundContainers.{IsSound};
 ghost use Rattle.adb_schema.specs.Soundness.{payload_in, root_value};
 ghost use Rattle.adb_schema.specs.declared.read.TheConstants.{IDB_WORD};
 ghost use Rattle.adb_sound.specs.Root.{IsRootOf};
-ghost use Rattle.adb_tables.specs.FieldIndexes.{DIR_ACL, IDB_PACKAGES, INFO_FILE_SIZE, INFO_HASHES, PACKAGE_INFO, PACKAGE_REPLACES_PRIORITY, PACKAGE_SCRIPTS, PACKAGE_TRIGGERS};
-ghost use Rattle.adb_tables.specs.Schema.{shape_of};
-ghost use Rattle.adb_tables.specs.Values.{entry_in, int_in};
-ghost use Rattle.adb_tables.specs.declared.tables.Kind.TheVariants as Kinds;
-ghost use Rattle.adb_tables.specs.declared.tables.Which.TheVariants as Tables;
+ghost use Rattle.adb_view.specs.FieldIndexes.{DIR_ACL, IDB_PACKAGES, INFO_FILE_SIZE, INFO_HASHES, PACKAGE_INFO, PACKAGE_REPLACES_PRIORITY, PACKAGE_SCRIPTS, PACKAGE_TRIGGERS};
+ghost use Rattle.adb_view.specs.Schema.{shape_of};
+ghost use Rattle.adb_view.specs.Values.{entry_in, int_in};
+ghost use Rattle.adb_view.specs.declared.tables.Kind.TheVariants as Kinds;
+ghost use Rattle.adb_view.specs.declared.tables.Which.TheVariants as Tables;
 ghost use Rattle.adb_view.specs.Plain.{Plain};
 ghost use Rattle.adb_view.specs.Shaped.{HasShape};
 ghost use Rattle.adb_write.specs.Canonical.{written_of};
@@ -32,8 +32,7 @@ ghost use Rattle.std.specs.Prelude.{◌≡◌, ◌≢◌, ◌<◌, ℕ, All, Boo
 
 use adb_block::what_is_spelled_is_read;
 use adb_fields::no_name_is_repeated_where_each_stands_once;
-use adb_rules::no_text_is_bad_where_each_keeps_its_rule;
-use adb_schema::sound_containers_hold_sound_values;
+use adb_schema::{no_text_is_bad_where_each_keeps_its_rule, sound_containers_hold_sound_values};
 use adb_sound::{a_container_of_a_good_value_is_sound, what_a_container_is_made_of_is_read_back};
 use adb_write::{a_file_is_spelled, a_value_overflows_exactly_past_a_limit};
 

@@ -2,10 +2,10 @@
 //! The rule stands in `docs/formats.md`, "The database after a change": what a database has of each
 //! package; the fields in "Schemas", table 7.
 ghost use Rattle.adb_copy.specs.Known.{AreBlobsOf};
-ghost use Rattle.adb_tables.specs.FieldIndexes.{PACKAGE_INFO};
-ghost use Rattle.adb_tables.specs.Values.{entry_in, is_sound, value_at};
-ghost use Rattle.adb_tables.specs.declared.tables.Kind.TheVariants as Kinds;
-ghost use Rattle.adb_tables.specs.declared.tables.Which.TheVariants as Tables;
+ghost use Rattle.adb_view.specs.FieldIndexes.{PACKAGE_INFO};
+ghost use Rattle.adb_view.specs.Values.{entry_in, is_sound, value_at};
+ghost use Rattle.adb_view.specs.declared.tables.Kind.TheVariants as Kinds;
+ghost use Rattle.adb_view.specs.declared.tables.Which.TheVariants as Tables;
 ghost use Rattle.adb_values.specs.Drafts.{draft_with};
 ghost use Rattle.adb_view.specs.Adb.{payload_of};
 ghost use Rattle.adb_view.specs.Plain.{arr_value};
@@ -17,13 +17,12 @@ ghost use Rattle.std.specs.Prelude.{◌≡◌, ◌<◌, true, OnOk, Some, drop, 
 use crate::folders::{flags_behind, write_folders};
 use adb_copy::{KnownTexts, write_info, write_int, write_scripts, write_text_list};
 use adb_fields::{field_word, hash_field, int_field, texts_field};
-use adb_tables::Which;
-use adb_tables::field_indexes::{
+use adb_values::Draft;
+use adb_view::field_indexes::{
     INFO_FILE_SIZE, INFO_HASHES, PACKAGE_INFO, PACKAGE_REPLACES_PRIORITY, PACKAGE_SCRIPTS,
     PACKAGE_TRIGGERS,
 };
-use adb_values::Draft;
-use adb_view::{Adb, Val};
+use adb_view::{Adb, Val, Which};
 use db_core::Members;
 use std::alloc::{AllocError, Global};
 

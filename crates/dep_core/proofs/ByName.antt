@@ -11,7 +11,7 @@ use Rattle.std.specs.declared.cmp.Ordering.TheVariants.{Less, Equal, Greater}
 use Rattle.dep_core.specs.Dependency.{Dependency}
 use Rattle.dep_core.specs.Found.{IsByName}
 use Rattle.dep_core.specs.World.{has_name, with_entry}
-use Rattle.list_order.specs.ByteOrder.{bytes_cmp}
+use Rattle.base_core.specs.ByteOrder.{bytes_cmp}
 use Rattle.dep_core.proofs.Worlds.{cmp-equal}
 
 abbrev key_cmp : Bor (List ℕ) → Bor (List ℕ) → Ordering

@@ -14,7 +14,7 @@ use Rattle.std.proofs.lemmas.List.Sorted.{searchable_from_sorted}
 use Rattle.dep_core.specs.Dependency.{Dependency}
 use Rattle.dep_core.specs.DependencyText.{is_dependency}
 use Rattle.dep_core.specs.World.{IsWorld, has_name, is_in_order, with_entry, without_name}
-use Rattle.list_order.specs.ByteOrder.{bytes_cmp}
+use Rattle.base_core.specs.ByteOrder.{bytes_cmp}
 use Rattle.dep_core.proofs.Worlds.{names_total, is_behind, lt-less, cmp-equal, cmp-back, filter-same}
 
 -- two entries are in order

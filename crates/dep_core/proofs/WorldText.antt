@@ -14,7 +14,7 @@ use Rattle.version_core.specs.Order.{is_version}
 use Rattle.dep_core.specs.Dependency.{Dependency, is_dep_name, is_name_byte, is_tag_byte}
 use Rattle.dep_core.specs.DependencyText.{IsDependency, dep_text, is_dependency, is_constraint, is_tag_or_none, constraint_text, mark_text, operator_text, tag_text}
 use Rattle.dep_core.specs.World.{IsWorld, has_name, is_blank, is_in_order, is_line_end, lines_of, or_bad_line, with_entry, with_lines, with_new_entry, with_words, words_of, world_of, world_text}
-use Rattle.list_order.specs.ByteOrder.{bytes_cmp}
+use Rattle.base_core.specs.ByteOrder.{bytes_cmp}
 use Rattle.dep_core.proofs.Lines.{is_word}
 use Rattle.dep_core.proofs.Operators.{text-visible}
 use Rattle.dep_core.proofs.Spelled.{read-written}

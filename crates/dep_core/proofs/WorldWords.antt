@@ -14,7 +14,7 @@ use Rattle.std.proofs.lemmas.List.Sorted.{IsPermutation-refl, IsPermutation-sym,
 use Rattle.dep_core.specs.Dependency.{Dependency}
 use Rattle.dep_core.specs.Reading.{dependency_of}
 use Rattle.dep_core.specs.World.{IsWorld, has_name, lines_of, or_bad_line, with_entry, with_lines, with_new_entry, with_words, words_of, world_of}
-use Rattle.list_order.specs.ByteOrder.{bytes_cmp}
+use Rattle.base_core.specs.ByteOrder.{bytes_cmp}
 use Rattle.dep_core.specs.Entries.{IsFirstBadLine, IsWorldOf, have_different_names, words_in}
 use Rattle.dep_core.proofs.Operators.{some-inj}
 use Rattle.dep_core.proofs.ReadOut.{read-out}

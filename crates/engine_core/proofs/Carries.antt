@@ -4,7 +4,7 @@ use Rattle.std.specs.Prelude.{not, is_some, slice_get}
 use Rattle.std.specs.Option.{option_copied}
 use Rattle.std.specs.Str.{bytes_eq}
 use Rattle.adb_write.specs.Canonical.{PayloadCounts, overflow_of}
-use Rattle.adb_rules.specs.Reserved.{is_reserved}
+use Rattle.adb_schema.specs.Reserved.{is_reserved}
 use Rattle.base_core.specs.Listed.{IsRising}
 use Rattle.base_core.specs.Name.{IsName}
 use Rattle.base_core.proofs.Rising.{IsIn, rises_from_pairs}
@@ -20,15 +20,15 @@ use Rattle.change_inputs.specs.Chains.{and_then}
 use Rattle.change_inputs.specs.Inputs.{Inputs}
 use Rattle.change_inputs.specs.declared.root.Refused.{Refused}
 use Rattle.change_inputs.specs.declared.root.Refused.TheVariants.{Disk, Memory, Refusal as IsRefused}
-use Rattle.change_laws.specs.Premises.{HasNoReservedPath, IsRootOfFiles}
-use Rattle.change_laws.proofs.ChangeLeads.{leads}
-use Rattle.change_laws.proofs.ChangeNames.{change_names}
-use Rattle.change_laws.proofs.FreeNames.{name_of_any, none_of, once_rising}
+use Rattle.change_outcome.specs.Premises.{HasNoReservedPath, IsRootOfFiles}
+use Rattle.change_outcome.proofs.ChangeLeads.{leads}
+use Rattle.change_outcome.proofs.ChangeNames.{change_names}
+use Rattle.change_outcome.proofs.FreeNames.{name_of_any, none_of, once_rising}
 use Rattle.journal_intent.specs.FreeNames.{AreOnce}
 use Rattle.journal_intent.specs.Intent.{AreChangeNames}
 use Rattle.engine_core.proofs.Once.{once_both}
-use Rattle.change_laws.proofs.Leading.{acted_is}
-use Rattle.change_laws.proofs.Room.{room}
+use Rattle.change_outcome.proofs.Leading.{acted_is}
+use Rattle.change_outcome.proofs.Room.{room}
 use Rattle.change_outcome.specs.ChangeOutcome.{Actions, ChangeDone, ChangeWishes, actions_of, bytes_under, change_done, does_something, file_change, is_other_file, name_if_needed, new_records, unless_overflow, written_records}
 use Rattle.change_outcome.specs.MembersAfter.{MemberFound, contents_found, members_found}
 use Rattle.journal_core.specs.Recovery.{after_actions, intent_name}

@@ -8,9 +8,9 @@ use Rattle.std.specs.Str.{bytes_eq}
 use Rattle.std.proofs.lemmas.Slice.Eq.{bytes_eq-Decides}
 use Rattle.change_files.specs.PlanLists.{names_in_order, unless_next, without_repeats}
 use Rattle.journal_intent.specs.FreeNames.{AreOnce, IsNoneOf, IsOneOf}
-use Rattle.list_order.specs.ByteOrder.{bytes_cmp}
-use Rattle.list_order.specs.Sorted.{sorted_by, with_element}
-use Rattle.list_order.proofs.Sorting.{Each}
+use Rattle.base_core.specs.ByteOrder.{bytes_cmp}
+use Rattle.base_core.specs.Sorted.{sorted_by, with_element}
+use Rattle.base_core.proofs.Sorting.{Each}
 
 none_left : (a b : Bool) → (a || b) ≡ false → a ≡ false
 none_left true b h = h

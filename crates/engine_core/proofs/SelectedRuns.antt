@@ -11,7 +11,7 @@ use Rattle.change_inputs.specs.declared.root.Refused.{Refused}
 use Rattle.change_inputs.specs.declared.root.Refused.TheVariants.{Disk, Memory, Refusal as IsRefused}
 use Rattle.change_outcome.specs.ChangeOutcome.{ChangeDone, change_or_refusal}
 use Rattle.command_core.specs.Command.{CommandLine}
-use Rattle.report_changes.specs.Report.{simulated_report}
+use Rattle.package_changes.specs.Report.{simulated_report}
 use Rattle.candidate_core.specs.Rank.{SealedPool}
 use Rattle.report_core.specs.declared.refusal.Refusal.{Refusal}
 use Rattle.report_core.specs.declared.refusal.Refusal.TheVariants.{NotInstalled}

@@ -5,7 +5,7 @@ use Rattle.std.specs.Prelude.{not, if◌then◌else◌, is_some, slice_get, unwr
 use Rattle.std.specs.Option.{option_copied}
 use Rattle.base_core.specs.Files.{Files}
 use Rattle.base_core.specs.Tree.{TreeState, files_of}
-use Rattle.adb_rules.specs.Reserved.{is_reserved}
+use Rattle.adb_schema.specs.Reserved.{is_reserved}
 use Rattle.adb_view.specs.Plain.{Plain}
 use Rattle.arrivals.specs.Arrivals.{IsFileOfMember}
 use Rattle.change_files.specs.FileChange.{FileChange}
@@ -20,15 +20,15 @@ use Rattle.change_files.proofs.Reserved.{records_reserved}
 use Rattle.change_files.proofs.Untouched.{takes_its_path}
 use Rattle.std.proofs.lemmas.Bool.{false_from_ne_true}
 use Rattle.change_inputs.specs.Inputs.{Inputs}
-use Rattle.change_laws.specs.Premises.{HasNoReservedPath, IsRootOfFiles}
-use Rattle.change_laws.proofs.ActionNames.{written_free}
+use Rattle.change_outcome.specs.Premises.{HasNoReservedPath, IsRootOfFiles}
+use Rattle.change_outcome.proofs.ActionNames.{written_free}
 use Rattle.change_outcome.specs.ChangeOutcome.{bytes_under, is_other_file, new_records}
 use Rattle.change_outcome.specs.MembersAfter.{MemberFound, contents_found}
 use Rattle.db_core.specs.Members.{Listing, Member, member_listings}
 use Rattle.file_guard.specs.AsListed.{has_target, link_bytes, link_to}
-use Rattle.list_order.proofs.Sorting.{Each}
-use Rattle.file_fates.specs.ClaimEntries.{folders_if_any, listed_file_at}
-use Rattle.file_fates.proofs.Listings.{IsPlaced, each_placed}
+use Rattle.base_core.proofs.Sorting.{Each}
+use Rattle.own_core.specs.ClaimEntries.{folders_if_any, listed_file_at}
+use Rattle.own_core.proofs.Listings.{IsPlaced, each_placed}
 use Rattle.package_test.specs.Tested.{tested_name}
 use Rattle.package_test.specs.declared.package.TestedPackage.{TestedPackage}
 use Rattle.pkg_core.specs.Contents.{Contents, bytes_of_file}

@@ -23,7 +23,7 @@ use Rattle.package_changes.specs.Changes.{Replacement}
 use Rattle.path_clashes.specs.Clash.{NamePair}
 use Rattle.candidate_core.specs.Rank.{SealedPool}
 use Rattle.report_core.specs.declared.refusal.Refusal.{Refusal}
-use Rattle.change_laws.specs.Premises.{IsRootOfFiles}
+use Rattle.change_outcome.specs.Premises.{IsRootOfFiles}
 use Rattle.engine_core.specs.Finishing.{IsRootRead}
 use Rattle.engine_core.specs.ChangeRun.{ComesTo, IsChangeRun}
 use Rattle.engine_core.specs.Changed.{IsClashOfSelected, IsClashOfSelectedOver, IsClashUnlessSimulatedOver, Selected, change_of_selected, change_of_command, packages_found, selected_by, selected_for, selected_of_inputs, simulated_change}

@@ -7,9 +7,9 @@ use Rattle.change_files.specs.PlanLists.{FileWrite, names_in_order}
 use Rattle.change_outcome.specs.ChangeOutcome.{name_if_needed}
 use Rattle.db_core.specs.Members.{Member}
 use Rattle.journal_intent.specs.FreeNames.{AreOnce}
-use Rattle.list_order.specs.ByteOrder.{bytes_cmp}
-use Rattle.list_order.specs.Sorted.{sorted_by}
-use Rattle.list_order.proofs.Sorting.{Each}
+use Rattle.base_core.specs.ByteOrder.{bytes_cmp}
+use Rattle.base_core.specs.Sorted.{sorted_by}
+use Rattle.base_core.proofs.Sorting.{Each}
 use Rattle.own_core.specs.Planned.{written_names}
 use Rattle.own_core.specs.WritesSeen.{writes_in}
 use Rattle.own_core.specs.declared.planning.FilePlan.{FilePlan}

@@ -10,7 +10,7 @@ use Rattle.change_outcome.specs.MembersAfter.{MemberFound}
 use Rattle.command_core.specs.Command.{CommandLine}
 use Rattle.make_info.specs.Reads.{Reads}
 use Rattle.package_changes.specs.Changes.{Replacement}
-use Rattle.report_changes.specs.Report.{simulated_report}
+use Rattle.package_changes.specs.Report.{simulated_report}
 use Rattle.path_clashes.specs.Clash.{NamePair}
 use Rattle.candidate_core.specs.Rank.{SealedPool}
 use Rattle.report_core.specs.declared.refusal.Refusal.{Refusal}

@@ -3,7 +3,7 @@
 -- "What a change does with files" and "`add` and `del`".
 use Rattle.std.specs.Prelude.{◌≡◌, ℕ, Bool, true, false, not, List, All, Option, Some, None, bytes_eq}
 use Rattle.std.specs.Option.{option_copied}
-use Rattle.adb_rules.specs.Reserved.{is_reserved}
+use Rattle.adb_schema.specs.Reserved.{is_reserved}
 use Rattle.arrivals.specs.Arrivals.{AreMembersRead, arrivals_seen}
 use Rattle.base_core.specs.Calls.{IfObservable}
 use Rattle.base_core.specs.Files.{Files}
@@ -12,7 +12,7 @@ use Rattle.change_files.specs.FileChange.{old_listings}
 use Rattle.change_files.specs.NamesAfter.{name_change}
 use Rattle.path_clashes.specs.Clash.{HasNoClash}
 use Rattle.change_inputs.specs.Inputs.{Inputs}
-use Rattle.change_laws.specs.Premises.{IsRootOfFiles}
+use Rattle.change_outcome.specs.Premises.{IsRootOfFiles}
 use Rattle.change_outcome.specs.ChangeOutcome.{ChangeWishes, file_change, is_other_file}
 use Rattle.change_outcome.specs.MembersAfter.{MemberFound, members_found}
 use Rattle.db_core.specs.Members.{Member}

@@ -8,7 +8,7 @@ use Rattle.command_core.specs.declared.command.Applet.{Applet}
 use Rattle.command_core.specs.declared.command.Applet.TheVariants.{Del, Fix, Upgrade}
 use Rattle.command_core.specs.declared.operands.Operand.{Operand}
 use Rattle.dep_core.specs.World.{has_name}
-use Rattle.report_changes.specs.Report.{was_installed}
+use Rattle.package_changes.specs.Report.{was_installed}
 use Rattle.candidate_core.specs.Rank.{UpgradedNames, all_names, listed_names, no_names}
 use Rattle.report_core.specs.declared.refusal.Refusal.{Refusal}
 use Rattle.report_core.specs.declared.refusal.Refusal.TheVariants.{NotInstalled}

@@ -10,7 +10,7 @@ use Rattle.change_files.specs.PlanLists.{FileWrite}
 use Rattle.change_outcome.specs.ChangeOutcome.{name_if_needed}
 use Rattle.db_core.specs.Members.{Member, is_coming}
 use Rattle.file_guard.specs.AsListed.{file_target, has_target}
-use Rattle.file_fates.specs.ClaimEntries.{folders_if_any, listed_file_at}
+use Rattle.own_core.specs.ClaimEntries.{folders_if_any, listed_file_at}
 use Rattle.package_test.specs.declared.package.TestedPackage.{TestedPackage}
 use Rattle.stage_files.specs.declared.writes.PackagedFile.{PackagedFile}
 use Rattle.stage_files.specs.declared.writes.Source.{Source}

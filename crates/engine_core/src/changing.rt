@@ -10,7 +10,7 @@ ghost use Rattle.engine_core.specs.Selecting.{pool_by};
 ghost use Rattle.engine_core.specs.SelectionSeen.{HasItsDatabase, inputs_of_selection, selection_seen, replacement_seen};
 ghost use Rattle.engine_core.specs.Wishes.{names_to_reinstall, names_to_go};
 ghost use Rattle.std.specs.Prelude.{◌≡◌, Ok, IfOk};
-ghost use Rattle.report_changes.specs.Report.{simulated_report};
+ghost use Rattle.package_changes.specs.Report.{simulated_report};
 
 use crate::choosing::{Selection, a_choice_exists, choose};
 use crate::making::make_change;
@@ -20,11 +20,10 @@ use crate::wishes::{
 use arrivals::packages_after_a_change_rest_on_later_reads;
 use base_core::{Text, Tree, Words};
 use change_inputs::{Loaded, Refused, inputs_rest_on_their_own_reads};
-use change_laws::{a_change_has_a_first_clash_or_none, what_is_read_of_a_root_stands_there};
+use change_outcome::{a_change_has_a_first_clash_or_none, what_is_read_of_a_root_stands_there};
 use command_core::Command;
-use package_changes::Changes;
+use package_changes::{Changes, simulated_report};
 use pool_core::Sealed;
-use report_changes::simulated_report;
 use report_core::Refusal;
 use std::alloc::{AllocError, Global};
 

@@ -23,7 +23,7 @@ use arrivals::{
 };
 use base_core::{Text, Tree, counts_of_calls_in_a_row_join};
 use change_inputs::Refused;
-use change_laws::a_change_has_a_first_clash_or_none;
+use change_outcome::a_change_has_a_first_clash_or_none;
 use command_core::Command;
 use own_core::plan;
 use package_changes::PlacedNames;

@@ -6,7 +6,7 @@ ghost use Rattle.change_inputs.specs.Answers.{Agrees};
 ghost use Rattle.change_outcome.specs.ChangeOutcome.{name_at_place};
 ghost use Rattle.change_outcome.specs.Triggers.{unless_trigger};
 ghost use Rattle.db_core.specs.Seen.{members_of};
-ghost use Rattle.due_triggers.specs.Due.{planned_paths};
+ghost use Rattle.change_report.specs.Due.{planned_paths};
 ghost use Rattle.engine_core.specs.Plans.{IsRefusedFor};
 ghost use Rattle.std.specs.Prelude.{◌≡◌, ◌<◌, IfOk, length};
 
@@ -14,8 +14,8 @@ use crate::choosing::Selection;
 use arrivals::Arrivals;
 use base_core::Text;
 use change_inputs::Refused;
+use change_report::{first_due, touched_folders};
 use db_core::Members;
-use due_triggers::{first_due, touched_folders};
 use own_core::{FilePlan, PlanFault};
 use package_changes::PlacedNames;
 use report_core::Refusal;

@@ -3,8 +3,8 @@
 ghost use Rattle.change_files.specs.PlanLists.{names_in_order};
 ghost use Rattle.change_outcome.specs.ChangeOutcome.{name_if_needed};
 ghost use Rattle.journal_intent.specs.FreeNames.{AreOnce};
-ghost use Rattle.list_order.specs.ByteOrder.{bytes_cmp};
-ghost use Rattle.list_order.specs.Sorted.{sorted_by};
+ghost use Rattle.base_core.specs.ByteOrder.{bytes_cmp};
+ghost use Rattle.base_core.specs.Sorted.{sorted_by};
 ghost use Rattle.root_names.specs.RootNames.{text_database_name};
 ghost use Rattle.std.specs.Prelude.{◌≡◌, ◌++◌, map, IfOk, OnOk};
 

@@ -3,12 +3,12 @@
 //! text.
 ghost use Rattle.adb_fields.specs.ListValue.{list_value};
 ghost use Rattle.adb_schema.specs.Views.{package_value};
-ghost use Rattle.adb_tables.specs.FieldIndexes.{PACKAGE_PATHS};
-ghost use Rattle.adb_tables.specs.Values.{count_of, entries_in, entry_in};
+ghost use Rattle.adb_view.specs.FieldIndexes.{PACKAGE_PATHS};
+ghost use Rattle.adb_view.specs.Values.{count_of, entries_in, entry_in};
 ghost use Rattle.db_core.specs.Seen.{members_of};
 ghost use Rattle.engine_core.specs.Writing.{entry_of_write};
 ghost use Rattle.file_guard.specs.AsListed.{file_target};
-ghost use Rattle.file_fates.specs.ClaimEntries.{HasFileAt, listed_file_at};
+ghost use Rattle.own_core.specs.ClaimEntries.{HasFileAt, listed_file_at};
 ghost use Rattle.own_core.specs.Planned.{IsOfComingFile};
 ghost use Rattle.own_core.specs.WritesSeen.{write_seen};
 ghost use Rattle.std.specs.Prelude.{◌≡◌, ◌<◌, ◌≤◌, ◌-◌};

@@ -4,7 +4,7 @@ ghost use Rattle.change_inputs.specs.Seen.{inputs_seen};
 ghost use Rattle.db_core.specs.Seen.{packages_of};
 ghost use Rattle.dep_core.specs.World.{has_name};
 ghost use Rattle.engine_core.specs.Wishes.{first_unknown, is_known_name, names_to_go, names_to_reinstall, names_to_upgrade, operand_texts, unknown_place};
-ghost use Rattle.report_changes.specs.Report.{was_installed};
+ghost use Rattle.package_changes.specs.Report.{was_installed};
 ghost use Rattle.candidate_core.specs.Rank.{all_names, listed_names};
 ghost use Rattle.candidate_core.specs.Values.{names_upgraded_by};
 ghost use Rattle.std.specs.Prelude.{◌≡◌, ◌||◌, [], IfOk, OnOk};

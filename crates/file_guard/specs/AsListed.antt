@@ -3,8 +3,8 @@
 -- `docs/formats.md`, "Schemas", table 4.
 use Rattle.std.specs.Prelude.{ℕ, ◌==◌, Bool, not, ◌&&◌, if◌then◌else◌, List, ◌++◌, length, drop, codes, bytes_eq, is_none}
 use Rattle.adb_view.specs.Plain.{Plain}
-use Rattle.adb_tables.specs.FieldIndexes.{FILE_HASHES, FILE_SIZE, FILE_TARGET}
-use Rattle.adb_tables.specs.Values.{entry_in, int_in, text_in}
+use Rattle.adb_view.specs.FieldIndexes.{FILE_HASHES, FILE_SIZE, FILE_TARGET}
+use Rattle.adb_view.specs.Values.{entry_in, int_in, text_in}
 use Rattle.pkg_core.specs.Contents.{hash_fault}
 
 -- the size of a file in bytes, as its entry tells it; 0 where the entry tells none

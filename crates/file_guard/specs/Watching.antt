@@ -2,7 +2,7 @@
 -- contracts of `Watch` in `src/watch.rt`.
 use Rattle.std.specs.Prelude.{◌≡◌, Bool, false, ℕ, List, ◌++◌, bytes_eq, is_none}
 use Rattle.pkg_core.specs.Contents.{hash_fault}
-use Rattle.piece_core.specs.Hashing.{HoldsFor}
+use Rattle.pkg_core.specs.Hashing.{HoldsFor}
 use Rattle.file_guard.specs.declared.watch.Watch.{Watch}
 use Rattle.file_guard.specs.declared.watch.Watch.TheVariants.{Never, Exactly, Hashed}
 

@@ -15,7 +15,7 @@ ghost use Rattle.file_guard.specs.AsListed.{do_entries_agree};
 use crate::watch::Watch;
 use adb_schema::FileInfo;
 use base_core::{Disk, Name, Tree};
-use piece_core::PIECE_LEN;
+use pkg_core::PIECE_LEN;
 
 /// How a file compares with two entries.
 #[derive(Clone, Copy, Debug, PartialEq, Eq)]

@@ -8,7 +8,7 @@ ghost use Rattle.file_guard.specs.Watching.{Watches};
 
 use crate::compare::ListedFile;
 use crate::link::{LINK_MARK, target_text};
-use piece_core::Hasher;
+use pkg_core::Hasher;
 
 /// What the bytes that are still to come have to be. Contracts see, by `Watching` of `specs/`, what
 /// is tested of all bytes.

@@ -10,9 +10,9 @@ use Rattle.dep_core.specs.ValueReading.{dependency_of_value}
 use Rattle.version_core.specs.Order.{is_version}
 use Rattle.adb_view.specs.Plain.{Plain, Plains}
 use Rattle.adb_fields.specs.Repeated.{list_of, package_name}
-use Rattle.adb_rules.specs.Dependencies.{dependency_in}
-use Rattle.adb_tables.specs.Values.{count_of, entry_in, int_in, nth, text_in, value_at}
-use Rattle.adb_tables.specs.declared.tables.Kind.TheVariants as Kinds
+use Rattle.adb_schema.specs.Dependencies.{dependency_in}
+use Rattle.adb_view.specs.Values.{count_of, entry_in, int_in, nth, text_in, value_at}
+use Rattle.adb_view.specs.declared.tables.Kind.TheVariants as Kinds
 use Rattle.db_core.specs.Members.{Member, is_place, member_name}
 use Rattle.db_core.proofs.AnyOf.{any_step, past_end}
 use Rattle.file_owners.specs.Questions.{AreSameQuestion, IsQuestionIn, entry_of_question, question_names, question_names_if_any, with_question}

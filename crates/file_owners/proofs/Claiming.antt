@@ -2,7 +2,7 @@
 use Rattle.std.proofs.Common.{◌≡◌, ℕ, suc, zero, ◌+◌, Bool, true, false, cond, List, [], ◌∷◌, ◌++◌, length, map, Option, Some, refl, ap, sym, ◌∙◌, subst, arith}
 use Rattle.std.specs.Prelude.{bytes_eq, option_map, slice_get, IfOk, Result, Ok, Err}
 use Rattle.std.specs.declared.alloc.AllocError.{AllocError}
-use Rattle.list_order.specs.Sorted.{sorted_by}
+use Rattle.base_core.specs.Sorted.{sorted_by}
 use Rattle.std.specs.List.{filter}
 use Rattle.db_core.specs.Members.{Listing, Member, claims_of, member_listings}
 use Rattle.path_claims.specs.Claims.{AreNumbered, PathClaim, claim_cmp, claimants, contested_by, is_member, is_of_path, is_owner_by, owner_by}

@@ -7,7 +7,7 @@ use Rattle.std.specs.declared.cmp.Ordering.TheVariants.{Less, Equal, Greater}
 use Rattle.std.proofs.lemmas.Cmp.{nat_list_cmp_total}
 use Rattle.adb_view.specs.Plain.{Plain}
 use Rattle.adb_fields.specs.Repeated.{package_name}
-use Rattle.list_order.specs.ByteOrder.{bytes_cmp, precedes}
+use Rattle.base_core.specs.ByteOrder.{bytes_cmp, precedes}
 use Rattle.db_core.specs.Members.{Member}
 use Rattle.path_claims.specs.Contest.{IsOneWay}
 use Rattle.file_owners.specs.Owners.{member_beats, takes_over_if_any}

@@ -1,8 +1,8 @@
 -- The words of an array stand for its entries.
 use Rattle.std.proofs.Common.{◌≡◌, ◌∙◌, ℕ, ◌<◌, true, List, length, ap, sym, subst}
 use Rattle.std.specs.Prelude.{slice_index}
-use Rattle.adb_tables.specs.Values.{count_of, entries_in, is_sound, nth, value_at}
-use Rattle.adb_tables.specs.declared.tables.Kind.{Kind}
+use Rattle.adb_view.specs.Values.{count_of, entries_in, is_sound, nth, value_at}
+use Rattle.adb_view.specs.declared.tables.Kind.{Kind}
 use Rattle.adb_fields.specs.Fields.{are_all_sound, array_at}
 use Rattle.adb_fields.proofs.FieldReads.{entry_count, entry_sound, entry_value}
 

@@ -6,14 +6,14 @@ use Rattle.std.proofs.lemmas.Grind.{not_there}
 use Rattle.version_core.specs.Order.{is_version}
 use Rattle.adb_view.specs.Plain.{Plain, Plains, none, more}
 use Rattle.adb_view.specs.Shaped.{Each}
-use Rattle.adb_tables.specs.FieldIndexes.{INFO_REPLACES, PACKAGE_INFO}
-use Rattle.adb_tables.specs.Values.{count_of, entries_in, entry_in, nth}
-use Rattle.adb_tables.specs.declared.tables.Which.{Which}
-use Rattle.adb_tables.specs.declared.tables.Which.TheVariants as Tables
+use Rattle.adb_view.specs.FieldIndexes.{INFO_REPLACES, PACKAGE_INFO}
+use Rattle.adb_view.specs.Values.{count_of, entries_in, entry_in, nth}
+use Rattle.adb_view.specs.declared.tables.Which.{Which}
+use Rattle.adb_view.specs.declared.tables.Which.TheVariants as Tables
 use Rattle.adb_fields.specs.FirstPair.{IsIn}
 use Rattle.adb_fields.specs.Repeated.{list_of}
-use Rattle.adb_rules.specs.SoundValues.{IsPackage, IsSoundDependency}
-use Rattle.adb_rules.proofs.SoundLeaves.{each_at}
+use Rattle.adb_schema.specs.SoundValues.{IsPackage, IsSoundDependency}
+use Rattle.adb_schema.proofs.SoundLeaves.{each_at}
 use Rattle.db_core.specs.Members.{Member}
 use Rattle.db_core.specs.SoundMembers.{AreOfSoundContainers, IsOfSoundContainer}
 use Rattle.file_owners.specs.Replaces.{version_text}

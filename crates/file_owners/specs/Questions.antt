@@ -2,11 +2,11 @@
 -- version's text, so that entries which share the text ask one question.
 use Rattle.std.specs.Prelude.{◌≡◌, ◌<◌, ℕ, Bool, true, false, ◌==◌, ◌&&◌, List, [], ◌∷◌, ◌++◌, length, Option, Some, None, slice_get}
 use Rattle.adb_view.specs.Plain.{Plain}
-use Rattle.adb_tables.specs.FieldIndexes.{DEP_MATCH, DEP_NAME, DEP_VERSION}
-use Rattle.adb_tables.specs.Values.{entry_in, int_in, is_sound, text_in, value_at}
-use Rattle.adb_tables.specs.declared.tables.Kind.TheVariants.{Obj, Text}
-use Rattle.adb_tables.specs.declared.tables.Which.TheVariants.{Dep}
-use Rattle.adb_rules.specs.SoundValues.{IsSoundDependency}
+use Rattle.adb_view.specs.FieldIndexes.{DEP_MATCH, DEP_NAME, DEP_VERSION}
+use Rattle.adb_view.specs.Values.{entry_in, int_in, is_sound, text_in, value_at}
+use Rattle.adb_view.specs.declared.tables.Kind.TheVariants.{Obj, Text}
+use Rattle.adb_view.specs.declared.tables.Which.TheVariants.{Dep}
+use Rattle.adb_schema.specs.SoundValues.{IsSoundDependency}
 use Rattle.db_core.specs.Members.{Member, member_name}
 use Rattle.file_owners.specs.Replaces.{is_named_by}
 use Rattle.file_owners.specs.declared.questions.Question.{Question}

@@ -6,7 +6,7 @@
 ghost use Rattle.std.specs.Prelude.{◌≡◌, ◌<◌, [], Some, IfOk, length, map, slice_get};
 ghost use Rattle.db_core.specs.Members.{Member, listings_by, member_listings, staying_member};
 ghost use Rattle.db_core.specs.Seen.{packages_of};
-ghost use Rattle.list_order.specs.Sorted.{sorted_by};
+ghost use Rattle.base_core.specs.Sorted.{sorted_by};
 ghost use Rattle.path_claims.specs.Claims.{claim_cmp};
 ghost use Rattle.path_claims.specs.Seen.{claim_seen};
 ghost use Rattle.file_owners.specs.Gathered.{with_listings};

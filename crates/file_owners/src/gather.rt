@@ -7,7 +7,7 @@ ghost use Rattle.std.specs.Prelude.{◌≡◌, ◌<◌, ◌+◌, [], ◌∷◌, 
 ghost use Rattle.adb_fields.specs.Paths.{path_of};
 ghost use Rattle.adb_fields.specs.ListValue.{list_value};
 ghost use Rattle.adb_fields.specs.Repeated.{files_in, list_of, name_of};
-ghost use Rattle.adb_tables.specs.Values.{count_of, entries_in, nth};
+ghost use Rattle.adb_view.specs.Values.{count_of, entries_in, nth};
 ghost use Rattle.db_core.specs.Members.{Listing, Member, listings_by, listings_in_folder, listings_in_folders, member_listings};
 ghost use Rattle.db_core.specs.Seen.{members_of};
 ghost use Rattle.path_claims.specs.Seen.{claim_seen};

@@ -10,21 +10,20 @@ ghost use Rattle.std.specs.Ordering.{nat_cmp};
 ghost use Rattle.adb_view.specs.Adb.{payload_of};
 ghost use Rattle.adb_view.specs.Entries.{array_entries};
 ghost use Rattle.adb_view.specs.Shaped.{Each};
-ghost use Rattle.adb_tables.specs.FieldIndexes.{INFO_REPLACES, PACKAGE_INFO};
-ghost use Rattle.adb_tables.specs.Values.{entries_in, entry_in};
-ghost use Rattle.adb_tables.specs.declared.tables.Kind.TheVariants as Kinds;
-ghost use Rattle.adb_tables.specs.declared.tables.Which.TheVariants as Tables;
+ghost use Rattle.adb_view.specs.FieldIndexes.{INFO_REPLACES, PACKAGE_INFO};
+ghost use Rattle.adb_view.specs.Values.{entries_in, entry_in};
+ghost use Rattle.adb_view.specs.declared.tables.Kind.TheVariants as Kinds;
+ghost use Rattle.adb_view.specs.declared.tables.Which.TheVariants as Tables;
 ghost use Rattle.adb_fields.specs.Fields.{are_all_sound, array_at};
 ghost use Rattle.adb_schema.specs.Views.{info_value, package_value};
-ghost use Rattle.adb_rules.specs.SoundValues.{IsSoundDependency};
+ghost use Rattle.adb_schema.specs.SoundValues.{IsSoundDependency};
 ghost use Rattle.db_core.specs.Seen.{members_of};
 ghost use Rattle.file_owners.specs.NamedPlaces.{ArePlacesNamed, ArePlacesOfEach};
 
 use crate::questions::places_in;
 use adb_fields::objects_field;
 use adb_schema::{PackageView, PkgInfo};
-use adb_tables::Which;
-use adb_view::Arr;
+use adb_view::{Arr, Which};
 use db_core::Members;
 use std::alloc::{AllocError, Global};
 

@@ -6,7 +6,7 @@
 ghost use Rattle.std.specs.Prelude.{◌≡◌, ◌<◌, Some, IfOk, length, map, option_map, slice_get, List, true, false};
 ghost use Rattle.db_core.specs.Members.{Member, member_listings};
 ghost use Rattle.db_core.specs.Seen.{members_of};
-ghost use Rattle.list_order.specs.Sorted.{sorted_by};
+ghost use Rattle.base_core.specs.Sorted.{sorted_by};
 ghost use Rattle.path_claims.specs.Claims.{claim_cmp};
 ghost use Rattle.path_claims.specs.ContestedSeen.{contested_seen};
 ghost use Rattle.path_claims.specs.Seen.{claim_seen};
@@ -14,8 +14,8 @@ ghost use Rattle.file_owners.specs.Owners.{claims_in, contested_of, member_beats
 ghost use Rattle.file_owners.specs.NamedPlaces.{ArePlacesOfEach};
 ghost use Rattle.adb_schema.specs.Views.{dependency_value, package_value};
 ghost use Rattle.file_owners.specs.Replaces.{is_named_by, is_preferred_to, is_replaced_by, takes_over, version_text};
-ghost use Rattle.adb_rules.specs.Dependencies.{dependency_in};
-ghost use Rattle.adb_rules.specs.SoundValues.{IsSoundDependency};
+ghost use Rattle.adb_schema.specs.Dependencies.{dependency_in};
+ghost use Rattle.adb_schema.specs.SoundValues.{IsSoundDependency};
 ghost use Rattle.version_core.specs.Order.{is_version};
 ghost use Rattle.adb_view.specs.Plain.{Plain};
 ghost use Rattle.db_core.specs.OwnedListings.{HaveOneOwner, owned_listings};

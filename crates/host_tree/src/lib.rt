@@ -109,6 +109,9 @@ impl<'a, R: Host> Tree for HostTree<'a, R> {
     // Each state of the history is whole, as there is none.
     ghost whole = { λ tree. All-nil IsWhole };
 
+    // What the host answered is known to nobody else.
+    ghost accepts = { λ source name. Unit {0} };
+
     // How many bytes the file under a name has, or None where there is none.
     fn size(&mut self, name: &Name) -> Result<Option<u64>, Disk> {
         let answer = self.root.length_of(name.as_bytes());
@@ -174,5 +177,12 @@ impl<'a, R: Host> Tree for HostTree<'a, R> {
                 Err(fault.into())
             }
         }
+    }
+
+    // Asks whether the name may be given to a file, or be removed: what stands there is looked at.
+    fn check_target(&mut self, name: &Name, source: Option<&Name>) -> Result<(), Disk> {
+        let answer = self.root.length_of(name.as_bytes());
+        self.note_answer("check", name, answer)?;
+        Ok(())
     }
 }

@@ -4,16 +4,16 @@ use Rattle.std.specs.Prelude.{ℕ, List, [], ◌∷◌, map, Option, Some, None,
 use Rattle.std.specs.List.{flat_map}
 use Rattle.std.specs.Option.{option_map_or}
 use Rattle.adb_fields.specs.Repeated.{package_name, paths_in}
-use Rattle.adb_tables.specs.FieldIndexes.{INFO_DEPENDS, INFO_DESCRIPTION, PACKAGE_INFO}
-use Rattle.adb_tables.specs.Values.{entry_in, text_in}
+use Rattle.adb_view.specs.FieldIndexes.{INFO_DEPENDS, INFO_DESCRIPTION, PACKAGE_INFO}
+use Rattle.adb_view.specs.Values.{entry_in, text_in}
 use Rattle.adb_view.specs.Plain.{Plain}
 use Rattle.command_core.specs.Command.{CommandLine}
 use Rattle.command_core.specs.declared.operands.Operand.{Operand}
 use Rattle.dep_core.specs.DependencyText.{dep_text}
 use Rattle.dep_core.specs.LeadingSlash.{without_slash}
 use Rattle.file_owners.specs.Replaces.{version_text}
-use Rattle.list_order.specs.ByteOrder.{bytes_cmp}
-use Rattle.list_order.specs.Sorted.{sorted_by}
+use Rattle.base_core.specs.ByteOrder.{bytes_cmp}
+use Rattle.base_core.specs.Sorted.{sorted_by}
 use Rattle.candidate_core.specs.Candidates.{dependencies_in}
 use Rattle.report_core.specs.Reports.{contents_section, depends_section, description_section, owner_text, report_line, report_lines}
 use Rattle.report_core.specs.declared.refusal.Refusal.{Refusal}

@@ -4,8 +4,8 @@ ghost use Rattle.adb_fields.specs.Repeated.{package_name};
 ghost use Rattle.adb_view.specs.Plain.{Plain};
 ghost use Rattle.db_core.specs.Seen.{packages_of};
 ghost use Rattle.installed_info.specs.Info.{info_done, names_info};
-ghost use Rattle.list_order.specs.ByteOrder.{bytes_cmp};
-ghost use Rattle.list_order.specs.Sorted.{sorted_by};
+ghost use Rattle.base_core.specs.ByteOrder.{bytes_cmp};
+ghost use Rattle.base_core.specs.Sorted.{sorted_by};
 ghost use Rattle.report_core.specs.Reports.{report_lines};
 ghost use Rattle.std.specs.Prelude.{◌≡◌, ◌<◌, ◌++◌, None, Some, length, map, slice_get, IfOk, OnOk};
 

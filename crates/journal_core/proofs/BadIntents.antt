@@ -1,7 +1,7 @@
 -- A state shows a bad intent, and no other.
 use Rattle.std.proofs.Common.{◌≡◌, ◌||◌, ℕ, Bool, true, false, List, Option, None, Some, refl, sym, ap, ◌∙◌}
 use Rattle.adb_schema.specs.Soundness.{first_fault, payload_in, root_value}
-use Rattle.adb_tables.specs.declared.tables.Which.TheVariants.{Intent as IntentTable}
+use Rattle.adb_view.specs.declared.tables.Which.TheVariants.{Intent as IntentTable}
 use Rattle.base_core.specs.Files.{Files}
 use Rattle.base_core.specs.declared.cause.Cause.{Cause}
 use Rattle.journal_core.specs.Recovery.{Intent, intent_at, intent_in, intent_name, is_staged, read_intent, recovered_files, recovered_files_by, state_of}

@@ -9,7 +9,7 @@ use Rattle.base_core.specs.Crash.{IsOrderly}
 use Rattle.base_core.specs.Restart.{EachMoment}
 use Rattle.base_core.specs.declared.cause.Cause.{Cause}
 use Rattle.adb_schema.specs.Soundness.{first_fault}
-use Rattle.adb_tables.specs.declared.tables.Which.TheVariants.{Intent as IntentTable}
+use Rattle.adb_view.specs.declared.tables.Which.TheVariants.{Intent as IntentTable}
 use Rattle.journal_core.specs.Recovery.{Intent, IsOldOrNew, IsPlaceOf, RestsOn, intent_name, intent_of, is_staged, recovered_files, stage_name, state_of}
 use Rattle.journal_core.specs.Quiet.{IsQuiet}
 

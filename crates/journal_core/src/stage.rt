@@ -2,7 +2,7 @@
 //! The rules stand in `docs/crash-safety.md`, "A change of several files".
 ghost use Rattle.std.specs.Prelude.{◌≡◌, ◌⊎◌, ◌≤◌, ◌<◌, ◌+◌, ◌++◌, ◌∷◌, [], ◌^◌, ℕ, Bool, true, false, List, Some, None, length, IfOk, OnOk, OnErr, IsErrOf, IsSome, nat_lt};
 ghost use Rattle.adb_schema.specs.Soundness.{first_fault};
-ghost use Rattle.adb_tables.specs.declared.tables.Which.TheVariants.{Intent as IntentTable};
+ghost use Rattle.adb_view.specs.declared.tables.Which.TheVariants.{Intent as IntentTable};
 ghost use Rattle.adb_write.specs.Canonical.{overflow_of};
 ghost use Rattle.base_core.specs.Calls.{HasNow, IfObservable};
 ghost use Rattle.base_core.specs.Crash.{IsOrderly, Since};

@@ -9,14 +9,14 @@ use Rattle.base_core.specs.declared.cause.Cause.{Cause}
 use Rattle.adb_fields.specs.FirstPair.{IsIn}
 use Rattle.adb_fields.specs.Once.{AreDistinctNames}
 use Rattle.adb_fields.specs.Repeated.{entries_at, list_of}
-use Rattle.adb_rules.specs.Rules.{is_change_name}
-use Rattle.adb_rules.specs.Reserved.{is_at_or_below, is_intent_or_stage_name}
-use Rattle.adb_rules.specs.SoundValues.{IsChangeName}
+use Rattle.adb_schema.specs.Rules.{is_change_name}
+use Rattle.adb_schema.specs.Reserved.{is_at_or_below, is_intent_or_stage_name}
+use Rattle.adb_schema.specs.SoundValues.{IsChangeName}
 use Rattle.adb_schema.specs.SoundContainers.{IsSound, IsSoundValue}
 use Rattle.adb_schema.specs.Soundness.{first_fault, payload_in, root_value}
-use Rattle.adb_tables.specs.Values.{entries_in, entry_in, text_in}
-use Rattle.adb_tables.specs.declared.tables.Which.{Which}
-use Rattle.adb_tables.specs.declared.tables.Which.TheVariants as Tables
+use Rattle.adb_view.specs.Values.{entries_in, entry_in, text_in}
+use Rattle.adb_view.specs.declared.tables.Which.{Which}
+use Rattle.adb_view.specs.declared.tables.Which.TheVariants as Tables
 use Rattle.adb_view.specs.Plain.{Plain, Plains, none, more}
 use Rattle.adb_view.specs.Shaped.{Each}
 use Rattle.journal_intent.specs.FreeNames.{AllNamed, AreFreeNames, AreOnce, HasFreeNames, IsFreeName, IsNoneOf, IsOneOf}

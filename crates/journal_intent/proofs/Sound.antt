@@ -9,7 +9,7 @@ use Rattle.adb_block.specs.Piece.{Piece}
 use Rattle.adb_view.specs.Plain.{Plain}
 use Rattle.adb_schema.specs.Soundness.{first_fault, payload_in, root_value}
 use Rattle.adb_schema.specs.declared.read.TheConstants.{INTENT_WORD}
-use Rattle.adb_tables.specs.declared.tables.Which.TheVariants.{Intent as Table, Package}
+use Rattle.adb_view.specs.declared.tables.Which.TheVariants.{Intent as Table, Package}
 use Rattle.adb_write.specs.Canonical.{canonical, empty_layout, payload_with_root, write, Layout, MOST_BYTES}
 use Rattle.adb_write.specs.File.{adb_piece, file_of}
 use Rattle.adb_write.specs.Size.{size_of}

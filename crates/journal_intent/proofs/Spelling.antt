@@ -9,12 +9,12 @@ use Rattle.adb_view.specs.Shaped.{Each, IsBlob, HasShape}
 use Rattle.adb_fields.specs.FirstPair.{IsIn}
 use Rattle.adb_fields.specs.Once.{AreDistinctNames, NamesStandOnce}
 use Rattle.adb_fields.specs.Repeated.{list_of}
-use Rattle.adb_rules.specs.Rules.{is_change_name}
-use Rattle.adb_rules.specs.SoundValues.{IsChangeName, KeepsRules}
-use Rattle.adb_tables.specs.Schema.{shape_of}
-use Rattle.adb_tables.specs.Values.{text_in}
-use Rattle.adb_tables.specs.declared.tables.Which.TheVariants as Tables
-use Rattle.adb_tables.specs.declared.tables.Kind.TheVariants as Kinds
+use Rattle.adb_schema.specs.Rules.{is_change_name}
+use Rattle.adb_schema.specs.SoundValues.{IsChangeName, KeepsRules}
+use Rattle.adb_view.specs.Schema.{shape_of}
+use Rattle.adb_view.specs.Values.{text_in}
+use Rattle.adb_view.specs.declared.tables.Which.TheVariants as Tables
+use Rattle.adb_view.specs.declared.tables.Kind.TheVariants as Kinds
 use Rattle.adb_write.specs.Size.{entries_of, value_count}
 use Rattle.journal_intent.specs.Intent.{AreChangeNames, Intent, intent_in}
 use Rattle.journal_intent.specs.IntentValue.{intent_of_lists, value_of_intent}

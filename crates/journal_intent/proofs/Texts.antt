@@ -3,7 +3,7 @@ use Rattle.std.proofs.Common.{◌≡◌, ◌≤◌, ◌<◌, ◌+◌, ◌-◌, �
 use Rattle.base_core.specs.Name.{is_name}
 use Rattle.adb_view.specs.Plain.{Plain, Plains, none, more, blob_value}
 use Rattle.adb_fields.specs.Repeated.{list_of}
-use Rattle.adb_tables.specs.Values.{count_of, nth, text_in}
+use Rattle.adb_view.specs.Values.{count_of, nth, text_in}
 use Rattle.journal_intent.specs.FreeNames.{AllNamed}
 
 text_of : (bytes : List ℕ) → text_in (blob_value bytes) ≡ bytes

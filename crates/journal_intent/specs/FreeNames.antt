@@ -5,7 +5,7 @@ use Rattle.std.specs.Prelude.{◌≡◌, ◌⊎◌, ◌≢◌, ℕ, zero, suc, �
 use Rattle.std.specs.Str.{bytes_eq}
 use Rattle.std.specs.List.{list_any}
 use Rattle.base_core.specs.Name.{IsName}
-use Rattle.adb_tables.specs.Values.{text_in}
+use Rattle.adb_view.specs.Values.{text_in}
 use Rattle.adb_view.specs.Plain.{Plains, none, more}
 use Rattle.journal_intent.specs.Intent.{Intent, intent_name, is_staged, stage_name}
 

@@ -7,7 +7,7 @@ ghost use Rattle.std.specs.Prelude.{◌≡◌, IfOk, ◌≢◌, ◌<◌, ◌^◌
 ghost use Rattle.journal_intent.specs.FreeNames.{stage_names_from, HasFreeNames, IsTakenName};
 ghost use Rattle.journal_intent.specs.Intent.{intent_name, stage_folder, stage_name, AreChangeNames, Intent, intent_in, is_staged, read_intent};
 ghost use Rattle.adb_schema.specs.Soundness.{first_fault, payload_in, root_value};
-ghost use Rattle.adb_tables.specs.declared.tables.Which.TheVariants.{Intent as IntentTable};
+ghost use Rattle.adb_view.specs.declared.tables.Which.TheVariants.{Intent as IntentTable};
 ghost use Rattle.base_core.specs.Files.{IsFolderOf};
 ghost use Rattle.base_core.specs.Name.{is_name};
 ghost use Rattle.base_core.specs.declared.cause.Cause.{Cause};

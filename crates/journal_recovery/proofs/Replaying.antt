@@ -8,7 +8,7 @@ use Rattle.base_core.specs.Read.{bytes_in}
 use Rattle.base_core.specs.Calls.{IfObservable, HasNow}
 use Rattle.base_core.specs.Crash.{IsOrderly, Since}
 use Rattle.adb_schema.specs.Soundness.{first_fault}
-use Rattle.adb_tables.specs.declared.tables.Which.TheVariants.{Intent as IntentTable}
+use Rattle.adb_view.specs.declared.tables.Which.TheVariants.{Intent as IntentTable}
 use Rattle.journal_core.specs.Kept.{HasOldOrNewBytes, RecoversTo}
 use Rattle.journal_core.specs.Recovering.{IsReplayed}
 use Rattle.journal_core.specs.Recovery.{IsSettled, RestsOn, intent_name, intent_at, intent_of, recovered_files, recovered_files_by}

@@ -4,11 +4,11 @@ use Rattle.base_core.specs.declared.cause.Cause.{Cause}
 use Rattle.base_core.specs.declared.cause.Cause.TheVariants.{BadText}
 use Rattle.adb_view.specs.Plain.{Plain, null, int, blob, arr, obj, Plains, none, more, Shape, number, text, hash, array, object, Fields, no_fields, field, blob_value, arr_value, obj_value, keep, without_last_nulls, IsNormal, AreNormal}
 use Rattle.adb_view.specs.Shaped.{Each, HasShape, HaveShapes}
-use Rattle.adb_rules.specs.Texts.{Surroundings, Leaf, number_leaf, text_leaf, keeps_rule, number_of_leaf, leaves, field_leaves, each_leaf, inside_of, first_bad, number_rule, text_rule}
-use Rattle.adb_tables.specs.Values.{text_in}
+use Rattle.adb_schema.specs.Texts.{Surroundings, Leaf, number_leaf, text_leaf, keeps_rule, number_of_leaf, leaves, field_leaves, each_leaf, inside_of, first_bad, number_rule, text_rule}
+use Rattle.adb_view.specs.Values.{text_in}
 use Rattle.adb_view.proofs.FoundShapes.{arr_value_shape, blob_value_hash, blob_value_text, obj_value_shape}
 use Rattle.adb_view.proofs.Normal.{arr_normal, blob_value_normal, obj_normal}
-use Rattle.adb_tables.proofs.ValueEntries.{entries_arr, entries_obj, text_blob}
+use Rattle.adb_view.proofs.ValueEntries.{entries_arr, entries_obj, text_blob}
 
 -- ---- their leaves
 

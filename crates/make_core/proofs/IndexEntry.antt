@@ -4,13 +4,13 @@ use Rattle.std.specs.Prelude.{All}
 use Rattle.sha2.proofs.Facts256.{length-sha256}
 use Rattle.adb_view.specs.Plain.{Plain, int, blob, obj, Plains, Shape, number, hash, object, Fields}
 use Rattle.adb_view.specs.Shaped.{HasShape, HaveShapes}
-use Rattle.adb_tables.specs.Schema.{shape_of, shapes_of, table}
-use Rattle.adb_rules.specs.Texts.{Surroundings, number_leaf, text_leaf, at_root, inside_of, leaves, field_leaves, first_bad, is_package_hash, text_rule}
-use Rattle.adb_tables.specs.Values.{nth, entries_in, entry_in}
+use Rattle.adb_view.specs.Schema.{shape_of, shapes_of, table}
+use Rattle.adb_schema.specs.Texts.{Surroundings, number_leaf, text_leaf, at_root, inside_of, leaves, field_leaves, first_bad, is_package_hash, text_rule}
+use Rattle.adb_view.specs.Values.{nth, entries_in, entry_in}
 use Rattle.adb_schema.specs.Soundness.{payload_in}
-use Rattle.adb_tables.specs.declared.tables.Which.{Which}
-use Rattle.adb_tables.specs.declared.tables.Which.TheVariants.{Dep, Package, PkgInfo, Index}
-use Rattle.adb_tables.specs.declared.tables.Kind.TheVariants.{Obj}
+use Rattle.adb_view.specs.declared.tables.Which.{Which}
+use Rattle.adb_view.specs.declared.tables.Which.TheVariants.{Dep, Package, PkgInfo, Index}
+use Rattle.adb_view.specs.declared.tables.Kind.TheVariants.{Obj}
 use Rattle.pkg_core.specs.Whole.{package_fault, package_id, package_with_contents}
 use Rattle.make_index.specs.Entries.{entry_of_package}
 use Rattle.adb_copy.specs.Zeros.{info_with, with_at}

@@ -4,14 +4,14 @@ use Rattle.std.specs.List.Sorted.{IsPermutation, IsSorted}
 use Rattle.base_core.specs.declared.cause.Cause.{Cause}
 use Rattle.adb_fields.specs.Repeated.{list_of}
 use Rattle.adb_schema.specs.Soundness.{payload_in, root_value}
-use Rattle.adb_tables.specs.Values.{entries_in}
-use Rattle.adb_tables.specs.declared.tables.Which.TheVariants.{Index}
-use Rattle.adb_tables.proofs.ValueEntries.{entries_arr, nth_obj}
+use Rattle.adb_view.specs.Values.{entries_in}
+use Rattle.adb_view.specs.declared.tables.Which.TheVariants.{Index}
+use Rattle.adb_view.proofs.ValueEntries.{entries_arr, nth_obj}
 use Rattle.adb_view.specs.Plain.{Plain, none, more, arr_value, blob_value}
 use Rattle.command_core.specs.Command.{CommandLine}
 use Rattle.command_core.specs.Files.{without_dot}
 use Rattle.command_core.specs.declared.operands.Operand.{Operand}
-use Rattle.list_order.specs.Sorted.{sorted_by}
+use Rattle.base_core.specs.Sorted.{sorted_by}
 use Rattle.make_index.specs.Entries.{entry_of_package}
 use Rattle.make_index.specs.EntryOrder.{entry_cmp}
 use Rattle.make_index.specs.Files.{AreFiles}

@@ -15,10 +15,10 @@ use Rattle.dep_core.specs.ValueReading.{dependency_of_value}
 use Rattle.command_core.specs.declared.values.OptionValue.{OptionValue}
 use Rattle.adb_view.specs.Plain.{Plain, null, Plains, none, more, text as text_shape, hash, number as number_shape, array, blob_value, obj_value}
 use Rattle.adb_view.specs.Shaped.{Each}
-use Rattle.adb_tables.specs.Schema.{shape_of, shapes_of, table}
-use Rattle.adb_rules.specs.Texts.{Surroundings, inside_of, number_rule, text_rule}
-use Rattle.adb_tables.specs.declared.tables.Which.TheVariants.{Dep, PkgInfo}
-use Rattle.adb_tables.specs.declared.tables.Kind.TheVariants.{Obj}
+use Rattle.adb_view.specs.Schema.{shape_of, shapes_of, table}
+use Rattle.adb_schema.specs.Texts.{Surroundings, inside_of, number_rule, text_rule}
+use Rattle.adb_view.specs.declared.tables.Which.TheVariants.{Dep, PkgInfo}
+use Rattle.adb_view.specs.declared.tables.Kind.TheVariants.{Obj}
 use Rattle.make_info.specs.declared.field.Field.{Field}
 use Rattle.make_info.specs.declared.field.Field.TheVariants as Fields
 use Rattle.make_info.specs.declared.field.Kind.{Kind}

@@ -10,7 +10,7 @@ use Rattle.base_core.specs.Name.{is_name}
 use Rattle.adb_fields.specs.FirstPair.{IsIn}
 use Rattle.adb_fields.proofs.Members.{from-flat_map, from-map}
 use Rattle.adb_fields.specs.Paths.{path_of}
-use Rattle.adb_rules.specs.Rules.{is_file_name, is_folder_name}
+use Rattle.adb_schema.specs.Rules.{is_file_name, is_folder_name}
 use Rattle.package_files.specs.Folders.{FolderListing, before_slashes, path_below, names_in_folder, folder_names, folder_of, folders_of, folders_over, is_slash, listing_of, last_part_of}
 use Rattle.package_files.specs.Package.{Source, SourceFolder, kind_of_file, installed_size, size_of_folder, size_of_kind}
 use Rattle.package_files.specs.Sources.{and_then, each_from, file_at, sources_from, folder_at, source_folders_from, found_at}

@@ -10,7 +10,7 @@ use Rattle.std.proofs.lemmas.Str.{IsCharBoundary-after_ascii, IsCharBoundary-bef
 use Rattle.base_core.specs.Name.{is_name, is_part, parts_of}
 use Rattle.base_core.proofs.NameParts.{split_slash}
 use Rattle.adb_fields.specs.Paths.{path_of}
-use Rattle.adb_rules.specs.Rules.{is_file_name, is_folder_name, is_one_part}
+use Rattle.adb_schema.specs.Rules.{is_file_name, is_folder_name, is_one_part}
 use Rattle.package_files.specs.Folders.{folder_of, is_slash, last_part_of}
 
 -- ---- what a name is, test by test

@@ -14,13 +14,13 @@ use Rattle.adb_view.specs.Head.{head_fault, root_of}
 use Rattle.adb_view.specs.Plain.{Plain, null, IsNormal, Shape, plain_of}
 use Rattle.adb_view.specs.Visits.{visits, MOST_VALUES}
 use Rattle.adb_view.specs.Shaped.{HasShape}
-use Rattle.adb_tables.specs.Schema.{shape_of}
-use Rattle.adb_tables.specs.Values.{value_at}
-use Rattle.adb_tables.specs.Walk.{shape_fault}
-use Rattle.adb_rules.specs.Texts.{text_fault}
+use Rattle.adb_view.specs.Schema.{shape_of}
+use Rattle.adb_view.specs.Values.{value_at}
+use Rattle.adb_view.specs.Walk.{shape_fault}
+use Rattle.adb_schema.specs.Texts.{text_fault}
 use Rattle.adb_schema.specs.Soundness.{blocks_fault, file_fault, first_payload, payload_behind, payload_fault, payload_in, root_value, schema_fault}
-use Rattle.adb_tables.specs.declared.tables.Which.TheVariants.{Package}
-use Rattle.adb_tables.specs.declared.tables.Kind.TheVariants.{Obj}
+use Rattle.adb_view.specs.declared.tables.Which.TheVariants.{Package}
+use Rattle.adb_view.specs.declared.tables.Kind.TheVariants.{Obj}
 use Rattle.pkg_core.specs.Whole.{behind_fault, package_fault, package_with_contents, whole_fault}
 
 -- what the layers below say of values that are found

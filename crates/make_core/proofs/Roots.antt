@@ -3,11 +3,11 @@ use Rattle.std.proofs.Common.{◌≡◌, ℕ, ◌||◌, Bool, true, false, List,
 use Rattle.std.specs.Prelude.{is_some}
 use Rattle.std.proofs.lemmas.Bool.{ltb-false}
 use Rattle.adb_view.specs.Plain.{IsNormal, Plain}
-use Rattle.adb_tables.specs.Schema.{shape_of}
-use Rattle.adb_rules.specs.Texts.{at_root}
+use Rattle.adb_view.specs.Schema.{shape_of}
+use Rattle.adb_schema.specs.Texts.{at_root}
 use Rattle.adb_fields.specs.Repeated.{repeated_fault}
-use Rattle.adb_tables.specs.declared.tables.Which.{Which}
-use Rattle.adb_tables.specs.declared.tables.Kind.TheVariants.{Obj}
+use Rattle.adb_view.specs.declared.tables.Which.{Which}
+use Rattle.adb_view.specs.declared.tables.Kind.TheVariants.{Obj}
 use Rattle.adb_write.specs.Canonical.{PayloadCounts, canonical, or_overflow, overflow_of, passes, written_of, MOST_BYTES, MOST_VALUES}
 use Rattle.adb_write.specs.Size.{size_of, value_count}
 use Rattle.adb_sound.specs.Root.{IsRootOf}

@@ -1,18 +1,18 @@
 -- An index that is made is sound, and its value is read back.
 use Rattle.std.proofs.Common.{◌≡◌, ◌≢◌, ℕ, ◌+◌, ◌^◌, ◌<◌, Bool, true, false, if◌then◌else◌, List, [], ◌∷◌, length, Option, Some, None, Result, Ok, Err, refl, ap, sym, ◌∙◌, subst}
-use Rattle.adb_tables.specs.declared.tables.Which.{Which}
+use Rattle.adb_view.specs.declared.tables.Which.{Which}
 use Rattle.std.specs.Prelude.{All}
 use Rattle.std.specs.Ordering.{is_gt}
 use Rattle.std.specs.declared.cmp.Ordering.{Ordering}
 use Rattle.base_core.specs.declared.cause.Cause.{Cause}
 use Rattle.adb_view.specs.Plain.{Plain, Plains, none, more, arr_value, blob_value, obj_value}
 use Rattle.adb_view.specs.Shaped.{Each}
-use Rattle.adb_tables.specs.Schema.{shape_of, shapes_of, table}
-use Rattle.adb_rules.specs.Texts.{Surroundings, at_root, inside_of, text_rule}
+use Rattle.adb_view.specs.Schema.{shape_of, shapes_of, table}
+use Rattle.adb_schema.specs.Texts.{Surroundings, at_root, inside_of, text_rule}
 use Rattle.adb_fields.specs.Repeated.{repeated_fault}
 use Rattle.adb_schema.specs.Soundness.{payload_in, root_value, schema_word}
-use Rattle.adb_tables.specs.declared.tables.Which.TheVariants.{Package, PkgInfo, Index}
-use Rattle.adb_tables.specs.declared.tables.Kind.TheVariants.{Obj}
+use Rattle.adb_view.specs.declared.tables.Which.TheVariants.{Package, PkgInfo, Index}
+use Rattle.adb_view.specs.declared.tables.Kind.TheVariants.{Obj}
 use Rattle.adb_schema.specs.declared.read.TheConstants.{INDEX_WORD}
 use Rattle.adb_write.specs.Canonical.{PayloadCounts, written_of, canonical}
 use Rattle.adb_write.specs.File.{file_of}
@@ -24,7 +24,7 @@ use Rattle.make_info.specs.Values.{plains_of_list}
 use Rattle.command_core.specs.Command.{CommandLine}
 use Rattle.make_index.specs.Entries.{entry_of_package}
 use Rattle.make_index.specs.EntryOrder.{entry_cmp}
-use Rattle.list_order.specs.Sorted.{sorted_by, with_element}
+use Rattle.base_core.specs.Sorted.{sorted_by, with_element}
 use Rattle.base_core.specs.Files.{IsFile}
 use Rattle.make_index.specs.Files.{AreFiles}
 use Rattle.adb_sound.specs.Root.{IsRootOf}

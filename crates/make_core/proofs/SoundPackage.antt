@@ -6,7 +6,7 @@ use Rattle.std.proofs.lemmas.List.Elements.{All-head, All-tail}
 use Rattle.base_core.specs.Listed.{IsNameBelow}
 use Rattle.adb_view.specs.Plain.{Plain}
 use Rattle.adb_schema.specs.declared.read.TheConstants.{PACKAGE_WORD}
-use Rattle.adb_tables.specs.declared.tables.Which.TheVariants.{Package}
+use Rattle.adb_view.specs.declared.tables.Which.TheVariants.{Package}
 use Rattle.adb_write.specs.Canonical.{PayloadCounts, canonical, overflow_of}
 use Rattle.pkg_core.specs.Contents.{Contents, expected_contents}
 use Rattle.pkg_core.specs.GoodContents.{AreContentsOf}

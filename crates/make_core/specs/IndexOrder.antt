@@ -11,7 +11,7 @@ use Rattle.make_index.specs.Entries.{entry_of_package}
 use Rattle.make_index.specs.EntryOrder.{entry_cmp}
 use Rattle.make_info.specs.Reads.{Reads}
 use Rattle.pkg_core.specs.Whole.{package_fault}
-use Rattle.adb_tables.specs.FieldIndexes.{INDEX_PACKAGES}
+use Rattle.adb_view.specs.FieldIndexes.{INDEX_PACKAGES}
 
 -- the entries that an index has of its packages
 abbrev pub packages_in : Plain → List Plain

@@ -8,7 +8,7 @@ use Rattle.adb_sound.specs.Container.{package_by}
 use Rattle.adb_view.specs.Plain.{Plain}
 use Rattle.command_core.specs.Command.{CommandLine}
 use Rattle.make_index.specs.EntryOrder.{entry_cmp}
-use Rattle.list_order.specs.Sorted.{sorted_by}
+use Rattle.base_core.specs.Sorted.{sorted_by}
 use Rattle.make_index.specs.Index.{description_in, found_entries, value_of_index}
 use Rattle.make_info.specs.Information.{InfoItem, information, information_value, replaces_priority}
 use Rattle.make_info.specs.Reads.{Reads}

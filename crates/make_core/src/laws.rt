@@ -3,7 +3,7 @@
 //! The rules stand in `docs/commands.md`, "`mkpkg`" and "`mkndx PACKAGE..`", and in
 //! `docs/formats.md`, "Tests of a container".
 ghost use Rattle.adb_schema.specs.Soundness.{payload_in, root_value};
-ghost use Rattle.adb_tables.specs.declared.tables.Which.TheVariants.{Index, Package};
+ghost use Rattle.adb_view.specs.declared.tables.Which.TheVariants.{Index, Package};
 ghost use Rattle.command_core.specs.declared.values.TheConstants.{FILES, SCRIPT};
 ghost use Rattle.make_index.specs.Files.{AreFiles};
 ghost use Rattle.make_index.specs.Index.{made_index};
@@ -28,8 +28,7 @@ use adb_sound::{
     a_container_of_a_good_value_is_sound, a_package_of_a_good_value_and_its_contents_is_sound,
     contents_stand_in_their_container, what_a_container_is_made_of_is_read_back,
 };
-use adb_tables::values_of_few_visits_have_no_fault;
-use adb_view::{values_are_normal, values_have_their_shape};
+use adb_view::{values_are_normal, values_have_their_shape, values_of_few_visits_have_no_fault};
 use adb_write::a_value_overflows_exactly_past_a_limit;
 use dep_core::{read_texts_are_spelled, values_are_read_back};
 use make_index::an_index_is_in_order;

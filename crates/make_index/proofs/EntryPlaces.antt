@@ -3,12 +3,12 @@ use Rattle.std.proofs.Common.{◌≡◌, Some, codes, ap, ◌∙◌}
 use Rattle.std.specs.Ordering.{ordering_then}
 use Rattle.std.specs.declared.cmp.Ordering.{Ordering}
 use Rattle.std.specs.declared.cmp.Ordering.TheVariants.{Equal, Less}
-use Rattle.adb_tables.specs.Schema.{table}
-use Rattle.adb_tables.specs.Values.{text_in}
-use Rattle.adb_tables.specs.declared.tables.Which.TheVariants.{PkgInfo}
-use Rattle.adb_tables.proofs.ValueEntries.{nth_obj}
+use Rattle.adb_view.specs.Schema.{table}
+use Rattle.adb_view.specs.Values.{text_in}
+use Rattle.adb_view.specs.declared.tables.Which.TheVariants.{PkgInfo}
+use Rattle.adb_view.proofs.ValueEntries.{nth_obj}
 use Rattle.adb_view.specs.Plain.{Plain, Plains, none, more, obj_value}
-use Rattle.list_order.specs.ByteOrder.{bytes_cmp}
+use Rattle.base_core.specs.ByteOrder.{bytes_cmp}
 use Rattle.make_index.specs.EntryOrder.{entry_cmp, id_in, name_in, version_in}
 use Rattle.make_info.specs.Named.{value_by_name}
 use Rattle.version_core.specs.Order.{version_cmp}

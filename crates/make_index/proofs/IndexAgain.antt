@@ -2,13 +2,13 @@
 use Rattle.std.proofs.Common.{◌≡◌, ℕ, ◌<◌, ◌^◌, List, ap, sym, ◌∙◌, arith}
 use Rattle.adb_view.specs.Plain.{Plain, int, blob, Plains, obj_of, IsNormal}
 use Rattle.adb_view.specs.Shaped.{HasShape}
-use Rattle.adb_tables.specs.Schema.{shape_of}
-use Rattle.adb_tables.specs.Values.{nth, entries_in, entry_in, int_in, text_in}
-use Rattle.adb_tables.specs.declared.tables.Which.TheVariants as Tables
-use Rattle.adb_tables.specs.declared.tables.Kind.TheVariants as Kinds
+use Rattle.adb_view.specs.Schema.{shape_of}
+use Rattle.adb_view.specs.Values.{nth, entries_in, entry_in, int_in, text_in}
+use Rattle.adb_view.specs.declared.tables.Which.TheVariants as Tables
+use Rattle.adb_view.specs.declared.tables.Kind.TheVariants as Kinds
 use Rattle.adb_copy.specs.Zeros.{without_zeros, all_without_zeros, with_at, info_with}
 use Rattle.make_index.specs.Kept.{copy_of_entry}
-use Rattle.adb_tables.proofs.ValueEntries.{nth_obj}
+use Rattle.adb_view.proofs.ValueEntries.{nth_obj}
 use Rattle.adb_copy.proofs.Shapes.{entries_shape}
 use Rattle.adb_copy.proofs.WithoutZeros.{HasInts, entries_ints, int_zeros, normal_ints, placed_normal, placed_shape, text_zeros}
 use Rattle.adb_copy.proofs.Zeros.{nth_zeros, trimmed_same, at_same, at_other, zeros_twice}

@@ -9,15 +9,15 @@ use Rattle.adb_view.specs.Plain.{Plain, null, int, blob, arr, obj, Plains, none,
 use Rattle.adb_view.specs.Shaped.{HasShape}
 use Rattle.adb_write.specs.Canonical.{Layout, write, empty_layout, payload_with_root, canonical, passes, overflow_of, or_overflow, written_of, PayloadCounts, MOST_BYTES}
 use Rattle.adb_write.specs.Size.{size_of, value_count}
-use Rattle.adb_tables.specs.Schema.{shape_of}
-use Rattle.adb_tables.specs.Values.{is_sound, value_at, nth, entry_in, text_in}
-use Rattle.adb_rules.specs.SoundValues.{IsPackage}
+use Rattle.adb_view.specs.Schema.{shape_of}
+use Rattle.adb_view.specs.Values.{is_sound, value_at, nth, entry_in, text_in}
+use Rattle.adb_schema.specs.SoundValues.{IsPackage}
 use Rattle.adb_schema.specs.Soundness.{root_value, payload_in, first_fault}
 use Rattle.adb_schema.specs.SoundContainers.{IsSoundValue}
-use Rattle.adb_tables.specs.declared.tables.Which.{Which}
-use Rattle.adb_tables.specs.declared.tables.Which.TheVariants as Tables
-use Rattle.adb_tables.specs.declared.tables.Kind.{Kind}
-use Rattle.adb_tables.specs.declared.tables.Kind.TheVariants as Kinds
+use Rattle.adb_view.specs.declared.tables.Which.{Which}
+use Rattle.adb_view.specs.declared.tables.Which.TheVariants as Tables
+use Rattle.adb_view.specs.declared.tables.Kind.{Kind}
+use Rattle.adb_view.specs.declared.tables.Kind.TheVariants as Kinds
 use Rattle.pkg_core.specs.Whole.{package_id}
 use Rattle.make_index.specs.Entries.{entry_of_package}
 use Rattle.adb_copy.specs.Zeros.{info_with}

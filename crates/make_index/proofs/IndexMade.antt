@@ -8,7 +8,7 @@ use Rattle.make_index.specs.Index.{index_container, index_of, value_of_index}
 use Rattle.make_index.specs.Kept.{IsMade}
 use Rattle.make_info.specs.Faults.{IsOverflow}
 use Rattle.make_index.specs.EntryOrder.{entry_cmp}
-use Rattle.list_order.specs.Sorted.{sorted_by}
+use Rattle.base_core.specs.Sorted.{sorted_by}
 use Rattle.make_info.specs.declared.fault.MakeFault.{MakeFault}
 use Rattle.make_info.specs.declared.fault.MakeFault.TheVariants.{FileMissing, FileBad, InfoBad, TooLarge, Disk, Memory}
 

@@ -9,7 +9,7 @@ use Rattle.version_core.specs.Order.{version_cmp}
 use Rattle.adb_view.specs.Plain.{Plain}
 use Rattle.make_index.specs.Kept.{IsKeyed}
 use Rattle.make_index.specs.EntryOrder.{entry_cmp, id_in, name_in, version_in}
-use Rattle.list_order.specs.ByteOrder.{bytes_cmp}
+use Rattle.base_core.specs.ByteOrder.{bytes_cmp}
 
 pub decided : (r s : Ordering) → is_ne r ≡ true → r ≡ ordering_then r s
 decided Less s h = refl

@@ -4,8 +4,8 @@
 -- "The other blocks".
 use Rattle.std.specs.Prelude.{ℕ, List, length}
 use Rattle.adb_view.specs.Plain.{Plain}
-use Rattle.adb_tables.specs.FieldIndexes.{PACKAGE_INFO}
-use Rattle.adb_tables.specs.Values.{entry_in}
+use Rattle.adb_view.specs.FieldIndexes.{PACKAGE_INFO}
+use Rattle.adb_view.specs.Values.{entry_in}
 use Rattle.adb_copy.specs.Zeros.{info_with}
 use Rattle.pkg_core.specs.Whole.{package_id, package_with_contents}
 

@@ -4,11 +4,11 @@
 use Rattle.std.specs.Prelude.{ℕ, List}
 use Rattle.std.specs.Ordering.{on, then_cmp}
 use Rattle.std.specs.declared.cmp.Ordering.{Ordering}
-use Rattle.list_order.specs.ByteOrder.{bytes_cmp}
+use Rattle.base_core.specs.ByteOrder.{bytes_cmp}
 use Rattle.version_core.specs.Order.{version_cmp}
 use Rattle.adb_view.specs.Plain.{Plain}
-use Rattle.adb_tables.specs.FieldIndexes.{INFO_HASHES, INFO_NAME, INFO_VERSION}
-use Rattle.adb_tables.specs.Values.{entry_in, text_in}
+use Rattle.adb_view.specs.FieldIndexes.{INFO_HASHES, INFO_NAME, INFO_VERSION}
+use Rattle.adb_view.specs.Values.{entry_in, text_in}
 
 -- the name of the package that an entry is of
 abbrev pub name_in : Plain → List ℕ

@@ -6,10 +6,10 @@ use Rattle.base_core.specs.declared.cause.Cause.{Cause}
 use Rattle.adb_view.specs.Head.{head_fault, root_of}
 use Rattle.adb_view.specs.Plain.{Plain}
 use Rattle.adb_schema.specs.Soundness.{root_value}
-use Rattle.adb_tables.specs.FieldIndexes.{INFO_FILE_SIZE, INFO_HASHES}
-use Rattle.adb_tables.specs.Values.{entry_in, int_in, is_sound, text_in}
-use Rattle.adb_tables.specs.declared.tables.Which.TheVariants.{PkgInfo}
-use Rattle.adb_tables.specs.declared.tables.Kind.TheVariants.{Obj}
+use Rattle.adb_view.specs.FieldIndexes.{INFO_FILE_SIZE, INFO_HASHES}
+use Rattle.adb_view.specs.Values.{entry_in, int_in, is_sound, text_in}
+use Rattle.adb_view.specs.declared.tables.Which.TheVariants.{PkgInfo}
+use Rattle.adb_view.specs.declared.tables.Kind.TheVariants.{Obj}
 use Rattle.version_core.specs.Order.{is_version}
 use Rattle.make_info.specs.declared.fault.MakeFault.{MakeFault}
 use Rattle.make_info.specs.declared.fault.MakeFault.TheVariants.{FileBad, Disk, Memory}

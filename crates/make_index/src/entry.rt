@@ -15,7 +15,7 @@ ghost use Rattle.pkg_core.specs.Refusals.{IsFaultOf};
 ghost use Rattle.std.specs.Prelude.{◌≡◌, Some, None, IfOk, IfErr, IfSome, IsTrue, OnOk, Option};
 ghost use Rattle.std.specs.Result.{result_err};
 ghost use Rattle.version_core.specs.Order.{is_version, version_cmp};
-ghost use Rattle.adb_tables.specs.declared.tables.Which.TheVariants as Tables;
+ghost use Rattle.adb_view.specs.declared.tables.Which.TheVariants as Tables;
 
 use crate::source::{EntryPayload, EntrySource, PackageFile, entry_payload};
 use adb_schema::sound_containers_hold_sound_values;

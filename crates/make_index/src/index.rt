@@ -3,10 +3,10 @@
 //! The rule stands in `docs/commands.md`, "`mkndx PACKAGE..`", with the refusals in their order;
 //! the fields in `docs/formats.md`, "Schemas", table 8.
 
-ghost use Rattle.adb_tables.specs.Schema.{shape_of, table};
+ghost use Rattle.adb_view.specs.Schema.{shape_of, table};
 ghost use Rattle.adb_schema.specs.Soundness.{first_fault};
-ghost use Rattle.adb_tables.specs.declared.tables.Kind.TheVariants as Kinds;
-ghost use Rattle.adb_tables.specs.declared.tables.Which.TheVariants as Tables;
+ghost use Rattle.adb_view.specs.declared.tables.Kind.TheVariants as Kinds;
+ghost use Rattle.adb_view.specs.declared.tables.Which.TheVariants as Tables;
 ghost use Rattle.adb_view.specs.Plain.{Plain, arr_value, IsNormal, Plains, obj_value};
 ghost use Rattle.adb_view.specs.Shaped.{HasShape};
 ghost use Rattle.adb_values.specs.Drafts.{draft_with};
@@ -16,7 +16,7 @@ ghost use Rattle.base_core.specs.Read.{OnlyReads, bytes_in};
 ghost use Rattle.base_core.specs.Tree.{files_of};
 ghost use Rattle.make_index.specs.Entries.{entry_of_package};
 ghost use Rattle.make_index.specs.EntryOrder.{entry_cmp, version_in, id_in, name_in};
-ghost use Rattle.list_order.specs.Sorted.{sorted_by};
+ghost use Rattle.base_core.specs.Sorted.{sorted_by};
 ghost use Rattle.base_core.specs.Files.{IsFile};
 ghost use Rattle.make_index.specs.Files.{AreFiles, reads_of};
 ghost use Rattle.make_index.specs.Index.{description_in, index_of, value_of_index, found_entries, found_entry, made_index};
@@ -29,9 +29,9 @@ ghost use Rattle.std.specs.List.Sorted.{IsPermutation, IsSorted, IsStable};
 ghost use Rattle.std.specs.Prelude.{◌≡◌, ◌≤◌, Ok, IfOk, IfErr, OnOk, length, map, ◌<◌, ◌^◌, ℕ, List, All, true, None, ◌++◌, ◌∷◌, [], Option, IfSome, IsTrue, Some, codes};
 ghost use Rattle.version_core.specs.Order.{is_version, version_cmp};
 ghost use Rattle.command_core.specs.Named.{are_files};
-ghost use Rattle.adb_tables.specs.Values.{text_in};
-ghost use Rattle.adb_tables.specs.declared.tables.Which.TheVariants.{PkgInfo};
-ghost use Rattle.list_order.specs.ByteOrder.{bytes_cmp};
+ghost use Rattle.adb_view.specs.Values.{text_in};
+ghost use Rattle.adb_view.specs.declared.tables.Which.TheVariants.{PkgInfo};
+ghost use Rattle.base_core.specs.ByteOrder.{bytes_cmp};
 ghost use Rattle.make_info.specs.Named.{value_by_name};
 ghost use Rattle.std.specs.declared.cmp.Ordering.TheVariants.{Equal, Less};
 

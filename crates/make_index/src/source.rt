@@ -3,8 +3,8 @@
 //! information alone passes a limit of the writer is kept to the end. What an entry has, says
 //! `docs/commands.md`, "`mkndx PACKAGE..`".
 ghost use Rattle.adb_schema.specs.Soundness.{first_fault, root_value};
-ghost use Rattle.adb_tables.specs.FieldIndexes.{PACKAGE_INFO};
-ghost use Rattle.adb_tables.specs.Values.{entry_in, is_sound, value_at};
+ghost use Rattle.adb_view.specs.FieldIndexes.{PACKAGE_INFO};
+ghost use Rattle.adb_view.specs.Values.{entry_in, is_sound, value_at};
 ghost use Rattle.adb_view.specs.Adb.{payload_of};
 ghost use Rattle.adb_view.specs.Head.{head_fault, root_of};
 ghost use Rattle.adb_values.specs.Drafts.{draft_with};
@@ -14,8 +14,8 @@ ghost use Rattle.adb_copy.specs.Zeros.{info_with};
 ghost use Rattle.pkg_core.specs.Opened.{opened_payload, opened_value};
 ghost use Rattle.sha2.specs.Sha256.{sha256};
 ghost use Rattle.std.specs.Prelude.{◌≡◌, true, is_none, ◌<◌, ◌^◌, Ok, IfOk, IfSome, OnOk};
-ghost use Rattle.adb_tables.specs.declared.tables.Kind.TheVariants as Kinds;
-ghost use Rattle.adb_tables.specs.declared.tables.Which.TheVariants as Tables;
+ghost use Rattle.adb_view.specs.declared.tables.Kind.TheVariants as Kinds;
+ghost use Rattle.adb_view.specs.declared.tables.Which.TheVariants as Tables;
 
 use adb_copy::{KnownTexts, write_info};
 use adb_schema::{PkgInfo, View};

@@ -1,7 +1,7 @@
 -- The field that an option names is the table's field of that name.
 use Rattle.std.proofs.Common.{◌≡◌, ℕ, List, refl}
-use Rattle.adb_tables.specs.Schema.{table}
-use Rattle.adb_tables.specs.declared.tables.Which.TheVariants.{PkgInfo}
+use Rattle.adb_view.specs.Schema.{table}
+use Rattle.adb_view.specs.declared.tables.Which.TheVariants.{PkgInfo}
 use Rattle.make_info.specs.declared.field.Field.{Field}
 use Rattle.make_info.specs.declared.field.Field.TheVariants as Fields
 use Rattle.make_info.specs.Fields.{field_word}

@@ -3,8 +3,8 @@
 -- `an_option_gives_the_field_of_its_name`.
 use Rattle.std.specs.Prelude.{ℕ, List, [], ◌∷◌, Option, Some, None, if◌then◌else◌}
 use Rattle.std.specs.Str.{bytes_eq}
-use Rattle.adb_tables.specs.Schema.{field_name_text}
-use Rattle.adb_tables.specs.declared.tables.Field.{Field}
+use Rattle.adb_view.specs.Schema.{field_name_text}
+use Rattle.adb_view.specs.declared.tables.Field.{Field}
 use Rattle.adb_view.specs.Plain.{Plain, Plains, none, more}
 use Rattle.make_info.specs.declared.field.Field as Options
 use Rattle.make_info.specs.declared.field.Field.TheVariants as Fields

@@ -4,11 +4,11 @@ use Rattle.std.proofs.lemmas.Slice.Eq.{bytes_eq-Decides}
 use Rattle.adb_copy.specs.Zeros.{all_without_zeros, info_with, with_at, without_zeros}
 use Rattle.adb_copy.proofs.WithoutZeros.{int_zeros}
 use Rattle.adb_copy.proofs.Zeros.{nth_zeros}
-use Rattle.adb_tables.specs.Schema.{field_name_text, table}
-use Rattle.adb_tables.specs.Values.{entries_in, entry_in, int_in, nth}
-use Rattle.adb_tables.specs.declared.tables.Field.{Field}
-use Rattle.adb_tables.specs.declared.tables.Which.TheVariants.{Package, PkgInfo}
-use Rattle.adb_tables.proofs.ValueEntries.{entries_arr, nth_obj}
+use Rattle.adb_view.specs.Schema.{field_name_text, table}
+use Rattle.adb_view.specs.Values.{entries_in, entry_in, int_in, nth}
+use Rattle.adb_view.specs.declared.tables.Field.{Field}
+use Rattle.adb_view.specs.declared.tables.Which.TheVariants.{Package, PkgInfo}
+use Rattle.adb_view.proofs.ValueEntries.{entries_arr, nth_obj}
 use Rattle.adb_view.specs.Plain.{Plain, null, int, blob, arr, obj, Plains, none, more, blob_value, obj_of, without_last_nulls}
 use Rattle.make_index.specs.Entries.{entry_of_package}
 use Rattle.make_core.proofs.ValueParts.{placed_later, placed_there}

@@ -5,9 +5,9 @@ use Rattle.std.proofs.lemmas.Bool.{and_parts, eq-eqb, ne_eqb}
 use Rattle.std.proofs.lemmas.List.{length-append, take-append-drop}
 use Rattle.std.proofs.lemmas.Slice.Eq.{bytes_eq-Decides}
 use Rattle.sha2.specs.Sha256.{sha256}
-use Rattle.adb_tables.specs.Values.{int_in}
-use Rattle.adb_tables.specs.declared.tables.Which.TheVariants.{File}
-use Rattle.adb_tables.proofs.ValueEntries.{nth_obj}
+use Rattle.adb_view.specs.Values.{int_in}
+use Rattle.adb_view.specs.declared.tables.Which.TheVariants.{File}
+use Rattle.adb_view.proofs.ValueEntries.{nth_obj}
 use Rattle.adb_view.specs.Plain.{blob_value, null}
 use Rattle.make_info.specs.Values.{size_value}
 use Rattle.package_files.specs.Package.{file_fields, hash_of_kind, is_link_file, kind_of_file, link_text, size_of_kind, target_of_kind, value_of_file}

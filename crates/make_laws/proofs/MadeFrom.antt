@@ -3,8 +3,8 @@ use Rattle.command_core.specs.declared.values.TheConstants.{FILES, SCRIPT, TRIGG
 use Rattle.std.proofs.Common.{◌≡◌, ℕ, ◌^◌, ◌<◌, List, [], ◌∷◌, length, map, Ok, refl, ap, sym, ◌∙◌}
 use Rattle.adb_fields.specs.Repeated.{folders_in, list_of}
 use Rattle.adb_sound.specs.Container.{package_by}
-use Rattle.adb_tables.specs.Values.{entries_in, entry_in, text_in}
-use Rattle.adb_tables.proofs.ValueEntries.{entries_arr, nth_obj, text_blob}
+use Rattle.adb_view.specs.Values.{entries_in, entry_in, text_in}
+use Rattle.adb_view.proofs.ValueEntries.{entries_arr, nth_obj, text_blob}
 use Rattle.adb_view.specs.Plain.{Plain, blob_value}
 use Rattle.command_core.specs.Command.{CommandLine}
 use Rattle.make_info.specs.Information.{InfoItem, information_value, information, replaces_priority}

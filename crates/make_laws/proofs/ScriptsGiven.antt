@@ -2,8 +2,8 @@
 use Rattle.std.proofs.Common.{◌≡◌, inl, inr, ℕ, Bool, true, false, if◌then◌else◌, List, [], ◌∷◌, bytes_eq, Option, Some, None, Ok, refl, ap, sym, subst, ◌∙◌}
 use Rattle.std.proofs.lemmas.Slice.Eq.{bytes_eq-Decides}
 use Rattle.adb_fields.specs.FirstPair.{IsIn}
-use Rattle.adb_tables.proofs.ValueEntries.{nth_obj}
-use Rattle.adb_tables.specs.declared.tables.Which.TheVariants.{Scripts}
+use Rattle.adb_view.proofs.ValueEntries.{nth_obj}
+use Rattle.adb_view.specs.declared.tables.Which.TheVariants.{Scripts}
 use Rattle.adb_view.specs.Plain.{Plain, blob_value}
 use Rattle.command_core.specs.Files.{without_dot}
 use Rattle.command_core.specs.Values.{script_file, script_type, script_types}

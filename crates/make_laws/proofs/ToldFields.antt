@@ -5,9 +5,9 @@ use Rattle.std.specs.List.{filter, find}
 use Rattle.std.proofs.lemmas.List.Concat.{flat_map-cons}
 use Rattle.std.proofs.lemmas.Slice.Eq.{bytes_eq-Decides}
 use Rattle.adb_fields.specs.Repeated.{list_of}
-use Rattle.adb_tables.specs.Values.{entries_in}
-use Rattle.adb_tables.specs.declared.tables.Which.TheVariants.{PkgInfo}
-use Rattle.adb_tables.proofs.ValueEntries.{entries_arr, nth_obj}
+use Rattle.adb_view.specs.Values.{entries_in}
+use Rattle.adb_view.specs.declared.tables.Which.TheVariants.{PkgInfo}
+use Rattle.adb_view.proofs.ValueEntries.{entries_arr, nth_obj}
 use Rattle.adb_view.specs.Plain.{Plain, more}
 use Rattle.command_core.specs.declared.values.OptionValue.{OptionValue}
 use Rattle.dep_core.specs.Dependency.{Dependency}

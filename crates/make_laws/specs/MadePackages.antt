@@ -7,8 +7,8 @@ use Rattle.std.specs.List.{filter, flat_map}
 use Rattle.adb_fields.specs.FirstPair.{IsIn}
 use Rattle.adb_fields.specs.Repeated.{files_in, folders_in, name_of}
 use Rattle.adb_schema.specs.Soundness.{payload_in, root_value}
-use Rattle.adb_tables.specs.Values.{int_in, text_in}
-use Rattle.adb_tables.specs.declared.tables.Which.TheVariants.{Dir, File, Package, PkgInfo}
+use Rattle.adb_view.specs.Values.{int_in, text_in}
+use Rattle.adb_view.specs.declared.tables.Which.TheVariants.{Dir, File, Package, PkgInfo}
 use Rattle.adb_view.specs.Plain.{Plain}
 use Rattle.base_core.specs.Files.{IsFolderOf}
 use Rattle.base_core.specs.Listed.{IsRising}

@@ -4,11 +4,11 @@
 use Rattle.std.specs.Prelude.{◌≡◌, ℕ, suc, List, [], ◌∷◌, codes, if◌then◌else◌}
 use Rattle.std.specs.Str.{bytes_eq}
 use Rattle.adb_fields.specs.Repeated.{list_of}
-use Rattle.adb_tables.specs.Schema.{field_name_text, table}
-use Rattle.adb_tables.specs.Values.{entries_in, entry_in}
-use Rattle.adb_tables.specs.declared.tables.Field.{Field}
-use Rattle.adb_tables.specs.declared.tables.Which.{Which}
-use Rattle.adb_tables.specs.declared.tables.Which.TheVariants.{Acl}
+use Rattle.adb_view.specs.Schema.{field_name_text, table}
+use Rattle.adb_view.specs.Values.{entries_in, entry_in}
+use Rattle.adb_view.specs.declared.tables.Field.{Field}
+use Rattle.adb_view.specs.declared.tables.Which.{Which}
+use Rattle.adb_view.specs.declared.tables.Which.TheVariants.{Acl}
 use Rattle.adb_view.specs.Plain.{Plain, int, blob}
 
 -- the place of the field of this name in a table, counted from 0; behind the last where there is

@@ -3,7 +3,7 @@
 -- the law `a_made_package_has_its_scripts`.
 use Rattle.std.specs.Prelude.{◌≡◌, ◌⊎◌, ℕ, List, Some}
 use Rattle.adb_fields.specs.FirstPair.{IsIn}
-use Rattle.adb_tables.specs.declared.tables.Which.TheVariants.{Package, Scripts}
+use Rattle.adb_view.specs.declared.tables.Which.TheVariants.{Package, Scripts}
 use Rattle.adb_view.specs.Plain.{Plain, null, blob_value}
 use Rattle.command_core.specs.Files.{without_dot}
 use Rattle.command_core.specs.Values.{script_file, script_type}

@@ -4,8 +4,8 @@
 //! The rules stand in `docs/commands.md`, "`mkpkg`" (the table of fields) and "`mkndx PACKAGE..`";
 //! the names of fields in `docs/formats.md`, "Schemas".
 ghost use Rattle.adb_copy.specs.Zeros.{without_zeros};
-ghost use Rattle.adb_tables.specs.Values.{entry_in, int_in, text_in};
-ghost use Rattle.adb_tables.specs.declared.tables.Which.TheVariants.{Dep, File, Index, Package, PkgInfo};
+ghost use Rattle.adb_view.specs.Values.{entry_in, int_in, text_in};
+ghost use Rattle.adb_view.specs.declared.tables.Which.TheVariants.{Dep, File, Index, Package, PkgInfo};
 ghost use Rattle.adb_view.specs.Plain.{Plain, arr_value, blob_value, int, null};
 ghost use Rattle.command_core.specs.Values.{script_file, script_type};
 ghost use Rattle.command_core.specs.declared.values.OptionValue.{OptionValue};

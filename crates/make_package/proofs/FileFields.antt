@@ -1,8 +1,8 @@
 -- What the fields of a file say of its bytes.
 use Rattle.std.proofs.Common.{◌≡◌, ℕ, Bool, true, false, List, ◌∷◌, Some, codes, length, ap, if◌then◌else◌}
 use Rattle.sha2.specs.Sha256.{sha256}
-use Rattle.adb_tables.specs.Schema.{table}
-use Rattle.adb_tables.specs.declared.tables.Which.TheVariants.{File}
+use Rattle.adb_view.specs.Schema.{table}
+use Rattle.adb_view.specs.declared.tables.Which.TheVariants.{File}
 use Rattle.adb_view.specs.Plain.{Plain, blob_value, null}
 use Rattle.make_info.specs.Named.{value_by_name}
 use Rattle.make_info.specs.Values.{size_value}

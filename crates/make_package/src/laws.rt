@@ -1,8 +1,8 @@
 //! What a package is, in the words of the format: laws over the definitions of `package_files`.
 //! The rules stand in `docs/commands.md`, "`mkpkg`", and in `docs/formats.md`, "Schemas", tables 4
 //! to 7, by the names of the fields there.
-ghost use Rattle.adb_tables.specs.Schema.{field_name_text, table};
-ghost use Rattle.adb_tables.specs.declared.tables.Which.TheVariants.{Dir, File, Package, Scripts};
+ghost use Rattle.adb_view.specs.Schema.{field_name_text, table};
+ghost use Rattle.adb_view.specs.declared.tables.Which.TheVariants.{Dir, File, Package, Scripts};
 ghost use Rattle.adb_view.specs.Plain.{Plain, arr_value, blob_value, null};
 ghost use Rattle.command_core.specs.Values.{script_types};
 ghost use Rattle.make_info.specs.declared.field.Field.TheVariants.{ReplacesPriority};

@@ -6,7 +6,7 @@ use Rattle.base_core.specs.Files.{Files}
 use Rattle.base_core.specs.declared.cause.Cause.{Cause}
 use Rattle.change_inputs.specs.Chains.{and_then}
 use Rattle.change_inputs.specs.Inputs.{Inputs, inputs_of}
-use Rattle.change_laws.specs.Made.{IsChangeMade}
+use Rattle.change_outcome.specs.Made.{IsChangeMade}
 use Rattle.change_files.specs.PlanLists.{aside_of, kept_of}
 use Rattle.change_outcome.specs.ChangeOutcome.{ChangeDone, ChangeWishes, change_or_refusal, file_change, member_sum_line, touched_paths}
 use Rattle.change_outcome.specs.ConfigurationLines.{configuration_lines}
@@ -18,7 +18,7 @@ use Rattle.engine_core.specs.Selecting.{pool_by, pool_for, replacement_of_choice
 use Rattle.engine_core.specs.Wishes.{names_to_reinstall, names_to_upgrade, unknown_place, unless_place, wishes_of}
 use Rattle.make_info.specs.Reads.{Reads}
 use Rattle.package_changes.specs.Changes.{Replacement, changes_of}
-use Rattle.report_changes.specs.Report.{selected_sum_line, simulated_report, stay_lines}
+use Rattle.package_changes.specs.Report.{selected_sum_line, simulated_report, stay_lines}
 use Rattle.path_clashes.specs.Clash.{NamePair}
 use Rattle.candidate_core.specs.Rank.{SealedPool}
 use Rattle.report_core.specs.Reports.{change_lines}

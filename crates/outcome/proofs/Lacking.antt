@@ -1,7 +1,7 @@
 -- A root has no database only where no file of one stands there.
 use Rattle.std.proofs.Common.{◌≡◌, ℕ, Bool, true, false, List, Option, Some, None, Result, Ok, Err, refl}
 use Rattle.adb_schema.specs.Soundness.{first_fault, payload_fault}
-use Rattle.adb_tables.specs.declared.tables.Which.TheVariants.{Idb}
+use Rattle.adb_view.specs.declared.tables.Which.TheVariants.{Idb}
 use Rattle.adb_write.specs.Canonical.{PayloadCounts, written_of}
 use Rattle.base_core.specs.Files.{Files}
 use Rattle.base_core.specs.declared.cause.Cause.{Cause}

@@ -7,14 +7,14 @@ use Rattle.std.proofs.lemmas.Bool.{and_parts}
 use Rattle.std.proofs.lemmas.Option.{same_Some}
 use Rattle.std.proofs.lemmas.Slice.Eq.{bytes_eq-Decides}
 use Rattle.adb_fields.specs.Repeated.{list_of}
-use Rattle.adb_rules.specs.Reserved.{is_intent_or_stage_name}
-use Rattle.adb_rules.specs.Rules.{is_change_name}
-use Rattle.adb_rules.specs.SoundValues.{IsChangeName}
+use Rattle.adb_schema.specs.Reserved.{is_intent_or_stage_name}
+use Rattle.adb_schema.specs.Rules.{is_change_name}
+use Rattle.adb_schema.specs.SoundValues.{IsChangeName}
 use Rattle.adb_schema.specs.SoundContainers.{IsSound, IsSoundValue}
 use Rattle.adb_schema.specs.Soundness.{first_fault, payload_in, root_value}
-use Rattle.adb_tables.specs.Values.{entries_in, entry_in, text_in}
-use Rattle.adb_tables.specs.declared.tables.Which.{Which}
-use Rattle.adb_tables.specs.declared.tables.Which.TheVariants.{Intent as IntentTable}
+use Rattle.adb_view.specs.Values.{entries_in, entry_in, text_in}
+use Rattle.adb_view.specs.declared.tables.Which.{Which}
+use Rattle.adb_view.specs.declared.tables.Which.TheVariants.{Intent as IntentTable}
 use Rattle.adb_view.specs.Plain.{Plain, Plains, none, more}
 use Rattle.adb_view.specs.Shaped.{Each}
 use Rattle.base_core.specs.Files.{AreNamedFiles, Files, IsFile, IsWithin, drop_name, move_name}

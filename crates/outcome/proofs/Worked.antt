@@ -5,7 +5,7 @@ use Rattle.adb_view.specs.Plain.{Plain, blob, more, none, obj}
 use Rattle.change_files.specs.PlanLists.{names_in_order}
 use Rattle.demo_lines.specs.Lines.{add_words, demo_file, demo_text, demo_version, mkndx_words, mkpkg_words}
 use Rattle.dep_core.specs.Dependency.{Dependency, dependency_by}
-use Rattle.report_changes.specs.Report.{stay_lines}
+use Rattle.package_changes.specs.Report.{stay_lines}
 use Rattle.candidate_core.specs.Candidates.{Candidate, candidate_by}
 
 -- ---- who needs a package that stays: in byte order, whatever is selected first

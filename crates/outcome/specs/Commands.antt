@@ -3,7 +3,7 @@
 -- to in its own section.
 use Rattle.std.specs.Prelude.{◌≡◌, ◌⊎◌, ℕ, true, List, [], Option, Some, None, Result, Ok, Err}
 use Rattle.adb_schema.specs.Soundness.{first_fault}
-use Rattle.adb_tables.specs.declared.tables.Which.TheVariants.{Intent as IntentTable}
+use Rattle.adb_view.specs.declared.tables.Which.TheVariants.{Intent as IntentTable}
 use Rattle.base_core.specs.Files.{Files, no_names}
 use Rattle.base_core.specs.declared.cause.Cause.{Cause}
 use Rattle.make_info.specs.Reads.{Reads}

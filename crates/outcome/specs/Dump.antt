@@ -12,11 +12,11 @@ use Rattle.adb_block.specs.Header.{header_of}
 use Rattle.adb_block.specs.Standing.{start_of}
 use Rattle.adb_block.specs.Reading.{Reading, done, fault, more, reading_of}
 use Rattle.adb_view.specs.Head.{head_fault, root_of}
-use Rattle.adb_tables.specs.Schema.{shape_of}
+use Rattle.adb_view.specs.Schema.{shape_of}
 use Rattle.adb_schema.specs.Soundness.{first_payload, root_value}
-use Rattle.adb_tables.specs.Walk.{shape_fault}
-use Rattle.adb_tables.specs.declared.tables.Which.{Which}
-use Rattle.adb_tables.specs.declared.tables.Kind.TheVariants.{Obj}
+use Rattle.adb_view.specs.Walk.{shape_fault}
+use Rattle.adb_view.specs.declared.tables.Which.{Which}
+use Rattle.adb_view.specs.declared.tables.Kind.TheVariants.{Obj}
 use Rattle.adb_dump.specs.Dump.{dump_text}
 use Rattle.make_info.specs.Reads.{Reads}
 use Rattle.pkg_core.specs.Whole.{root_of_schema}

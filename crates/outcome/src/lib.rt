@@ -38,7 +38,7 @@ ghost use Rattle.words_core.specs.Grammar.{command_of};
 
 use adb_schema::sound_containers_hold_sound_values;
 use base_core::{files_have_one_list_of_names, the_files_of_a_whole_state_are_named_files};
-use change_laws::{
+use change_outcome::{
     a_change_has_a_first_clash_or_none, a_change_keeps_room,
     a_change_that_is_made_passes_each_test, a_change_that_writes_nothing_leaves_the_files,
     what_is_read_of_a_root_stands_there,

@@ -8,3 +8,11 @@ pub mod NameChanges
 pub mod PlanParts
 pub mod Refusals
 pub mod WholePlan
+pub mod Endings
+pub mod Kept
+pub mod Listings
+pub mod ChangeClaims
+pub mod TreeLoops
+pub mod FoundFiles
+pub mod OneFile
+pub mod MarkedClaims

@@ -5,7 +5,7 @@ use Rattle.std.specs.Cmp.Lexicographic.{bytes_decides}
 use Rattle.std.specs.List.{filter, find, list_any}
 use Rattle.base_core.specs.Files.{Files}
 use Rattle.base_core.proofs.Rising as Names
-use Rattle.list_order.specs.Sorted.{sorted_by}
+use Rattle.base_core.specs.Sorted.{sorted_by}
 use Rattle.db_core.specs.Members.{Listing, claims_of, is_coming, member_listings, staying_members}
 use Rattle.path_claims.specs.Claims.{PathClaim, claim_cmp, is_of_path}
 use Rattle.path_claims.specs.Contest.{beats_each, winner}
@@ -20,10 +20,10 @@ use Rattle.change_files.specs.FilesAfter.{if_aside, if_in, is_changed, is_kept, 
 use Rattle.std.specs.Option.{option_or}
 use Rattle.change_files.specs.NamesAfter.{coming_paths}
 use Rattle.change_files.specs.PlanLists.{aside_of, kept_of, old_paths, removals_of}
-use Rattle.file_fates.specs.ClaimEntries.{claim_entry, is_of_coming_owner}
-use Rattle.file_fates.specs.Fates.{claim_fate, is_fate, is_flag}
-use Rattle.file_fates.specs.Going.{does_stay, is_beside, is_left}
-use Rattle.file_fates.proofs.Listings.{GoTogether, IsClaimFor, coming_is, coming_placed, entry_of, old_entry_is, same_found}
+use Rattle.own_core.specs.ClaimEntries.{claim_entry, is_of_coming_owner}
+use Rattle.own_core.specs.Fates.{claim_fate, is_fate, is_flag}
+use Rattle.own_core.specs.Going.{does_stay, is_beside, is_left}
+use Rattle.own_core.proofs.Listings.{GoTogether, IsClaimFor, coming_is, coming_placed, entry_of, old_entry_is, same_found}
 use Rattle.own_core.proofs.NamesOnce.{found_kept, keep_if, kept_rises, same_names}
 
 -- ---- what a path of the program's claims is

@@ -8,9 +8,9 @@ use Rattle.std.specs.declared.cmp.Ordering.{Ordering}
 use Rattle.base_core.specs.Files.{Files}
 use Rattle.base_core.specs.Tree.{TreeState}
 use Rattle.adb_view.specs.Plain.{Plain}
-use Rattle.list_order.specs.ByteOrder.{bytes_cmp}
-use Rattle.list_order.specs.Sorted.{sorted_by, with_element}
-use Rattle.list_order.proofs.Sorting.{Each}
+use Rattle.base_core.specs.ByteOrder.{bytes_cmp}
+use Rattle.base_core.specs.Sorted.{sorted_by, with_element}
+use Rattle.base_core.proofs.Sorting.{Each}
 use Rattle.db_core.specs.Members.{Listing, Member, is_coming, member_listings, staying_members}
 use Rattle.db_core.specs.Seen.{members_of}
 use Rattle.path_claims.specs.Claims.{PathClaim, claim_cmp, is_of_path}
@@ -20,17 +20,17 @@ use Rattle.change_files.specs.Fate.{aside_name}
 use Rattle.change_files.specs.FileChange.{old_entry, was_listed}
 use Rattle.change_files.specs.FilesAfter.{database_name, is_kept, is_left_over, laid_beside, may_stay, path_beside, world_name}
 use Rattle.change_files.specs.NamesAfter.{coming_paths, is_let_go, counts_as_written, name_change}
-use Rattle.file_fates.specs.ClaimEntries.{claim_entry, comes_at, comes_if_any, is_of_coming_owner}
-use Rattle.file_fates.specs.Fates.{claim_fate}
-use Rattle.file_fates.specs.Found.{said_of}
-use Rattle.file_fates.specs.Going.{does_stay, is_beside}
-use Rattle.file_fates.specs.Parts.{AreParts, asides_of, kept_of_parts, left_claims_by}
-use Rattle.file_fates.specs.Sides.{HasClaims, claims_after, claims_before, file_change_of}
-use Rattle.file_fates.specs.declared.change.Change.{Change}
-use Rattle.file_fates.specs.declared.parts.Parts.{Parts}
-use Rattle.file_fates.proofs.ChangeClaims.{claimed_after}
-use Rattle.file_fates.proofs.Endings.{ending, found_front, front_of}
-use Rattle.file_fates.proofs.Listings.{IsPlaced, each_placed}
+use Rattle.own_core.specs.ClaimEntries.{claim_entry, comes_at, comes_if_any, is_of_coming_owner}
+use Rattle.own_core.specs.Fates.{claim_fate}
+use Rattle.own_core.specs.Found.{said_of}
+use Rattle.own_core.specs.Going.{does_stay, is_beside}
+use Rattle.own_core.specs.Parts.{AreParts, asides_of, kept_of_parts, left_claims_by}
+use Rattle.own_core.specs.Sides.{HasClaims, claims_after, claims_before, file_change_of}
+use Rattle.own_core.specs.declared.change.Change.{Change}
+use Rattle.own_core.specs.declared.parts.Parts.{Parts}
+use Rattle.own_core.proofs.ChangeClaims.{claimed_after}
+use Rattle.own_core.proofs.Endings.{ending, found_front, front_of}
+use Rattle.own_core.proofs.Listings.{IsPlaced, each_placed}
 use Rattle.own_core.proofs.Meaning.{entries_are, going_is}
 use Rattle.own_core.proofs.PartsMeaning.{before_each, before_up, beside_parts, kept_parts}
 

@@ -6,9 +6,9 @@ use Rattle.std.specs.List.{filter, find}
 use Rattle.std.specs.Ordering.{is_gt, is_lt}
 use Rattle.std.proofs.lemmas.Cmp.{nat_list_cmp_total}
 use Rattle.base_core.proofs.Rising as Names
-use Rattle.list_order.specs.ByteOrder.{bytes_cmp, precedes}
-use Rattle.list_order.specs.Sorted.{sorted_by, with_element}
-use Rattle.list_order.proofs.Sorting as Sorting
+use Rattle.base_core.specs.ByteOrder.{bytes_cmp, precedes}
+use Rattle.base_core.specs.Sorted.{sorted_by, with_element}
+use Rattle.base_core.proofs.Sorting as Sorting
 use Rattle.path_claims.specs.Claims.{PathClaim, is_of_path}
 use Rattle.claim_lists.proofs.Firsts.{paths}
 use Rattle.claim_lists.proofs.PathOrder.{behind}

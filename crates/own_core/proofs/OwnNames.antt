@@ -2,7 +2,7 @@
 use Rattle.std.proofs.Common.{◌≡◌, inl, inr, ℕ, zero, suc, ◌≤◌, Bool, true, false, List, [], ◌∷◌, length, map, All, Contains, Option, Some, None, Result, Ok, Err, refl, ap, sym, subst, arith, true≢false}
 use Rattle.std.specs.Prelude.{◌&&◌, ◌||◌, not, if◌then◌else◌, is_some, nat_le, IfOk}
 use Rattle.std.proofs.lemmas.Bool.{and_parts, leb-true}
-use Rattle.adb_rules.specs.Reserved.{is_reserved}
+use Rattle.adb_schema.specs.Reserved.{is_reserved}
 use Rattle.adb_view.specs.Plain.{Plain}
 use Rattle.base_core.specs.Files.{Files}
 use Rattle.base_core.specs.Listed.{IsRising}
@@ -22,13 +22,13 @@ use Rattle.change_files.proofs.Owned.{aside_found, coming_listed, in_old_paths, 
 use Rattle.change_files.proofs.PlanNames.{removals_hold, removals_rise, writes_are, writes_hold, writes_rise, written_or_removed}
 use Rattle.change_files.proofs.Reserved.{written_unreserved}
 use Rattle.change_files.proofs.Untouched.{removed_is}
-use Rattle.file_fates.specs.Fates.{is_free_beside}
+use Rattle.own_core.specs.Fates.{is_free_beside}
 use Rattle.own_core.specs.Planned.{ArePlanLists, HasOwnNames, HasSources, IsOfComingFile, IsOpenName, IsPlanFor, IsPlanOf}
 use Rattle.own_core.specs.WritesSeen.{writes_in}
 use Rattle.own_core.specs.declared.fault.PlanFault.{PlanFault}
 use Rattle.own_core.specs.declared.planning.FilePlan.{FilePlan}
-use Rattle.file_fates.proofs.Endings.{aside_is_name}
-use Rattle.file_fates.proofs.Listings.{coming_placed}
+use Rattle.own_core.proofs.Endings.{aside_is_name}
+use Rattle.own_core.proofs.Listings.{coming_placed}
 
 -- ---- all of a list
 

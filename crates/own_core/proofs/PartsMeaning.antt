@@ -6,8 +6,8 @@ use Rattle.std.specs.List.Sorted.{IsSorted}
 use Rattle.base_core.specs.Files.{Files}
 use Rattle.base_core.specs.Tree.{TreeState}
 use Rattle.base_core.proofs.Rising as Names
-use Rattle.list_order.specs.Sorted.{sorted_by}
-use Rattle.list_order.proofs.Sorting.{Each}
+use Rattle.base_core.specs.Sorted.{sorted_by}
+use Rattle.base_core.proofs.Sorting.{Each}
 use Rattle.db_core.specs.Seen.{members_of}
 use Rattle.db_core.specs.Members.{staying_members}
 use Rattle.path_claims.specs.Claims.{PathClaim, claim_cmp, is_of_path}
@@ -20,21 +20,21 @@ use Rattle.change_files.specs.Fate as Fates
 use Rattle.change_files.specs.Fate.{gives_way, goes_aside, goes_in}
 use Rattle.change_files.specs.FileChange.{FileChange}
 use Rattle.change_files.specs.FilesAfter.{laid_beside, path_beside}
-use Rattle.file_fates.specs.ClaimEntries.{AreClaimsOf, claim_entry, is_of_coming_owner}
-use Rattle.file_fates.specs.Fates.{claim_fate, is_fate, is_flag, is_free_beside, marked_claims}
-use Rattle.file_fates.specs.Found.{AreByFiles, said_of}
-use Rattle.file_fates.specs.Going.{does_stay, is_beside, is_left}
+use Rattle.own_core.specs.ClaimEntries.{AreClaimsOf, claim_entry, is_of_coming_owner}
+use Rattle.own_core.specs.Fates.{claim_fate, is_fate, is_flag, is_free_beside, marked_claims}
+use Rattle.own_core.specs.Found.{AreByFiles, said_of}
+use Rattle.own_core.specs.Going.{does_stay, is_beside, is_left}
 use Rattle.own_core.specs.ListsSeen.{AreListsOfParts}
-use Rattle.file_fates.specs.Parts.{AreParts, asides_of, ins_of, kept_of_parts, left_claims_by, removed_of}
+use Rattle.own_core.specs.Parts.{AreParts, asides_of, ins_of, kept_of_parts, left_claims_by, removed_of}
 use Rattle.own_core.specs.Planned.{ArePlanLists}
-use Rattle.file_fates.specs.Sides.{HasClaims, claims_after, claims_before, file_change_of}
+use Rattle.own_core.specs.Sides.{HasClaims, claims_after, claims_before, file_change_of}
 use Rattle.own_core.specs.WritesSeen.{HaveNamesBeside, aside_write, claim_write, write_cmp}
-use Rattle.file_fates.specs.declared.change.Change.{Change}
+use Rattle.own_core.specs.declared.change.Change.{Change}
 use Rattle.own_core.specs.declared.planning.FilePlan.{FilePlan}
-use Rattle.file_fates.specs.declared.parts.Parts.{Parts}
-use Rattle.file_fates.proofs.ChangeClaims.{rising_sorted}
-use Rattle.file_fates.proofs.Kept.{marked_by}
-use Rattle.file_fates.proofs.MarkedClaims.{found_from, filter_from, marked_from, marked_rises, filtered_rises}
+use Rattle.own_core.specs.declared.parts.Parts.{Parts}
+use Rattle.own_core.proofs.ChangeClaims.{rising_sorted}
+use Rattle.own_core.proofs.Kept.{marked_by}
+use Rattle.own_core.proofs.MarkedClaims.{found_from, filter_from, marked_from, marked_rises, filtered_rises}
 use Rattle.own_core.proofs.OwnNames.{aside_free, is_short}
 use Rattle.own_core.proofs.Meaning.{aside_are, beside_is, going, kept_are, removals_are, with_fate}
 use Rattle.own_core.proofs.WritesMeaning.{each_finds_itself, writes_are}

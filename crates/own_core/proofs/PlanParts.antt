@@ -10,9 +10,9 @@ use Rattle.base_core.specs.Tree.{TreeState, files_of}
 use Rattle.base_core.specs.declared.tree.TreeFault.{TreeFault}
 use Rattle.base_core.proofs.Rising as Names
 use Rattle.root_names.proofs.RootNamesAreNames.{database_named, world_named}
-use Rattle.list_order.specs.ByteOrder.{bytes_cmp}
-use Rattle.list_order.specs.Sorted.{sorted_by, with_element}
-use Rattle.list_order.proofs.Sorting.{Each, sorted_up}
+use Rattle.base_core.specs.ByteOrder.{bytes_cmp}
+use Rattle.base_core.specs.Sorted.{sorted_by, with_element}
+use Rattle.base_core.proofs.Sorting.{Each, sorted_up}
 use Rattle.db_core.specs.Members.{Member, member_listings, staying_members}
 use Rattle.db_core.specs.Seen.{members_of, packages_of}
 use Rattle.path_claims.specs.Claims.{PathClaim, claim_cmp, is_of_path}
@@ -27,20 +27,20 @@ use Rattle.file_owners.specs.Owners.{claims_in}
 use Rattle.change_files.specs.Fate.{aside_name}
 use Rattle.change_files.specs.FilesAfter.{database_name, world_name}
 use Rattle.change_files.specs.NamesAfter.{name_change}
-use Rattle.file_fates.specs.ClaimEntries.{AreClaimsOf, comes_at, is_of_coming_owner}
-use Rattle.file_fates.specs.Fates.{claim_fate}
-use Rattle.file_fates.specs.Going.{does_stay}
-use Rattle.file_fates.specs.Parts.{AreParts, asides_of, kept_of_parts, left_claims_by}
+use Rattle.own_core.specs.ClaimEntries.{AreClaimsOf, comes_at, is_of_coming_owner}
+use Rattle.own_core.specs.Fates.{claim_fate}
+use Rattle.own_core.specs.Going.{does_stay}
+use Rattle.own_core.specs.Parts.{AreParts, asides_of, kept_of_parts, left_claims_by}
 use Rattle.own_core.specs.NamesChanged.{is_let_go_by, names_changed_by, names_written_by}
-use Rattle.file_fates.specs.Sides.{HasClaims, claims_after, claims_before, file_change_of}
+use Rattle.own_core.specs.Sides.{HasClaims, claims_after, claims_before, file_change_of}
 use Rattle.own_core.specs.WritesSeen.{HaveNamesBeside}
-use Rattle.file_fates.specs.declared.change.Change.{Change}
-use Rattle.file_fates.specs.declared.parts.Parts.{Parts}
-use Rattle.file_fates.proofs.Endings.{aside_is_name}
-use Rattle.file_fates.proofs.FoundFiles.{by_tree}
-use Rattle.file_fates.proofs.Listings.{are_claims, each_both}
+use Rattle.own_core.specs.declared.change.Change.{Change}
+use Rattle.own_core.specs.declared.parts.Parts.{Parts}
+use Rattle.own_core.proofs.Endings.{aside_is_name}
+use Rattle.own_core.proofs.FoundFiles.{by_tree}
+use Rattle.own_core.proofs.Listings.{are_claims, each_both}
 use Rattle.own_core.proofs.NameChanges.{all_written, same_names}
-use Rattle.file_fates.proofs.MarkedClaims.{files_kept, found_from}
+use Rattle.own_core.proofs.MarkedClaims.{files_kept, found_from}
 use Rattle.own_core.proofs.PartsMeaning.{each_at}
 use Rattle.own_core.proofs.WritesMeaning.{each_finds_itself}
 

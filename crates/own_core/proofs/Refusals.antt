@@ -8,11 +8,11 @@ use Rattle.std.specs.Ordering.{is_lt}
 use Rattle.std.specs.declared.cmp.Ordering.{Ordering}
 use Rattle.base_core.specs.Name.{IsName}
 use Rattle.base_core.proofs.Rising as Names
-use Rattle.list_order.specs.ByteOrder.{bytes_cmp, smallest_text}
-use Rattle.list_order.specs.Sorted.{sorted_by}
-use Rattle.list_order.proofs.Smallest.{smallest_first}
-use Rattle.list_order.proofs.Sorting.{Each, Rises, one_order, ranks, rises_in_order, sort_seen, sorted_up, stable, stable_in_order}
-use Rattle.adb_rules.specs.Reserved.{is_reserved}
+use Rattle.base_core.specs.ByteOrder.{bytes_cmp, smallest_text}
+use Rattle.base_core.specs.Sorted.{sorted_by}
+use Rattle.base_core.proofs.Smallest.{smallest_first}
+use Rattle.base_core.proofs.Sorting.{Each, Rises, one_order, ranks, rises_in_order, sort_seen, sorted_up, stable, stable_in_order}
+use Rattle.adb_schema.specs.Reserved.{is_reserved}
 use Rattle.db_core.specs.Members.{Listing, Member, is_coming, member_listings}
 use Rattle.path_claims.specs.Claims.{ContestedPath, PathClaim, claim_cmp, claimants, contested_at, contested_by, contested_path, is_of_path, owner_by}
 use Rattle.path_claims.specs.Contest.{first_rivals, rivals_of}
@@ -24,10 +24,10 @@ use Rattle.path_claims.proofs.Places.{map_len, no_some, seen_at, value_or}
 use Rattle.claim_lists.proofs.Lists.{filter_swap, first_of, found_both, found_first, found_is, or_found, take_at, take_whole}
 use Rattle.file_owners.specs.Owners.{claim_by, claims_from, claims_in, contested_of, member_beats}
 use Rattle.change_files.specs.PlanLists.{first_reserved}
-use Rattle.file_fates.specs.ClaimEntries.{comes_at, comes_if_any, is_reserved_coming}
-use Rattle.file_fates.proofs.Listings.{IsPlaced, each_all, each_placed}
+use Rattle.own_core.specs.ClaimEntries.{comes_at, comes_if_any, is_reserved_coming}
+use Rattle.own_core.proofs.Listings.{IsPlaced, each_all, each_placed}
 use Rattle.own_core.proofs.NamesOnce.{in_sorted_names}
-use Rattle.file_fates.proofs.MarkedClaims.{found_from}
+use Rattle.own_core.proofs.MarkedClaims.{found_from}
 
 -- ---- what is kept of a sorted list is sorted
 

@@ -24,25 +24,25 @@ use Rattle.claim_lists.proofs.Firsts.{found_in, paths}
 use Rattle.claim_lists.proofs.Lists.{found_passes, found_some}
 use Rattle.change_files.specs.FileChange.{is_claimed}
 use Rattle.change_files.specs.NamesAfter.{name_change}
-use Rattle.file_fates.specs.ClaimEntries.{AreClaimsOf, is_of_coming_owner}
-use Rattle.file_fates.specs.Fates.{claim_fate}
-use Rattle.file_fates.specs.Going.{does_stay, is_beside, is_left}
+use Rattle.own_core.specs.ClaimEntries.{AreClaimsOf, is_of_coming_owner}
+use Rattle.own_core.specs.Fates.{claim_fate}
+use Rattle.own_core.specs.Going.{does_stay, is_beside, is_left}
 use Rattle.own_core.specs.ListsSeen.{AreListsOfParts}
-use Rattle.file_fates.specs.Parts.{AreParts, asides_of, left_claims_by}
+use Rattle.own_core.specs.Parts.{AreParts, asides_of, left_claims_by}
 use Rattle.own_core.specs.NamesChanged.{names_changed_by}
 use Rattle.own_core.specs.Planned.{IsClashBySome, IsOwnedBy, IsPlanOf, MayBeRefusalOf}
-use Rattle.file_fates.specs.Sides.{HasClaims, claims_after, claims_before, file_change_of}
-use Rattle.file_fates.specs.declared.change.Change.{Change}
+use Rattle.own_core.specs.Sides.{HasClaims, claims_after, claims_before, file_change_of}
+use Rattle.own_core.specs.declared.change.Change.{Change}
 use Rattle.own_core.specs.declared.fault.PlanFault.{PlanFault}
 use Rattle.own_core.specs.declared.fault.PlanFault.TheVariants.{Disk, Memory, Owned, PathClash, Reserved}
 use Rattle.own_core.specs.declared.planning.FilePlan.{FilePlan}
-use Rattle.file_fates.specs.declared.parts.Parts.{Parts}
-use Rattle.file_fates.proofs.ChangeClaims.{claimed_after}
+use Rattle.own_core.specs.declared.parts.Parts.{Parts}
+use Rattle.own_core.proofs.ChangeClaims.{claimed_after}
 use Rattle.own_core.proofs.NameChanges.{same_names}
-use Rattle.file_fates.proofs.FoundFiles.{AreFilesFound, files_found}
-use Rattle.file_fates.proofs.MarkedClaims.{filter_from, filtered_rises, found_from}
+use Rattle.own_core.proofs.FoundFiles.{AreFilesFound, files_found}
+use Rattle.own_core.proofs.MarkedClaims.{filter_from, filtered_rises, found_from}
 use Rattle.own_core.proofs.PartsMeaning.{planned}
-use Rattle.file_fates.proofs.MarkedClaims.{files_kept}
+use Rattle.own_core.proofs.MarkedClaims.{files_kept}
 use Rattle.own_core.proofs.PlanParts.{files_first}
 
 -- the claims of owners that come, over other copies of the lists

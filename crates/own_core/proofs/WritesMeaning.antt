@@ -8,10 +8,10 @@ use Rattle.std.specs.Ordering.{is_gt, is_lt}
 use Rattle.std.proofs.lemmas.Cmp.{nat_list_cmp_total, on_total}
 use Rattle.base_core.specs.Files.{Files}
 use Rattle.base_core.proofs.Rising as Names
-use Rattle.list_order.specs.ByteOrder.{bytes_cmp}
-use Rattle.list_order.specs.Sorted.{sorted_by, with_element}
-use Rattle.list_order.proofs.Sorting as Sorting
-use Rattle.list_order.proofs.Sorting.{Each, sort_seen, sorted_up, stable}
+use Rattle.base_core.specs.ByteOrder.{bytes_cmp}
+use Rattle.base_core.specs.Sorted.{sorted_by, with_element}
+use Rattle.base_core.proofs.Sorting as Sorting
+use Rattle.base_core.proofs.Sorting.{Each, sort_seen, sorted_up, stable}
 use Rattle.db_core.specs.Members.{Listing}
 use Rattle.path_claims.specs.Claims.{PathClaim, claim_cmp, is_of_path}
 use Rattle.claim_lists.proofs.Firsts.{found_in, paths}
@@ -26,11 +26,11 @@ use Rattle.change_files.specs.FilesAfter.{if_aside, if_in, laid_beside, path_bes
 use Rattle.std.specs.Option.{option_or}
 use Rattle.change_files.specs.NamesAfter.{coming_paths}
 use Rattle.change_files.specs.PlanLists.{FileWrite, file_writes_of, names_in_order, write_to}
-use Rattle.file_fates.specs.ClaimEntries.{claim_entry, is_of_coming_owner}
-use Rattle.file_fates.specs.Fates.{claim_fate, is_fate}
+use Rattle.own_core.specs.ClaimEntries.{claim_entry, is_of_coming_owner}
+use Rattle.own_core.specs.Fates.{claim_fate, is_fate}
 use Rattle.own_core.specs.WritesSeen.{aside_write, claim_write, write_by, write_cmp}
-use Rattle.file_fates.proofs.Endings.{found_front, front_of}
-use Rattle.file_fates.proofs.Listings.{GoTogether, IsClaimFor}
+use Rattle.own_core.proofs.Endings.{found_front, front_of}
+use Rattle.own_core.proofs.Listings.{GoTogether, IsClaimFor}
 use Rattle.own_core.proofs.Meaning.{in_coming_paths, in_is, is_there, laid_is, no_owner, same_fate, there_is, together, with_fate}
 use Rattle.own_core.proofs.NamesOnce.{in_sorted_names, kept_rises, not_below, same_names, sorted_names_in, is_less}
 

@@ -11,7 +11,7 @@ use Rattle.path_claims.specs.declared.claim.Claim.{Claim}
 use Rattle.claim_lists.proofs.Lists.{take_at, take_whole}
 use Rattle.change_files.specs.PlanLists.{FileWrite}
 use Rattle.own_core.specs.WritesSeen.{write_by}
-use Rattle.file_fates.proofs.Kept.{filter_step, map_more, none_more}
+use Rattle.own_core.proofs.Kept.{filter_step, map_more, none_more}
 
 there : (xs : List Claim) (i : ℕ) (d : Claim) → i < length xs → slice_get xs i ≡ Some (slice_index_or xs i d)
 there [] i d l = absurd (omega arith)

@@ -1,12 +1,12 @@
 -- The lists of a plan, by the parts of a change.
 -- No rule of a document: serves the contract of `lists_of` in `src/planning.rt`; the parts are
--- those of `file_fates`, and *ArePlanLists* of `Planned` says the lists by the rule.
+-- those of `Parts`, and *ArePlanLists* of `Planned` says the lists by the rule.
 use Rattle.std.specs.Prelude.{◌≡◌, Bool, List, ◌++◌, map}
-use Rattle.list_order.specs.Sorted.{sorted_by}
-use Rattle.file_fates.specs.Parts.{asides_of, ins_of, kept_of_parts, removed_of}
+use Rattle.base_core.specs.Sorted.{sorted_by}
+use Rattle.own_core.specs.Parts.{asides_of, ins_of, kept_of_parts, removed_of}
 use Rattle.own_core.specs.WritesSeen.{aside_write, claim_write, write_cmp, writes_in}
 use Rattle.own_core.specs.declared.planning.FilePlan.{FilePlan}
-use Rattle.file_fates.specs.declared.parts.Parts.{Parts}
+use Rattle.own_core.specs.declared.parts.Parts.{Parts}
 
 -- the plan has what goes in, is laid beside, is removed and is kept by these parts, and these
 -- flags; only the writes have to be put in order, since they join two of the parts

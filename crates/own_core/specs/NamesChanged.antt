@@ -4,17 +4,17 @@
 use Rattle.std.specs.Prelude.{◌&&◌, ◌||◌, ◌++◌, ◌∷◌, [], ℕ, Bool, not, List, map, bytes_eq, is_some}
 use Rattle.std.specs.List.{filter, find, list_any}
 use Rattle.db_core.specs.Seen.{members_of}
-use Rattle.list_order.specs.ByteOrder.{bytes_cmp}
-use Rattle.list_order.specs.Sorted.{sorted_by}
+use Rattle.base_core.specs.ByteOrder.{bytes_cmp}
+use Rattle.base_core.specs.Sorted.{sorted_by}
 use Rattle.path_claims.specs.Claims.{is_of_path}
 use Rattle.change_files.specs.Fate.{aside_name}
 use Rattle.change_files.specs.FilesAfter.{database_name, world_name}
 use Rattle.path_clashes.specs.Clash.{NameChange}
-use Rattle.file_fates.specs.ClaimEntries.{comes_at}
-use Rattle.file_fates.specs.Parts.{asides_of, kept_of_parts}
-use Rattle.file_fates.specs.Sides.{claims_after, claims_before}
-use Rattle.file_fates.specs.declared.change.Change.{Change}
-use Rattle.file_fates.specs.declared.parts.Parts.{Parts}
+use Rattle.own_core.specs.ClaimEntries.{comes_at}
+use Rattle.own_core.specs.Parts.{asides_of, kept_of_parts}
+use Rattle.own_core.specs.Sides.{claims_after, claims_before}
+use Rattle.own_core.specs.declared.change.Change.{Change}
+use Rattle.own_core.specs.declared.parts.Parts.{Parts}
 
 -- the names that count as written: the database, the world, the paths that members which come list,
 -- and the names beside others

@@ -3,9 +3,9 @@
 -- `change_files`, `path_clashes` and `file_owners`; this file says which of them a plan or a
 -- refusal promises, and over which files.
 use Rattle.std.specs.Prelude.{◌≡◌, ℕ, Bool, true, false, List, map, Option, Some, None, All, Contains, option_map, slice_get}
-use Rattle.adb_rules.specs.Reserved.{is_reserved}
-use Rattle.adb_tables.specs.FieldIndexes.{PACKAGE_PATHS}
-use Rattle.adb_tables.specs.Values.{entry_in}
+use Rattle.adb_schema.specs.Reserved.{is_reserved}
+use Rattle.adb_view.specs.FieldIndexes.{PACKAGE_PATHS}
+use Rattle.adb_view.specs.Values.{entry_in}
 use Rattle.base_core.specs.Calls.{IfObservable}
 use Rattle.base_core.specs.Files.{Files}
 use Rattle.base_core.specs.Listed.{IsRising}
@@ -22,7 +22,7 @@ use Rattle.file_owners.specs.Owners.{contested_of, owned_of}
 use Rattle.change_files.specs.FileChange.{FileChange}
 use Rattle.change_files.specs.NamesAfter.{name_change}
 use Rattle.change_files.specs.PlanLists.{FileWrite, aside_of, file_writes_of, first_reserved, kept_of, removals_of}
-use Rattle.file_fates.specs.ClaimEntries.{HasFileAt}
+use Rattle.own_core.specs.ClaimEntries.{HasFileAt}
 use Rattle.own_core.specs.WritesSeen.{writes_in}
 use Rattle.own_core.specs.declared.fault.PlanFault.{PlanFault}
 use Rattle.own_core.specs.declared.fault.PlanFault.TheVariants.{Disk, Memory, Owned, PathClash, Reserved}

@@ -5,7 +5,7 @@ use Rattle.std.specs.Prelude.{◌≡◌, ℕ, ◌≤◌, List, Some, length, map
 use Rattle.std.specs.Ordering.{on}
 use Rattle.std.specs.declared.cmp.Ordering.{Ordering}
 use Rattle.base_core.specs.Name.{IsName}
-use Rattle.list_order.specs.ByteOrder.{bytes_cmp}
+use Rattle.base_core.specs.ByteOrder.{bytes_cmp}
 use Rattle.path_claims.specs.Claims.{PathClaim}
 use Rattle.change_files.specs.Fate.{aside_name, longest_name}
 use Rattle.change_files.specs.PlanLists.{FileWrite}

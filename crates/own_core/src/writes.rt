@@ -4,14 +4,14 @@
 //! of folders and files count as in `docs/formats.md`, "The other blocks".
 
 ghost use Rattle.std.specs.Prelude.{◌≡◌, ◌<◌, ◌==◌, ◌++◌, ◌∷◌, [], IfOk, OnOk, Some, length, map, slice_get};
-ghost use Rattle.list_order.specs.Sorted.{sorted_by};
+ghost use Rattle.base_core.specs.Sorted.{sorted_by};
 ghost use Rattle.path_claims.specs.Seen.{claim_seen};
 ghost use Rattle.claim_lists.specs.Named.{HaveNames};
 ghost use Rattle.own_core.specs.WritesSeen.{HaveNamesBeside, aside_write, claim_write, write_by, write_cmp, write_seen, writes_in};
 
+use crate::guarded::name_beside;
 use base_core::Name;
 use claim_lists::name_of_path;
-use file_fates::name_beside;
 use path_claims::Claim;
 use std::alloc::{AllocError, Global};
 

@@ -4,7 +4,7 @@
 use adb_schema::FilePath;
 use db_core::{Db, MOST_MEMBERS, Members};
 use file_owners::{Contested, Owners, owners_of_files};
-use pkg_pieces::Front;
+use pkg_core::Front;
 use row_lines::{add_number, add_word};
 use row_members::{add_coming, front_of};
 use std::alloc::{AllocError, Global};

@@ -7,8 +7,8 @@ use Rattle.std.specs.List.{filter_map, find, list_any}
 use Rattle.std.specs.declared.cmp.Ordering.{Ordering}
 use Rattle.std.specs.declared.cmp.Ordering.TheVariants.{Less, Equal, Greater}
 use Rattle.adb_view.specs.Plain.{Plain}
-use Rattle.adb_tables.specs.FieldIndexes.{INFO_VERSION}
-use Rattle.adb_tables.specs.Values.{entry_in, text_in}
+use Rattle.adb_view.specs.FieldIndexes.{INFO_VERSION}
+use Rattle.adb_view.specs.Values.{entry_in, text_in}
 use Rattle.adb_fields.specs.Repeated.{package_name}
 use Rattle.db_core.specs.Packages.{installed_id, is_package_named}
 use Rattle.file_owners.specs.Replaces.{version_text}

@@ -4,6 +4,7 @@
 -- what the contract of `apk` says
 pub mod Changes
 pub mod Placed
+pub mod Report
 -- what only inner contracts and proofs use
 pub mod Seen
 pub mod SelectedNames

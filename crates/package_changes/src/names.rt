@@ -3,8 +3,8 @@
 //! packages in byte order of their names. The contract is that of `names_in_order`, over the
 //! definition of that name in `change_files`.
 ghost use Rattle.change_files.specs.PlanLists.{names_in_order, without_repeats};
-ghost use Rattle.list_order.specs.ByteOrder.{bytes_cmp};
-ghost use Rattle.list_order.specs.Sorted.{sorted_by};
+ghost use Rattle.base_core.specs.ByteOrder.{bytes_cmp};
+ghost use Rattle.base_core.specs.Sorted.{sorted_by};
 ghost use Rattle.std.specs.Prelude.{◌≡◌, map, IfOk};
 
 use base_core::Words;

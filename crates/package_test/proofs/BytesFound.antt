@@ -6,17 +6,17 @@ use Rattle.adb_block.specs.Header.{header_of}
 use Rattle.adb_block.specs.Reading.{Reading, done, fault, more, reading_of}
 use Rattle.adb_block.specs.Standing.{start_of}
 use Rattle.adb_view.specs.Plain.{Plain, plain_of}
-use Rattle.adb_tables.specs.Schema.{shape_of}
-use Rattle.adb_tables.specs.Values.{value_at}
+use Rattle.adb_view.specs.Schema.{shape_of}
+use Rattle.adb_view.specs.Values.{value_at}
 use Rattle.std.specs.Option.{option_or}
-use Rattle.adb_tables.specs.declared.tables.Which.TheVariants.{Package}
+use Rattle.adb_view.specs.declared.tables.Which.TheVariants.{Package}
 use Rattle.adb_schema.specs.Soundness.{blocks_fault, file_fault, first_payload, payload_behind, payload_fault, payload_in, root_value, schema_fault}
 use Rattle.pkg_core.specs.Contents.{Contents, Expected, bytes_of_file, bytes_or_none, contents_in, expected_contents, hash_fault, is_of_file}
 use Rattle.pkg_core.specs.GoodContents.{AreContentsOf, IsContentsOf}
 use Rattle.pkg_core.specs.Opened.{expected_with_positions, has_positions}
 use Rattle.pkg_core.specs.Whole.{behind_fault, files_behind, files_by_header, files_in_file, package_fault, whole_fault}
 use Rattle.pkg_core.proofs.Given.{files_right}
-use Rattle.pkg_pieces.specs.Seen.{HasAt}
+use Rattle.pkg_core.specs.Seen.{HasAt}
 use Rattle.package_test.specs.Places.{AreAtPlaces, AreInFileOrder, is_place_of, offset_of_file}
 use Rattle.package_test.specs.declared.places.FilePlace.{FilePlace}
 use Rattle.package_test.proofs.FileOrder.{expected_in_order, placed_in_order}

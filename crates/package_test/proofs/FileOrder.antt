@@ -6,8 +6,8 @@ use Rattle.std.specs.List.Sorted.{IsPartitionPoint, IsPartitionedBy}
 use Rattle.std.proofs.lemmas.Bool.{and_from, cases_eq, cases_lt, eq-eqb, eqb-true, false_from_ne_true, lt-ltb, ltb-true}
 use Rattle.adb_view.specs.Plain.{Plain}
 use Rattle.adb_fields.specs.Repeated.{files_in, folders_in}
-use Rattle.adb_rules.specs.Texts.{is_with_contents}
-use Rattle.adb_tables.specs.Values.{entry_in, int_in, text_in}
+use Rattle.adb_schema.specs.Texts.{is_with_contents}
+use Rattle.adb_view.specs.Values.{entry_in, int_in, text_in}
 use Rattle.pkg_core.specs.Contents.{Contents, Expected, expected_at, expected_contents, expected_files, expected_folders}
 use Rattle.pkg_core.specs.GoodContents.{AreContentsOf, IsContentsOf}
 use Rattle.package_test.specs.Places.{AreAtPlaces, AreInFileOrder, ArePlacedBehind, IsBeforeFile, is_before_file, is_place_of, offset_of_file}

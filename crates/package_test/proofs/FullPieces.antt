@@ -7,7 +7,7 @@ use Rattle.adb_block.specs.declared.block.BlockKind.{BlockKind}
 use Rattle.adb_block.specs.declared.block.BlockKind.TheVariants as Kinds
 use Rattle.adb_schema.specs.Soundness.{file_pair}
 use Rattle.pkg_core.specs.Contents.{Expected, contents_bytes, has_positions_of, hash_fault}
-use Rattle.piece_core.specs.Pieces.{PiecesRead, no_piece, piece, pieces_at_block, pieces_by_blocks, pieces_from, refusal, unless_refusal, whole_pieces}
+use Rattle.pkg_core.specs.Pieces.{PiecesRead, no_piece, piece, pieces_at_block, pieces_by_blocks, pieces_from, refusal, unless_refusal, whole_pieces}
 
 abbrev pub AreFull : PiecesRead → Type 0
 AreFull no_piece = Unit {0}

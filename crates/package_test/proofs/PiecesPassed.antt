@@ -9,10 +9,10 @@ use Rattle.base_core.specs.Tree.{TreeState}
 use Rattle.base_core.specs.declared.tree.TreeFault.{TreeFault}
 use Rattle.base_core.specs.declared.tree.TreeFault.TheVariants.{Disk as DiskFault}
 use Rattle.pkg_core.specs.Contents.{Contents, Expected, FilesRead, contents_in, fault_in, given, no_more}
-use Rattle.pkg_pieces.specs.Seen.{HasAt, IsSeenIn, IsSoLong, ReadsFile}
-use Rattle.pkg_pieces.proofs.SeenBytes.{file_with, has_rest}
-use Rattle.piece_core.specs.Pieces.{PiecesRead, file_given, files_joined, no_piece, piece, refusal, refusal_in}
-use Rattle.piece_core.specs.declared.file.Part.{Part}
+use Rattle.pkg_core.specs.Seen.{HasAt, IsSeenIn, IsSoLong, ReadsFile}
+use Rattle.pkg_core.proofs.SeenBytes.{file_with, has_rest}
+use Rattle.pkg_core.specs.Pieces.{PiecesRead, file_given, files_joined, no_piece, piece, refusal, refusal_in}
+use Rattle.pkg_core.specs.declared.file.Part.{Part}
 use Rattle.piece_reader.specs.Readers.{AnswersNext, HasPieceAt, IsOfFirstDue, IsReading, KeepsStart, due_files, handed_out, handed_out_from, name_in_tree, offset_of, package_len, start_of_file}
 use Rattle.piece_reader.specs.declared.piece.PieceFault.{PieceFault}
 use Rattle.piece_reader.specs.declared.piece.PieceFault.TheVariants.{Bad}

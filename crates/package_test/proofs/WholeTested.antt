@@ -14,7 +14,7 @@ use Rattle.adb_block.specs.Header.{header_of}
 use Rattle.adb_block.specs.Reading.{Reading, reading_of}
 use Rattle.adb_block.specs.Standing.{start_of}
 use Rattle.adb_view.specs.Plain.{Plain}
-use Rattle.adb_tables.specs.declared.tables.Which.TheVariants.{Package}
+use Rattle.adb_view.specs.declared.tables.Which.TheVariants.{Package}
 use Rattle.adb_schema.specs.Soundness.{blocks_fault, file_fault, payload_fault, payload_in, root_value}
 use Rattle.adb_schema.specs.declared.read.TheConstants.{PACKAGE_WORD}
 use Rattle.pkg_core.specs.Contents.{FilesRead, contents_in, expected_contents, fault_in, files_by_blocks}
@@ -23,13 +23,13 @@ use Rattle.pkg_core.specs.Whole.{behind_fault, container_fault, fault_by_header,
 use Rattle.pkg_core.specs.declared.pack.PackageFault.{PackageFault}
 use Rattle.pkg_core.specs.declared.pack.PackageFault.TheVariants as PackageFaults
 use Rattle.pkg_core.proofs.Steps.{package_steps, values_first}
-use Rattle.pkg_pieces.specs.Front.{IsFrontOf, IsFrontRead, behind_front, front_end, front_fault, front_file_len, front_payload}
-use Rattle.pkg_pieces.specs.Seen.{HasAt, IsSeenIn}
-use Rattle.pkg_pieces.specs.declared.front.Front.{Front}
-use Rattle.pkg_pieces.specs.declared.front.FrontFault.{FrontFault}
-use Rattle.pkg_pieces.specs.declared.front.FrontFault.TheVariants.{Bad}
-use Rattle.pkg_pieces.proofs.SeenBytes.{file_with, has_front, has_rest, seen_then}
-use Rattle.pkg_pieces.proofs.WholeTests.{front_alike, same_payload, values_alike}
+use Rattle.pkg_core.specs.Front.{IsFrontOf, IsFrontRead, behind_front, front_end, front_fault, front_file_len, front_payload}
+use Rattle.pkg_core.specs.Seen.{HasAt, IsSeenIn}
+use Rattle.pkg_core.specs.declared.front.Front.{Front}
+use Rattle.pkg_core.specs.declared.front.FrontFault.{FrontFault}
+use Rattle.pkg_core.specs.declared.front.FrontFault.TheVariants.{Bad}
+use Rattle.pkg_core.proofs.SeenBytes.{file_with, has_front, has_rest, seen_then}
+use Rattle.pkg_core.proofs.WholeTests.{front_alike, same_payload, values_alike}
 use Rattle.piece_reader.proofs.BlockSeen.{nothing_seen}
 use Rattle.package_test.specs.Places.{AreAtPlaces, AreFilesTested, IsWholeTested}
 use Rattle.package_test.specs.Tested.{IsReadOf, IsTestedOf}

@@ -4,13 +4,13 @@
 use Rattle.std.specs.Prelude.{◌≡◌, ℕ, ◌<◌, ◌==◌, ◌&&◌, ◌||◌, ◌⊎◌, nat_lt, Bool, List, [], ◌∷◌, Option, Some, None, option_map}
 use Rattle.std.specs.List.{find}
 use Rattle.adb_schema.specs.Soundness.{payload_fault}
-use Rattle.adb_tables.specs.declared.tables.Which.TheVariants.{Package}
-use Rattle.piece_core.specs.declared.file.Part.{Part}
+use Rattle.adb_view.specs.declared.tables.Which.TheVariants.{Package}
+use Rattle.pkg_core.specs.declared.file.Part.{Part}
 use Rattle.pkg_core.specs.Contents.{Contents, FilesRead, contents_in, fault_in}
 use Rattle.pkg_core.specs.Whole.{files_in_file, package_fault}
-use Rattle.pkg_pieces.specs.Front.{front_payload}
-use Rattle.pkg_pieces.specs.Seen.{HasAt}
-use Rattle.pkg_pieces.specs.declared.front.Front.{Front}
+use Rattle.pkg_core.specs.Front.{front_payload}
+use Rattle.pkg_core.specs.Seen.{HasAt}
+use Rattle.pkg_core.specs.declared.front.Front.{Front}
 use Rattle.package_test.specs.declared.files.FilesTest.{FilesTest}
 use Rattle.package_test.specs.declared.files.FilesTest.TheVariants.{Bad, Sound}
 use Rattle.package_test.specs.declared.places.FilePlace.{FilePlace}

@@ -5,10 +5,10 @@ use Rattle.std.specs.Prelude.{◌≡◌, ℕ, List, length, Option, Some, None}
 use Rattle.sha2.specs.Sha256.{sha256}
 use Rattle.adb_view.specs.Plain.{Plain}
 use Rattle.adb_schema.specs.Soundness.{payload_in, root_value}
-use Rattle.adb_tables.specs.declared.tables.Which.TheVariants.{Package}
+use Rattle.adb_view.specs.declared.tables.Which.TheVariants.{Package}
 use Rattle.pkg_core.specs.Contents.{contents_in}
 use Rattle.pkg_core.specs.Whole.{files_in_file, package_fault, package_id}
-use Rattle.pkg_pieces.specs.Front.{front_file_len, front_payload}
+use Rattle.pkg_core.specs.Front.{front_file_len, front_payload}
 use Rattle.package_test.specs.Places.{AreAtPlaces}
 use Rattle.package_test.specs.declared.package.TestedPackage.{TestedPackage}
 use Rattle.package_test.specs.declared.read.PackageRead.{PackageRead}

@@ -6,17 +6,16 @@ ghost use Rattle.adb_block.specs.Reading.{reading_of};
 ghost use Rattle.base_core.specs.declared.tree.TreeFault.TheVariants.{Disk as DiskFault};
 ghost use Rattle.package_test.specs.Places.{AreFilesTested};
 ghost use Rattle.pkg_core.specs.Contents.{expected_contents, files_by_blocks};
-ghost use Rattle.pkg_pieces.specs.Front.{behind_front, front_end, front_file_len};
-ghost use Rattle.pkg_pieces.specs.Seen.{HasAt, IsSeenIn, ReadsFile};
-ghost use Rattle.pkg_pieces.specs.Values.{value_of_contents};
+ghost use Rattle.pkg_core.specs.Front.{behind_front, front_end, front_file_len};
+ghost use Rattle.pkg_core.specs.Seen.{HasAt, IsSeenIn, ReadsFile};
+ghost use Rattle.pkg_core.specs.Values.{value_of_contents};
 
 use crate::places::{FilePlace, keep_place};
 use base_core::{Cause, Name, Tree, TreeFault};
-use piece_core::the_pieces_of_each_file_joined_are_its_contents;
 use piece_reader::{
     Piece, PieceFault, PieceReader, the_pieces_are_refused_for_the_first_fault_of_the_blocks,
 };
-use pkg_pieces::{Contents, Front};
+use pkg_core::{Contents, Front, the_pieces_of_each_file_joined_are_its_contents};
 use std::alloc::Global;
 
 /// What the tests of a package say of its files.

@@ -5,13 +5,13 @@
 
 ghost use Rattle.std.specs.Prelude.{◌≡◌, true, is_none};
 ghost use Rattle.adb_schema.specs.Soundness.{payload_fault};
-ghost use Rattle.adb_tables.specs.declared.tables.Which.TheVariants as Tables;
-ghost use Rattle.pkg_pieces.specs.Front.{front_payload};
+ghost use Rattle.adb_view.specs.declared.tables.Which.TheVariants as Tables;
+ghost use Rattle.pkg_core.specs.Front.{front_payload};
 
 use crate::places::{FilePlace, offset_of};
 use base_core::Name;
 use piece_reader::FilePieces;
-use pkg_pieces::{Contents, Front};
+use pkg_core::{Contents, Front};
 
 /// A package in a tree that passed all tests: its name, its values, and where the contents of each
 /// file begin. Contracts see, by `Tested` of `specs/`, what it shows and of which files it is.
@@ -33,7 +33,7 @@ impl TestedPackage {
     ghost use Rattle.pkg_core.specs.Contents.{bytes_of_file, contents_in, expected_contents};
     ghost use Rattle.pkg_core.specs.Opened.{expected_with_positions};
     ghost use Rattle.pkg_core.specs.Whole.{files_in_file};
-    ghost use Rattle.pkg_pieces.specs.Values.{payload_of_contents, value_of_contents};
+    ghost use Rattle.pkg_core.specs.Values.{payload_of_contents, value_of_contents};
     ghost use Rattle.sha2.specs.Sha256.{sha256};
 
     /// The name under which the package stands in the tree.

@@ -6,7 +6,7 @@ ghost use Rattle.std.specs.List.Sorted.{IsPartitionPoint};
 ghost use Rattle.std.specs.Prelude.{◌≡◌, ◌≤◌, ◌++◌, ◌∷◌, [], true, false, if◌then◌else◌, length, OnOk};
 ghost use Rattle.package_test.specs.Places.{AreInFileOrder, is_before_file, offset_of_file, place_of_part};
 
-use piece_core::Part;
+use pkg_core::Part;
 use std::alloc::AllocError;
 
 /// Where the contents of a file begin in its package: the positions of its folder and of itself,

@@ -11,15 +11,14 @@ ghost use Rattle.base_core.specs.Tree.{files_of};
 ghost use Rattle.base_core.specs.declared.tree.TreeFault.TheVariants.{Disk as DiskFault};
 ghost use Rattle.package_test.specs.Places.{HasSoundPayload, IsWholeTested};
 ghost use Rattle.package_test.specs.Tested.{IsReadOf};
-ghost use Rattle.pkg_pieces.specs.Front.{IsFrontOf, front_end, front_file_len, front_payload};
-ghost use Rattle.pkg_pieces.specs.Seen.{HasAt, IsSeenIn, ReadsFile};
+ghost use Rattle.pkg_core.specs.Front.{IsFrontOf, front_end, front_file_len, front_payload};
+ghost use Rattle.pkg_core.specs.Seen.{HasAt, IsSeenIn, ReadsFile};
 
 use crate::files::{FilesTest, read_files};
 use crate::package::TestedPackage;
 use adb_schema::PACKAGE_WORD;
 use base_core::{Cause, Name, Tree, TreeFault};
-use pkg_core::PackageFault;
-use pkg_pieces::{Contents, Front, FrontFault, read_front};
+use pkg_core::{Contents, Front, FrontFault, PackageFault, read_front};
 use std::alloc::Global;
 
 /// What stands under a name, by the tests of a package.

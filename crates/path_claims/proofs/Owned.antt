@@ -8,8 +8,8 @@ use Rattle.std.specs.Ordering.{is_eq, is_lt, ordering_reverse}
 use Rattle.std.specs.declared.cmp.Ordering.{Ordering}
 use Rattle.std.specs.declared.cmp.Ordering.TheVariants.{Less, Equal, Greater}
 use Rattle.std.proofs.lemmas.Cmp.{nat_list_cmp_total}
-use Rattle.list_order.specs.ByteOrder.{bytes_cmp}
-use Rattle.list_order.proofs.Sorting.{ranks, rises_sorted}
+use Rattle.base_core.specs.ByteOrder.{bytes_cmp}
+use Rattle.base_core.proofs.Sorting.{ranks, rises_sorted}
 use Rattle.path_claims.specs.Claims.{PathClaim, claim_cmp, claimants, is_of_path, owner_by}
 use Rattle.path_claims.specs.Contest.{winner}
 use Rattle.path_claims.specs.Runs.{differ_in_path, is_first_of_path, passing_front}

@@ -4,7 +4,7 @@ use Rattle.std.specs.Prelude.{not, ◌&&◌, slice_get}
 use Rattle.std.specs.Cmp.{IsStrictWeakOrder}
 use Rattle.std.specs.List.{filter}
 use Rattle.std.specs.List.Sorted.{ties}
-use Rattle.list_order.proofs.Sorting.{Each, Rises}
+use Rattle.base_core.proofs.Sorting.{Each, Rises}
 use Rattle.path_claims.specs.Runs.{passing_front}
 use Rattle.path_claims.proofs.Places.{no_some, value_or}
 

@@ -5,9 +5,9 @@ use Rattle.std.specs.Ordering.{is_gt, is_lt}
 use Rattle.std.specs.declared.cmp.Ordering.{Ordering}
 use Rattle.std.specs.List.{filter, find}
 use Rattle.std.specs.List.Sorted.{IsSorted, ties}
-use Rattle.list_order.specs.ByteOrder.{bytes_cmp}
-use Rattle.list_order.specs.Sorted.{sorted_by, with_element}
-use Rattle.list_order.proofs.Sorting.{sort_seen, sorted_up, stable, stable_in_order}
+use Rattle.base_core.specs.ByteOrder.{bytes_cmp}
+use Rattle.base_core.specs.Sorted.{sorted_by, with_element}
+use Rattle.base_core.proofs.Sorting.{sort_seen, sorted_up, stable, stable_in_order}
 use Rattle.path_claims.specs.Claims.{AreNumbered, ContestedPath, PathClaim, claim_cmp, claimants, contested_at, contested_by, is_member, is_of_path, is_owner_by, owner_by}
 use Rattle.path_claims.specs.Contest.{first_rivals, winner}
 use Rattle.path_claims.proofs.ClaimOrder.{claims_total, paths_total}

@@ -5,7 +5,7 @@
 
 ghost use Rattle.std.specs.Prelude.{◌≡◌, ◌<◌, Some, IfOk, drop, length, map, slice_get};
 ghost use Rattle.adb_fields.specs.JoinedPath.{joined_path};
-ghost use Rattle.list_order.specs.Sorted.{sorted_by};
+ghost use Rattle.base_core.specs.Sorted.{sorted_by};
 ghost use Rattle.path_claims.specs.Claims.{PathClaim, claim_cmp, is_of_path};
 ghost use Rattle.path_claims.specs.Runs.{is_first_of_path, passing_front};
 ghost use Rattle.path_claims.specs.Seen.{claim_seen};

@@ -4,7 +4,7 @@
 
 ghost use Rattle.std.specs.Prelude.{◌≡◌, ◌+◌, ◌<◌, ℕ, Bool, Option, Some, true, IfOk, is_none, length, map, option_and_then, option_map, slice_get, ◌==◌, List};
 ghost use Rattle.std.specs.List.Sorted.{IsSorted};
-ghost use Rattle.list_order.specs.Sorted.{sorted_by};
+ghost use Rattle.base_core.specs.Sorted.{sorted_by};
 ghost use Rattle.path_claims.specs.Claims.{AreNumbered, PathClaim, claim_cmp, contested_at, contested_by, is_member, is_owner_by, owner_by};
 ghost use Rattle.path_claims.specs.Contest.{IsOneWay, beats_each};
 ghost use Rattle.path_claims.specs.Runs.{is_first_of_path};

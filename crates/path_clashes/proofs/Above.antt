@@ -6,7 +6,7 @@ use Rattle.std.proofs.lemmas.Bool.{cases_lt, false_from_ne_true}
 use Rattle.std.proofs.lemmas.List.{drop_more, get_or-take, length-take-le, take-take}
 use Rattle.std.specs.Cmp.Lexicographic.{bytes_decides}
 use Rattle.base_core.specs.Files.{Files, IsFolderOf}
-use Rattle.list_order.specs.ByteOrder.{precedes}
+use Rattle.base_core.specs.ByteOrder.{precedes}
 use Rattle.path_clashes.specs.Clash.{NameChange, is_name_after}
 use Rattle.path_clashes.specs.NearName.{IsFolderFound, name_if}
 use Rattle.path_clashes.proofs.PairOrder.{precedes_front}

@@ -9,7 +9,7 @@ use Rattle.std.proofs.lemmas.Option.{get_or_from_slice_get, slice_get_within}
 use Rattle.base_core.specs.Files.{IsFolderOf}
 use Rattle.base_core.specs.Listed.{IsListOf}
 use Rattle.base_core.specs.Tree.{File, TreeState, bytes_at, files_of}
-use Rattle.list_order.specs.ByteOrder.{bytes_cmp, precedes}
+use Rattle.base_core.specs.ByteOrder.{bytes_cmp, precedes}
 use Rattle.path_clashes.specs.NearName.{IsNameFound, is_standing}
 use Rattle.path_clashes.proofs.PairOrder.{precedes_itself, precedes_one_way}
 

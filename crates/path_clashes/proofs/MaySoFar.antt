@@ -9,7 +9,7 @@ use Rattle.std.proofs.lemmas.List.{get_or_default}
 use Rattle.std.proofs.lemmas.List.Sorted.{ranks_by, sorted_far}
 use Rattle.base_core.specs.Files.{IsFolderOf, no_names}
 use Rattle.base_core.specs.Name.{IsName}
-use Rattle.list_order.specs.ByteOrder.{bytes_cmp, precedes}
+use Rattle.base_core.specs.ByteOrder.{bytes_cmp, precedes}
 use Rattle.path_clashes.specs.Clash.{NameChange, NamePair, precedes_pair}
 use Rattle.path_clashes.specs.FirstClash.{MayBeClashOf}
 use Rattle.path_clashes.specs.NearName.{IsFreshClash, MayBeClashNear, earlier_pair}

@@ -9,7 +9,7 @@ use Rattle.std.proofs.lemmas.Bool.{and_cases, false_from_ne_true, or_parts}
 use Rattle.std.proofs.lemmas.Cmp.{nat_list_cmp_total}
 use Rattle.std.proofs.lemmas.Map.Lookups.{exact_bytes}
 use Rattle.base_core.specs.Files.{Files}
-use Rattle.list_order.specs.ByteOrder.{bytes_cmp, precedes}
+use Rattle.base_core.specs.ByteOrder.{bytes_cmp, precedes}
 use Rattle.path_clashes.specs.Clash.{NameChange, NamePair, precedes_pair}
 use Rattle.path_clashes.specs.FirstClash.{IsClashOf}
 

@@ -10,7 +10,7 @@ use Rattle.adb_fields.specs.declared.file_path.FilePath.{FilePath}
 use Rattle.base_core.specs.Files.{IsFolderOf}
 use Rattle.base_core.specs.Listed.{AreNamesBelow}
 use Rattle.base_core.specs.Name.{IsName, is_name}
-use Rattle.list_order.specs.ByteOrder.{precedes}
+use Rattle.base_core.specs.ByteOrder.{precedes}
 use Rattle.path_clashes.specs.Clash.{NameChange, is_name_after}
 use Rattle.path_clashes.specs.NearName.{IsFolderFound, IsNameFound, files_with, name_if}
 use Rattle.path_clashes.specs.WrittenPaths.{change_by_paths}

@@ -9,7 +9,7 @@ use Rattle.std.proofs.lemmas.Bool.{and_left, and_right, or_from}
 use Rattle.std.proofs.lemmas.Cmp.{nat_cmp_total, nat_list_cmp_total, on_total, then_total, tied_itself}
 use Rattle.std.proofs.lemmas.List.Sorted.{ranks_by}
 use Rattle.std.proofs.lemmas.Map.Text.{is_eq-slice_cmp}
-use Rattle.list_order.specs.ByteOrder.{bytes_cmp, precedes}
+use Rattle.base_core.specs.ByteOrder.{bytes_cmp, precedes}
 use Rattle.path_clashes.specs.Clash.{NamePair, precedes_pair}
 
 -- ---- names

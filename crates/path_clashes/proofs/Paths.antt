@@ -17,7 +17,7 @@ use Rattle.std.proofs.lemmas.Map.Views.{Contains-from_any}
 use Rattle.adb_fields.specs.JoinedPath.{joined_path}
 use Rattle.adb_fields.specs.declared.file_path.FilePath.{FilePath}
 use Rattle.base_core.specs.Name.{IsName, is_name}
-use Rattle.list_order.specs.ByteOrder.{bytes_cmp}
+use Rattle.base_core.specs.ByteOrder.{bytes_cmp}
 use Rattle.path_clashes.specs.WrittenPaths.{is_path_of}
 
 -- ---- a path has a place

@@ -5,7 +5,7 @@ use Rattle.std.specs.Prelude.{not, ◌&&◌, ◌||◌, bytes_eq, is_some}
 use Rattle.std.specs.Cmp.Lexicographic.{bytes_decides}
 use Rattle.std.proofs.lemmas.Bool.{and_from, and_parts, cases_Bool, cases_order, or_cases, or_left, or_right}
 use Rattle.base_core.specs.Files.{Files, IsFolderOf, no_names}
-use Rattle.list_order.specs.ByteOrder.{precedes}
+use Rattle.base_core.specs.ByteOrder.{precedes}
 use Rattle.path_clashes.specs.Clash.{IsClash, IsFirstClash, NameChange, NamePair, is_name_after, precedes_pair}
 use Rattle.path_clashes.proofs.Above.{name_behind, not_same}
 use Rattle.path_clashes.proofs.Between.{folder_first, folder_trans, same_folder, shorter_folder}

@@ -2,7 +2,7 @@
 -- The rule stands in `docs/commands.md`, "What a change does with files", test 2.
 use Rattle.std.specs.Prelude.{◌≡◌, ℕ, Bool, true, not, ◌&&◌, ◌||◌, List, bytes_eq, is_some}
 use Rattle.base_core.specs.Files.{Files, IsFolderOf}
-use Rattle.list_order.specs.ByteOrder.{precedes}
+use Rattle.base_core.specs.ByteOrder.{precedes}
 
 -- what a change does with names: which count as written, and under which a file goes
 pub record NameChange : Type 0 where

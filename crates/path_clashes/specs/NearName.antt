@@ -3,7 +3,7 @@
 -- That a clash has a written name, near which it is found, follows from *IsClash*.
 use Rattle.std.specs.Prelude.{◌≡◌, ◌⊎◌, ◌≤◌, ℕ, Bool, true, false, not, ◌&&◌, if◌then◌else◌, List, [], Option, Some, None, IfSome, bytes_eq, is_some, length}
 use Rattle.base_core.specs.Files.{Files, IsFolderOf, no_names}
-use Rattle.list_order.specs.ByteOrder.{precedes}
+use Rattle.base_core.specs.ByteOrder.{precedes}
 use Rattle.path_clashes.specs.Clash.{IsClash, NameChange, NamePair, is_name_after, precedes_pair}
 
 -- whether a file stands under the name and does not go

@@ -10,7 +10,7 @@ ghost use Rattle.base_core.specs.Files.{IsFolderOf, Files, IsFolderLike, NameMap
 ghost use Rattle.base_core.specs.Name.{IsName};
 ghost use Rattle.base_core.specs.Read.{OnlyReads};
 ghost use Rattle.base_core.specs.Tree.{files_of};
-ghost use Rattle.list_order.specs.ByteOrder.{bytes_cmp};
+ghost use Rattle.base_core.specs.ByteOrder.{bytes_cmp};
 ghost use Rattle.path_clashes.specs.Clash.{precedes_pair, HasNoClash, NameChange, NamePair, is_name_after};
 ghost use Rattle.path_clashes.specs.ClashSeen.{clash_seen};
 ghost use Rattle.path_clashes.specs.FirstClash.{IsClashOf, MayBeClashOf};

@@ -11,7 +11,7 @@ ghost use Rattle.base_core.specs.Calls.{IfObservable};
 ghost use Rattle.base_core.specs.Name.{IsName};
 ghost use Rattle.base_core.specs.Read.{OnlyReads};
 ghost use Rattle.base_core.specs.Tree.{files_of};
-ghost use Rattle.list_order.specs.ByteOrder.{bytes_cmp};
+ghost use Rattle.base_core.specs.ByteOrder.{bytes_cmp};
 ghost use Rattle.path_clashes.specs.Clash.{is_name_after};
 ghost use Rattle.path_clashes.specs.NearName.{IsFolderFound, IsNameFound, files_with, is_standing, name_if};
 ghost use Rattle.path_clashes.specs.WrittenPaths.{change_by_paths, is_path_of};

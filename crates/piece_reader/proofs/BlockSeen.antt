@@ -9,11 +9,11 @@ use Rattle.adb_block.specs.Framing.{failed}
 use Rattle.adb_block.specs.Frames.{HoldsHead, head_len, raw_size}
 use Rattle.adb_block.specs.declared.block.Frame.{Frame}
 use Rattle.pkg_core.specs.Opened.{left_in}
-use Rattle.pkg_pieces.specs.Seen.{HasAt, IsSeen, IsSeenIn}
-use Rattle.pkg_pieces.proofs.SeenBytes.{has_rest, seen_by_read, seen_then}
-use Rattle.piece_core.specs.Pieces.{pieces_by_blocks, refusal}
-use Rattle.piece_core.specs.Places.{HasPositions, pieces_at, standing_at_place, step_at}
-use Rattle.piece_core.specs.declared.place.BlockPlace.{BlockPlace}
+use Rattle.pkg_core.specs.Seen.{HasAt, IsSeen, IsSeenIn}
+use Rattle.pkg_core.proofs.SeenBytes.{has_rest, seen_by_read, seen_then}
+use Rattle.pkg_core.specs.Pieces.{pieces_by_blocks, refusal}
+use Rattle.pkg_core.specs.Places.{HasPositions, pieces_at, standing_at_place, step_at}
+use Rattle.pkg_core.specs.declared.place.BlockPlace.{BlockPlace}
 use Rattle.adb_block.proofs.Runs.{reading_failed}
 use Rattle.piece_reader.specs.Blocks.{IsBlockRead, IsInBlock, SeesPositions, head_size}
 use Rattle.piece_reader.specs.declared.block.BlockRead.{BlockRead}

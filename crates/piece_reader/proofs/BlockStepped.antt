@@ -16,12 +16,12 @@ use Rattle.pkg_core.specs.Contents.{contents_bytes}
 use Rattle.pkg_core.specs.Contents.{Expected}
 use Rattle.pkg_core.specs.Opened.{expected_of, left_in}
 use Rattle.pkg_core.specs.declared.walk.Walk.{Walk}
-use Rattle.piece_core.specs.Pieces.{no_piece, pieces_by_blocks}
-use Rattle.piece_core.specs.Places.{HasAllLeft, IsOfContents, IsStepped, WalksOn, payload_at, pieces_at, standing_at_place, step_at, whole_size}
-use Rattle.piece_core.specs.Taking.{HasTaken, file_bytes_left, pieces_in}
-use Rattle.piece_core.specs.declared.file.FileCheck.{FileCheck}
-use Rattle.piece_core.specs.declared.place.BlockPlace.{BlockPlace}
-use Rattle.piece_core.specs.declared.place.Step.TheVariants.{End as EndStep, Opened as OpenedStep, Passed as PassedStep}
+use Rattle.pkg_core.specs.Pieces.{no_piece, pieces_by_blocks}
+use Rattle.pkg_core.specs.Places.{HasAllLeft, IsOfContents, IsStepped, WalksOn, payload_at, pieces_at, standing_at_place, step_at, whole_size}
+use Rattle.pkg_core.specs.Taking.{HasTaken, file_bytes_left, pieces_in}
+use Rattle.pkg_core.specs.declared.file.FileCheck.{FileCheck}
+use Rattle.pkg_core.specs.declared.place.BlockPlace.{BlockPlace}
+use Rattle.pkg_core.specs.declared.place.Step.TheVariants.{End as EndStep, Opened as OpenedStep, Passed as PassedStep}
 use Rattle.piece_reader.specs.Blocks.{IsInBlock, head_size}
 use Rattle.piece_reader.specs.Opened.{IsOpenFile, bytes_to_come}
 use Rattle.piece_reader.specs.declared.open.OpenFile.{OpenFile}

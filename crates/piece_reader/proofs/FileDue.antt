@@ -7,14 +7,14 @@ use Rattle.std.proofs.lemmas.List.{length-append, length-replicate}
 use Rattle.base_core.specs.declared.cause.Cause.{Cause}
 use Rattle.adb_view.specs.Plain.{Plain}
 use Rattle.adb_fields.specs.Repeated.{files_in, folders_in}
-use Rattle.adb_rules.specs.Texts.{is_with_contents}
-use Rattle.adb_tables.specs.Values.{entry_in, int_in, text_in}
+use Rattle.adb_schema.specs.Texts.{is_with_contents}
+use Rattle.adb_view.specs.Values.{entry_in, int_in, text_in}
 use Rattle.pkg_core.specs.Contents.{Expected, expected_at, expected_contents, expected_files, expected_folders, hash_fault}
 use Rattle.pkg_core.specs.Opened.{expected_of, expected_with_positions, has_positions}
 use Rattle.pkg_core.specs.declared.walk.Wanted.{Wanted}
-use Rattle.piece_core.specs.Pieces.{PiecesRead, no_piece, pieces_from, refusal, whole_pieces}
-use Rattle.piece_core.specs.Taking.{HasTaken, IsTaken, file_bytes_left, next_len}
-use Rattle.piece_core.specs.declared.file.FileCheck.{FileCheck}
+use Rattle.pkg_core.specs.Pieces.{PiecesRead, no_piece, pieces_from, refusal, whole_pieces}
+use Rattle.pkg_core.specs.Taking.{HasTaken, IsTaken, file_bytes_left, next_len}
+use Rattle.pkg_core.specs.declared.file.FileCheck.{FileCheck}
 
 -- ---- a file with contents has a size above 0
 

@@ -8,10 +8,10 @@ use Rattle.base_core.specs.declared.cause.Cause.{Cause}
 use Rattle.pkg_core.specs.Contents.{Expected, hash_fault}
 use Rattle.pkg_core.specs.Opened.{expected_of}
 use Rattle.pkg_core.specs.declared.walk.Wanted.{Wanted}
-use Rattle.pkg_pieces.specs.Seen.{HasAt, IsSeen}
-use Rattle.piece_core.specs.Pieces.{PiecesRead, no_piece, pieces_from, refusal, whole_pieces}
-use Rattle.piece_core.specs.Taking.{file_bytes_left, pieces_in}
-use Rattle.piece_core.specs.declared.file.Part.{Part}
+use Rattle.pkg_core.specs.Seen.{HasAt, IsSeen}
+use Rattle.pkg_core.specs.Pieces.{PiecesRead, no_piece, pieces_from, refusal, whole_pieces}
+use Rattle.pkg_core.specs.Taking.{file_bytes_left, pieces_in}
+use Rattle.pkg_core.specs.declared.file.Part.{Part}
 use Rattle.piece_reader.specs.FileReading.{GivesBytes, IsFileReading, package_of_file}
 use Rattle.piece_reader.specs.Opened.{AreLeftOf, AreToCome, IsNextPiece, IsOpenFile, IsPieceOf, NotDisk, bytes_to_come, open_end}
 use Rattle.piece_reader.specs.declared.piece.PieceFault.{PieceFault}

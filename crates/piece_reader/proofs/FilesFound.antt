@@ -6,11 +6,11 @@ use Rattle.base_core.specs.declared.cause.Cause.{Cause}
 use Rattle.base_core.specs.Tree.{TreeState}
 use Rattle.pkg_core.specs.Opened.{left_in}
 use Rattle.pkg_core.specs.declared.walk.Walk.{Walk}
-use Rattle.pkg_pieces.specs.Seen.{HasAt, IsSeenIn}
-use Rattle.pkg_pieces.proofs.SeenBytes.{filled, has_front, has_rest, seen_then}
-use Rattle.piece_core.specs.Pieces.{PiecesRead, no_piece, refusal}
-use Rattle.piece_core.specs.Places.{pieces_at}
-use Rattle.piece_core.specs.declared.place.BlockPlace.{BlockPlace}
+use Rattle.pkg_core.specs.Seen.{HasAt, IsSeenIn}
+use Rattle.pkg_core.proofs.SeenBytes.{filled, has_front, has_rest, seen_then}
+use Rattle.pkg_core.specs.Pieces.{PiecesRead, no_piece, refusal}
+use Rattle.pkg_core.specs.Places.{pieces_at}
+use Rattle.pkg_core.specs.declared.place.BlockPlace.{BlockPlace}
 use Rattle.piece_reader.specs.Blocks.{IsNextBlock}
 use Rattle.piece_reader.specs.Opened.{IsOpenFile}
 use Rattle.piece_reader.specs.Readers.{IsFileFound}

@@ -2,12 +2,12 @@
 use Rattle.std.proofs.Common.{◌≡◌, ℕ, ◌+◌, ◌-◌, ◌≤◌, List, ◌++◌, length, take, drop, Option, Some, Result, Ok, Err, ap, sym, ◌∙◌, arith}
 use Rattle.std.specs.Prelude.{IsErrAnd}
 use Rattle.std.proofs.lemmas.List.{length-append}
-use Rattle.pkg_pieces.specs.Seen.{HasAt}
-use Rattle.pkg_pieces.proofs.SeenBytes.{drop_further, take_more}
-use Rattle.piece_core.specs.Pieces.{PiecesRead}
-use Rattle.piece_core.specs.Taking.{IsTaken, file_bytes_left, pieces_in}
-use Rattle.piece_core.specs.declared.file.FileCheck.{FileCheck}
-use Rattle.piece_core.specs.declared.file.Part.{Part}
+use Rattle.pkg_core.specs.Seen.{HasAt}
+use Rattle.pkg_core.proofs.SeenBytes.{drop_further, take_more}
+use Rattle.pkg_core.specs.Pieces.{PiecesRead}
+use Rattle.pkg_core.specs.Taking.{IsTaken, file_bytes_left, pieces_in}
+use Rattle.pkg_core.specs.declared.file.FileCheck.{FileCheck}
+use Rattle.pkg_core.specs.declared.file.Part.{Part}
 use Rattle.piece_reader.specs.Opened.{IsNextPiece, IsOpenFile, NotDisk, bytes_to_come}
 use Rattle.piece_reader.specs.declared.piece.PieceFault.{PieceFault}
 use Rattle.piece_reader.specs.declared.piece.PieceFault.TheVariants.{Bad, Disk}

@@ -5,15 +5,15 @@ use Rattle.std.proofs.lemmas.Bool.{false≢true}
 use Rattle.base_core.specs.declared.cause.Cause.{Cause}
 use Rattle.base_core.specs.Faults.{Counts}
 use Rattle.base_core.specs.Tree.{TreeState}
-use Rattle.pkg_pieces.specs.Seen.{HasAt, IsSeen, IsSeenIn, ReadsFile}
+use Rattle.pkg_core.specs.Seen.{HasAt, IsSeen, IsSeenIn, ReadsFile}
 use Rattle.adb_block.specs.Reading.{reading_of}
 use Rattle.adb_block.specs.declared.block.BlockKind.{BlockKind}
 use Rattle.pkg_core.specs.Contents.{Expected}
-use Rattle.piece_core.specs.Pieces.{PiecesRead, piece, pieces_by_blocks, refusal}
-use Rattle.piece_core.specs.Taking.{file_bytes_left, next_len}
-use Rattle.piece_core.specs.declared.file.Part.{Part}
-use Rattle.piece_core.specs.Places.{pieces_at}
-use Rattle.piece_core.specs.declared.place.BlockPlace.{BlockPlace}
+use Rattle.pkg_core.specs.Pieces.{PiecesRead, piece, pieces_by_blocks, refusal}
+use Rattle.pkg_core.specs.Taking.{file_bytes_left, next_len}
+use Rattle.pkg_core.specs.declared.file.Part.{Part}
+use Rattle.pkg_core.specs.Places.{pieces_at}
+use Rattle.pkg_core.specs.declared.place.BlockPlace.{BlockPlace}
 use Rattle.piece_reader.specs.Opened.{IsNextPiece, IsOpenFile, IsPieceOf, NotDisk}
 use Rattle.piece_reader.specs.Readers.{AreLeft, ArePiecesFrom, IsFileOpened, IsPieceRead, IsReading, offset_in}
 use Rattle.piece_reader.specs.declared.piece.PieceFault.{PieceFault}

@@ -7,10 +7,10 @@ use Rattle.adb_block.specs.declared.block.Frame.{Frame}
 use Rattle.pkg_core.specs.Contents.{POSITIONS_LEN}
 use Rattle.pkg_core.specs.Opened.{expected_of, left_in}
 use Rattle.pkg_core.specs.declared.walk.Walk.{Walk}
-use Rattle.piece_core.specs.Pieces.{no_piece, refusal}
-use Rattle.piece_core.specs.Places.{HasPositions, pieces_at, step_at}
-use Rattle.piece_core.specs.declared.place.BlockPlace.{BlockPlace}
-use Rattle.piece_core.specs.Taking.{file_bytes_left}
+use Rattle.pkg_core.specs.Pieces.{no_piece, refusal}
+use Rattle.pkg_core.specs.Places.{HasPositions, pieces_at, step_at}
+use Rattle.pkg_core.specs.declared.place.BlockPlace.{BlockPlace}
+use Rattle.pkg_core.specs.Taking.{file_bytes_left}
 use Rattle.piece_reader.specs.Opened.{IsOpenFile}
 use Rattle.piece_reader.specs.declared.block.BlockRead.{BlockRead}
 use Rattle.piece_reader.specs.declared.block.BlockStep.{BlockStep}

@@ -5,7 +5,7 @@ use Rattle.std.specs.Prelude.{◌≡◌, ◌<◌, ℕ, ◌+◌, ◌⊎◌, Bool,
 use Rattle.base_core.specs.declared.cause.Cause.{Cause}
 use Rattle.pkg_core.specs.Contents.{Expected, hash_fault}
 use Rattle.pkg_core.specs.Opened.{expected_of}
-use Rattle.piece_core.specs.Taking.{HasTaken, file_bytes_left}
+use Rattle.pkg_core.specs.Taking.{HasTaken, file_bytes_left}
 use Rattle.piece_reader.specs.Opened.{AreToCome}
 use Rattle.piece_reader.specs.declared.piece.PieceFault.{PieceFault}
 use Rattle.piece_reader.specs.declared.piece.PieceFault.TheVariants.{Bad, Disk}

@@ -6,9 +6,9 @@ use Rattle.base_core.specs.declared.cause.Cause.{Cause}
 use Rattle.base_core.specs.declared.cause.Cause.TheVariants.{DataOrder, DataSize}
 use Rattle.pkg_core.specs.Contents.{Expected, hash_fault}
 use Rattle.pkg_core.specs.Opened.{expected_of}
-use Rattle.piece_core.specs.Pieces.{PiecesRead, part_of, piece, refusal}
-use Rattle.piece_core.specs.Taking.{HasTaken, file_bytes_left, pieces_in}
-use Rattle.piece_core.specs.declared.file.Part.{Part}
+use Rattle.pkg_core.specs.Pieces.{PiecesRead, part_of, piece, refusal}
+use Rattle.pkg_core.specs.Taking.{HasTaken, file_bytes_left, pieces_in}
+use Rattle.pkg_core.specs.declared.file.Part.{Part}
 use Rattle.piece_reader.specs.declared.piece.PieceFault.{PieceFault}
 use Rattle.piece_reader.specs.declared.piece.PieceFault.TheVariants.{Bad, Disk}
 use Rattle.piece_reader.specs.declared.open.OpenFile.{OpenFile}

@@ -6,11 +6,11 @@ use Rattle.base_core.specs.declared.cause.Cause.{Cause}
 use Rattle.pkg_core.specs.Contents.{Expected}
 use Rattle.pkg_core.specs.Opened.{expected_of, left_in}
 use Rattle.pkg_core.specs.declared.walk.Walk.{Walk}
-use Rattle.piece_core.specs.Pieces.{PiecesRead, no_piece, part_of, piece, refusal}
-use Rattle.piece_core.specs.Places.{pieces_at}
-use Rattle.piece_core.specs.declared.file.Part.{Part}
-use Rattle.piece_core.specs.declared.place.BlockPlace.{BlockPlace}
-use Rattle.pkg_pieces.specs.Seen.{HasAt}
+use Rattle.pkg_core.specs.Pieces.{PiecesRead, no_piece, part_of, piece, refusal}
+use Rattle.pkg_core.specs.Places.{pieces_at}
+use Rattle.pkg_core.specs.declared.file.Part.{Part}
+use Rattle.pkg_core.specs.declared.place.BlockPlace.{BlockPlace}
+use Rattle.pkg_core.specs.Seen.{HasAt}
 use Rattle.piece_reader.specs.Opened.{IsOpenFile}
 use Rattle.piece_reader.specs.declared.piece.PieceFault.{PieceFault}
 use Rattle.piece_reader.specs.declared.piece.PieceFault.TheVariants.{Bad, Disk}

@@ -4,10 +4,10 @@
 
 ghost use Rattle.std.specs.Prelude.{◌≡◌, ◌≤◌, ◌<◌, ◌+◌, ◌-◌, ◌^◌, ℕ, List, length, IfErr, IfOk, IfSome, OnOk};
 ghost use Rattle.adb_block.specs.Frames.{raw_size};
-ghost use Rattle.pkg_pieces.specs.Seen.{HasAt, IsSeen, IsSeenIn, ReadsFile};
+ghost use Rattle.pkg_core.specs.Seen.{HasAt, IsSeen, IsSeenIn, ReadsFile};
 ghost use Rattle.piece_reader.specs.Blocks.{EndsBefore, GoesFurther, GoesOnWith, IsBlockRead, IsInBlock, IsNextBlock, SeesPositions, head_size};
 ghost use Rattle.piece_reader.specs.declared.piece.PieceFault.TheVariants.{Disk as DiskFault};
-ghost use Rattle.piece_core.specs.Taking.{file_bytes_left};
+ghost use Rattle.pkg_core.specs.Taking.{file_bytes_left};
 ghost use Rattle.pkg_core.specs.Contents.{POSITIONS_LEN};
 ghost use Rattle.piece_reader.specs.Readers.{FindsFile, IsFileFound};
 
@@ -15,9 +15,7 @@ use crate::open::OpenFile;
 use crate::piece::PieceFault;
 use adb_block::{Frame, frame_of};
 use base_core::{Name, Tree};
-use piece_core::{BlockPlace, FileCheck, Step};
-use pkg_core::POSITIONS_LEN;
-use pkg_pieces::HeadBytes;
+use pkg_core::{BlockPlace, FileCheck, HeadBytes, POSITIONS_LEN, Step};
 
 /// What was read of a block: what its header frames, and the first eight bytes of its payload,
 /// where it has as many.
@@ -47,7 +45,7 @@ pub(crate) enum BlockStep<'a> {
 /// # Errors
 ///
 /// `Bad` with the first failed test: of the block's framing, as `frame_of` of `adb_block` tells it,
-/// or of its contents' positions and size, as `BlockPlace::step` of `piece_core` does; or `Disk`
+/// or of its contents' positions and size, as `BlockPlace::step` of `pkg_core` does; or `Disk`
 /// where the tree failed.
 pub(crate) fn next_block<'a, T: Tree>(
     tree: &mut T,
@@ -127,7 +125,7 @@ pub(crate) fn read_block<T: Tree>(
 }
 
 /// Reads the first eight bytes of the payload of a block at an offset, where it has as many.
-#[tactic(auto, using(pkg_pieces::proofs::SeenBytes::seen_by_read, pkg_pieces::proofs::SeenBytes::proper_where_long))]
+#[tactic(auto, using(pkg_core::proofs::SeenBytes::seen_by_read, pkg_core::proofs::SeenBytes::proper_where_long))]
 fn read_positions<T: Tree>(
     tree: &mut T,
     name: &Name,

@@ -4,13 +4,12 @@
 ghost use Rattle.std.specs.Option.{ForSome};
 ghost use Rattle.std.specs.Prelude.{◌≡◌, ◌<◌, ◌≤◌, Some};
 ghost use Rattle.piece_reader.specs.Opened.{open_end};
-ghost use Rattle.piece_core.specs.Taking.{file_bytes_left};
+ghost use Rattle.pkg_core.specs.Taking.{file_bytes_left};
 
 use crate::open::{OpenFile, open_at};
 use crate::piece::{Piece, PieceFault};
 use base_core::{Cause, Name, Tree};
-use pkg_core::{Wanted, wanted_file};
-use pkg_pieces::Contents;
+use pkg_core::{Contents, Wanted, wanted_file};
 
 /// The bytes of a single file of a package in pieces, read from the package at the offset at which
 /// the file begins. All is tested anew. It takes no memory. Contracts see, by `FileReading` of
@@ -40,8 +39,8 @@ impl<'a> FilePieces<'a> {
     ghost use Rattle.base_core.specs.Tree.{files_of};
     ghost use Rattle.pkg_core.specs.Contents.{Expected, expected_contents, hash_fault};
     ghost use Rattle.pkg_core.specs.Opened.{expected_of, expected_with_positions};
-    ghost use Rattle.pkg_pieces.specs.Seen.{HasAt, ReadsFile};
-    ghost use Rattle.pkg_pieces.specs.Values.{value_of_contents};
+    ghost use Rattle.pkg_core.specs.Seen.{HasAt, ReadsFile};
+    ghost use Rattle.pkg_core.specs.Values.{value_of_contents};
     ghost use Rattle.piece_reader.specs.FileReading.{ComesBehind, GivesBytes, HasFewerLeft, HasRefusedFile, HaveCome, IsFileReading, bytes_left_of, file_due, kept_fault, len_around_file, package_of_file};
     ghost use Rattle.piece_reader.specs.Opened.{place_fault};
     ghost use Rattle.piece_reader.specs.declared.piece.PieceFault.TheVariants.{Bad, Disk as DiskFault};

@@ -3,18 +3,17 @@
 
 ghost use Rattle.std.specs.Prelude.{◌≡◌, ◌≤◌, ◌<◌, ◌+◌, ◌++◌, ◌^◌, [], ℕ, List, None, Some, length, IfNone, IfOk, IfSome, IsOkAnd};
 ghost use Rattle.std.specs.Result.{result_err};
-ghost use Rattle.piece_core.specs.Pieces.{PiecesRead};
-ghost use Rattle.piece_core.specs.Taking.{HasTaken, file_bytes_left, next_len};
+ghost use Rattle.pkg_core.specs.Pieces.{PiecesRead};
+ghost use Rattle.pkg_core.specs.Taking.{HasTaken, file_bytes_left, next_len};
 ghost use Rattle.pkg_core.specs.Contents.{hash_fault};
 ghost use Rattle.pkg_core.specs.Opened.{expected_of};
-ghost use Rattle.pkg_pieces.specs.Seen.{HasAt, IsSeen, ReadsFile};
+ghost use Rattle.pkg_core.specs.Seen.{HasAt, IsSeen, ReadsFile};
 ghost use Rattle.piece_reader.specs.Opened.{AreLeftOf, AreTestedSoFar, IsNextPiece, IsOpenFile, IsPieceOf, NotDisk, place_fault};
 ghost use Rattle.piece_reader.specs.declared.piece.PieceFault.TheVariants.{Disk as DiskFault};
 
 use crate::piece::{Piece, PieceFault};
 use base_core::{Cause, Name, Tree};
-use piece_core::{FileCheck, Part};
-use pkg_core::Wanted;
+use pkg_core::{FileCheck, Part, Wanted};
 
 /// A file of a package whose pieces are being read, and the offset of its next byte in the package.
 /// Contracts see, by `Opened` of `specs/`, which bytes of the package are still to come.

@@ -2,12 +2,12 @@
 //! The rules stand in `docs/formats.md`, "The other blocks", the paragraph of pieces.
 
 ghost use Rattle.std.specs.Prelude.{◌≡◌, ◌≤◌, ◌+◌, ℕ, [], length, IfErr, OnOk};
-ghost use Rattle.pkg_pieces.specs.Seen.{IsSeen, ReadsFile};
-ghost use Rattle.piece_core.specs.declared.file.TheConstants.{PIECE_LEN};
+ghost use Rattle.pkg_core.specs.Seen.{IsSeen, ReadsFile};
+ghost use Rattle.pkg_core.specs.declared.file.TheConstants.{PIECE_LEN};
 ghost use Rattle.piece_reader.specs.declared.piece.PieceFault.TheVariants.{Disk as DiskFault};
 
 use base_core::{Cause, Disk, Name, Tree};
-use piece_core::PIECE_LEN;
+use pkg_core::PIECE_LEN;
 use std::marker::Model;
 use thiserror::Error;
 
@@ -22,7 +22,7 @@ pub struct Piece {
 
 impl Model for Piece {
     ghost use Rattle.std.specs.Prelude.{ℕ, ◌≤◌, List, take};
-    ghost use Rattle.piece_core.specs.declared.file.TheConstants.{PIECE_LEN};
+    ghost use Rattle.pkg_core.specs.declared.file.TheConstants.{PIECE_LEN};
 
     ghost Value = { List ℕ };
 
@@ -42,7 +42,7 @@ impl Piece {
         }
     }
 
-    /// The bytes that the piece holds, at most 65,536 (`PIECE_LEN` of `piece_core`).
+    /// The bytes that the piece holds, at most 65,536 (`PIECE_LEN` of `pkg_core`).
     pub fn bytes(&self) -> &[u8]
         ensures bytes { result.now ≡ self.now }
         ensures few { length result.now ≤ PIECE_LEN }
@@ -52,7 +52,7 @@ impl Piece {
 
     /// Reads so many bytes of a file, from an offset on, into the piece. After an error the piece
     /// holds some bytes.
-    #[tactic(auto, using(pkg_pieces::proofs::SeenBytes::seen_by_read, pkg_pieces::proofs::SeenBytes::proper_where_long))]
+    #[tactic(auto, using(pkg_core::proofs::SeenBytes::seen_by_read, pkg_core::proofs::SeenBytes::proper_where_long))]
     pub(crate) fn read<T: Tree>(
         &mut self,
         tree: &mut T,

@@ -7,16 +7,14 @@ ghost use Rattle.std.specs.Prelude.{◌≤◌, ◌≡◌, List};
 ghost use Rattle.piece_reader.specs.Opened.{open_end};
 ghost use Rattle.adb_block.specs.Reading.{Reading};
 ghost use Rattle.pkg_core.specs.Contents.{Expected, contents_fault};
-ghost use Rattle.piece_core.specs.Pieces.{pieces_by_blocks, refusal_in};
+ghost use Rattle.pkg_core.specs.Pieces.{pieces_by_blocks, refusal_in};
 
 use crate::block::next_file;
 use crate::open::OpenFile;
 use crate::piece::{Piece, PieceFault};
 use adb_block::BlockKind;
 use base_core::{Cause, Name, Tree};
-use piece_core::{BlockPlace, Part};
-use pkg_core::Walk;
-use pkg_pieces::{Contents, Front};
+use pkg_core::{BlockPlace, Contents, Front, Part, Walk};
 
 /// What is still to come of a reader.
 #[derive(Clone, Copy)]
@@ -55,11 +53,11 @@ impl<'a> PieceReader<'a> {
     ghost use Rattle.adb_block.specs.Reading.{reading_of};
     ghost use Rattle.pkg_core.specs.Contents.{expected_contents};
     ghost use Rattle.pkg_core.specs.Opened.{left_in};
-    ghost use Rattle.piece_core.specs.Pieces.{PiecesRead, pieces_by_blocks};
-    ghost use Rattle.piece_core.specs.Taking.{file_bytes_left};
-    ghost use Rattle.pkg_pieces.specs.Front.{behind_front, front_end, front_file_len};
-    ghost use Rattle.pkg_pieces.specs.Seen.{HasAt, IsSeenIn, ReadsFile};
-    ghost use Rattle.pkg_pieces.specs.Values.{value_of_contents};
+    ghost use Rattle.pkg_core.specs.Pieces.{PiecesRead, pieces_by_blocks};
+    ghost use Rattle.pkg_core.specs.Taking.{file_bytes_left};
+    ghost use Rattle.pkg_core.specs.Front.{behind_front, front_end, front_file_len};
+    ghost use Rattle.pkg_core.specs.Seen.{HasAt, IsSeenIn, ReadsFile};
+    ghost use Rattle.pkg_core.specs.Values.{value_of_contents};
     ghost use Rattle.piece_reader.specs.Readers.{AnswersNext, ArePiecesFrom, ComesInOrder, GoesOnBehind, HasRefused, IsFileOpened, IsGoingOn, IsPieceRead, IsReading, IsStartOf, KeepsStart, OpensDue, HasPieceAt, StandsBetween, due_files, due_in, name_in_tree, offset_of, package_len, start_of_file};
     ghost use Rattle.piece_reader.specs.declared.reader.Due.TheVariants.{Files};
     ghost use Rattle.piece_reader.specs.declared.piece.PieceFault.TheVariants.{Disk as DiskFault};

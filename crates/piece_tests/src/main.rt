@@ -1,4 +1,4 @@
-//! Answers questions to `piece_core`, `pkg_pieces`, `piece_reader` and `package_test`: a file's
+//! Answers questions to `pkg_core`, `piece_reader` and `package_test`: a file's
 //! contents piece by piece, the front of a block against the next file, the front of a package, and
 //! the pieces of a package's files in a tree. Its stored run has all rows; `tests/lines.md`
 //! describes their form. The README of this crate has a row for each question.
@@ -6,7 +6,7 @@
 
 ghost use Rattle.std.specs.Prelude.{◌≡◌, IfSome};
 ghost use Rattle.adb_schema.specs.Checked.{which_of};
-ghost use Rattle.adb_tables.specs.declared.tables.Which.TheVariants as Tables;
+ghost use Rattle.adb_view.specs.declared.tables.Which.TheVariants as Tables;
 
 mod made;
 mod package;
@@ -14,11 +14,9 @@ mod package;
 use crate::made::{bytes_of, payload_of};
 use crate::package::{Asked, add_asked, add_fronts};
 use adb_schema::Checked;
-use adb_tables::{Which, shape};
-use adb_view::Adb;
+use adb_view::{Adb, Which, shape};
 use base_core::{Cause, Words};
-use piece_core::{FileCheck, Part, open_file};
-use pkg_core::Walk;
+use pkg_core::{FileCheck, Part, Walk, open_file};
 use row_lines::{Subject, add_number, add_word, number_of, run_program, value_named, word_at};
 use std::alloc::{AllocError, Global};
 use std::io;

@@ -14,14 +14,14 @@ use Rattle.base_core.specs.declared.cause.Digest.{Digest}
 use Rattle.base_core.specs.declared.cause.Digest.TheVariants.{Sha1, Sha256, Sha512}
 use Rattle.adb_view.specs.Plain.{Plain, null, Plains, none, more, Shape, hash, array, Fields, no_fields, field}
 use Rattle.adb_fields.specs.Repeated.{list_of, files_in}
-use Rattle.adb_rules.specs.Rules.{is_digest_length, is_digest_length_or_none}
-use Rattle.adb_tables.specs.Schema.{shape_of, shapes_of, table}
-use Rattle.adb_rules.specs.Texts.{Surroundings, Leaf, text_leaf, keeps_rule, leaves, field_leaves, each_leaf, inside_of, at_root, leaves_of, text_fault, text_rule, is_with_contents, needs_hash}
-use Rattle.adb_rules.specs.FirstBad.{IsFirstBadOf}
-use Rattle.adb_tables.specs.Values.{nth, entries_in, entry_in, int_in, text_in}
-use Rattle.adb_tables.specs.declared.tables.Which.{Which}
-use Rattle.adb_tables.specs.declared.tables.Kind.TheVariants.{Obj}
-use Rattle.adb_tables.specs.declared.tables.Which.TheVariants as Tables
+use Rattle.adb_schema.specs.Rules.{is_digest_length, is_digest_length_or_none}
+use Rattle.adb_view.specs.Schema.{shape_of, shapes_of, table}
+use Rattle.adb_schema.specs.Texts.{Surroundings, Leaf, text_leaf, keeps_rule, leaves, field_leaves, each_leaf, inside_of, at_root, leaves_of, text_fault, text_rule, is_with_contents, needs_hash}
+use Rattle.adb_schema.specs.FirstBad.{IsFirstBadOf}
+use Rattle.adb_view.specs.Values.{nth, entries_in, entry_in, int_in, text_in}
+use Rattle.adb_view.specs.declared.tables.Which.{Which}
+use Rattle.adb_view.specs.declared.tables.Kind.TheVariants.{Obj}
+use Rattle.adb_view.specs.declared.tables.Which.TheVariants as Tables
 use Rattle.pkg_core.specs.Contents.{Contents, Expected, digest_fault, expected_at, expected_contents, expected_files, expected_folders, hash_fault}
 use Rattle.pkg_core.specs.GoodContents.{AreContentsOf, AreTrueTo, HaveDigests, IsDigestOf}
 

@@ -10,14 +10,14 @@ use Rattle.adb_block.specs.declared.block.BlockKind.{BlockKind}
 use Rattle.adb_block.specs.declared.block.BlockKind.TheVariants as Kinds
 use Rattle.adb_view.specs.Head.{head_fault, root_of}
 use Rattle.adb_view.specs.Plain.{Plain, plain_of}
-use Rattle.adb_tables.specs.Schema.{shape_of}
-use Rattle.adb_tables.specs.Values.{value_at}
+use Rattle.adb_view.specs.Schema.{shape_of}
+use Rattle.adb_view.specs.Values.{value_at}
 use Rattle.std.specs.Option.{option_or}
-use Rattle.adb_tables.specs.Walk.{shape_fault}
-use Rattle.adb_rules.specs.Texts.{text_fault}
-use Rattle.adb_tables.specs.declared.tables.Kind.TheVariants.{Obj}
+use Rattle.adb_view.specs.Walk.{shape_fault}
+use Rattle.adb_schema.specs.Texts.{text_fault}
+use Rattle.adb_view.specs.declared.tables.Kind.TheVariants.{Obj}
 use Rattle.adb_schema.specs.Soundness.{blocks_fault, file_fault, file_pair, first_payload, payload_behind, payload_fault, payload_in, root_value, schema_fault}
-use Rattle.adb_tables.specs.declared.tables.Which.TheVariants.{Package}
+use Rattle.adb_view.specs.declared.tables.Which.TheVariants.{Package}
 use Rattle.pkg_core.specs.Contents as C
 use Rattle.pkg_core.specs.Contents.{Expected, FilesRead, contents_bytes, contents_by, contents_fault, contents_in, expected_contents, fault_in, files_by_blocks, hash_fault}
 use Rattle.pkg_core.specs.GoodContents.{AreContentsOf, AreTrueTo, IsContentsOf}

@@ -4,3 +4,15 @@ pub mod Steps
 pub mod Digests
 pub mod Given
 pub mod First
+pub mod Joined
+pub mod Taken
+pub mod Opened
+pub mod BlockRuns
+pub mod Placed
+pub mod Heads
+pub mod SeenBytes
+pub mod HeaderFront
+pub mod FrontSteps
+pub mod FrontSeen
+pub mod WholeReads
+pub mod WholeTests

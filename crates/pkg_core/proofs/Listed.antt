@@ -1,8 +1,8 @@
 -- The files and the folders of a list, one by one.
 use Rattle.std.proofs.Common.{◌≡◌, ℕ, zero, suc, Bool, true, false, if◌then◌else◌, ◌+◌, ◌-◌, ◌<◌, ◌≤◌, List, [], ◌∷◌, ◌++◌, drop, refl, ap, sym, ◌∙◌, subst, arith}
 use Rattle.adb_view.specs.Plain.{Plain, Plains, none, more}
-use Rattle.adb_tables.specs.Values.{nth, count_of, entries_in, entry_in, int_in, text_in}
-use Rattle.adb_rules.specs.Texts.{is_with_contents}
+use Rattle.adb_view.specs.Values.{nth, count_of, entries_in, entry_in, int_in, text_in}
+use Rattle.adb_schema.specs.Texts.{is_with_contents}
 use Rattle.adb_fields.specs.Repeated.{list_of}
 use Rattle.pkg_core.specs.Contents.{Expected, expected_at, expected_files, expected_folders}
 use Rattle.pkg_core.specs.Opened.{left_from}

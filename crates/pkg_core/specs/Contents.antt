@@ -14,11 +14,11 @@ use Rattle.adb_block.specs.Reading.{Reading, done, fault, more}
 use Rattle.adb_block.specs.declared.block.BlockKind.{BlockKind}
 use Rattle.adb_block.specs.declared.block.BlockKind.TheVariants as Kinds
 use Rattle.adb_view.specs.Plain.{Plain}
-use Rattle.adb_tables.specs.FieldIndexes.{FILE_HASHES, FILE_SIZE}
-use Rattle.adb_tables.specs.Values.{entry_in, int_in, text_in}
+use Rattle.adb_view.specs.FieldIndexes.{FILE_HASHES, FILE_SIZE}
+use Rattle.adb_view.specs.Values.{entry_in, int_in, text_in}
 use Rattle.adb_fields.specs.Repeated.{folders_in, files_in}
 use Rattle.adb_schema.specs.Soundness.{file_pair}
-use Rattle.adb_rules.specs.Texts.{is_with_contents}
+use Rattle.adb_schema.specs.Texts.{is_with_contents}
 
 -- ---- what is expected
 

@@ -5,7 +5,7 @@ use Rattle.std.specs.Prelude.{◌≡◌, ◌⊎◌, ℕ, true, List, [], ◌∷�
 use Rattle.sha1.specs.Sha1.{sha1}
 use Rattle.sha2.specs.Sha256.{sha256}
 use Rattle.sha2.specs.Sha512.{sha512}
-use Rattle.adb_rules.specs.Rules.{is_digest_length}
+use Rattle.adb_schema.specs.Rules.{is_digest_length}
 use Rattle.pkg_core.specs.Contents.{Contents, Expected, hash_fault}
 
 -- the contents are those of the file that is expected: its positions, its size and its digest

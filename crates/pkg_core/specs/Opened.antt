@@ -7,7 +7,7 @@ use Rattle.std.specs.List.{find}
 use Rattle.base_core.specs.declared.cause.Cause.{Cause}
 use Rattle.adb_block.specs.Reading.{reading_of}
 use Rattle.adb_view.specs.Plain.{Plain}
-use Rattle.adb_tables.specs.Values.{entries_in}
+use Rattle.adb_view.specs.Values.{entries_in}
 use Rattle.adb_schema.specs.Checked.{checked_value}
 use Rattle.adb_fields.specs.ListValue.{list_value}
 use Rattle.adb_fields.specs.Repeated.{list_of, files_in}

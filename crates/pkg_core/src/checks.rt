@@ -13,7 +13,7 @@ ghost use Rattle.pkg_core.specs.Refusals.{IsFaultOf};
 ghost use Rattle.sha1.specs.Sha1.{sha1};
 ghost use Rattle.sha2.specs.Sha256.{sha256};
 ghost use Rattle.sha2.specs.Sha512.{sha512};
-ghost use Rattle.adb_tables.specs.declared.tables.Which.TheVariants as Tables;
+ghost use Rattle.adb_view.specs.declared.tables.Which.TheVariants as Tables;
 ghost use Rattle.base_core.specs.declared.cause.Digest.TheVariants as Digests;
 ghost use Rattle.base_core.specs.declared.cause.Cause.{Cause};
 ghost use Rattle.adb_block.specs.Reading.{Reading};
@@ -23,8 +23,10 @@ ghost use Rattle.pkg_core.specs.GoodContents.{AreContentsOf, AreTrueTo};
 
 use crate::pack::{Package, PackageFault};
 use adb_block::Blocks;
-use adb_rules::the_first_bad_text_is_reported;
-use adb_schema::{IDB_WORD, INDEX_WORD, INTENT_WORD, PACKAGE_WORD, Which, read_adb};
+use adb_schema::{
+    IDB_WORD, INDEX_WORD, INTENT_WORD, PACKAGE_WORD, Which, read_adb,
+    the_first_bad_text_is_reported,
+};
 use base_core::{Cause, Digest as FoundDigest};
 use sha1::Sha1;
 use sha2::{Digest, Sha256, Sha512};

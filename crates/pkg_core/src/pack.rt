@@ -6,7 +6,7 @@ ghost use Rattle.sha2.specs.Sha256.{sha256};
 ghost use Rattle.adb_block.specs.Reading.{reading_of};
 ghost use Rattle.adb_schema.specs.Checked.{which_of};
 ghost use Rattle.adb_schema.specs.Soundness.{first_fault, payload_in, root_value};
-ghost use Rattle.adb_tables.specs.declared.tables.Which.TheVariants as Tables;
+ghost use Rattle.adb_view.specs.declared.tables.Which.TheVariants as Tables;
 ghost use Rattle.pkg_core.specs.Contents.{expected_contents, files_by_blocks};
 ghost use Rattle.pkg_core.specs.Whole.{files_in_file};
 
@@ -73,7 +73,7 @@ pub struct Package<'a> {
 }
 
 impl<'a> Package<'a> {
-    ghost use Rattle.adb_rules.specs.SoundValues.{KeepsRules};
+    ghost use Rattle.adb_schema.specs.SoundValues.{KeepsRules};
     ghost use Rattle.adb_schema.specs.Views.{package_value};
     ghost use Rattle.pkg_core.specs.Opened.{opened_files, opened_payload, opened_value, IsNextFile};
     ghost use Rattle.pkg_core.specs.Whole.{package_id};

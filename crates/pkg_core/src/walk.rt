@@ -4,11 +4,11 @@
 
 ghost use Rattle.std.specs.Prelude.{◌≡◌, ◌&&◌, ◌+◌, ◌-◌, ◌<◌, ◌≤◌, ◌^◌, drop, length, ◌==◌, [], Some, IfOk, option_map};
 ghost use Rattle.std.specs.Result.{result_err};
-ghost use Rattle.adb_tables.specs.Values.{entries_in, count_of};
+ghost use Rattle.adb_view.specs.Values.{entries_in, count_of};
 ghost use Rattle.adb_schema.specs.Views.{file_value, package_value};
 ghost use Rattle.adb_fields.specs.ListValue.{list_value};
 ghost use Rattle.adb_fields.specs.Repeated.{list_of};
-ghost use Rattle.adb_rules.specs.Texts.{is_with_contents};
+ghost use Rattle.adb_schema.specs.Texts.{is_with_contents};
 ghost use Rattle.pkg_core.specs.Contents.{POSITIONS_LEN, expected_contents, expected_files, expected_folders, contents_bytes, expected_fault, missing_fault};
 ghost use Rattle.pkg_core.specs.Opened.{expected_of, expected_with_positions};
 

@@ -8,7 +8,7 @@ use base_core::{Tree, Words};
 use db_core::{Db, Members, Owned};
 use db_write::write_db;
 use own_core::plan;
-use pkg_pieces::Front;
+use pkg_core::Front;
 use row_lines::word_at;
 use row_members::{add_coming, add_installed, front_of, name_at};
 use std::alloc::{AllocError, Global};

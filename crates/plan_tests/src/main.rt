@@ -1,4 +1,4 @@
-//! Answers questions to `own_core` and `file_fates`: what a change of packages does with files. Its
+//! Answers questions to `own_core`: what a change of packages does with files. Its
 //! stored run has all rows; `tests/lines.md` describes their form, and the README of this crate has
 //! a row for each question. The tree and the packages stay from one row to the next.
 #![tactic(auto)]

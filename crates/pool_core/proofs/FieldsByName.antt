@@ -3,8 +3,8 @@ use Rattle.std.proofs.Common.{◌≡◌, ℕ, zero, suc, Bool, true, false, List
 use Rattle.std.specs.Prelude.{if◌then◌else◌}
 use Rattle.std.specs.Str.{bytes_eq}
 use Rattle.adb_view.specs.Plain.{Plains, none, more}
-use Rattle.adb_tables.specs.Values.{nth}
-use Rattle.adb_tables.specs.declared.tables.Kind.{Kind}
+use Rattle.adb_view.specs.Values.{nth}
+use Rattle.adb_view.specs.declared.tables.Kind.{Kind}
 use Rattle.pool_core.specs.FieldNames.{value_under_name}
 use Rattle.candidate_core.proofs.OptionLists.{bool_cases}
 

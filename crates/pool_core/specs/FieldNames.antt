@@ -4,10 +4,10 @@
 use Rattle.std.specs.Prelude.{ℕ, List, [], ◌∷◌, if◌then◌else◌}
 use Rattle.std.specs.Str.{bytes_eq}
 use Rattle.adb_view.specs.Plain.{Plain, null, Plains, none, more}
-use Rattle.adb_tables.specs.FormatTables.{format_table}
-use Rattle.adb_tables.specs.Values.{entries_in}
-use Rattle.adb_tables.specs.declared.tables.Kind.{Kind}
-use Rattle.adb_tables.specs.declared.tables.Which.TheVariants.{PkgInfo}
+use Rattle.adb_view.specs.FormatTables.{format_table}
+use Rattle.adb_view.specs.Values.{entries_in}
+use Rattle.adb_view.specs.declared.tables.Kind.{Kind}
+use Rattle.adb_view.specs.declared.tables.Which.TheVariants.{PkgInfo}
 
 -- of values in the order of a table's fields, the value at the field of a name; Null where there is
 -- none

@@ -2,7 +2,7 @@
 //! The rules stand in `docs/selection.md`, "What there is to choose from".
 ghost use Rattle.std.specs.Prelude.{◌≡◌, ◌≤◌, ◌<◌, ◌+◌, [], ◌++◌, length, true, None, Some, IfOk, OnOk, OnErr, IfErr, option_copied};
 ghost use Rattle.adb_schema.specs.Views.{index_value, info_value};
-ghost use Rattle.adb_tables.specs.Values.{count_of, entries_in, entry_in};
+ghost use Rattle.adb_view.specs.Values.{count_of, entries_in, entry_in};
 ghost use Rattle.candidate_core.specs.declared.candidate_list.TheConstants.{MOST_CANDIDATES};
 ghost use Rattle.candidate_core.specs.Candidates.{candidate_of, candidates_of_index, with_installed};
 ghost use Rattle.candidate_core.specs.CandidateList.{IsCandidateList};
@@ -12,9 +12,8 @@ ghost use Rattle.candidate_core.specs.Values.{IsPoolFault, names_upgraded_by};
 
 use crate::sealed::{Sealed, seal_list};
 use adb_fields::objects_field;
-use adb_rules::entries_keep_the_rule_of_their_list;
-use adb_schema::{IndexView, PkgInfo};
-use adb_tables::Which;
+use adb_schema::{IndexView, PkgInfo, entries_keep_the_rule_of_their_list};
+use adb_view::Which;
 use candidate_core::{CandidateList, PoolFault, Source, Upgrade};
 use dep_core::World;
 use std::alloc::{AllocError, Global};

@@ -18,7 +18,7 @@ use Rattle.change_outcome.specs.MembersAfter.{MemberFound, coming_by_path, comin
 use Rattle.change_outcome.specs.PackageFiles.{ComingPackage, first_script_of, package_file_of, package_found, package_in_file, scripts_of_change, unless_number, unless_package_bad, unless_script}
 use Rattle.db_core.specs.Packages.{is_package_named}
 use Rattle.file_owners.specs.Replaces.{version_text}
-use Rattle.list_order.specs.ByteOrder.{precedes}
+use Rattle.base_core.specs.ByteOrder.{precedes}
 use Rattle.make_info.specs.Reads.{Reads}
 use Rattle.package_changes.specs.Changes.{Replacement, change_of_name, is_selected_named, names_on_both_sides, selected_version}
 use Rattle.path_clashes.proofs.PairOrder.{precedes_itself, precedes_one_way}

@@ -1,7 +1,7 @@
 -- An `info` that is refused is refused for its fault.
 use Rattle.std.proofs.Common.{◌≡◌, inl, inr, ℕ, Bool, true, false, List, Option, Some, None, Result, Ok, Err, refl, subst}
 use Rattle.adb_schema.specs.Soundness.{first_fault}
-use Rattle.adb_tables.specs.declared.tables.Which.TheVariants.{Idb}
+use Rattle.adb_view.specs.declared.tables.Which.TheVariants.{Idb}
 use Rattle.change_inputs.specs.Database.{payload_database, root_database}
 use Rattle.change_inputs.specs.Inputs.{database_for, database_read, text_database_read}
 use Rattle.command_core.specs.Command.{CommandLine}

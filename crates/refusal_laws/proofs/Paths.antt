@@ -8,7 +8,7 @@ use Rattle.std.proofs.lemmas.Bool.{or_left, or_right}
 use Rattle.std.proofs.lemmas.Cmp.{nat_list_cmp_total, tied_itself}
 use Rattle.std.proofs.lemmas.Slice.Eq.{bytes_eq-Decides}
 use Rattle.adb_fields.specs.FirstPair.{IsIn}
-use Rattle.adb_rules.specs.Reserved.{is_reserved}
+use Rattle.adb_schema.specs.Reserved.{is_reserved}
 use Rattle.base_core.proofs.Rising as Names
 use Rattle.change_files.proofs.InOrder.{from_filter, in_filter}
 use Rattle.change_files.specs.NamesAfter.{coming_paths}
@@ -18,11 +18,11 @@ use Rattle.db_core.specs.Members.{Listing, Member, member_listings, member_name}
 use Rattle.file_owners.specs.Owners.{claim_by, claims_from, claims_in, contested_of, member_beats, owner_of_path, takes_over_if_any}
 use Rattle.file_owners.specs.Replaces.{takes_over}
 use Rattle.file_owners.proofs.Claiming.{owner_is}
-use Rattle.list_order.specs.ByteOrder.{bytes_cmp, precedes, smallest_text}
-use Rattle.list_order.specs.Sorted.{sorted_by}
-use Rattle.list_order.proofs.Smallest.{smallest_first}
-use Rattle.list_order.proofs.Sorting.{Each, Rises, ranks, rises_in_order}
-use Rattle.file_fates.proofs.Listings.{IsPlaced, each_placed}
+use Rattle.base_core.specs.ByteOrder.{bytes_cmp, precedes, smallest_text}
+use Rattle.base_core.specs.Sorted.{sorted_by}
+use Rattle.base_core.proofs.Smallest.{smallest_first}
+use Rattle.base_core.proofs.Sorting.{Each, Rises, ranks, rises_in_order}
+use Rattle.own_core.proofs.Listings.{IsPlaced, each_placed}
 use Rattle.own_core.proofs.NamesOnce.{in_sorted_names, not_below, sorted_names_in}
 use Rattle.path_claims.specs.Claims.{ContestedPath, claimants, contested_at, contested_by, contested_path, is_of_path, owner_by}
 use Rattle.path_claims.specs.Contest.{beats_each, first_rivals, rivals_of, winner}

@@ -2,7 +2,7 @@
 use Rattle.std.proofs.Common.{◌≡◌, ◌<◌, inl, inr, ◌∙◌, ℕ, zero, suc, ◌+◌, Bool, true, false, List, [], ◌∷◌, Option, Some, None, Result, Ok, Err, refl, ap, sym, subst, arith}
 use Rattle.std.specs.Prelude.{slice_get}
 use Rattle.adb_schema.specs.Soundness.{first_fault}
-use Rattle.adb_tables.specs.declared.tables.Which.TheVariants.{Idb, Index}
+use Rattle.adb_view.specs.declared.tables.Which.TheVariants.{Idb, Index}
 use Rattle.base_core.specs.declared.cause.Cause.{Cause}
 use Rattle.change_inputs.specs.Chains.{and_then, refused_as, unless_cause}
 use Rattle.change_inputs.specs.Database.{payload_database, root_database}

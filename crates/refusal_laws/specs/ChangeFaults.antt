@@ -3,7 +3,7 @@
 -- README of this crate.
 use Rattle.std.specs.Prelude.{◌≡◌, ◌⊎◌, ℕ, true, false, List, Some, None, Ok, is_some}
 use Rattle.adb_fields.specs.FirstPair.{IsIn}
-use Rattle.adb_rules.specs.Reserved.{is_reserved}
+use Rattle.adb_schema.specs.Reserved.{is_reserved}
 use Rattle.adb_view.specs.Plain.{Plain}
 use Rattle.adb_write.specs.Canonical.{overflow_of, passes}
 use Rattle.base_core.specs.Files.{Files}
@@ -20,7 +20,7 @@ use Rattle.db_write.specs.NewDatabase.{database_of, database_value}
 use Rattle.file_owners.specs.Owners.{owned_of, owner_of_path}
 use Rattle.file_owners.specs.Replaces.{takes_over}
 use Rattle.journal_intent.specs.IntentValue.{intent_of_lists, value_of_intent}
-use Rattle.list_order.specs.ByteOrder.{precedes}
+use Rattle.base_core.specs.ByteOrder.{precedes}
 use Rattle.make_info.specs.Reads.{Reads}
 use Rattle.package_files.specs.Folders.{folder_of}
 use Rattle.package_changes.specs.Changes.{Replacement}

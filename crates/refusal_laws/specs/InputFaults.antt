@@ -2,7 +2,7 @@
 -- "`add` and `del`", what is refused, in their order, and in "Error lines".
 use Rattle.std.specs.Prelude.{◌≡◌, ◌⊎◌, ◌+◌, ◌<◌, ℕ, suc, false, List, ◌∷◌, length, Option, Some, None, Ok, Err, slice_get}
 use Rattle.adb_schema.specs.Soundness.{first_fault}
-use Rattle.adb_tables.specs.declared.tables.Which.TheVariants.{Idb, Index}
+use Rattle.adb_view.specs.declared.tables.Which.TheVariants.{Idb, Index}
 use Rattle.base_core.specs.declared.cause.Cause.{Cause}
 use Rattle.change_inputs.specs.Candidates.{candidates_of}
 use Rattle.change_inputs.specs.Inputs.{Inputs, database_read, first_index_read, repositories_read, text_database_read, world_read}

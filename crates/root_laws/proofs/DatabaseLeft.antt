@@ -4,7 +4,7 @@ use Rattle.adb_fields.specs.Repeated.{entries_at, list_of}
 use Rattle.adb_schema.specs.SoundContainers.{IsSound}
 use Rattle.adb_schema.specs.Soundness.{first_fault, payload_in, root_value}
 use Rattle.adb_sound.specs.Root.{IsRootOf}
-use Rattle.adb_tables.specs.declared.tables.Which.TheVariants.{Idb}
+use Rattle.adb_view.specs.declared.tables.Which.TheVariants.{Idb}
 use Rattle.adb_view.specs.Plain.{Plain}
 use Rattle.change_inputs.specs.Chains.{unless_cause}
 use Rattle.change_inputs.specs.Database.{container_database, database_by}

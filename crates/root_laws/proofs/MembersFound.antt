@@ -7,17 +7,17 @@ use Rattle.std.proofs.lemmas.Slice.Eq.{bytes_eq-Decides}
 use Rattle.sha2.proofs.Facts256.{length-sha256}
 use Rattle.adb_fields.specs.FirstPair.{IsIn}
 use Rattle.adb_fields.specs.Repeated.{package_name}
-use Rattle.adb_rules.specs.Rules.{is_digest_length}
+use Rattle.adb_schema.specs.Rules.{is_digest_length}
 use Rattle.adb_schema.specs.SoundContainers.{IsSound}
 use Rattle.adb_schema.specs.Soundness.{first_fault, payload_in, root_value}
-use Rattle.adb_tables.specs.declared.tables.Which.TheVariants.{Package}
+use Rattle.adb_view.specs.declared.tables.Which.TheVariants.{Package}
 use Rattle.adb_view.specs.Plain.{Plain}
 use Rattle.base_core.specs.declared.cause.Cause.{Cause}
 use Rattle.base_core.proofs.Rising as Names
 use Rattle.change_files.proofs.InOrder.{order_rises}
 use Rattle.change_inputs.specs.Chains.{and_then}
 use Rattle.change_inputs.specs.Inputs.{first_index_read}
-use Rattle.change_laws.proofs.Made.{and_then_ok}
+use Rattle.change_outcome.proofs.Made.{and_then_ok}
 use Rattle.change_outcome.specs.MembersAfter.{MemberFound, coming_by_path, coming_found, members_after, members_found, name_after, name_by_change, name_by_selected, name_that_comes, name_that_goes, names_after, staying_found}
 use Rattle.change_outcome.specs.PackageFiles.{ComingPackage, package_file_of, package_found, package_in_file, scripts_of_change, unless_different, unless_number, unless_package_bad, unless_script, first_script_of}
 use Rattle.db_core.specs.Members.{AreInOrder, Member, member_name}

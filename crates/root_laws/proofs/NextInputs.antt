@@ -1,7 +1,7 @@
 -- What a command begins with that reads the root which a change has left.
 use Rattle.std.proofs.Common.{◌≡◌, ℕ, ◌+◌, Bool, true, false, List, [], ◌∷◌, Option, Some, None, Result, Ok, Err, sym, subst}
 use Rattle.adb_schema.specs.Soundness.{first_fault, payload_in, root_value}
-use Rattle.adb_tables.specs.declared.tables.Which.TheVariants.{Index}
+use Rattle.adb_view.specs.declared.tables.Which.TheVariants.{Index}
 use Rattle.adb_view.specs.Plain.{Plain}
 use Rattle.base_core.specs.declared.cause.Cause.{Cause}
 use Rattle.change_inputs.specs.Chains.{and_then, refused_as, unless_cause}

@@ -8,8 +8,8 @@ use Rattle.change_files.proofs.RecordNames.{database_after}
 use Rattle.change_inputs.specs.Database.{root_database}
 use Rattle.change_inputs.specs.Inputs.{Inputs, inputs_of, text_database_read}
 use Rattle.change_inputs.specs.World.{root_world, text_found}
-use Rattle.change_laws.specs.Made.{IsChangeMade}
-use Rattle.change_laws.proofs.Made.{and_then_ok, made}
+use Rattle.change_outcome.specs.Made.{IsChangeMade}
+use Rattle.change_outcome.proofs.Made.{and_then_ok, made}
 use Rattle.change_outcome.specs.ChangeOutcome.{ChangeDone, change_or_refusal, file_change, new_records}
 use Rattle.change_outcome.specs.MembersAfter.{contents_found, members_found}
 use Rattle.command_core.specs.Command.{CommandLine}

@@ -6,7 +6,7 @@ use Rattle.adb_fields.specs.Repeated.{entries_at}
 use Rattle.adb_schema.specs.SoundContainers.{IsSound}
 use Rattle.adb_schema.proofs.Sound as Values
 use Rattle.adb_schema.specs.Soundness.{first_fault, payload_in, root_value}
-use Rattle.adb_tables.specs.declared.tables.Which.TheVariants.{Idb}
+use Rattle.adb_view.specs.declared.tables.Which.TheVariants.{Idb}
 use Rattle.adb_view.specs.Plain.{Plain}
 use Rattle.base_core.specs.declared.cause.Cause.{Cause}
 use Rattle.change_inputs.specs.Chains.{and_then, unless_cause}
@@ -14,7 +14,7 @@ use Rattle.change_inputs.specs.Database.{Database, container_database, database_
 use Rattle.change_inputs.specs.Inputs.{Inputs, Root, database_for, database_read, indexes_of, inputs_by, inputs_of, repositories_read, root_by, root_for, text_database_read, world_read}
 use Rattle.change_inputs.specs.Repositories.{root_repositories}
 use Rattle.change_inputs.specs.World.{new_world, root_world, text_found}
-use Rattle.change_laws.proofs.Made.{and_then_ok}
+use Rattle.change_outcome.proofs.Made.{and_then_ok}
 use Rattle.command_core.specs.Command.{CommandLine}
 use Rattle.db_core.specs.SoundMembers.{IsOfSoundContainer, IsOfSoundDatabase}
 use Rattle.dep_core.specs.Dependency.{Dependency}

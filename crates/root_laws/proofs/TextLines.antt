@@ -2,9 +2,9 @@
 use Rattle.std.proofs.Common.{◌≡◌, ℕ, ◌<◌, ◌^◌, Bool, true, false, List, [], ◌∷◌, Option, Some, None, Result, Ok, Err, refl, arith}
 use Rattle.std.specs.Prelude.{IfSome, ◌==◌, ◌&&◌, if◌then◌else◌, is_some, nat_lt, option_map, option_and_then, unwrap_or}
 use Rattle.std.proofs.lemmas.Bool.{and_parts, ltb-true}
-use Rattle.adb_tables.specs.Schema.{shape_of}
-use Rattle.adb_tables.specs.declared.tables.Kind.TheVariants.{Obj}
-use Rattle.adb_tables.specs.declared.tables.Which.TheVariants as Tables
+use Rattle.adb_view.specs.Schema.{shape_of}
+use Rattle.adb_view.specs.declared.tables.Kind.TheVariants.{Obj}
+use Rattle.adb_view.specs.declared.tables.Which.TheVariants as Tables
 use Rattle.adb_view.specs.Plain.{Plain, Shape, Fields, null, int, blob_value, number as number_shape, text as text_shape, hash as hash_shape, array, object, no_fields, field, IsNormal, AreNormal}
 use Rattle.adb_view.specs.Shaped.{Each, HasShape, HaveShapes}
 use Rattle.adb_view.proofs.FoundShapes.{arr_value_shape, blob_value_text, obj_value_shape}
@@ -34,7 +34,7 @@ use Rattle.v2_lines.specs.Lines.{RecordLine, info_line, folder_line, folder_acce
 use Rattle.v2_lines.specs.declared.field.Grammar.{Grammar}
 use Rattle.v2_lines.specs.declared.field.Grammar.TheVariants as Grammars
 use Rattle.v2_lines.specs.declared.field.InfoField.{InfoField}
-use Rattle.adb_rules.specs.Rules.{is_folder_name, is_one_part}
+use Rattle.adb_schema.specs.Rules.{is_folder_name, is_one_part}
 
 -- ---- values that fit a field
 

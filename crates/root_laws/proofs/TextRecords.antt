@@ -4,9 +4,9 @@ use Rattle.std.specs.Prelude.{IfSome, ◌==◌, ◌&&◌, not, if◌then◌else�
 use Rattle.std.specs.List.{find, flat_map}
 use Rattle.std.specs.Option.{option_map_or}
 use Rattle.std.proofs.lemmas.Bool.{eqb-true}
-use Rattle.adb_tables.specs.Schema.{shape_of}
-use Rattle.adb_tables.specs.declared.tables.Kind.TheVariants.{Obj}
-use Rattle.adb_tables.specs.declared.tables.Which.TheVariants as Tables
+use Rattle.adb_view.specs.Schema.{shape_of}
+use Rattle.adb_view.specs.declared.tables.Kind.TheVariants.{Obj}
+use Rattle.adb_view.specs.declared.tables.Which.TheVariants as Tables
 use Rattle.adb_view.specs.Plain.{Plain, Shape, null, int, blob_value, number as number_shape, hash as hash_shape, array}
 use Rattle.db_write.proofs.RootParts.{EachIn}
 use Rattle.dep_core.specs.World.{lines_of}

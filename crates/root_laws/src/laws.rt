@@ -15,9 +15,8 @@ ghost use Rattle.root_laws.specs.NextInputs.{AreInputsFrom, IsOfRepositories};
 ghost use Rattle.root_laws.specs.RootLeft.{FindBytes, IsRootLeft, ReadsRoot};
 
 use adb_fields::no_name_is_repeated_where_each_stands_once;
-use adb_rules::no_text_is_bad_where_each_keeps_its_rule;
-use adb_tables::values_of_few_visits_have_no_fault;
-use adb_view::values_have_their_shape;
+use adb_schema::no_text_is_bad_where_each_keeps_its_rule;
+use adb_view::{values_have_their_shape, values_of_few_visits_have_no_fault};
 use adb_write::{a_canonical_payload_is_read_back, a_value_overflows_exactly_past_a_limit};
 use db_write::{
     a_database_of_sound_packages_may_stand_at_the_root, a_written_database_is_read_back,

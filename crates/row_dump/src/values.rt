@@ -2,8 +2,7 @@
 //! read. The form of the lines stands in `docs/formats.md`, "Dump text", and the layout of the
 //! values in "Canonical layout".
 use crate::text::{hash, number, text_bytes};
-use adb_tables::{Field, Kind, Which, fields_of};
-use adb_view::Val;
+use adb_view::{Field, Kind, Val, Which, fields_of};
 use adb_write::{WriteFault, Writer, file_of};
 use std::alloc::{AllocError, AllocFailed, Global};
 

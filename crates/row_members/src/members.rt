@@ -4,14 +4,13 @@
 ghost use Rattle.adb_fields.specs.Repeated.{package_name};
 ghost use Rattle.adb_view.specs.Plain.{Plain};
 ghost use Rattle.db_core.specs.Seen.{packages_of};
-ghost use Rattle.pkg_pieces.specs.Values.{value_of_contents};
+ghost use Rattle.pkg_core.specs.Values.{value_of_contents};
 ghost use Rattle.std.specs.Prelude.{◌≡◌, ◌<◌, Some, length, slice_get};
 
 use adb_schema::{PACKAGE_WORD, PackageView};
 use base_core::Name;
 use db_core::{Db, MOST_MEMBERS, Members};
-use pkg_core::PackageFault;
-use pkg_pieces::{Contents, Front, FrontFault, read_front};
+use pkg_core::{Contents, Front, FrontFault, PackageFault, read_front};
 use std::alloc::{AllocError, Global};
 use std::marker::PhantomData;
 use tree_memory::MemoryTree;

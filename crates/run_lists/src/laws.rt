@@ -22,7 +22,7 @@ ghost use Rattle.words_core.specs.Grammar.{command_of};
 
 use apk_front::a_crash_leaves_the_old_files_or_those_of_the_outcome;
 use base_core::a_crash_may_leave_the_files_as_read;
-use change_laws::a_change_keeps_room;
+use change_outcome::a_change_keeps_room;
 use journal_core::{
     a_crash_leaves_an_orderly_settled_tree, a_state_shows_a_bad_intent, more_names_may_be_ignored,
 };

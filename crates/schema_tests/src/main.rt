@@ -1,4 +1,4 @@
-//! Answers questions to `adb_view`, `adb_tables`, `adb_fields`, `adb_rules` and `adb_schema`: words
+//! Answers questions to `adb_view`, `adb_fields`, `adb_schema`: words
 //! of a payload, the shape of payloads, the rules of texts, views, and whole containers. Its stored
 //! run has all rows; `tests/lines.md` describes their form, and the README of this crate has a row
 //! for each question. A payload stays from one row to the next.

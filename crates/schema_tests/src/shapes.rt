@@ -5,8 +5,7 @@
 use crate::payloads::{add_run, ints_of, object_payload, payload_of, table_of};
 use crate::words::{add_cause, add_outcome, int_of};
 use adb_schema::{Checked, Field, Kind, ReadFault, Which, fields_of, read_adb, shape};
-use adb_tables::walk_fields;
-use adb_view::{Adb, Val};
+use adb_view::{Adb, Val, walk_fields};
 use base_core::{Cause, Words};
 use row_lines::{add_number, word_at};
 use std::alloc::{AllocError, Global};

@@ -17,7 +17,7 @@ use Rattle.piece_reader.specs.declared.piece.PieceFault.{PieceFault}
 use Rattle.piece_reader.specs.declared.piece.PieceFault.TheVariants.{Bad, Disk}
 use Rattle.piece_reader.specs.declared.one_file.FilePieces.{FilePieces}
 use Rattle.pkg_core.specs.Contents.{Expected}
-use Rattle.pkg_pieces.specs.Seen.{IsSoLong}
+use Rattle.pkg_core.specs.Seen.{IsSoLong}
 use Rattle.stage_run.specs.StageRun.{IsReadButWaiting, IsStaging, IsStagingRun}
 use Rattle.stage_run.proofs.Joins.{start_is}
 use Rattle.stage_files.specs.Reading.{IsReadingIn}

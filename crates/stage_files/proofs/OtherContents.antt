@@ -18,16 +18,16 @@ use Rattle.adb_block.specs.declared.block.BlockKind.{BlockKind}
 use Rattle.adb_block.specs.declared.block.BlockKind.TheVariants as Kinds
 use Rattle.adb_block.proofs.WholeFiles.{read_is_spelled, spelled_is_read, whole_from}
 use Rattle.adb_schema.specs.Soundness.{blocks_fault, file_fault, file_pair, first_payload, payload_behind, payload_fault, payload_in, root_value, schema_fault}
-use Rattle.adb_tables.specs.Schema.{shape_of}
-use Rattle.adb_tables.specs.Values.{value_at}
+use Rattle.adb_view.specs.Schema.{shape_of}
+use Rattle.adb_view.specs.Values.{value_at}
 use Rattle.std.specs.Option.{option_or}
-use Rattle.adb_tables.specs.declared.tables.Which.TheVariants.{Package}
+use Rattle.adb_view.specs.declared.tables.Which.TheVariants.{Package}
 use Rattle.adb_view.specs.Plain.{plain_of}
 use Rattle.base_core.specs.declared.cause.Cause.{Cause}
 use Rattle.base_core.specs.declared.cause.Cause.TheVariants.{DataOrder, DataSize, HashDiffers, Truncated}
 use Rattle.base_core.specs.declared.cause.Digest.{Digest}
 use Rattle.base_core.specs.declared.cause.Digest.TheVariants.{Sha1, Sha256, Sha512}
-use Rattle.piece_core.proofs.Opened.{pair_alike}
+use Rattle.pkg_core.proofs.Opened.{pair_alike}
 use Rattle.pkg_core.specs.Contents.{Expected, FilesRead, contents_block_fault, contents_bytes, contents_by, contents_fault, digest_fault, expected_contents, fault_in, files_at_block, files_by_blocks, given, has_positions_of, hash_fault, next_fault, no_more, unless_fault}
 use Rattle.pkg_core.specs.Opened.{expected_with_positions, has_positions}
 use Rattle.pkg_core.specs.Whole.{behind_fault, package_fault, whole_fault}

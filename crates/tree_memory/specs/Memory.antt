@@ -42,7 +42,7 @@ counts_of tree = counts_by tree.calls
 abbrev pub calls_of : MemoryTree → ℕ
 calls_of tree = tree.calls.tally.calls
 
--- how many of its calls were others than `size`, `read_at` and `list`
+-- how many of its calls were others than `size`, `read_at`, `list` and `check_target`
 abbrev pub writes_of : MemoryTree → ℕ
 writes_of tree = tree.calls.tally.writes
 

@@ -148,7 +148,7 @@ impl MemoryTree {
         self.calls.tally.calls
     }
 
-    /// How many of its calls were others than `size`, `read_at` and `list`.
+    /// How many of its calls were others than `size`, `read_at`, `list` and `check_target`.
     pub fn writes(&self) -> u64
         ensures { result ≡ writes_of self.now }
     {
@@ -194,6 +194,9 @@ impl Tree for MemoryTree {
     ghost counts = { λ tree. counts_of tree };
 
     ghost whole = { λ tree. whole_history tree };
+
+    // A tree in memory takes a file under each name, and gives each up.
+    ghost accepts = { λ source name. Unit {0} };
 
     /// The length of a file in bytes, or None where the name is absent.
     fn size(&mut self, name: &Name) -> Result<Option<u64>, Disk>
@@ -355,5 +358,20 @@ impl Tree for MemoryTree {
         // A law that the proof needs; it computes nothing.
         names.are_names();
         Ok(names)
+    }
+
+    /// Answers Ok, but where a failure is planned: a tree in memory has no folders that refuse.
+    fn check_target(&mut self, name: &Name, source: Option<&Name>) -> Result<(), Disk>
+        ensures same { history_of self.new ≡ history_of self.old }
+        ensures counts { IsCounted Anywhere (history_of self.old) (counts_of self.old)
+            (counts_of self.new) result }
+
+        // It fails exactly where that is planned.
+        ensures when { IsOk result ↔ (is_next (plan_of self.old) ≡ false) }
+        ensures call { IsRead self.old self.new result }
+        ensures longest { longest_of self.new ≡ longest_of self.old }
+    {
+        self.calls.begin(true)?;
+        Ok(())
     }
 }

@@ -7,7 +7,7 @@ ghost use Rattle.base_core.specs.declared.cause.Cause.TheVariants.{TextLine};
 ghost use Rattle.adb_schema.specs.ReadFaults.{IsReadFault};
 ghost use Rattle.v2_core.specs.declared.read.V2Fault.TheVariants.{Bad};
 ghost use Rattle.adb_schema.specs.Soundness.{payload_fault};
-ghost use Rattle.adb_tables.specs.declared.tables.Which.TheVariants as Tables;
+ghost use Rattle.adb_view.specs.declared.tables.Which.TheVariants as Tables;
 ghost use Rattle.v2_core.specs.Payload.{IsV2Fault, payload_of_text, written_payload};
 ghost use Rattle.v2_core.specs.Reading.{at_record_end, records_from, records_of};
 ghost use Rattle.v2_core.specs.Records.{Record as RecordModel, empty_record};

@@ -2,7 +2,7 @@
 -- The rules stand in `docs/formats.md`, "Text database of version 2", the table; a letter that is not
 -- listed is passed over by the paragraph above it.
 use Rattle.std.specs.Prelude.{ℕ, ◌==◌, if◌then◌else◌, List, [], ◌∷◌, Option, Some, None, option_map}
-use Rattle.adb_rules.specs.Rules.{is_folder_name, is_one_part}
+use Rattle.adb_schema.specs.Rules.{is_folder_name, is_one_part}
 use Rattle.make_info.specs.Fields.{FieldValue}
 use Rattle.v2_lines.specs.Accesses.{Access, access_in}
 use Rattle.v2_lines.specs.InfoFields.{field_of_letter, grammar_of}

@@ -1,7 +1,7 @@
 //! Versions that stand in the same bytes and may overlap. Where one has passed, another goes on in
 //! leaps. The contract is that of `OverlappingVersions::is_version`, as the README of this crate
 //! says; what a version is stands in `docs/formats.md`, "Versions". It serves the tests of texts
-//! that overlap in a payload (`adb_rules`), so that these take no quadratic time. In the clauses
+//! that overlap in a payload (`adb_schema`), so that these take no quadratic time. In the clauses
 //! `order` and `within` say that offsets rise and lie in the bytes, `bytes` that these stay the
 //! same, `some` and `none` what is known where a place is found and where none is.
 

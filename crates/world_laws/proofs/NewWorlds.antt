@@ -18,7 +18,7 @@ use Rattle.dep_core.specs.Reading.{dependency_of}
 use Rattle.dep_core.specs.World.{IsWorld, is_in_order, with_entry, without_name}
 use Rattle.dep_core.proofs.ReadOut.{read-out}
 use Rattle.dep_core.proofs.Worlds.{IsWorld-with_entry, IsWorld-without, cmp-equal, is_behind, lt-less, names_total}
-use Rattle.list_order.specs.ByteOrder.{bytes_cmp}
+use Rattle.base_core.specs.ByteOrder.{bytes_cmp}
 use Rattle.world_laws.specs.NewWorld.{HoldsAdded, HoldsOthers, HoldsWhatWasAsked, IsAdded, IsAddedByNone, IsNoOperand}
 
 -- ---- order

@@ -7,7 +7,7 @@ use Rattle.std.specs.List.{filter, find, flat_map, list_all, list_any}
 use Rattle.std.proofs.lemmas.Bool.{and_from, and_parts, or_left, or_right}
 use Rattle.dep_core.specs.Dependency.{Dependency}
 use Rattle.dep_core.proofs.Worlds.{names_total}
-use Rattle.list_order.specs.ByteOrder.{bytes_cmp, precedes}
+use Rattle.base_core.specs.ByteOrder.{bytes_cmp, precedes}
 use Rattle.candidate_core.specs.Candidates.{Candidate, Need, entry, named, has_usable_install_if}
 use Rattle.candidate_core.specs.Options.{IsIn}
 use Rattle.candidate_core.specs.Rank.{SealedPool, meets_at}

@@ -6,7 +6,7 @@ use Rattle.change_files.specs.FileChange.{FileChange}
 use Rattle.change_files.specs.PlanLists.{aside_of, kept_of}
 use Rattle.change_inputs.specs.Chains.{and_then}
 use Rattle.change_inputs.specs.Inputs.{Inputs, inputs_of}
-use Rattle.change_laws.specs.Made.{IsChangeMade}
+use Rattle.change_outcome.specs.Made.{IsChangeMade}
 use Rattle.change_outcome.specs.ChangeOutcome.{ChangeDone, ChangeWishes, change_or_refusal, change_report, file_change, member_size, touched_paths}
 use Rattle.change_outcome.specs.ConfigurationLines.{configuration_lines}
 use Rattle.change_outcome.specs.Triggers.{trigger_lines}
@@ -17,7 +17,7 @@ use Rattle.engine_core.specs.Selecting.{pool_for}
 use Rattle.engine_core.specs.Wishes.{wishes_of}
 use Rattle.make_info.specs.Reads.{Reads}
 use Rattle.package_changes.specs.Changes.{Replacement, changes_of}
-use Rattle.report_changes.specs.Report.{candidate_size, simulated_report, stay_lines}
+use Rattle.package_changes.specs.Report.{candidate_size, simulated_report, stay_lines}
 use Rattle.path_clashes.specs.Clash.{NamePair}
 use Rattle.candidate_core.specs.Rank.{SealedPool}
 use Rattle.report_core.specs.Reports.{change_lines, report_line, sum_text}

@@ -5,8 +5,8 @@ use Rattle.std.specs.Prelude.{◌≡◌, ◌⊎◌, ◌↔◌, ◌≤◌, ◌+�
 use Rattle.adb_fields.specs.FirstPair.{IsIn}
 use Rattle.adb_fields.specs.Repeated.{entries_at}
 use Rattle.adb_schema.specs.Soundness.{payload_in, root_value}
-use Rattle.adb_tables.specs.FieldIndexes.{INDEX_PACKAGES}
-use Rattle.adb_tables.specs.declared.tables.Which.TheVariants.{Index}
+use Rattle.adb_view.specs.FieldIndexes.{INDEX_PACKAGES}
+use Rattle.adb_view.specs.declared.tables.Which.TheVariants.{Index}
 use Rattle.adb_view.specs.Plain.{Plain}
 use Rattle.candidate_core.specs.Candidates.{Candidate, candidate_of, is_same_package}
 use Rattle.candidate_core.specs.Rank.{SealedPool, is_upgraded}

@@ -22,7 +22,7 @@ ghost use Rattle.engine_core.specs.Choice.{IsChoiceFrom};
 ghost use Rattle.engine_core.specs.Selecting.{pool_for};
 ghost use Rattle.make_info.specs.Reads.{Reads};
 ghost use Rattle.package_changes.specs.Changes.{Replacement};
-ghost use Rattle.report_changes.specs.Report.{simulated_report};
+ghost use Rattle.package_changes.specs.Report.{simulated_report};
 ghost use Rattle.path_clashes.specs.Clash.{NamePair};
 ghost use Rattle.report_core.specs.declared.refusal.Refusal.{Refusal};
 ghost use Rattle.world_laws.specs.Simulation.{IsForetold, with_simulation};
@@ -37,7 +37,7 @@ ghost use Rattle.world_laws.specs.CommandPool.{IsCommandPool};
 ghost use Rattle.world_laws.specs.NewWorld.{HoldsWhatWasAsked, IsReadWorld};
 ghost use Rattle.world_laws.specs.SatisfiedWorld.{IsNeeded, SatisfyWorld};
 
-use change_laws::a_change_that_is_made_passes_each_test;
+use change_outcome::a_change_that_is_made_passes_each_test;
 use engine_core::a_choice_is_unique;
 
 /// Behind some choices the next need is the first entry of world that no choice meets; where all

@@ -2,10 +2,10 @@ use Rattle.std.proofs.Common.{◌≡◌, ◌<◌, ℕ, List, length, arith, refl
 use Rattle.adb_view.specs.Adb.{payload_of}
 use Rattle.adb_view.specs.Entries.{array_entries}
 use Rattle.adb_view.specs.Plain.{Plain, Plains, arr_value}
-use Rattle.adb_tables.specs.Values.{entries_in, value_at}
-use Rattle.adb_tables.specs.declared.tables.Kind.{Kind}
-use Rattle.adb_tables.specs.declared.tables.Kind.TheVariants as Kinds
-use Rattle.adb_tables.specs.declared.tables.Which.TheVariants as Tables
+use Rattle.adb_view.specs.Values.{entries_in, value_at}
+use Rattle.adb_view.specs.declared.tables.Kind.{Kind}
+use Rattle.adb_view.specs.declared.tables.Kind.TheVariants as Kinds
+use Rattle.adb_view.specs.declared.tables.Which.TheVariants as Tables
 use Rattle.adb_fields.specs.Fields.{array_at}
 use Rattle.adb_fields.proofs.FieldReads.{entry_count}
 use Rattle.adb_values.specs.Drafts.{draft_with_all, draft_with_open_list}

@@ -1,9 +1,9 @@
 use Rattle.std.proofs.Common.{◌≡◌, List, ℕ, refl, ap, ◌∙◌}
 use Rattle.adb_view.specs.Adb.{payload_of}
 use Rattle.adb_view.specs.Plain.{Plain, Plains, none, more, blob_value, obj_value}
-use Rattle.adb_tables.specs.Values.{entry_in, text_in, value_at}
-use Rattle.adb_tables.specs.declared.tables.Which.TheVariants as Tables
-use Rattle.adb_tables.specs.declared.tables.Kind.TheVariants as Kinds
+use Rattle.adb_view.specs.Values.{entry_in, text_in, value_at}
+use Rattle.adb_view.specs.declared.tables.Which.TheVariants as Tables
+use Rattle.adb_view.specs.declared.tables.Kind.TheVariants as Kinds
 use Rattle.adb_values.specs.Drafts.{draft_with, draft_with_all, draft_with_open_list}
 use Rattle.adb_values.proofs.Lists.{closed_as, on_ok}
 use Rattle.adb_copy.specs.Zeros.{int_value, without_zeros}

@@ -1,13 +1,13 @@
 use Rattle.std.proofs.Common.{ℕ, ◌+◌, ◌≡◌, ◌<◌, Bool, true, false, get_or, [], length, arith, ap, sym, ◌∙◌}
 use Rattle.std.specs.Prelude.{◌&&◌}
-use Rattle.adb_tables.specs.Schema.{shape_of}
-use Rattle.adb_tables.specs.declared.tables.Field.{Field}
-use Rattle.adb_tables.specs.declared.tables.FieldName.TheVariants.{Name}
-use Rattle.adb_tables.specs.declared.tables.Kind.TheVariants.{Int}
+use Rattle.adb_view.specs.Schema.{shape_of}
+use Rattle.adb_view.specs.declared.tables.Field.{Field}
+use Rattle.adb_view.specs.declared.tables.FieldName.TheVariants.{Name}
+use Rattle.adb_view.specs.declared.tables.Kind.TheVariants.{Int}
 use Rattle.adb_dump.specs.Dump.{block_lines, or_null}
 use Rattle.adb_dump.specs.Margin.{lines_at}
 use Rattle.adb_dump.specs.Words.{is_null}
-use Rattle.adb_tables.specs.Values.{value_at}
+use Rattle.adb_view.specs.Values.{value_at}
 use Rattle.adb_view.specs.Adb.{payload_of}
 use Rattle.adb_view.specs.Entries.{array_entries}
 use Rattle.adb_dump.proofs.Puts.{on_ok_then, puts_on, puts_told, so_far_all, so_far_more, so_far_none}

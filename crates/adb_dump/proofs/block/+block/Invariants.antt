@@ -2,12 +2,12 @@ use Rattle.std.proofs.Common.{◌≡◌, ◌+◌, ◌*◌, drop, true}
 use Rattle.adb_view.specs.Adb.{payload_of}
 use Rattle.adb_view.specs.Entries.{array_entries}
 use Rattle.adb_fields.specs.Fields.{are_all_sound, values_at}
-use Rattle.adb_tables.specs.Schema.{shape_of, shapes_of}
+use Rattle.adb_view.specs.Schema.{shape_of, shapes_of}
 use Rattle.adb_dump.specs.Dump.{block_lines, array_lines, fields_lines}
-use Rattle.adb_tables.specs.Rank.{rank, rank_of_all}
+use Rattle.adb_view.specs.Rank.{rank, rank_of_all}
 use Rattle.adb_dump.specs.Margin.{lines_at}
 use Rattle.std.specs.Prelude.{◌&&◌}
-use Rattle.adb_tables.specs.declared.tables.Kind.TheVariants.{Obj}
+use Rattle.adb_view.specs.declared.tables.Kind.TheVariants.{Obj}
 use Rattle.adb_dump.specs.Words.{are_null, fields_sound, fields_at}
 use Rattle.adb_dump.proofs.Left.{entries_left, fields_left}
 use Rattle.adb_dump.proofs.Puts.{IsSoFar}

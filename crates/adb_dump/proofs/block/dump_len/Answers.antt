@@ -1,6 +1,6 @@
 use Rattle.std.proofs.Common.{[]}
 use Rattle.adb_view.specs.Adb.{payload_of}
-use Rattle.adb_tables.specs.Shaped.{adb_of}
+use Rattle.adb_view.specs.ShapedPayload.{adb_of}
 use Rattle.adb_dump.proofs.block.dump_len.Goals as goal
 
 pub returns : goal.returns

@@ -1,5 +1,5 @@
 use Rattle.adb_view.specs.Adb.{payload_of}
-use Rattle.adb_tables.specs.Shaped.{adb_of}
+use Rattle.adb_view.specs.ShapedPayload.{adb_of}
 use Rattle.adb_dump.proofs.WholeText.{whole_text}
 use Rattle.adb_dump.proofs.Puts.{puts_of, puts_on, puts_told}
 use Rattle.adb_dump.proofs.block.write_dump.Goals as goal

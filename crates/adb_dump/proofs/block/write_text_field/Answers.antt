@@ -1,7 +1,7 @@
 use Rattle.std.proofs.Common.{◌≡◌, true, false, sym, ◌∙◌}
-use Rattle.adb_tables.specs.Values.{value_at}
-use Rattle.adb_tables.specs.Schema.{field_name_text}
-use Rattle.adb_tables.specs.declared.tables.Kind.TheVariants.{Text}
+use Rattle.adb_view.specs.Values.{value_at}
+use Rattle.adb_view.specs.Schema.{field_name_text}
+use Rattle.adb_view.specs.declared.tables.Kind.TheVariants.{Text}
 use Rattle.adb_view.specs.Adb.{payload_of}
 use Rattle.adb_dump.specs.Words.{is_null}
 use Rattle.adb_dump.proofs.Nulls.{text_null}

@@ -2,8 +2,8 @@ use Rattle.std.proofs.Common.{Option, Some, None}
 use Rattle.std.specs.Prelude.{IfSome}
 use Rattle.adb_view.specs.Plain.{Plain, IsNormal, plain_of}
 use Rattle.adb_view.specs.Shaped.{HasShape}
-use Rattle.adb_tables.specs.Schema.{shape_of}
-use Rattle.adb_tables.specs.declared.tables.Kind.TheVariants.{Obj}
+use Rattle.adb_view.specs.Schema.{shape_of}
+use Rattle.adb_view.specs.declared.tables.Kind.TheVariants.{Obj}
 use Rattle.adb_dump.specs.Values.{IsOfBytes}
 use Rattle.adb_dump.proofs.ValuesFound.{plain_bytes}
 use Rattle.adb_dump.proofs.laws.values_found_in_bytes_are_of_their_table.Goals as goal

@@ -1,7 +1,7 @@
 use Rattle.std.proofs.Common.{◌≡◌, ◌+◌, drop, true}
 use Rattle.adb_view.specs.Adb.{payload_of}
 use Rattle.adb_view.specs.Entries.{array_entries}
-use Rattle.adb_tables.specs.Rank.{rank, rank_of_all}
+use Rattle.adb_view.specs.Rank.{rank, rank_of_all}
 use Rattle.adb_dump.specs.Words.{are_null, fields_sound, fields_at}
 use Rattle.adb_dump.proofs.words.+null.Given as goal
 

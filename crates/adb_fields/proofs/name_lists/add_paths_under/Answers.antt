@@ -3,13 +3,13 @@ use Rattle.std.proofs.Common.{ℕ, ◌++◌, ◌∷◌, [], List, map, arith, ap
 use Rattle.adb_view.specs.Adb.{payload_of}
 use Rattle.adb_view.specs.Entries.{array_entries}
 use Rattle.adb_view.specs.Plain.{Plain}
-use Rattle.adb_tables.specs.Values.{value_at}
+use Rattle.adb_view.specs.Values.{value_at}
 use Rattle.adb_fields.specs.Pairs.{NameWithPosition}
 use Rattle.adb_fields.specs.Repeated.{name_of}
 use Rattle.adb_fields.specs.Paths.{path_of}
 use Rattle.adb_fields.specs.NamedTexts.{named_by, named_at}
-use Rattle.adb_tables.specs.declared.tables.Kind.TheVariants as Kinds
-use Rattle.adb_tables.specs.declared.tables.Which.TheVariants as Tables
+use Rattle.adb_view.specs.declared.tables.Kind.TheVariants as Kinds
+use Rattle.adb_view.specs.declared.tables.Which.TheVariants as Tables
 use Rattle.adb_fields.proofs.NameLists.{one_piece, no_piece, under_folder}
 use Rattle.adb_fields.proofs.name_lists.add_paths_under.Goals as goal
 

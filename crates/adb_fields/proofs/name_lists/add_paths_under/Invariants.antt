@@ -6,8 +6,8 @@ use Rattle.adb_view.specs.Entries.{array_entries}
 use Rattle.adb_fields.specs.Repeated.{name_of}
 use Rattle.adb_fields.specs.Paths.{path_of}
 use Rattle.adb_fields.specs.NamedTexts.{named_by, named_at, plains_at}
-use Rattle.adb_tables.specs.declared.tables.Kind.TheVariants as Kinds
-use Rattle.adb_tables.specs.declared.tables.Which.TheVariants as Tables
+use Rattle.adb_view.specs.declared.tables.Kind.TheVariants as Kinds
+use Rattle.adb_view.specs.declared.tables.Which.TheVariants as Tables
 use Rattle.adb_fields.proofs.name_lists.add_paths_under.Given as goal
 
 abbrev pub invariant-loop-i : goal.invariant-loop-i

@@ -5,7 +5,7 @@ use Rattle.adb_view.specs.Adb.{payload_of}
 use Rattle.adb_view.specs.Entries.{array_entries}
 use Rattle.adb_fields.specs.Repeated.{numbered_from, name_of}
 use Rattle.adb_fields.specs.NamedTexts.{named_by, plains_at}
-use Rattle.adb_tables.specs.declared.tables.Kind.TheVariants as Kinds
+use Rattle.adb_view.specs.declared.tables.Kind.TheVariants as Kinds
 use Rattle.adb_fields.proofs.name_lists.object_names.Given as goal
 
 abbrev pub invariant-loop-i : goal.invariant-loop-i

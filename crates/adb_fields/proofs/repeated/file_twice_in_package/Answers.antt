@@ -3,12 +3,12 @@ use Rattle.std.proofs.Common.{Option, map, arith, ap, ◌∙◌}
 use Rattle.adb_view.specs.Adb.{payload_of}
 use Rattle.adb_view.specs.Entries.{array_entries}
 use Rattle.adb_view.specs.Plain.{Plain}
-use Rattle.adb_tables.specs.Values.{entries_in}
+use Rattle.adb_view.specs.Values.{entries_in}
 use Rattle.adb_fields.specs.Repeated.{twice, twice_in_one, name_of, list_of, files_in}
 use Rattle.adb_fields.specs.NamedTexts.{plains_at}
 use Rattle.adb_fields.specs.declared.pairs.Pair.{Pair}
-use Rattle.adb_tables.specs.declared.tables.Kind.TheVariants as Kinds
-use Rattle.adb_tables.specs.declared.tables.Which.TheVariants as Tables
+use Rattle.adb_view.specs.declared.tables.Kind.TheVariants as Kinds
+use Rattle.adb_view.specs.declared.tables.Which.TheVariants as Tables
 use Rattle.adb_fields.proofs.FirstKinds.{one_first, no_first, one_each}
 use Rattle.adb_fields.proofs.repeated.file_twice_in_package.Goals as goal
 

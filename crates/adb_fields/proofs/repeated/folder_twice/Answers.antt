@@ -6,8 +6,8 @@ use Rattle.adb_view.specs.Plain.{Plain}
 use Rattle.adb_fields.specs.Repeated.{twice, name_of, folders_in}
 use Rattle.adb_fields.specs.NamedTexts.{plains_at}
 use Rattle.adb_fields.specs.declared.pairs.Pair.{Pair}
-use Rattle.adb_tables.specs.declared.tables.Kind.TheVariants as Kinds
-use Rattle.adb_tables.specs.declared.tables.Which.TheVariants as Tables
+use Rattle.adb_view.specs.declared.tables.Kind.TheVariants as Kinds
+use Rattle.adb_view.specs.declared.tables.Which.TheVariants as Tables
 use Rattle.adb_fields.proofs.FirstKinds.{one_first, no_first, one_each}
 use Rattle.adb_fields.proofs.repeated.folder_twice.Goals as goal
 

@@ -6,8 +6,8 @@ use Rattle.adb_fields.specs.ListsOf.{AreListsOf}
 use Rattle.adb_fields.specs.Pairs.{earlier, earliest}
 use Rattle.adb_fields.specs.Repeated.{twice, name_of, folders_in}
 use Rattle.adb_fields.specs.NamedTexts.{plains_at}
-use Rattle.adb_tables.specs.declared.tables.Kind.TheVariants as Kinds
-use Rattle.adb_tables.specs.declared.tables.Which.TheVariants as Tables
+use Rattle.adb_view.specs.declared.tables.Kind.TheVariants as Kinds
+use Rattle.adb_view.specs.declared.tables.Which.TheVariants as Tables
 use Rattle.adb_fields.proofs.repeated.folder_twice.Given as goal
 
 abbrev pub invariant-loop-i : goal.invariant-loop-i

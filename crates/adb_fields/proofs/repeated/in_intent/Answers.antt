@@ -5,13 +5,13 @@ use Rattle.std.specs.Vec.{vec_len}
 use Rattle.adb_view.specs.Adb.{payload_of}
 use Rattle.adb_view.specs.Entries.{array_entries}
 use Rattle.adb_view.specs.Plain.{Plain}
-use Rattle.adb_tables.specs.Values.{value_at, text_in, entries_in, entry_in, count_of}
+use Rattle.adb_view.specs.Values.{value_at, text_in, entries_in, entry_in, count_of}
 use Rattle.adb_fields.specs.Pairs.{first_pair}
-use Rattle.adb_tables.specs.FieldIndexes.{INTENT_WRITES}
+use Rattle.adb_view.specs.FieldIndexes.{INTENT_WRITES}
 use Rattle.adb_fields.specs.Repeated.{field_number, numbered_from, list_of, repeated_at}
 use Rattle.adb_fields.specs.NamedTexts.{named_by, plains_at}
-use Rattle.adb_tables.specs.declared.tables.Kind.TheVariants as Kinds
-use Rattle.adb_tables.specs.declared.tables.Which.TheVariants as Tables
+use Rattle.adb_view.specs.declared.tables.Kind.TheVariants as Kinds
+use Rattle.adb_view.specs.declared.tables.Which.TheVariants as Tables
 use Rattle.adb_fields.proofs.FieldReads.{entry_count}
 use Rattle.adb_fields.proofs.FirstKinds.{texts_behind}
 use Rattle.adb_fields.proofs.NameLists.{plain_count}

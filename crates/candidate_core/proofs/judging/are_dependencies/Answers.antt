@@ -7,9 +7,9 @@ use Rattle.adb_view.specs.Plain.{Plain}
 use Rattle.adb_view.specs.declared.adb.Adb.{Adb}
 use Rattle.adb_fields.specs.Fields.{array_at}
 use Rattle.adb_fields.proofs.FieldReads.{entry_count}
-use Rattle.adb_tables.specs.Values.{entries_in, nth, value_at}
-use Rattle.adb_tables.specs.declared.tables.Kind.TheVariants as Kinds
-use Rattle.adb_tables.specs.declared.tables.Which.TheVariants as Tables
+use Rattle.adb_view.specs.Values.{entries_in, nth, value_at}
+use Rattle.adb_view.specs.declared.tables.Kind.TheVariants as Kinds
+use Rattle.adb_view.specs.declared.tables.Which.TheVariants as Tables
 use Rattle.dep_core.specs.Meets.{dependency}
 use Rattle.candidate_core.specs.Candidates.{dependency_in}
 use Rattle.candidate_core.proofs.JudgedLists.{one_more_sound, some_mapped}

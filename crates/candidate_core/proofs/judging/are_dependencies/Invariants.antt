@@ -2,10 +2,10 @@ use Rattle.std.proofs.Common.{◌≡◌, ◌<◌, ℕ}
 use Rattle.adb_view.specs.Adb.{payload_of}
 use Rattle.adb_view.specs.Entries.{array_entries}
 use Rattle.adb_fields.specs.Fields.{array_at}
-use Rattle.adb_rules.specs.SoundValues.{IsSoundDependency}
-use Rattle.adb_tables.specs.Values.{entry_in}
-use Rattle.adb_tables.specs.declared.tables.Kind.TheVariants as Kinds
-use Rattle.adb_tables.specs.declared.tables.Which.TheVariants as Tables
+use Rattle.adb_schema.specs.SoundValues.{IsSoundDependency}
+use Rattle.adb_view.specs.Values.{entry_in}
+use Rattle.adb_view.specs.declared.tables.Kind.TheVariants as Kinds
+use Rattle.adb_view.specs.declared.tables.Which.TheVariants as Tables
 use Rattle.candidate_core.proofs.judging.are_dependencies.Given as goal
 
 abbrev pub invariant-loop-i : goal.invariant-loop-i

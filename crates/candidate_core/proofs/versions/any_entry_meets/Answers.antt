@@ -5,10 +5,10 @@ use Rattle.adb_view.specs.Entries.{array_entries}
 use Rattle.adb_view.specs.Plain.{Plain, Plains}
 use Rattle.adb_fields.specs.Fields.{array_at}
 use Rattle.adb_fields.proofs.FieldReads.{entry_count}
-use Rattle.adb_rules.specs.SoundValues.{IsSoundDependency}
-use Rattle.adb_tables.specs.Values.{count_of, entries_in, entry_in, nth, value_at}
-use Rattle.adb_tables.specs.declared.tables.Kind.TheVariants as Kinds
-use Rattle.adb_tables.specs.declared.tables.Which.TheVariants as Tables
+use Rattle.adb_schema.specs.SoundValues.{IsSoundDependency}
+use Rattle.adb_view.specs.Values.{count_of, entries_in, entry_in, nth, value_at}
+use Rattle.adb_view.specs.declared.tables.Kind.TheVariants as Kinds
+use Rattle.adb_view.specs.declared.tables.Which.TheVariants as Tables
 use Rattle.dep_core.specs.Dependency.{Dependency}
 use Rattle.dep_core.specs.Meets.{dependency}
 use Rattle.candidate_core.specs.Candidates.{is_met_by_entry}

@@ -1,7 +1,7 @@
 -- No entry so far meets the dependency, and what is kept is right.
 use Rattle.std.proofs.Common.{◌≡◌, ℕ, List, false}
 use Rattle.std.specs.List.{list_any}
-use Rattle.adb_tables.specs.Values.{entries_in, entry_in}
+use Rattle.adb_view.specs.Values.{entries_in, entry_in}
 use Rattle.dep_core.specs.Meets.{dependency}
 use Rattle.candidate_core.specs.Candidates.{is_met_by_entry}
 use Rattle.candidate_core.specs.Matches.{AreMatchesOf, IsTextOf}

@@ -4,9 +4,9 @@ use Rattle.adb_view.specs.Adb.{payload_of}
 use Rattle.adb_view.specs.Entries.{array_entries}
 use Rattle.adb_view.specs.Plain.{Plain}
 use Rattle.adb_fields.specs.Fields.{array_at}
-use Rattle.adb_tables.specs.Values.{count_of, entries_in, entry_in, nth, text_in, value_at}
-use Rattle.adb_tables.specs.declared.tables.Kind.TheVariants as Kinds
-use Rattle.adb_tables.specs.declared.tables.Which.TheVariants as Tables
+use Rattle.adb_view.specs.Values.{count_of, entries_in, entry_in, nth, text_in, value_at}
+use Rattle.adb_view.specs.declared.tables.Kind.TheVariants as Kinds
+use Rattle.adb_view.specs.declared.tables.Which.TheVariants as Tables
 use Rattle.candidate_core.specs.Candidates.{dependency_in}
 use Rattle.candidate_core.specs.PackageWords.{info_in_source}
 use Rattle.candidate_core.proofs.JudgedLists.{sound_at}

@@ -2,9 +2,9 @@ use Rattle.dep_core.specs.Dependency.{Dependency}
 use Rattle.dep_core.specs.Meets.{dependency}
 use Rattle.std.proofs.Common.{Bool}
 use Rattle.candidate_core.specs.Candidates.{dependency_in, is_met_by_entry}
-use Rattle.adb_tables.specs.Values.{value_at}
-use Rattle.adb_tables.specs.declared.tables.Kind.TheVariants as Kinds
-use Rattle.adb_tables.specs.declared.tables.Which.TheVariants as Tables
+use Rattle.adb_view.specs.Values.{value_at}
+use Rattle.adb_view.specs.declared.tables.Kind.TheVariants as Kinds
+use Rattle.adb_view.specs.declared.tables.Which.TheVariants as Tables
 use Rattle.adb_view.specs.Adb.{payload_of}
 use Rattle.candidate_core.proofs.WantedVersions.{if_ok_map, no_entry, one_entry}
 use Rattle.candidate_core.proofs.versions.entry_meets.Goals as goal

@@ -1,7 +1,7 @@
 use Rattle.std.proofs.Common.{◌∙◌, ap, sym}
 use Rattle.std.specs.Prelude.{◌||◌}
 use Rattle.std.specs.List.{list_any}
-use Rattle.adb_tables.specs.Values.{entry_in}
+use Rattle.adb_view.specs.Values.{entry_in}
 use Rattle.dep_core.specs.Meets.{dependency}
 use Rattle.candidate_core.specs.Candidates.{dependencies_in, is_met_by_entry}
 use Rattle.candidate_core.specs.PackageWords.{info_in_source}

@@ -1,7 +1,7 @@
 use Rattle.std.proofs.Common.{◌≡◌}
 use Rattle.std.specs.Prelude.{None}
 use Rattle.std.specs.List.{find}
-use Rattle.adb_tables.specs.Values.{entries_in, entry_in}
+use Rattle.adb_view.specs.Values.{entries_in, entry_in}
 use Rattle.dep_core.specs.Meets.{dependency}
 use Rattle.candidate_core.specs.Candidates.{is_met_by_entry}
 use Rattle.candidate_core.specs.PackageWords.{info_in_source}

@@ -1,7 +1,7 @@
 use Rattle.std.proofs.Common.{◌+◌, drop, map, ap}
 use Rattle.std.specs.List.{flat_map}
 use Rattle.change_outcome.specs.ConfigurationLines.{PathLine}
-use Rattle.due_triggers.proofs.Loops.{all_told, made_at, made_none, told}
+use Rattle.change_report.proofs.Loops.{all_told, made_at, made_none, told}
 use Rattle.change_report.specs.Notices.{notice_seen}
 use Rattle.change_report.proofs.configuration.push_lines.Goals as goal
 

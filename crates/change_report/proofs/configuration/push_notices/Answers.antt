@@ -1,7 +1,7 @@
 use Rattle.std.proofs.Common.{◌∙◌, ◌+◌, ◌∷◌, List, ℕ, drop, map, ap, sym, arith}
 use Rattle.std.specs.Prelude.{if◌then◌else◌}
 use Rattle.change_outcome.specs.ConfigurationLines.{PathLine, aside_line, kept_line, path_line}
-use Rattle.due_triggers.proofs.Loops.{all_told, made_from, made_none, pushed}
+use Rattle.change_report.proofs.Loops.{all_told, made_from, made_none, pushed}
 use Rattle.change_report.specs.Notices.{notice_seen}
 use Rattle.change_report.proofs.configuration.push_notices.Goals as goal
 

@@ -1,7 +1,7 @@
 use Rattle.std.proofs.Common.{ap, rules}
 use Rattle.std.specs.Ordering.{is_lt}
 use Rattle.std.proofs.lemmas.List.Sorted.{ranks_by, answers_always}
-use Rattle.list_order.proofs.Sorting.{sort_seen}
+use Rattle.base_core.proofs.Sorting.{sort_seen}
 use Rattle.change_outcome.specs.ConfigurationLines.{path_line_cmp}
 use Rattle.change_report.specs.Notices.{notice_seen}
 use Rattle.change_report.proofs.PathOrder.{path_lines_total}

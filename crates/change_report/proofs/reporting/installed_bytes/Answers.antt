@@ -4,7 +4,7 @@ use Rattle.std.proofs.lemmas.List.{drop_all}
 use Rattle.db_core.specs.Members.{Member}
 use Rattle.db_core.specs.Seen.{members_of}
 use Rattle.change_outcome.specs.ChangeOutcome.{member_size}
-use Rattle.due_triggers.proofs.Loops.{left_at, placed_at}
+use Rattle.change_report.proofs.Loops.{left_at, placed_at}
 use Rattle.change_report.proofs.reporting.installed_bytes.Goals as goal
 
 pub loop-i-init : goal.loop-i-init

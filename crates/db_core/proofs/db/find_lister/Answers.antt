@@ -1,6 +1,6 @@
 use Rattle.std.proofs.Common.{arith}
 use Rattle.adb_fields.specs.ListValue.{list_value}
-use Rattle.adb_tables.specs.Values.{entries_in}
+use Rattle.adb_view.specs.Values.{entries_in}
 use Rattle.db_core.specs.Packages.{lists_path}
 use Rattle.db_core.proofs.Places.{place_found, place_next, place_none}
 use Rattle.db_core.proofs.db.find_lister.Goals as goal

@@ -1,6 +1,6 @@
 -- None so far lists the path: the rest decides.
 use Rattle.adb_fields.specs.ListValue.{list_value}
-use Rattle.adb_tables.specs.Values.{entries_in}
+use Rattle.adb_view.specs.Values.{entries_in}
 use Rattle.db_core.specs.Packages.{lists_path}
 use Rattle.db_core.proofs.Places.{IsLeft}
 use Rattle.db_core.proofs.db.find_lister.Given as goal

@@ -1,4 +1,4 @@
-use Rattle.adb_tables.specs.declared.tables.Which.TheVariants.{Idb}
+use Rattle.adb_view.specs.declared.tables.Which.TheVariants.{Idb}
 use Rattle.adb_schema.proofs.SoundPayload.{payload_head, payload_sound}
 use Rattle.db_core.proofs.db.open_idb.Goals as goal
 

@@ -2,7 +2,7 @@ use Rattle.std.proofs.Common.{◌≡◌, ◌<◌, ℕ, length, Some, ◌∙◌, 
 use Rattle.std.specs.Prelude.{option_map, slice_get}
 use Rattle.adb_view.specs.Plain.{Plain, Plains}
 use Rattle.adb_schema.specs.Views.{idb_value}
-use Rattle.adb_tables.specs.Values.{count_of, entries_in, entry_in}
+use Rattle.adb_view.specs.Values.{count_of, entries_in, entry_in}
 use Rattle.db_core.specs.EntrySeen.{payload_of_database}
 use Rattle.db_core.specs.Packages.{packages_by}
 use Rattle.db_core.proofs.Places.{count_listed, nth_listed}

@@ -5,7 +5,7 @@ use Rattle.adb_fields.specs.ListValue.{list_value}
 use Rattle.adb_fields.specs.Paths.{path_of}
 use Rattle.adb_fields.specs.Repeated.{list_of, name_of, files_in, paths_under}
 use Rattle.adb_schema.specs.Views.{dir_value}
-use Rattle.adb_tables.specs.Values.{entries_in, entry_in}
+use Rattle.adb_view.specs.Values.{entries_in, entry_in}
 use Rattle.db_core.proofs.AnyOf.{any_map}
 use Rattle.db_core.proofs.listed_paths.is_path_in_folder.Goals as goal
 

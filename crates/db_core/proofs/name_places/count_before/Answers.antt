@@ -1,6 +1,6 @@
 use Rattle.std.proofs.Common.{rules}
 use Rattle.std.proofs.lemmas.List.Sorted.{IsPartitionPoint-from_clause}
-use Rattle.list_order.specs.ByteOrder.{precedes}
+use Rattle.base_core.specs.ByteOrder.{precedes}
 use Rattle.db_core.specs.declared.name_places.NamePlace.{NamePlace}
 use Rattle.db_core.proofs.NamePlaces.{names_parted, point_seen}
 use Rattle.db_core.proofs.name_places.count_before.Goals as goal

@@ -1,7 +1,7 @@
 use Rattle.std.proofs.Common.{ap, rules}
 use Rattle.std.specs.Ordering.{is_lt}
 use Rattle.std.proofs.lemmas.List.Sorted.{ranks_by, answers_always}
-use Rattle.list_order.proofs.Sorting.{sort_seen}
+use Rattle.base_core.proofs.Sorting.{sort_seen}
 use Rattle.db_core.specs.NamePlaces.{placed_name_cmp}
 use Rattle.db_core.specs.NameSeen.{name_seen}
 use Rattle.db_core.proofs.NamePlaces.{names_total}

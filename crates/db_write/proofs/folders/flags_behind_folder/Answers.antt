@@ -1,10 +1,10 @@
 use Rattle.std.proofs.Common.{◌≡◌, ◌-◌, ℕ, List, length, drop, ◌∙◌, ap, arith, length-drop, sym, take_all}
 use Rattle.adb_view.specs.Adb.{payload_of}
 use Rattle.adb_view.specs.Entries.{array_entries}
-use Rattle.adb_tables.specs.declared.tables.Kind.TheVariants as Kinds
-use Rattle.adb_tables.specs.declared.tables.Which.TheVariants as Tables
+use Rattle.adb_view.specs.declared.tables.Kind.TheVariants as Kinds
+use Rattle.adb_view.specs.declared.tables.Which.TheVariants as Tables
 use Rattle.adb_fields.specs.Repeated.{list_of}
-use Rattle.adb_tables.specs.Values.{entries_in, value_at}
+use Rattle.adb_view.specs.Values.{entries_in, value_at}
 use Rattle.db_write.specs.NewDatabase.{file_count}
 use Rattle.db_write.proofs.Segments.{drop_past}
 use Rattle.db_write.proofs.Words.{words_listed}

@@ -1,6 +1,6 @@
 use Rattle.adb_copy.specs.Zeros.{without_zeros}
 use Rattle.adb_fields.specs.Repeated.{name_of}
-use Rattle.adb_tables.specs.Values.{entry_in}
+use Rattle.adb_view.specs.Values.{entry_in}
 use Rattle.db_write.proofs.KeptParts.{folder_acl, folder_parts}
 use Rattle.db_write.proofs.RootNames.{folder_name}
 use Rattle.db_write.proofs.laws.a_package_keeps_its_folders.Goals as goal

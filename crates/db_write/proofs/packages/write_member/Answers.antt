@@ -3,9 +3,9 @@ use Rattle.std.specs.Prelude.{is_some}
 use Rattle.adb_view.specs.Adb.{payload_of}
 use Rattle.adb_view.specs.Plain.{Plain}
 use Rattle.adb_schema.specs.Views.{package_value}
-use Rattle.adb_tables.specs.Values.{value_at}
-use Rattle.adb_tables.specs.declared.tables.Kind.TheVariants as Kinds
-use Rattle.adb_tables.specs.declared.tables.Which.TheVariants as Tables
+use Rattle.adb_view.specs.Values.{value_at}
+use Rattle.adb_view.specs.declared.tables.Kind.TheVariants as Kinds
+use Rattle.adb_view.specs.declared.tables.Which.TheVariants as Tables
 use Rattle.adb_values.specs.Drafts.{draft_with}
 use Rattle.adb_values.proofs.Lists.{on_ok}
 use Rattle.adb_copy.specs.Known.{AreBlobsOf}

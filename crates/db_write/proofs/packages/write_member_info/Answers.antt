@@ -2,9 +2,9 @@ use Rattle.std.proofs.Common.{◌≡◌, ◌∙◌, ℕ, List, refl, ap}
 use Rattle.std.specs.Prelude.{unwrap_or}
 use Rattle.adb_view.specs.Adb.{payload_of}
 use Rattle.adb_view.specs.Plain.{Plain}
-use Rattle.adb_tables.specs.Values.{entry_in, int_in, text_in, value_at}
-use Rattle.adb_tables.specs.declared.tables.Kind.TheVariants as Kinds
-use Rattle.adb_tables.specs.declared.tables.Which.TheVariants as Tables
+use Rattle.adb_view.specs.Values.{entry_in, int_in, text_in, value_at}
+use Rattle.adb_view.specs.declared.tables.Kind.TheVariants as Kinds
+use Rattle.adb_view.specs.declared.tables.Which.TheVariants as Tables
 use Rattle.adb_values.specs.Drafts.{draft_with}
 use Rattle.adb_values.proofs.Lists.{on_ok}
 use Rattle.adb_copy.specs.Zeros.{info_with}

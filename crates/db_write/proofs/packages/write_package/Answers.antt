@@ -2,9 +2,9 @@ use Rattle.std.proofs.Common.{◌≡◌, ◌∙◌, ℕ, List, ap, refl, sym}
 use Rattle.adb_view.specs.Adb.{payload_of}
 use Rattle.adb_view.specs.Plain.{Plain, Plains, none, more, arr_value, obj_value}
 use Rattle.adb_fields.specs.Repeated.{folders_in}
-use Rattle.adb_tables.specs.Values.{entry_in, value_at}
-use Rattle.adb_tables.specs.declared.tables.Kind.TheVariants as Kinds
-use Rattle.adb_tables.specs.declared.tables.Which.TheVariants as Tables
+use Rattle.adb_view.specs.Values.{entry_in, value_at}
+use Rattle.adb_view.specs.declared.tables.Kind.TheVariants as Kinds
+use Rattle.adb_view.specs.declared.tables.Which.TheVariants as Tables
 use Rattle.adb_copy.specs.Zeros.{int_value, without_zeros}
 use Rattle.adb_copy.proofs.Known.{known_closed_object, known_more, known_opened}
 use Rattle.adb_values.specs.Drafts.{draft_with, draft_with_all, draft_with_open_list}

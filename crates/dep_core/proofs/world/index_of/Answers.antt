@@ -2,7 +2,7 @@
 use Rattle.std.proofs.Common.{rules, ◌≡◌}
 use Rattle.std.proofs.lemmas.Fn.{always_returns_same}
 use Rattle.dep_core.specs.Dependency.{Dependency}
-use Rattle.list_order.specs.ByteOrder.{bytes_cmp}
+use Rattle.base_core.specs.ByteOrder.{bytes_cmp}
 use Rattle.dep_core.proofs.world.index_of.Goals as goal
 
 pub returns-clause-index : goal.returns-clause-index

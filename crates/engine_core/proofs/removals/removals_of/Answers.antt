@@ -2,8 +2,8 @@ use Rattle.std.proofs.Common.{◌≡◌, ◌∙◌, ℕ, Bool, List, [], ◌∷�
 use Rattle.std.specs.Prelude.{IfOk}
 use Rattle.std.specs.declared.alloc.AllocError.{AllocError}
 use Rattle.change_outcome.specs.ChangeOutcome.{name_if_needed}
-use Rattle.list_order.specs.ByteOrder.{bytes_cmp}
-use Rattle.list_order.specs.Sorted.{sorted_by}
+use Rattle.base_core.specs.ByteOrder.{bytes_cmp}
+use Rattle.base_core.specs.Sorted.{sorted_by}
 use Rattle.root_names.specs.RootNames.{text_database_name}
 use Rattle.engine_core.proofs.Lists.{map_more}
 use Rattle.engine_core.proofs.Once.{once_ordered}

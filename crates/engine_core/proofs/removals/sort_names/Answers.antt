@@ -2,8 +2,8 @@ use Rattle.std.proofs.Common.{ap, rules, List, ℕ, Bor}
 use Rattle.std.specs.Ordering.{is_lt}
 use Rattle.std.proofs.lemmas.Cmp.{nat_list_cmp_total}
 use Rattle.std.proofs.lemmas.List.Sorted.{ranks_by, answers_always}
-use Rattle.list_order.specs.ByteOrder.{bytes_cmp}
-use Rattle.list_order.proofs.Sorting.{sort_seen}
+use Rattle.base_core.specs.ByteOrder.{bytes_cmp}
+use Rattle.base_core.proofs.Sorting.{sort_seen}
 use Rattle.engine_core.proofs.removals.sort_names.Goals as goal
 
 pub returns : goal.returns

@@ -1,6 +1,6 @@
 use Rattle.std.proofs.Common.{arith, ap, ◌∙◌}
 use Rattle.db_core.specs.Seen.{packages_of}
-use Rattle.report_changes.specs.Report.{was_installed}
+use Rattle.package_changes.specs.Report.{was_installed}
 use Rattle.engine_core.proofs.Known.{all_known, known_here, unknown_here}
 use Rattle.engine_core.proofs.wishes.first_not_installed.Goals as goal
 

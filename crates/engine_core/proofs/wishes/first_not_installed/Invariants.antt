@@ -1,6 +1,6 @@
 use Rattle.std.proofs.Common.{◌≡◌, drop}
 use Rattle.db_core.specs.Seen.{packages_of}
-use Rattle.report_changes.specs.Report.{was_installed}
+use Rattle.package_changes.specs.Report.{was_installed}
 use Rattle.engine_core.specs.Wishes.{first_unknown}
 use Rattle.engine_core.proofs.wishes.first_not_installed.Given as goal
 

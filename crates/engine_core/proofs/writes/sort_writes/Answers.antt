@@ -2,8 +2,8 @@ use Rattle.std.proofs.Common.{ap, rules}
 use Rattle.std.specs.Ordering.{is_lt, on}
 use Rattle.std.proofs.lemmas.Cmp.{nat_list_cmp_total, on_total}
 use Rattle.std.proofs.lemmas.List.Sorted.{ranks_by, answers_always}
-use Rattle.list_order.specs.ByteOrder.{bytes_cmp}
-use Rattle.list_order.proofs.Sorting.{sort_is}
+use Rattle.base_core.specs.ByteOrder.{bytes_cmp}
+use Rattle.base_core.proofs.Sorting.{sort_is}
 use Rattle.engine_core.specs.Writing.{write_name}
 use Rattle.engine_core.proofs.writes.sort_writes.Goals as goal
 

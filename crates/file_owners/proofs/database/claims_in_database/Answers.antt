@@ -1,5 +1,5 @@
 use Rattle.std.proofs.Common.{◌∙◌, ap, map}
-use Rattle.list_order.specs.Sorted.{sorted_by}
+use Rattle.base_core.specs.Sorted.{sorted_by}
 use Rattle.db_core.specs.Members.{staying_member}
 use Rattle.db_core.specs.Seen.{packages_of}
 use Rattle.path_claims.specs.Claims.{claim_cmp}

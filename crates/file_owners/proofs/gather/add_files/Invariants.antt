@@ -1,7 +1,7 @@
 -- What is left of the files is still to be added.
 use Rattle.std.proofs.Common.{map}
 use Rattle.adb_fields.specs.ListValue.{list_value}
-use Rattle.adb_tables.specs.Values.{entries_in}
+use Rattle.adb_view.specs.Values.{entries_in}
 use Rattle.db_core.specs.Members.{Member}
 use Rattle.path_claims.specs.Seen.{claim_seen}
 use Rattle.file_owners.proofs.Gathering.{FilesLeft}

@@ -1,6 +1,6 @@
 use Rattle.std.proofs.Common.{arith, map}
 use Rattle.adb_fields.specs.ListValue.{list_value}
-use Rattle.adb_tables.specs.Values.{entries_in}
+use Rattle.adb_view.specs.Values.{entries_in}
 use Rattle.path_claims.specs.Seen.{claim_seen}
 use Rattle.file_owners.proofs.Gathering.{folder_added, folders_added}
 use Rattle.file_owners.proofs.gather.add_folders.Goals as goal

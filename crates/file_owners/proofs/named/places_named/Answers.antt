@@ -2,11 +2,11 @@ use Rattle.std.proofs.Common.{◌≡◌, ◌∙◌, ap, subst, sym}
 use Rattle.std.specs.List.{list_any}
 use Rattle.adb_fields.specs.Fields.{array_at}
 use Rattle.adb_fields.specs.Repeated.{list_of}
-use Rattle.adb_rules.specs.SoundValues.{IsSoundDependency}
+use Rattle.adb_schema.specs.SoundValues.{IsSoundDependency}
 use Rattle.adb_schema.specs.Views.{package_value}
-use Rattle.adb_tables.specs.Values.{entries_in, entry_in}
-use Rattle.adb_tables.specs.declared.tables.Kind.TheVariants as Kinds
-use Rattle.adb_tables.specs.declared.tables.Which.TheVariants as Tables
+use Rattle.adb_view.specs.Values.{entries_in, entry_in}
+use Rattle.adb_view.specs.declared.tables.Kind.TheVariants as Kinds
+use Rattle.adb_view.specs.declared.tables.Which.TheVariants as Tables
 use Rattle.adb_view.specs.Adb.{payload_of}
 use Rattle.adb_view.specs.Entries.{array_entries}
 use Rattle.adb_view.specs.Plain.{Plain}

@@ -2,12 +2,12 @@ use Rattle.std.proofs.Common.{◌<◌, ℕ, List, length, sym, subst, arith}
 use Rattle.std.specs.Prelude.{All}
 use Rattle.adb_fields.specs.Fields.{array_at}
 use Rattle.adb_fields.proofs.FieldReads.{entry_count}
-use Rattle.adb_rules.specs.SoundValues.{IsSoundDependency}
-use Rattle.adb_rules.proofs.SoundLeaves.{each_at}
-use Rattle.adb_tables.specs.Values.{entries_in, value_at}
-use Rattle.adb_tables.specs.declared.tables.Kind.{Kind}
-use Rattle.adb_tables.specs.declared.tables.Kind.TheVariants as Kinds
-use Rattle.adb_tables.specs.declared.tables.Which.TheVariants as Tables
+use Rattle.adb_schema.specs.SoundValues.{IsSoundDependency}
+use Rattle.adb_schema.proofs.SoundLeaves.{each_at}
+use Rattle.adb_view.specs.Values.{entries_in, value_at}
+use Rattle.adb_view.specs.declared.tables.Kind.{Kind}
+use Rattle.adb_view.specs.declared.tables.Kind.TheVariants as Kinds
+use Rattle.adb_view.specs.declared.tables.Which.TheVariants as Tables
 use Rattle.adb_view.specs.Adb.{payload_of}
 use Rattle.adb_view.specs.Entries.{array_entries}
 use Rattle.adb_view.specs.Plain.{Plains}

@@ -1,9 +1,9 @@
 -- The questions so far, and the entries that are left, make up all that is asked.
 use Rattle.std.specs.Prelude.{All}
 use Rattle.adb_fields.specs.Fields.{array_at}
-use Rattle.adb_tables.specs.Values.{entries_in}
-use Rattle.adb_tables.specs.declared.tables.Kind.TheVariants as Kinds
-use Rattle.adb_tables.specs.declared.tables.Which.TheVariants as Tables
+use Rattle.adb_view.specs.Values.{entries_in}
+use Rattle.adb_view.specs.declared.tables.Kind.TheVariants as Kinds
+use Rattle.adb_view.specs.declared.tables.Which.TheVariants as Tables
 use Rattle.adb_view.specs.Adb.{payload_of}
 use Rattle.adb_view.specs.Entries.{array_entries}
 use Rattle.db_core.specs.Seen.{members_of}

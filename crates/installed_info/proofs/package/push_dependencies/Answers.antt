@@ -2,7 +2,7 @@ use Rattle.std.proofs.Common.{◌≡◌, ◌∙◌, ◌+◌, ◌-◌, ◌++◌, 
 use Rattle.std.specs.Option.{option_map_or}
 use Rattle.adb_fields.specs.ListValue.{list_value}
 use Rattle.adb_fields.specs.Repeated.{list_of}
-use Rattle.adb_tables.specs.Values.{entries_in, entry_in, nth}
+use Rattle.adb_view.specs.Values.{entries_in, entry_in, nth}
 use Rattle.dep_core.specs.DependencyText.{dep_text}
 use Rattle.candidate_core.specs.Candidates.{dependency_in}
 use Rattle.report_core.specs.Reports.{report_line, report_lines}

@@ -1,5 +1,5 @@
 use Rattle.std.proofs.Common.{◌∙◌, ap}
-use Rattle.adb_tables.specs.Values.{entry_in, text_in}
+use Rattle.adb_view.specs.Values.{entry_in, text_in}
 use Rattle.installed_info.proofs.LineSteps.{one_line}
 use Rattle.installed_info.proofs.package.push_description.Goals as goal
 

@@ -3,7 +3,7 @@ use Rattle.adb_view.specs.Plain.{Plain}
 use Rattle.adb_fields.specs.ListValue.{list_value}
 use Rattle.adb_fields.specs.Paths.{path_of}
 use Rattle.adb_fields.specs.Repeated.{list_of, name_of}
-use Rattle.adb_tables.specs.Values.{entries_in, entry_in, nth}
+use Rattle.adb_view.specs.Values.{entries_in, entry_in, nth}
 use Rattle.report_core.specs.Reports.{report_line, report_lines}
 use Rattle.installed_info.proofs.LineSteps.{all_told, entry_left, no_entry_left, told}
 use Rattle.installed_info.proofs.paths.push_files.Goals as goal

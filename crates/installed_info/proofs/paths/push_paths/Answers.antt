@@ -2,7 +2,7 @@ use Rattle.std.proofs.Common.{◌+◌, drop, ap, arith}
 use Rattle.std.specs.List.{flat_map}
 use Rattle.adb_fields.specs.ListValue.{list_value}
 use Rattle.adb_fields.specs.Repeated.{list_of, paths_under}
-use Rattle.adb_tables.specs.Values.{entries_in, nth}
+use Rattle.adb_view.specs.Values.{entries_in, nth}
 use Rattle.report_core.specs.Reports.{report_lines}
 use Rattle.installed_info.proofs.LineSteps.{all_told, folder_left, no_entry_left, told}
 use Rattle.installed_info.proofs.paths.push_paths.Goals as goal

@@ -1,7 +1,7 @@
 use Rattle.std.proofs.Common.{◌≡◌, map, take}
 use Rattle.adb_fields.specs.Repeated.{list_of}
 use Rattle.adb_fields.specs.ListValue.{list_value}
-use Rattle.adb_tables.specs.Values.{entries_in, text_in}
+use Rattle.adb_view.specs.Values.{entries_in, text_in}
 use Rattle.journal_intent.proofs.lists.names_in.Given as goal
 
 abbrev pub invariant-loop-i : goal.invariant-loop-i

@@ -1,9 +1,9 @@
 use Rattle.std.proofs.Common.{◌≡◌, suc, ◌+◌, false, arith, subst, get_or}
 use Rattle.std.specs.Ordering.{is_lt}
 use Rattle.make_index.specs.EntryOrder.{entry_cmp}
-use Rattle.list_order.specs.Sorted.{sorted_by}
+use Rattle.base_core.specs.Sorted.{sorted_by}
 use Rattle.make_index.proofs.IndexOrdering.{entry_cmp_total}
-use Rattle.list_order.proofs.Sorting.{adjacent, ranks, rises_in_order, sorted_same, stable_in_order}
+use Rattle.base_core.proofs.Sorting.{adjacent, ranks, rises_in_order, sorted_same, stable_in_order}
 use Rattle.make_index.proofs.index.an_index_is_in_order.Goals as goal
 
 pub returns-clause-same : goal.returns-clause-same

@@ -4,7 +4,7 @@ use Rattle.std.proofs.lemmas.List.Sorted.{ranks_by, answers_always}
 use Rattle.make_index.specs.EntryOrder.{entry_cmp}
 use Rattle.make_index.specs.Views.{entry_view}
 use Rattle.make_index.proofs.IndexOrdering.{entry_cmp_total}
-use Rattle.list_order.proofs.Sorting.{sort_seen}
+use Rattle.base_core.proofs.Sorting.{sort_seen}
 use Rattle.make_index.proofs.index.sort_entries.Goals as goal
 
 pub returns : goal.returns

@@ -1,5 +1,5 @@
 use Rattle.std.proofs.Common.{refl}
-use Rattle.adb_tables.proofs.ValueEntries.{nth_obj}
+use Rattle.adb_view.proofs.ValueEntries.{nth_obj}
 use Rattle.adb_view.specs.Plain.{none, more, blob_value}
 use Rattle.dep_core.specs.Value.{dep_value}
 use Rattle.make_info.specs.Values.{number_value}

@@ -1,6 +1,6 @@
 use Rattle.std.proofs.Common.{◌≡◌, ℕ, List, codes}
-use Rattle.adb_tables.proofs.ValueEntries.{nth_obj}
-use Rattle.adb_tables.specs.declared.tables.Which.TheVariants.{Index}
+use Rattle.adb_view.proofs.ValueEntries.{nth_obj}
+use Rattle.adb_view.specs.declared.tables.Which.TheVariants.{Index}
 use Rattle.adb_view.specs.Plain.{Plain, none, more, arr_value, blob_value}
 use Rattle.make_index.specs.Index.{value_of_index}
 use Rattle.make_info.specs.Values.{plains_of_list}

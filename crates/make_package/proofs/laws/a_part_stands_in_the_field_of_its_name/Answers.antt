@@ -1,7 +1,7 @@
 use Rattle.std.proofs.Common.{◌≡◌, Some, refl}
 use Rattle.std.proofs.lemmas.List.Elements.{All-from_recursion}
-use Rattle.adb_tables.specs.Schema.{table}
-use Rattle.adb_tables.specs.declared.tables.Which.TheVariants.{Scripts}
+use Rattle.adb_view.specs.Schema.{table}
+use Rattle.adb_view.specs.declared.tables.Which.TheVariants.{Scripts}
 use Rattle.adb_view.specs.Plain.{blob_value}
 use Rattle.command_core.specs.Values.{script_types}
 use Rattle.make_info.specs.Named.{value_by_name}

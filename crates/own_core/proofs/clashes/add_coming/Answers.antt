@@ -3,7 +3,7 @@ use Rattle.adb_fields.specs.JoinedPath.{joined_path}
 use Rattle.db_core.specs.Seen.{members_of}
 use Rattle.path_claims.specs.Seen.{claim_seen}
 use Rattle.path_claims.proofs.Places.{seen_at}
-use Rattle.file_fates.specs.ClaimEntries.{comes_at}
+use Rattle.own_core.specs.ClaimEntries.{comes_at}
 use Rattle.own_core.proofs.Written.{path_left, path_more, paths_whole}
 use Rattle.own_core.proofs.clashes.add_coming.Goals as goal
 use Rattle.own_core.proofs.clashes.add_coming.Goals.{then-comes+in_ok-push, else-comes}

@@ -4,7 +4,7 @@ use Rattle.std.specs.List.{filter}
 use Rattle.adb_fields.specs.JoinedPath.{joined_path}
 use Rattle.db_core.specs.Seen.{members_of}
 use Rattle.path_claims.specs.Seen.{claim_seen}
-use Rattle.file_fates.specs.ClaimEntries.{comes_at}
+use Rattle.own_core.specs.ClaimEntries.{comes_at}
 use Rattle.own_core.proofs.clashes.add_coming.Given as goal
 
 abbrev pub invariant-loop-claim : goal.invariant-loop-claim

@@ -2,8 +2,8 @@ use Rattle.std.proofs.Common.{ap, rules}
 use Rattle.std.specs.Ordering.{is_lt}
 use Rattle.std.proofs.lemmas.List.Sorted.{ranks_by, answers_always}
 use Rattle.adb_fields.specs.JoinedPath.{joined_path}
-use Rattle.list_order.specs.ByteOrder.{bytes_cmp}
-use Rattle.list_order.proofs.Sorting.{sort_seen}
+use Rattle.base_core.specs.ByteOrder.{bytes_cmp}
+use Rattle.base_core.proofs.Sorting.{sort_seen}
 use Rattle.path_claims.proofs.ClaimOrder.{paths_total}
 use Rattle.own_core.proofs.clashes.sort_paths.Goals as goal
 

@@ -4,15 +4,15 @@ use Rattle.std.specs.List.{find, list_any}
 use Rattle.std.specs.List.Sorted.{IsSorted}
 use Rattle.adb_fields.specs.JoinedPath.{joined_path}
 use Rattle.change_files.specs.Fate.{aside_name}
-use Rattle.list_order.specs.ByteOrder.{bytes_cmp}
-use Rattle.list_order.specs.Sorted.{sorted_by}
+use Rattle.base_core.specs.ByteOrder.{bytes_cmp}
+use Rattle.base_core.specs.Sorted.{sorted_by}
 use Rattle.path_claims.specs.Claims.{claim_cmp, is_of_path}
 use Rattle.path_claims.specs.Seen.{claim_seen}
 use Rattle.path_claims.specs.declared.claim.Claim.{Claim}
-use Rattle.file_fates.specs.Parts.{asides_of}
-use Rattle.file_fates.specs.Sides.{claims_after, claims_before}
+use Rattle.own_core.specs.Parts.{asides_of}
+use Rattle.own_core.specs.Sides.{claims_after, claims_before}
 use Rattle.own_core.specs.WritesSeen.{HaveNamesBeside}
-use Rattle.file_fates.proofs.ChangeClaims.{after_sorted, before_sorted}
+use Rattle.own_core.proofs.ChangeClaims.{after_sorted, before_sorted}
 use Rattle.own_core.proofs.NameChanges.{all_written}
 use Rattle.own_core.proofs.PartsMeaning as Parts
 use Rattle.own_core.proofs.PlanParts.{clash_is, clash_may, sorted_list, written_named}

@@ -3,7 +3,7 @@ use Rattle.std.proofs.Common.{◌≡◌, None, map, take}
 use Rattle.std.specs.List.{find}
 use Rattle.db_core.specs.Seen.{members_of}
 use Rattle.path_claims.specs.Seen.{claim_seen}
-use Rattle.file_fates.specs.ClaimEntries.{is_reserved_coming}
+use Rattle.own_core.specs.ClaimEntries.{is_reserved_coming}
 use Rattle.own_core.proofs.planning.first_reserved.Given as goal
 
 abbrev pub invariant-loop-claim : goal.invariant-loop-claim

@@ -7,10 +7,10 @@ use Rattle.file_owners.specs.Owners.{claims_in}
 use Rattle.path_claims.specs.Seen.{claim_seen}
 use Rattle.path_claims.specs.declared.claim.Claim.{Claim}
 use Rattle.path_claims.proofs.Whole.{is_sorted}
-use Rattle.file_fates.specs.ClaimEntries.{is_of_coming_owner}
-use Rattle.file_fates.specs.Sides.{HasClaims}
-use Rattle.file_fates.specs.declared.change.Change.{Change}
-use Rattle.file_fates.proofs.Listings.{are_claims}
+use Rattle.own_core.specs.ClaimEntries.{is_of_coming_owner}
+use Rattle.own_core.specs.Sides.{HasClaims}
+use Rattle.own_core.specs.declared.change.Change.{Change}
+use Rattle.own_core.proofs.Listings.{are_claims}
 use Rattle.own_core.specs.Planned.{change_by}
 use Rattle.own_core.proofs.OwnNames.{names_if_planned, sources_if_planned}
 use Rattle.own_core.proofs.PlanParts.{has_claims}

@@ -1,7 +1,7 @@
 use Rattle.std.proofs.Common.{ap, rules}
 use Rattle.std.specs.Ordering.{is_lt}
 use Rattle.std.proofs.lemmas.List.Sorted.{ranks_by, answers_always}
-use Rattle.list_order.proofs.Sorting.{sort_seen}
+use Rattle.base_core.proofs.Sorting.{sort_seen}
 use Rattle.own_core.specs.WritesSeen.{write_cmp, write_seen}
 use Rattle.own_core.proofs.WritesMeaning.{writes_total}
 use Rattle.own_core.proofs.writes.sort_writes.Goals as goal

@@ -4,10 +4,10 @@ use Rattle.base_core.specs.declared.cause.Cause.{Cause}
 use Rattle.base_core.specs.declared.tree.TreeFault.TheVariants.{Disk as DiskFault, Memory}
 use Rattle.adb_block.specs.Reading.{reading_of}
 use Rattle.pkg_core.specs.Contents.{expected_contents, files_by_blocks}
-use Rattle.piece_core.specs.Pieces.{pieces_by_blocks}
-use Rattle.pkg_pieces.specs.Front.{behind_front}
-use Rattle.pkg_pieces.specs.Values.{value_of_contents}
-use Rattle.pkg_pieces.proofs.SeenBytes.{reads_bad, reads_in_a_row}
+use Rattle.pkg_core.specs.Pieces.{pieces_by_blocks}
+use Rattle.pkg_core.specs.Front.{behind_front}
+use Rattle.pkg_core.specs.Values.{value_of_contents}
+use Rattle.pkg_core.proofs.SeenBytes.{reads_bad, reads_in_a_row}
 use Rattle.piece_reader.proofs.Readings.{renamed}
 use Rattle.piece_reader.specs.Readers.{handed_out_from, name_in_tree, package_len, start_of_file}
 use Rattle.piece_reader.specs.declared.piece.PieceFault.{PieceFault}

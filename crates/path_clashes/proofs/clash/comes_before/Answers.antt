@@ -1,6 +1,6 @@
 use Rattle.std.proofs.Common.{◌≡◌, ◌∙◌, ap, sym}
 use Rattle.std.specs.Ordering.{is_lt, ordering_then}
-use Rattle.list_order.specs.ByteOrder.{bytes_cmp}
+use Rattle.base_core.specs.ByteOrder.{bytes_cmp}
 use Rattle.path_clashes.specs.ClashSeen.{clash_seen}
 use Rattle.path_clashes.proofs.PairOrder.{precedes_pair_is}
 use Rattle.path_clashes.proofs.clash.comes_before.Goals as goal

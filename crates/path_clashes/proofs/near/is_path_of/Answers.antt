@@ -2,7 +2,7 @@ use Rattle.std.proofs.Common.{◌∙◌, rules}
 use Rattle.std.proofs.lemmas.Fn.{always_returns_same}
 use Rattle.adb_fields.specs.JoinedPath.{joined_path}
 use Rattle.adb_fields.specs.declared.file_path.FilePath.{FilePath}
-use Rattle.list_order.specs.ByteOrder.{bytes_cmp}
+use Rattle.base_core.specs.ByteOrder.{bytes_cmp}
 use Rattle.path_clashes.proofs.Paths.{searched_paths}
 use Rattle.path_clashes.proofs.near.is_path_of.Goals as goal
 

@@ -1,9 +1,9 @@
 -- The contents of a file begin behind the header and the positions.
 use Rattle.std.proofs.Common.{◌≡◌, None, Ok, length, subst}
 use Rattle.std.specs.Prelude.{IfSome}
-use Rattle.piece_core.specs.Places.{HasAllLeft, IsStepped, WalksOn}
-use Rattle.piece_core.specs.declared.place.Step.{Step}
-use Rattle.piece_core.specs.declared.place.Step.TheVariants.{End as EndStep}
+use Rattle.pkg_core.specs.Places.{HasAllLeft, IsStepped, WalksOn}
+use Rattle.pkg_core.specs.declared.place.Step.{Step}
+use Rattle.pkg_core.specs.declared.place.Step.TheVariants.{End as EndStep}
 use Rattle.piece_reader.proofs.BlockStepped.{ends, opened_ends, opens, opens_within, passed_ends, passes, walks_on}
 use Rattle.piece_reader.proofs.block.next_block.Goals as goal
 

@@ -1,7 +1,7 @@
 -- Block by block.
 use Rattle.std.proofs.Common.{◌∙◌, arith}
 use Rattle.piece_reader.specs.declared.piece.PieceFault.TheVariants.{Disk as DiskFault}
-use Rattle.pkg_pieces.proofs.SeenBytes.{reads_in_a_row, reads_ok}
+use Rattle.pkg_core.proofs.SeenBytes.{reads_in_a_row, reads_ok}
 use Rattle.piece_reader.proofs.FilesFound.{found_end, found_err, found_file, one_passed}
 use Rattle.piece_reader.proofs.block.next_file.Goals as goal
 

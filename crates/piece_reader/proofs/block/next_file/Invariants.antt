@@ -1,5 +1,5 @@
 use Rattle.std.proofs.Common.{◌≡◌, ◌≤◌, ◌-◌, Ok}
-use Rattle.pkg_pieces.specs.Seen.{ReadsFile}
+use Rattle.pkg_core.specs.Seen.{ReadsFile}
 use Rattle.piece_reader.specs.declared.piece.PieceFault.{PieceFault}
 use Rattle.piece_reader.specs.declared.piece.PieceFault.TheVariants.{Disk as DiskFault}
 use Rattle.piece_reader.proofs.FilesFound.{IsPassedTo}

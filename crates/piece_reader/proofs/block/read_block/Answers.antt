@@ -3,9 +3,9 @@ use Rattle.std.proofs.Common.{◌≡◌, ◌-◌, ◌+◌, ◌≤◌, ℕ, List,
 use Rattle.std.specs.Prelude.{IfSome}
 use Rattle.std.proofs.lemmas.List.{length-drop}
 use Rattle.adb_block.specs.Frames.{IsFramed, head_len}
-use Rattle.pkg_pieces.specs.Seen.{HasAt, tree_fault}
-use Rattle.piece_core.specs.Places.{step_at}
-use Rattle.pkg_pieces.proofs.SeenBytes.{has_front, reads_err, reads_failed, reads_in_a_row, reads_ok}
+use Rattle.pkg_core.specs.Seen.{HasAt, tree_fault}
+use Rattle.pkg_core.specs.Places.{step_at}
+use Rattle.pkg_core.proofs.SeenBytes.{has_front, reads_err, reads_failed, reads_in_a_row, reads_ok}
 use Rattle.piece_reader.specs.declared.piece.PieceFault.TheVariants.{Disk as DiskFault}
 use Rattle.piece_reader.proofs.BlockSeen.{block_failed, block_seen, fits_in, head_in, in_block, not_ok, nothing_seen, positions_in, read_bad, read_failed}
 use Rattle.piece_reader.proofs.block.read_block.Goals as goal

@@ -1,8 +1,8 @@
 -- Piece by piece.
 use Rattle.std.proofs.Common.{◌≡◌, Bool, true, false, if◌then◌else◌, List, [], ◌++◌, ℕ, refl, ap, sym, ◌∙◌}
 use Rattle.pkg_core.specs.Contents.{FilesRead, fault_in}
-use Rattle.piece_core.specs.Pieces.{PiecesRead, files_joined, no_piece, piece, pieces_by_blocks, refusal, refusal_in}
-use Rattle.piece_core.proofs.Joined.{joined}
+use Rattle.pkg_core.specs.Pieces.{PiecesRead, files_joined, no_piece, piece, pieces_by_blocks, refusal, refusal_in}
+use Rattle.pkg_core.proofs.Joined.{joined}
 use Rattle.piece_reader.proofs.reader.the_pieces_are_refused_for_the_first_fault_of_the_blocks.Goals as goal
 
 either : (last : Bool) (a b : FilesRead) (pieces : PiecesRead) → fault_in a ≡ refusal_in pieces → fault_in b ≡ refusal_in pieces → fault_in (if last then a else b) ≡ refusal_in pieces

@@ -3,7 +3,7 @@ use Rattle.std.proofs.Common.{◌≡◌, ℕ, ◌+◌, ◌-◌, ap, sym, subst, 
 use Rattle.adb_schema.specs.Views.{dir_value}
 use Rattle.adb_fields.specs.ListValue.{list_value}
 use Rattle.adb_fields.specs.Repeated.{list_of}
-use Rattle.adb_tables.specs.Values.{entries_in}
+use Rattle.adb_view.specs.Values.{entries_in}
 use Rattle.pkg_core.proofs.OneFile.{folder_before, folder_past, folder_there}
 use Rattle.pkg_core.proofs.walk.wanted_in_folder.Goals as goal
 

@@ -1,9 +1,9 @@
 use Rattle.std.proofs.Common.{◌≡◌, ℕ, List, refl, true}
 use Rattle.std.specs.Prelude.{codes}
 use Rattle.adb_view.specs.Plain.{Plain}
-use Rattle.adb_tables.specs.FormatTables.{format_table}
-use Rattle.adb_tables.specs.Values.{entries_in, entry_in}
-use Rattle.adb_tables.specs.declared.tables.Which.TheVariants.{PkgInfo}
+use Rattle.adb_view.specs.FormatTables.{format_table}
+use Rattle.adb_view.specs.Values.{entries_in, entry_in}
+use Rattle.adb_view.specs.declared.tables.Which.TheVariants.{PkgInfo}
 use Rattle.pool_core.specs.FieldNames.{info_under_name}
 use Rattle.pool_core.proofs.FieldsByName.{by_place, is_place_of}
 use Rattle.pool_core.proofs.laws.a_candidate_is_read_by_field_names.Goals as goal

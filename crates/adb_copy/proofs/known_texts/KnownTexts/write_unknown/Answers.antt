@@ -3,8 +3,8 @@ use Rattle.std.specs.BTreeMap.{BTreeMap, get}
 use Rattle.std.specs.Ordering.{nat_cmp}
 use Rattle.adb_view.specs.Adb.{payload_of}
 use Rattle.adb_view.specs.Plain.{blob_value}
-use Rattle.adb_tables.specs.Values.{text_in, value_at}
-use Rattle.adb_tables.specs.declared.tables.Kind.TheVariants as Kinds
+use Rattle.adb_view.specs.Values.{text_in, value_at}
+use Rattle.adb_view.specs.declared.tables.Kind.TheVariants as Kinds
 use Rattle.adb_values.specs.Drafts.{draft_with}
 use Rattle.adb_values.specs.Words.{HasBlob}
 use Rattle.adb_values.proofs.Lists.{on_ok}

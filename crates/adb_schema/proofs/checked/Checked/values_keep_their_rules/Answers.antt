@@ -1,4 +1,4 @@
-use Rattle.adb_tables.specs.Shaped.{shaped_value, table_of}
+use Rattle.adb_view.specs.ShapedPayload.{shaped_value, table_of}
 use Rattle.adb_schema.proofs.Sound.{is_kept}
 use Rattle.adb_schema.proofs.checked.Checked.values_keep_their_rules.Goals as goal
 

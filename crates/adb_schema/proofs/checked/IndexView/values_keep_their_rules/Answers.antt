@@ -1,4 +1,4 @@
-use Rattle.adb_tables.specs.declared.tables.Which.TheVariants.{Index}
+use Rattle.adb_view.specs.declared.tables.Which.TheVariants.{Index}
 use Rattle.adb_schema.specs.Views.{index_value}
 use Rattle.adb_schema.proofs.Sound.{is_kept}
 use Rattle.adb_schema.proofs.checked.IndexView.values_keep_their_rules.Goals as goal

@@ -6,9 +6,9 @@ use Rattle.adb_view.specs.Entries.{array_entries}
 use Rattle.adb_view.specs.Plain.{Plains}
 use Rattle.adb_fields.specs.Fields.{array_at}
 use Rattle.adb_fields.proofs.FieldReads.{entry_count}
-use Rattle.adb_tables.specs.Values.{count_of, entries_in, nth, value_at}
-use Rattle.adb_tables.specs.declared.tables.Kind.TheVariants as Kinds
-use Rattle.adb_tables.specs.declared.tables.Which.TheVariants as Tables
+use Rattle.adb_view.specs.Values.{count_of, entries_in, nth, value_at}
+use Rattle.adb_view.specs.declared.tables.Kind.TheVariants as Kinds
+use Rattle.adb_view.specs.declared.tables.Which.TheVariants as Tables
 use Rattle.candidate_core.specs.Candidates.{Candidate}
 use Rattle.candidate_core.specs.Packages.{candidate_in_source, candidates_of_packages}
 use Rattle.candidate_core.specs.SoundTexts.{HasSoundTexts}

@@ -3,9 +3,9 @@ use Rattle.std.specs.Prelude.{None, true}
 use Rattle.std.specs.List.{list_any}
 use Rattle.adb_view.specs.Adb.{payload_of}
 use Rattle.adb_view.specs.declared.adb.Adb.{Adb}
-use Rattle.adb_tables.specs.Values.{value_at}
-use Rattle.adb_tables.specs.declared.tables.Kind.TheVariants as Kinds
-use Rattle.adb_tables.specs.declared.tables.Which.TheVariants as Tables
+use Rattle.adb_view.specs.Values.{value_at}
+use Rattle.adb_view.specs.declared.tables.Kind.TheVariants as Kinds
+use Rattle.adb_view.specs.declared.tables.Which.TheVariants as Tables
 use Rattle.candidate_core.specs.Candidates.{Candidate, candidate_of, is_same_package, with_installed}
 use Rattle.candidate_core.specs.Packages.{candidates_of_packages}
 use Rattle.candidate_core.specs.Values.{IsPoolFault}

@@ -1,11 +1,11 @@
 use Rattle.std.proofs.Common.{◌≡◌, ◌∙◌, ◌+◌, ◌-◌, List, ap, sym, subst, refl, length, arith}
 use Rattle.std.specs.Prelude.{slice_get}
 use Rattle.dep_core.specs.Dependency.{Dependency}
-use Rattle.adb_rules.specs.SoundValues.{IsSoundDependency}
+use Rattle.adb_schema.specs.SoundValues.{IsSoundDependency}
 use Rattle.candidate_core.specs.Candidates.{dependency_in}
 use Rattle.adb_view.specs.Plain.{Plains}
 use Rattle.adb_fields.specs.ListValue.{list_value}
-use Rattle.adb_tables.specs.Values.{count_of, entries_in, nth}
+use Rattle.adb_view.specs.Values.{count_of, entries_in, nth}
 use Rattle.candidate_core.proofs.JudgedLists.{sound_at, sound_count}
 use Rattle.candidate_core.proofs.dependencies.Deps.get.Goals as goal
 

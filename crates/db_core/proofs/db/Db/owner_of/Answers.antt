@@ -4,7 +4,7 @@ use Rattle.std.specs.Prelude.{option_map}
 use Rattle.adb_fields.specs.ListValue.{list_value}
 use Rattle.adb_fields.specs.Repeated.{list_of}
 use Rattle.adb_schema.specs.Views.{idb_value}
-use Rattle.adb_tables.specs.Values.{entries_in}
+use Rattle.adb_view.specs.Values.{entries_in}
 use Rattle.db_core.specs.Packages.{packages_by, lists_path}
 use Rattle.db_core.specs.Seen.{packages_of}
 use Rattle.db_core.proofs.Places.{within_seen}

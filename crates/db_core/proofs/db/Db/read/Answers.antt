@@ -1,6 +1,6 @@
 use Rattle.std.proofs.Common.{◌≡◌, None, subst, sym}
 use Rattle.adb_schema.specs.Soundness.{payload_fault}
-use Rattle.adb_tables.specs.declared.tables.Which.TheVariants.{Idb}
+use Rattle.adb_view.specs.declared.tables.Which.TheVariants.{Idb}
 use Rattle.adb_schema.proofs.Sound.{sound_payload}
 use Rattle.db_core.proofs.db.Db.read.Goals as goal
 

@@ -1,7 +1,7 @@
 use Rattle.std.proofs.Common.{◌≡◌, suc, ◌-◌, ◌∙◌, ap, arith, length}
 use Rattle.std.specs.Ordering.{is_lt}
 use Rattle.adb_fields.specs.Repeated.{name_of}
-use Rattle.list_order.specs.ByteOrder.{bytes_cmp}
+use Rattle.base_core.specs.ByteOrder.{bytes_cmp}
 use Rattle.db_core.specs.EntrySeen.{member_by}
 use Rattle.db_core.specs.Members.{member_name}
 use Rattle.db_core.specs.Seen.{members_of}

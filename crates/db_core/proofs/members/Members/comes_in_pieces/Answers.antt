@@ -1,11 +1,11 @@
 use Rattle.std.proofs.Common.{◌∙◌, ap, refl}
 use Rattle.adb_fields.specs.Repeated.{package_name}
-use Rattle.adb_tables.specs.declared.tables.Which.TheVariants.{Package}
+use Rattle.adb_view.specs.declared.tables.Which.TheVariants.{Package}
 use Rattle.db_core.specs.EntrySeen.{comes_or_is_in, member_by, payload_of_database}
 use Rattle.db_core.specs.Members.{comes_behind}
 use Rattle.db_core.specs.Packages.{comes_or_lists_no_reserved, lists_names}
 use Rattle.db_core.specs.Seen.{members_of}
-use Rattle.pkg_pieces.specs.Values.{payload_of_contents, value_of_contents}
+use Rattle.pkg_core.specs.Values.{payload_of_contents, value_of_contents}
 use Rattle.db_core.proofs.ListedNames.{package_lists_names, passed_more}
 use Rattle.db_core.proofs.Ordered.{few_more, kept_more}
 use Rattle.db_core.proofs.SoundEntries.{comes_sound, sound_more}

@@ -3,7 +3,7 @@ use Rattle.base_core.specs.Listed.{IsRising}
 use Rattle.std.proofs.lemmas.List.Sorted.{IsPartitionPoint-from_clause}
 use Rattle.std.specs.List.Sorted.{IsPartitionPoint}
 use Rattle.std.specs.Prelude.{◌≡◌, true, false}
-use Rattle.list_order.specs.ByteOrder.{precedes}
+use Rattle.base_core.specs.ByteOrder.{precedes}
 use Rattle.db_core.proofs.MemberPlaces.{kept_name, kept_parted}
 use Rattle.db_core.proofs.Ordered.{Kept, kept_names}
 use Rattle.db_core.proofs.members.Members.count_before.Goals as goal

@@ -1,6 +1,6 @@
 -- At the place that was kept of it.
 use Rattle.std.proofs.Common.{◌≡◌, List, sym, subst, ◌∙◌}
-use Rattle.pkg_pieces.specs.Values.{value_of_contents}
+use Rattle.pkg_core.specs.Values.{value_of_contents}
 use Rattle.piece_reader.specs.FileReading.{IsFileReading, file_due}
 use Rattle.package_test.specs.Places.{AreInFileOrder, offset_of_file}
 use Rattle.package_test.specs.declared.places.FilePlace.{FilePlace}

@@ -1,8 +1,8 @@
 -- The bytes that were read are the next piece.
 use Rattle.std.proofs.Common.{◌≡◌, ◌≤◌, ◌+◌, ◌-◌, ℕ, List, ◌++◌, length, Ok, Err, ap, sym, subst, ◌∙◌, arith}
 use Rattle.std.specs.Prelude.{IfSome}
-use Rattle.piece_core.specs.Pieces.{PiecesRead}
-use Rattle.piece_core.specs.Taking.{HasTaken, IsTaken, file_bytes_left}
+use Rattle.pkg_core.specs.Pieces.{PiecesRead}
+use Rattle.pkg_core.specs.Taking.{HasTaken, IsTaken, file_bytes_left}
 use Rattle.piece_reader.proofs.FileDue.{refused_whole}
 use Rattle.piece_reader.proofs.PieceRead.{all_long, before_is, behind_piece, disk_piece, next_further, not_disk}
 use Rattle.piece_reader.proofs.open.OpenFile.next_piece.Goals as goal

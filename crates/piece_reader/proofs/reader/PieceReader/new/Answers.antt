@@ -4,12 +4,12 @@ use Rattle.adb_block.specs.declared.block.BlockKind.TheVariants.{Adb}
 use Rattle.adb_block.specs.Reading.{reading_of}
 use Rattle.adb_view.specs.Plain.{Plain}
 use Rattle.adb_fields.specs.Repeated.{list_of}
-use Rattle.adb_tables.specs.Values.{entries_in, entry_in}
+use Rattle.adb_view.specs.Values.{entries_in, entry_in}
 use Rattle.pkg_core.specs.Contents.{Expected, expected_contents, expected_folders}
 use Rattle.pkg_core.specs.Opened.{left_in}
-use Rattle.pkg_pieces.specs.Front.{front_end}
-use Rattle.pkg_pieces.specs.Values.{value_of_contents}
-use Rattle.piece_core.specs.Pieces.{pieces_by_blocks}
+use Rattle.pkg_core.specs.Front.{front_end}
+use Rattle.pkg_core.specs.Values.{value_of_contents}
+use Rattle.pkg_core.specs.Pieces.{pieces_by_blocks}
 use Rattle.piece_reader.proofs.Readings.{any_schema, in_front}
 use Rattle.piece_reader.proofs.reader.PieceReader.new.Goals as goal
 

@@ -1,10 +1,10 @@
 -- What was seen of the file's block, and then of the piece.
 use Rattle.std.proofs.Common.{◌≡◌, ◌≤◌, ◌+◌, ℕ, subst, length, arith}
-use Rattle.piece_core.specs.Taking.{file_bytes_left}
-use Rattle.pkg_pieces.specs.Seen.{HasAt}
+use Rattle.pkg_core.specs.Taking.{file_bytes_left}
+use Rattle.pkg_core.specs.Seen.{HasAt}
 use Rattle.piece_reader.specs.Readers.{offset_of, package_len}
 use Rattle.piece_reader.specs.declared.piece.PieceFault.TheVariants.{Disk as DiskFault}
-use Rattle.pkg_pieces.proofs.SeenBytes.{reads_err, reads_in_a_row, reads_ok}
+use Rattle.pkg_core.proofs.SeenBytes.{reads_err, reads_in_a_row, reads_ok}
 use Rattle.piece_reader.proofs.BlockSeen.{not_ok}
 use Rattle.piece_reader.proofs.FilesFound.{seen_up_to}
 use Rattle.piece_reader.proofs.Readings.{behind, behind_part, behind_within, read_err, read_some, renamed, seen_unless_disk}

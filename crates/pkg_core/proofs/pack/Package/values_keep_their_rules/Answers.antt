@@ -1,5 +1,5 @@
 use Rattle.std.proofs.Common.{subst}
-use Rattle.adb_rules.specs.SoundValues.{KeepsRules}
+use Rattle.adb_schema.specs.SoundValues.{KeepsRules}
 use Rattle.pkg_core.specs.Opened.{opened_value}
 use Rattle.pkg_core.proofs.pack.Package.values_keep_their_rules.Goals as goal
 

@@ -1,6 +1,6 @@
 -- The next file of a folder is the next one of all, and a folder without one is passed.
 use Rattle.std.proofs.Common.{◌+◌, ◌∷◌, drop, sym, ◌∙◌, arith}
-use Rattle.adb_tables.specs.Values.{entries_in}
+use Rattle.adb_view.specs.Values.{entries_in}
 use Rattle.adb_fields.specs.Repeated.{list_of}
 use Rattle.adb_schema.specs.Views.{dir_value}
 use Rattle.adb_fields.specs.ListValue.{list_value}

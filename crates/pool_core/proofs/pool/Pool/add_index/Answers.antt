@@ -5,11 +5,11 @@ use Rattle.adb_view.specs.Plain.{Plain}
 use Rattle.adb_view.specs.Shaped.{Each}
 use Rattle.adb_view.specs.declared.adb.Adb.{Adb}
 use Rattle.adb_fields.specs.Fields.{array_at}
-use Rattle.adb_rules.specs.SoundValues.{IsInformation}
+use Rattle.adb_schema.specs.SoundValues.{IsInformation}
 use Rattle.adb_schema.specs.Views.{index_value}
-use Rattle.adb_tables.specs.Values.{entries_in, entry_in, value_at}
-use Rattle.adb_tables.specs.declared.tables.Kind.TheVariants as Kinds
-use Rattle.adb_tables.specs.declared.tables.Which.TheVariants as Tables
+use Rattle.adb_view.specs.Values.{entries_in, entry_in, value_at}
+use Rattle.adb_view.specs.declared.tables.Kind.TheVariants as Kinds
+use Rattle.adb_view.specs.declared.tables.Which.TheVariants as Tables
 use Rattle.pool_core.proofs.pool.Pool.add_index.Goals as goal
 
 pub push_all-added-requires-clause-texts : goal.push_all-added-requires-clause-texts

@@ -1,6 +1,0 @@
-pub mod Below
-pub mod NoRule
-pub mod TextSteps
-pub mod FirstBad
-pub mod SoundLeaves
-pub mod GoodTexts

@@ -1,0 +1,310 @@
+-- No text is bad exactly where each keeps the rule of its field.
+use Rattle.std.proofs.Common.{◌≡◌, ℕ, zero, suc, ◌+◌, Bool, true, false, ◌&&◌, List, ◌++◌, Option, Some, None, refl, sym, ap, ◌∙◌, ◌↔◌, ◌<◌, arith}
+use Rattle.std.specs.Prelude.{if◌then◌else◌}
+use Rattle.std.specs.Option.{option_or}
+use Rattle.base_core.specs.declared.cause.Cause.{Cause}
+use Rattle.base_core.specs.declared.cause.Cause.TheVariants.{BadText}
+use Rattle.adb_view.specs.Plain.{Plain, Plains, none, more, Shape, text, hash, Fields, no_fields, field}
+use Rattle.adb_view.specs.Shaped.{Each}
+use Rattle.adb_view.specs.Values.{nth, count_of, entries_in, entry_in, int_in, text_in}
+use Rattle.adb_view.specs.Schema.{shape_of, shapes_of, table}
+use Rattle.adb_view.specs.declared.tables.Which.{Which}
+use Rattle.adb_view.specs.declared.tables.Which.TheVariants as Tables
+use Rattle.adb_view.specs.declared.tables.Kind.TheVariants.{Obj, ObjArr, TextArr}
+use Rattle.adb_schema.specs.Texts.{Surroundings, Leaf, each_leaf, leaves, field_leaves, first_bad, text_fault, text_rule, at_root, inside_of, may_list}
+use Rattle.dep_core.specs.Value.{is_matching}
+use Rattle.adb_fields.specs.Paths.{path_of}
+use Rattle.adb_schema.specs.Rules.{is_file_name}
+use Rattle.adb_schema.specs.SoundValues.{IsSoundDependency, IsInformation, IsFileOf, IsFolder, IsPackage, IsIndex, IsIntent, IsChangeName, KeepsRules}
+use Rattle.adb_schema.proofs.TextSteps.{first_bad-append, behind, behind-zero, nth-behind, behind-behind}
+
+abbrev pub Good : List Leaf → Type 0
+Good xs = first_bad xs ≡ None
+
+-- ---- lists of leaves
+
+kept : (b : Bool) (c : Cause) → (if b then None else Some c) ≡ None → b ≡ true
+kept true c e = refl
+kept false c e = absurd cc
+
+good_if : (b : Bool) (c : Cause) → b ≡ true → (if b then None else Some c) ≡ None
+good_if true c e = refl
+good_if false c e = absurd cc
+
+both_none : (a b : Option Cause) → option_or a b ≡ None → (a ≡ None) × (b ≡ None)
+both_none None b e = (refl, e)
+both_none (Some c) b e = absurd cc
+
+none_both : (a b : Option Cause) → a ≡ None → b ≡ None → option_or a b ≡ None
+none_both None b e f = f
+none_both (Some c) b e f = absurd cc
+
+good-parts : (xs ys : List Leaf) → Good (xs ++ ys) → Good xs × Good ys
+good-parts xs ys h = both_none (first_bad xs) (first_bad ys) (sym (first_bad-append xs ys) ∙ h)
+
+good-append : (xs ys : List Leaf) → Good xs → Good ys → Good (xs ++ ys)
+good-append xs ys h k = first_bad-append xs ys ∙ none_both (first_bad xs) (first_bad ys) h k
+
+-- ---- the entries of an array
+
+each_good : (P : Plain → Type 0) (f : Plain → List Leaf) → ((v : Plain) → Good (f v) → P v) → (vs : Plains) → Good (each_leaf f vs) → Each P vs
+each_good P f h none g = tt
+each_good P f h (more v vs) g = let (a, b) = good-parts (f v) (each_leaf f vs) g in (h v a, each_good P f h vs b)
+
+good_each : (P : Plain → Type 0) (f : Plain → List Leaf) → ((v : Plain) → P v → Good (f v)) → (vs : Plains) → Each P vs → Good (each_leaf f vs)
+good_each P f h none g = refl
+good_each P f h (more v vs) g = good-append (f v) (each_leaf f vs) (h v g.0) (good_each P f h vs g.1)
+
+always_each : (f : Plain → List Leaf) → ((v : Plain) → Good (f v)) → (vs : Plains) → Good (each_leaf f vs)
+always_each f h none = refl
+always_each f h (more v vs) = good-append (f v) (each_leaf f vs) (h v) (always_each f h vs)
+
+-- ---- the fields of an object
+
+abbrev pub AreGood : Fields → ℕ → Surroundings → Plains → ℕ → Type 0
+AreGood no_fields k a vs i = Unit {0}
+AreGood (field n s fs) k a vs i = Good (leaves s k a (nth vs i)) × AreGood fs (k + 1) a vs (suc i)
+
+one_field : (n : List ℕ) (s : Shape) (fs : Fields) (k : ℕ) (a : Surroundings) (vs : Plains)
+    → field_leaves (field n s fs) k a vs ≡ leaves s k a (nth vs 0) ++ field_leaves fs (k + 1) a (behind 1 vs)
+unfolding field_leaves behind
+one_field n s fs k a none = refl
+one_field n s fs k a (more v vs) = refl
+
+field_at : (n : List ℕ) (s : Shape) (fs : Fields) (k : ℕ) (a : Surroundings) (vs : Plains) (i : ℕ)
+    → field_leaves (field n s fs) k a (behind i vs) ≡ leaves s k a (nth vs i) ++ field_leaves fs (k + 1) a (behind (suc i) vs)
+field_at n s fs k a vs i =
+    one_field n s fs k a (behind i vs)
+    ∙ ap (λ v. leaves s k a v ++ field_leaves fs (k + 1) a (behind 1 (behind i vs))) (nth-behind i vs)
+    ∙ ap (λ us. leaves s k a (nth vs i) ++ field_leaves fs (k + 1) a us) (behind-behind i vs)
+
+good_fields_from : (fs : Fields) (k : ℕ) (a : Surroundings) (vs : Plains) (i : ℕ) → Good (field_leaves fs k a (behind i vs)) → AreGood fs k a vs i
+good_fields_from no_fields k a vs i g = tt
+good_fields_from (field n s fs) k a vs i g =
+    let (here, later) = good-parts (leaves s k a (nth vs i)) (field_leaves fs (k + 1) a (behind (suc i) vs)) (ap first_bad (sym (field_at n s fs k a vs i)) ∙ g) in
+    (here, good_fields_from fs (k + 1) a vs (suc i) later)
+
+fields_good_from : (fs : Fields) (k : ℕ) (a : Surroundings) (vs : Plains) (i : ℕ) → AreGood fs k a vs i → Good (field_leaves fs k a (behind i vs))
+unfolding field_leaves
+fields_good_from no_fields k a vs i g = refl
+fields_good_from (field n s fs) k a vs i g =
+    ap first_bad (field_at n s fs k a vs i) ∙ good-append (leaves s k a (nth vs i)) (field_leaves fs (k + 1) a (behind (suc i) vs)) g.0 (fields_good_from fs (k + 1) a vs (suc i) g.1)
+
+good_fields : (fs : Fields) (k : ℕ) (a : Surroundings) (vs : Plains) → Good (field_leaves fs k a vs) → AreGood fs k a vs 0
+good_fields fs k a vs g = good_fields_from fs k a vs 0 (ap (λ us. first_bad (field_leaves fs k a us)) (behind-zero vs) ∙ g)
+
+fields_good : (fs : Fields) (k : ℕ) (a : Surroundings) (vs : Plains) → AreGood fs k a vs 0 → Good (field_leaves fs k a vs)
+fields_good fs k a vs g = sym (ap (λ us. first_bad (field_leaves fs k a us)) (behind-zero vs)) ∙ fields_good_from fs k a vs 0 g
+
+-- ---- texts
+
+text_kept : (k : ℕ) (a : Surroundings) (v : Plain) → Good (leaves text k a v) → text_rule k a (text_in v) ≡ true
+unfolding leaves
+text_kept k a v g = kept (text_rule k a (text_in v)) (BadText k) g
+
+kept_text : (k : ℕ) (a : Surroundings) (v : Plain) → text_rule k a (text_in v) ≡ true → Good (leaves text k a v)
+unfolding leaves
+kept_text k a v e = good_if (text_rule k a (text_in v)) (BadText k) e
+
+hash_kept : (k : ℕ) (a : Surroundings) (v : Plain) → Good (leaves hash k a v) → text_rule k a (text_in v) ≡ true
+unfolding leaves
+hash_kept k a v g = kept (text_rule k a (text_in v)) (BadText k) g
+
+kept_hash : (k : ℕ) (a : Surroundings) (v : Plain) → text_rule k a (text_in v) ≡ true → Good (leaves hash k a v)
+unfolding leaves
+kept_hash k a v e = good_if (text_rule k a (text_in v)) (BadText k) e
+
+and_parts : (b c : Bool) → (b && c) ≡ true → (b ≡ true) × (c ≡ true)
+and_parts true c e = (refl, e)
+and_parts false c e = absurd cc
+
+parts_and : (b c : Bool) → b ≡ true → c ≡ true → (b && c) ≡ true
+parts_and true c e f = f
+parts_and false c e f = absurd cc
+
+-- ---- table by table, from the leaves and back to them
+
+dependency_of : (k : ℕ) (a : Surroundings) (v : Plain) → Good (leaves (shape_of (Obj Tables.Dep)) k a v) → IsSoundDependency v
+unfolding leaves shape_of text_rule
+dependency_of k a v g =
+    let b : Surroundings = inside_of 1 a v in
+    let h = good_fields (shapes_of (table Tables.Dep)) 101 b (entries_in v) g in
+    record {
+      name = text_kept 101 b (entry_in v 0) h.0;
+      version = text_kept 102 b (entry_in v 1) h.1.0;
+      matching = kept (is_matching (int_in (entry_in v 2))) (BadText 103) h.1.1.0;
+    }
+
+of_dependency : (k : ℕ) (a : Surroundings) (v : Plain) → IsSoundDependency v → Good (leaves (shape_of (Obj Tables.Dep)) k a v)
+unfolding leaves shape_of text_rule
+of_dependency k a v d =
+    let b : Surroundings = inside_of 1 a v in
+    fields_good (shapes_of (table Tables.Dep)) 101 b (entries_in v)
+    (kept_text 101 b (entry_in v 0) d.name, (kept_text 102 b (entry_in v 1) d.version, (good_if (is_matching (int_in (entry_in v 2))) (BadText 103) d.matching, tt)))
+
+dependencies_of : (k : ℕ) (a : Surroundings) (v : Plain) → Good (leaves (shape_of (ObjArr Tables.Dep)) k a v) → Each IsSoundDependency (entries_in v)
+unfolding leaves shape_of
+dependencies_of k a v g = each_good IsSoundDependency (leaves (shape_of (Obj Tables.Dep)) k a) (dependency_of k a) (entries_in v) g
+
+of_dependencies : (k : ℕ) (a : Surroundings) (v : Plain) → Each IsSoundDependency (entries_in v) → Good (leaves (shape_of (ObjArr Tables.Dep)) k a v)
+unfolding leaves shape_of
+of_dependencies k a v d = good_each IsSoundDependency (leaves (shape_of (Obj Tables.Dep)) k a) (of_dependency k a) (entries_in v) d
+
+-- texts without a rule are never bad
+plain_texts : (k : ℕ) (a : Surroundings) (v : Plain) → ((bytes : List ℕ) → text_rule k a bytes ≡ true) → Good (leaves (shape_of TextArr) k a v)
+unfolding leaves shape_of
+plain_texts k a v h = always_each (leaves text k a) (λ u. kept_text k a u (h (text_in u))) (entries_in v)
+
+information_of : (k : ℕ) (a : Surroundings) (v : Plain) → Good (leaves (shape_of (Obj Tables.PkgInfo)) k a v) → IsInformation a.root v
+unfolding leaves shape_of text_rule
+information_of k a v g =
+    let b : Surroundings = inside_of 3 a v in
+    let h = good_fields (shapes_of (table Tables.PkgInfo)) 301 b (entries_in v) g in
+    let d = h.1.1.1.1.1.1.1.1.1.1.1.1.1.1 in
+    record {
+      name = text_kept 301 b (entry_in v 0) h.0;
+      version = text_kept 302 b (entry_in v 1) h.1.0;
+      hash = hash_kept 303 b (entry_in v 2) h.1.1.0;
+      depends = dependencies_of 315 b (entry_in v 14) d.0;
+      provides = dependencies_of 316 b (entry_in v 15) d.1.0;
+      replaces = dependencies_of 317 b (entry_in v 16) d.1.1.0;
+      install_if = dependencies_of 318 b (entry_in v 17) d.1.1.1.0;
+      recommends = dependencies_of 319 b (entry_in v 18) d.1.1.1.1.0;
+    }
+
+of_information : (k : ℕ) (a : Surroundings) (v : Plain) → IsInformation a.root v → Good (leaves (shape_of (Obj Tables.PkgInfo)) k a v)
+unfolding leaves shape_of text_rule
+of_information k a v d =
+    let b : Surroundings = inside_of 3 a v in
+    fields_good (shapes_of (table Tables.PkgInfo)) 301 b (entries_in v)
+    (kept_text 301 b (entry_in v 0) d.name, (kept_text 302 b (entry_in v 1) d.version, (kept_hash 303 b (entry_in v 2) d.hash, (refl, (refl, (refl, (refl, (refl, (refl, (refl, (refl, (refl, (refl, (refl, (of_dependencies 315 b (entry_in v 14) d.depends, (of_dependencies 316 b (entry_in v 15) d.provides, (of_dependencies 317 b (entry_in v 16) d.replaces, (of_dependencies 318 b (entry_in v 17) d.install_if, (of_dependencies 319 b (entry_in v 18) d.recommends, (refl, (plain_texts 321 b (entry_in v 20) (λ bytes. refl), (refl, tt))))))))))))))))))))))
+
+rights_good : (k : ℕ) (a : Surroundings) (v : Plain) → Good (leaves (shape_of (Obj Tables.Acl)) k a v)
+unfolding leaves shape_of text_rule
+rights_good k a v = fields_good (shapes_of (table Tables.Acl)) 201 (inside_of 2 a v) (entries_in v) (refl, (refl, (refl, (plain_texts 204 (inside_of 2 a v) (entry_in v 3) (λ bytes. refl), tt))))
+
+scripts_good : (k : ℕ) (a : Surroundings) (v : Plain) → Good (leaves (shape_of (Obj Tables.Scripts)) k a v)
+unfolding leaves shape_of text_rule
+scripts_good k a v = fields_good (shapes_of (table Tables.Scripts)) 601 (inside_of 6 a v) (entries_in v) (refl, (refl, (refl, (refl, (refl, (refl, (refl, tt)))))))
+
+file_of : (k : ℕ) (a : Surroundings) (v : Plain) → Good (leaves (shape_of (Obj Tables.File)) k a v) → IsFileOf a.root a.folder v
+unfolding leaves shape_of text_rule
+file_of k a v g =
+    let b : Surroundings = inside_of 4 a v in
+    let h = good_fields (shapes_of (table Tables.File)) 401 b (entries_in v) g in
+    let (name, listed) = and_parts (is_file_name a.folder (text_in (entry_in v 0))) (may_list a.root (path_of a.folder (text_in (entry_in v 0)))) (text_kept 401 b (entry_in v 0) h.0) in
+    record {
+      name = name;
+      listed = listed;
+      hash = hash_kept 405 b (entry_in v 4) h.1.1.1.1.0;
+      target = text_kept 406 b (entry_in v 5) h.1.1.1.1.1.0;
+    }
+
+of_file : (k : ℕ) (a : Surroundings) (v : Plain) → IsFileOf a.root a.folder v → Good (leaves (shape_of (Obj Tables.File)) k a v)
+unfolding leaves shape_of text_rule
+of_file k a v d =
+    let b : Surroundings = inside_of 4 a v in
+    let named = parts_and (is_file_name a.folder (text_in (entry_in v 0))) (may_list a.root (path_of a.folder (text_in (entry_in v 0)))) d.name d.listed in
+    fields_good (shapes_of (table Tables.File)) 401 b (entries_in v)
+    (kept_text 401 b (entry_in v 0) named, (rights_good 402 b (entry_in v 1), (refl, (refl, (kept_hash 405 b (entry_in v 4) d.hash, (kept_text 406 b (entry_in v 5) d.target, (refl, tt)))))))
+
+folder_of : (k : ℕ) (a : Surroundings) (v : Plain) → Good (leaves (shape_of (Obj Tables.Dir)) k a v) → IsFolder a.root v
+unfolding leaves shape_of text_rule
+folder_of k a v g =
+    let b : Surroundings = inside_of 5 a v in
+    let h = good_fields (shapes_of (table Tables.Dir)) 501 b (entries_in v) g in
+    record {
+      name = text_kept 501 b (entry_in v 0) h.0;
+      files = each_good (IsFileOf b.root b.folder) (leaves (shape_of (Obj Tables.File)) 503 b) (file_of 503 b) (entries_in (entry_in v 2)) h.1.1.0;
+    }
+
+of_folder : (k : ℕ) (a : Surroundings) (v : Plain) → IsFolder a.root v → Good (leaves (shape_of (Obj Tables.Dir)) k a v)
+unfolding leaves shape_of text_rule
+of_folder k a v d =
+    let b : Surroundings = inside_of 5 a v in
+    fields_good (shapes_of (table Tables.Dir)) 501 b (entries_in v)
+    (kept_text 501 b (entry_in v 0) d.name, (rights_good 502 b (entry_in v 1), (good_each (IsFileOf b.root b.folder) (leaves (shape_of (Obj Tables.File)) 503 b) (of_file 503 b) (entries_in (entry_in v 2)) d.files, tt)))
+
+package_of : (k : ℕ) (a : Surroundings) (v : Plain) → Good (leaves (shape_of (Obj Tables.Package)) k a v) → IsPackage a.root v
+unfolding leaves shape_of text_rule
+package_of k a v g =
+    let b : Surroundings = inside_of 7 a v in
+    let h = good_fields (shapes_of (table Tables.Package)) 701 b (entries_in v) g in
+    record {
+      info = information_of 701 b (entry_in v 0) h.0;
+      folders = each_good (IsFolder b.root) (leaves (shape_of (Obj Tables.Dir)) 702 b) (folder_of 702 b) (entries_in (entry_in v 1)) h.1.0;
+    }
+
+of_package : (k : ℕ) (a : Surroundings) (v : Plain) → IsPackage a.root v → Good (leaves (shape_of (Obj Tables.Package)) k a v)
+unfolding leaves shape_of text_rule
+of_package k a v d =
+    let b : Surroundings = inside_of 7 a v in
+    fields_good (shapes_of (table Tables.Package)) 701 b (entries_in v)
+    (of_information 701 b (entry_in v 0) d.info, (good_each (IsFolder b.root) (leaves (shape_of (Obj Tables.Dir)) 702 b) (of_folder 702 b) (entries_in (entry_in v 1)) d.folders, (scripts_good 703 b (entry_in v 2), (plain_texts 704 b (entry_in v 3) (λ bytes. refl), (refl, tt)))))
+
+index_of : (v : Plain) → Good (leaves (shape_of (Obj Tables.Index)) 0 (at_root Tables.Index) v) → IsIndex v
+unfolding leaves shape_of text_rule
+index_of v g =
+    let b : Surroundings = inside_of 8 (at_root Tables.Index) v in
+    let h = good_fields (shapes_of (table Tables.Index)) 801 b (entries_in v) g in
+    record {
+      packages = each_good (IsInformation Tables.Index) (leaves (shape_of (Obj Tables.PkgInfo)) 802 b) (information_of 802 b) (entries_in (entry_in v 1)) h.1.0;
+      pattern = text_kept 803 b (entry_in v 2) h.1.1.0;
+    }
+
+of_index : (v : Plain) → IsIndex v → Good (leaves (shape_of (Obj Tables.Index)) 0 (at_root Tables.Index) v)
+unfolding leaves shape_of text_rule
+of_index v d =
+    let b : Surroundings = inside_of 8 (at_root Tables.Index) v in
+    fields_good (shapes_of (table Tables.Index)) 801 b (entries_in v)
+    (refl, (good_each (IsInformation Tables.Index) (leaves (shape_of (Obj Tables.PkgInfo)) 802 b) (of_information 802 b) (entries_in (entry_in v 1)) d.packages, (kept_text 803 b (entry_in v 2) d.pattern, tt)))
+
+database_of : (v : Plain) → Good (leaves (shape_of (Obj Tables.Idb)) 0 (at_root Tables.Idb) v) → Each (IsPackage Tables.Idb) (entries_in (entry_in v 0))
+unfolding leaves shape_of text_rule
+database_of v g =
+    let b : Surroundings = inside_of 9 (at_root Tables.Idb) v in
+    let h = good_fields (shapes_of (table Tables.Idb)) 901 b (entries_in v) g in
+    each_good (IsPackage Tables.Idb) (leaves (shape_of (Obj Tables.Package)) 901 b) (package_of 901 b) (entries_in (entry_in v 0)) h.0
+
+of_database : (v : Plain) → Each (IsPackage Tables.Idb) (entries_in (entry_in v 0)) → Good (leaves (shape_of (Obj Tables.Idb)) 0 (at_root Tables.Idb) v)
+unfolding leaves shape_of text_rule
+of_database v d =
+    let b : Surroundings = inside_of 9 (at_root Tables.Idb) v in
+    fields_good (shapes_of (table Tables.Idb)) 901 b (entries_in v)
+    (good_each (IsPackage Tables.Idb) (leaves (shape_of (Obj Tables.Package)) 901 b) (of_package 901 b) (entries_in (entry_in v 0)) d, tt)
+
+intent_of : (v : Plain) → Good (leaves (shape_of (Obj Tables.Intent)) 0 (at_root Tables.Intent) v) → IsIntent v
+unfolding leaves shape_of text_rule
+intent_of v g =
+    let b : Surroundings = inside_of 10 (at_root Tables.Intent) v in
+    let h = good_fields (shapes_of (table Tables.Intent)) 1001 b (entries_in v) g in
+    record {
+      removals = each_good IsChangeName (leaves text 1001 b) (text_kept 1001 b) (entries_in (entry_in v 0)) h.0;
+      writes = each_good IsChangeName (leaves text 1002 b) (text_kept 1002 b) (entries_in (entry_in v 1)) h.1.0;
+    }
+
+of_intent : (v : Plain) → IsIntent v → Good (leaves (shape_of (Obj Tables.Intent)) 0 (at_root Tables.Intent) v)
+unfolding leaves shape_of text_rule
+of_intent v d =
+    let b : Surroundings = inside_of 10 (at_root Tables.Intent) v in
+    fields_good (shapes_of (table Tables.Intent)) 1001 b (entries_in v)
+    (good_each IsChangeName (leaves text 1001 b) (kept_text 1001 b) (entries_in (entry_in v 0)) d.removals, (good_each IsChangeName (leaves text 1002 b) (kept_text 1002 b) (entries_in (entry_in v 1)) d.writes, tt))
+
+pub rules_kept : (which : Which) (v : Plain) → (text_fault which v ≡ None) ↔ KeepsRules which v
+rules_kept Tables.Dep v = (dependency_of 0 (at_root Tables.Dep) v, of_dependency 0 (at_root Tables.Dep) v)
+rules_kept Tables.Acl v = (λ g. tt, λ d. rights_good 0 (at_root Tables.Acl) v)
+rules_kept Tables.PkgInfo v = (information_of 0 (at_root Tables.PkgInfo) v, of_information 0 (at_root Tables.PkgInfo) v)
+rules_kept Tables.File v = (file_of 0 (at_root Tables.File) v, of_file 0 (at_root Tables.File) v)
+rules_kept Tables.Dir v = (folder_of 0 (at_root Tables.Dir) v, of_folder 0 (at_root Tables.Dir) v)
+rules_kept Tables.Scripts v = (λ g. tt, λ d. scripts_good 0 (at_root Tables.Scripts) v)
+rules_kept Tables.Package v = (package_of 0 (at_root Tables.Package) v, of_package 0 (at_root Tables.Package) v)
+rules_kept Tables.Index v = (index_of v, of_index v)
+rules_kept Tables.Idb v = (database_of v, of_database v)
+rules_kept Tables.Intent v = (intent_of v, of_intent v)
+
+-- ---- the entries of a list
+
+pub each_at : (P : Plain → Type 0) (vs : Plains) (i : ℕ) → Each P vs → i < count_of vs → P (nth vs i)
+each_at P none i e lt = absurd (omega arith)
+each_at P (more v vs) zero e lt = e.0
+each_at P (more v vs) (suc i) e lt = each_at P vs i e.1 (omega arith)

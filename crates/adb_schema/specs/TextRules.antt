@@ -1,0 +1,31 @@
+-- The rules that look at each byte of a text, apart from what stands around it, and the texts that
+-- are known to keep one. The rules stand in the table of `docs/formats.md`, "The texts".
+use Rattle.std.specs.Prelude.{◌≡◌, ℕ, Bool, true, List}
+use Rattle.base_core.specs.Name.{is_name}
+use Rattle.version_core.specs.Order.{is_version}
+use Rattle.dep_core.specs.Dependency.{is_dep_name, is_package_name}
+use Rattle.dep_core.specs.Value.{is_version_or_empty}
+use Rattle.adb_view.specs.Values.{text_in, value_at}
+use Rattle.adb_view.specs.declared.tables.Kind.TheVariants.{Text}
+use Rattle.adb_schema.specs.Rules.{is_folder_name, is_one_part, is_target}
+use Rattle.adb_schema.specs.declared.judged.TextRule.{TextRule}
+use Rattle.adb_schema.specs.declared.judged.TextRule.TheVariants.{DependencyName, PackageName, Version, VersionOrEmpty, Name, FolderName, OnePart, Target}
+
+-- whether a text keeps a rule that looks at nothing around the text
+abbrev pub keeps_text_rule : TextRule → List ℕ → Bool
+keeps_text_rule DependencyName bytes = is_dep_name bytes
+keeps_text_rule PackageName bytes = is_package_name bytes
+keeps_text_rule Version bytes = is_version bytes
+keeps_text_rule VersionOrEmpty bytes = is_version_or_empty bytes
+keeps_text_rule Name bytes = is_name bytes
+keeps_text_rule FolderName bytes = is_folder_name bytes
+keeps_text_rule OnePart bytes = is_one_part bytes
+keeps_text_rule Target bytes = is_target bytes
+
+-- the text that a word means in a payload; empty for NULL
+abbrev pub text_at : List ℕ → ℕ → List ℕ
+text_at payload word = text_in (value_at payload Text word)
+
+-- the text of a word of the payload keeps a rule (a pair of the rule and the word)
+abbrev pub KeepsTextRule : List ℕ → TextRule × ℕ → Type 0
+KeepsTextRule payload text = keeps_text_rule text.0 (text_at payload text.1) ≡ true

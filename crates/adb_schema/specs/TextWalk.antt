@@ -1,0 +1,29 @@
+-- What the text walk answers on its way, and what it passes over. Serves the contracts of
+-- `src/text_walk.rt`; the rule stands in `docs/formats.md`, "The texts".
+use Rattle.std.specs.Prelude.{◌≡◌, ℕ, ◌-◌, ◌<◌, true, List, slice_index, Option, Some, None}
+use Rattle.base_core.specs.declared.cause.Cause.{Cause}
+use Rattle.base_core.specs.declared.cause.Cause.TheVariants.{BadText}
+use Rattle.adb_view.specs.Plain.{Plain}
+use Rattle.adb_view.specs.Schema.{shape_of}
+use Rattle.adb_view.specs.declared.tables.Kind.{Kind}
+use Rattle.adb_schema.specs.Texts.{Surroundings, first_bad, leaves, text_rule}
+
+-- the cause that is reported for the field with this number, if one is
+abbrev pub bad_text_at : Option ℕ → Option Cause
+bad_text_at None = None
+bad_text_at (Some place) = Some (BadText place)
+
+-- the entry with index i is the same word as the one before it
+pub record IsSameAsBefore (words : List ℕ) (i : ℕ) : Type 0 where
+  pub behind : 0 < i
+  pub same : slice_index words i ≡ slice_index words (i - 1)
+
+-- no text breaks the rule of the field with this number, whatever stands around it
+abbrev pub TakesEachText : ℕ → Type 0
+TakesEachText field_number = (around : Surroundings) (text : List ℕ)
+    → text_rule field_number around text ≡ true
+
+-- no value of the kind breaks a rule as the field with this number, whatever stands around it
+abbrev pub TakesEachValue : Kind → ℕ → Type 0
+TakesEachValue kind field_number = (around : Surroundings) (v : Plain)
+    → first_bad (leaves (shape_of kind) field_number around v) ≡ None

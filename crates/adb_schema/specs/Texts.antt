@@ -1,0 +1,163 @@
+-- The rules of the texts and numbers of a container, each under the number of its field, and the
+-- first that is broken. The number of a field is 100 times that of its table plus its own in the
+-- table. The rules stand in the table of `docs/formats.md`, "The texts"; their order is that of the
+-- visits ("The shape").
+use Rattle.std.specs.Prelude.{ℕ, ◌+◌, ◌*◌, ◌==◌, nat_lt, Bool, true, false, not, ◌&&◌, if◌then◌else◌, List, [], ◌∷◌, ◌++◌, length, Option, Some, None}
+use Rattle.version_core.specs.Order.{is_version}
+use Rattle.dep_core.specs.Dependency.{is_dep_name, is_package_name}
+use Rattle.dep_core.specs.Value.{is_matching, is_version_or_empty}
+use Rattle.base_core.specs.declared.cause.Cause.{Cause}
+use Rattle.base_core.specs.declared.cause.Cause.TheVariants.{BadText}
+use Rattle.adb_view.specs.Plain.{Plain, null, Plains, none, more, Shape, number, text, hash, array, object, Fields, no_fields, field}
+use Rattle.adb_schema.specs.Reserved.{is_reserved}
+use Rattle.adb_fields.specs.Paths.{path_of}
+use Rattle.adb_fields.specs.Repeated.{field_number}
+use Rattle.adb_schema.specs.Rules.{is_change_name, is_digest_length, is_digest_length_or_none, is_file_name, is_folder_name, is_id_length, is_name_pattern, is_target}
+use Rattle.adb_view.specs.FieldIndexes.{DEP_MATCH, DEP_NAME, DEP_VERSION, DIR_NAME, FILE_HASHES, FILE_NAME, FILE_SIZE, FILE_TARGET, INDEX_PKGNAME_SPEC, INFO_HASHES, INFO_NAME, INFO_VERSION, INTENT_REMOVALS, INTENT_WRITES}
+use Rattle.adb_view.specs.Schema.{schema_number, shape_of}
+use Rattle.adb_view.specs.Values.{entries_in, entry_in, int_in, text_in}
+use Rattle.adb_view.specs.declared.tables.Which.{Which}
+use Rattle.adb_view.specs.declared.tables.Which.TheVariants.{Dep, PkgInfo, File, Dir, Index, Idb, Intent}
+use Rattle.adb_view.specs.declared.tables.Kind.TheVariants.{Obj}
+
+-- what stands around a value, as far as a rule looks at it: the table of the container's root, the
+-- name of the folder, and whether the file has contents
+pub record Surroundings : Type 0 where
+  -- the table of the container's root
+  pub root : Which
+  -- the name of the folder; empty outside of folders, and in the root folder
+  pub folder : List ℕ
+  -- whether the file has contents; false outside of files
+  pub has_contents : Bool
+
+-- ---- rules that look around
+
+-- whether a package's hash may have so many bytes, in a container with this table at its root: in
+-- an index each package has its hash
+abbrev pub is_package_hash : Which → ℕ → Bool
+is_package_hash Index len = is_id_length len
+is_package_hash root len = is_digest_length_or_none len
+
+-- whether a container with this table at its root may list a file under the path: a database none
+-- under a reserved name, since no change may remove one as a package's file
+abbrev pub may_list : Which → List ℕ → Bool
+may_list Idb path = not (is_reserved path)
+may_list root path = true
+
+-- whether the container may list a file of this name in the folder around it
+abbrev pub is_listed_file : Surroundings → List ℕ → Bool
+is_listed_file around name = is_file_name around.folder name
+    && may_list around.root (path_of around.folder name)
+
+-- whether a file needs a hash: one with contents does, but in a database, which may have been taken
+-- over from text
+abbrev pub needs_hash : Which → Bool → Bool
+needs_hash Idb has_contents = false
+needs_hash root has_contents = has_contents
+
+-- whether a file's hash may have so many bytes: as many as a digest, and none where no hash is
+-- needed
+abbrev pub is_file_hash : Surroundings → ℕ → Bool
+is_file_hash around len = if needs_hash around.root around.has_contents then is_digest_length len
+    else is_digest_length_or_none len
+
+-- ---- the rule of each field
+
+-- whether a number keeps the rule of the field with the number `place`; only the match number of a
+-- dependency has one
+abbrev pub number_rule : ℕ → ℕ → Bool
+number_rule place n = if place == field_number Dep DEP_MATCH then is_matching n else true
+
+-- whether a text keeps the rule of the field with the number `place`; a field that is not named here
+-- has none
+unfoldable pub text_rule : ℕ → Surroundings → List ℕ → Bool
+text_rule place around bytes =
+    if place == field_number Dep DEP_NAME then is_dep_name bytes
+    else if place == field_number Dep DEP_VERSION then is_version_or_empty bytes
+    else if place == field_number PkgInfo INFO_NAME then is_package_name bytes
+    else if place == field_number PkgInfo INFO_VERSION then is_version bytes
+    else if place == field_number PkgInfo INFO_HASHES then is_package_hash around.root (length bytes)
+    else if place == field_number File FILE_NAME then is_listed_file around bytes
+    else if place == field_number File FILE_HASHES then is_file_hash around (length bytes)
+    else if place == field_number File FILE_TARGET then is_target bytes
+    else if place == field_number Dir DIR_NAME then is_folder_name bytes
+    else if place == field_number Index INDEX_PKGNAME_SPEC then is_name_pattern bytes
+    else if place == field_number Intent INTENT_REMOVALS then is_change_name bytes
+    else if place == field_number Intent INTENT_WRITES then is_change_name bytes
+    else true
+
+-- ---- what the walk comes to, in order
+
+-- a number or a text that the walk comes to, with the number of its field; a Null is 0 or empty
+pub data Leaf : Type 0 where
+  number_leaf : ℕ → ℕ → Leaf
+  text_leaf : ℕ → Surroundings → List ℕ → Leaf
+
+-- whether a number or a text keeps the rule of its field
+abbrev pub keeps_rule : Leaf → Bool
+keeps_rule (number_leaf field_number n) = number_rule field_number n
+keeps_rule (text_leaf field_number around bytes) = text_rule field_number around bytes
+
+-- the number of the field of a number or a text
+abbrev pub number_of_leaf : Leaf → ℕ
+number_of_leaf (number_leaf field_number n) = field_number
+number_of_leaf (text_leaf field_number around bytes) = field_number
+
+-- whether a file has contents: it has no target, and a size above 0
+abbrev pub is_with_contents : Plain → Bool
+is_with_contents file = (length (text_in (entry_in file FILE_TARGET)) == 0)
+    && nat_lt 0 (int_in (entry_in file FILE_SIZE))
+
+-- what stands around the fields of an object, whose table has this number, by what stands around
+-- the object
+abbrev pub inside_of : ℕ → Surroundings → Plain → Surroundings
+inside_of schema around v = record {
+  root = around.root;
+  folder = if schema == schema_number Dir then text_in (entry_in v DIR_NAME) else around.folder;
+  has_contents = if schema == schema_number File then is_with_contents v else around.has_contents;
+}
+
+-- the numbers and texts of each of the values, in order
+abbrev pub each_leaf : (Plain → List Leaf) → Plains → List Leaf
+each_leaf f none = []
+each_leaf f (more v vs) = f v ++ each_leaf f vs
+
+-- the numbers and texts that a value of a shape has as a field, depth first; of an object those of
+-- each field of its table, of which one that is missing is Null
+unfoldable mutual
+  pub leaves : Shape → ℕ → Surroundings → Plain → List Leaf
+  leaves number field_number around v = number_leaf field_number (int_in v) ∷ []
+  leaves text field_number around v = text_leaf field_number around (text_in v) ∷ []
+  leaves hash field_number around v = text_leaf field_number around (text_in v) ∷ []
+  leaves (array s) field_number around v = each_leaf (leaves s field_number around) (entries_in v)
+  leaves (object schema fs) field_number around v = field_leaves fs (100 * schema + 1)
+      (inside_of schema around v) (entries_in v)
+
+  -- the numbers and texts of the fields of an object, the first of which has this number
+  pub field_leaves : Fields → ℕ → Surroundings → Plains → List Leaf
+  field_leaves no_fields field_number around vs = []
+  field_leaves (field name s fs) field_number around none = leaves s field_number around null
+      ++ field_leaves fs (field_number + 1) around none
+  field_leaves (field name s fs) field_number around (more v vs) = leaves s field_number around v
+      ++ field_leaves fs (field_number + 1) around vs
+
+-- what stands around the root: no folder and no file
+abbrev pub at_root : Which → Surroundings
+at_root which = record { root = which; folder = []; has_contents = false }
+
+-- the numbers and texts of a container with this table at its root
+abbrev pub leaves_of : Which → Plain → List Leaf
+leaves_of which v = leaves (shape_of (Obj which)) 0 (at_root which) v
+
+-- ---- the first fault
+
+-- the cause of the first number or text that breaks its rule, told by the number of its field; None
+-- where each keeps its own
+abbrev pub first_bad : List Leaf → Option Cause
+first_bad [] = None
+first_bad (leaf ∷ others) = if keeps_rule leaf then first_bad others
+    else Some (BadText (number_of_leaf leaf))
+
+-- the cause of the first text or number of a container that breaks its rule
+abbrev pub text_fault : Which → Plain → Option Cause
+text_fault which v = first_bad (leaves_of which v)

@@ -1,0 +1,167 @@
+//! The rules that look at each byte of a text, and the long texts of a payload that were found to
+//! keep one. Many places may share a text, so a long one is judged once. Which rules there are
+//! stands in the table of `docs/formats.md`, "The texts"; that each long text is judged once is
+//! what the README of this crate says of `Judged::keeps`.
+
+ghost use Rattle.std.specs.Prelude.{◌≡◌, All, IfOk};
+ghost use Rattle.std.specs.Bool.{OnTrue};
+ghost use Rattle.version_core.specs.Order.{is_version};
+ghost use Rattle.dep_core.specs.Value.{is_version_or_empty};
+ghost use Rattle.adb_view.specs.Adb.{payload_of};
+ghost use Rattle.adb_schema.specs.TextRules.{KeepsTextRule, keeps_text_rule, text_at};
+
+use crate::rules::{is_folder_name, is_one_part, is_target, is_version, is_version_or_empty};
+use adb_view::{Adb, Val};
+use base_core::is_name;
+use dep_core::{is_dep_name, is_package_name};
+use std::alloc::{AllocError, Global};
+use std::collections::BTreeSet;
+use version_core::OverlappingVersions;
+
+/// How many bytes a text has at most that is not kept: it is judged at each place where it stands,
+/// which takes no memory. Any number gives the same answers.
+const LONGEST_SHORT_TEXT: usize = 64;
+
+/// A rule that looks at each byte of a text, and at nothing around the text; each is named for what
+/// the text has to be.
+#[derive(Clone, Copy, Debug, PartialEq, Eq, PartialOrd, Ord)]
+pub enum TextRule {
+    /// A dependency's name (field 101).
+    DependencyName,
+    /// A package's name (301).
+    PackageName,
+    /// A version (302).
+    Version,
+    /// Empty, or a version (102).
+    VersionOrEmpty,
+    /// A path below the root (1001, 1002).
+    Name,
+    /// Empty, or a path (501).
+    FolderName,
+    /// One part of a path (401).
+    OnePart,
+    /// Empty, or a link's target (406).
+    Target,
+}
+
+impl TextRule {
+    /// Whether a text keeps this rule.
+    fn is_kept_by(self, text: &[u8]) -> bool
+        ensures { result ≡ keeps_text_rule self text.now }
+    {
+        match self {
+            TextRule::DependencyName => is_dep_name(text),
+            TextRule::PackageName => is_package_name(text),
+            TextRule::Version => is_version(text),
+            TextRule::VersionOrEmpty => is_version_or_empty(text),
+            TextRule::Name => is_name(text),
+            TextRule::FolderName => is_folder_name(text),
+            TextRule::OnePart => is_one_part(text),
+            TextRule::Target => is_target(text),
+        }
+    }
+}
+
+/// A payload, and the words of its long texts that were found to keep a rule, each with the rule.
+#[derive(Drop)]
+pub struct Judged<'a> {
+    /// The opened payload.
+    adb: Adb<'a>,
+    /// Each rule with the words of the long texts that keep it.
+    good: BTreeSet<(TextRule, u32)>,
+    /// The bytes of the payload, with the leaps over versions in it.
+    versions: OverlappingVersions<'a>,
+    ghost kept: { All (KeepsTextRule (payload_of adb)) good.keys },
+    ghost same: { versions ≡ payload_of adb },
+}
+
+impl<'a> Judged<'a> {
+    /// A payload of whose texts nothing is known yet.
+    pub fn new(alloc: Global, adb: Adb<'a>) -> Judged<'a>
+        ensures { result.adb ≡ adb.entry }
+    {
+        Judged {
+            adb,
+            good: BTreeSet::new(alloc),
+            versions: OverlappingVersions::new(alloc, adb.payload()),
+        }
+    }
+
+    /// The opened payload whose texts are judged.
+    pub fn adb(&self) -> Adb<'a>
+        ensures { result ≡ self.now.adb }
+    {
+        self.adb
+    }
+
+    /// Whether the text of a word keeps a rule. Only long texts take memory, each once for each
+    /// rule that it keeps. The payload stays the same, so that what is known of its words stays
+    /// true.
+    pub fn keeps(&mut self, rule: TextRule, word: Val, text: &[u8]) -> Result<bool, AllocError>
+        requires { text.now ≡ text_at (payload_of self.old.adb) word }
+        ensures value { IfOk result (λ kept. kept ≡ keeps_text_rule rule text.now) }
+        ensures payload { self.new.adb ≡ self.old.adb }
+    {
+        if text.len() <= LONGEST_SHORT_TEXT {
+            return Ok(rule.is_kept_by(text));
+        }
+        if self.is_good(rule, word) {
+            return Ok(true);
+        }
+        if !self.long_text_keeps(rule, word, text)? {
+            return Ok(false);
+        }
+        self.good.insert((rule, word.word()))?;
+        Ok(true)
+    }
+
+    /// Whether the text of a word is known to keep a rule.
+    fn is_good(&self, rule: TextRule, word: Val) -> bool
+        ensures { OnTrue result (KeepsTextRule (payload_of self.now.adb) (rule, word)) }
+    {
+        self.good.contains(&(rule, word.word()))
+    }
+
+    /// Whether a long text, which is the text of a word, keeps a rule, judged here. A version has
+    /// no limit of length, and many may overlap.
+    fn long_text_keeps(
+        &mut self,
+        rule: TextRule,
+        word: Val,
+        text: &[u8],
+    ) -> Result<bool, AllocError>
+        requires { text.now ≡ text_at (payload_of self.old.adb) word }
+        ensures value { IfOk result (λ kept. kept ≡ keeps_text_rule rule text.now) }
+        ensures payload { self.new.adb ≡ self.old.adb }
+    {
+        match rule {
+            TextRule::Version => self.is_version(word, text),
+            TextRule::VersionOrEmpty => self.is_version_or_empty(word, text),
+            _ => Ok(rule.is_kept_by(text)),
+        }
+    }
+
+    /// Whether the text of a word is empty or a version.
+    fn is_version_or_empty(&mut self, word: Val, text: &[u8]) -> Result<bool, AllocError>
+        requires { text.now ≡ text_at (payload_of self.old.adb) word }
+        ensures value { IfOk result (λ is. is ≡ is_version_or_empty text.now) }
+        ensures payload { self.new.adb ≡ self.old.adb }
+    {
+        if text.is_empty() {
+            return Ok(true);
+        }
+        self.is_version(word, text)
+    }
+
+    /// Whether the text of a word is a version.
+    fn is_version(&mut self, word: Val, text: &[u8]) -> Result<bool, AllocError>
+        requires { text.now ≡ text_at (payload_of self.old.adb) word }
+        ensures value { IfOk result (λ is. is ≡ is_version text.now) }
+        ensures payload { self.new.adb ≡ self.old.adb }
+    {
+        match self.adb.blob_range(word) {
+            Ok((from, end)) => self.versions.is_version(from, end),
+            Err(_) => Ok(is_version(text)),
+        }
+    }
+}

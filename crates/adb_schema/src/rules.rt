@@ -1,0 +1,207 @@
+//! What single texts of a container have to be (apk-v3(5), apk-package(5)), and the names below a
+//! root under which no database lists a file. The rules stand in `docs/formats.md`, "The texts":
+//! its table, and the paragraph on reserved names below it.
+
+ghost use Rattle.std.specs.Prelude.{◌≡◌, ◌==◌, nat_le, length, ◌∷◌};
+ghost use Rattle.std.specs.Str.{is_utf8};
+ghost use Rattle.std.specs.List.{list_any};
+ghost use Rattle.version_core.specs.Order.{is_version};
+ghost use Rattle.dep_core.specs.Value.{is_matching, is_version_or_empty};
+ghost use Rattle.adb_fields.specs.Paths.{path_of};
+ghost use Rattle.adb_schema.specs.Rules.{is_digest_length, is_digest_length_or_none, is_folder_name, is_id_length, is_link, is_name_pattern, is_one_part, is_target};
+ghost use Rattle.adb_schema.specs.Reserved.{is_at_or_below, is_intent_or_stage_name, is_reserved};
+
+use base_core::is_name;
+use std::str;
+use version_core::{Op, Version};
+
+/// The most bytes that a path has (`docs/commands.md`, "Words").
+const MOST: usize = 1024;
+
+/// The first two bytes of the text of a link: the type of a symbolic link, 0xa000, little-endian.
+const LINK: [u8; 2] = [0x00, 0xa0];
+
+/// How an index names its packages' files: the one pattern that is known (803).
+const NAME_PATTERN: &[u8] = b"${name}-${version}.apk";
+
+/// Whether so many bytes are a SHA-1, a SHA-256 or a SHA-512.
+pub(crate) fn is_digest_length(len: usize) -> bool
+    ensures { result ≡ is_digest_length len }
+{
+    len == 20 || len == 32 || len == 64
+}
+
+/// Whether so many bytes are none or a digest.
+pub(crate) fn is_digest_length_or_none(len: usize) -> bool
+    ensures { result ≡ is_digest_length_or_none len }
+{
+    len == 0 || is_digest_length(len)
+}
+
+/// Whether so many bytes are what an index says of a package: a SHA-256, or the first 20 bytes of
+/// one.
+pub(crate) fn is_id_length(len: usize) -> bool
+    ensures { result ≡ is_id_length len }
+{
+    len == 20 || len == 32
+}
+
+/// Whether the bytes are a version.
+pub(crate) fn is_version(text: &[u8]) -> bool
+    ensures { result ≡ is_version text.now }
+{
+    match Version::read(text) {
+        Some(_) => true,
+        None => false,
+    }
+}
+
+/// Whether the bytes are none or a version.
+pub(crate) fn is_version_or_empty(text: &[u8]) -> bool
+    ensures { result ≡ is_version_or_empty text.now }
+{
+    text.is_empty() || is_version(text)
+}
+
+/// Whether the number is a dependency's match number: below 32, and its low four bits are an
+/// operator.
+pub(crate) fn is_matching(number: u64) -> bool
+    ensures { result ≡ is_matching number }
+{
+    if number >= 32 {
+        return false;
+    }
+    match Op::of((number % 16) as u8) {
+        Some(_) => true,
+        None => false,
+    }
+}
+
+/// Whether the bytes name a folder: a path, or nothing for the root folder.
+pub(crate) fn is_folder_name(name: &[u8]) -> bool
+    ensures { result ≡ is_folder_name name.now }
+{
+    name.is_empty() || is_name(name)
+}
+
+/// Whether the bytes are one part of a path.
+pub(crate) fn is_one_part(name: &[u8]) -> bool
+    ensures { result ≡ is_one_part name.now }
+{
+    is_name(name) && !has_slash(name)
+}
+
+/// Whether a name has a slash.
+fn has_slash(name: &[u8]) -> bool
+    ensures { result ≡ list_any (λ b. b == 47) name.now }
+{
+    name.contains(&b'/')
+}
+
+/// Whether a file of this name has a path of at most 1,024 bytes in the folder.
+pub(crate) fn fits_in(folder: &[u8], name: &[u8]) -> bool
+    ensures { result ≡ nat_le (length (path_of folder.now name.now)) 1024 }
+{
+    if folder.is_empty() {
+        return name.len() <= MOST;
+    }
+    name.len() < MOST && folder.len() < MOST - name.len()
+}
+
+/// Whether the bytes are a file's target: empty, or a link's.
+pub(crate) fn is_target(bytes: &[u8]) -> bool
+    ensures { result ≡ is_target bytes.now }
+{
+    bytes.is_empty() || is_link(bytes)
+}
+
+/// Whether bytes are the mark of a link and behind it a text, which is not empty.
+fn is_link(bytes: &[u8]) -> bool
+    ensures { result ≡ is_link bytes.now }
+{
+    match bytes.strip_prefix(LINK.as_slice()) {
+        Some(text) => !text.is_empty() && is_text(text),
+        None => false,
+    }
+}
+
+/// Whether bytes are UTF-8.
+fn is_text(bytes: &[u8]) -> bool
+    ensures { result ≡ is_utf8 bytes.now }
+{
+    match str::from_utf8(bytes) {
+        Ok(_) => true,
+        Err(_) => false,
+    }
+}
+
+/// Whether the bytes are the pattern of an index: empty, or `${name}-${version}.apk`.
+pub(crate) fn is_name_pattern(pattern: &[u8]) -> bool
+    ensures { result ≡ is_name_pattern pattern.now }
+{
+    pattern.is_empty() || pattern == NAME_PATTERN
+}
+
+/// Whether a path is one where a change keeps itself, prepared or published: `lib/apk/intent`,
+/// `lib/apk/stage`, or a name below one of them.
+pub fn is_intent_or_stage_name(path: &[u8]) -> bool
+    ensures { result ≡ is_intent_or_stage_name path.now }
+{
+    is_at_or_below(b"lib/apk/intent", path) || is_at_or_below(b"lib/apk/stage", path)
+}
+
+/// Whether a path is reserved: `etc/apk/world`, `lib/apk/intent`, `lib/apk/stage`, `lib/apk/db`, or
+/// a name below one of them.
+pub fn is_reserved(path: &[u8]) -> bool
+    ensures { result ≡ is_reserved path.now }
+{
+    is_at_or_below(b"etc/apk/world", path)
+        || is_at_or_below(b"lib/apk/intent", path)
+        || is_at_or_below(b"lib/apk/stage", path)
+        || is_at_or_below(b"lib/apk/db", path)
+}
+
+/// Whether the path of this file of this folder is reserved. The root folder's name is empty.
+pub fn is_reserved_file(folder: &[u8], name: &[u8]) -> bool
+    ensures { result ≡ is_reserved (path_of folder.now name.now) }
+{
+    is_file_at_or_below(b"etc/apk/world", folder, name)
+        || is_file_at_or_below(b"lib/apk/intent", folder, name)
+        || is_file_at_or_below(b"lib/apk/stage", folder, name)
+        || is_file_at_or_below(b"lib/apk/db", folder, name)
+}
+
+/// Whether the path is this name, or one below it.
+fn is_at_or_below(top: &[u8], path: &[u8]) -> bool
+    ensures { result ≡ is_at_or_below top.now path.now }
+{
+    match path.strip_prefix(top) {
+        Some(rest) => rest.is_empty() || rest[0] == b'/',
+        None => false,
+    }
+}
+
+/// Whether the path of this file of this folder is a name, or one below it; the two parts are not
+/// joined.
+fn is_file_at_or_below(top: &[u8], folder: &[u8], name: &[u8]) -> bool
+    ensures { result ≡ is_at_or_below top.now (path_of folder.now name.now) }
+{
+    if folder.is_empty() {
+        return is_at_or_below(top, name);
+    }
+    match top.strip_prefix(folder) {
+        Some(rest) => is_at_or_below_slash(rest, name),
+        None => is_at_or_below(top, folder),
+    }
+}
+
+/// Whether a slash and a name are at or below `top`, which is what is left of a name behind a
+/// folder.
+fn is_at_or_below_slash(top: &[u8], name: &[u8]) -> bool
+    ensures { result ≡ is_at_or_below top.now (47 ∷ name.now) }
+{
+    match top.split_first() {
+        Some((first, rest)) => *first == b'/' && is_at_or_below(rest, name),
+        None => true,
+    }
+}

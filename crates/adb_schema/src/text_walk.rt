@@ -1,0 +1,496 @@
+//! The text walk: each number and text of a walked payload, against the rule of its field. The
+//! order and the rules stand in `docs/formats.md`, "The texts". Each call that is lent a `Judged`
+//! leaves its payload the same (clause `payload`), so that what is known of its words stays true.
+
+ghost use Rattle.std.specs.Prelude.{ℕ, List, ◌↔◌, None, ◌≡◌, ◌==◌, ◌*◌, true, false, length, ◌+◌, ◌<◌, ◌≤◌, ◌^◌, IfOk, [], ◌∷◌};
+ghost use Rattle.std.specs.Bool.{OnTrue};
+ghost use Rattle.adb_view.specs.Adb.{payload_of};
+ghost use Rattle.adb_view.specs.Schema.{schema_number, shape_of, shapes_of, table};
+ghost use Rattle.adb_view.specs.Values.{is_sound, value_at, entries_in, entry_in, count_of};
+ghost use Rattle.adb_fields.specs.Paths.{path_of};
+ghost use Rattle.adb_schema.specs.Rules.{is_change_name, is_one_part};
+ghost use Rattle.adb_schema.specs.Surroundings.{surroundings_of};
+ghost use Rattle.adb_schema.specs.TextRules.{text_at};
+ghost use Rattle.adb_schema.specs.TextWalk.{IsSameAsBefore, TakesEachText, TakesEachValue, bad_text_at};
+ghost use Rattle.adb_view.specs.ShapedPayload.{shaped_value, table_of};
+ghost use Rattle.adb_view.specs.Shaped.{Each};
+ghost use Rattle.adb_schema.specs.SoundValues.{IsChangeName, IsSoundDependency, IsFileOf, IsFolder, IsInformation, IsPackage, KeepsRules};
+ghost use Rattle.adb_schema.specs.Texts.{at_root, inside_of, is_file_hash, is_listed_file, is_package_hash, is_with_contents, may_list, needs_hash, number_rule, text_rule, each_leaf, field_leaves, first_bad, leaves, number_leaf, text_leaf, leaves_of, text_fault};
+ghost use Rattle.adb_schema.specs.FirstBad.{IsFirstBadOf};
+ghost use Rattle.adb_view.specs.Entries.{array_entries};
+ghost use Rattle.adb_fields.specs.Fields.{are_all_sound, values_at};
+ghost use Rattle.adb_view.specs.Plain.{Plain};
+ghost use Rattle.adb_view.specs.declared.tables.Which.{Which};
+ghost use Rattle.adb_view.specs.declared.tables.Kind.TheVariants as Kinds;
+ghost use Rattle.adb_view.specs.declared.tables.Which.TheVariants as Tables;
+
+use crate::judged::{Judged, TextRule};
+use crate::rules::*;
+use adb_fields::{
+    hash_word, int_field, int_word, object_words, objects_word, text_field, text_word, texts_word,
+    word_or_null,
+};
+use adb_view::field_indexes::{DIR_NAME, FILE_SIZE, FILE_TARGET};
+use adb_view::{Adb, Arr, Kind, Shaped, Val, Which, entry_word, fields_of, number_of};
+use base_core::Cause;
+use std::alloc::{AllocError, Global};
+
+/// The numbers of the fields that have a rule: 100 times the number of the table plus that of the
+/// field in it, which counts from 1 (`docs/formats.md`, "Schemas").
+mod field_numbers {
+    // A dependency's name.
+    pub(crate) const DEP_NAME: u16 = 101;
+
+    // A dependency's version.
+    pub(crate) const DEP_VERSION: u16 = 102;
+
+    // A dependency's match number.
+    pub(crate) const DEP_MATCH: u16 = 103;
+
+    // A package's name.
+    pub(crate) const INFO_NAME: u16 = 301;
+
+    // A package's version.
+    pub(crate) const INFO_VERSION: u16 = 302;
+
+    // A package's hash.
+    pub(crate) const INFO_HASHES: u16 = 303;
+
+    // A file's name.
+    pub(crate) const FILE_NAME: u16 = 401;
+
+    // A file's hash.
+    pub(crate) const FILE_HASHES: u16 = 405;
+
+    // A file's target.
+    pub(crate) const FILE_TARGET: u16 = 406;
+
+    // A folder's name.
+    pub(crate) const DIR_NAME: u16 = 501;
+
+    // How an index names its packages' files.
+    pub(crate) const INDEX_PKGNAME_SPEC: u16 = 803;
+
+    // The names that a change removes.
+    pub(crate) const INTENT_REMOVALS: u16 = 1001;
+
+    // The names that a change writes.
+    pub(crate) const INTENT_WRITES: u16 = 1002;
+}
+
+/// What stands around a value, as far as a rule looks at it.
+#[derive(Clone, Copy)]
+pub(crate) struct Surroundings<'a> {
+    /// The table of the container's root.
+    root: Which,
+    /// The name of the folder; empty outside of folders, and in the root folder.
+    folder: &'a [u8],
+    /// Whether the file has contents; false outside of files.
+    has_contents: bool,
+}
+
+impl<'a> Surroundings<'a> {
+    /// What stands around the root of a container: no folder and no file.
+    pub(crate) fn at_root(root: Which) -> Surroundings<'a>
+        ensures { surroundings_of result ≡ at_root root }
+    {
+        Surroundings {
+            root,
+            folder: &[],
+            has_contents: false,
+        }
+    }
+
+    /// What stands around the fields of an object, by what stands around the object.
+    pub(crate) fn inside(&self, adb: Adb<'a>, which: Which, object: Val) -> Surroundings<'a>
+        requires { is_sound (payload_of adb) (Kinds.Obj which) object ≡ true }
+        ensures { surroundings_of result
+            ≡ inside_of (schema_number which) (surroundings_of self.now)
+            (value_at (payload_of adb.entry) (Kinds.Obj which) object) }
+    {
+        match which {
+            Which::Dir => Surroundings {
+                root: self.root,
+                folder: text_field(adb, Which::Dir, object, DIR_NAME),
+                has_contents: self.has_contents,
+            },
+            Which::File => Surroundings {
+                root: self.root,
+                folder: self.folder,
+                has_contents: has_contents(adb, object),
+            },
+            _ => *self,
+        }
+    }
+
+    /// Whether a file of the folder may have this name, which is one part of a path.
+    fn takes_file_name(&self, name: &[u8]) -> bool
+        requires { is_one_part name.now ≡ true }
+        ensures { result ≡ is_listed_file (surroundings_of self.now) name.now }
+    {
+        fits_in(self.folder, name) && self.may_list(name)
+    }
+
+    /// Whether the container may list a file of this name in the folder: a database none under a
+    /// reserved name.
+    fn may_list(&self, name: &[u8]) -> bool
+        ensures { result ≡ may_list self.now.root (path_of self.now.folder.now name.now) }
+    {
+        match self.root {
+            Which::Idb => !is_reserved_file(self.folder, name),
+            _ => true,
+        }
+    }
+
+    /// Whether a package's hash may have so many bytes.
+    fn takes_package_hash(&self, len: usize) -> bool
+        ensures { result ≡ is_package_hash (surroundings_of self.now).root len }
+    {
+        match self.root {
+            Which::Index => is_id_length(len),
+            _ => is_digest_length_or_none(len),
+        }
+    }
+
+    /// Whether the file's hash may have so many bytes.
+    fn takes_file_hash(&self, len: usize) -> bool
+        ensures { result ≡ is_file_hash (surroundings_of self.now) len }
+    {
+        if self.has_contents && self.root != Which::Idb {
+            is_digest_length(len)
+        } else {
+            is_digest_length_or_none(len)
+        }
+    }
+}
+
+/// Whether a file has contents: no target, and a size above 0.
+fn has_contents(adb: Adb<'_>, file: Val) -> bool
+    requires { is_sound (payload_of adb) (Kinds.Obj Tables.File) file ≡ true }
+    ensures { result
+        ≡ is_with_contents (value_at (payload_of adb.entry) (Kinds.Obj Tables.File) file) }
+{
+    let target = text_field(adb, Which::File, file, FILE_TARGET);
+    target.is_empty() && int_field(adb, Which::File, file, FILE_SIZE) > 0
+}
+
+/// Whether a number keeps the rule of the field with this number; only the match of a dependency
+/// has one.
+pub(crate) fn keeps_number_rule(field_number: u16, n: u64) -> bool
+    ensures { result ≡ number_rule field_number n }
+{
+    match field_number {
+        field_numbers::DEP_MATCH => is_matching(n),
+        _ => true,
+    }
+}
+
+/// Whether the text of a word keeps the rule of the field with this number; a field that is not
+/// named here has none.
+#[tactic(auto, unfolding(crate::specs::Texts::text_rule))]
+fn keeps_rule_of_field(
+    judged: &mut Judged<'_>,
+    field_number: u16,
+    around: &Surroundings<'_>,
+    word: Val,
+    text: &[u8],
+) -> Result<bool, AllocError>
+    requires { text.now ≡ text_at (payload_of judged.old.adb) word }
+    ensures value { IfOk result (λ kept.
+        kept ≡ text_rule field_number (surroundings_of around.now) text.now) }
+    ensures payload { judged.new.adb ≡ judged.old.adb }
+{
+    match field_number {
+        field_numbers::DEP_NAME => judged.keeps(TextRule::DependencyName, word, text),
+        field_numbers::DEP_VERSION => judged.keeps(TextRule::VersionOrEmpty, word, text),
+        field_numbers::INFO_NAME => judged.keeps(TextRule::PackageName, word, text),
+        field_numbers::INFO_VERSION => judged.keeps(TextRule::Version, word, text),
+        field_numbers::INFO_HASHES => Ok(around.takes_package_hash(text.len())),
+        field_numbers::FILE_NAME => keeps_file_name(judged, around, word, text),
+        field_numbers::FILE_HASHES => Ok(around.takes_file_hash(text.len())),
+        field_numbers::FILE_TARGET => judged.keeps(TextRule::Target, word, text),
+        field_numbers::DIR_NAME => judged.keeps(TextRule::FolderName, word, text),
+        field_numbers::INDEX_PKGNAME_SPEC => Ok(is_name_pattern(text)),
+        field_numbers::INTENT_REMOVALS | field_numbers::INTENT_WRITES => {
+            keeps_change_name(judged, word, text)
+        }
+        _ => Ok(true),
+    }
+}
+
+/// Whether the text of a word is a name that a file of the folder may have.
+fn keeps_file_name(
+    judged: &mut Judged<'_>,
+    around: &Surroundings<'_>,
+    word: Val,
+    text: &[u8],
+) -> Result<bool, AllocError>
+    requires { text.now ≡ text_at (payload_of judged.old.adb) word }
+    ensures value { IfOk result (λ kept.
+        kept ≡ is_listed_file (surroundings_of around.now) text.now) }
+    ensures payload { judged.new.adb ≡ judged.old.adb }
+{
+    if !judged.keeps(TextRule::OnePart, word, text)? {
+        return Ok(false);
+    }
+    Ok(around.takes_file_name(text))
+}
+
+/// Whether the text of a word is what a change may remove or write: a path, but none that the
+/// change itself is kept in.
+fn keeps_change_name(judged: &mut Judged<'_>, word: Val, text: &[u8]) -> Result<bool, AllocError>
+    requires { text.now ≡ text_at (payload_of judged.old.adb) word }
+    ensures value { IfOk result (λ kept. kept ≡ is_change_name text.now) }
+    ensures payload { judged.new.adb ≡ judged.old.adb }
+{
+    if !judged.keeps(TextRule::Name, word, text)? {
+        return Ok(false);
+    }
+    Ok(!is_intent_or_stage_name(text))
+}
+
+/// Tests each text and number of a walked payload against the rule of its field, and answers the
+/// cause `BadText` with the number of the first field that breaks its rule, depth first and field
+/// by field, or None exactly where each keeps its own; a missing field counts as Null. A text of
+/// more than 64 bytes is judged once, however many places share it.
+pub fn check_texts(alloc: Global, shaped: Shaped<'_>) -> Result<Option<Cause>, AllocError>
+    ensures { IfOk result (λ cause. cause
+        ≡ text_fault (table_of shaped.entry) (shaped_value shaped.entry)) }
+{
+    let adb = shaped.adb();
+    let which = shaped.which();
+    let mut judged = Judged::new(alloc, adb);
+    let around = Surroundings::at_root(which);
+    match check_value(adb, &mut judged, Kind::Obj(which), 0, &around, adb.root())? {
+        Some(place) => Ok(Some(Cause::BadText { place })),
+        None => Ok(None),
+    }
+}
+
+/// Checks a value, and what lies below it, and answers the number of the first field that breaks
+/// its rule. (A cause has 150 bytes, too many to be handed from value to value.)
+#[cycle(check)]
+fn check_value<'a>(
+    adb: Adb<'a>,
+    judged: &mut Judged<'a>,
+    kind: Kind,
+    field_number: u16,
+    around: &Surroundings<'a>,
+    word: Val,
+) -> Result<Option<u16>, AllocError>
+    requires sound { is_sound (payload_of adb) kind word ≡ true }
+    requires payload { payload_of judged.old.adb ≡ payload_of adb }
+    ensures place { IfOk result (λ place. bad_text_at place
+        ≡ first_bad (leaves (shape_of kind) field_number (surroundings_of around.now)
+        (value_at (payload_of adb.entry) kind word))) }
+    ensures payload { judged.new.adb ≡ judged.old.adb }
+{
+    match kind {
+        Kind::Int => Ok(check_number(field_number, int_word(adb, word))),
+        Kind::Text => check_text(judged, field_number, around, word, text_word(adb, word)),
+        Kind::Hash => check_text(judged, field_number, around, word, hash_word(adb, word)),
+        Kind::TextArr => {
+            let texts = texts_word(adb, word);
+            check_entries(adb, judged, Kind::Text, field_number, around, texts)
+        }
+        Kind::ObjArr(which) => {
+            let objects = objects_word(adb, which, word);
+            check_entries(adb, judged, Kind::Obj(which), field_number, around, objects)
+        }
+        Kind::Obj(which) => {
+            let inside = around.inside(adb, which, word);
+            check_fields(adb, judged, which, &inside, word)
+        }
+    }
+}
+
+/// Checks the entries of an array, of equal ones that follow each other the first.
+#[cycle(check)]
+fn check_entries<'a>(
+    adb: Adb<'a>,
+    judged: &mut Judged<'a>,
+    kind: Kind,
+    field_number: u16,
+    around: &Surroundings<'a>,
+    entries: Arr<'a>,
+) -> Result<Option<u16>, AllocError>
+    requires sound { are_all_sound (payload_of adb) kind (array_entries entries) ≡ true }
+    requires payload { payload_of judged.old.adb ≡ payload_of adb }
+    ensures place { IfOk result (λ place. bad_text_at place
+        ≡ first_bad (each_leaf (leaves (shape_of kind) field_number (surroundings_of around.now))
+        (values_at (payload_of adb.entry) kind (array_entries entries.entry)))) }
+    ensures payload { judged.new.adb ≡ judged.old.adb }
+{
+    for i in 0..entries.len() {
+        if is_same_as_before(entries, i) {
+            continue;
+        }
+        let word = entry_word(entries, i);
+        if let Some(place) = check_value(adb, judged, kind, field_number, around, word)? {
+            return Ok(Some(place));
+        }
+    }
+    Ok(None)
+}
+
+/// Whether an entry is the same word as the one before it.
+fn is_same_as_before(entries: Arr<'_>, i: usize) -> bool
+    requires { i < length (array_entries entries) }
+    ensures { OnTrue result (IsSameAsBefore (array_entries entries.entry) i) }
+{
+    if i == 0 {
+        return false;
+    }
+    entry_word(entries, i - 1).word() == entry_word(entries, i).word()
+}
+
+/// Checks the fields of an object, each of those of its table that has a rule or fields with one
+/// below it.
+#[cycle(check)]
+fn check_fields<'a>(
+    adb: Adb<'a>,
+    judged: &mut Judged<'a>,
+    which: Which,
+    around: &Surroundings<'a>,
+    object: Val,
+) -> Result<Option<u16>, AllocError>
+    requires sound { is_sound (payload_of adb) (Kinds.Obj which) object ≡ true }
+    requires payload { payload_of judged.old.adb ≡ payload_of adb }
+    ensures place { IfOk result (λ place. bad_text_at place
+        ≡ first_bad (field_leaves (shapes_of (table which)) (100 * schema_number which + 1)
+        (surroundings_of around.now)
+        (entries_in (value_at (payload_of adb.entry) (Kinds.Obj which) object)))) }
+    ensures payload { judged.new.adb ≡ judged.old.adb }
+{
+    let words = object_words(adb, which, object);
+    let mut field_number = 100 * number_of(which);
+    for (i, field) in fields_of(which).iter().enumerate() {
+        field_number += 1;
+        if !has_rule(field.kind, field_number) {
+            continue;
+        }
+        let word = word_or_null(words, i);
+        if let Some(place) = check_value(adb, judged, field.kind, field_number, around, word)? {
+            return Ok(Some(place));
+        }
+    }
+    Ok(None)
+}
+
+/// Whether a value of this kind may break a rule as this field: there is one for the field, or for
+/// a field below it.
+fn has_rule(kind: Kind, field_number: u16) -> bool
+    ensures { result ≡ false → TakesEachValue kind field_number }
+{
+    match kind {
+        Kind::Int => field_number == field_numbers::DEP_MATCH,
+        Kind::Text => has_text_rule(field_number),
+        Kind::Hash => has_text_rule(field_number),
+        Kind::TextArr => has_text_rule(field_number),
+        Kind::Obj(which) => has_rule_below(which),
+        Kind::ObjArr(_) => true,
+    }
+}
+
+/// Whether the objects of a table may break a rule.
+fn has_rule_below(which: Which) -> bool
+    ensures { result ≡ false → (field_number : ℕ) → TakesEachValue (Kinds.Obj which) field_number }
+{
+    match which {
+        // No field of these two tables has a rule.
+        Which::Acl => false,
+        Which::Scripts => false,
+        _ => true,
+    }
+}
+
+/// Whether there is a rule for the texts of a field.
+#[tactic(auto, unfolding(crate::specs::Texts::text_rule))]
+fn has_text_rule(field_number: u16) -> bool
+    ensures { result ≡ false → TakesEachText field_number }
+{
+    matches!(
+        field_number,
+        field_numbers::DEP_NAME
+            | field_numbers::DEP_VERSION
+            | field_numbers::INFO_NAME
+            | field_numbers::INFO_VERSION
+            | field_numbers::INFO_HASHES
+            | field_numbers::FILE_NAME
+            | field_numbers::FILE_HASHES
+            | field_numbers::FILE_TARGET
+            | field_numbers::DIR_NAME
+            | field_numbers::INDEX_PKGNAME_SPEC
+            | field_numbers::INTENT_REMOVALS
+            | field_numbers::INTENT_WRITES
+    )
+}
+
+/// Checks a number, and answers the number of its field if it breaks the rule.
+fn check_number(field_number: u16, n: u64) -> Option<u16>
+    ensures { bad_text_at result ≡ first_bad (number_leaf field_number n ∷ []) }
+{
+    if keeps_number_rule(field_number, n) {
+        None
+    } else {
+        Some(field_number)
+    }
+}
+
+/// Checks the text of a word, and answers the number of its field if it breaks the rule.
+fn check_text(
+    judged: &mut Judged<'_>,
+    field_number: u16,
+    around: &Surroundings<'_>,
+    word: Val,
+    text: &[u8],
+) -> Result<Option<u16>, AllocError>
+    requires { text.now ≡ text_at (payload_of judged.old.adb) word }
+    ensures place { IfOk result (λ place. bad_text_at place
+        ≡ first_bad (text_leaf field_number (surroundings_of around.now) text.now ∷ [])) }
+    ensures payload { judged.new.adb ≡ judged.old.adb }
+{
+    if keeps_rule_of_field(judged, field_number, around, word, text)? {
+        Ok(None)
+    } else {
+        Ok(Some(field_number))
+    }
+}
+
+/// The cause that the text walk reports is that of the first text or number that breaks the rule of
+/// its field, depth first and field by field; none is reported exactly where each keeps its rule.
+pub fn the_first_bad_text_is_reported()
+    ensures { (which : Which) (value : Plain)
+        → IsFirstBadOf (leaves_of which value) (text_fault which value) }
+{}
+
+/// A law: no text or number of a value is bad exactly where each keeps the rule of its field, table
+/// by table.
+pub fn no_text_is_bad_where_each_keeps_its_rule()
+    ensures { (which : Which) (value : Plain) → (text_fault which value ≡ None)
+        ↔ KeepsRules which value }
+{}
+
+/// A law: each entry of a list keeps the rule that all entries of the list keep, kind by kind of
+/// entries. Entries count from 0; `root` is the table of the container, and `folder` the name of
+/// the file's folder.
+pub fn entries_keep_the_rule_of_their_list()
+    ensures dependency { (list : Plain) (i : ℕ)
+        → Each IsSoundDependency (entries_in list) → i < count_of (entries_in list)
+        → IsSoundDependency (entry_in list i) }
+    ensures information { (root : Which) (list : Plain) (i : ℕ)
+        → Each (IsInformation root) (entries_in list) → i < count_of (entries_in list)
+        → IsInformation root (entry_in list i) }
+    ensures file { (root : Which) (folder : List ℕ) (list : Plain) (i : ℕ)
+        → Each (IsFileOf root folder) (entries_in list) → i < count_of (entries_in list)
+        → IsFileOf root folder (entry_in list i) }
+    ensures folder { (root : Which) (list : Plain) (i : ℕ)
+        → Each (IsFolder root) (entries_in list) → i < count_of (entries_in list)
+        → IsFolder root (entry_in list i) }
+    ensures package { (root : Which) (list : Plain) (i : ℕ)
+        → Each (IsPackage root) (entries_in list) → i < count_of (entries_in list)
+        → IsPackage root (entry_in list i) }
+    ensures change_name { (list : Plain) (i : ℕ)
+        → Each IsChangeName (entries_in list) → i < count_of (entries_in list)
+        → IsChangeName (entry_in list i) }
+{}

@@ -1,5 +1,0 @@
-use Rattle.adb_tables.specs.Shapes.{object_shape}
-use Rattle.adb_tables.proofs.tables.tables_are_unrolled_whole.Goals as goal
-
-pub returns : goal.returns
-returns c = object_shape

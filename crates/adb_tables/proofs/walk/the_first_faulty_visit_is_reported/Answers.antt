@@ -1,5 +1,0 @@
-use Rattle.adb_tables.proofs.ShapeWalk.{reported}
-use Rattle.adb_tables.proofs.walk.the_first_faulty_visit_is_reported.Goals as goal
-
-pub returns : goal.returns
-returns c = reported

@@ -1,0 +1,25 @@
+-- Values with no values below them. Serves the walk in `src/walk.rt`; which values stand in which
+-- field, and that NULL is one of each kind, stands in `docs/formats.md`, "The shape".
+use Rattle.std.specs.Prelude.{ℕ, ◌+◌, Bool, ◌==◌, if◌then◌else◌, List, [], ◌∷◌, is_some}
+use Rattle.std.specs.Result.{result_ok}
+use Rattle.adb_view.specs.Readers.{int_of, blob_of}
+use Rattle.adb_view.specs.declared.tables.Field.{Field}
+use Rattle.adb_view.specs.declared.tables.Kind.{Kind}
+use Rattle.adb_view.specs.declared.tables.Kind.TheVariants.{Int, Text, Hash, Obj, TextArr, ObjArr}
+
+-- whether nothing stands below a word, and it is read as the kind asks: an integer, a text or a
+-- hash, or NULL, which each kind may be
+abbrev pub is_sound_leaf : List ℕ → Kind → ℕ → Bool
+is_sound_leaf p Int w = is_some (result_ok (int_of p w))
+is_sound_leaf p Text w = is_some (result_ok (blob_of p w))
+is_sound_leaf p Hash w = is_some (result_ok (blob_of p w))
+is_sound_leaf p (Obj which) w = w == 0
+is_sound_leaf p TextArr w = w == 0
+is_sound_leaf p (ObjArr which) w = w == 0
+
+-- how many of an object's words are such, from the first on, each as its field asks
+abbrev pub leading_leaves : List ℕ → List Field → List ℕ → ℕ
+leading_leaves p [] ws = 0
+leading_leaves p (f ∷ fs) [] = 0
+leading_leaves p (f ∷ fs) (w ∷ ws) = if is_sound_leaf p f.kind w then 1 + leading_leaves p fs ws
+    else 0

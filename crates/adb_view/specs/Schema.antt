@@ -1,0 +1,117 @@
+-- The ten tables, as the program's constants have them, and the shapes that they give. The rules
+-- stand in `docs/formats.md`, "Schemas" (the tables) and "Values" (what a shape is).
+use Rattle.std.specs.Prelude.{ℕ, zero, suc, List, [], ◌∷◌, codes}
+use Rattle.adb_view.specs.Plain.{Shape, number, text, hash, array, object, Fields, no_fields, field}
+use Rattle.adb_view.specs.declared.tables.Which.{Which}
+use Rattle.adb_view.specs.declared.tables.Which.TheVariants.{Dep, Acl, PkgInfo, File, Dir, Scripts, Package, Index, Idb, Intent}
+use Rattle.adb_view.specs.declared.tables.Kind.{Kind}
+use Rattle.adb_view.specs.declared.tables.Kind.TheVariants.{Int, Text, Hash, Obj, TextArr, ObjArr}
+use Rattle.adb_view.specs.declared.tables.FieldName.{FieldName}
+use Rattle.adb_view.specs.declared.tables.Field.{Field}
+use Rattle.adb_view.specs.declared.tables.TheConstants.{DEP, ACL, PKGINFO, FILE, DIR, SCRIPTS, PACKAGE, INDEX, IDB, INTENT}
+
+-- the fields of an object of a table, in the order of their numbers, which count from 1
+abbrev pub table : Which → List Field
+table Dep = DEP.fields
+table Acl = ACL.fields
+table PkgInfo = PKGINFO.fields
+table File = FILE.fields
+table Dir = DIR.fields
+table Scripts = SCRIPTS.fields
+table Package = PACKAGE.fields
+table Index = INDEX.fields
+table Idb = IDB.fields
+table Intent = INTENT.fields
+
+-- the number of a table; that of a field, by which causes name it, is 100 times it plus the field's
+-- own
+abbrev pub schema_number : Which → ℕ
+schema_number Dep = DEP.number
+schema_number Acl = ACL.number
+schema_number PkgInfo = PKGINFO.number
+schema_number File = FILE.number
+schema_number Dir = DIR.number
+schema_number Scripts = SCRIPTS.number
+schema_number Package = PACKAGE.number
+schema_number Index = INDEX.number
+schema_number Idb = IDB.number
+schema_number Intent = INTENT.number
+
+-- the name of a field as the formats write it
+abbrev pub field_name_text : FieldName → List ℕ
+field_name_text FieldName.Name = codes "name"
+field_name_text FieldName.Version = codes "version"
+field_name_text FieldName.Match = codes "match"
+field_name_text FieldName.Mode = codes "mode"
+field_name_text FieldName.User = codes "user"
+field_name_text FieldName.Group = codes "group"
+field_name_text FieldName.Xattrs = codes "xattrs"
+field_name_text FieldName.Hashes = codes "hashes"
+field_name_text FieldName.Description = codes "description"
+field_name_text FieldName.Arch = codes "arch"
+field_name_text FieldName.License = codes "license"
+field_name_text FieldName.Origin = codes "origin"
+field_name_text FieldName.Maintainer = codes "maintainer"
+field_name_text FieldName.Url = codes "url"
+field_name_text FieldName.RepoCommit = codes "repo-commit"
+field_name_text FieldName.BuildTime = codes "build-time"
+field_name_text FieldName.InstalledSize = codes "installed-size"
+field_name_text FieldName.FileSize = codes "file-size"
+field_name_text FieldName.ProviderPriority = codes "provider-priority"
+field_name_text FieldName.Depends = codes "depends"
+field_name_text FieldName.Provides = codes "provides"
+field_name_text FieldName.Replaces = codes "replaces"
+field_name_text FieldName.InstallIf = codes "install-if"
+field_name_text FieldName.Recommends = codes "recommends"
+field_name_text FieldName.Layer = codes "layer"
+field_name_text FieldName.Tags = codes "tags"
+field_name_text FieldName.Unused = codes "unused"
+field_name_text FieldName.Acl = codes "acl"
+field_name_text FieldName.Size = codes "size"
+field_name_text FieldName.Mtime = codes "mtime"
+field_name_text FieldName.Target = codes "target"
+field_name_text FieldName.Files = codes "files"
+field_name_text FieldName.Trigger = codes "trigger"
+field_name_text FieldName.PreInstall = codes "pre-install"
+field_name_text FieldName.PostInstall = codes "post-install"
+field_name_text FieldName.PreDeinstall = codes "pre-deinstall"
+field_name_text FieldName.PostDeinstall = codes "post-deinstall"
+field_name_text FieldName.PreUpgrade = codes "pre-upgrade"
+field_name_text FieldName.PostUpgrade = codes "post-upgrade"
+field_name_text FieldName.Info = codes "info"
+field_name_text FieldName.Paths = codes "paths"
+field_name_text FieldName.Scripts = codes "scripts"
+field_name_text FieldName.Triggers = codes "triggers"
+field_name_text FieldName.ReplacesPriority = codes "replaces-priority"
+field_name_text FieldName.Packages = codes "packages"
+field_name_text FieldName.PkgnameSpec = codes "pkgname-spec"
+field_name_text FieldName.Removals = codes "removals"
+field_name_text FieldName.Writes = codes "writes"
+
+-- the fields of a table as a shape has them: each by its name, and the shape that `f` gives its
+-- kind
+abbrev pub fields_with : (Kind → Shape) → List Field → Fields
+fields_with f [] = no_fields
+fields_with f (r ∷ rs) = field (field_name_text r.name) (f r.kind) (fields_with f rs)
+
+-- the shape of a kind in which objects are unrolled so many levels deep. A table names only tables
+-- of lower numbers, so that some depth unrolls each of them whole
+abbrev pub shape_to_depth : ℕ → Kind → Shape
+shape_to_depth depth Int = number
+shape_to_depth depth Text = text
+shape_to_depth depth Hash = hash
+shape_to_depth depth TextArr = array text
+shape_to_depth zero (Obj w) = object (schema_number w) no_fields
+shape_to_depth (suc depth) (Obj w) = object (schema_number w)
+    (fields_with (shape_to_depth depth) (table w))
+shape_to_depth zero (ObjArr w) = array (object (schema_number w) no_fields)
+shape_to_depth (suc depth) (ObjArr w) = array
+    (object (schema_number w) (fields_with (shape_to_depth depth) (table w)))
+
+-- the shape of a kind. Five levels are enough for each table: database, package, folder, file, acl
+unfoldable pub shape_of : Kind → Shape
+shape_of k = shape_to_depth 5 k
+
+-- the fields of a table as a shape has them
+abbrev pub shapes_of : List Field → Fields
+shapes_of fields = fields_with shape_of fields

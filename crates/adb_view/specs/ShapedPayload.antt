@@ -1,0 +1,23 @@
+-- What a walked payload shows. Serves the contracts of `Shaped`; the rule stands in
+-- `docs/formats.md`, "The shape".
+use Rattle.adb_view.specs.Plain.{Plain}
+use Rattle.adb_view.specs.Head.{root_of}
+use Rattle.adb_view.specs.Adb.{payload_of}
+use Rattle.adb_view.specs.declared.adb.Adb.{Adb}
+use Rattle.adb_view.specs.Values.{value_at}
+use Rattle.adb_view.specs.declared.tables.Which.{Which}
+use Rattle.adb_view.specs.declared.tables.Kind.TheVariants.{Obj}
+use Rattle.adb_view.specs.declared.shaped.Shaped.{Shaped}
+
+-- the opened payload that was walked
+abbrev pub adb_of : Shaped → Adb
+adb_of shaped = shaped.adb
+
+-- the table as an object of which the root was walked
+abbrev pub table_of : Shaped → Which
+table_of shaped = shaped.which
+
+-- the plain value of the root of the payload that was walked
+abbrev pub shaped_value : Shaped → Plain
+shaped_value shaped = value_at (payload_of shaped.adb) (Obj shaped.which)
+    (root_of (payload_of shaped.adb))

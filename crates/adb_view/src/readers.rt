@@ -1,0 +1,107 @@
+//! The readers of words, as the walk asks them. Each first asks the reader that makes no cause;
+//! only where that finds nothing it asks the one that tells the cause. What a reader answers stands
+//! in `docs/formats.md`, "Values" ("Who asks for an integer, a blob, an array or an object says
+//! which").
+
+ghost use Rattle.std.specs.Prelude.{◌≡◌, IfErr, IfOk, Err, Ok};
+ghost use Rattle.adb_view.specs.Adb.{payload_of};
+ghost use Rattle.adb_view.specs.Entries.{array_entries};
+ghost use Rattle.adb_view.specs.Readers.{ARRAY, OBJECT, blob_of, int_of, run_of};
+ghost use Rattle.adb_view.specs.Leaves.{is_sound_leaf};
+ghost use Rattle.adb_view.specs.VisitFault.{cause_of_fault};
+
+use crate::adb::Adb;
+use crate::run::Arr;
+use crate::tables::Kind;
+use crate::visit_fault::VisitFault;
+use crate::walk::object_entries;
+use crate::words::Val;
+
+/// Whether nothing stands below the word and it can be read: NULL, or an integer, a text or a hash,
+/// as the kind asks. Most words of a payload are such, and none of them needs a call of its own.
+#[tactic(auto, unfolding(crate::specs::Readers::int_of, crate::specs::Readers::blob_of))]
+#[inline(always)]
+pub(crate) fn is_sound_leaf(adb: Adb<'_>, kind: Kind, word: Val) -> bool
+    ensures { result ≡ is_sound_leaf (payload_of adb.entry) kind word }
+{
+    if word.is_null() {
+        return true;
+    }
+    match kind {
+        Kind::Int => match adb.find_int(word) {
+            Some(_) => true,
+            None => false,
+        },
+        Kind::Text | Kind::Hash => match adb.find_blob(word) {
+            Some(_) => true,
+            None => false,
+        },
+        Kind::Obj(_) | Kind::TextArr | Kind::ObjArr(_) => false,
+    }
+}
+
+/// The integer that a word is, or why it is none.
+#[tactic(auto, using(crate::proofs::ReaderFaults::int_fault, crate::proofs::ReaderFaults::read_ok))]
+pub(crate) fn read_int(adb: Adb<'_>, word: Val) -> Result<u64, VisitFault>
+    ensures ok { IfOk result (λ n. int_of (payload_of adb.entry) word ≡ Ok n) }
+    ensures err { IfErr result (λ fault. int_of (payload_of adb.entry) word
+        ≡ Err (cause_of_fault fault)) }
+{
+    if let Some(n) = adb.find_int(word) {
+        return Ok(n);
+    }
+    match adb.int(word) {
+        Ok(n) => Ok(n),
+        Err(cause) => Err(VisitFault::of_reader(cause)),
+    }
+}
+
+/// The bytes of the blob that a word is, or why it is none.
+#[tactic(auto, using(crate::proofs::ReaderFaults::blob_fault, crate::proofs::ReaderFaults::read_ok))]
+pub(crate) fn read_blob<'a>(adb: Adb<'a>, word: Val) -> Result<&'a [u8], VisitFault>
+    ensures ok { IfOk result (λ bytes. blob_of (payload_of adb.entry) word ≡ Ok bytes.now) }
+    ensures err { IfErr result (λ fault. blob_of (payload_of adb.entry) word
+        ≡ Err (cause_of_fault fault)) }
+{
+    if let Some(bytes) = adb.find_blob(word) {
+        return Ok(bytes);
+    }
+    match adb.blob(word) {
+        Ok(bytes) => Ok(bytes),
+        Err(cause) => Err(VisitFault::of_reader(cause)),
+    }
+}
+
+/// The entries of the array that a word is, or why it is none.
+#[tactic(auto, using(crate::proofs::ReaderFaults::run_fault, crate::proofs::ReaderFaults::read_ok))]
+pub(crate) fn read_array<'a>(adb: Adb<'a>, word: Val) -> Result<Arr<'a>, VisitFault>
+    ensures ok { IfOk result (λ words. run_of ARRAY (payload_of adb.entry) word
+        ≡ Ok (array_entries words)) }
+    ensures err { IfErr result (λ fault. run_of ARRAY (payload_of adb.entry) word
+        ≡ Err (cause_of_fault fault)) }
+{
+    if let Some(words) = adb.find_arr(word) {
+        return Ok(words);
+    }
+    match adb.arr(word) {
+        Ok(words) => Ok(words),
+        Err(cause) => Err(VisitFault::of_reader(cause)),
+    }
+}
+
+/// The entries of the object that a word is, those past its fields too, or why it is none.
+#[tactic(auto, using(crate::proofs::ReaderFaults::run_fault, crate::proofs::ReaderFaults::read_ok))]
+pub(crate) fn read_object<'a>(adb: Adb<'a>, word: Val) -> Result<Arr<'a>, VisitFault>
+    ensures ok { IfOk result (λ words. run_of OBJECT (payload_of adb.entry) word
+        ≡ Ok (array_entries words)) }
+    ensures err { IfErr result (λ fault. run_of OBJECT (payload_of adb.entry) word
+        ≡ Err (cause_of_fault fault)) }
+{
+    if let Some(words) = adb.find_entries(word) {
+        return Ok(words);
+    }
+    match object_entries(adb, word) {
+        Ok(words) => Ok(words),
+        Err(cause) => Err(VisitFault::of_reader(cause)),
+    }
+}

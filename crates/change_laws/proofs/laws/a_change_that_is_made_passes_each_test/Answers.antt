@@ -1,5 +1,0 @@
-use Rattle.change_laws.proofs.Made.{made}
-use Rattle.change_laws.proofs.laws.a_change_that_is_made_passes_each_test.Goals as goal
-
-pub returns : goal.returns
-returns c = made

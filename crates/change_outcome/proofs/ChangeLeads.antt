@@ -1,0 +1,175 @@
+-- A change leads to the files that its definition says.
+use Rattle.std.proofs.Common.{◌≡◌, ◌≢◌, ◌⊎◌, inl, inr, ◌∙◌, ◌<◌, ◌^◌, ℕ, suc, arith, Bool, true, false, List, [], ◌∷◌, length, Option, Some, None, refl, sym, ap, true≢false}
+use Rattle.std.specs.Prelude.{IsSome, not, ◌&&◌, ◌||◌, ◌==◌, is_some}
+use Rattle.std.specs.Str.{bytes_eq}
+use Rattle.std.specs.List.{list_any}
+use Rattle.std.proofs.lemmas.Bool.{eqb-true, and_parts, or_from, or_parts, false_from_ne_true}
+use Rattle.std.proofs.lemmas.Slice.Eq.{bytes_eq-Decides}
+use Rattle.adb_schema.specs.Reserved.{is_reserved}
+use Rattle.base_core.specs.Files.{Files}
+use Rattle.base_core.proofs.Rising.{IsIn}
+use Rattle.change_files.specs.FileChange.{FileChange}
+use Rattle.change_files.specs.FilesAfter.{Records, bytes_after, changed_files, database_name, is_removed, is_written, text_database_name, world_bytes_after, world_name, written_as}
+use Rattle.change_files.specs.Touched.{is_record_name}
+use Rattle.change_files.proofs.InOrder.{in_left, in_right}
+use Rattle.change_files.proofs.RecordNames.{database_after, no_text_after, world_after}
+use Rattle.change_files.proofs.Reserved.{records_reserved}
+use Rattle.change_files.proofs.Untouched.{changed_so, is_gone, takes_its_path}
+use Rattle.change_inputs.specs.Inputs.{Inputs}
+use Rattle.change_inputs.specs.World.{text_found}
+use Rattle.change_outcome.specs.ChangeOutcome.{Actions, actions_of, does_something, is_other_file, name_if_needed, new_records, written_records}
+use Rattle.db_core.specs.Members.{Listing}
+use Rattle.journal_core.specs.Staged.{IsEmptyStage}
+use Rattle.journal_intent.proofs.AtName.{name_cases}
+use Rattle.journal_intent.specs.FreeNames.{IsNoneOf, IsOneOf}
+use Rattle.change_outcome.specs.Leading.{LeadsTo}
+use Rattle.change_outcome.specs.Premises.{HasNoReservedPath, IsRootOfFiles}
+use Rattle.change_outcome.proofs.ActionNames.{free_names, from_removals, from_writes, if_needed, needed, none_removed, none_written, removed_free, written_free}
+use Rattle.change_outcome.proofs.FreeNames.{split_in}
+
+some_there : (o : Option (List ℕ)) (bytes : List ℕ) → o ≡ Some bytes → IsSome o
+some_there o bytes is = ap is_some is
+
+not_some : (o : Option Listing) → is_some o ≡ false → o ≡ None
+not_some None e = refl
+not_some (Some l) e = absurd (true≢false e)
+
+not_false : (b : Bool) → not b ≡ false → b ≡ true
+not_false true e = refl
+not_false false e = absurd (true≢false e)
+
+-- a file that is not written again has these bytes
+same_file : (o : Option (List ℕ)) (bytes : List ℕ) → is_other_file o bytes ≡ false → o ≡ Some bytes
+same_file None bytes e = absurd (true≢false e)
+same_file (Some old) bytes e = ap (λ (b : List ℕ). Some b) ((bytes_eq-Decides old bytes).0 (not_false (bytes_eq old bytes) e))
+
+-- so has world
+same_world : (o : Option (List ℕ)) (world : List ℕ) → text_found o ≡ world → world_bytes_after world o ≡ o
+same_world None [] e = refl
+same_world None (b ∷ world) e = absurd (cc (e))
+same_world (Some old) [] e = ap (λ (b : List ℕ). Some b) (sym e)
+same_world (Some old) (b ∷ world) e = ap (λ (b : List ℕ). Some b) (sym e)
+
+-- and one that is written has something to say, or was there
+other_world : (o : Option (List ℕ)) (world text : List ℕ) → text ≡ text_found o → not (bytes_eq text world) ≡ true → (world ≢ []) ⊎ IsSome o
+other_world None [] text is other = absurd (true≢false (sym other ∙ ap (λ (t : List ℕ). not (bytes_eq t [])) is))
+other_world None (b ∷ world) text is other = inl (λ e. cc (e))
+other_world (Some old) world text is other = inr refl
+
+module _ (inputs : Inputs) (change : FileChange) (bytes_of : Listing → List ℕ) (database : List ℕ) (files : Files) (root : IsRootOfFiles files inputs.root) where
+  abbrev records : Records
+  records = new_records inputs database
+
+  abbrev actions : Actions
+  actions = actions_of inputs change files records
+
+  abbrev database_write : List (List ℕ)
+  database_write = name_if_needed (is_other_file inputs.root.database.file records.database) database_name
+
+  abbrev world_write : List (List ℕ)
+  world_write = name_if_needed (not (bytes_eq inputs.root.world_text records.world)) world_name
+
+  abbrev after : Files
+  after = changed_files change bytes_of records files
+
+  -- ---- all else stays
+
+  kept_database : (q : List ℕ) → (IsIn q (written_records inputs records) → ⊥) → q ≡ database_name → after q ≡ files q
+  kept_database q none is =
+      ap after is ∙ (database_after change bytes_of records files
+      ∙ (sym (sym root.database ∙ same_file inputs.root.database.file records.database (false_from_ne_true (is_other_file inputs.root.database.file records.database) (λ other. none (in_left q database_write world_write (if_needed (is_other_file inputs.root.database.file records.database) database_name q is other)))))
+      ∙ sym (ap files is)))
+
+  world_by : after world_name ≡ world_bytes_after records.world (files world_name)
+  unfolding changed_files
+  world_by = refl
+
+  kept_world : (q : List ℕ) → (IsIn q (written_records inputs records) → ⊥) → q ≡ world_name → after q ≡ files q
+  kept_world q none is =
+      ap after is ∙ (world_by
+      ∙ (same_world (files world_name) records.world (sym root.world ∙ (bytes_eq-Decides inputs.root.world_text records.world).0 (same (bytes_eq inputs.root.world_text records.world) refl))
+      ∙ sym (ap files is)))
+    where
+      same : (b : Bool) → bytes_eq inputs.root.world_text records.world ≡ b → b ≡ true
+      same true e = refl
+      same false e = absurd (none (in_right q database_write world_write (if_needed (not (bytes_eq inputs.root.world_text records.world)) world_name q is (ap not e))))
+
+  kept_other : (q : List ℕ) → is_record_name records q ≡ false → is_written change files q ≡ false → is_removed change files q ≡ false → after q ≡ files q
+  kept_other q other unwritten stays =
+      changed_so change bytes_of records files q other
+      ∙ (ap (λ (o : Option Listing). bytes_after bytes_of o (is_removed change files q) (files q)) (not_some (written_as change files q) unwritten)
+      ∙ ap (λ (b : Bool). bytes_after bytes_of None b (files q)) stays)
+
+  kept_by : (q : List ℕ) → (q ≡ text_database_name → records.takes_text_over ≡ true → ⊥) → bytes_eq q database_name ≡ false → bytes_eq q world_name ≡ false → is_record_name records q ≡ false
+  kept_by q no_text database world =
+      or_from (bytes_eq q database_name) (bytes_eq q world_name || (records.takes_text_over && bytes_eq q text_database_name)) database
+      (or_from (bytes_eq q world_name) (records.takes_text_over && bytes_eq q text_database_name) world
+      (false_from_ne_true (records.takes_text_over && bytes_eq q text_database_name) (λ both.
+      (let parts = and_parts records.takes_text_over (bytes_eq q text_database_name) both in no_text ((bytes_eq-Decides q text_database_name).0 parts.1) parts.0))))
+
+  pub keeps : (q : List ℕ) → IsNoneOf q actions.removals → IsNoneOf q actions.writes → after q ≡ files q
+  keeps q stays unwritten =
+      let gone = none_removed inputs change files records q stays in
+      let wrote = none_written inputs change files records q unwritten in
+      elim (name_cases q database_name) [
+        | inl is ↦ kept_database q wrote.1 is
+        | inr no_database ↦ elim (name_cases q world_name) [
+          | inl is ↦ kept_world q wrote.1 is
+          | inr no_world ↦ kept_other q (kept_by q gone.1 no_database no_world) wrote.0 gone.0
+        ]
+      ]
+
+  -- ---- a change that does nothing
+
+  no_names : (names : List (List ℕ)) → not (length names == 0) ≡ false → names ≡ []
+  no_names [] e = refl
+  no_names (x ∷ xs) e = absurd (let none : suc (length xs) ≡ 0 = eqb-true (suc (length xs)) 0 (not_false (suc (length xs) == 0) e) in omega (arith, none))
+
+  pub does_nothing : does_something actions ≡ false → after ≡ files
+  does_nothing nothing i q =
+      let parts = or_parts (not (length actions.removals == 0)) (not (length actions.writes == 0)) nothing in
+      keeps q (ap (λ (names : List (List ℕ)). list_any (bytes_eq q) names) (no_names actions.removals parts.0)) (ap (λ (names : List (List ℕ)). list_any (bytes_eq q) names) (no_names actions.writes parts.1)) i
+
+  module _ (free : HasNoReservedPath change) where
+    unreserved_no_record : (q : List ℕ) → is_reserved q ≡ false → is_record_name records q ≡ false
+    unreserved_no_record q unreserved = false_from_ne_true (is_record_name records q) (λ is. true≢false (sym (records_reserved records q is) ∙ unreserved))
+
+    -- ---- what is written is there
+
+    written_there : (q : List ℕ) → is_written change files q ≡ true → IsSome (after q)
+    written_there q written = by_listing (written_as change files q) refl written
+      where
+        by_listing : (o : Option Listing) → written_as change files q ≡ o → is_some o ≡ true → IsSome (after q)
+        by_listing None is e = absurd (true≢false (sym e))
+        by_listing (Some l) is e =
+            some_there (after q) (bytes_of l) (takes_its_path change bytes_of records files q l is (unreserved_no_record q (written_free inputs change files records free q written)))
+
+    record_there : (q : List ℕ) → IsIn q (written_records inputs records) → IsSome (after q)
+    record_there q here =
+        elim (split_in q database_write world_write here) [
+          | inl own ↦ (let is = needed (is_other_file inputs.root.database.file records.database) database_name q own in some_there (after q) records.database (ap after is.0 ∙ database_after change bytes_of records files))
+          | inr own ↦ (let is = needed (not (bytes_eq inputs.root.world_text records.world)) world_name q own in
+              some_there (after q) records.world (ap after is.0 ∙ world_after change bytes_of records files (other_world (files world_name) records.world inputs.root.world_text root.world is.1)))
+        ]
+
+    pub gives : (q : List ℕ) → IsOneOf q actions.writes → IsSome (after q)
+    gives q among = elim (from_writes inputs change files records q among) [ inl written ↦ written_there q written | inr own ↦ record_there q own ]
+
+    -- ---- what is removed is absent
+
+    pub removes : (q : List ℕ) → IsOneOf q actions.removals → after q ≡ None
+    removes q among =
+        elim (from_removals inputs change files records q among) [
+          | inl removed ↦ is_gone change bytes_of records files q removed (unreserved_no_record q (removed_free inputs change files records free q removed))
+          | inr text ↦ ap after text.0 ∙ no_text_after change bytes_of records files text.1
+        ]
+
+    pub leads : IsEmptyStage files → length actions.writes < 2 ^ 63 → LeadsTo actions.removals actions.writes files after
+    leads empty few = record {
+      free = free_names inputs change files records free;
+      few = few;
+      empty = empty;
+      gives = gives;
+      removes = removes;
+      keeps = keeps;
+    }

@@ -1,0 +1,128 @@
+-- What is known of a change that nothing refuses.
+use Rattle.std.proofs.Common.{◌≡◌, ◌∙◌, ℕ, false, List, Option, Some, None, Result, Ok, Err, refl, sym, ap, subst}
+use Rattle.adb_write.specs.Canonical.{PayloadCounts, overflow_of}
+use Rattle.base_core.specs.Files.{Files, IsWithin}
+use Rattle.change_files.specs.FileChange.{FileChange}
+use Rattle.change_files.specs.NamesAfter.{name_change}
+use Rattle.change_files.specs.PlanLists.{first_reserved}
+use Rattle.change_inputs.specs.Chains.{and_then}
+use Rattle.change_inputs.specs.Inputs.{Inputs}
+use Rattle.change_outcome.specs.ChangeOutcome.{ChangeDone, ChangeWishes, IsClashFound, IsClashOfChange, actions_of, change_done, change_members, change_or_refusal, change_with_members, file_change, new_records, touched_paths, unless_clash, unless_contested, unless_large, unless_overflow, unless_reserved_path, unless_too_large}
+use Rattle.change_outcome.specs.MembersAfter.{MemberFound}
+use Rattle.change_outcome.specs.Triggers.{unless_trigger}
+use Rattle.db_core.specs.Members.{Member}
+use Rattle.db_write.specs.NewDatabase.{database_of}
+use Rattle.file_owners.specs.Owners.{contested_of, owned_of}
+use Rattle.journal_core.specs.Staged.{HasRoomToStage}
+use Rattle.journal_intent.specs.Intent.{intent_name}
+use Rattle.journal_intent.specs.IntentValue.{intent_of_lists, value_of_intent}
+use Rattle.make_info.specs.Reads.{Reads}
+use Rattle.package_changes.specs.Changes.{Replacement}
+use Rattle.path_claims.specs.Claims.{ContestedPath}
+use Rattle.path_clashes.specs.Clash.{HasNoClash, NamePair}
+use Rattle.path_clashes.specs.FirstClash.{IsClashOf}
+use Rattle.path_clashes.proofs.OneFirst.{one_first}
+use Rattle.report_core.specs.declared.refusal.Refusal.{Refusal}
+use Rattle.change_outcome.specs.Made.{IsChangeMade}
+use Rattle.change_outcome.specs.Premises.{IsRootOfFiles}
+use Rattle.change_outcome.proofs.ChangeLeads.{does_nothing}
+use Rattle.change_outcome.proofs.ClashExists.{clash_exists}
+use Rattle.change_outcome.proofs.Room.{no_intent, room}
+
+-- ---- values that are not refused
+
+pub and_then_ok : {A B : Type 0} (a : Result A Refusal) (next : A → Result B Refusal) (b : B) → and_then a next ≡ Ok b → (x : A) × (a ≡ Ok x) × (next x ≡ Ok b)
+and_then_ok (Ok x) next b e = (x, refl, e)
+and_then_ok (Err refusal) next b e = absurd (cc (e))
+
+unreserved_ok : {A : Type 0} (o : Option (List ℕ)) (next : Result A Refusal) (a : A) → unless_reserved_path o next ≡ Ok a → (o ≡ None) × (next ≡ Ok a)
+unreserved_ok None next a e = (refl, e)
+unreserved_ok (Some path) next a e = absurd (cc (e))
+
+no_clash_ok : {A : Type 0} (o : Option NamePair) (next : Result A Refusal) (a : A) → unless_clash o next ≡ Ok a → (o ≡ None) × (next ≡ Ok a)
+no_clash_ok None next a e = (refl, e)
+no_clash_ok (Some pair) next a e = absurd (cc (e))
+
+uncontested_ok : {A : Type 0} (members : List Member) (o : Option ContestedPath) (next : Result A Refusal) (a : A) → unless_contested members o next ≡ Ok a → (o ≡ None) × (next ≡ Ok a)
+uncontested_ok members None next a e = (refl, e)
+uncontested_ok members (Some c) next a e = absurd (cc (e))
+
+large_ok : {A : Type 0} (r : Result A PayloadCounts) (a : A) → unless_large r ≡ Ok a → r ≡ Ok a
+large_ok (Ok x) a e = let same : x ≡ a = cc in ap (λ y. Ok y) same
+large_ok (Err counts) a e = absurd (cc (e))
+
+overflow_ok : {A : Type 0} (o : Option PayloadCounts) (x a : A) → unless_overflow o x ≡ Ok a → (o ≡ None) × (x ≡ a)
+overflow_ok None x a e = (refl, cc (e))
+overflow_ok (Some counts) x a e = absurd (cc (e))
+
+module _ (inputs : Inputs) (r : Replacement) (wishes : ChangeWishes) (read : Reads) (clash : Option NamePair) (files : Files) (done : ChangeDone) where
+  with_found : (found : List MemberFound) → change_members inputs r wishes read ≡ Ok found → change_with_members inputs r wishes clash files found ≡ Ok done → IsChangeMade inputs r wishes read clash files done
+  with_found found are e =
+      let change : FileChange = file_change inputs wishes found in
+      let reserved = unreserved_ok (first_reserved change.members) (unless_clash clash (unless_contested change.members (contested_of change.members)
+      (and_then (unless_trigger wishes.no_scripts (touched_paths change files) change.members) (λ is_allowed. unless_too_large inputs r wishes found files)))) done e in
+      let clashes = no_clash_ok clash (unless_contested change.members (contested_of change.members)
+      (and_then (unless_trigger wishes.no_scripts (touched_paths change files) change.members) (λ is_allowed. unless_too_large inputs r wishes found files))) done reserved.1 in
+      let contested = uncontested_ok change.members (contested_of change.members)
+      (and_then (unless_trigger wishes.no_scripts (touched_paths change files) change.members) (λ is_allowed. unless_too_large inputs r wishes found files)) done clashes.1 in
+      let triggers = and_then_ok (unless_trigger wishes.no_scripts (touched_paths change files) change.members) (λ is_allowed. unless_too_large inputs r wishes found files) done contested.1 in
+      let large = and_then_ok (unless_large (database_of change.members (owned_of change.members))) (λ database.
+      unless_overflow (overflow_of (value_of_intent (intent_of_lists (actions_of inputs change files (new_records inputs database)).removals (actions_of inputs change files (new_records inputs database)).writes)))
+      (change_done inputs r wishes found files (new_records inputs database))) done triggers.2 in
+      let over = overflow_ok (overflow_of (value_of_intent (intent_of_lists (actions_of inputs change files (new_records inputs large.0)).removals (actions_of inputs change files (new_records inputs large.0)).writes)))
+      (change_done inputs r wishes found files (new_records inputs large.0)) done large.2 in
+      record {
+        found = found;
+        members = are;
+        unreserved = reserved.0;
+        no_clash = clashes.0;
+        uncontested = contested.0;
+        database = large.0;
+        new_database = large_ok (database_of change.members (owned_of change.members)) large.0 large.1;
+        fits = over.0;
+        is = sym over.1;
+      }
+
+  pub made : change_or_refusal inputs r wishes read clash files ≡ Ok done → IsChangeMade inputs r wishes read clash files done
+  unfolding change_or_refusal
+  made e =
+      let found = and_then_ok (change_members inputs r wishes read) (change_with_members inputs r wishes clash files) done e in
+      with_found found.0 found.1 found.2
+
+  pub leaves_files : IsChangeMade inputs r wishes read clash files done → IsRootOfFiles files inputs.root → done.commits ≡ false → done.files ≡ files
+  leaves_files m root nothing =
+      ap (λ (d : ChangeDone). d.files) m.is
+      ∙ does_nothing inputs (file_change inputs wishes m.found) _ m.database files root (sym (ap (λ (d : ChangeDone). d.commits) m.is) ∙ nothing)
+
+  no_clash_found : (m : IsChangeMade inputs r wishes read clash files done) → IsClashOfChange inputs r wishes read files clash → HasNoClash (name_change (file_change inputs wishes m.found) files) files
+  no_clash_found m clashes =
+      let at : IsClashFound inputs wishes files (Ok m.found) clash = subst (λ (x : Result (List MemberFound) Refusal). IsClashFound inputs wishes files x clash) m.members clashes in
+      subst (λ (o : Option NamePair). IsClashOf (name_change (file_change inputs wishes m.found) files) files o) m.no_clash at
+
+  pub keeps_room : IsChangeMade inputs r wishes read clash files done → IsClashOfChange inputs r wishes read files clash → HasRoomToStage files → HasRoomToStage done.files
+  keeps_room m clashes stage =
+      subst (λ (d : ChangeDone). HasRoomToStage d.files) (sym m.is)
+      (room (file_change inputs wishes m.found) _ (new_records inputs m.database) files m.unreserved stage (no_clash_found m clashes))
+
+  pub brings_no_intent : IsChangeMade inputs r wishes read clash files done → files intent_name ≡ None → done.files intent_name ≡ None
+  brings_no_intent m absent =
+      ap (λ (d : ChangeDone). d.files intent_name) m.is
+      ∙ no_intent (file_change inputs wishes m.found) _ (new_records inputs m.database) files m.unreserved absent
+
+-- ---- the first clash
+
+found_once : (inputs : Inputs) (wishes : ChangeWishes) (files : Files) (members : Result (List MemberFound) Refusal) (a b : Option NamePair) → IsClashFound inputs wishes files members a → IsClashFound inputs wishes files members b → a ≡ b
+found_once inputs wishes files (Ok found) a b one other = one_first (name_change (file_change inputs wishes found) files) files a b one other
+found_once inputs wishes files (Err refusal) a b one other = one ∙ sym other
+
+pub clash_once : (inputs : Inputs) (r : Replacement) (wishes : ChangeWishes) (read : Reads) (files : Files) (a b : Option NamePair)
+    → IsClashOfChange inputs r wishes read files a → IsClashOfChange inputs r wishes read files b → a ≡ b
+clash_once inputs r wishes read files a b one other = found_once inputs wishes files (change_members inputs r wishes read) a b one other
+
+clash_of_found : (inputs : Inputs) (wishes : ChangeWishes) (within : List (List ℕ)) (files : Files) → IsWithin within files → (members : Result (List MemberFound) Refusal) → (clash : Option NamePair) × IsClashFound inputs wishes files members clash
+clash_of_found inputs wishes within files finite (Ok found) = clash_exists (file_change inputs wishes found) files within finite
+clash_of_found inputs wishes within files finite (Err refusal) = (None, refl)
+
+pub a_clash_found : (inputs : Inputs) (r : Replacement) (wishes : ChangeWishes) (read : Reads) (within : List (List ℕ)) (files : Files) → IsWithin within files
+    → (clash : Option NamePair) × IsClashOfChange inputs r wishes read files clash
+a_clash_found inputs r wishes read within files finite = clash_of_found inputs wishes within files finite (change_members inputs r wishes read)

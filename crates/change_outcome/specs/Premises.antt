@@ -1,0 +1,21 @@
+-- What laws ask of a change and of what it reads. The premises are listed in the README of this
+-- crate; that a database has no reserved name stands in `docs/formats.md`, "Tests of a container",
+-- "The texts", field 401.
+use Rattle.std.specs.Prelude.{◌≡◌, All, false, None}
+use Rattle.adb_schema.specs.Reserved.{is_reserved}
+use Rattle.base_core.specs.Files.{Files}
+use Rattle.change_files.specs.FileChange.{FileChange, old_listings}
+use Rattle.change_files.specs.PlanLists.{first_reserved}
+use Rattle.change_inputs.specs.Inputs.{Root}
+use Rattle.change_inputs.specs.World.{text_found}
+use Rattle.root_names.specs.RootNames.{database_name, world_name}
+
+-- no path that a package before lists is reserved, and none that a package which comes lists
+pub record HasNoReservedPath (change : FileChange) : Type 0 where
+  pub before : All (λ l. is_reserved l.path ≡ false) (old_listings change)
+  pub coming : first_reserved change.members ≡ None
+
+-- the database and world were read from these files
+pub record IsRootOfFiles (files : Files) (root : Root) : Type 0 where
+  pub database : root.database.file ≡ files database_name
+  pub world : root.world_text ≡ text_found (files world_name)

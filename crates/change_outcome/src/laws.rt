@@ -1,0 +1,118 @@
+//! What follows from the definitions of a change. The rules stand in `docs/commands.md`,
+//! "`add` and `del`", and in `docs/crash-safety.md`, "A change of several files".
+
+ghost use Rattle.std.specs.Prelude.{◌≡◌, ◌<◌, ◌++◌, ℕ, false, List, All, None, Ok, Option, length, map};
+ghost use Rattle.base_core.specs.Files.{Files, IsWithin};
+ghost use Rattle.base_core.specs.Name.{IsName};
+ghost use Rattle.change_files.specs.FileChange.{FileChange};
+ghost use Rattle.change_files.specs.FilesAfter.{Records, changed_files};
+ghost use Rattle.change_inputs.specs.Inputs.{Inputs, inputs_of};
+ghost use Rattle.change_outcome.specs.ChangeOutcome.{ChangeDone, ChangeWishes, IsClashOfChange, actions_of, bytes_under, change_or_refusal, does_something, new_records};
+ghost use Rattle.command_core.specs.Command.{CommandLine};
+ghost use Rattle.db_core.specs.Members.{Listing};
+ghost use Rattle.journal_core.specs.Recovery.{after_actions};
+ghost use Rattle.journal_core.specs.Staged.{HasRoomToStage, IsEmptyStage, with_staged};
+ghost use Rattle.journal_intent.specs.Intent.{AreChangeNames, intent_name};
+ghost use Rattle.journal_intent.specs.IntentValue.{intent_of_lists};
+ghost use Rattle.make_info.specs.Reads.{Reads};
+ghost use Rattle.package_changes.specs.Changes.{Replacement};
+ghost use Rattle.path_clashes.specs.Clash.{NamePair};
+ghost use Rattle.change_outcome.specs.Leading.{LeadsTo, write_limit};
+ghost use Rattle.change_outcome.specs.Made.{IsChangeMade};
+ghost use Rattle.change_outcome.specs.Premises.{HasNoReservedPath, IsRootOfFiles};
+
+// ---- what is read
+
+/// The database's file and world's text, among what a change reads, are those of the root.
+pub fn what_is_read_of_a_root_stands_there()
+    ensures { (command : CommandLine) (read : Reads) (inputs : Inputs) (files : Files)
+        → ((n : ℕ) (name : List ℕ) → read n name ≡ files name)
+        → inputs_of command read ≡ Ok inputs → IsRootOfFiles files inputs.root }
+{}
+
+// ---- what is done
+
+/// The actions of two lists lead to given files, if these have a file under each name that is
+/// written, none under one that is removed, and else the files before; and for each write just
+/// those bytes are staged that the files have there.
+pub fn actions_lead_to_given_files()
+    ensures { (removals writes : List (List ℕ)) (files after : Files)
+        → LeadsTo removals writes files after
+        → after_actions (intent_of_lists removals writes)
+        (with_staged 1 (map (bytes_under after) writes) files) ≡ after }
+{}
+
+/// So the actions of a change lead to the files that its definition says. `bytes_of` says which
+/// bytes a file of a package has.
+pub fn the_actions_of_a_change_lead_to_its_files()
+    ensures { (inputs : Inputs) (change : FileChange) (bytes_of : Listing → List ℕ)
+        (database : List ℕ) (files : Files)
+        → HasNoReservedPath change → IsRootOfFiles files inputs.root → IsEmptyStage files
+        → let records = new_records inputs database in
+        let actions = actions_of inputs change files records in
+        let after = changed_files change bytes_of records files in
+        length actions.writes < write_limit
+        → after_actions (intent_of_lists actions.removals actions.writes)
+        (with_staged 1 (map (bytes_under after) actions.writes) files) ≡ after }
+{}
+
+/// The names that a change removes and writes are such as a change may have, and each stands once.
+pub fn the_names_of_a_change_may_be_changed()
+    ensures { (inputs : Inputs) (change : FileChange) (files : Files) (records : Records)
+        → HasNoReservedPath change
+        → let actions = actions_of inputs change files records in
+        All IsName actions.removals → All IsName actions.writes
+        → AreChangeNames (actions.removals ++ actions.writes) }
+{}
+
+/// A change that removes and writes nothing leaves the files as they are.
+pub fn a_change_that_writes_nothing_leaves_the_files()
+    // Of the files of its definition.
+    ensures actions { (inputs : Inputs) (change : FileChange) (bytes_of : Listing → List ℕ)
+        (database : List ℕ) (files : Files) → IsRootOfFiles files inputs.root
+        → does_something (actions_of inputs change files (new_records inputs database)) ≡ false
+        → changed_files change bytes_of (new_records inputs database) files ≡ files }
+    // Of what the change comes to.
+    ensures done { (inputs : Inputs) (r : Replacement) (wishes : ChangeWishes) (read : Reads)
+        (clash : Option NamePair) (files : Files) (done : ChangeDone)
+        → change_or_refusal inputs r wishes read clash files ≡ Ok done
+        → IsRootOfFiles files inputs.root → done.commits ≡ false → done.files ≡ files }
+{}
+
+// ---- tests
+
+/// A change that nothing refuses passes each test: no package that comes lists a reserved path, no
+/// name is a folder of another, no path is contested, and no limit of the writer is passed.
+pub fn a_change_that_is_made_passes_each_test()
+    ensures { (inputs : Inputs) (r : Replacement) (wishes : ChangeWishes) (read : Reads)
+        (clash : Option NamePair) (files : Files) (done : ChangeDone)
+        → change_or_refusal inputs r wishes read clash files ≡ Ok done
+        → IsChangeMade inputs r wishes read clash files done }
+{}
+
+/// Where files leave room for a stage, those after a change leave it too: so each later change has
+/// room. And a change brings no intent.
+pub fn a_change_keeps_room()
+    ensures room { (inputs : Inputs) (r : Replacement) (wishes : ChangeWishes) (read : Reads)
+        (clash : Option NamePair) (files : Files) (done : ChangeDone)
+        → change_or_refusal inputs r wishes read clash files ≡ Ok done
+        → IsClashOfChange inputs r wishes read files clash
+        → HasRoomToStage files → HasRoomToStage done.files }
+    ensures intent { (inputs : Inputs) (r : Replacement) (wishes : ChangeWishes) (read : Reads)
+        (clash : Option NamePair) (files : Files) (done : ChangeDone)
+        → change_or_refusal inputs r wishes read clash files ≡ Ok done
+        → files intent_name ≡ None → done.files intent_name ≡ None }
+{}
+
+/// A change has one first clash of names, or none, over files under finitely many names.
+pub fn a_change_has_a_first_clash_or_none()
+    // There is no second one.
+    ensures one { (inputs : Inputs) (r : Replacement) (wishes : ChangeWishes) (read : Reads)
+        (files : Files) (a b : Option NamePair)
+        → IsClashOfChange inputs r wishes read files a
+        → IsClashOfChange inputs r wishes read files b → a ≡ b }
+    // There is one, where something can be asked of all names.
+    ensures exists { (inputs : Inputs) (r : Replacement) (wishes : ChangeWishes) (read : Reads)
+        (within : List (List ℕ)) (files : Files) → IsWithin within files
+        → (clash : Option NamePair) × IsClashOfChange inputs r wishes read files clash }
+{}

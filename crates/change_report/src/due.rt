@@ -1,0 +1,171 @@
+//! The packages whose triggers are due, by the folders of the files that a change writes and
+//! removes. The rules stand in `docs/commands.md`, "`add` and `del`", which triggers are due.
+
+ghost use Rattle.adb_schema.specs.Views.{package_value};
+ghost use Rattle.change_outcome.specs.Triggers.{due_line, due_lines, folders_of_paths, has_due_trigger, is_watched, trigger_lines, unless_trigger};
+ghost use Rattle.db_core.specs.Seen.{members_of};
+ghost use Rattle.change_report.specs.Due.{trigger_needed, planned_paths};
+ghost use Rattle.report_core.specs.Reports.{folder_text, report_line, trigger_text};
+ghost use Rattle.std.specs.Prelude.{◌≡◌, ◌<◌, ◌++◌, ℕ, List, [], false, if◌then◌else◌, length, map, IfSome, OnOk, IfOk};
+ghost use Rattle.package_files.specs.Folders.{folder_of};
+ghost use Rattle.own_core.specs.WritesSeen.{writes_in};
+
+use crate::watched::{has_trigger_script, is_watched, name_of};
+use adb_schema::PackageView;
+use base_core::Names;
+use db_core::Members;
+use make_package::folder_of;
+use own_core::{FilePlan, Writes};
+use package_changes::names_in_order;
+use report_core::Report;
+use std::alloc::{AllocError, Global};
+use std::marker::PhantomData;
+
+/// The place of the first package after a change whose trigger is due, counted from 0. `folders`
+/// are those of the files that the change writes and removes. A package without a trigger script
+/// costs a look at its scripts.
+pub fn first_due(members: &Members<'_>, folders: &[&[u8]]) -> Option<usize>
+    ensures needed { (paths : List (List ℕ)) → map (λ f. f.now) folders.now ≡ folders_of_paths paths
+        → unless_trigger false paths (members_of members.now)
+        ≡ trigger_needed (members_of members.now) result }
+    ensures within { IfSome result (λ i. i < length (members_of members.now)) }
+{
+    for i in 0..members.len() {
+        if has_due_trigger(members.view(i), folders) {
+            return Some(i);
+        }
+    }
+    None
+}
+
+/// Adds a line for each due trigger, package by package, and folder by folder.
+///
+/// # Errors
+///
+/// Want of memory.
+pub fn push_trigger_lines(
+    report: &mut Report,
+    members: &Members<'_>,
+    folders: &[&[u8]],
+) -> Result<(), AllocError>
+    ensures { OnOk result ((paths : List (List ℕ))
+        → map (λ f. f.now) folders.now ≡ folders_of_paths paths
+        → report.new ≡ report.old ++ trigger_lines paths (members_of members.now)) }
+{
+    for i in 0..members.len() {
+        push_due_lines(report, members.view(i), folders)?;
+    }
+    Ok(())
+}
+
+/// Whether the trigger of a package is due for one of some folders.
+fn has_due_trigger(pkg: &PackageView<'_>, folders: &[&[u8]]) -> bool
+    ensures { result ≡ has_due_trigger (map (λ f. f.now) folders.now) (package_value pkg.now) }
+{
+    if !has_trigger_script(pkg, PhantomData) {
+        return false;
+    }
+    for folder in folders {
+        if is_watched(pkg, folder) {
+            return true;
+        }
+    }
+    false
+}
+
+/// Adds a line for each of some folders for which the trigger of a package is due.
+fn push_due_lines(
+    report: &mut Report,
+    pkg: &PackageView<'_>,
+    folders: &[&[u8]],
+) -> Result<(), AllocError>
+    ensures { OnOk result (report.new
+        ≡ report.old ++ due_lines (map (λ f. f.now) folders.now) (package_value pkg.now)) }
+{
+    if !has_trigger_script(pkg, PhantomData) {
+        return Ok(());
+    }
+    for folder in folders {
+        push_line_if_watched(report, pkg, folder)?;
+    }
+    Ok(())
+}
+
+/// Adds the line of a folder, if a package watches it.
+fn push_line_if_watched(
+    report: &mut Report,
+    pkg: &PackageView<'_>,
+    folder: &[u8],
+) -> Result<(), AllocError>
+    ensures { OnOk result (report.new
+        ≡ report.old ++ (if is_watched (package_value pkg.now) folder.now
+        then due_line (package_value pkg.now) folder.now else [])) }
+{
+    if is_watched(pkg, folder) {
+        push_trigger_line(report, name_of(pkg, PhantomData), folder)?;
+    }
+    Ok(())
+}
+
+/// Adds that the trigger of a package is due for a folder.
+fn push_trigger_line(report: &mut Report, name: &[u8], folder: &[u8]) -> Result<(), AllocError>
+    ensures { OnOk result (report.new
+        ≡ report.old ++ report_line (trigger_text name.now folder.now)) }
+{
+    report.push(name)?;
+    report.push(b": trigger due for ")?;
+    report.push(folder_text(folder))?;
+    report.push(b"\n")?;
+    Ok(())
+}
+
+/// A folder as it is printed: the root is `/`.
+fn folder_text(folder: &[u8]) -> &[u8]
+    ensures { result.now ≡ folder_text folder.now }
+{
+    if folder.is_empty() { b"/" } else { folder }
+}
+
+/// The folders of the files that a change writes and removes, in byte order, each once; the root's
+/// name is empty. A removed file counts also where none stood.
+///
+/// # Errors
+///
+/// Want of memory.
+pub fn touched_folders<'p>(alloc: Global, plan: &'p FilePlan) -> Result<Vec<&'p [u8]>, AllocError>
+    ensures { IfOk result (λ folders. map (λ f. f.now) folders.items
+        ≡ folders_of_paths (planned_paths plan.entry.now)) }
+{
+    let mut folders = Vec::new(alloc);
+    push_written_folders(&mut folders, plan.writes())?;
+    push_removed_folders(&mut folders, plan.removals())?;
+    names_in_order(folders)
+}
+
+/// Adds the folder of each file that is written.
+fn push_written_folders<'p>(
+    folders: &mut Vec<&'p [u8]>,
+    writes: &'p Writes,
+) -> Result<(), AllocError>
+    ensures { OnOk result (map (λ f. f.now) folders.new.items ≡ map (λ f. f.now) folders.old.items
+        ++ map folder_of (map (λ w. w.name) (writes_in writes.entry.now))) }
+{
+    for i in 0..writes.len() {
+        folders.push(folder_of(writes.get(i).name.as_bytes()))?;
+    }
+    Ok(())
+}
+
+/// Adds the folder of each file that is removed.
+fn push_removed_folders<'p>(
+    folders: &mut Vec<&'p [u8]>,
+    removals: &'p Names,
+) -> Result<(), AllocError>
+    ensures { OnOk result (map (λ f. f.now) folders.new.items ≡ map (λ f. f.now) folders.old.items
+        ++ map folder_of removals.entry.now) }
+{
+    for i in 0..removals.len() {
+        folders.push(folder_of(removals.get(i).as_bytes()))?;
+    }
+    Ok(())
+}

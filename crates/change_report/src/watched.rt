@@ -1,0 +1,61 @@
+//! What a package says of its trigger. The rule stands in `docs/commands.md`, "`add` and `del`",
+//! which triggers are due; the fields in `docs/formats.md`, "Schemas", tables 6 and 7.
+//!
+//! The marks serve the borrow checker alone, which does not know the parts of a view that is made
+//! and lent in a function unless the signature names the view.
+ghost use Rattle.adb_fields.specs.ListValue.{list_value};
+ghost use Rattle.adb_fields.specs.Repeated.{package_name};
+ghost use Rattle.adb_schema.specs.Views.{package_value};
+ghost use Rattle.adb_view.specs.Values.{count_of, entries_in, entry_in, text_in};
+ghost use Rattle.change_outcome.specs.PackageFiles.{has_script_of};
+ghost use Rattle.report_core.specs.Numbers.{TRIGGER_SCRIPT};
+ghost use Rattle.change_outcome.specs.Triggers.{is_folder_matched, is_watched};
+ghost use Rattle.std.specs.Prelude.{◌≡◌, ◌<◌};
+
+use crate::pattern::is_folder_matched;
+use adb_schema::{List, PackageView};
+use std::marker::PhantomData;
+
+/// The name of a package, which its view lends.
+pub(crate) fn name_of<'a>(pkg: &PackageView<'a>, _mark: PhantomData<PackageView<'a>>) -> &'a [u8]
+    ensures { result.now ≡ package_name (package_value pkg.now) }
+{
+    let info = pkg.info();
+    info.name()
+}
+
+/// Whether a package has a trigger script: one without bytes is none.
+pub(crate) fn has_trigger_script<'a>(
+    pkg: &PackageView<'a>,
+    _mark: PhantomData<PackageView<'a>>,
+) -> bool
+    ensures { result ≡ has_script_of (package_value pkg.now) TRIGGER_SCRIPT }
+{
+    let scripts = pkg.scripts();
+    !scripts.trigger().is_empty()
+}
+
+/// Whether one of the patterns of a package matches a folder.
+pub(crate) fn is_watched(pkg: &PackageView<'_>, folder: &[u8]) -> bool
+    ensures { result ≡ is_watched (package_value pkg.now) folder.now }
+{
+    let patterns = pkg.triggers();
+    for i in 0..patterns.len() {
+        if is_matched_at(&patterns, i, folder) {
+            return true;
+        }
+    }
+    false
+}
+
+/// Whether the pattern at a place, counted from 0, matches a folder.
+fn is_matched_at<'a>(patterns: &List<'a, &'a [u8]>, i: usize, folder: &[u8]) -> bool
+    requires { i < count_of (entries_in (list_value patterns.now)) }
+    ensures { result
+        ≡ is_folder_matched folder.now (text_in (entry_in (list_value patterns.now) i)) }
+{
+    if i >= patterns.len() {
+        unreachable!();
+    }
+    is_folder_matched(folder, patterns.get(i + 1))
+}

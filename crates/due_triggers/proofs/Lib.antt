@@ -1,3 +1,0 @@
-pub mod Loops
-mod Stars
-mod Watching

@@ -1,8 +1,0 @@
-use Rattle.std.proofs.Common.{◌∙◌, sym}
-use Rattle.path_claims.specs.Seen.{claim_seen}
-use Rattle.file_fates.specs.Sides.{file_change_of}
-use Rattle.file_fates.proofs.OneFile.{unguarded_fate}
-use Rattle.file_fates.proofs.fate.fate_of.Goals as goal
-
-pub returns-clause-fate : goal.returns-clause-fate
-returns-clause-fate g c = unguarded_fate (file_change_of c.args.change.now) _ (claim_seen c.args.claim.now) (sym c.is_guarded.ensures ∙ c.if-is_guarded.false)

@@ -1,0 +1,113 @@
+-- Loops that keep the claims of a list that pass a test.
+use Rattle.std.proofs.Common.{◌≡◌, ℕ, suc, zero, ◌+◌, ◌<◌, ◌≤◌, Bool, true, false, cond, List, [], ◌∷◌, ◌++◌, length, map, take, Some, refl, ap, sym, ◌∙◌, arith}
+use Rattle.std.specs.Prelude.{slice_get, slice_index_or}
+use Rattle.std.specs.List.{filter}
+use Rattle.path_claims.specs.Claims.{PathClaim}
+use Rattle.path_claims.specs.Seen.{claim_seen}
+use Rattle.path_claims.specs.declared.claim.Claim.{Claim}
+use Rattle.path_claims.proofs.Places.{map_len, no_some, seen_at, value_or}
+use Rattle.claim_lists.proofs.Lists.{some_at, take_whole}
+use Rattle.own_core.specs.Fates.{marked_claims}
+
+pub map_more : {X Y : Type 0} (f : X → Y) (xs : List X) (x : X) → map f (xs ++ x ∷ []) ≡ map f xs ++ f x ∷ []
+map_more f [] x = refl
+map_more f (y ∷ ys) x = ap (λ r. f y ∷ r) (map_more f ys x)
+
+pub none_more : {X : Type 0} (xs : List X) → xs ++ [] ≡ xs
+none_more [] = refl
+none_more (x ∷ xs) = ap (λ r. x ∷ r) (none_more xs)
+
+pub filter_step : {X : Type 0} (p : X → Bool) (xs : List X) (i : ℕ) (x : X) → slice_get xs i ≡ Some x → filter p (take (suc i) xs) ≡ filter p (take i xs) ++ cond (p x) (x ∷ []) []
+filter_step p [] i x g = absurd (no_some x g)
+filter_step p (y ∷ ys) zero x g = ap (λ v. cond (p v) (v ∷ []) []) (ap (value_or y) g)
+filter_step p (y ∷ ys) (suc i) x g = step_by (p y) y (filter p (take i ys)) (filter p (take (suc i) ys)) (cond (p x) (x ∷ []) []) (filter_step p ys i x g)
+  where
+    step_by : {X : Type 0} (b : Bool) (y : X) (old new more : List X) → new ≡ old ++ more → cond b (y ∷ new) new ≡ cond b (y ∷ old) old ++ more
+    step_by true y old new more h = ap (λ r. y ∷ r) h
+    step_by false y old new more h = h
+
+pub kept_one : (p : PathClaim → Bool) (xs gs hs : List Claim) (i : ℕ) (d : Claim) (t : Bool) → i < length xs → t ≡ p (claim_seen (slice_index_or xs i d)) → t ≡ true
+    → hs ≡ gs ++ slice_index_or xs i d ∷ [] → map claim_seen gs ≡ filter p (take i (map claim_seen xs)) → map claim_seen hs ≡ filter p (take (i + 1) (map claim_seen xs))
+kept_one p xs gs hs i d t l e is h inv =
+    let n : i + 1 ≡ suc i = omega arith in
+    ap (map claim_seen) h ∙ (map_more claim_seen gs (slice_index_or xs i d)
+    ∙ ((λ j. inv j ++ cond ((sym is ∙ e) j) (claim_seen (slice_index_or xs i d) ∷ []) [])
+    ∙ (sym (filter_step p (map claim_seen xs) i (claim_seen (slice_index_or xs i d)) (seen_at claim_seen xs i d l)) ∙ ap (λ k. filter p (take k (map claim_seen xs))) (sym n))))
+
+pub left_one : (p : PathClaim → Bool) (xs gs hs : List Claim) (i : ℕ) (d : Claim) (t : Bool) → i < length xs → t ≡ p (claim_seen (slice_index_or xs i d)) → t ≡ false
+    → hs ≡ gs → map claim_seen gs ≡ filter p (take i (map claim_seen xs)) → map claim_seen hs ≡ filter p (take (i + 1) (map claim_seen xs))
+left_one p xs gs hs i d t l e is h inv =
+    let n : i + 1 ≡ suc i = omega arith in
+    ap (map claim_seen) h ∙ (sym (none_more (map claim_seen gs))
+    ∙ ((λ j. inv j ++ cond ((sym is ∙ e) j) (claim_seen (slice_index_or xs i d) ∷ []) [])
+    ∙ (sym (filter_step p (map claim_seen xs) i (claim_seen (slice_index_or xs i d)) (seen_at claim_seen xs i d l)) ∙ ap (λ k. filter p (take k (map claim_seen xs))) (sym n))))
+
+pub kept_whole : (p : PathClaim → Bool) (xs gs : List Claim) (i : ℕ) → length xs ≤ i → map claim_seen gs ≡ filter p (take i (map claim_seen xs)) → map claim_seen gs ≡ filter p (map claim_seen xs)
+kept_whole p xs gs i l inv =
+    let n : length (map claim_seen xs) ≡ length xs = map_len claim_seen xs in
+    inv ∙ ap (filter p) (take_whole (map claim_seen xs) i (omega (arith, n, l)))
+
+-- ---- of lists that go together
+
+pub beside_at : {Y : Type 0} (f : PathClaim → Y) (xs : List Claim) (ys : List Y) (i : ℕ) (d : Claim) (e : Y) → ys ≡ map f (map claim_seen xs) → i < length xs
+    → slice_index_or ys i e ≡ f (claim_seen (slice_index_or xs i d))
+beside_at f xs ys i d e h l = ap (λ zs. slice_index_or zs i e) h ∙ at f xs i d e l
+  where
+    at : {Y : Type 0} (f : PathClaim → Y) (xs : List Claim) (i : ℕ) (d : Claim) (e : Y) → i < length xs → slice_index_or (map f (map claim_seen xs)) i e ≡ f (claim_seen (slice_index_or xs i d))
+    at f [] i d e l = absurd (omega arith)
+    at f (x ∷ xs) zero d e l = refl
+    at f (x ∷ xs) (suc i) d e l = at f xs i d e (omega arith)
+
+-- a list in order stays so without some of its elements
+
+-- ---- by marks
+
+pub marked_step : {Y : Type 0} (test : Y → Bool) (cs : List PathClaim) (ms : List Y) (i : ℕ) (c : PathClaim) (m : Y) → slice_get cs i ≡ Some c → slice_get ms i ≡ Some m
+    → marked_claims test (take (suc i) cs) (take (suc i) ms) ≡ marked_claims test (take i cs) (take i ms) ++ cond (test m) (c ∷ []) []
+marked_step test [] ms i c m g k = absurd (no_some c g)
+marked_step test (x ∷ cs) [] i c m g k = absurd (no_some m k)
+marked_step test (x ∷ cs) (y ∷ ms) zero c m g k = (λ j. cond (test (ap (value_or y) k j)) (ap (value_or x) g j ∷ []) [])
+marked_step test (x ∷ cs) (y ∷ ms) (suc i) c m g k =
+    step_on (test y) x (marked_claims test (take i cs) (take i ms)) (marked_claims test (take (suc i) cs) (take (suc i) ms)) (cond (test m) (c ∷ []) []) (marked_step test cs ms i c m g k)
+  where
+    step_on : (b : Bool) (x : PathClaim) (old new more : List PathClaim) → new ≡ old ++ more → cond b (x ∷ new) new ≡ cond b (x ∷ old) old ++ more
+    step_on true x old new more h = ap (λ r. x ∷ r) h
+    step_on false x old new more h = h
+
+pub marked_one : {Y Z : Type 0} (s : Z → Y) (test : Y → Bool) (xs gs hs : List Claim) (ms : List Z) (i : ℕ) (d : Claim) (e : Z) (t : Bool) → i < length xs → length ms ≡ length xs
+    → t ≡ test (s (slice_index_or ms i e)) → t ≡ true → hs ≡ gs ++ slice_index_or xs i d ∷ [] → map claim_seen gs ≡ marked_claims test (take i (map claim_seen xs)) (take i (map s ms))
+    → map claim_seen hs ≡ marked_claims test (take (i + 1) (map claim_seen xs)) (take (i + 1) (map s ms))
+marked_one s test xs gs hs ms i d e t l len is passes h inv =
+    let n : i + 1 ≡ suc i = omega arith in
+    ap (map claim_seen) h ∙ (map_more claim_seen gs (slice_index_or xs i d)
+    ∙ ((λ j. inv j ++ cond ((sym passes ∙ is) j) (claim_seen (slice_index_or xs i d) ∷ []) [])
+    ∙ (sym (marked_step test (map claim_seen xs) (map s ms) i (claim_seen (slice_index_or xs i d)) (s (slice_index_or ms i e)) (seen_at claim_seen xs i d l) (seen_at s ms i e (omega arith)))
+    ∙ ap (λ k. marked_claims test (take k (map claim_seen xs)) (take k (map s ms))) (sym n))))
+
+pub unmarked_one : {Y Z : Type 0} (s : Z → Y) (test : Y → Bool) (xs gs hs : List Claim) (ms : List Z) (i : ℕ) (e : Z) (t : Bool) → i < length xs → length ms ≡ length xs
+    → t ≡ test (s (slice_index_or ms i e)) → t ≡ false → hs ≡ gs → map claim_seen gs ≡ marked_claims test (take i (map claim_seen xs)) (take i (map s ms))
+    → map claim_seen hs ≡ marked_claims test (take (i + 1) (map claim_seen xs)) (take (i + 1) (map s ms))
+unmarked_one s test xs gs hs ms i e t l len is fails h inv =
+    let n : i + 1 ≡ suc i = omega arith in
+    let k : length (map claim_seen xs) ≡ length xs = map_len claim_seen xs in
+    let f = some_at (map claim_seen xs) i (omega (arith, k, l)) in
+    ap (map claim_seen) h ∙ (sym (none_more (map claim_seen gs))
+    ∙ ((λ j. inv j ++ cond ((sym fails ∙ is) j) (f.0 ∷ []) [])
+    ∙ (sym (marked_step test (map claim_seen xs) (map s ms) i f.0 (s (slice_index_or ms i e)) f.1 (seen_at s ms i e (omega arith)))
+    ∙ ap (λ k. marked_claims test (take k (map claim_seen xs)) (take k (map s ms))) (sym n))))
+
+pub marked_whole : {Y Z : Type 0} (s : Z → Y) (test : Y → Bool) (xs gs : List Claim) (ms : List Z) (i : ℕ) → length xs ≤ i → length ms ≡ length xs
+    → map claim_seen gs ≡ marked_claims test (take i (map claim_seen xs)) (take i (map s ms)) → map claim_seen gs ≡ marked_claims test (map claim_seen xs) (map s ms)
+marked_whole s test xs gs ms i l len inv =
+    let n : length (map claim_seen xs) ≡ length xs = map_len claim_seen xs in
+    let m : length (map s ms) ≡ length ms = map_len s ms in
+    inv ∙ (λ j. marked_claims test (take_whole (map claim_seen xs) i (omega (arith, n, l)) j) (take_whole (map s ms) i (omega (arith, m, l, len)) j))
+
+-- marks that are those of a test
+pub marked_by : {Y : Type 0} (test : Y → Bool) (t : PathClaim → Y) (cs : List PathClaim) → marked_claims test cs (map t cs) ≡ filter (λ c. test (t c)) cs
+marked_by test t [] = refl
+marked_by test t (c ∷ cs) = ap (λ r. cond (test (t c)) (c ∷ r) r) (marked_by test t cs)
+
+pub same_map : {X : Type 0} (xs : List X) → map (λ x. x) xs ≡ xs
+same_map [] = refl
+same_map (x ∷ xs) = ap (λ r. x ∷ r) (same_map xs)

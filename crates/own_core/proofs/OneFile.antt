@@ -1,0 +1,77 @@
+-- What becomes of one file, by what was found under its path.
+use Rattle.std.proofs.Common.{◌≡◌, ◌⊎◌, inl, inr, ◌∙◌, ℕ, Bool, true, false, List, Option, Some, None, refl, ap, sym, subst}
+use Rattle.std.specs.Prelude.{◌&&◌, ◌||◌, not, if◌then◌else◌, IsSomeAnd}
+use Rattle.adb_view.specs.Plain.{Plain}
+use Rattle.base_core.specs.Calls.{IfObservable}
+use Rattle.base_core.specs.Tree.{TreeState, files_of}
+use Rattle.db_core.specs.Members.{staying_members}
+use Rattle.path_claims.specs.Claims.{PathClaim}
+use Rattle.file_guard.specs.AsListed.{is_as_listed, is_as_listed_by}
+use Rattle.file_guard.specs.Listed.{IsOfEntry, comparison_of, is_as_told}
+use Rattle.file_guard.specs.declared.compare.Comparison.{Comparison}
+use Rattle.file_guard.specs.declared.compare.ListedFile.{ListedFile}
+use Rattle.change_files.specs.Fate as Fates
+use Rattle.change_files.specs.Fate.{fate_beside, fate_by, goes_in, is_as_old, is_guarded}
+use Rattle.change_files.specs.FileChange.{FileChange, old_entry}
+use Rattle.change_files.specs.FilesAfter.{is_changed}
+use Rattle.own_core.specs.ClaimEntries.{claim_entry}
+use Rattle.own_core.specs.Fates.{IsOfEntryIfAny, claim_fate}
+use Rattle.own_core.specs.Found.{IsByFile}
+use Rattle.own_core.specs.Going.{does_stay}
+use Rattle.own_core.proofs.FoundFiles.{found_there}
+
+as_told : (listed : ListedFile) (entry : Plain) (bytes : List ℕ) → IsOfEntry listed entry → is_as_told (Some listed) bytes ≡ is_as_listed entry bytes
+as_told listed entry bytes of = (λ j. is_as_listed_by (of.size j) (of.hash j) (of.target j) bytes)
+
+as_told_old : (listed : Option ListedFile) (before : Option Plain) (bytes : List ℕ) → IsOfEntryIfAny listed before → is_as_told listed bytes ≡ is_as_old before bytes
+as_told_old None None bytes of = refl
+as_told_old None (Some entry) bytes of = absurd of
+as_told_old (Some listed) None bytes of = absurd of
+as_told_old (Some listed) (Some entry) bytes of = as_told listed entry bytes of
+
+-- ---- a file that comes
+
+-- the user changed the file that stands there
+pub changed_fate : (change : FileChange) (h : List TreeState) (c : PathClaim) (name : List ℕ) (listed : ListedFile) (old : Option ListedFile) (found : Option Comparison) (fate : Fates.Fate)
+    → name ≡ c.path → is_guarded c.path ≡ true → IsOfEntry listed (claim_entry change.members c) → IsOfEntryIfAny old (old_entry change c.path)
+    → (file : Option (List ℕ)) × IfObservable h (λ v. file ≡ files_of v name) × (found ≡ comparison_of (Some listed) old file)
+    → IsSomeAnd found (λ d. (d.as_new ≡ false) × (d.as_old ≡ false)) → fate ≡ fate_beside change c.path (claim_entry change.members c) → IsByFile (claim_fate change) h c fate
+changed_fate change h c name listed old found fate named guarded of before (file, told, is) changed goes = record {
+  found = file;
+  told = subst (λ q. IfObservable h (λ v. file ≡ files_of v q)) named told;
+  is = goes ∙ sym (by_file file (subst (λ o. IsSomeAnd o (λ d. (d.as_new ≡ false) × (d.as_old ≡ false))) is changed));
+}
+  where
+    by_file : (file : Option (List ℕ)) → IsSomeAnd (comparison_of (Some listed) old file) (λ d. (d.as_new ≡ false) × (d.as_old ≡ false))
+        → fate_by change c.path (claim_entry change.members c) file ≡ fate_beside change c.path (claim_entry change.members c)
+    by_file None off = absurd off
+    by_file (Some bytes) unlike =
+        let new : is_as_listed (claim_entry change.members c) bytes ≡ false = sym (as_told listed (claim_entry change.members c) bytes of) ∙ unlike.0 in
+        let so_far : is_as_old (old_entry change c.path) bytes ≡ false = sym (as_told_old old (old_entry change c.path) bytes before) ∙ unlike.1 in
+        (λ j. if not (guarded j) || (new j || so_far j) then goes_in else fate_beside change c.path (claim_entry change.members c))
+
+-- what is no configuration takes its path
+pub unguarded_fate : (change : FileChange) (h : List TreeState) (c : PathClaim) → is_guarded c.path ≡ false → IsByFile (claim_fate change) h c goes_in
+unguarded_fate change h c unguarded =
+    let (found, told) = found_there h c.path in
+    record { found = found; told = told; is = sym (by_file found) }
+  where
+    by_file : (file : Option (List ℕ)) → claim_fate change c file ≡ goes_in
+    by_file None = refl
+    by_file (Some bytes) =
+        ap (λ b. if not b || (is_as_listed (claim_entry change.members c) bytes || is_as_old (old_entry change c.path) bytes) then goes_in else fate_beside change c.path (claim_entry change.members c)) unguarded
+
+-- ---- a file that is left over
+
+pub no_stay : (change : FileChange) (h : List TreeState) (c : PathClaim) → (change.purge ≡ true) ⊎ (is_guarded c.path ≡ false) → IsByFile (does_stay change) h c false
+no_stay change h c goes =
+    let (found, told) = found_there h c.path in
+    record { found = found; told = told; is = sym (by_case (is_changed (claim_entry (staying_members change.old) c) found) goes) }
+  where
+    off : (b : Bool) → (b && false) ≡ false
+    off true = refl
+    off false = refl
+
+    by_case : (b : Bool) → (change.purge ≡ true) ⊎ (is_guarded c.path ≡ false) → (is_guarded c.path && (not change.purge && b)) ≡ false
+    by_case b (inl purge) = ap (λ p. is_guarded c.path && (not p && b)) purge ∙ off (is_guarded c.path)
+    by_case b (inr unguarded) = ap (λ g. g && (not change.purge && b)) unguarded

@@ -1,0 +1,59 @@
+-- What becomes of files that come, claim by claim.
+-- The rule stands in `docs/commands.md`, "What a change does with files", **Files below `etc/` are
+-- the user's**, and is said by *fate_by* of `change_files`.
+use Rattle.std.specs.Prelude.{ℕ, Bool, true, false, not, ◌&&◌, nat_le, List, [], ◌∷◌, length, Option, Some, None, cond}
+use Rattle.adb_view.specs.Plain.{Plain}
+use Rattle.path_claims.specs.Claims.{PathClaim}
+use Rattle.file_guard.specs.Listed.{IsOfEntry}
+use Rattle.file_guard.specs.declared.compare.ListedFile.{ListedFile}
+use Rattle.change_files.specs.Fate as Fates
+use Rattle.change_files.specs.Fate.{aside_name, fate_by, gives_way, goes_aside, goes_in, longest_name}
+use Rattle.change_files.specs.FileChange.{FileChange, is_claimed}
+use Rattle.own_core.specs.ClaimEntries.{claim_entry}
+use Rattle.own_core.specs.declared.fate.Fate.{Fate}
+use Rattle.own_core.specs.declared.fate.Fate.TheVariants.{GivesWay, GoesAside, GoesIn}
+
+-- the fate of a file, as contracts see it
+abbrev pub fate_seen : Fate → Fates.Fate
+fate_seen GoesIn = goes_in
+fate_seen GivesWay = gives_way
+fate_seen GoesAside = goes_aside
+
+-- the fate of the file that a claim of a coming owner speaks of, by what stands under its path
+-- (`found`; none where no file stands there)
+abbrev pub claim_fate : FileChange → PathClaim → Option (List ℕ) → Fates.Fate
+claim_fate change c found = fate_by change c.path (claim_entry change.members c) found
+
+-- whether a file may be laid beside a path: no package lists the name beside it, and that is short
+-- enough for a name
+abbrev pub is_free_beside : FileChange → List ℕ → Bool
+is_free_beside change path =
+    nat_le (length (aside_name path)) longest_name && not (is_claimed change (aside_name path))
+
+-- what the code has read of an entry is that of the entry, or there is none
+abbrev pub IsOfEntryIfAny : Option ListedFile → Option Plain → Type 0
+IsOfEntryIfAny None None = Unit {0}
+IsOfEntryIfAny None (Some entry) = ⊥
+IsOfEntryIfAny (Some listed) None = ⊥
+IsOfEntryIfAny (Some listed) (Some entry) = IsOfEntry listed entry
+
+-- ---- claims by what becomes of them
+
+-- whether two fates are the same
+abbrev pub is_fate : Fates.Fate → Fates.Fate → Bool
+is_fate goes_in goes_in = true
+is_fate gives_way gives_way = true
+is_fate goes_aside goes_aside = true
+is_fate f g = false
+
+-- those of some claims whose marks pass a test; one mark stands for each claim
+abbrev pub marked_claims : {X : Type 0} → (X → Bool) → List PathClaim → List X → List PathClaim
+marked_claims test [] marks = []
+marked_claims test (c ∷ cs) [] = []
+marked_claims test (c ∷ cs) (m ∷ marks) =
+    cond (test m) (c ∷ marked_claims test cs marks) (marked_claims test cs marks)
+
+-- whether two flags are the same
+abbrev pub is_flag : Bool → Bool → Bool
+is_flag true b = b
+is_flag false b = not b

@@ -1,0 +1,29 @@
+-- What becomes of the files that were listed before, claim by claim.
+-- The rules stand in `docs/commands.md`, "What a change does with files": which files are removed,
+-- and which of those below `etc/` stay.
+use Rattle.std.specs.Prelude.{ℕ, Bool, not, ◌&&◌, List, Option, option_and_then, is_some}
+use Rattle.std.specs.List.{find}
+use Rattle.db_core.specs.Members.{staying_members}
+use Rattle.path_claims.specs.Claims.{PathClaim, is_of_path}
+use Rattle.change_files.specs.Fate.{is_guarded}
+use Rattle.change_files.specs.FileChange.{FileChange, is_claimed}
+use Rattle.change_files.specs.FilesAfter.{is_changed, path_beside}
+use Rattle.own_core.specs.ClaimEntries.{claim_entry}
+
+-- whether a name is the one beside the path of one of these claims
+abbrev pub is_beside : List PathClaim → List ℕ → Bool
+is_beside asides name =
+    is_some (option_and_then (λ path. find (is_of_path path) asides) (path_beside name))
+
+-- whether a path is left over: no package lists it any more, and nothing is laid beside another
+-- file there
+abbrev pub is_left : FileChange → List PathClaim → List ℕ → Bool
+is_left change asides path = not (is_claimed change path) && not (is_beside asides path)
+
+-- whether the file that a claim of a package before the change speaks of stays: it is
+-- configuration, the user changed it, and changed files do not go with their packages; `found` is
+-- what stands under its path
+abbrev pub does_stay : FileChange → PathClaim → Option (List ℕ) → Bool
+does_stay change c found =
+    is_guarded c.path
+    && (not change.purge && is_changed (claim_entry (staying_members change.old) c) found)

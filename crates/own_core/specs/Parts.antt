@@ -1,0 +1,54 @@
+-- The files that come and those that go, as the program holds them.
+-- The rules stand in `docs/commands.md`, "What a change does with files". Serves the contract of
+-- `parts_of` in `src/parts.rt`.
+use Rattle.std.specs.Prelude.{◌≡◌, Bool, true, false, List, map}
+use Rattle.std.specs.List.{filter}
+use Rattle.base_core.specs.Tree.{TreeState}
+use Rattle.path_claims.specs.Claims.{PathClaim}
+use Rattle.path_claims.specs.Seen.{claim_seen}
+use Rattle.change_files.specs.Fate as Fates
+use Rattle.change_files.specs.Fate.{goes_aside, goes_in}
+use Rattle.own_core.specs.Fates.{claim_fate, is_fate, is_flag, marked_claims}
+use Rattle.own_core.specs.Found.{AreByFiles}
+use Rattle.own_core.specs.Going.{does_stay, is_left}
+use Rattle.own_core.specs.Sides.{claims_before, file_change_of}
+use Rattle.own_core.specs.declared.change.Change.{Change}
+use Rattle.own_core.specs.declared.parts.Parts.{Parts}
+
+-- the claims of the files that take their paths
+abbrev pub ins_of : Parts → List PathClaim
+ins_of parts = map claim_seen parts.ins.items
+
+-- the claims of the files that are laid beside the user's
+abbrev pub asides_of : Parts → List PathClaim
+asides_of parts = map claim_seen parts.asides.items
+
+-- the claims of the files that are removed
+abbrev pub removed_of : Parts → List PathClaim
+removed_of parts = map claim_seen parts.removed.items
+
+-- the claims of the files that stay, since the user changed them
+abbrev pub kept_of_parts : Parts → List PathClaim
+kept_of_parts parts = map claim_seen parts.kept.items
+
+-- the claims of paths that are left over, where the files of the claims `asides` are laid beside
+-- others
+abbrev pub left_claims_by : Change → List PathClaim → List PathClaim
+left_claims_by change asides =
+    filter (λ c. is_left (file_change_of change) asides c.path) (claims_before change)
+
+-- the files of a change are parted: those that come by their fates, and those that are left over by
+-- whether they stay
+pub record AreParts (change : Change) (history : List TreeState) (coming : List PathClaim)
+    (parts : Parts) : Type 0 where
+  pub fates : List Fates.Fate
+  pub stays : List Bool
+  pub fates_found : AreByFiles (claim_fate (file_change_of change)) history coming fates
+  pub stays_found : AreByFiles (does_stay (file_change_of change)) history
+      (left_claims_by change (asides_of parts)) stays
+  pub ins : ins_of parts ≡ marked_claims (is_fate goes_in) coming fates
+  pub asides : asides_of parts ≡ marked_claims (is_fate goes_aside) coming fates
+  pub removed : removed_of parts
+      ≡ marked_claims (is_flag false) (left_claims_by change (asides_of parts)) stays
+  pub kept : kept_of_parts parts
+      ≡ marked_claims (is_flag true) (left_claims_by change (asides_of parts)) stays

@@ -1,0 +1,36 @@
+-- The claims of the packages before a change and after it, as the program holds them.
+-- No rule of a document: serves the contracts of this crate; *FileChange* of `change_files` is what
+-- both sides come to.
+use Rattle.std.specs.Prelude.{◌≡◌, List, map}
+use Rattle.base_core.specs.Sorted.{sorted_by}
+use Rattle.db_core.specs.Members.{staying_members}
+use Rattle.db_core.specs.Seen.{members_of, packages_of}
+use Rattle.path_claims.specs.Claims.{PathClaim, claim_cmp}
+use Rattle.path_claims.specs.Seen.{claim_seen}
+use Rattle.claim_lists.specs.Once.{HasFirsts}
+use Rattle.file_owners.specs.Owners.{claims_in}
+use Rattle.change_files.specs.FileChange.{FileChange}
+use Rattle.own_core.specs.ClaimEntries.{AreClaimsOf}
+use Rattle.own_core.specs.declared.change.Change.{Change}
+
+-- the change of files that the packages before and after come to
+abbrev pub file_change_of : Change → FileChange
+file_change_of c =
+    record { old = packages_of c.db.now; members = members_of c.members.now; purge = c.purge }
+
+-- the claims of the packages before, in byte order of their paths
+abbrev pub claims_before : Change → List PathClaim
+claims_before c = map claim_seen c.before.now
+
+-- the claims of the packages after, in byte order of their paths
+abbrev pub claims_after : Change → List PathClaim
+claims_after c = map claim_seen c.after.now
+
+-- the claims of a change are those of its packages: before the change one for each path, after it
+-- all
+pub record HasClaims (c : Change) : Type 0 where
+  pub before : HasFirsts (sorted_by claim_cmp (claims_in (staying_members (packages_of c.db.now))))
+      (claims_before c)
+  pub after : claims_after c ≡ sorted_by claim_cmp (claims_in (members_of c.members.now))
+  pub old_files : AreClaimsOf (staying_members (packages_of c.db.now)) (claims_before c)
+  pub new_files : AreClaimsOf (members_of c.members.now) (claims_after c)

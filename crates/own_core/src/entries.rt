@@ -1,0 +1,78 @@
+//! What the entries of files say, to which claims lead.
+//! What an entry says of a file's bytes, stands in `docs/commands.md`, "What a change does with
+//! files", **Files below `etc/` are the user's**; the fields of an entry in `docs/formats.md`,
+//! "Schemas", table 4.
+
+ghost use Rattle.std.specs.Prelude.{◌-◌, ◌<◌, ◌≤◌};
+ghost use Rattle.adb_fields.specs.ListValue.{list_value};
+ghost use Rattle.adb_schema.specs.Views.{package_value};
+ghost use Rattle.adb_view.specs.FieldIndexes.{PACKAGE_PATHS};
+ghost use Rattle.adb_view.specs.Values.{count_of, entries_in, entry_in};
+ghost use Rattle.db_core.specs.Members.{staying_members};
+ghost use Rattle.db_core.specs.Seen.{members_of, packages_of};
+ghost use Rattle.file_guard.specs.Listed.{IsOfEntry};
+ghost use Rattle.path_claims.specs.Seen.{claim_seen};
+ghost use Rattle.own_core.specs.ClaimEntries.{HasFileAt, IsClaimOf, claim_entry, listed_file_at};
+
+use adb_schema::{DirInfo, FileInfo, List, PackageView};
+use db_core::{Db, Members};
+use file_guard::{ListedFile, listed_file};
+use path_claims::Claim;
+use std::marker::PhantomData;
+
+/// What the entry of the file at a position of a folder says; positions count from 1.
+fn listed_in_files<'a>(files: &List<'a, FileInfo<'a>>, file: u32) -> ListedFile<'a>
+    requires low { 0 < file }
+    requires high { file ≤ count_of (entries_in (list_value files.now)) }
+    ensures { IsOfEntry result (entry_in (list_value files.now) (file - 1)) }
+{
+    let file = files.get(file as usize);
+    listed_file(&file)
+}
+
+/// What the entry of a file of some folders says, by the positions of its folder and of the file in
+/// it, which count from 1.
+fn listed_in_folders<'a>(folders: &List<'a, DirInfo<'a>>, folder: u32, file: u32) -> ListedFile<'a>
+    requires { HasFileAt (list_value folders.now) folder file }
+    ensures { IsOfEntry result (listed_file_at (list_value folders.now) folder file) }
+{
+    let folder = folders.get(folder as usize);
+    listed_in_files(&folder.files(), file)
+}
+
+/// What the entry of a package's file says that a claim speaks of.
+fn listed_in<'a>(pkg: &PackageView<'a>, claim: &Claim<'_>) -> ListedFile<'a>
+    requires { HasFileAt (entry_in (package_value pkg.now) PACKAGE_PATHS) claim.now.folder
+        claim.now.file }
+    ensures { IsOfEntry result
+        (listed_file_at (entry_in (package_value pkg.now) PACKAGE_PATHS) claim.now.folder
+        claim.now.file) }
+{
+    listed_in_folders(&pkg.paths(), claim.folder, claim.file)
+}
+
+/// What the entry of the file says that a claim of a member after the change speaks of.
+#[tactic(auto, unfolding(crate::specs::ClaimEntries::claim_entry))]
+pub(crate) fn listed_after<'a>(members: &Members<'a>, claim: &Claim<'_>) -> ListedFile<'a>
+    requires { IsClaimOf (members_of members.now) (claim_seen claim.now) }
+    ensures { IsOfEntry result (claim_entry (members_of members.now) (claim_seen claim.now)) }
+{
+    listed_in(members.view(claim.member as usize), claim)
+}
+
+/// What the entry of the file says that a claim of a database's package speaks of. The mark serves
+/// the borrow checker alone, which does not know the parts of a view that is made and lent here
+/// unless the signature names the view as an argument.
+#[tactic(auto, unfolding(crate::specs::ClaimEntries::claim_entry))]
+pub(crate) fn listed_before<'a>(
+    db: &Db<'a>,
+    claim: &Claim<'_>,
+    _mark: PhantomData<PackageView<'a>>,
+) -> ListedFile<'a>
+    requires { IsClaimOf (staying_members (packages_of db.now)) (claim_seen claim.now) }
+    ensures { IsOfEntry result
+        (claim_entry (staying_members (packages_of db.now)) (claim_seen claim.now)) }
+{
+    let pkg = db.package(claim.member as usize);
+    listed_in(&pkg, claim)
+}

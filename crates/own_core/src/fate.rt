@@ -1,0 +1,193 @@
+//! What becomes of each file that comes.
+//! The rule stands in `docs/commands.md`, "What a change does with files", **Files below `etc/` are
+//! the user's**: when a file counts as changed, and where the new one is laid then.
+
+ghost use Rattle.std.specs.Prelude.{◌≡◌, ◌↔◌, ◌∷◌, ◌++◌, [], Option, true, false, map, IfOk, IsTrue, IsSomeAnd, OnOk};
+ghost use Rattle.adb_fields.specs.JoinedPath.{joined_path};
+ghost use Rattle.adb_view.specs.Plain.{Plain};
+ghost use Rattle.base_core.specs.Read.{OnlyReads};
+ghost use Rattle.change_files.specs.Fate.{agrees_with_old, fate_beside, is_guarded};
+ghost use Rattle.change_files.specs.FileChange.{old_entry};
+ghost use Rattle.db_core.specs.Seen.{members_of};
+ghost use Rattle.file_guard.specs.Listed.{IsOfEntry};
+ghost use Rattle.path_claims.specs.Seen.{claim_seen};
+ghost use Rattle.own_core.specs.ClaimEntries.{AreClaimsOf, IsClaimOf};
+ghost use Rattle.own_core.specs.Fates.{IsOfEntryIfAny, claim_fate, fate_seen, is_free_beside};
+ghost use Rattle.own_core.specs.Found.{AreByFiles, IsByFile};
+ghost use Rattle.own_core.specs.Sides.{HasClaims, file_change_of};
+
+use crate::change::Change;
+use crate::entries::{listed_after, listed_before};
+use crate::guarded::{LONGEST_NAME, aside_bytes, is_guarded};
+use adb_fields::FilePath;
+use base_core::{Name, Tree, TreeFault};
+use claim_lists::{find_claim, name_of_path};
+use file_guard::{Comparison, ListedFile, compare_file};
+use path_claims::Claim;
+use std::alloc::{AllocError, Global};
+use std::marker::PhantomData;
+
+/// What becomes of a file that comes, and of the one that stands under its path.
+#[derive(Clone, Copy)]
+pub(crate) enum Fate {
+    /// The file takes the path.
+    GoesIn,
+    /// The user's file stays, and the new one is left out.
+    GivesWay,
+    /// The user's file stays, and the new one is laid beside it as `PATH.apk-new`.
+    GoesAside,
+}
+
+/// What the database before the change says of a path, if one of its packages lists the path.
+fn listed_so_far<'o>(change: &Change<'_, 'o, '_>, path: &FilePath<'_>) -> Option<ListedFile<'o>>
+    requires { HasClaims change.now }
+    ensures { IsOfEntryIfAny result (old_entry (file_change_of change.now) (joined_path path.now)) }
+{
+    match find_claim(change.before, path) {
+        Some(i) => Some(listed_before(change.db, &change.before[i], PhantomData)),
+        None => None,
+    }
+}
+
+/// Whether the name beside another one is short enough, and no package lists it after the change.
+fn is_free_beside(
+    alloc: Global,
+    change: &Change<'_, '_, '_>,
+    name: &Name,
+) -> Result<bool, AllocError>
+    requires { HasClaims change.now }
+    ensures { IfOk result (λ free. free ≡ is_free_beside (file_change_of change.now) name.now) }
+{
+    let bytes = aside_bytes(alloc, name.as_bytes())?;
+    if bytes.len() > LONGEST_NAME {
+        return Ok(false);
+    }
+    let beside = FilePath {
+        folder: &[],
+        name: &bytes,
+    };
+    Ok(find_claim(change.after, &beside).is_none())
+}
+
+/// Whether the new entry says the same of a file as the one before, if there was one: then the
+/// package's file did not change.
+fn agrees_with_old(new: &ListedFile<'_>, old: &Option<ListedFile<'_>>) -> bool
+    ensures { (entry : Plain) (before : Option Plain) → IsOfEntry new.now entry
+        → IsOfEntryIfAny old.now before → result ≡ agrees_with_old before entry }
+{
+    match old {
+        Some(old) => old.agrees(new),
+        None => false,
+    }
+}
+
+/// What becomes of a file that comes where the user changed the one under its path: it is left out
+/// where it does not differ from the one that was installed, or cannot be laid beside; else it is
+/// laid beside.
+fn fate_beside(
+    alloc: Global,
+    change: &Change<'_, '_, '_>,
+    name: &Name,
+    new: &ListedFile<'_>,
+    old: &Option<ListedFile<'_>>,
+) -> Result<Fate, AllocError>
+    requires claims { HasClaims change.now }
+    requires old { IsOfEntryIfAny old.now (old_entry (file_change_of change.now) name.now) }
+    ensures { IfOk result (λ fate. (entry : Plain) → IsOfEntry new.now entry
+        → fate_seen fate ≡ fate_beside (file_change_of change.now) name.now entry) }
+{
+    if agrees_with_old(new, old) || !is_free_beside(alloc, change, name)? {
+        return Ok(Fate::GivesWay);
+    }
+    Ok(Fate::GoesAside)
+}
+
+/// Whether a file stands there whose bytes are neither those that the new entry tells nor those
+/// that the old one tells. `found` is none where no file stands there.
+pub(crate) fn is_changed(found: Option<Comparison>) -> bool
+    ensures { IsTrue result ↔ IsSomeAnd found (λ c. (c.as_new ≡ false) × (c.as_old ≡ false)) }
+{
+    match found {
+        Some(comparison) => !comparison.as_new && !comparison.as_old,
+        None => false,
+    }
+}
+
+/// What becomes of a file of configuration that comes: the file under its path is read, and
+/// compared with both entries.
+fn guarded_fate<T: Tree>(
+    alloc: Global,
+    tree: &mut T,
+    change: &Change<'_, '_, '_>,
+    claim: &Claim<'_>,
+) -> Result<Fate, TreeFault>
+    requires claims { HasClaims change.now }
+    requires file { IsClaimOf (members_of change.now.members.now) (claim_seen claim.now) }
+    requires guarded { is_guarded (claim_seen claim.now).path ≡ true }
+    ensures fate { IfOk result (λ fate. IsByFile (claim_fate (file_change_of change.now))
+        (T.history tree.old) (claim_seen claim.now) (fate_seen fate)) }
+    ensures tree { OnlyReads TreeFault.Disk (T.history tree.old) (T.history tree.new)
+        (T.counts tree.old) (T.counts tree.new) result }
+{
+    let name = name_of_path(alloc, &claim.path)?;
+    let new = listed_after(change.members, claim);
+    let old = listed_so_far(change, &claim.path);
+    let found = compare_file(tree, &name, Some(new), old)?;
+    // The user changed the file: its bytes stay.
+    if is_changed(found) {
+        let fate = fate_beside(alloc, change, &name, &new, &old)?;
+        return Ok(fate);
+    }
+    Ok(Fate::GoesIn)
+}
+
+/// What becomes of a file that comes; one that is not below `etc` takes its path, and nothing is
+/// read.
+fn fate_of<T: Tree>(
+    alloc: Global,
+    tree: &mut T,
+    change: &Change<'_, '_, '_>,
+    claim: &Claim<'_>,
+) -> Result<Fate, TreeFault>
+    requires claims { HasClaims change.now }
+    requires file { IsClaimOf (members_of change.now.members.now) (claim_seen claim.now) }
+    ensures fate { IfOk result (λ fate. IsByFile (claim_fate (file_change_of change.now))
+        (T.history tree.old) (claim_seen claim.now) (fate_seen fate)) }
+    ensures tree { OnlyReads TreeFault.Disk (T.history tree.old) (T.history tree.new)
+        (T.counts tree.old) (T.counts tree.new) result }
+{
+    if is_guarded(&claim.path) {
+        return guarded_fate(alloc, tree, change, claim);
+    }
+    Ok(Fate::GoesIn)
+}
+
+/// Puts the fate of a file behind the others.
+fn add_fate(fates: &mut Vec<Fate>, fate: Fate) -> Result<(), AllocError>
+    ensures { OnOk result (fates.new.items ≡ fates.old.items ++ fate ∷ []) }
+{
+    fates.push(fate)?;
+    Ok(())
+}
+
+/// What becomes of each file that comes, in their order.
+pub(crate) fn fates_of<T: Tree>(
+    alloc: Global,
+    tree: &mut T,
+    change: &Change<'_, '_, '_>,
+    coming: &[Claim<'_>],
+) -> Result<Vec<Fate>, TreeFault>
+    requires claims { HasClaims change.now }
+    requires files { AreClaimsOf (members_of change.now.members.now) (map claim_seen coming.now) }
+    ensures fates { IfOk result (λ fates. AreByFiles (claim_fate (file_change_of change.now))
+        (T.history tree.old) (map claim_seen coming.now) (map fate_seen fates.items)) }
+    ensures tree { OnlyReads TreeFault.Disk (T.history tree.old) (T.history tree.new)
+        (T.counts tree.old) (T.counts tree.new) result }
+{
+    let mut fates = Vec::new(alloc);
+    for claim in coming {
+        let fate = fate_of(alloc, tree, change, claim)?;
+        add_fate(&mut fates, fate)?;
+    }
+    Ok(fates)
+}

@@ -1,0 +1,245 @@
+//! The files that come by what becomes of them, and the files that go.
+//! The rules stand in `docs/commands.md`, "What a change does with files": what is removed ("a file
+//! that the old database lists and that no package lists any more"), and what stays below `etc/`.
+
+ghost use Rattle.std.specs.Prelude.{◌≡◌, IfOk, OnOk, Some, [], ◌∷◌, ◌++◌, length, map};
+ghost use Rattle.std.specs.List.{filter};
+ghost use Rattle.std.specs.List.Sorted.{IsSorted};
+ghost use Rattle.adb_fields.specs.JoinedPath.{joined_path};
+ghost use Rattle.base_core.specs.Listed.{IsRising};
+ghost use Rattle.base_core.specs.Read.{OnlyReads};
+ghost use Rattle.db_core.specs.Members.{staying_members};
+ghost use Rattle.db_core.specs.Seen.{members_of, packages_of};
+ghost use Rattle.path_claims.specs.Claims.{claim_cmp};
+ghost use Rattle.path_claims.specs.Seen.{claim_seen};
+ghost use Rattle.own_core.specs.ClaimEntries.{AreClaimsOf, IsClaimOf};
+ghost use Rattle.own_core.specs.Fates.{fate_seen, is_fate, is_flag, marked_claims};
+ghost use Rattle.own_core.specs.Found.{AreByFiles, IsByFile};
+ghost use Rattle.own_core.specs.Going.{does_stay, is_beside, is_left};
+ghost use Rattle.own_core.specs.Parts.{AreParts};
+ghost use Rattle.own_core.specs.Sides.{HasClaims, claims_before, file_change_of};
+
+use crate::change::Change;
+use crate::entries::listed_before;
+use crate::fate::{Fate, fates_of, is_changed};
+use crate::guarded::{is_guarded, path_beside};
+use adb_fields::FilePath;
+use base_core::{Tree, TreeFault};
+use claim_lists::{find_claim, find_next_claim, name_of_path};
+use file_guard::compare_file;
+use path_claims::Claim;
+use std::alloc::{AllocError, Global};
+use std::marker::PhantomData;
+
+/// Whether two fates are the same.
+fn is_fate(one: Fate, other: Fate) -> bool
+    ensures { result ≡ is_fate (fate_seen one) (fate_seen other) }
+{
+    match (one, other) {
+        (Fate::GoesIn, Fate::GoesIn) => true,
+        (Fate::GivesWay, Fate::GivesWay) => true,
+        (Fate::GoesAside, Fate::GoesAside) => true,
+        _ => false,
+    }
+}
+
+/// The claims of the files that come with this fate, in the order of their paths. `fates` has the
+/// fate of each.
+fn claims_with<'n>(
+    alloc: Global,
+    coming: &[Claim<'n>],
+    fates: &[Fate],
+    fate: Fate,
+) -> Result<Vec<Claim<'n>>, AllocError>
+    requires { length fates.now ≡ length coming.now }
+    ensures { IfOk result (λ some. map claim_seen some.items ≡ marked_claims
+        (is_fate (fate_seen fate)) (map claim_seen coming.now) (map fate_seen fates.now)) }
+{
+    let mut some = Vec::new(alloc);
+    for i in 0..coming.len() {
+        if is_fate(fate, fates[i]) {
+            some.push(coming[i])?;
+        }
+    }
+    Ok(some)
+}
+
+/// Whether a file is laid beside another one under this path: the path is the name beside that of
+/// one of these claims.
+fn is_beside(asides: &[Claim<'_>], path: &FilePath<'_>) -> bool
+    requires { IsSorted claim_cmp (map claim_seen asides.now) }
+    ensures { result ≡ is_beside (map claim_seen asides.now) (joined_path path.now) }
+{
+    match path_beside(path) {
+        Some(beside) => find_claim(asides, &beside).is_some(),
+        None => false,
+    }
+}
+
+/// Whether no package lists a path any more, and nothing is laid beside another one there. Paths
+/// that are asked for in their order are looked for from `next` on.
+fn is_left(
+    change: &Change<'_, '_, '_>,
+    asides: &[Claim<'_>],
+    path: &FilePath<'_>,
+    next: &mut usize,
+) -> bool
+    requires claims { HasClaims change.now }
+    requires sorted { IsSorted claim_cmp (map claim_seen asides.now) }
+    ensures { result ≡ is_left (file_change_of change.now) (map claim_seen asides.now)
+        (joined_path path.now) }
+{
+    if find_next_claim(change.after, path, next).is_some() {
+        return false;
+    }
+    !is_beside(asides, path)
+}
+
+/// The claims of the packages before the change whose paths are left over: no package lists them
+/// any more, and nothing is laid beside another file there.
+fn left_claims<'o>(
+    alloc: Global,
+    change: &Change<'_, 'o, '_>,
+    asides: &[Claim<'_>],
+) -> Result<Vec<Claim<'o>>, AllocError>
+    requires claims { HasClaims change.now }
+    requires sorted { IsSorted claim_cmp (map claim_seen asides.now) }
+    ensures { IfOk result (λ left. map claim_seen left.items
+        ≡ filter (λ c. is_left (file_change_of change.now) (map claim_seen asides.now) c.path)
+        (claims_before change.now)) }
+{
+    let mut left = Vec::new(alloc);
+    // Paths are asked for in their order, so each search goes on where the last one ended.
+    let mut next = 0;
+    for i in 0..change.before.len() {
+        if is_left(change, asides, &change.before[i].path, &mut next) {
+            left.push(change.before[i])?;
+        }
+    }
+    Ok(left)
+}
+
+/// Whether the user's file stays under a path that is left over: it is configuration, the user
+/// changed it, and changed files do not go with their packages.
+fn does_stay<T: Tree>(
+    alloc: Global,
+    tree: &mut T,
+    change: &Change<'_, '_, '_>,
+    claim: &Claim<'_>,
+) -> Result<bool, TreeFault>
+    requires { IsClaimOf (staying_members (packages_of change.now.db.now)) (claim_seen claim.now) }
+    ensures stays { IfOk result (IsByFile (does_stay (file_change_of change.now))
+        (T.history tree.old) (claim_seen claim.now)) }
+    ensures tree { OnlyReads TreeFault.Disk (T.history tree.old) (T.history tree.new)
+        (T.counts tree.old) (T.counts tree.new) result }
+{
+    // Only configuration may stay, and not with `--purge`: no file is read.
+    if change.purge || !is_guarded(&claim.path) {
+        return Ok(false);
+    }
+    let name = name_of_path(alloc, &claim.path)?;
+    let listed = listed_before(change.db, claim, PhantomData);
+    let found = compare_file(tree, &name, None, Some(listed))?;
+    Ok(is_changed(found))
+}
+
+/// Puts a flag behind the others.
+fn add_flag(flags: &mut Vec<bool>, flag: bool) -> Result<(), AllocError>
+    ensures { OnOk result (flags.new.items ≡ flags.old.items ++ flag ∷ []) }
+{
+    flags.push(flag)?;
+    Ok(())
+}
+
+/// For each claim of a path that is left over, whether the user's file stays there.
+fn stays_of<T: Tree>(
+    alloc: Global,
+    tree: &mut T,
+    change: &Change<'_, '_, '_>,
+    left: &[Claim<'_>],
+) -> Result<Vec<bool>, TreeFault>
+    requires { AreClaimsOf (staying_members (packages_of change.now.db.now))
+        (map claim_seen left.now) }
+    ensures stays { IfOk result (λ stays. AreByFiles (does_stay (file_change_of change.now))
+        (T.history tree.old) (map claim_seen left.now) stays.items) }
+    ensures tree { OnlyReads TreeFault.Disk (T.history tree.old) (T.history tree.new)
+        (T.counts tree.old) (T.counts tree.new) result }
+{
+    let mut stays = Vec::new(alloc);
+    for claim in left {
+        let flag = does_stay(alloc, tree, change, claim)?;
+        add_flag(&mut stays, flag)?;
+    }
+    Ok(stays)
+}
+
+/// Whether two flags are the same.
+fn is_flag(one: bool, other: bool) -> bool
+    ensures { result ≡ is_flag one other }
+{
+    if one { other } else { !other }
+}
+
+/// The claims whose flag is this one. `flags` has one for each of them.
+fn claims_where<'o>(
+    alloc: Global,
+    left: &[Claim<'o>],
+    flags: &[bool],
+    flag: bool,
+) -> Result<Vec<Claim<'o>>, AllocError>
+    requires { length flags.now ≡ length left.now }
+    ensures { IfOk result (λ some. map claim_seen some.items
+        ≡ marked_claims (is_flag flag) (map claim_seen left.now) flags.now) }
+{
+    let mut some = Vec::new(alloc);
+    for i in 0..left.len() {
+        if is_flag(flag, flags[i]) {
+            some.push(left[i])?;
+        }
+    }
+    Ok(some)
+}
+
+/// The files of a change by what becomes of them, in the order of paths.
+#[derive(Drop)]
+pub struct Parts<'o, 'n> {
+    /// The files that take their paths.
+    pub ins: Vec<Claim<'n>>,
+    /// The files that are laid beside the user's.
+    pub asides: Vec<Claim<'n>>,
+    /// The files that are removed.
+    pub removed: Vec<Claim<'o>>,
+    /// The files that stay, since the user changed them.
+    pub kept: Vec<Claim<'o>>,
+}
+
+/// Parts the files of a change: those that come (`coming`) by their fates, and those that are left
+/// over by whether the user's file stays. Files of configuration are read, each once.
+pub fn parts_of<'o, 'n, T: Tree>(
+    alloc: Global,
+    tree: &mut T,
+    change: &Change<'_, 'o, 'n>,
+    coming: &[Claim<'n>],
+) -> Result<Parts<'o, 'n>, TreeFault>
+    requires claims { HasClaims change.now }
+    requires files { AreClaimsOf (members_of change.now.members.now) (map claim_seen coming.now) }
+    requires rising { IsRising (map (λ c. c.path) (map claim_seen coming.now)) }
+    ensures parts { IfOk result
+        (AreParts change.now (T.history tree.old) (map claim_seen coming.now)) }
+    ensures tree { OnlyReads TreeFault.Disk (T.history tree.old) (T.history tree.new)
+        (T.counts tree.old) (T.counts tree.new) result }
+{
+    let fates = fates_of(alloc, tree, change, coming)?;
+    let ins = claims_with(alloc, coming, &fates, Fate::GoesIn)?;
+    let asides = claims_with(alloc, coming, &fates, Fate::GoesAside)?;
+    let left = left_claims(alloc, change, &asides)?;
+    let stays = stays_of(alloc, tree, change, &left)?;
+    let removed = claims_where(alloc, &left, &stays, false)?;
+    let kept = claims_where(alloc, &left, &stays, true)?;
+    Ok(Parts {
+        ins,
+        asides,
+        removed,
+        kept,
+    })
+}

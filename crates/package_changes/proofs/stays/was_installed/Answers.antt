@@ -1,0 +1,10 @@
+use Rattle.std.proofs.Common.{◌∙◌, ap}
+use Rattle.std.specs.Prelude.{is_some}
+use Rattle.db_core.specs.Packages.{is_package_named}
+use Rattle.db_core.specs.Seen.{packages_of}
+use Rattle.package_changes.proofs.ReportLines.{is_found}
+use Rattle.package_changes.proofs.stays.was_installed.Goals as goal
+
+pub returns : goal.returns
+returns c =
+    c.is_some.ensures ∙ (ap is_some c.find.ensures.found ∙ is_found (is_package_named c.args.name.now) 0 (packages_of c.args.db.now))

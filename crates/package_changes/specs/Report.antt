@@ -1,0 +1,62 @@
+-- The report of a change that is only simulated (apk(8)). The lines stand in `docs/commands.md`,
+-- "`add` and `del`", what is reported, where `--simulate` leaves some out.
+use Rattle.std.specs.Prelude.{ℕ, Bool, not, ◌&&◌, List, ◌++◌, length, map, bytes_eq, sum_by}
+use Rattle.std.specs.List.{filter, flat_map, list_any}
+use Rattle.adb_view.specs.Plain.{Plain}
+use Rattle.adb_view.specs.FieldIndexes.{INFO_INSTALLED_SIZE}
+use Rattle.adb_view.specs.Values.{entry_in, int_in}
+use Rattle.change_files.specs.PlanLists.{names_in_order}
+use Rattle.db_core.specs.Packages.{is_package_named}
+use Rattle.dep_core.specs.Dependency.{Dependency}
+use Rattle.candidate_core.specs.Candidates.{Candidate, meets_dependency}
+use Rattle.report_core.specs.Reports.{change_lines, report_line, stays_text, sum_text}
+use Rattle.package_changes.specs.Changes.{Replacement, changes_of, is_selected_named}
+
+-- the bytes that a candidate takes when it is installed, by its installed size
+abbrev pub candidate_size : Candidate → ℕ
+candidate_size c = int_in (entry_in c.info INFO_INSTALLED_SIZE)
+
+-- ---- packages that were to go and stay
+
+-- whether the first candidate has a positive dependency that the second meets
+abbrev pub needs_candidate : Candidate → Candidate → Bool
+needs_candidate c needed =
+    list_any (λ (d : Dependency). not d.conflict && meets_dependency d needed) c.depends
+
+-- whether another candidate needs the first one
+abbrev pub is_in_need : Candidate → Candidate → Bool
+is_in_need needed c = not (bytes_eq c.name needed.name) && needs_candidate c needed
+
+-- the names of the other selected candidates that need one, in byte order
+abbrev pub names_in_need : List Candidate → Candidate → List (List ℕ)
+names_in_need selected needed =
+    names_in_order (map (λ (c : Candidate). c.name) (filter (is_in_need needed) selected))
+
+-- a line for each selected package of this name, of which there is one at most
+abbrev pub selected_stay_lines : List Candidate → List ℕ → List ℕ
+selected_stay_lines selected name =
+    flat_map (λ (c : Candidate). report_line (stays_text name (names_in_need selected c)))
+    (filter (is_selected_named name) selected)
+
+-- whether a package before has the name
+abbrev pub was_installed : List Plain → List ℕ → Bool
+was_installed before name = list_any (is_package_named name) before
+
+-- The lines on the names that were to go, in byte order, each once: those that stay. What was not
+-- installed does not stay.
+abbrev pub stay_lines : List Plain → List Candidate → List (List ℕ) → List ℕ
+stay_lines before selected to_go =
+    flat_map (selected_stay_lines selected) (filter (was_installed before) (names_in_order to_go))
+
+-- ---- the report
+
+-- the last line of a simulated report: how many bytes and packages there are after the change, by
+-- what the candidates say
+abbrev pub selected_sum_line : List Candidate → List ℕ
+selected_sum_line selected = report_line (sum_text (sum_by candidate_size selected) (length selected))
+
+-- the whole report of a simulated change: what becomes of each package, what stays of the names
+-- that were to go, and the sum
+unfoldable pub simulated_report : Replacement → List (List ℕ) → List ℕ
+simulated_report r to_go =
+    change_lines (changes_of r) ++ stay_lines r.before r.selected to_go ++ selected_sum_line r.selected

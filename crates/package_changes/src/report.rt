@@ -1,0 +1,221 @@
+//! The report of a change that is only simulated, the lines on what becomes of packages, and the
+//! sum. They stand in `docs/commands.md`, "`add` and `del`", what is reported, and
+//! "`upgrade` and `fix`".
+ghost use Rattle.package_changes.specs.Changes.{changes_of};
+ghost use Rattle.package_changes.specs.Placed.{candidates_at, replacement_of};
+ghost use Rattle.package_changes.specs.Report.{candidate_size, selected_sum_line, simulated_report};
+ghost use Rattle.package_changes.specs.Seen.{change_seen, changes_seen, replacement_by};
+ghost use Rattle.candidate_core.specs.Rank.{candidate_at};
+ghost use Rattle.report_core.specs.Reports.{change_lines, change_text, from_version_to, name_and_version, numbered_change, report_line, sum_text};
+ghost use Rattle.std.specs.Fmt.{decimal};
+ghost use Rattle.std.specs.Option.{option_map_or};
+ghost use Rattle.std.specs.Prelude.{◌≡◌, ◌+◌, ◌≤◌, ◌++◌, ℕ, List, codes, length, map, sum_by, IfOk, OnOk};
+
+use crate::change::Change;
+use crate::changes::Changes;
+use crate::selected::candidate_at;
+use crate::stays::push_stay_lines;
+use base_core::Words;
+use db_core::Db;
+use pool_core::{CandId, Sealed};
+use report_core::Report;
+use solve_core::Trace;
+use std::alloc::{AllocError, Global};
+
+/// The report of a change that is only simulated: its changes, the packages among `to_go` that were
+/// installed and stay, and the sum over the candidates that are selected.
+#[tactic(auto, unfolding(crate::specs::Report::simulated_report))]
+pub fn simulated_report(
+    alloc: Global,
+    db: &Db<'_>,
+    pool: &Sealed<'_>,
+    trace: &Trace,
+    changes: &Changes<'_>,
+    to_go: &Words,
+) -> Result<Report, AllocError>
+    ensures { IfOk result (λ report. (again : List (List ℕ))
+        → map (λ c. c.change) (changes_seen changes.now)
+        ≡ changes_of (replacement_of (replacement_by db.now pool.now trace.now again))
+        → report ≡ simulated_report
+        (replacement_of (replacement_by db.now pool.now trace.now again)) to_go.now) }
+{
+    let mut report = Report::new(alloc);
+    push_change_lines(&mut report, changes)?;
+    push_stay_lines(alloc, &mut report, db, pool, trace, to_go)?;
+    push_selected_sum(&mut report, pool, trace)?;
+    Ok(report)
+}
+
+/// Adds a line for each change, with its number and how many there are.
+pub fn push_change_lines(report: &mut Report, changes: &Changes<'_>) -> Result<(), AllocError>
+    ensures { OnOk result (report.new
+        ≡ report.old ++ change_lines (map (λ c. c.change) (changes_seen changes.now))) }
+{
+    let count = changes.len();
+    for i in 0..count {
+        push_change_line(report, i, count, &changes.get(i).change)?;
+    }
+    Ok(())
+}
+
+/// Adds the line of a change, before which there are so many of `count`.
+fn push_change_line(
+    report: &mut Report,
+    before: usize,
+    count: usize,
+    change: &Change<'_>,
+) -> Result<(), AllocError>
+    ensures { OnOk result (report.new ≡ report.old
+        ++ report_line (numbered_change (before + 1) count (change_seen change.now))) }
+{
+    push_number(report, before as u128 + 1, count as u128)?;
+    push_change_text(report, change)?;
+    report.push(b"\n")?;
+    Ok(())
+}
+
+/// Adds the number of a change, counted from 1, and how many there are: `(1/3) `.
+fn push_number(report: &mut Report, number: u128, count: u128) -> Result<(), AllocError>
+    ensures { OnOk result (report.new ≡ report.old
+        ++ (codes "(" ++ decimal number ++ codes "/" ++ decimal count ++ codes ") ")) }
+{
+    report.push(b"(")?;
+    report.number(number)?;
+    report.push(b"/")?;
+    report.number(count)?;
+    report.push(b") ")?;
+    Ok(())
+}
+
+/// Adds what becomes of a package: a word for that, its name, and its versions.
+fn push_change_text(report: &mut Report, change: &Change<'_>) -> Result<(), AllocError>
+    ensures { OnOk result (report.new ≡ report.old ++ change_text (change_seen change.now)) }
+{
+    match change {
+        Change::Install(name, version) => push_version(report, b"Installing ", name, version),
+        Change::Reinstall(name, version) => push_version(report, b"Reinstalling ", name, version),
+        Change::Purge(name, version) => push_version(report, b"Purging ", name, version),
+        Change::Upgrade(name, old, new) => push_versions(report, b"Upgrading ", name, old, new),
+        Change::Downgrade(name, old, new) => push_versions(report, b"Downgrading ", name, old, new),
+        Change::Replace(name, old, new) => push_versions(report, b"Replacing ", name, old, new),
+    }
+}
+
+/// Adds a word, and a package at a version: `Installing lib (1.1-r0)`.
+fn push_version(
+    report: &mut Report,
+    word: &[u8],
+    name: &[u8],
+    version: &[u8],
+) -> Result<(), AllocError>
+    ensures { OnOk result (report.new
+        ≡ report.old ++ (word.now ++ name_and_version name.now version.now)) }
+{
+    report.push(word)?;
+    report.push(name)?;
+    report.push(b" (")?;
+    report.push(version)?;
+    report.push(b")")?;
+    Ok(())
+}
+
+/// Adds a word, and a package from one version to another: `Upgrading app (1.0-r0 -> 2.0-r0)`.
+fn push_versions(
+    report: &mut Report,
+    word: &[u8],
+    name: &[u8],
+    old: &[u8],
+    new: &[u8],
+) -> Result<(), AllocError>
+    ensures { OnOk result (report.new
+        ≡ report.old ++ (word.now ++ from_version_to name.now old.now new.now)) }
+{
+    report.push(word)?;
+    report.push(name)?;
+    report.push(b" (")?;
+    report.push(old)?;
+    report.push(b" -> ")?;
+    report.push(new)?;
+    report.push(b")")?;
+    Ok(())
+}
+
+/// Adds the last line of a simulated report, by what the candidates say.
+fn push_selected_sum(
+    report: &mut Report,
+    pool: &Sealed<'_>,
+    trace: &Trace,
+) -> Result<(), AllocError>
+    ensures { OnOk result (report.new
+        ≡ report.old ++ selected_sum_line (candidates_at pool.now trace.now)) }
+{
+    let bytes = selected_size(pool, trace);
+    let count = selected_count(pool, trace);
+    push_sum_line(report, bytes, count)?;
+    Ok(())
+}
+
+/// Adds the last line of a report: how many bytes and packages are installed.
+pub fn push_sum_line(report: &mut Report, bytes: u128, count: u128) -> Result<(), AllocError>
+    ensures { OnOk result (report.new ≡ report.old ++ report_line (sum_text bytes count)) }
+{
+    push_sum(report, bytes, count)?;
+    report.push(b"\n")?;
+    Ok(())
+}
+
+/// Adds the text of the last line, without its line end.
+fn push_sum(report: &mut Report, bytes: u128, count: u128) -> Result<(), AllocError>
+    ensures { OnOk result (report.new ≡ report.old ++ sum_text bytes count) }
+{
+    report.push(b"OK: ")?;
+    report.number(bytes)?;
+    report.push(b" bytes in ")?;
+    report.number(count)?;
+    report.push(b" packages")?;
+    Ok(())
+}
+
+/// The bytes that the selected candidates take when they are installed. A u128 holds the sum of any
+/// number of them.
+fn selected_size(pool: &Sealed<'_>, trace: &Trace) -> u128
+    ensures { result ≡ sum_by candidate_size (candidates_at pool.now trace.now) }
+{
+    let mut sum: u128 = 0;
+    for i in 0..trace.len() {
+        sum += size_at(pool, trace.get(i)) as u128;
+    }
+    sum
+}
+
+/// The bytes that the candidate at a place takes when it is installed, if there is one.
+fn size_at(pool: &Sealed<'_>, id: CandId) -> u64
+    ensures { result ≡ option_map_or candidate_size (candidate_at pool.now id) 0 }
+{
+    match candidate_at(pool, id) {
+        None => 0,
+        Some(candidate) => candidate.info.installed_size(),
+    }
+}
+
+/// How many candidates are selected.
+fn selected_count(pool: &Sealed<'_>, trace: &Trace) -> u128
+    ensures { result ≡ length (candidates_at pool.now trace.now) }
+{
+    let mut count: u128 = 0;
+    for i in 0..trace.len() {
+        count += count_at(pool, trace.get(i)) as u128;
+    }
+    count
+}
+
+/// How many candidates stand at a place: one, or none.
+fn count_at(pool: &Sealed<'_>, id: CandId) -> u8
+    ensures value { result ≡ option_map_or (λ _. 1) (candidate_at pool.now id) 0 }
+    ensures one { result ≤ 1 }
+{
+    match pool.at(id) {
+        None => 0,
+        Some(_) => 1,
+    }
+}

@@ -1,0 +1,280 @@
+//! Packages that were to go and stay, since others need them. The line stands in
+//! `docs/commands.md`, "`add` and `del`", what is reported: `NAME stays`.
+ghost use Rattle.change_files.specs.PlanLists.{names_in_order};
+ghost use Rattle.db_core.specs.Seen.{packages_of};
+ghost use Rattle.package_changes.specs.Changes.{is_selected_named};
+ghost use Rattle.package_changes.specs.Placed.{candidates_at};
+ghost use Rattle.package_changes.specs.SelectedNames.{place_beside};
+ghost use Rattle.package_changes.specs.Report.{is_in_need, names_in_need, selected_stay_lines, stay_lines, was_installed};
+ghost use Rattle.candidate_core.specs.Candidates.{Candidate};
+ghost use Rattle.candidate_core.specs.Rank.{candidate_at};
+ghost use Rattle.report_core.specs.Reports.{report_line, spaced_behind, stays_text};
+ghost use Rattle.std.specs.List.{filter, flat_map};
+ghost use Rattle.std.specs.Prelude.{◌≡◌, ◌++◌, if◌then◌else◌, [], ◌∷◌, map, option_to_list, is_some, IfOk, OnOk};
+
+use crate::names::{names_in_order, names_of_words};
+use crate::selected::SelectedNames;
+use base_core::Words;
+use db_core::Db;
+use pool_core::{CandId, Details, Sealed};
+use report_core::Report;
+use solve_core::Trace;
+use std::alloc::{AllocError, Global};
+
+/// Adds a line for each of some names that was a package's and is a selected candidate's, in byte
+/// order of the names, each once: that it stays, and which others need it. It walks over the
+/// selection once, and again for each line.
+pub fn push_stay_lines(
+    alloc: Global,
+    report: &mut Report,
+    db: &Db<'_>,
+    pool: &Sealed<'_>,
+    trace: &Trace,
+    to_go: &Words,
+) -> Result<(), AllocError>
+    ensures { OnOk result (report.new ≡ report.old ++ stay_lines (packages_of db.now)
+        (candidates_at pool.now trace.now) to_go.now) }
+{
+    let names = names_of_words(alloc, to_go)?;
+    let names = names_in_order(names)?;
+    let selected = SelectedNames::of(alloc, pool, trace)?;
+    let staying = selected_among(alloc, &names, &selected)?;
+    push_lines_of_names(alloc, report, db, pool, trace, &staying)?;
+    Ok(())
+}
+
+/// Those of some names that a selected candidate has, in their order.
+fn selected_among<'n>(
+    alloc: Global,
+    names: &[&'n [u8]],
+    selected: &SelectedNames<'_>,
+) -> Result<Vec<&'n [u8]>, AllocError>
+    ensures { IfOk result (λ found. found.items
+        ≡ filter (λ name. is_some (place_beside name.now selected.now)) names.now) }
+{
+    names
+        .iter()
+        .copied()
+        .filter(|name| selected.place_of(name).is_some())
+        .collect(alloc)
+}
+
+/// Adds the lines of names that are in order: those that were installed before.
+fn push_lines_of_names(
+    alloc: Global,
+    report: &mut Report,
+    db: &Db<'_>,
+    pool: &Sealed<'_>,
+    trace: &Trace,
+    names: &[&[u8]],
+) -> Result<(), AllocError>
+    ensures { OnOk result (report.new ≡ report.old
+        ++ flat_map (selected_stay_lines (candidates_at pool.now trace.now))
+        (filter (was_installed (packages_of db.now)) (map (λ n. n.now) names.now))) }
+{
+    for name in names {
+        push_lines_of_name(alloc, report, db, pool, trace, name)?;
+    }
+    Ok(())
+}
+
+/// Adds the lines of a name, if a package of it was installed before.
+fn push_lines_of_name(
+    alloc: Global,
+    report: &mut Report,
+    db: &Db<'_>,
+    pool: &Sealed<'_>,
+    trace: &Trace,
+    name: &[u8],
+) -> Result<(), AllocError>
+    ensures { OnOk result (report.new ≡ report.old
+        ++ (if was_installed (packages_of db.now) name.now
+        then selected_stay_lines (candidates_at pool.now trace.now) name.now else [])) }
+{
+    if was_installed(db, name) {
+        push_selected_lines(alloc, report, pool, trace, name)?;
+    }
+    Ok(())
+}
+
+/// Whether a package of the database has this name.
+fn was_installed(db: &Db<'_>, name: &[u8]) -> bool
+    ensures { result ≡ was_installed (packages_of db.now) name.now }
+{
+    db.find(name).is_some()
+}
+
+/// Adds a line for each selected candidate of a name.
+fn push_selected_lines(
+    alloc: Global,
+    report: &mut Report,
+    pool: &Sealed<'_>,
+    trace: &Trace,
+    name: &[u8],
+) -> Result<(), AllocError>
+    ensures { OnOk result (report.new
+        ≡ report.old ++ selected_stay_lines (candidates_at pool.now trace.now) name.now) }
+{
+    for i in 0..trace.len() {
+        push_line_of(alloc, report, pool, trace, trace.get(i), name)?;
+    }
+    Ok(())
+}
+
+/// Adds a line for the candidate at a place, if there is one and it has this name.
+fn push_line_of(
+    alloc: Global,
+    report: &mut Report,
+    pool: &Sealed<'_>,
+    trace: &Trace,
+    id: CandId,
+    name: &[u8],
+) -> Result<(), AllocError>
+    ensures { OnOk result (report.new ≡ report.old
+        ++ flat_map (λ (c : Candidate). report_line (stays_text name.now
+        (names_in_need (candidates_at pool.now trace.now) c)))
+        (filter (is_selected_named name.now) (option_to_list (candidate_at pool.now id)))) }
+{
+    match pool.at(id) {
+        None => Ok(()),
+        Some(details) => {
+            push_line_if_named(alloc, report, pool, trace, &details, name)?;
+            Ok(())
+        }
+    }
+}
+
+/// Adds a line for a candidate, if it has this name.
+fn push_line_if_named(
+    alloc: Global,
+    report: &mut Report,
+    pool: &Sealed<'_>,
+    trace: &Trace,
+    details: &Details<'_>,
+    name: &[u8],
+) -> Result<(), AllocError>
+    ensures { OnOk result (report.new ≡ report.old
+        ++ (if is_selected_named name.now details.now then report_line (stays_text name.now
+        (names_in_need (candidates_at pool.now trace.now) details.now)) else [])) }
+{
+    if details.name() != name {
+        return Ok(());
+    }
+    let names = names_in_need(alloc, pool, trace, details)?;
+    push_stay_line(report, name, &names)?;
+    Ok(())
+}
+
+/// The names of the other selected candidates that need one, in byte order.
+fn names_in_need<'a>(
+    alloc: Global,
+    pool: &Sealed<'a>,
+    trace: &Trace,
+    needed: &Details<'_>,
+) -> Result<Vec<&'a [u8]>, AllocError>
+    ensures { IfOk result (λ names. map (λ n. n.now) names.items
+        ≡ names_in_need (candidates_at pool.now trace.now) needed.now) }
+{
+    let mut names = Vec::new(alloc);
+    push_names_in_need(&mut names, pool, trace, needed)?;
+    names_in_order(names)
+}
+
+/// Adds the names of the other selected candidates that need one.
+fn push_names_in_need<'a>(
+    names: &mut Vec<&'a [u8]>,
+    pool: &Sealed<'a>,
+    trace: &Trace,
+    needed: &Details<'_>,
+) -> Result<(), AllocError>
+    ensures { OnOk result (map (λ n. n.now) names.new.items ≡ map (λ n. n.now) names.old.items
+        ++ map (λ (c : Candidate). c.name)
+        (filter (is_in_need needed.now) (candidates_at pool.now trace.now))) }
+{
+    for i in 0..trace.len() {
+        push_name_in_need(names, pool, trace.get(i), needed)?;
+    }
+    Ok(())
+}
+
+/// Adds the name of the candidate at a place, if there is one and it needs another one.
+fn push_name_in_need<'a>(
+    names: &mut Vec<&'a [u8]>,
+    pool: &Sealed<'a>,
+    id: CandId,
+    needed: &Details<'_>,
+) -> Result<(), AllocError>
+    ensures { OnOk result (map (λ n. n.now) names.new.items ≡ map (λ n. n.now) names.old.items
+        ++ map (λ (c : Candidate). c.name)
+        (filter (is_in_need needed.now) (option_to_list (candidate_at pool.now id)))) }
+{
+    match pool.at(id) {
+        None => Ok(()),
+        Some(details) => {
+            push_name_if(names, details.name(), is_in_need(needed, &details))?;
+            Ok(())
+        }
+    }
+}
+
+/// Adds a name to a list where it is wanted.
+fn push_name_if<'a>(
+    names: &mut Vec<&'a [u8]>,
+    name: &'a [u8],
+    is_wanted: bool,
+) -> Result<(), AllocError>
+    ensures { OnOk result (map (λ n. n.now) names.new.items ≡ map (λ n. n.now) names.old.items
+        ++ (if is_wanted then name.entry.now ∷ [] else [])) }
+{
+    if is_wanted {
+        names.push(name)?;
+    }
+    Ok(())
+}
+
+/// Whether a candidate is another one and needs the first.
+fn is_in_need(needed: &Details<'_>, details: &Details<'_>) -> bool
+    ensures { result ≡ is_in_need needed.now details.now }
+{
+    if details.name() == needed.name() {
+        return false;
+    }
+    details.needs(needed)
+}
+
+/// Adds the line that tells that a package stays, and the names of those that need it.
+fn push_stay_line(report: &mut Report, name: &[u8], names: &[&[u8]]) -> Result<(), AllocError>
+    ensures { OnOk result (report.new ≡ report.old
+        ++ report_line (stays_text name.now (map (λ n. n.now) names.now))) }
+{
+    push_stay_text(report, name, names)?;
+    report.push(b"\n")?;
+    Ok(())
+}
+
+/// Adds the text of the line that tells that a package stays, without its line end.
+fn push_stay_text(report: &mut Report, name: &[u8], names: &[&[u8]]) -> Result<(), AllocError>
+    ensures { OnOk result (report.new
+        ≡ report.old ++ stays_text name.now (map (λ n. n.now) names.now)) }
+{
+    report.push(name)?;
+    if names.is_empty() {
+        report.push(b" stays")?;
+        return Ok(());
+    }
+    report.push(b" stays; required by:")?;
+    push_spaced(report, names)?;
+    Ok(())
+}
+
+/// Adds names, with a space before each.
+fn push_spaced(report: &mut Report, names: &[&[u8]]) -> Result<(), AllocError>
+    ensures { OnOk result (report.new
+        ≡ report.old ++ spaced_behind (map (λ n. n.now) names.now)) }
+{
+    for name in names {
+        report.push(b" ")?;
+        report.push(name)?;
+    }
+    Ok(())
+}

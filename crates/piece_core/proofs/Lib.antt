@@ -1,5 +1,0 @@
-pub mod Joined
-pub mod Taken
-pub mod Opened
-pub mod BlockRuns
-pub mod Placed

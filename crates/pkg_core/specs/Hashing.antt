@@ -1,0 +1,17 @@
+-- A hasher of the function that a digest's length tells.
+-- Which function that is stands in `docs/formats.md`, "The other blocks". Serves the contracts of
+-- `Hasher`.
+use Rattle.std.specs.Prelude.{◌≡◌, ℕ, List, length, None}
+use Rattle.sha1.specs.Sha1.{Holds}
+use Rattle.sha2.specs.Hashers.{Holds256, Holds512}
+use Rattle.pkg_core.specs.Contents.{hash_fault}
+use Rattle.pkg_core.specs.declared.hasher.Hasher.{Hasher}
+use Rattle.pkg_core.specs.declared.hasher.Hasher.TheVariants as Hashers
+
+-- a hasher holds this message, to be compared with this digest: it is of the function that the digest's
+-- length tells; of another length no bytes have a fault
+abbrev pub HoldsFor : Hasher → List ℕ → List ℕ → Type 0
+HoldsFor (Hashers.Sha1 hasher) hash message = (length hash ≡ 20) × Holds hasher message
+HoldsFor (Hashers.Sha256 hasher) hash message = (length hash ≡ 32) × Holds256 hasher message
+HoldsFor (Hashers.Sha512 hasher) hash message = (length hash ≡ 64) × Holds512 hasher message
+HoldsFor Hashers.Other hash message = (bytes : List ℕ) → hash_fault hash bytes ≡ None

@@ -1,0 +1,113 @@
+-- The contents of a package's files in pieces, or the first failed test.
+-- The rules stand in `docs/formats.md`, "The other blocks", the paragraph of pieces; the tests in the
+-- paragraph of blocks of contents above it.
+use Rattle.std.specs.Prelude.{ℕ, zero, suc, ◌-◌, ◌/◌, ◌==◌, ◌++◌, nat_lt, Bool, true, false, not, if◌then◌else◌, List, [], ◌∷◌, length, take, drop, Option, Some, None}
+use Rattle.base_core.specs.declared.cause.Cause.{Cause}
+use Rattle.base_core.specs.declared.cause.Cause.TheVariants.{Truncated, DataOrder, DataSize}
+use Rattle.adb_block.specs.Reading.{Reading, done, fault, more}
+use Rattle.adb_block.specs.declared.block.BlockKind.{BlockKind}
+use Rattle.adb_block.specs.declared.block.BlockKind.TheVariants as Kinds
+use Rattle.adb_schema.specs.Soundness.{file_pair}
+use Rattle.pkg_core.specs.Contents.{Expected, FilesRead, POSITIONS_LEN, no_more, refused, given, contents_bytes, has_positions_of, hash_fault, missing_fault}
+use Rattle.pkg_core.specs.declared.file.Part.{Part}
+use Rattle.pkg_core.specs.declared.file.TheConstants.{PIECE_LEN}
+
+-- pieces one after the other, each with the file that it is a part of, up to the end or to the
+-- first failed test
+pub data PiecesRead : Type 0 where
+  no_piece : PiecesRead
+  refusal : Cause → PiecesRead
+  piece : Part → List ℕ → PiecesRead → PiecesRead
+
+-- ---- one file
+
+-- the part that a piece is: of this expected file, and whether it is the file's last piece
+abbrev pub part_of : Expected → Bool → Part
+part_of e last = record { path = e.folder; file = e.file; last = last }
+
+-- the last piece of a file, and then further ones; it is there only where the digest of all bytes is
+-- right, and else the fault in its place
+abbrev pub last_piece : Expected → Option Cause → List ℕ → PiecesRead → PiecesRead
+last_piece e None bytes further = piece (part_of e true) bytes further
+last_piece e (Some c) bytes further = refusal c
+
+-- the pieces of bytes of a file: so many whole ones, then the last one, and then further pieces of
+-- other files
+abbrev pub pieces_from : ℕ → Expected → Option Cause → List ℕ → PiecesRead → PiecesRead
+pieces_from zero e digest bytes further = last_piece e digest bytes further
+pieces_from (suc n) e digest bytes further =
+    piece (part_of e false) (take PIECE_LEN bytes)
+    (pieces_from n e digest (drop PIECE_LEN bytes) further)
+
+-- how many whole pieces of a file of so many bytes stand in front of its last one, which is not empty
+abbrev pub whole_pieces : ℕ → ℕ
+whole_pieces len = (len - 1) / PIECE_LEN
+
+-- the pieces of all bytes of a file, and then further ones
+abbrev pub pieces_of_bytes : Expected → List ℕ → PiecesRead → PiecesRead
+pieces_of_bytes e bytes further =
+    pieces_from (whole_pieces (length bytes)) e (hash_fault e.hash bytes) bytes further
+
+-- ---- one block
+
+-- the first failed test before a file's first piece: the positions, then the size
+abbrev pub position_or_size_fault : List ℕ → Expected → Option Cause
+position_or_size_fault payload e =
+    if not (has_positions_of payload e) then Some (DataOrder (e.folder, e.file) (file_pair payload))
+    else if not (length (contents_bytes payload) == e.size)
+    then Some (DataSize e.size (length (contents_bytes payload)))
+    else None
+
+-- the pieces, unless a test failed; then its fault in their place
+abbrev pub unless_refusal : Option Cause → PiecesRead → PiecesRead
+unless_refusal None pieces = pieces
+unless_refusal (Some c) pieces = refusal c
+
+-- the pieces of a payload of contents against the file that is expected next, and then further ones;
+-- where none is expected any contents are out of order, and (0, 0) was expected
+abbrev pub pieces_of_payload : List ℕ → (List Expected → PiecesRead) → List Expected → PiecesRead
+pieces_of_payload payload further [] = refusal (DataOrder (0, 0) (file_pair payload))
+pieces_of_payload payload further (e ∷ es) =
+    unless_refusal (position_or_size_fault payload e)
+    (pieces_of_bytes e (contents_bytes payload) (further es))
+
+-- the pieces from a block at an offset on, `further` being those behind it; a block that is no contents
+-- is passed over, and one of contents has the bytes of the positions
+abbrev pub pieces_at_block : BlockKind → List ℕ → ℕ → (List Expected → PiecesRead) → List Expected
+    → PiecesRead
+pieces_at_block Kinds.Contents payload at further es =
+    if nat_lt (length payload) POSITIONS_LEN then refusal (Truncated at)
+    else pieces_of_payload payload further es
+pieces_at_block kind payload at further es = further es
+
+-- ---- all of them
+
+-- the pieces that the blocks give, against the files that are expected
+unfoldable pub pieces_by_blocks : List Expected → Reading → PiecesRead
+pieces_by_blocks es done = unless_refusal (missing_fault es) no_piece
+pieces_by_blocks es (fault c) = refusal c
+pieces_by_blocks es (more b at r) =
+    pieces_at_block b.kind b.payload at (λ left. pieces_by_blocks left r) es
+
+-- the fault that ended the pieces, if one did
+abbrev pub refusal_in : PiecesRead → Option Cause
+refusal_in no_piece = None
+refusal_in (refusal c) = Some c
+refusal_in (piece part bytes pieces) = refusal_in pieces
+
+-- ---- joined
+
+-- the files from a piece on, where these bytes of its file were gathered: the file is given with its
+-- last part, and until then `further` goes on with the bytes
+abbrev pub file_given : Part → List ℕ → (List ℕ → FilesRead) → FilesRead
+file_given part bytes further =
+    if part.last
+    then given (record { folder = part.path; file = part.file; bytes = bytes }) (further [])
+    else further bytes
+
+-- the files whose pieces these are, where these bytes of the first file were gathered before
+abbrev pub files_joined : PiecesRead → List ℕ → FilesRead
+files_joined no_piece so_far = no_more
+files_joined (refusal c) so_far = refused c
+files_joined (piece part bytes pieces) so_far =
+    file_given part (so_far ++ bytes) (files_joined pieces)

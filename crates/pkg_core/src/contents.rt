@@ -1,0 +1,123 @@
+//! The values of a package whose front was read.
+//! The rules stand in `docs/formats.md`, "Tests of a container": the shape, the texts, and names
+//! that stand twice.
+
+ghost use Rattle.std.specs.Prelude.{◌≡◌, true, None, IfOk, IfErr, is_none};
+ghost use Rattle.adb_schema.specs.ReadFaults.{IsReadFault};
+ghost use Rattle.adb_schema.specs.Soundness.{payload_fault, root_value};
+ghost use Rattle.adb_view.specs.declared.tables.Which.TheVariants as Tables;
+ghost use Rattle.adb_view.specs.Adb.{payload_of};
+
+use crate::front::Front;
+use crate::laws::{bytes_are_small, tested_payloads_hold_sound_values};
+use crate::pack::PackageFault;
+use adb_schema::{
+    Checked, PackageView, ReadFault, View, no_text_is_bad_where_each_keeps_its_rule, repeated,
+};
+use adb_view::{Adb, Which, shape, values_of_few_visits_have_no_fault};
+use sha2::{Digest, Sha256};
+use std::alloc::Global;
+
+/// A package in a tree whose values are tested. They are lent from its front. Contracts see, by
+/// `Values` of `specs/`, the plain value and the bytes that hold it.
+#[derive(Clone, Copy)]
+pub struct Contents<'a> {
+    adb: Adb<'a>,
+    ghost tested: { is_none (payload_fault Tables.Package (payload_of adb)) ≡ true },
+}
+
+impl<'a> Contents<'a> {
+    ghost use Rattle.adb_schema.specs.SoundValues.{KeepsRules};
+    ghost use Rattle.adb_schema.specs.Views.{package_value};
+    ghost use Rattle.adb_schema.specs.SoundContainers.{IsSoundValue};
+    ghost use Rattle.adb_view.specs.Plain.{IsNormal};
+    ghost use Rattle.pkg_core.specs.Refusals.{IsFaultOf};
+    ghost use Rattle.pkg_core.specs.Front.{front_payload};
+    ghost use Rattle.pkg_core.specs.Values.{payload_of_contents, value_of_contents};
+    ghost use Rattle.sha2.specs.Sha256.{sha256};
+
+    /// Tests the values of a package whose front was read, in this order: the head of the payload,
+    /// its shape, its texts, and names that stand twice.
+    ///
+    /// # Errors
+    ///
+    /// `Bad` with the cause of the first test that fails, or `Memory`.
+    pub fn new(alloc: Global, front: &'a Front) -> Result<Contents<'a>, PackageFault>
+        ensures bad { IfErr result (λ fault. IsFaultOf fault
+            (payload_fault Tables.Package (front_payload front.entry.now))) }
+        ensures sound { IfOk result (λ _.
+            payload_fault Tables.Package (front_payload front.entry.now) ≡ None) }
+        ensures value { IfOk result (λ contents. value_of_contents contents
+            ≡ root_value Tables.Package (front_payload front.entry.now)) }
+        ensures payload { IfOk result (λ contents. payload_of_contents contents
+            ≡ front_payload front.entry.now) }
+    {
+        let adb = check_payload(alloc, front.payload())?;
+        Ok(Contents { adb })
+    }
+
+    /// The values of a package in a payload that passes all tests of one. They are not made again,
+    /// and no memory is taken.
+    pub fn open(payload: &'a [u8]) -> Contents<'a>
+        requires { payload_fault Tables.Package payload.now ≡ None }
+        ensures value { value_of_contents result ≡ root_value Tables.Package payload.entry.now }
+        ensures payload { payload_of_contents result ≡ payload.entry.now }
+    {
+        // The payload passes all tests, that of its head among them.
+        let Ok(adb) = Adb::new(payload) else {
+            unreachable!()
+        };
+        Contents { adb }
+    }
+
+    /// Each text and number of a package keeps the rule of its field: a folder's name is a path,
+    /// and so is a file's behind it.
+    pub fn values_keep_their_rules(&self)
+        ensures { KeepsRules Tables.Package (value_of_contents self.now) }
+    {
+        // A law that the proof needs; it computes nothing.
+        no_text_is_bad_where_each_keeps_its_rule();
+    }
+
+    /// The value of a package is sound and normal.
+    pub fn values_are_sound(&self)
+        ensures sound { IsSoundValue Tables.Package (value_of_contents self.now) }
+        ensures normal { IsNormal (value_of_contents self.now) }
+    {
+        // Laws that the proof needs; they compute nothing.
+        bytes_are_small(self.adb.payload());
+        tested_payloads_hold_sound_values();
+    }
+
+    /// The values of the package, as a view of its table.
+    pub fn view(&self) -> PackageView<'a>
+        ensures { package_value result ≡ value_of_contents self.now }
+    {
+        // A law that the proof needs; it computes nothing.
+        values_of_few_visits_have_no_fault();
+        PackageView::of(self.adb, self.adb.root())
+    }
+
+    /// The package's identity: the SHA-256 (FIPS 180-4) of the bytes that hold its values.
+    pub fn id(&self) -> [u8; 32]
+        ensures { result ≡ sha256 (payload_of_contents self.now) }
+    {
+        Sha256::digest(self.adb.payload())
+    }
+}
+
+/// Tests the payload of a package in the order that `new` tells, and gives it opened.
+fn check_payload<'a>(alloc: Global, payload: &'a [u8]) -> Result<Adb<'a>, ReadFault>
+    ensures bad { IfErr result
+        (λ fault. IsReadFault fault (payload_fault Tables.Package payload.entry.now)) }
+    ensures sound { IfOk result (λ _. payload_fault Tables.Package payload.entry.now ≡ None) }
+    ensures payload { IfOk result (λ adb. payload_of adb ≡ payload.entry.now) }
+{
+    let adb = Adb::new(payload)?;
+    let shaped = shape(adb, Which::Package)?;
+    let checked = Checked::new(alloc, shaped)?;
+    match repeated(alloc, &checked)? {
+        Some(cause) => Err(ReadFault::Bad(cause)),
+        None => Ok(adb),
+    }
+}

@@ -1,0 +1,188 @@
+//! A file of a package whose contents are handed in piece by piece, and what each piece is a part
+//! of.
+//! The rules stand in `docs/formats.md`, "The other blocks", the paragraph of pieces; the tests in
+//! the paragraph of blocks of contents above it.
+
+ghost use Rattle.std.specs.Prelude.{◌≡◌, ◌<◌, ◌≤◌, ◌+◌, ◌-◌, ℕ, List, [], ◌∷◌, ◌++◌, length, take, None, IfNone, IfOk, IfSome};
+ghost use Rattle.adb_schema.specs.Soundness.{file_pair};
+ghost use Rattle.pkg_core.specs.Contents.{Expected, POSITIONS_LEN, contents_bytes, files_by_blocks};
+ghost use Rattle.pkg_core.specs.Opened.{expected_of, left_in};
+ghost use Rattle.pkg_core.specs.Pieces.{PiecesRead, part_of, pieces_of_payload, position_or_size_fault, files_joined, pieces_by_blocks};
+ghost use Rattle.pkg_core.specs.Taking.{HasTaken, IsOpened, IsPartOf, IsTaken, IsTested, file_bytes_left, next_len};
+ghost use Rattle.adb_block.specs.Reading.{Reading};
+
+use crate::hasher::Hasher;
+use crate::walk::{POSITIONS_LEN, Walk, Wanted};
+use adb_schema::file_pair;
+use base_core::Cause;
+
+/// The check of a file whose contents are handed in: which one is due, and how many of its bytes
+/// were taken. Contracts see, by `Taking` of `specs/`, which bytes these were.
+#[derive(Drop)]
+pub struct FileCheck<'a> {
+    /// The file that is due.
+    wanted: Wanted<'a>,
+    /// How many of its bytes were taken.
+    done: u64,
+    /// What the bytes so far come to.
+    hasher: Hasher,
+}
+
+impl<'a> FileCheck<'a> {
+    /// The check of a file of which no byte was taken.
+    pub fn new(wanted: Wanted<'a>) -> FileCheck<'a>
+        ensures taken { HasTaken result [] }
+        ensures wanted { result.wanted ≡ wanted.entry }
+        ensures left { file_bytes_left result ≡ wanted.entry.size }
+    {
+        FileCheck {
+            wanted,
+            done: 0,
+            hasher: Hasher::new(wanted.hash),
+        }
+    }
+
+    /// How many bytes the next piece has: 65,536, or what is left of the file.
+    pub fn next_len(&self) -> usize
+        ensures { result ≡ next_len self.now }
+    {
+        let left = self.wanted.size.saturating_sub(self.done);
+        left.min(PIECE_LEN as u64) as usize
+    }
+
+    /// Takes the next piece, and gives which part of which file it is and, unless it is the last,
+    /// what is left of the file.
+    ///
+    /// # Errors
+    ///
+    /// `HashDiffers`, behind the last piece, where all bytes together do not have the file's
+    /// digest.
+    #[tactic(auto, using(crate::proofs::Taken::more_left, crate::proofs::Taken::last_good, crate::proofs::Taken::last_bad))]
+    pub fn take(self, bytes: &[u8]) -> Result<(Part, Option<FileCheck<'a>>), Cause>
+        requires { length bytes.now ≡ next_len self }
+        // Of a file of which `so_far` was taken these bytes are the next piece, and `left` stays.
+        ensures taken { (so_far left : List ℕ) (further : PiecesRead) → HasTaken self.entry so_far
+            → length (so_far ++ (bytes.now ++ left)) ≡ self.entry.wanted.size
+            → IsTaken self.entry so_far bytes.now left further result }
+        // Behind the last piece all bytes that were taken have the file's digest.
+        ensures digest { (so_far : List ℕ) → HasTaken self.entry so_far → IfOk result (λ taken.
+            IsTested self.entry.wanted.hash.now (so_far ++ bytes.now) taken.1) }
+        // The piece is a part of this file, and its bytes are taken off what is to come.
+        ensures part { IfOk result (IsPartOf self.entry) }
+        ensures left { IfOk result (λ taken. IfSome taken.1 (λ further.
+            file_bytes_left further ≡ file_bytes_left self.entry - length bytes.now)) }
+        // Only the last piece ends the file.
+        ensures more { IfOk result (λ taken. IfSome taken.1 (λ further.
+            0 < file_bytes_left further)) }
+        ensures all { IfOk result (λ taken. IfNone taken.1
+            (length bytes.now ≡ file_bytes_left self.entry)) }
+    {
+        let wanted = self.wanted;
+        let left = wanted.size.saturating_sub(self.done);
+        let len = bytes.len() as u64;
+        let mut hasher = self.hasher;
+        hasher.update(bytes);
+        if len < left {
+            let done = self.done + len;
+            let further = FileCheck {
+                wanted,
+                done,
+                hasher,
+            };
+            return Ok((part_of(wanted, false), Some(further)));
+        }
+        match hasher.fault(wanted.hash) {
+            Some(cause) => Err(cause),
+            None => Ok((part_of(wanted, true), None)),
+        }
+    }
+}
+
+/// The part that a piece of this file is, the last one or another.
+fn part_of(wanted: Wanted<'_>, last: bool) -> Part
+    ensures { result ≡ part_of (expected_of wanted.entry) last }
+{
+    Part {
+        path: wanted.folder,
+        file: wanted.file,
+        last,
+    }
+}
+
+/// Opens the file whose contents a block holds: the next one of the walk. The block's payload has
+/// so many bytes, and begins with these positions of a folder and of a file in it.
+///
+/// # Errors
+///
+/// First the positions are compared, then the size: `DataOrder`, with (0, 0) where no file is due,
+/// or `DataSize`.
+pub fn open_file<'a>(
+    walk: &mut Walk<'a>,
+    len: u64,
+    positions: &[u8; POSITIONS_LEN],
+) -> Result<FileCheck<'a>, Cause>
+    requires { POSITIONS_LEN ≤ len }
+    // Of each payload of this length that begins with these positions.
+    ensures opened { (payload : List ℕ) (further : List Expected → PiecesRead)
+        → length payload ≡ len → take POSITIONS_LEN payload ≡ positions.now
+        → IsOpened (pieces_of_payload payload further (left_in walk.old)) payload
+        (further (left_in walk.new)) result }
+    ensures left { IfOk result (λ file. POSITIONS_LEN + file_bytes_left file ≡ len) }
+    ensures walk { IfOk result (λ file.
+        left_in walk.old ≡ expected_of file.wanted ∷ left_in walk.new) }
+{
+    let found = file_pair(positions);
+    let Some(wanted) = walk.next() else {
+        return Err(Cause::DataOrder {
+            expected: (0, 0),
+            found,
+        });
+    };
+    match position_or_size_fault(found, len - POSITIONS_LEN as u64, wanted) {
+        Some(cause) => Err(cause),
+        None => Ok(FileCheck::new(wanted)),
+    }
+}
+
+/// Why contents are not those of a file, by what is known before their bytes: first the positions
+/// are compared, then the size.
+fn position_or_size_fault(found: (u32, u32), size: u64, wanted: Wanted<'_>) -> Option<Cause>
+    ensures exact { (payload : List ℕ) → length (contents_bytes payload) ≡ size
+        → file_pair payload ≡ found
+        → result ≡ position_or_size_fault payload (expected_of wanted.entry) }
+    ensures size { result ≡ None → size ≡ wanted.entry.size }
+{
+    let expected = (wanted.folder, wanted.file);
+    if found != expected {
+        return Some(Cause::DataOrder { expected, found });
+    }
+    if size != wanted.size {
+        return Some(Cause::DataSize {
+            wanted: wanted.size,
+            found: size,
+        });
+    }
+    None
+}
+
+/// How many bytes a piece has at most, which is what is held of a file's contents at once.
+pub const PIECE_LEN: usize = 65536;
+
+/// Which file a piece is a part of, by the position of its folder (`path`) and its position in the
+/// folder, which count from 1, and whether the piece is the last one of the file.
+#[derive(Clone, Copy, Debug, PartialEq, Eq)]
+pub struct Part {
+    /// The position of the folder.
+    pub path: u32,
+    /// The position of the file in the folder.
+    pub file: u32,
+    /// Whether it is the last piece of the file.
+    pub last: bool,
+}
+
+/// The pieces of each file, joined in order, are its contents, and the first failed test is the
+/// same: what the blocks give in pieces is what they give as whole files.
+pub fn the_pieces_of_each_file_joined_are_its_contents()
+    ensures { (expected : List Expected) (r : Reading)
+        → files_joined (pieces_by_blocks expected r) [] ≡ files_by_blocks expected r }
+{}

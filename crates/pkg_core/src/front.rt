@@ -1,0 +1,101 @@
+//! The front of a container in a tree: its header and its first block.
+//! The rules stand in `docs/formats.md`, "The other blocks", the paragraph of a front.
+
+ghost use Rattle.std.specs.Prelude.{◌≤◌};
+
+use base_core::{Cause, Disk};
+use std::alloc::AllocError;
+use thiserror::Error;
+
+/// Why the front of a container is refused.
+#[derive(Clone, Copy, Debug, PartialEq, Eq, Drop, Error)]
+pub enum FrontFault {
+    /// The first test that failed.
+    #[error("bad container")]
+    Bad(Cause),
+    /// The tree failed.
+    #[error("the tree failed")]
+    Disk,
+    /// There was no memory.
+    #[error("out of memory")]
+    Memory,
+}
+
+impl From<Cause> for FrontFault {
+    ghost use Rattle.std.specs.Prelude.{◌≡◌};
+    ghost use Rattle.pkg_core.specs.declared.front.FrontFault.TheVariants.{Bad};
+
+    ghost from_gives = { λ cause fault. fault ≡ Bad cause };
+
+    /// A failed test is one of the front.
+    fn from(cause: Cause) -> FrontFault {
+        FrontFault::Bad(cause)
+    }
+}
+
+impl From<Disk> for FrontFault {
+    ghost use Rattle.std.specs.Prelude.{◌≡◌};
+    ghost use Rattle.pkg_core.specs.declared.front.FrontFault.TheVariants.{Disk as DiskFault};
+
+    ghost from_gives = { λ _ fault. fault ≡ DiskFault };
+
+    /// A failed call of the tree is a fault of it.
+    fn from(_: Disk) -> FrontFault {
+        FrontFault::Disk
+    }
+}
+
+impl From<AllocError> for FrontFault {
+    ghost use Rattle.std.specs.Prelude.{◌≡◌};
+    ghost use Rattle.pkg_core.specs.declared.front.FrontFault.TheVariants.{Memory};
+
+    ghost from_gives = { λ _ fault. fault ≡ Memory };
+
+    /// Where no memory was given the front has none.
+    fn from(_: AllocError) -> FrontFault {
+        FrontFault::Memory
+    }
+}
+
+/// The front of a container that was read: its schema, the payload of its first block, the file's
+/// length in bytes, and the offset behind that block. Contracts see, by `Front` of `specs/`, the
+/// payload, the two numbers, and of which files it is the front.
+#[derive(Drop)]
+pub struct Front {
+    /// The schema that the file's header tells.
+    pub(crate) schema: u32,
+    /// The payload of the first block.
+    pub(crate) payload: Vec<u8>,
+    /// How many bytes the file has.
+    pub(crate) len: u64,
+    /// The offset behind the first block and its padding.
+    pub(crate) at: u64,
+    ghost within: { at ≤ len },
+}
+
+impl Front {
+    ghost use Rattle.std.specs.Prelude.{◌≡◌};
+    ghost use Rattle.pkg_core.specs.Front.{front_end, front_file_len, front_payload};
+
+    /// The payload of the first block.
+    pub fn payload(&self) -> &[u8]
+        ensures { result.now ≡ front_payload self.now }
+    {
+        &self.payload
+    }
+
+    /// How many bytes the file of the front has.
+    pub fn file_len(&self) -> u64
+        ensures { result ≡ front_file_len self.now }
+    {
+        self.len
+    }
+
+    /// The offset behind the first block and its padding.
+    pub fn end(&self) -> u64
+        ensures exact { result ≡ front_end self.now }
+        ensures within { result ≤ front_file_len self.now }
+    {
+        self.at
+    }
+}

@@ -1,0 +1,68 @@
+//! A digest that is taken piece by piece.
+//! The rules stand in `docs/formats.md`, "The other blocks", the digests.
+
+ghost use Rattle.std.specs.Prelude.{◌≡◌, ℕ, List, [], ◌++◌};
+ghost use Rattle.pkg_core.specs.Contents.{hash_fault};
+ghost use Rattle.pkg_core.specs.Hashing.{HoldsFor};
+
+use crate::checks::{sha1_fault, sha256_fault, sha512_fault};
+use base_core::Cause;
+use sha1::Sha1;
+use sha2::{Digest, Sha256, Sha512};
+
+/// A hasher of the function that a digest's length tells: SHA-1, SHA-256 or SHA-512 (FIPS 180-4).
+/// A digest of another length is not looked at.
+#[derive(Drop)]
+pub enum Hasher {
+    /// For a digest of 20 bytes.
+    Sha1(Sha1),
+    /// For a digest of 32 bytes.
+    Sha256(Sha256),
+    /// For a digest of 64 bytes.
+    Sha512(Sha512),
+    /// For a digest of another length: nothing is compared.
+    Other,
+}
+
+impl Hasher {
+    /// A hasher whose digest is to be compared with this one, before the first byte. The lengths
+    /// are those of SHA-1, SHA-256 and SHA-512.
+    #[tactic(auto, unfolding(crate::specs::Contents::hash_fault))]
+    pub fn new(hash: &[u8]) -> Hasher
+        ensures { HoldsFor result hash.now [] }
+    {
+        match hash.len() {
+            20 => Hasher::Sha1(Sha1::new()),
+            32 => Hasher::Sha256(Sha256::new()),
+            64 => Hasher::Sha512(Sha512::new()),
+            _ => Hasher::Other,
+        }
+    }
+
+    /// Takes further bytes of the message.
+    pub fn update(&mut self, bytes: &[u8])
+        ensures { (hash so_far : List ℕ) → HoldsFor self.old hash so_far
+            → HoldsFor self.new hash (so_far ++ bytes.now) }
+    {
+        match self {
+            Hasher::Sha1(hasher) => hasher.update(bytes),
+            Hasher::Sha256(hasher) => hasher.update(bytes),
+            Hasher::Sha512(hasher) => hasher.update(bytes),
+            Hasher::Other => {}
+        }
+    }
+
+    /// Why the bytes that were taken do not have the digest, if they do not.
+    #[tactic(auto, unfolding(crate::specs::Contents::hash_fault))]
+    pub fn fault(self, hash: &[u8]) -> Option<Cause>
+        ensures { (so_far : List ℕ) → HoldsFor self hash.now so_far
+            → result ≡ hash_fault hash.now so_far }
+    {
+        match self {
+            Hasher::Sha1(hasher) if hash.len() == 20 => sha1_fault(hash, hasher.finalize()),
+            Hasher::Sha256(hasher) if hash.len() == 32 => sha256_fault(hash, hasher.finalize()),
+            Hasher::Sha512(hasher) if hash.len() == 64 => sha512_fault(hash, hasher.finalize()),
+            _ => None,
+        }
+    }
+}

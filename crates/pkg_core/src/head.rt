@@ -1,0 +1,105 @@
+//! The header of a block in a file of a tree.
+//! The rules stand in `docs/formats.md`, "Container", the paragraph of a block.
+
+ghost use Rattle.std.specs.Prelude.{◌≡◌, ◌≤◌, ◌<◌, ◌+◌, ◌^◌, ℕ, [], ◌++◌, length, IfOk};
+ghost use Rattle.adb_block.specs.Frames.{HoldsHead, head_len};
+ghost use Rattle.pkg_core.specs.Seen.{IsSeen, ReadsFile, tree_fault};
+
+use adb_block::head_len;
+use base_core::{Disk, Name, Tree};
+use std::marker::Model;
+
+/// What was read of a block's header, at most 16 bytes: a short header has 4, an extended one 16.
+/// Contracts see the bytes.
+#[derive(Drop)]
+pub struct HeadBytes {
+    /// Room for an extended header; what was not read is 0.
+    bytes: [u8; 16],
+    /// How many bytes were read: 0, 4 or 16.
+    len: usize,
+}
+
+impl Model for HeadBytes {
+    ghost use Rattle.std.specs.Prelude.{ℕ, ◌≤◌, List, take};
+
+    ghost Value = { List ℕ };
+
+    ghost view = { λ head. take head.len head.bytes };
+
+    ghost invariant = { λ head. head.len ≤ 16 };
+}
+
+impl HeadBytes {
+    /// The bytes of the header that were read.
+    pub fn bytes(&self) -> &[u8]
+        ensures { result.now ≡ self.now }
+    {
+        &self.bytes[..self.len]
+    }
+
+    /// Reads the header of the block at an offset, from which on so many bytes are left. No byte
+    /// is read that does not belong to it; of one that is not whole at most the first four are.
+    ///
+    /// # Errors
+    ///
+    /// `Disk` where the tree failed.
+    #[tactic(auto, using(crate::proofs::Heads::holds_none, crate::proofs::Heads::holds_short, crate::proofs::Heads::holds_cut, crate::proofs::Heads::holds_both, crate::proofs::Heads::short_both, crate::proofs::SeenBytes::seen_both, crate::proofs::SeenBytes::seen_by_read, crate::proofs::SeenBytes::proper_where_long))]
+    pub fn read<T: Tree>(tree: &mut T, name: &Name, at: u64, left: u64) -> Result<HeadBytes, Disk>
+        // Offsets have 64 bits.
+        requires { at + left < 2 ^ 64 }
+        ensures seen { IfOk result (λ head. (file_len : ℕ)
+            → IsSeen (T.history tree.old) name.now file_len at head) }
+        ensures holds { IfOk result (λ head. HoldsHead head left) }
+        ensures short { IfOk result (λ head. length head ≤ head_len head) }
+        // The tree stays as it is; a failed tree is answered only where it failed, and no call is a
+        // misuse where the tree shows the file, as long as it was.
+        ensures tree { (file_len : ℕ) → at + left ≤ file_len
+            → ReadsFile name.now file_len tree_fault (T.history tree.old) (T.history tree.new)
+            (T.counts tree.old) (T.counts tree.new) result }
+    {
+        // The first four bytes tell whether the header is a short one, or has twelve more.
+        if left < 4 {
+            return Ok(no_head());
+        }
+        let mut first = [0; 4];
+        tree.read_at(name, at, &mut first)?;
+        let len = head_len(&first);
+        if len == 4 || len > left {
+            return Ok(head_of_four(first));
+        }
+        let mut rest = [0; 12];
+        tree.read_at(name, at + 4, &mut rest)?;
+        Ok(head_of_sixteen(first, rest))
+    }
+}
+
+/// The header of which nothing is there.
+fn no_head() -> HeadBytes
+    ensures { result ≡ [] }
+{
+    HeadBytes {
+        bytes: [0; 16],
+        len: 0,
+    }
+}
+
+/// The header of which four bytes were read: a short one, or the front of one that is not whole.
+#[tactic(auto, using(crate::proofs::Heads::four_kept))]
+fn head_of_four(first: [u8; 4]) -> HeadBytes
+    ensures { result ≡ first }
+{
+    let mut bytes = [0; 16];
+    bytes[..4].copy_from_slice(&first);
+    HeadBytes { bytes, len: 4 }
+}
+
+/// The header of which all sixteen bytes were read: an extended one.
+#[tactic(auto, using(crate::proofs::Heads::sixteen_kept))]
+fn head_of_sixteen(first: [u8; 4], rest: [u8; 12]) -> HeadBytes
+    ensures { result ≡ first ++ rest }
+{
+    let mut bytes = [0; 16];
+    bytes[..4].copy_from_slice(&first);
+    bytes[4..].copy_from_slice(&rest);
+    HeadBytes { bytes, len: 16 }
+}

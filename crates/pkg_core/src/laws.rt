@@ -1,0 +1,71 @@
+//! What follows from the definitions, for every package.
+//! Each is a row of the README of this crate; the rules stand in `docs/formats.md`, "Tests of a
+//! container".
+ghost use Rattle.std.specs.Prelude.{◌≡◌, ◌≢◌, ◌<◌, ℕ, All, List, None, Some};
+ghost use Rattle.std.specs.Option.{option_or};
+ghost use Rattle.adb_block.specs.Reading.{reading_of};
+ghost use Rattle.adb_schema.specs.SoundContainers.{IsSoundValue};
+ghost use Rattle.adb_schema.specs.Soundness.{first_fault, payload_fault, payload_in, root_value};
+ghost use Rattle.adb_schema.specs.declared.read.TheConstants.{PACKAGE_WORD};
+ghost use Rattle.adb_view.specs.declared.tables.Which.{Which};
+ghost use Rattle.adb_view.specs.declared.tables.Which.TheVariants as Tables;
+ghost use Rattle.adb_view.specs.Plain.{IsNormal};
+ghost use Rattle.base_core.specs.declared.cause.Cause.{Cause};
+ghost use Rattle.base_core.specs.declared.cause.Cause.TheVariants.{WrongSchema};
+ghost use Rattle.pkg_core.specs.Contents.{contents_fault, expected_contents};
+ghost use Rattle.pkg_core.specs.Whole.{container_fault};
+ghost use Rattle.pkg_core.specs.Front.{IsFrontOf, behind_front, front_fault, front_payload};
+ghost use Rattle.pkg_core.specs.declared.front.Front.{Front};
+
+use adb_fields::no_name_is_repeated_where_each_stands_once;
+use adb_schema::no_text_is_bad_where_each_keeps_its_rule;
+use adb_view::{values_are_normal, values_have_their_shape, values_of_few_visits_have_no_fault};
+
+/// The tests of a package's front, and then those of its values, are the tests that a package is
+/// read whole by: a failed test of the front is the first one of the file, and where the front is
+/// read the first one of the file is that of its values.
+pub fn a_front_and_its_values_are_tested_as_a_whole_package()
+    ensures front { (file : List ℕ) (cause : Cause) → front_fault PACKAGE_WORD file ≡ Some cause
+        → first_fault Tables.Package file ≡ Some cause }
+    ensures values { (file : List ℕ) (front : Front) → IsFrontOf PACKAGE_WORD file front
+        → first_fault Tables.Package file ≡ payload_fault Tables.Package (front_payload front) }
+{}
+
+/// The payload that a front holds is that of its file.
+pub fn a_front_holds_the_payload_of_its_file()
+    ensures { (file : List ℕ) (front : Front) → IsFrontOf PACKAGE_WORD file front
+        → payload_in file ≡ front_payload front }
+{}
+
+/// A file that has a package's front is tested by its values and then by the blocks behind them; a
+/// failed test of the front, but for its schema, is the first one of the file.
+pub fn a_package_is_tested_by_its_front_and_then_by_its_contents()
+    ensures front { (file : List ℕ) (cause : Cause) → front_fault PACKAGE_WORD file ≡ Some cause
+        → ((found : ℕ) → cause ≢ WrongSchema found) → container_fault file ≡ Some cause }
+    ensures contents { (file : List ℕ) (front : Front) → IsFrontOf PACKAGE_WORD file front
+        → container_fault file
+        ≡ option_or (payload_fault Tables.Package (front_payload front))
+        (contents_fault (expected_contents (root_value Tables.Package (front_payload front)))
+        (reading_of (behind_front front file))) }
+{}
+
+/// What a payload that passes every test holds: a value that has the shape of its table, in which
+/// each text and number keeps the rule of its field and no name stands twice; of bytes, it is
+/// normal.
+pub fn tested_payloads_hold_sound_values()
+    ensures value { (which : Which) (payload : List ℕ) → payload_fault which payload ≡ None
+        → IsSoundValue which (root_value which payload) }
+    ensures normal { (which : Which) (payload : List ℕ) → payload_fault which payload ≡ None
+        → All (λ b. b < 256) payload → IsNormal (root_value which payload) }
+{
+    values_of_few_visits_have_no_fault();
+    values_have_their_shape();
+    values_are_normal();
+    no_text_is_bad_where_each_keeps_its_rule();
+    no_name_is_repeated_where_each_stands_once();
+}
+
+/// Each byte is below 256.
+pub fn bytes_are_small(bytes: &[u8])
+    ensures { All (λ b. b < 256) bytes.now }
+{}

@@ -1,0 +1,170 @@
+//! Where a reader stands in the blocks of a package, and what the next block comes to.
+//! The rules stand in `docs/formats.md`, "The other blocks"; the framing of a block in "Container".
+
+ghost use Rattle.std.specs.Prelude.{◌≡◌, ◌≤◌, ◌+◌, ◌-◌, ℕ, List, None, Some, Ok, length, drop, IfOk, IfSome, OnOk};
+ghost use Rattle.adb_block.specs.Framing.{ended};
+ghost use Rattle.adb_block.specs.Frames.{IsFramed, raw_size};
+ghost use Rattle.adb_block.specs.declared.block.BlockKind.TheVariants as Kinds;
+ghost use Rattle.pkg_core.specs.Places.{HasAllLeft, HasPositions, IsOfContents, IsStepped, WalksOn, place_behind, step_at, whole_size};
+ghost use Rattle.pkg_core.specs.declared.place.Step.TheVariants.{End as Ended};
+
+use crate::file::{FileCheck, open_file};
+use crate::walk::{POSITIONS_LEN, Walk};
+use adb_block::{BlockKind, Frame, padding_of};
+use base_core::Cause;
+
+/// Where a reader stands in the blocks of a package behind the first one: in a file of `len` bytes,
+/// behind a block of the kind `last`, at the offset of the next block; and the walk over the files
+/// whose contents are due.
+#[derive(Clone, Copy)]
+pub struct BlockPlace<'a> {
+    /// How many bytes the file has.
+    pub len: u64,
+    /// The files whose contents are due.
+    pub walk: Walk<'a>,
+    /// The kind of the block before.
+    pub last: BlockKind,
+    /// The offset of the next block.
+    pub at: u64,
+}
+
+/// What a block behind the first one comes to.
+#[derive(Drop)]
+pub enum Step<'a> {
+    /// No block is left, and no file is due.
+    End,
+    /// The block holds no contents.
+    Passed,
+    /// The contents of the next file begin.
+    Opened(FileCheck<'a>),
+}
+
+impl<'a> BlockPlace<'a> {
+    /// Goes on behind the block that stands there: `framing` is what its header frames (`frame_of`
+    /// of `adb_block`), and `positions` are the first eight bytes of its payload, which count only
+    /// where it has as many.
+    ///
+    /// # Errors
+    ///
+    /// `Truncated` where contents have fewer than eight bytes; those of `open_file`; and
+    /// `DataOrder` with (0, 0) where no block is left and a file is due.
+    pub fn step(
+        &mut self,
+        framing: Option<Frame>,
+        positions: &[u8; POSITIONS_LEN],
+    ) -> Result<Step<'a>, Cause>
+        // The place, and the block that stands there, lie within the file.
+        requires at { self.old.at ≤ self.old.len }
+        requires fits { IfSome framing (λ frame. raw_size frame ≤ self.old.len - self.old.at) }
+        // For each file that is so long and has this block there.
+        ensures step { (file : List ℕ) → length file ≡ self.old.len
+            → IsFramed (Ok framing) (drop self.old.at file) (step_at self.old file)
+            → HasPositions framing positions.now self.old file
+            → IsStepped framing self.old file result self.new }
+        // A reader stands behind the block then, unless a test failed.
+        ensures len { self.new.len ≡ self.old.len }
+        ensures behind { IfSome framing (λ frame. OnOk result (self.new.at
+            ≡ self.old.at + whole_size frame (self.old.len - self.old.at))) }
+        ensures within { self.new.at ≤ self.new.len }
+        // Of a file that is opened all bytes are to come; only contents open one, which is the next
+        // of the walk; and the end is told only where no block is left.
+        ensures left { IfSome framing (λ frame. IfOk result (HasAllLeft frame)) }
+        ensures kind { IfSome framing (λ frame. IfOk result (IsOfContents frame)) }
+        ensures walk { IfOk result (λ step. WalksOn self.old.walk step self.new.walk) }
+        ensures ended { framing ≡ None → IfOk result (λ step. step ≡ Ended) }
+    {
+        match framing {
+            None => self.end(),
+            Some(frame) => self.step_over(frame, positions),
+        }
+    }
+
+    /// Ends the walk where no block is left: no file may be due then. The clauses are those of
+    /// `step`.
+    #[tactic(auto, using(crate::proofs::Placed::end_good, crate::proofs::Placed::end_bad))]
+    fn end(&mut self) -> Result<Step<'a>, Cause>
+        ensures step { (file : List ℕ) → step_at self.old file ≡ ended
+            → IsStepped None self.old file result self.new }
+        ensures len { self.new.len ≡ self.old.len }
+        ensures at { self.new.at ≡ self.old.at }
+        ensures walk { IfOk result (λ step. WalksOn self.old.walk step self.new.walk) }
+        ensures ended { IfOk result (λ step. step ≡ Ended) }
+    {
+        match self.walk.end() {
+            Ok(()) => Ok(Step::End),
+            Err(cause) => Err(cause),
+        }
+    }
+
+    /// Goes on behind a block that is there: one of contents opens a file, and another is passed.
+    /// The clauses are those of `step`.
+    fn step_over(
+        &mut self,
+        frame: Frame,
+        positions: &[u8; POSITIONS_LEN],
+    ) -> Result<Step<'a>, Cause>
+        requires at { self.old.at ≤ self.old.len }
+        requires fits { raw_size frame ≤ self.old.len - self.old.at }
+        ensures step { (file : List ℕ) → length file ≡ self.old.len
+            → IsFramed (Ok (Some frame)) (drop self.old.at file) (step_at self.old file)
+            → HasPositions (Some frame) positions.now self.old file
+            → IsStepped (Some frame) self.old file result self.new }
+        ensures len { self.new.len ≡ self.old.len }
+        ensures behind { OnOk result (self.new.at
+            ≡ self.old.at + whole_size frame (self.old.len - self.old.at)) }
+        ensures within { self.new.at ≤ self.new.len }
+        ensures left { IfOk result (HasAllLeft frame) }
+        ensures kind { IfOk result (IsOfContents frame) }
+        ensures walk { IfOk result (λ step. WalksOn self.old.walk step self.new.walk) }
+    {
+        match frame.kind {
+            BlockKind::Contents => self.open(frame, positions),
+            BlockKind::Adb | BlockKind::Signature => {
+                self.pass(frame);
+                Ok(Step::Passed)
+            }
+        }
+    }
+
+    /// Opens the file whose contents this block holds. The clauses are those of `step`.
+    fn open(&mut self, frame: Frame, positions: &[u8; POSITIONS_LEN]) -> Result<Step<'a>, Cause>
+        requires at { self.old.at ≤ self.old.len }
+        requires fits { raw_size frame ≤ self.old.len - self.old.at }
+        requires kind { frame.kind ≡ Kinds.Contents }
+        ensures step { (file : List ℕ) → length file ≡ self.old.len
+            → IsFramed (Ok (Some frame)) (drop self.old.at file) (step_at self.old file)
+            → HasPositions (Some frame) positions.now self.old file
+            → IsStepped (Some frame) self.old file result self.new }
+        ensures len { self.new.len ≡ self.old.len }
+        ensures behind { OnOk result (self.new.at
+            ≡ self.old.at + whole_size frame (self.old.len - self.old.at)) }
+        ensures within { self.new.at ≤ self.new.len }
+        ensures left { IfOk result (HasAllLeft frame) }
+        ensures kind { IfOk result (IsOfContents frame) }
+        ensures walk { IfOk result (λ step. WalksOn self.old.walk step self.new.walk) }
+    {
+        if frame.payload_len < POSITIONS_LEN as u64 {
+            return Err(Cause::Truncated { at: self.at });
+        }
+        match open_file(&mut self.walk, frame.payload_len, positions) {
+            Ok(file) => {
+                self.pass(frame);
+                Ok(Step::Opened(file))
+            }
+            Err(cause) => Err(cause),
+        }
+    }
+
+    /// Goes on behind a block and its padding, as much of it as is there.
+    fn pass(&mut self, frame: Frame)
+        requires at { self.old.at ≤ self.old.len }
+        requires fits { raw_size frame ≤ self.old.len - self.old.at }
+        ensures { self.new ≡ place_behind self.old frame }
+    {
+        let left = self.len - self.at;
+        let raw = frame.head_len + frame.payload_len;
+        let padding = padding_of(raw as usize) as u64;
+        self.at += raw + padding.min(left - raw);
+        self.last = frame.kind;
+    }
+}

@@ -1,0 +1,197 @@
+//! How the front of a container is read from a tree.
+//! The rules stand in `docs/formats.md`, "The other blocks", the paragraph of a front; the tests
+//! and their order in "Container", the table.
+
+ghost use Rattle.std.specs.Prelude.{◌≡◌, ◌≤◌, ◌+◌, ◌-◌, ℕ, List, Option, None, true, length, min, take, IfOk, IfErr, IfSome};
+ghost use Rattle.adb_block.specs.Framing.{next_step};
+ghost use Rattle.adb_block.specs.Frames.{HoldsHead, IsFramedBy, head_len, raw_size};
+ghost use Rattle.adb_block.specs.Header.{header_of};
+ghost use Rattle.adb_block.specs.Piece.{comes_after, padding_of};
+ghost use Rattle.base_core.specs.Calls.{IfObservable};
+ghost use Rattle.base_core.specs.Read.{OnlyReads};
+ghost use Rattle.base_core.specs.Tree.{files_of};
+ghost use Rattle.pkg_core.specs.Front.{IsFrontOf, IsFrontRead, IsNotBad, IsPresentRead, front_end, front_file_len};
+ghost use Rattle.pkg_core.specs.Seen.{HasAt, IsSeen, IsSeenIn, ReadsFile};
+ghost use Rattle.pkg_core.specs.declared.front.FrontFault.TheVariants.{Disk as DiskFault};
+
+use crate::front::{Front, FrontFault};
+use crate::head::HeadBytes;
+use adb_block::{Blocks, Frame, frame_of, padding_of};
+use adb_view::Adb;
+use base_core::{Cause, Name, Tree};
+use std::alloc::Global;
+use std::marker::Model;
+
+/// Reads the front of a container (apk-v3(5)): the file's header, its schema, which is to be this
+/// one, and the first block with the head of its payload. None comes exactly where the file is
+/// absent. No other part of the file is read, and the tree stays as it is, whatever the answer.
+///
+/// # Errors
+///
+/// `Bad` with the cause of the first test that fails, `Disk` where the tree failed, or `Memory`.
+pub fn read_front<T: Tree>(
+    alloc: Global,
+    tree: &mut T,
+    name: &Name,
+    schema: u32,
+) -> Result<Option<Front>, FrontFault>
+    // The answer is that for some file, which is the one under the name where the tree tells it.
+    ensures front { (found : Option (List ℕ)) × IfObservable (T.history tree.old) (λ v.
+        found ≡ files_of v name.now) × IsFrontRead schema found result }
+    // And what is held is the front of each file that is so long, and has the bytes that were seen.
+    ensures seen { IfOk result (λ found. IfSome found (λ front. (seen : List ℕ)
+        × IsSeenIn (T.history tree.old) name.now (front_file_len front) 0 seen
+        × (front_end front ≡ length seen)
+        × ((file : List ℕ) → length file ≡ front_file_len front → HasAt file 0 seen
+        → IsFrontOf schema file front))) }
+    // The tree stays as it is; a failed tree is answered only where it failed, and no call is a
+    // misuse where the tree tells its files.
+    ensures tree { OnlyReads DiskFault (T.history tree.old) (T.history tree.new)
+        (T.counts tree.old) (T.counts tree.new) result }
+{
+    match tree.size(name)? {
+        Some(len) => {
+            let front = read_present(alloc, tree, name, len, schema)?;
+            Ok(Some(front))
+        }
+        None => Ok(None),
+    }
+}
+
+/// The header of a file: its first bytes, at most eight, and all that there are of fewer. Contracts
+/// see the bytes.
+#[derive(Drop)]
+struct Header {
+    /// `ADB.` and the schema; what was not read is 0.
+    bytes: [u8; 8],
+    /// How many bytes were read.
+    len: usize,
+}
+
+impl Model for Header {
+    ghost use Rattle.std.specs.Prelude.{ℕ, ◌≤◌, List, take};
+
+    ghost Value = { List ℕ };
+
+    ghost view = { λ header. take header.len header.bytes };
+
+    ghost invariant = { λ header. header.len ≤ 8 };
+}
+
+impl Header {
+    /// Reads the first bytes of a file that has so many bytes.
+    #[tactic(auto, using(crate::proofs::SeenBytes::seen_by_read, crate::proofs::SeenBytes::proper_where_long))]
+    fn read<T: Tree>(tree: &mut T, name: &Name, len: u64) -> Result<Header, FrontFault>
+        ensures len { IfOk result (λ header. length header ≡ min len 8) }
+        ensures seen { IfOk result (λ header. (file_len : ℕ)
+            → IsSeen (T.history tree.old) name.now file_len 0 header) }
+        ensures disk { IfErr result (λ fault. fault ≡ DiskFault) }
+        // The tree stays as it is; a failed tree is answered only where it failed, and no call is a
+        // misuse where the tree shows the file, as long as it was.
+        ensures tree { ReadsFile name.now len DiskFault (T.history tree.old) (T.history tree.new)
+            (T.counts tree.old) (T.counts tree.new) result }
+    {
+        let mut bytes = [0; 8];
+        let some = len.min(8) as usize;
+        tree.read_at(name, 0, &mut bytes[..some])?;
+        Ok(Header { bytes, len: some })
+    }
+
+    /// The schema that the header tells, or the first failed test.
+    fn schema(&self) -> Result<u32, Cause>
+        ensures { result ≡ header_of self.now }
+    {
+        let blocks = Blocks::new(&self.bytes[..self.len])?;
+        Ok(blocks.schema())
+    }
+}
+
+/// Reads so many bytes of a file, from an offset on.
+#[tactic(auto, using(crate::proofs::SeenBytes::seen_by_read, crate::proofs::SeenBytes::proper_where_long))]
+fn read_payload<T: Tree>(
+    alloc: Global,
+    tree: &mut T,
+    name: &Name,
+    at: u64,
+    len: u64,
+) -> Result<Vec<u8>, FrontFault>
+    ensures len { IfOk result (λ payload. length payload.items ≡ len) }
+    ensures seen { IfOk result (λ payload. (file_len : ℕ)
+        → IsSeen (T.history tree.old) name.now file_len at payload.items) }
+    ensures good { IfErr result (λ fault. IsNotBad fault) }
+    // The tree stays as it is; a failed tree is answered only where it failed, and no call is a
+    // misuse where the tree shows the file, as long as it was.
+    ensures tree { (file_len : ℕ) → at + len ≤ file_len → ReadsFile name.now file_len DiskFault
+        (T.history tree.old) (T.history tree.new) (T.counts tree.old) (T.counts tree.new) result }
+{
+    let mut payload = vec![in alloc; 0u8; len as usize]?;
+    tree.read_at(name, at, &mut payload)?;
+    Ok(payload)
+}
+
+/// Reads the front of a file that has so many bytes. The header of the first block stands at offset
+/// 8, behind the file's.
+fn read_present<T: Tree>(
+    alloc: Global,
+    tree: &mut T,
+    name: &Name,
+    len: u64,
+    schema: u32,
+) -> Result<Front, FrontFault>
+    ensures len { IfOk result (λ front. front.len ≡ len) }
+    ensures front { (seen : List ℕ) × IsSeenIn (T.history tree.old) name.now len 0 seen
+        × ((file : List ℕ) → length file ≡ len → HasAt file 0 seen
+        → IsPresentRead schema result (length seen) file) }
+    // The tree stays as it is; a failed tree is answered only where it failed, and no call is a
+    // misuse where the tree shows the file, as long as it was.
+    ensures tree { ReadsFile name.now len DiskFault (T.history tree.old) (T.history tree.new)
+        (T.counts tree.old) (T.counts tree.new) result }
+{
+    let header = Header::read(tree, name, len)?;
+    let found = header.schema()?;
+    if found != schema {
+        return Err(FrontFault::Bad(Cause::WrongSchema { found }));
+    }
+    // The file's header has eight bytes, and the first block stands behind it.
+    let head = HeadBytes::read(tree, name, 8, len - 8)?;
+    let framed = first_framed(len - 8, &head)?;
+    let padding = padding_behind(framed, len - 8);
+    let start = 8 + framed.head_len;
+    let payload = read_payload(alloc, tree, name, start, framed.payload_len)?;
+    Adb::new(&payload)?;
+    Ok(Front {
+        schema,
+        payload,
+        len,
+        at: start + framed.payload_len + padding,
+    })
+}
+
+/// What the header of the first block of a file frames, where so many bytes are left behind the
+/// file's own header, of eight bytes.
+fn first_framed(left: u64, head: &HeadBytes) -> Result<Frame, Cause>
+    requires holds { HoldsHead head.now left }
+    requires short { length head.now ≤ head_len head.now }
+    ensures exact { (bytes : List ℕ) → length bytes ≡ left → take (length head.now) bytes ≡ head.now
+        → IsFramedBy result bytes (next_step None 8 bytes) }
+    ensures order { IfOk result (λ framed. comes_after None framed.kind ≡ true) }
+    ensures within { IfOk result (λ framed. (raw_size framed ≤ left)
+        × (framed.head_len ≡ length head.now)) }
+{
+    match frame_of(None, 8, head.bytes(), left)? {
+        Some(framed) => Ok(framed),
+        // A file that ends in front of its first block is a fault, and not the end.
+        None => unreachable!(),
+    }
+}
+
+/// How many bytes of padding stand behind a block, as many as there are, where so many bytes are
+/// left from its header on.
+fn padding_behind(framed: Frame, left: u64) -> u64
+    requires { raw_size framed ≤ left }
+    ensures { result ≡ min (padding_of (raw_size framed)) (left - raw_size framed) }
+{
+    let raw = framed.head_len + framed.payload_len;
+    let padding = padding_of(raw as usize) as u64;
+    padding.min(left - raw)
+}

@@ -1,6 +1,0 @@
--- By the first block.
-use Rattle.pkg_pieces.proofs.WholeTests.{same_payload}
-use Rattle.pkg_pieces.proofs.laws.a_front_holds_the_payload_of_its_file.Goals as goal
-
-pub returns : goal.returns
-returns c = same_payload

@@ -1,3 +1,0 @@
-pub mod ReportLines
-pub mod StayingNames
-pub mod Worked
