@@ -19,7 +19,7 @@ use Rattle.words_core.specs.declared.reading.Start.{Start}
 use Rattle.words_core.specs.Grammar.{applet_site, command_from, line_command, command_read, early_flags, first_state, is_end, is_option, line_start, operands_of, option_reading, reading_behind, reading_by, site_at, site_behind_end, site_by, start_by, start_from, start_with, verdict, with_meaning, with_option, with_spec}
 use Rattle.words_core.specs.Kinds.{can_get_kind}
 use Rattle.words_core.specs.Options.{OptionSpec, applets, common_options, early_words, is_early, option_spelled, options_of}
-use Rattle.words_core.specs.Stuck.{are_stuck, are_stuck_by, is_stuck_by, suit}
+use Rattle.words_core.specs.Stuck.{is_stuck_by, suit}
 use Rattle.words_core.proofs.GoneOn.{is_not}
 use Rattle.words_core.proofs.LinesRead.{by_early}
 use Rattle.words_core.proofs.KindCompleted.{kind_completes}
@@ -211,10 +211,18 @@ applet_completed words h k =
       | inr flags ↦ completed_by Del (codes "del") (codes "a" ∷ []) del_here del_behind a_text one_good words h flags
     ]
 
-pub completed_unless : (words : List (List ℕ)) → are_stuck words ≡ false → line_command words ≡ Err (length words + 1) → CanBeCompleted words
-unfolding line_command are_stuck
+-- whether words can become no line: no applet has all the options before it, or they are stuck behind it
+abbrev pub line_stuck_by : List (List ℕ) → Result AppletSite ℕ → Bool
+line_stuck_by words (Err place) = not (list_any (suit words) applets)
+line_stuck_by words (Ok site) = is_stuck_by words (start_from words (Ok site))
+
+unfoldable pub line_stuck : List (List ℕ) → Bool
+line_stuck words = line_stuck_by words (applet_site 1 words)
+
+pub completed_unless : (words : List (List ℕ)) → line_stuck words ≡ false → line_command words ≡ Err (length words + 1) → CanBeCompleted words
+unfolding line_command line_stuck
 completed_unless words k c =
-    elim (applet_site 1 words) as (λ s. applet_site 1 words ≡ s → are_stuck_by words s ≡ false → CanBeCompleted words) [
+    elim (applet_site 1 words) as (λ s. applet_site 1 words ≡ s → line_stuck_by words s ≡ false → CanBeCompleted words) [
       | Err at ↦ λ s k.
           (let none : Err at ≡ Err (length words + 1) = sym (ap (λ r. command_from words (start_from words r)) s) ∙ c in
           let same : at ≡ length words + 1 = cc in
@@ -238,7 +246,7 @@ completed_unless words k c =
         ]
 
 -- the words before a usage error can be completed
-pub usage_is_first : (words : List (List ℕ)) (place : ℕ) → not (are_stuck (take (place - 1) words)) ≡ true → line_command words ≡ Err place → CanBeCompleted (take (place - 1) words)
+pub usage_is_first : (words : List (List ℕ)) (place : ℕ) → not (line_stuck (take (place - 1) words)) ≡ true → line_command words ≡ Err place → CanBeCompleted (take (place - 1) words)
 usage_is_first words place n c =
     elim (line_command (take (place - 1) words)) as (λ r. line_command (take (place - 1) words) ≡ r → CanBeCompleted (take (place - 1) words)) [
       | Ok command ↦ λ e. ([], command, ap line_command (append-nil (take (place - 1) words)) ∙ e)
@@ -266,5 +274,5 @@ usage_is_first words place n c =
     by_place : (at : ℕ) → line_command (take (place - 1) words) ≡ Err at → (1 ≤ at) × (at ≤ length (take (place - 1) words) + 1) → CanBeCompleted (take (place - 1) words)
     by_place at e between = elim (cases_lt at (length (take (place - 1) words) + 1)) as (λ _. CanBeCompleted (take (place - 1) words)) [
       | inl less ↦ by_kind at e (omega arith)
-      | inr more ↦ (let same : at ≡ length (take (place - 1) words) + 1 = omega (arith, between.1) in completed_unless (take (place - 1) words) (is_not (are_stuck (take (place - 1) words)) n) (e ∙ ap Err same))
+      | inr more ↦ (let same : at ≡ length (take (place - 1) words) + 1 = omega (arith, between.1) in completed_unless (take (place - 1) words) (is_not (line_stuck (take (place - 1) words)) n) (e ∙ ap Err same))
     ]

@@ -50,7 +50,10 @@ impl NextWord {
     pub(crate) fn takes_option(self) -> bool
         ensures { result ≡ takes_option self }
     {
-        matches!(self, NextWord::OptionOrCommand | NextWord::OptionOrOperand(_))
+        matches!(
+            self,
+            NextWord::OptionOrCommand | NextWord::OptionOrOperand(_)
+        )
     }
 }
 

@@ -43,14 +43,16 @@ impl From<AllocError> for WordsFault {
 ///
 /// `Usage` comes exactly outside the grammar, at the first word that offends once the whole line is
 /// known. `Memory` comes only where an applet was found, with its own options before it.
+#[tactic(auto, using(crate::proofs::AskedLaws::line_is))]
 pub fn read_words(alloc: Global, words: &Words) -> Result<Command, WordsFault>
     ensures ok { IfOk result (λ command. command_of words.now ≡ Ok command) }
     ensures usage { IfErr result (λ fault. IsWordsFault fault (command_of words.now)) }
     ensures memory { IfErr result (λ fault. IsBehindApplet fault (line_start words.now)) }
 {
     match read_line(alloc, words) {
+        Ok(command) => Ok(command),
         Err(WordsFault::Usage { place }) => read_asked(alloc, words, place),
-        read => read,
+        Err(WordsFault::Memory) => Err(WordsFault::Memory),
     }
 }
 
@@ -62,9 +64,12 @@ fn read_asked(alloc: Global, words: &Words, place: u32) -> Result<Command, Words
     ensures usage { IfErr result (λ fault. IsWordsFault fault (command_of words.now)) }
     ensures memory { IfErr result (λ fault. IsBehindApplet fault (line_start words.now)) }
 {
-    match asked_at(words, place) {
-        Some(applet) => Ok(asked_command(alloc, words, applet)?),
-        None => Err(WordsFault::Usage { place }),
+    let Some(applet) = asked_at(words, place) else {
+        return Err(WordsFault::Usage { place });
+    };
+    match asked_command(alloc, words, applet) {
+        Ok(command) => Ok(command),
+        Err(_) => Err(WordsFault::Memory),
     }
 }
 
@@ -93,10 +98,10 @@ fn topic(alloc: Global, words: &Words) -> Result<Operands, AllocError>
     ensures memory { OnErr result (IsTrue (is_ok (applet_site 1 words.now))) }
 {
     let mut operands = Operands::new(alloc);
-    match find_applet(words) {
-        Ok(site) => operands.push(place_behind(site.read - 1), applet_word(site.applet))?,
-        Err(_) => {}
-    }
+    let Ok(site) = find_applet(words) else {
+        return Ok(operands);
+    };
+    operands.push(place_behind(site.read - 1), applet_word(site.applet))?;
     Ok(operands)
 }
 
