@@ -1,26 +1,23 @@
 -- Words that ask for help or for the version: where an option can be, none of them can be read.
-use Rattle.std.proofs.Common.{Bool, Err, List, None, Ok, Option, Result, Some, [], ap, append-nil, arith, codes, drop, false, inl, inr, length, refl, subst, suc, sym, true, zero, ℕ, ◌++◌, ◌+◌, ◌-◌, ◌<◌, ◌∙◌, ◌∷◌, ◌≡◌, ◌≤◌, ◌⊎◌, if◌then◌else◌}
+use Rattle.std.proofs.Common.{Bool, Err, List, None, Ok, Option, Some, [], ap, arith, codes, drop, false, inl, inr, length, refl, subst, suc, sym, true, zero, ℕ, ◌++◌, ◌+◌, ◌∙◌, ◌∷◌, ◌≡◌, ◌≤◌, if◌then◌else◌}
 use Rattle.std.specs.List.{slice_get}
 use Rattle.std.specs.Prelude.{is_some, not, ◌&&◌, ◌||◌}
 use Rattle.std.specs.Str.{bytes_eq}
-use Rattle.std.proofs.lemmas.Bool.{and_parts, cases_lt, false≢true, or_cases, or_parts, true≢false}
+use Rattle.std.proofs.lemmas.Bool.{and_parts, false≢true, or_cases, or_parts}
 use Rattle.std.proofs.lemmas.Option.{none-some, option_and_then_some, same_Some}
 use Rattle.std.proofs.lemmas.Slice.Eq.{bytes_eq-Decides}
 use Rattle.command_core.specs.declared.command.Applet.{Applet}
 use Rattle.command_core.specs.declared.command.Applet.TheVariants.{Add, Help, ProgramVersion}
-use Rattle.command_core.specs.declared.operands.Operand.{Operand}
 use Rattle.command_core.specs.declared.values.ValueRule.{ValueRule}
 use Rattle.command_core.specs.Operands.{operand_at}
 use Rattle.words_core.specs.declared.next.NextWord.{NextWord}
 use Rattle.words_core.specs.declared.next.NextWord.TheVariants.{OptionOrCommand, Command as CommandAlone, OptionOrOperand, Value as NextValue, Operand as OperandAlone, Nothing}
 use Rattle.words_core.specs.declared.reading.AppletSite.{AppletSite}
 use Rattle.words_core.specs.declared.reading.OptionState.{OptionState}
-use Rattle.words_core.specs.declared.reading.Reading.{Reading}
-use Rattle.words_core.specs.declared.reading.Start.{Start}
 use Rattle.words_core.specs.Grammar.{applet_site, held_value, is_end, is_option, is_option_or_value, next_by_applet, next_by_rule, next_word, next_words, operands_of, option_name, option_reading, or_at, or_unread, reading_by, rule_behind, rule_unless, site_at, site_behind_end, site_by, takes_option, with_meaning_at, with_operand, with_word, with_word_by}
 use Rattle.words_core.specs.Options.{OptionSpec, applet_of, asked_by, common_options, early_words, is_early, option_spelled, options_of}
 use Rattle.words_core.specs.Stuck.{have_ended}
-use Rattle.words_core.proofs.GoneOn.{IsGoing, going, is_not, none_is, not_option}
+use Rattle.words_core.proofs.GoneOn.{is_not, none_is, not_option}
 use Rattle.words_core.proofs.LinesRead.{Says, meaning_says, option_taken, rule_at_is, step_taken, value_says}
 use Rattle.words_core.proofs.OneMore.{left_at}
 use Rattle.words_core.proofs.Sites.{err_here, seek_early, seek_end, seek_here, seek_late}

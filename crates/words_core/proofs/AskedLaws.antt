@@ -1,5 +1,5 @@
 -- The laws of lines, where a word may ask.
-use Rattle.std.proofs.Common.{Bool, Err, List, None, Ok, Option, Result, Some, [], ap, append_assoc, arith, codes, drop, false, inl, inr, is_ok, length, refl, subst, suc, sym, take, true, zero, ℕ, ◌++◌, ◌+◌, ◌-◌, ◌<◌, ◌∙◌, ◌∷◌, ◌≡◌, ◌≤◌, ◌⊎◌, if◌then◌else◌}
+use Rattle.std.proofs.Common.{Err, List, None, Ok, Some, [], ap, append_assoc, arith, codes, false, inl, inr, is_ok, length, refl, subst, suc, sym, take, true, zero, ℕ, ◌++◌, ◌+◌, ◌-◌, ◌<◌, ◌∙◌, ◌∷◌, ◌≡◌, ◌≤◌, ◌⊎◌, if◌then◌else◌}
 use Rattle.std.specs.List.{slice_get}
 use Rattle.std.specs.Prelude.{option_and_then, ◌||◌}
 use Rattle.std.specs.Str.{bytes_eq}

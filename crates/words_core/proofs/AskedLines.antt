@@ -1,32 +1,29 @@
 -- Lines in which a word asks: what stands before it alone says whether it is answered.
-use Rattle.std.proofs.Common.{Bool, Err, List, None, Ok, Option, Result, Some, [], ap, append-nil, arith, drop, false, inl, inr, length, length-drop, refl, subst, suc, sym, take, true, zero, ℕ, ◌++◌, ◌+◌, ◌-◌, ◌<◌, ◌∙◌, ◌∷◌, ◌≡◌, ◌≤◌, ◌⊎◌, if◌then◌else◌}
+use Rattle.std.proofs.Common.{Bool, Err, List, None, Ok, Option, Some, [], ap, append-nil, arith, drop, false, inl, inr, length, length-drop, refl, suc, sym, take, true, zero, ℕ, ◌++◌, ◌+◌, ◌-◌, ◌<◌, ◌∙◌, ◌∷◌, ◌≡◌, ◌≤◌, ◌⊎◌, if◌then◌else◌}
 use Rattle.std.specs.List.{slice_get}
 use Rattle.std.specs.Option.{option_map, option_or}
 use Rattle.std.specs.Prelude.{option_and_then, ◌||◌}
-use Rattle.std.proofs.lemmas.Bool.{cases_lt, false≢true, or_cases, or_parts}
-use Rattle.std.proofs.lemmas.List.{length-take-le, take-append-drop}
-use Rattle.std.proofs.lemmas.Option.{none-some, same_Some}
+use Rattle.std.proofs.lemmas.Bool.{cases_lt, false≢true}
+use Rattle.std.proofs.lemmas.List.{take-append-drop}
+use Rattle.std.proofs.lemmas.Option.{none-some}
 use Rattle.command_core.specs.declared.command.Applet.{Applet}
 use Rattle.command_core.specs.declared.operands.Operand.{Operand}
 use Rattle.command_core.specs.declared.operands.OperandRule.{OperandRule}
 use Rattle.command_core.specs.declared.values.ValueRule.{ValueRule}
 use Rattle.command_core.specs.Applets.{operand_rule}
 use Rattle.command_core.specs.Operands.{first_refused}
-use Rattle.words_core.specs.declared.next.NextWord.{NextWord}
-use Rattle.words_core.specs.declared.next.NextWord.TheVariants.{OptionOrCommand, OptionOrOperand, Operand as OperandAlone, Value as NextValue}
-use Rattle.words_core.specs.declared.reading.AppletSite.{AppletSite}
-use Rattle.words_core.specs.declared.reading.OptionState.{OptionState}
+use Rattle.words_core.specs.declared.next.NextWord.TheVariants.{OptionOrOperand, Operand as OperandAlone, Value as NextValue}
 use Rattle.words_core.specs.declared.reading.Reading.{Reading}
 use Rattle.words_core.specs.declared.reading.Start.{Start}
-use Rattle.words_core.specs.Grammar.{applet_site, asked_at, asked_command, asked_or_err, command_from, command_of, command_read, first_state, lacks_word, line_command, line_start, next_after, next_by_rule, next_words, operands_of, option_reading, reading_behind, reading_by, refused_operand, spelled_or_asked, start_by, start_from, takes_option, unless_at, verdict}
+use Rattle.words_core.specs.Grammar.{asked_at, command_from, first_state, line_command, line_start, next_after, next_words, operands_of, option_reading, reading_behind, reading_by, refused_operand, start_from, takes_option}
 use Rattle.words_core.specs.Options.{OptionSpec, asked_by, options_of}
 use Rattle.words_core.specs.Stuck.{have_ended}
-use Rattle.words_core.proofs.Asked.{HasNoMeaning, asking, asks_first, asks_now, awaited_next, ended_alone, found_next, next_at, operand_stays}
+use Rattle.words_core.proofs.Asked.{HasNoMeaning, asks_first, asks_now, awaited_next, ended_alone, found_next, next_at, operand_stays}
 use Rattle.words_core.proofs.GoneOn.{from_going, IsGoing}
 use Rattle.words_core.proofs.KindsKept.{IsPlain, start_known, start_parts}
 use Rattle.words_core.proofs.OffendingWords.{AllBetween, IsJudgedAt, from_placed, judged_at, judged_bad, refused_between, usage_between}
 use Rattle.words_core.proofs.OneMore.{behind, left_at}
-use Rattle.words_core.proofs.Sites.{foreign_between, IsForeign, no_start, no_start_stays, start_stays, take_stays}
+use Rattle.words_core.proofs.Sites.{foreign_between, no_start, no_start_stays, start_stays}
 
 -- ---- what can follow the words before, by their start
 

@@ -1,11 +1,10 @@
 -- Stuck words, and words that can be completed, where a word may ask.
-use Rattle.std.proofs.Common.{Bool, Err, List, None, Ok, Option, Result, Some, [], ap, append-nil, append_assoc, arith, codes, drop, false, inl, inr, is_ok, length, not, refl, subst, suc, sym, take, true, zero, ℕ, ◌++◌, ◌+◌, ◌-◌, ◌<◌, ◌∙◌, ◌∷◌, ◌≡◌, ◌≤◌, ◌⊎◌, if◌then◌else◌}
+use Rattle.std.proofs.Common.{Bool, Err, List, None, Ok, Option, Result, Some, [], ap, append-nil, append_assoc, arith, codes, drop, false, inl, inr, is_ok, length, not, refl, subst, sym, take, true, ℕ, ◌++◌, ◌+◌, ◌-◌, ◌<◌, ◌∙◌, ◌∷◌, ◌≡◌, ◌≤◌, ◌⊎◌, if◌then◌else◌}
 use Rattle.std.specs.List.{list_any}
 use Rattle.std.specs.Option.{option_map, option_or}
 use Rattle.std.specs.Prelude.{◌&&◌, ◌||◌}
-use Rattle.std.proofs.lemmas.Bool.{and_parts, cases_lt, false≢true, or_cases, or_parts, true≢false}
+use Rattle.std.proofs.lemmas.Bool.{and_parts, cases_lt, false≢true, or_cases}
 use Rattle.std.proofs.lemmas.List.{length-take-le, take-append-drop}
-use Rattle.std.proofs.lemmas.Option.{none-some, same_Some}
 use Rattle.command_core.specs.declared.command.Applet.{Applet}
 use Rattle.command_core.specs.declared.command.Applet.TheVariants.{Help}
 use Rattle.command_core.specs.declared.operands.Operand.{Operand}
@@ -13,13 +12,13 @@ use Rattle.command_core.specs.declared.operands.OperandRule.{OperandRule}
 use Rattle.command_core.specs.declared.values.ValueRule.{ValueRule}
 use Rattle.command_core.specs.Applets.{operand_rule}
 use Rattle.command_core.specs.Command.{CommandLine}
-use Rattle.words_core.specs.declared.next.NextWord.TheVariants.{OptionOrCommand, Command as CommandAlone, Operand as OperandAlone, Value as NextValue}
+use Rattle.words_core.specs.declared.next.NextWord.TheVariants.{OptionOrCommand, Command as CommandAlone, Value as NextValue}
 use Rattle.words_core.specs.declared.reading.AppletSite.{AppletSite}
 use Rattle.words_core.specs.declared.reading.Reading.{Reading}
 use Rattle.words_core.specs.declared.reading.Start.{Start}
-use Rattle.words_core.specs.Grammar.{applet_site, asked_at, asked_command, command_from, command_of, is_end, is_option, line_command, line_start, next_after, next_words, option_reading, reading_behind, reading_by, refused_operand, site_behind_end, start_from, takes_option, verdict}
+use Rattle.words_core.specs.Grammar.{applet_site, asked_at, asked_command, command_from, command_of, is_end, is_option, line_command, line_start, next_after, next_words, option_reading, reading_behind, reading_by, refused_operand, site_behind_end, start_from, takes_option}
 use Rattle.words_core.specs.Options.{OptionSpec, applets, is_early, options_of}
-use Rattle.words_core.specs.Stuck.{are_stuck, are_stuck_by, awaits_none, have_ended, is_stuck, is_stuck_by, lacks_option, suit}
+use Rattle.words_core.specs.Stuck.{are_stuck, are_stuck_by, awaits_none, have_ended, is_stuck_by, lacks_option, suit}
 use Rattle.words_core.proofs.AppletCompleted.{line_stuck, line_stuck_by, usage_is_first}
 use Rattle.words_core.proofs.Asked.{alone_stays, asking, next_append, next_early, next_end, operand_stays}
 use Rattle.words_core.proofs.AskedLaws.{asked_command_is, asked_made, asked_stays, line_is, offends_unasked, same_fault, unasked_is}

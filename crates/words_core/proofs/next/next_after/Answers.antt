@@ -1,4 +1,4 @@
-use Rattle.std.proofs.Common.{sym, ◌∙◌, ap, take, arith}
+use Rattle.std.proofs.Common.{sym, ◌∙◌, take, arith}
 use Rattle.std.proofs.lemmas.List.{length-take-le}
 use Rattle.words_core.proofs.Asked.{next_done, next_step}
 use Rattle.words_core.proofs.OneMore.{taken_at}

@@ -1,4 +1,4 @@
-use Rattle.std.proofs.Common.{◌+◌, length, refl, sym, ◌∙◌, arith}
+use Rattle.std.proofs.Common.{◌+◌, length, sym, ◌∙◌, arith}
 use Rattle.std.proofs.lemmas.Result.{IfOk-at_ok}
 use Rattle.words_core.proofs.AskedLaws.{topic_is}
 use Rattle.words_core.proofs.KindsKept.{IsSite, site_known}
