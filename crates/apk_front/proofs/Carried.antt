@@ -17,26 +17,18 @@ use Rattle.journal_core.specs.Recovery.{IsSettled, RestsOn, intent_name}
 use Rattle.make_info.specs.Output.{output_name}
 use Rattle.package_files.specs.Sources.{AreNamesFor, values_with}
 use Rattle.command_core.specs.declared.values.TheConstants.{FILES}
-use Rattle.gen_core.specs.Generated.{generated_file}
-use Rattle.gen_core.specs.declared.generate.GenFault.{GenFault}
-use Rattle.gen_core.specs.declared.generate.GenFault.TheVariants.{Bad as BadLine, TooLarge as TextTooLarge, Memory as GenMemory}
 use Rattle.make_index.specs.Files.{AreFiles}
 use Rattle.make_info.specs.Reads.{Reads}
-use Rattle.outcome.specs.Dump.{adbdump, dump_outcome, text_outcome, dump_of}
 use Rattle.outcome.specs.Make.{mkndx, mkpkg}
 use Rattle.outcome.specs.Commands.{IsFoundOutcomeOf, IsFoundOver, IsOutcomeOf, IsOutcomeOver, reads_in, applet_outcome, command_outcome, computing_outcome, effect_outcome, reading_outcome}
-use Rattle.outcome.specs.Generate.{adbgen, container_outcome, generate_outcome}
 use Rattle.outcome.specs.Given.{Given, IsChosenFor, IsClashBy, IsGiven, IsListingFor, MayBeGiven, MayBeListedFor, MayClash, nothing_given}
 use Rattle.outcome.specs.Effect.{Effect, Computes, Reads as OnlyReading, Tells, Makes, Changes, does_only_read, does_recover, does_rest_on_words, effect_by, effect_of, output, output_by, output_if, reads_only, rests_on_words}
 use Rattle.outcome.specs.Words.{IsFoundOutcome, IsFoundOutcomeBy, IsOutcome, IsOutcomeBy}
 use Rattle.outcome.specs.Work.{recovery_fault}
 use Rattle.outcome.specs.Outcome.{Outcome, just_refusal, just_report, outcome_of, report_unless}
-use Rattle.outcome.specs.Verify.{verify_refusal, sound_lines}
-use Rattle.outcome.specs.Version.{order_report, invalid_lines, version_refusal}
 use Rattle.report_core.specs.declared.refusal.Refusal.{Refusal}
 use Rattle.report_core.specs.declared.refusal.Refusal.TheVariants.{Usage}
 use Rattle.command_core.specs.Command.{CommandLine}
-use Rattle.command_core.specs.Files.{without_dot}
 use Rattle.words_core.specs.Faults.{IsWordsFault}
 use Rattle.words_core.specs.Grammar.{command_of}
 use Rattle.words_core.specs.declared.read.WordsFault.{WordsFault}
@@ -44,6 +36,7 @@ use Rattle.words_core.specs.declared.read.WordsFault.TheVariants.{Usage as Wrong
 use Rattle.command_core.specs.declared.command.Applet.{Applet}
 use Rattle.command_core.specs.declared.command.Applet.TheVariants.{Adbdump, Adbgen, Mkndx, Mkpkg, Verify, Version}
 use Rattle.command_core.specs.declared.operands.Operand.{Operand}
+use Rattle.outcome.proofs.Looking.{look_leaves}
 use Rattle.apk_front.specs.Answers.{answer_by}
 use Rattle.apk_front.specs.Effects.{access_of}
 use Rattle.apk_front.specs.Moments.{AnswersOutcome, AreReadOnTheWay, AreSafe, CommitsNothing, HasNothingToRecover, HasRoomToWrite, HidesScratchOf, IsAtRest, IsLeftUndone, LeavesAtRest, LeavesLasting, LeavesRoom, LeavesRoomFor, LeavesSettled, Settles, UnreadNamesLast, ignored_but}
@@ -60,57 +53,6 @@ use Rattle.apk_front.proofs.AfterRecovery.{LeavesAll, whole_idle}
 use Rattle.apk_front.proofs.Runs.{History, Judged, Leaves, ok_always, run_among}
 
 -- ---- an applet that only reads
-
-unless_leaves : (files : Files) (refusal : Option Refusal) (report : List ℕ) → Leaves files (report_unless files refusal report)
-unless_leaves files None report = (refl, refl)
-unless_leaves files (Some refusal) report = (refl, refl)
-
-text_leaves : (files : Files) (place : ℕ) (text : Result (List ℕ) Cause) → Leaves files (text_outcome files place text)
-text_leaves files place (Ok text) = (refl, refl)
-text_leaves files place (Err cause) = (refl, refl)
-
-found_leaves : (files : Files) (place : ℕ) (found : Option (List ℕ)) → Leaves files (dump_outcome files place found)
-found_leaves files place None = (refl, refl)
-found_leaves files place (Some bytes) = text_leaves files place (dump_of bytes)
-
-dump_leaves : (files : Files) (os : List Operand) → Leaves files (adbdump (reads_in files) files os)
-dump_leaves files [] = (refl, refl)
-dump_leaves files (o ∷ os) = found_leaves files o.place (files (without_dot o.text))
-
-container_leaves : (files : Files) (place : ℕ) (made : Result (List ℕ) GenFault) → Leaves files (container_outcome files place made)
-container_leaves files place (Ok file) = (refl, refl)
-container_leaves files place (Err (BadLine line)) = (refl, refl)
-container_leaves files place (Err (TextTooLarge bytes values)) = (refl, refl)
-container_leaves files place (Err GenMemory) = (refl, refl)
-
-generate_leaves : (files : Files) (place : ℕ) (found : Option (List ℕ)) → Leaves files (generate_outcome files place found)
-generate_leaves files place None = (refl, refl)
-generate_leaves files place (Some text) = container_leaves files place (generated_file text)
-
-gen_leaves : (files : Files) (os : List Operand) → Leaves files (adbgen (reads_in files) files os)
-gen_leaves files [] = (refl, refl)
-gen_leaves files (o ∷ os) = generate_leaves files o.place (files (without_dot o.text))
-
-computing_leaves : (applet : Applet) (command : CommandLine) (files : Files) → Leaves files (computing_outcome applet command files)
-computing_leaves Version command files =
-    elim command.flags.test as (λ b. Leaves files (if b then report_unless files (version_refusal command.operands) (order_report command.operands) else outcome_of (version_refusal command.operands) (invalid_lines command.operands) files)) [
-      | true ↦ unless_leaves files (version_refusal command.operands) (order_report command.operands)
-      | false ↦ (refl, refl)
-    ]
-computing_leaves other command files = (refl, refl)
-
-reading_leaves : (applet : Applet) (command : CommandLine) (files : Files) → Leaves files (reading_outcome applet command (reads_in files) files)
-reading_leaves Verify command files = unless_leaves files (verify_refusal (reads_in files) 0 command.operands) (sound_lines command.operands)
-reading_leaves Adbdump command files = dump_leaves files command.operands
-reading_leaves Adbgen command files = gen_leaves files command.operands
-reading_leaves other command files = (refl, refl)
-
-look_leaves : (effect : Effect) (applet : Applet) (command : CommandLine) (given : Given) (files : Files) → does_only_read effect ≡ true → Leaves files (effect_outcome effect applet command given (reads_in files) files)
-look_leaves Computes applet command given files reads = computing_leaves applet command files
-look_leaves OnlyReading applet command given files reads = reading_leaves applet command files
-look_leaves Tells applet command given files reads = absurd (false≢true reads)
-look_leaves Makes applet command given files reads = absurd (false≢true reads)
-look_leaves Changes applet command given files reads = absurd (false≢true reads)
 
 abbrev pub Ones : CommandLine → TreeState → Outcome → Type 0
 Ones command v = IsOutcomeOver command (files_of v)

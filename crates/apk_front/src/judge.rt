@@ -5,7 +5,7 @@
 //! faults and counts".
 
 ghost use Rattle.std.specs.Prelude.{◌≡◌, [], None, Ok, IfOk, IsErrOf, IsTrue, MatchResult, OnOk};
-ghost use Rattle.apk_front.specs.Answers.{name_an_applet};
+ghost use Rattle.apk_front.specs.Answers.{name_a_command};
 ghost use Rattle.apk_front.specs.Moments.{LeavesRoom, LeavesRoomFor};
 ghost use Rattle.apk_front.specs.Runs.{IsWholeRun};
 ghost use Rattle.apk_front.specs.Verdicts.{ReportsOne, as_outcome};
@@ -68,7 +68,7 @@ pub(crate) fn judge<T: Tree>(
     ensures kept { OnOk result (IsNoFault (T.counts tree.old) (T.counts tree.new)) }
     ensures memory { IsErrOf result TreeFault.Memory
         → IsNoFault (T.counts tree.old) (T.counts tree.new) }
-    ensures named { IsErrOf result TreeFault.Memory → IsTrue (name_an_applet words.now) }
+    ensures named { IsErrOf result TreeFault.Memory → IsTrue (name_a_command words.now) }
     ensures proper { IfObservable (T.history tree.old) (λ v. LeavesRoom words.now (files_of v)
         → (T.counts tree.new).misuses ≡ (T.counts tree.old).misuses) }
 {

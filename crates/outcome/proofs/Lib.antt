@@ -6,6 +6,7 @@ pub mod Existing
 pub mod MadeSound
 pub mod Commits
 pub mod Idle
+pub mod Looking
 pub mod NextRoom
 pub mod Ends
 pub mod PackageRefusals
